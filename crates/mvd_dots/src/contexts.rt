@@ -1,0 +1,273 @@
+//! Causal contexts: finite sets of dots.
+ghost use Rattle.std.specs.Prelude.{◌≡◌, ℕ, ◌<◌, ◌≤◌, ◌^◌, ◌↔◌, IsTrue, IfOk, IfErr, OnOk, ◌⊎◌, Err, string_bytes, OnErr, List, IfSome, IfNone, length, ◌++◌};
+ghost use Rattle.std.specs.List.{AllWithin};
+ghost use Rattle.std.specs.FinSet as set;
+ghost use Rattle.mvd_dots.specs.Entry.{EntryValue, IsEntry};
+ghost use Rattle.mvd_dots.specs.Text.{IsTextOf};
+ghost use Rattle.mvd_dots.specs.Context.{DotSet, Holds, AreInRange, IsMaxOf, AreLooseOf, AreBasesOf, AreEntries, AreEntriesOf, IsEntryAt, entry_dots, set_of};
+
+use crate::dots::Dot;
+use crate::entries::Entry;
+use crate::refusals::Refusal;
+use crate::texts::{entries_of, text_of};
+use std::alloc::{AllocError, Global};
+use std::marker::Model;
+
+/// A finite set of dots. It keeps one entry for each site that has a dot, by rising site.
+#[derive(Drop)]
+pub struct Context {
+    alloc: Global,
+    entries: Vec<Entry>,
+}
+
+impl Model for Context {
+    ghost use Rattle.mvd_dots.specs.Context.{DotSet, dot_set_code, set_of, AreEntries};
+
+    ghost Value = { DotSet };
+
+    ghost coded = { dot_set_code };
+
+    ghost view = { λ c. set_of c.entries.items };
+
+    ghost invariant = { λ c. AreEntries c.entries.items };
+}
+
+impl Context {
+    /// The empty context.
+    pub fn new(alloc: Global) -> Context
+        ensures { result ≡ set.empty }
+    {
+        Context {
+            alloc,
+            entries: Vec::new(alloc),
+        }
+    }
+
+    pub fn contains(&self, dot: Dot) -> bool
+        ensures { result ≡ set.contains self.now dot }
+    {
+        match self.find(dot.site()) {
+            Some(entry) => entry.contains(dot.counter()),
+            None => false,
+        }
+    }
+
+    /// The greatest counter of the site, or 0 where it has none.
+    pub fn max_of(&self, site: u32) -> u64
+        ensures greatest { IsMaxOf self.now site result }
+        ensures in_range { result < 2 ^ 48 }
+    {
+        match self.find(site) {
+            Some(entry) => entry.greatest(),
+            None => 0,
+        }
+    }
+
+    /// The entries, one for each site that has a dot, by rising site.
+    pub fn entries(&self) -> &[Entry]
+        ensures of_set { AreEntriesOf self.now result.now }
+        ensures in_range { AreInRange self.now }
+    {
+        &self.entries
+    }
+
+    /// Each site that has a dot, by rising site, with its base.
+    pub fn bases(&self) -> Result<Vec<(u32, u64)>, Refusal>
+        ensures ok { IfOk result (λ bases. AreBasesOf self.now bases.items) }
+        ensures only_memory { IfErr result (λ refusal. refusal ≡ Refusal.Memory) }
+    {
+        let mut bases = Vec::new(self.alloc);
+        for entry in &self.entries {
+            bases.push((entry.site, entry.base))?;
+        }
+        Ok(bases)
+    }
+
+    /// The counters of the site above its base, rising.
+    pub fn loose(&self, site: u32) -> &[u64]
+        ensures { AreLooseOf self.now site result.now }
+    {
+        match self.find(site) {
+            Some(entry) => &entry.loose,
+            None => &[],
+        }
+    }
+
+    pub fn copy(&self) -> Result<Context, Refusal>
+        ensures ok { IfOk result (λ copy. copy ≡ self.now) }
+        ensures only_memory { IfErr result (λ refusal. refusal ≡ Refusal.Memory) }
+    {
+        let mut entries = Vec::new(self.alloc);
+        copy_onto(self.alloc, &mut entries, &self.entries)?;
+        Ok(Context {
+            alloc: self.alloc,
+            entries,
+        })
+    }
+
+    pub fn same(&self, other: &Context) -> bool
+        ensures { IsTrue result ↔ (self.now ≡ other.now) }
+    {
+        same_entries(&self.entries, &other.entries)
+    }
+
+    pub fn add(&mut self, dot: Dot) -> Result<(), Refusal>
+        ensures ok { OnOk result (self.new ≡ set.insert self.old dot) }
+        ensures unchanged { OnErr result (self.new ≡ self.old) }
+        ensures only_memory { IfErr result (λ refusal. refusal ≡ Refusal.Memory) }
+    {
+        let single = Entry::of_dot(self.alloc, dot)?;
+        let i = place(&self.entries, dot.site());
+        if i < self.entries.len() {
+            let entry = &self.entries[i];
+            if entry.site == dot.site() {
+                let joined = entry.join(self.alloc, &single)?;
+                self.entries[i] = joined;
+                return Ok(());
+            }
+        }
+        self.entries.insert(i, single)?;
+        Ok(())
+    }
+
+    pub fn join(&mut self, other: &Context) -> Result<(), Refusal>
+        ensures ok { OnOk result (self.new ≡ set.union self.old other.now) }
+        ensures unchanged { OnErr result (self.new ≡ self.old) }
+        ensures only_memory { IfErr result (λ refusal. refusal ≡ Refusal.Memory) }
+    {
+        self.entries = joined_entries(self.alloc, &self.entries, &other.entries)?;
+        Ok(())
+    }
+
+    /// Adds all dots of one site at once, where the context has none of this or a greater site.
+    pub fn add_entry(&mut self, site: u32, base: u64, loose: &[u64]) -> Result<(), Refusal>
+        requires form { IsEntry (record { site = site; base = base; loose = loose.now }) }
+        requires above { (held n : ℕ) → Holds self.old held n → held < site }
+        ensures ok { OnOk result (self.new ≡ set.union self.old (entry_dots (record { site = site; base = base; loose = loose.now }))) }
+        ensures unchanged { OnErr result (self.new ≡ self.old) }
+        ensures only_memory { IfErr result (λ refusal. refusal ≡ Refusal.Memory) }
+    {
+        let loose = Vec::from_slice(self.alloc, loose)?;
+        self.entries.push(Entry { site, base, loose })?;
+        Ok(())
+    }
+
+    /// The one text of the set.
+    pub fn print(&self) -> Result<String, Refusal>
+        ensures ok { IfOk result (λ text. IsTextOf self.now (string_bytes text)) }
+        ensures only_memory { IfErr result (λ refusal. refusal ≡ Refusal.Memory) }
+    {
+        Ok(text_of(self.alloc, &self.entries)?)
+    }
+
+    /// The set whose text this is.
+    pub fn read(alloc: Global, text: &str) -> Result<Context, Refusal>
+        ensures ok { IfOk result (λ context. IsTextOf context text.now) }
+        ensures refused { result ≡ Err Refusal.BadContext → (dots : DotSet) → IsTextOf dots text.now → ⊥ }
+        ensures only { IfErr result (λ refusal. (refusal ≡ Refusal.BadContext) ⊎ (refusal ≡ Refusal.Memory)) }
+    {
+        Ok(Context {
+            alloc,
+            entries: entries_of(alloc, text.as_bytes())?,
+        })
+    }
+
+    fn find(&self, site: u32) -> Option<&Entry>
+        ensures found { IfSome result (λ entry. IsEntryAt self.now site entry.now) }
+        ensures missing { IfNone result ((n : ℕ) → Holds self.now site n → ⊥) }
+    {
+        let i = place(&self.entries, site);
+        if i < self.entries.len() {
+            let entry = &self.entries[i];
+            if entry.site == site {
+                return Some(entry);
+            }
+        }
+        None
+    }
+}
+
+/// A set has one list of entries and one text, and no other set has these.
+pub fn one_form()
+    ensures entries { (s t : DotSet) (es fs : List EntryValue) → AreEntriesOf s es → AreEntriesOf t fs → (s ≡ t) ↔ (es ≡ fs) }
+    ensures texts { (s t : DotSet) (a b : List ℕ) → IsTextOf s a → IsTextOf t b → (s ≡ t) ↔ (a ≡ b) }
+{}
+
+/// How many entries are of a lower site.
+fn place(entries: &[Entry], site: u32) -> usize
+    requires { AreEntries entries.now }
+    ensures bound { result ≤ length entries.now }
+    ensures below { AllWithin (λ entry. entry.site < site) entries.now 0 result }
+    ensures above { AllWithin (λ entry. site ≤ entry.site) entries.now result (length entries.now) }
+{
+    let mut low = 0;
+    let mut high = entries.len();
+    while low < high {
+        let middle = low + (high - low) / 2;
+        let entry = &entries[middle];
+        if entry.site < site {
+            low = middle + 1;
+        } else {
+            high = middle;
+        }
+    }
+    low
+}
+
+fn same_entries(first: &[Entry], second: &[Entry]) -> bool
+    ensures { IsTrue result ↔ (first.now ≡ second.now) }
+{
+    if first.len() != second.len() {
+        return false;
+    }
+    for i in 0..first.len() {
+        if !first[i].same(&second[i]) {
+            return false;
+        }
+    }
+    true
+}
+
+/// The entries with the dots of both.
+fn joined_entries(
+    alloc: Global,
+    first: &[Entry],
+    second: &[Entry],
+) -> Result<Vec<Entry>, AllocError>
+    requires first_form { AreEntries first.now }
+    requires second_form { AreEntries second.now }
+    ensures form { IfOk result (λ joined. AreEntries joined.items) }
+    ensures union { IfOk result (λ joined. set_of joined.items ≡ set.union (set_of first.now) (set_of second.now)) }
+{
+    let mut out = Vec::new(alloc);
+    let mut i = 0;
+    let mut j = 0;
+    while i < first.len() && j < second.len() {
+        let left = &first[i];
+        let right = &second[j];
+        if left.site < right.site {
+            out.push(left.copy(alloc)?)?;
+            i += 1;
+        } else if right.site < left.site {
+            out.push(right.copy(alloc)?)?;
+            j += 1;
+        } else {
+            out.push(left.join(alloc, right)?)?;
+            i += 1;
+            j += 1;
+        }
+    }
+    copy_onto(alloc, &mut out, &first[i..])?;
+    copy_onto(alloc, &mut out, &second[j..])?;
+    Ok(out)
+}
+
+/// Pushes a copy of each entry.
+fn copy_onto(alloc: Global, out: &mut Vec<Entry>, entries: &[Entry]) -> Result<(), AllocError>
+    ensures { OnOk result (out.new.items ≡ out.old.items ++ entries.now) }
+{
+    for entry in entries {
+        out.push(entry.copy(alloc)?)?;
+    }
+    Ok(())
+}

@@ -1,0 +1,26 @@
+-- How long states are, and which are too long.
+use Rattle.std.proofs.Common.{◌≡◌, ℕ, ◌<◌, ◌≤◌, ◌-◌, ◌^◌, true, false, min, nat_lt, length, refl, sym, ap, ◌∙◌, le-ltb, lt-ltb, arith}
+use Rattle.mvd_keys.specs.State.{State, empty_state}
+use Rattle.mvd_keys.proofs.Lists.{IsValid-empty}
+use Rattle.mvd_wire.specs.Kinds.{spell_state}
+use Rattle.mvd_wire.specs.declared.lengths.TheConstants.{STATE_MAX}
+use Rattle.mvd_site.specs.Answer.{is_too_large}
+use Rattle.mvd_site.specs.Held.{IsKept}
+
+short_if : (limit n counted : ℕ) → limit < 2 ^ 64 - 1 → counted ≡ min n (2 ^ 64 - 1) → counted ≤ limit → nat_lt limit n ≡ false
+short_if limit n counted low is small = le-ltb limit n (omega arith)
+
+long_if : (limit n counted : ℕ) → counted ≡ min n (2 ^ 64 - 1) → limit < counted → nat_lt limit n ≡ true
+long_if limit n counted is large = lt-ltb limit n (omega arith)
+
+-- a state whose length, as it is counted, is within the limit
+pub is_short : (s : State) (counted : ℕ) → counted ≡ min (length (spell_state s)) (2 ^ 64 - 1) → counted ≤ STATE_MAX → is_too_large s ≡ false
+is_short s counted is small = short_if STATE_MAX (length (spell_state s)) counted (omega arith) is small
+
+-- and one whose is not
+pub is_long : (s : State) (counted : ℕ) → counted ≡ min (length (spell_state s)) (2 ^ 64 - 1) → STATE_MAX < counted → is_too_large s ≡ true
+is_long s counted is large = long_if STATE_MAX (length (spell_state s)) counted is large
+
+pub kept_empty : IsKept empty_state
+unfolding spell_state
+kept_empty = record { short = refl; valid = IsValid-empty }

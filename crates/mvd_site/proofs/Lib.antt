@@ -1,0 +1,7 @@
+pub mod HeldMaps
+pub mod Lengths
+pub mod Opened
+pub mod Outcomes
+pub mod Prepare
+pub mod Runs
+pub mod Steps

@@ -1,0 +1,27 @@
+use Rattle.std.proofs.Common.{◌≡◌, false, Ok, refl, ap, sym, ◌∙◌, subst}
+use Rattle.mvd_site.specs.Prepared.{IsReady, Prepares}
+use Rattle.mvd_site.specs.Sites.{SiteValue, AnswersOne}
+use Rattle.mvd_site.proofs.Outcomes.{whole_where_ok}
+use Rattle.mvd_site.proofs.Prepare.{answers_by_answer, answers_by_change}
+use Rattle.mvd_site.proofs.Runs.{fitting}
+use Rattle.mvd_site.proofs.sites.Site.answer.Goals as goal
+
+pub returns-in-Ok-Answer-clause-answer : goal.returns-in-Ok-Answer-clause-answer
+returns-in-Ok-Answer-clause-answer c =
+    let whole : c.args.self.now.broken ≡ false = whole_where_ok c.args.self.now.broken c.in-Ok-Answer.field-0 c.in-Ok-Answer.ensures.broken in
+    answers_by_answer c.args.self.now c.args.request.now c.in-Ok-Answer.reply whole
+    (λ known stands. subst (λ p. Prepares c.args.self.now.config known c.args.request.now (Ok p)) c.in-Ok-Answer.field-0-is (c.in-Ok-Answer.ensures.answer whole known stands))
+
+pub returns-in-Ok-clause-answer : goal.returns-in-Ok-clause-answer
+returns-in-Ok-clause-answer c =
+    let whole : c.args.self.now.broken ≡ false = c.in-Ok.ensures.ok.0 in
+    let ready = subst (λ p. IsReady c.args.self.now p) c.in-Ok-Change.field-0-is c.in-Ok-Change.ensures.ready in
+    answers_by_change c.args.self.now c.install.new.self c.args.request.now c.in-Ok-Change.change c.reply-reply.result whole
+    c.in-Ok.ensures.ok.1 ready.1.seen c.reply-reply.ensures
+    (λ known stands. subst (λ p. Prepares c.args.self.now.config known c.args.request.now (Ok p)) c.in-Ok-Change.field-0-is (c.in-Ok-Change.ensures.answer whole known stands))
+
+pub returns-in-Ok-Answer-clause-choice : goal.returns-in-Ok-Answer-clause-choice
+returns-in-Ok-Answer-clause-choice c = fitting c.args.request.now c.in-Ok-Answer.reply c.in-Ok-Answer.ensures.valid
+
+pub returns-in-Ok-clause-choice : goal.returns-in-Ok-clause-choice
+returns-in-Ok-clause-choice c = fitting c.args.request.now c.reply-reply.result c.in-Ok-Change.ensures.valid

@@ -1,0 +1,37 @@
+use Rattle.std.proofs.Common.{ap, sym, ◌∙◌, subst, subst₂, take, refl, ◌++◌, ◌∷◌, [], arith, length-append, length}
+use Rattle.std.proofs.lemmas.List.{take_more}
+use Rattle.mvd_site.specs.Sites.{SiteValue, SiteStands, AnswersAll}
+use Rattle.mvd_site.proofs.Runs.{AnswersAll-none, AnswersAll-push, HasChoice, HasChoice-push}
+use Rattle.mvd_site.proofs.Prepare.{Stands-none}
+use Rattle.mvd_site.proofs.sites.Site.run.Goals as goal
+
+pub loop-request-init : goal.loop-request-init
+loop-request-init c =
+    let config = c.args.config.now in
+    let site = c.new-site.result in
+    let stands : SiteStands site [] = λ _. Stands-none site.states (ap (λ (s : SiteValue). s.states) c.new-site.ensures) in
+    record {
+      answers = subst (AnswersAll config site []) (sym c.new-replies.ensures.items) (AnswersAll-none config site (ap (λ (s : SiteValue). s.broken) c.new-site.ensures) stands);
+      choice = ([], record { asked = refl; told = sym c.new-replies.ensures.items; fits = tt });
+      config = ap (λ (s : SiteValue). s.config) c.new-site.ensures ∙ c.copy.ensures;
+      count = ap length c.new-replies.ensures.items;
+    }
+
+pub loop-request-preserved : goal.loop-request-preserved
+loop-request-preserved c =
+    let config = c.args.config.now in
+    let requests = c.args.requests.now in
+    let i = c.loop-request.request-index in
+    record {
+      answers = subst₂ (AnswersAll config c.answer-reply.new.self)
+          (sym (take_more requests i c.request-item.result c.loop-request-test.true ∙ ap (λ r. take i requests ++ r ∷ []) (sym c.request-item.is)))
+          (sym c.in_ok-push.ensures.items)
+          (AnswersAll-push config c.loop-request.site c.answer-reply.new.self (take i requests) c.request-item.result c.loop-request.replies.items c.answer-reply.result
+          c.loop-request.invariant.config c.loop-request.invariant.answers c.answer-reply.ensures.answer);
+      choice = subst₂ HasChoice
+          (sym (take_more requests i c.request-item.result c.loop-request-test.true ∙ ap (λ r. take i requests ++ r ∷ []) (sym c.request-item.is)))
+          (sym c.in_ok-push.ensures.items)
+          (HasChoice-push (take i requests) c.request-item.result c.loop-request.replies.items c.answer-reply.result c.loop-request.invariant.choice c.answer-reply.ensures.choice);
+      config = c.answer-reply.ensures.config ∙ c.loop-request.invariant.config;
+      count = grind (arith, length-append, c.in_ok-push.ensures.items, c.loop-request.invariant.count);
+    }

@@ -1,0 +1,30 @@
+-- What a site may hold at a key.
+use Rattle.std.specs.Prelude.{◌≡◌, Bool, false, true, ◌&&◌, not, nat_lt, List, length, Result, Ok, Err, if◌then◌else◌, Some, unwrap_or}
+use Rattle.std.specs.FinMap.{FinMap, get, from_entries}
+use Rattle.mvd_keys.specs.Key.{key_cmp}
+use Rattle.mvd_keys.specs.State.{IsValid, State, empty_state}
+use Rattle.mvd_keys.specs.Writes.{Key, is_empty}
+use Rattle.mvd_site.specs.Answer.{is_too_large}
+
+-- key states by key
+abbrev pub States : Type 0
+States = FinMap key_cmp State
+
+-- a state that has seen a dot, and whose spelling is not too long
+pub record IsHeldState (s : State) : Type 0 where
+  pub seen : is_empty s.context ≡ false
+  pub short : is_too_large s ≡ false
+
+-- a state that is held: besides, each sibling's dot has been seen
+pub record IsKept (s : State) : Type 0 where
+  pub short : is_too_large s ≡ false
+  pub valid : IsValid s
+
+-- each state is one that may be held
+pub record AreHeld (states : States) : Type 0 where
+  pub held : (key : Key) (s : State) → get states key ≡ Some s → IsHeldState s
+  pub valid : (key : Key) (s : State) → get states key ≡ Some s → IsValid s
+
+-- the key's state, or the empty one
+abbrev pub state_at : States → Key → State
+state_at states key = unwrap_or (get states key) empty_state

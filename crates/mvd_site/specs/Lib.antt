@@ -1,0 +1,7 @@
+pub mod Answer
+pub mod Change
+pub mod Config
+pub mod Held
+pub mod Known
+pub mod Prepared
+pub mod Sites

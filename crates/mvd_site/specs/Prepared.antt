@@ -1,0 +1,61 @@
+-- What a request comes to before anything is changed.
+use Rattle.std.specs.Prelude.{◌≡◌, ◌≢◌, ◌≤◌, ◌⊎◌, List, Option, Some, None, Result, Ok, Err, false, ⊤, IfSome, length, refl, ℕ}
+use Rattle.std.specs.Coded.{Coded, code_by, coded×, coded_ℕ, coded_list, coded_option}
+use Rattle.mvd_dots.specs.Dot.{DotValue, dot_code}
+use Rattle.mvd_dots.specs.declared.refusals.Refusal.{Refusal}
+use Rattle.mvd_dots.specs.declared.refusals.Refusal.TheVariants.{Memory}
+use Rattle.mvd_keys.specs.State.{State, state_code}
+use Rattle.mvd_keys.specs.Writes.{Key, Stands, Write, state}
+use Rattle.mvd_wire.specs.Kinds.{spell_state}
+use Rattle.mvd_wire.specs.declared.lengths.TheConstants.{STATE_MAX}
+use Rattle.mvd_wire.specs.declared.request.Request.{Request}
+use Rattle.mvd_wire.specs.declared.reply.Reply.{Reply}
+use Rattle.mvd_wire.specs.declared.reply.Reply.TheVariants.{State as Shown, Written, Done, Refused}
+use Rattle.mvd_site.specs.Answer.{answer, change_of}
+use Rattle.mvd_site.specs.Config.{ConfigValue}
+use Rattle.mvd_site.specs.Held.{IsHeldState, state_at}
+use Rattle.mvd_site.specs.Sites.{SiteValue, has_no_room, within}
+use Rattle.mvd_site.specs.Change.{ChangeValue, reply_of}
+use Rattle.mvd_site.specs.declared.changes.Prepared.{Prepared}
+use Rattle.mvd_site.specs.declared.changes.Prepared.TheVariants.{Answer, Change}
+
+-- An answer with nothing to change: the reply is the answer, and if it accepts a state, that is the state before
+pub record PreparesAnswer (config : ConfigValue) (known : List Write) (request : Request) (reply : Reply) : Type 0 where
+  pub answers : reply ≡ answer config known request
+  pub still : IfSome (change_of known request reply) (λ change. change.1 ≡ state change.0 known)
+
+-- A change: its reply is the answer, its state is the one that the key has afterwards, and that is another than before
+pub record PreparesChange (config : ConfigValue) (known : List Write) (request : Request) (change : ChangeValue) : Type 0 where
+  pub answers : reply_of change.dot ≡ answer config known request
+  pub leaves : change_of known request (reply_of change.dot) ≡ Some (change.key, change.state)
+  pub differs : change.state ≢ state change.key known
+
+-- What is prepared is the answer, or memory was refused
+abbrev pub Prepares : ConfigValue → List Write → Request → Result Prepared Refusal → Type 0
+Prepares config known request (Err refusal) = (Refused refusal ≡ answer config known request) ⊎ (refusal ≡ Memory)
+Prepares config known request (Ok (Answer reply)) = PreparesAnswer config known request reply
+Prepares config known request (Ok (Change change)) = PreparesChange config known request change
+
+-- what a site that is not broken prepares, whatever the writes are that its states stand for
+abbrev pub PreparesAt : SiteValue → Request → Result Prepared Refusal → Type 0
+PreparesAt site request prepared = site.broken ≡ false → (known : List Write) → Stands site.states known → Prepares site.config known request prepared
+
+-- the reply refuses nothing, and no state in it is too long
+abbrev pub IsPlain : Reply → Type 0
+IsPlain (Shown s) = length (spell_state s) ≤ STATE_MAX
+IsPlain (Written dot) = ⊤
+IsPlain Done = ⊤
+IsPlain (Refused refusal) = ⊥
+
+-- a change is one that may be put in, and a reply refuses nothing
+abbrev pub IsReady : SiteValue → Prepared → Type 0
+IsReady site (Answer reply) = IsPlain reply
+IsReady site (Change change) = (has_no_room site.config site.states change.key ≡ false) × IsHeldState change.state
+
+-- where the key is to have this state, what is prepared, by the limits
+abbrev pub LimitsTo : SiteValue → Key → State → Option DotValue → Result Prepared Refusal → Type 0
+LimitsTo site key after dot (Err refusal) = (within site.config site.states key after (reply_of dot) ≡ Refused refusal) ⊎ (refusal ≡ Memory)
+LimitsTo site key after dot (Ok (Answer reply)) =
+    (within site.config site.states key after (reply_of dot) ≡ reply) × (reply ≡ reply_of dot) × (after ≡ state_at site.states key)
+LimitsTo site key after dot (Ok (Change change)) =
+    (within site.config site.states key after (reply_of dot) ≡ reply_of dot) × (change ≡ record { key = key; state = after; dot = dot }) × (after ≢ state_at site.states key)

@@ -1,0 +1,60 @@
+-- What a site is seen as, and what it does with a request.
+use Rattle.std.specs.Prelude.{◌≡◌, Bool, false, refl, ℕ, nat_lt, List, [], ◌++◌, length, Option, Some, None, Result, Ok, Err, if◌then◌else◌, not, ◌&&◌, ◌==◌, is_some}
+use Rattle.std.specs.Coded.{Coded, code_by, coded×, coded_ℕ, coded_bool, coded_list}
+use Rattle.std.specs.FinMap.{FinMap, code, from_entries, get, len as map_len}
+use Rattle.mvd_dots.specs.Dot.{DotValue}
+use Rattle.mvd_dots.specs.declared.refusals.Refusal.{Refusal}
+use Rattle.mvd_dots.specs.declared.refusals.Refusal.TheVariants.{StateTooLarge, Full}
+use Rattle.mvd_keys.specs.State.{State, state_code}
+use Rattle.mvd_keys.specs.Writes.{Agree, Key, Stands, Write, is_empty}
+use Rattle.mvd_wire.specs.declared.request.Request.{Request}
+use Rattle.mvd_wire.specs.declared.reply.Reply.{Reply}
+use Rattle.mvd_wire.specs.declared.reply.Reply.TheVariants.{Refused}
+use Rattle.mvd_site.specs.Answer.{is_too_large}
+use Rattle.mvd_site.specs.Config.{ConfigValue, config_code}
+use Rattle.mvd_site.specs.Held.{States}
+use Rattle.mvd_site.specs.Known.{Adds, AllReplied, Event, MayReply, Tells, known_after}
+
+-- a site: what it was set up with, the states of its keys, and whether an install was refused memory
+pub record SiteValue : Type 0 where
+  pub config : ConfigValue
+  pub states : States
+  pub broken : Bool
+
+abbrev pub site_code : Coded SiteValue
+site_code = code_by (ConfigValue × (States × Bool)) (coded× config_code (coded× (code (coded_list coded_ℕ) state_code) coded_bool))
+    (λ s. (s.config, (s.states, s.broken)))
+    (λ p. record { config = p.0; states = p.1.0; broken = p.1.1 }) (λ _. refl)
+
+-- unless it is broken, the site's states are those of the writes
+abbrev pub SiteStands : SiteValue → List Write → Type 0
+SiteStands site known = site.broken ≡ false → Stands site.states known
+
+-- What a site does with one request: from any writes that its states stood for, and any that the request
+-- adds, where all agree, the reply is one that it may give, and the states afterwards stand for all of them
+abbrev pub AnswersOne : SiteValue → SiteValue → Request → Reply → Type 0
+AnswersOne old new request reply = (known added : List Write) → SiteStands old known → Adds request reply added → Agree (known ++ added) →
+    MayReply old.config known old.broken request reply new.broken × SiteStands new (known ++ added)
+
+-- What a site that began with no key has done with requests: for every choice of what they added, where all
+-- of that agrees, each reply is one that it may give from the writes known before it, and the states stand for all
+abbrev pub AnswersAll : ConfigValue → SiteValue → List Request → List Reply → Type 0
+AnswersAll config site requests replies = (events : List Event) → Tells events requests replies → Agree (known_after events) →
+    AllReplied config [] false events site.broken × SiteStands site (known_after events)
+
+-- the map has as many keys as it may have, and this is none of them
+abbrev pub has_no_room : ConfigValue → States → Key → Bool
+has_no_room config states key = not (is_some (get states key)) && (map_len states == config.max_keys)
+
+-- the limits, from the map of states
+abbrev pub within : ConfigValue → States → Key → State → Reply → Reply
+within config states key after reply =
+    if is_too_large after then Refused StateTooLarge
+    else if has_no_room config states key && not (is_empty after.context) then Refused Full
+    else reply
+
+-- the site that holds just these states, where they are not too many
+abbrev pub opened : ConfigValue → List (Key × State) → Result SiteValue Refusal
+opened config states =
+    if nat_lt config.max_keys (length states) then Err Full
+    else Ok (record { config = config; states = from_entries states; broken = false })

@@ -1,0 +1,110 @@
+//! What a request comes to, before anything is changed.
+ghost use Rattle.std.specs.Prelude.{◌≡◌};
+ghost use Rattle.mvd_site.specs.Change.{reply_of};
+
+use mvd_dots::{Dot, Refusal};
+use mvd_keys::{Key, KeyState};
+use mvd_wire::{Reply, encode_state};
+use std::alloc::Global;
+use std::marker::Model;
+
+/// A change of one key, ready to be stored and installed, with its state's spelling.
+#[derive(Drop)]
+pub struct Change {
+    key: Key,
+    state: KeyState,
+    bytes: Vec<u8>,
+    dot: Option<Dot>,
+}
+
+impl Model for Change {
+    ghost use Rattle.std.specs.Prelude.{◌≡◌};
+    ghost use Rattle.mvd_wire.specs.Kinds.{spell_state};
+    ghost use Rattle.mvd_site.specs.Change.{ChangeValue, change_code};
+
+    ghost Value = { ChangeValue };
+
+    ghost coded = { change_code };
+
+    ghost view = { λ c. record { key = c.key; state = c.state; dot = c.dot } };
+
+    ghost invariant = { λ c. c.bytes.items ≡ spell_state c.state };
+}
+
+impl Change {
+    ghost use Rattle.std.specs.Prelude.{◌≡◌, ◌≤◌, Ok, length};
+    ghost use Rattle.mvd_dots.specs.Answer.{IsAnswer};
+    ghost use Rattle.mvd_wire.specs.Kinds.{spell_state};
+
+    /// The change that gives the key this state, by a put of this dot if it is one.
+    pub(crate) fn new(
+        alloc: Global,
+        key: &Key,
+        state: KeyState,
+        dot: Option<Dot>,
+    ) -> Result<Change, Refusal>
+        requires { length (spell_state state) ≤ 1150000 }
+        ensures { IsAnswer result (Ok (record { key = key.now; state = state; dot = dot })) }
+    {
+        let key = key.copy(alloc)?;
+        let bytes = encode_state(alloc, &state)?;
+        Ok(Change {
+            key,
+            state,
+            bytes,
+            dot,
+        })
+    }
+
+    pub fn key(&self) -> &Key
+        ensures { result.now ≡ self.now.key }
+    {
+        &self.key
+    }
+
+    /// The state that the key is to have.
+    pub fn state(&self) -> &KeyState
+        ensures { result.now ≡ self.now.state }
+    {
+        &self.state
+    }
+
+    /// The spelling of that state.
+    pub fn bytes(&self) -> &[u8]
+        ensures { result.now ≡ spell_state self.now.state }
+    {
+        &self.bytes
+    }
+
+    /// The reply once the change is made: `Written` for a put, `Done` for a delete or a push.
+    pub fn reply(&self) -> Reply
+        ensures { result ≡ reply_of self.now.dot }
+    {
+        reply_of(self.dot)
+    }
+
+    /// The key and the state.
+    pub(crate) fn into_parts(self) -> (Key, KeyState)
+        ensures key { result.0 ≡ self.key }
+        ensures state { result.1 ≡ self.state }
+    {
+        (self.key, self.state)
+    }
+}
+
+/// A put is answered with its dot, and a delete or a push is done.
+pub(crate) fn reply_of(dot: Option<Dot>) -> Reply
+    ensures { result ≡ reply_of dot }
+{
+    match dot {
+        Some(dot) => Reply::Written(dot),
+        None => Reply::Done,
+    }
+}
+
+/// What a request comes to: an answer with nothing to change, or a change.
+#[derive(Drop)]
+pub enum Prepared {
+    Answer(Reply),
+    Change(Change),
+}

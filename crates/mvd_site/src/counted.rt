@@ -1,0 +1,25 @@
+//! Calls that count their work.
+ghost use Rattle.std.specs.Prelude.{◌≡◌, ◌≤◌, ◌+◌, ◌^◌, ◌≢◌, true, IfOk, IfErr, Err};
+ghost use Rattle.mvd_dots.specs.declared.refusals.Refusal.TheVariants.{Broken};
+ghost use Rattle.mvd_site.specs.Known.{IsValidRequest};
+ghost use Rattle.mvd_site.specs.Prepared.{IsReady, PreparesAt};
+
+use crate::changes::Prepared;
+use crate::sites::Site;
+use mvd_dots::Refusal;
+use mvd_wire::Request;
+
+/// What a request comes to, as `Site::prepare` says. Each look at a held key state adds one to the count.
+pub fn prepare(site: &Site, request: &Request, looks: &mut u64) -> Result<Prepared, Refusal>
+    requires { looks.old ≤ 2 ^ 63 }
+    ensures answer { PreparesAt site.now request.now result }
+    ensures ready { IfOk result (IsReady site.now) }
+    ensures valid { IfOk result (λ _. IsValidRequest request.now) }
+    ensures broken { site.now.broken ≡ true → result ≡ Err Broken }
+    ensures whole { IfErr result (λ refusal. refusal ≡ Broken → site.now.broken ≡ true) }
+    // At most one look.
+    ensures from { looks.old ≤ looks.new }
+    ensures to { looks.new ≤ looks.old + 1 }
+{
+    site.prepare_counted(request, looks)
+}

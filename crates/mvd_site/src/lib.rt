@@ -1,0 +1,12 @@
+//! One site: its answers to requests, from the writes known.
+#![tactic(auto)]
+
+pub mod changes;
+pub mod config;
+pub mod counted;
+mod held;
+pub mod sites;
+
+pub use changes::{Change, Prepared};
+pub use config::Config;
+pub use sites::Site;

@@ -1,0 +1,362 @@
+//! One site.
+ghost use Rattle.std.specs.Prelude.{◌≡◌, ◌≢◌, ◌≤◌, ◌+◌, ◌^◌, ℕ, List, false, true, None, Some, Err, Ok, is_some, length, IfOk, IfErr, OnOk, IsTrue};
+ghost use Rattle.std.specs.Option.{option_copied};
+ghost use Rattle.std.specs.List.{AllByRecursion};
+ghost use Rattle.std.specs.FinMap as map;
+ghost use Rattle.mvd_dots.specs.Answer.{IsAnswer};
+ghost use Rattle.mvd_dots.specs.Dot.{DotValue};
+ghost use Rattle.mvd_dots.specs.declared.refusals.Refusal.{Refusal};
+ghost use Rattle.mvd_dots.specs.declared.refusals.Refusal.TheVariants.{Broken, Memory};
+ghost use Rattle.mvd_keys.specs.Key.{key_cmp};
+ghost use Rattle.mvd_keys.specs.State.{IsValid, empty_state};
+ghost use Rattle.mvd_keys.specs.Writes.{Write, Stands, is_empty};
+ghost use Rattle.mvd_wire.specs.declared.request.Request.TheVariants.{Get, Put, Delete, Push};
+ghost use Rattle.mvd_wire.specs.declared.reply.Reply.TheVariants.{Refused};
+ghost use Rattle.mvd_site.specs.Held.{AreHeld, IsHeldState, IsKept, state_at};
+ghost use Rattle.mvd_site.specs.Known.{Adds, Event, IsValidRequest, Tells};
+ghost use Rattle.mvd_site.specs.Prepared.{IsReady, LimitsTo, Prepares, PreparesAt};
+ghost use Rattle.mvd_site.specs.Sites.{AnswersAll, AnswersOne, SiteValue, has_no_room, opened};
+
+use crate::changes::{Change, Prepared, reply_of};
+use crate::config::Config;
+use crate::held::Held;
+use mvd_docs::Document;
+use mvd_dots::{Context, Dot, Refusal};
+use mvd_keys::{Key, KeyState};
+use mvd_wire::{Reply, Request, STATE_MAX, state_length};
+use std::alloc::Global;
+use std::marker::Model;
+
+/// The states of the keys that one site holds, and the answers to requests from them.
+#[derive(Drop)]
+pub struct Site {
+    alloc: Global,
+    config: Config,
+    states: Held,
+    broken: bool,
+}
+
+impl Model for Site {
+    ghost use Rattle.std.specs.Prelude.{◌≤◌};
+    ghost use Rattle.std.specs.FinMap as map;
+    ghost use Rattle.mvd_site.specs.Sites.{SiteValue, site_code};
+
+    ghost Value = { SiteValue };
+
+    ghost coded = { site_code };
+
+    ghost view = { λ s. record { config = s.config; states = s.states; broken = s.broken } };
+
+    ghost invariant = { λ s. map.len s.states ≤ s.config.max_keys };
+}
+
+impl Site {
+    /// A site with no key.
+    pub fn new(alloc: Global, config: Config) -> Site
+        ensures { result ≡ record { config = config; states = map.empty; broken = false } }
+    {
+        Site {
+            alloc,
+            config,
+            states: Held::new(alloc),
+            broken: false,
+        }
+    }
+
+    /// A site that holds just these states, whose keys rise.
+    pub fn open(
+        alloc: Global,
+        config: Config,
+        states: Vec<(Key, KeyState)>,
+    ) -> Result<Site, Refusal>
+        requires rising { IsTrue (map.is_sorted key_cmp states.items) }
+        requires held { AllByRecursion (λ entry. IsHeldState entry.1) states.items }
+        ensures opened { IsAnswer result (opened config states.items) }
+        // There is a set of writes that it stands for.
+        ensures stands { IfOk result (λ site. (known : List Write) × Stands site.states known) }
+    {
+        if states.len() > config.max_keys() as usize {
+            return Err(Refusal::Full);
+        }
+        let held = held_of(alloc, states)?;
+        Ok(Site {
+            alloc,
+            config,
+            states: held,
+            broken: false,
+        })
+    }
+
+    pub fn config(&self) -> &Config
+        ensures { result.now ≡ self.now.config }
+    {
+        &self.config
+    }
+
+    /// The number of keys that are held.
+    pub fn key_count(&self) -> u32
+        ensures count { result ≡ map.len self.now.states }
+        ensures room { result ≤ self.now.config.max_keys }
+    {
+        let most = self.config.max_keys();
+        let count = self.states.len();
+        prove!(count <= most as usize);
+        count as u32
+    }
+
+    /// Whether an install was refused memory: the site then answers `Broken` to everything.
+    pub fn is_broken(&self) -> bool
+        ensures { result ≡ self.now.broken }
+    {
+        self.broken
+    }
+
+    /// What a request comes to. Nothing is changed yet, and several changes may be prepared side by side.
+    pub fn prepare(&self, request: &Request) -> Result<Prepared, Refusal>
+        ensures answer { PreparesAt self.now request.now result }
+        ensures ready { IfOk result (IsReady self.now) }
+        ensures valid { IfOk result (λ _. IsValidRequest request.now) }
+        ensures broken { self.now.broken ≡ true → result ≡ Err Broken }
+        ensures whole { IfErr result (λ refusal. refusal ≡ Broken → self.now.broken ≡ true) }
+    {
+        let mut looks = 0;
+        self.prepare_counted(request, &mut looks)
+    }
+
+    /// What a request comes to, with at most one look at a held key state.
+    pub(crate) fn prepare_counted(
+        &self,
+        request: &Request,
+        looks: &mut u64,
+    ) -> Result<Prepared, Refusal>
+        requires { looks.old ≤ 2 ^ 63 }
+        ensures answer { PreparesAt self.now request.now result }
+        ensures ready { IfOk result (IsReady self.now) }
+        ensures valid { IfOk result (λ _. IsValidRequest request.now) }
+        ensures broken { self.now.broken ≡ true → result ≡ Err Broken }
+        ensures whole { IfErr result (λ refusal. refusal ≡ Broken → self.now.broken ≡ true) }
+        ensures from { looks.old ≤ looks.new }
+        ensures to { looks.new ≤ looks.old + 1 }
+    {
+        if self.broken {
+            return Err(Refusal::Broken);
+        }
+        match request {
+            Request::Get(key) => self.prepare_get(key, looks),
+            Request::Put(key, seen, document) => self.prepare_put(key, seen, document, looks),
+            Request::Delete(key, seen) => self.prepare_delete(key, seen, looks),
+            Request::Push(key, pushed) => self.prepare_push(key, pushed, looks),
+            Request::Bye => Ok(Prepared::Answer(Reply::Done)),
+        }
+    }
+
+    fn prepare_get(&self, key: &Key, looks: &mut u64) -> Result<Prepared, Refusal>
+        requires { looks.old ≤ 2 ^ 63 }
+        ensures answer { (known : List Write) → Stands self.now.states known → Prepares self.now.config known (Get key.now) result }
+        ensures ready { IfOk result (IsReady self.now) }
+        ensures whole { IfErr result (λ refusal. refusal ≢ Broken) }
+        ensures looked { looks.new ≡ looks.old + 1 }
+    {
+        let empty = KeyState::empty(self.alloc);
+        let (_, old) = self.look(key, &empty, looks);
+        let state = old.copy(self.alloc)?;
+        Ok(Prepared::Answer(Reply::State(state)))
+    }
+
+    fn prepare_put(
+        &self,
+        key: &Key,
+        seen: &Context,
+        document: &Document,
+        looks: &mut u64,
+    ) -> Result<Prepared, Refusal>
+        requires { looks.old ≤ 2 ^ 63 }
+        ensures answer { (known : List Write) → Stands self.now.states known → Prepares self.now.config known (Put key.now seen.now document.now) result }
+        ensures ready { IfOk result (IsReady self.now) }
+        ensures whole { IfErr result (λ refusal. refusal ≢ Broken) }
+        ensures looked { looks.new ≡ looks.old + 1 }
+    {
+        let empty = KeyState::empty(self.alloc);
+        let (is_held, old) = self.look(key, &empty, looks);
+        let document = document.copy()?;
+        match old.put(self.alloc, self.config.site(), seen, document) {
+            Err(refusal) => return Err(refusal),
+            Ok((state, dot)) => return self.limited(key, is_held, old, state, Some(dot)),
+        }
+    }
+
+    fn prepare_delete(
+        &self,
+        key: &Key,
+        seen: &Context,
+        looks: &mut u64,
+    ) -> Result<Prepared, Refusal>
+        requires { looks.old ≤ 2 ^ 63 }
+        ensures answer { (known : List Write) → Stands self.now.states known → Prepares self.now.config known (Delete key.now seen.now) result }
+        ensures ready { IfOk result (IsReady self.now) }
+        ensures whole { IfErr result (λ refusal. refusal ≢ Broken) }
+        ensures looked { looks.new ≡ looks.old + 1 }
+    {
+        let empty = KeyState::empty(self.alloc);
+        let (is_held, old) = self.look(key, &empty, looks);
+        match old.delete(self.alloc, seen) {
+            Err(refusal) => return Err(refusal),
+            Ok(state) => return self.limited(key, is_held, old, state, None),
+        }
+    }
+
+    fn prepare_push(
+        &self,
+        key: &Key,
+        pushed: &KeyState,
+        looks: &mut u64,
+    ) -> Result<Prepared, Refusal>
+        requires { looks.old ≤ 2 ^ 63 }
+        ensures answer { (known : List Write) → Stands self.now.states known → Prepares self.now.config known (Push key.now pushed.now) result }
+        ensures ready { IfOk result (IsReady self.now) }
+        ensures valid { IfOk result (λ _. IsValid pushed.now) }
+        ensures whole { IfErr result (λ refusal. refusal ≢ Broken) }
+        ensures from { looks.old ≤ looks.new }
+        ensures to { looks.new ≤ looks.old + 1 }
+    {
+        if state_length(pushed) > STATE_MAX {
+            return Err(Refusal::StateTooLarge);
+        }
+        let empty = KeyState::empty(self.alloc);
+        let (is_held, old) = self.look(key, &empty, looks);
+        match old.join(self.alloc, pushed) {
+            Err(refusal) => return Err(refusal),
+            Ok(state) => return self.limited(key, is_held, old, state, None),
+        }
+    }
+
+    /// Whether the key is held, and its state or the empty one. This is one look.
+    fn look<'a>(
+        &'a self,
+        key: &Key,
+        empty: &'a KeyState,
+        looks: &mut u64,
+    ) -> (bool, &'a KeyState)
+        requires few { looks.old ≤ 2 ^ 63 }
+        requires empty { empty.now ≡ empty_state }
+        ensures is_held { result.0 ≡ is_some (map.get self.now.states key.now) }
+        ensures state { result.1.now ≡ state_at self.now.states key.now }
+        ensures kept { IsKept result.1.now }
+        ensures looked { looks.new ≡ looks.old + 1 }
+    {
+        match self.states.get(key, looks) {
+            Some(state) => (true, state),
+            None => (false, empty),
+        }
+    }
+
+    /// What giving the key this state comes to, by the limits; `dot` is that of a put.
+    fn limited(
+        &self,
+        key: &Key,
+        is_held: bool,
+        old: &KeyState,
+        after: KeyState,
+        dot: Option<Dot>,
+    ) -> Result<Prepared, Refusal>
+        requires is_held { is_held ≡ is_some (map.get self.now.states key.now) }
+        requires old { old.now ≡ state_at self.now.states key.now }
+        requires grows { is_empty after.context ≡ true → after ≡ old.now }
+        ensures limits { LimitsTo self.now key.now after dot result }
+        ensures ready { IfOk result (IsReady self.now) }
+        ensures whole { IfErr result (λ refusal. refusal ≢ Broken) }
+    {
+        if state_length(&after) > STATE_MAX {
+            return Err(Refusal::StateTooLarge);
+        }
+        if old.same(&after) {
+            return Ok(Prepared::Answer(reply_of(dot)));
+        }
+        if !is_held && self.states.len() == self.config.max_keys() as usize {
+            return Err(Refusal::Full);
+        }
+        let change = Change::new(self.alloc, key, after, dot)?;
+        Ok(Prepared::Change(change))
+    }
+
+    /// Puts in the change of one key, and changes no other. Where memory is refused the site is broken from then on.
+    pub fn install(&mut self, change: Change) -> Result<(), Refusal>
+        requires room { has_no_room self.old.config self.old.states change.key ≡ false }
+        requires held { IsHeldState change.state }
+        ensures ok { OnOk result ((self.old.broken ≡ false) × (self.new ≡ record { config = self.old.config; states = map.insert self.old.states change.key change.state; broken = false })) }
+        ensures err { IfErr result (λ refusal. (refusal ≡ Broken) × (self.new ≡ record { config = self.old.config; states = self.old.states; broken = true })) }
+    {
+        if self.broken {
+            return Err(Refusal::Broken);
+        }
+        let (key, state) = change.into_parts();
+        match self.states.insert(key, state) {
+            Ok(()) => Ok(()),
+            Err(_) => {
+                self.broken = true;
+                Err(Refusal::Broken)
+            }
+        }
+    }
+
+    /// Answers one request. A refusal other than `Broken` leaves the site as it was.
+    pub fn answer(&mut self, request: &Request) -> Reply
+        ensures answer { AnswersOne self.old self.new request.now result }
+        // There is a set of writes that it adds.
+        ensures choice { (added : List Write) × Adds request.now result added }
+        ensures config { self.new.config ≡ self.old.config }
+        // Whether it is broken, and for good.
+        ensures told { result ≡ Refused Broken → self.new.broken ≡ true }
+        ensures broken { self.new.broken ≡ true → result ≡ Refused Broken }
+        ensures stays { self.old.broken ≡ true → self.new ≡ self.old }
+        ensures unchanged { (refusal : Refusal) → result ≡ Refused refusal → refusal ≢ Broken → self.new ≡ self.old }
+    {
+        match self.prepare(request) {
+            Err(refusal) => Reply::Refused(refusal),
+            Ok(Prepared::Answer(reply)) => reply,
+            Ok(Prepared::Change(change)) => {
+                let reply = change.reply();
+                match self.install(change) {
+                    Ok(()) => reply,
+                    Err(refusal) => Reply::Refused(refusal),
+                }
+            }
+        }
+    }
+
+    /// Answers requests in order, beginning with no key.
+    pub fn run(
+        alloc: Global,
+        config: &Config,
+        requests: &[Request],
+    ) -> Result<(Site, Vec<Reply>), Refusal>
+        ensures answers { IfOk result (λ done. AnswersAll config.now done.0 requests.now done.1.items) }
+        // There is such a choice.
+        ensures choice { IfOk result (λ done. (events : List Event) × Tells events requests.now done.1.items) }
+        ensures count { IfOk result (λ done. length done.1.items ≡ length requests.now) }
+        ensures only { IfErr result (λ refusal. refusal ≡ Memory) }
+    {
+        let mut site = Site::new(alloc, config.copy());
+        let mut replies = Vec::new(alloc);
+        for request in requests {
+            let reply = site.answer(request);
+            replies.push(reply)?;
+        }
+        Ok((site, replies))
+    }
+}
+
+/// The map of just these states.
+fn held_of(alloc: Global, states: Vec<(Key, KeyState)>) -> Result<Held, Refusal>
+    requires rising { IsTrue (map.is_sorted key_cmp states.items) }
+    requires held { AllByRecursion (λ entry. IsHeldState entry.1) states.items }
+    ensures held { IfOk result (λ held. held ≡ map.from_entries states.items) }
+    ensures kept { IfOk result AreHeld }
+    ensures only { IfErr result (λ refusal. refusal ≡ Memory) }
+{
+    let mut held = Held::new(alloc);
+    for (key, state) in states {
+        held.insert(key, state)?;
+    }
+    Ok(held)
+}

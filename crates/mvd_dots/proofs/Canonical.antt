@@ -15,7 +15,7 @@ use Rattle.mvd_dots.specs.Context.{DotSet, Holds, AreInRange, IsBaseOf, IsEntryA
 use Rattle.mvd_dots.proofs.Rising.{above_low, all_below, has_dot, rises_lower}
 use Rattle.mvd_dots.proofs.Sets.{dot, same_dot, tied_dot, same_dots}
 use Rattle.mvd_dots.proofs.Members.{holds_cons, cons_first, cons_rest, nil_holds, entries_unique, entry_unique, some_dot}
-use Rattle.mvd_dots.proofs.Laws.{in_range_above}
+use Rattle.mvd_dots.proofs.Joining.{counter_low, counter_high}
 
 -- ---- numbers in order
 
@@ -366,11 +366,28 @@ form_of_set dots range = form_of dots range 0 (sites_of dots) (sites_rise dots r
 pub AreEntriesOf-entries_of : (dots : DotSet) → AreInRange dots → AreEntriesOf dots (entries_of dots)
 AreEntriesOf-entries_of dots range = record { form = form_of_set dots range; same = set_of-entries_of dots range }
 
--- entries in their form have dots within the limits
+-- ---- entries in their form have dots within the limits
+
+in_range_above : (low : ℕ) (es : List EntryValue) → AreEntriesAbove low es → AreInRange (set_of es)
+in_range_above low [] form site n holds = absurd (nil_holds site n holds)
+in_range_above low (e ∷ es) form site n holds =
+    elim (holds_cons e es site n holds) [
+      | inl k ↦ record {
+        site_low = omega (arith, k.0, form.1.site_low);
+        site_high = omega (arith, k.0, form.1.site_high);
+        counter_low = counter_low e n form.1 k.1;
+        counter_high = counter_high e n form.1 k.1;
+      }
+      | inr k ↦ in_range_above e.site es form.2 site n k
+    ]
+
+pub in_range : (dots : DotSet) (es : List EntryValue) → AreEntriesOf dots es → AreInRange dots
+in_range dots es of_dots = subst AreInRange of_dots.same (in_range_above 0 es of_dots.form)
+
 pub AreInRange-set_of : (es : List EntryValue) → AreEntries es → AreInRange (set_of es)
 AreInRange-set_of es form = in_range_above 0 es form
 
--- and they are the entries of the set of their dots
+-- entries in their form are the entries of the set of their dots
 pub entries_of-set_of : (es : List EntryValue) → AreEntries es → entries_of (set_of es) ≡ es
 entries_of-set_of es form =
     let range : AreInRange (set_of es) = AreInRange-set_of es form in

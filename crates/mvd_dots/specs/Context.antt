@@ -1,5 +1,5 @@
 -- What a causal context is: a set of dots. How it is kept and spelled: one entry for each site.
-use Rattle.std.specs.Prelude.{◌≡◌, ℕ, zero, suc, ◌+◌, ◌==◌, ◌<◌, ◌≤◌, nat_lt, List, [], ◌∷◌, map, filter, IsTrue, if◌then◌else◌}
+use Rattle.std.specs.Prelude.{◌≡◌, ℕ, zero, suc, ◌+◌, ◌==◌, ◌<◌, ◌≤◌, max, nat_lt, List, [], ◌∷◌, map, filter, IsTrue, if◌then◌else◌}
 use Rattle.std.specs.Ordering.{nat_cmp}
 use Rattle.std.specs.Coded.{Coded}
 use Rattle.std.specs.FinMap.{keys, from_entries}
@@ -24,10 +24,14 @@ AreInRange dots = (site counter : ℕ) → Holds dots site counter → IsDot (re
 
 -- ---- the greatest counter and the base of a site
 
--- `greatest` is the greatest counter of the site, or 0 where it has none
-pub record IsMaxOf (dots : DotSet) (site greatest : ℕ) : Type 0 where
-  pub bound : (n : ℕ) → Holds dots site n → n ≤ greatest
-  pub attained : 0 < greatest → Holds dots site greatest
+-- the greatest counter of the site among these dots, or 0
+abbrev pub greatest_of : ℕ → List DotValue → ℕ
+greatest_of site [] = 0
+greatest_of site (d ∷ ds) = if d.site == site then max d.counter (greatest_of site ds) else greatest_of site ds
+
+-- the greatest counter of the site in the set, or 0
+unfoldable pub greatest : ℕ → DotSet → ℕ
+greatest site dots = greatest_of site (set.items dots)
 
 -- `base` is the greatest number with all of the counters 1 to `base` of the site in the set
 pub record IsBaseOf (dots : DotSet) (site base : ℕ) : Type 0 where

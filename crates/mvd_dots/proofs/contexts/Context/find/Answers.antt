@@ -1,7 +1,7 @@
 use Rattle.std.proofs.Common.{arith, ap, sym, ◌∙◌, subst, ◌≡◌, ◌<◌, ◌≤◌, length}
 use Rattle.std.specs.List.{AllWithin}
 use Rattle.mvd_dots.specs.Context.{Holds, IsEntryAt, set_of}
-use Rattle.mvd_dots.proofs.Laws.{in_range}
+use Rattle.mvd_dots.proofs.Canonical.{in_range}
 use Rattle.mvd_dots.proofs.EntryLists.{found_entry, missing_read, missing_past}
 use Rattle.mvd_dots.proofs.contexts.Context.find.Goals as goal
 use Rattle.mvd_dots.proofs.contexts.Context.find.Goals.{then-i-len+else-entry-site, else-i-len}

@@ -70,7 +70,7 @@ impl Context {
         ensures of_set { AreEntriesOf self.now result.now }
         ensures in_range { AreInRange self.now }
     {
-        &self.entries
+        self.entries.as_slice()
     }
 
     /// Each site that has a dot, by rising site, with its base.

@@ -1,15 +1,16 @@
 //! Causal contexts: finite sets of dots.
-ghost use Rattle.std.specs.Prelude.{◌≡◌, ℕ, ◌<◌, ◌≤◌, ◌^◌, ◌↔◌, IsTrue, IfOk, IfErr, OnOk, ◌⊎◌, Err, string_bytes, OnErr, List, IfSome, IfNone, length, ◌++◌};
+ghost use Rattle.std.specs.Prelude.{◌≡◌, ℕ, ◌<◌, ◌≤◌, ◌^◌, ◌↔◌, IsTrue, IfOk, IsOkUnless, OnOk, Ok, string_bytes, max, OnErr, List, IfSome, IfNone, length, ◌++◌};
 ghost use Rattle.std.specs.List.{AllWithin};
 ghost use Rattle.std.specs.FinSet as set;
-ghost use Rattle.mvd_dots.specs.Entry.{EntryValue, IsEntry};
-ghost use Rattle.mvd_dots.specs.Text.{IsTextOf};
-ghost use Rattle.mvd_dots.specs.Context.{DotSet, Holds, AreInRange, IsMaxOf, AreLooseOf, AreBasesOf, AreEntries, AreEntriesOf, IsEntryAt, entry_dots, set_of};
+ghost use Rattle.mvd_dots.specs.Entry.{EntryValue, IsEntry, RisesAbove, Among};
+ghost use Rattle.mvd_dots.specs.Answer.{IsAnswer, IsReading};
+ghost use Rattle.mvd_dots.specs.Text.{IsTextOf, text_of};
+ghost use Rattle.mvd_dots.specs.Context.{DotSet, Holds, AreInRange, IsBaseOf, AreEntries, AreEntriesOf, IsEntryAt, entry_dots, set_of, entries_of, bases_of, base_of, loose_of, greatest};
 
 use crate::dots::Dot;
 use crate::entries::Entry;
 use crate::refusals::Refusal;
-use crate::texts::{entries_of, text_of};
+use crate::texts::{print_entries, read_entries};
 use std::alloc::{AllocError, Global};
 use std::marker::Model;
 
@@ -54,7 +55,7 @@ impl Context {
 
     /// The greatest counter of the site, or 0 where it has none.
     pub fn max_of(&self, site: u32) -> u64
-        ensures greatest { IsMaxOf self.now site result }
+        ensures greatest { result ≡ greatest site self.now }
         ensures in_range { result < 2 ^ 48 }
     {
         match self.find(site) {
@@ -65,16 +66,17 @@ impl Context {
 
     /// The entries, one for each site that has a dot, by rising site.
     pub fn entries(&self) -> &[Entry]
+        ensures entries { result.now ≡ entries_of self.now }
         ensures of_set { AreEntriesOf self.now result.now }
         ensures in_range { AreInRange self.now }
     {
-        &self.entries
+        self.entries.as_slice()
     }
 
     /// Each site that has a dot, by rising site, with its base.
     pub fn bases(&self) -> Result<Vec<(u32, u64)>, Refusal>
-        ensures ok { IfOk result (λ bases. AreBasesOf self.now bases.items) }
-        ensures only_memory { IfErr result (λ refusal. refusal ≡ Refusal.Memory) }
+        ensures bases { IfOk result (λ bases. bases.items ≡ bases_of self.now) }
+        ensures memory { IsOkUnless result Refusal.Memory }
     {
         let mut bases = Vec::new(self.alloc);
         for entry in &self.entries {
@@ -85,7 +87,7 @@ impl Context {
 
     /// The counters of the site above its base, rising.
     pub fn loose(&self, site: u32) -> &[u64]
-        ensures { AreLooseOf self.now site result.now }
+        ensures { result.now ≡ loose_of self.now site }
     {
         match self.find(site) {
             Some(entry) => &entry.loose,
@@ -94,8 +96,7 @@ impl Context {
     }
 
     pub fn copy(&self) -> Result<Context, Refusal>
-        ensures ok { IfOk result (λ copy. copy ≡ self.now) }
-        ensures only_memory { IfErr result (λ refusal. refusal ≡ Refusal.Memory) }
+        ensures { IsAnswer result (Ok self.now) }
     {
         let mut entries = Vec::new(self.alloc);
         copy_onto(self.alloc, &mut entries, &self.entries)?;
@@ -114,7 +115,7 @@ impl Context {
     pub fn add(&mut self, dot: Dot) -> Result<(), Refusal>
         ensures ok { OnOk result (self.new ≡ set.insert self.old dot) }
         ensures unchanged { OnErr result (self.new ≡ self.old) }
-        ensures only_memory { IfErr result (λ refusal. refusal ≡ Refusal.Memory) }
+        ensures memory { IsOkUnless result Refusal.Memory }
     {
         let single = Entry::of_dot(self.alloc, dot)?;
         let i = place(&self.entries, dot.site());
@@ -133,7 +134,7 @@ impl Context {
     pub fn join(&mut self, other: &Context) -> Result<(), Refusal>
         ensures ok { OnOk result (self.new ≡ set.union self.old other.now) }
         ensures unchanged { OnErr result (self.new ≡ self.old) }
-        ensures only_memory { IfErr result (λ refusal. refusal ≡ Refusal.Memory) }
+        ensures memory { IsOkUnless result Refusal.Memory }
     {
         self.entries = joined_entries(self.alloc, &self.entries, &other.entries)?;
         Ok(())
@@ -145,7 +146,7 @@ impl Context {
         requires above { (held n : ℕ) → Holds self.old held n → held < site }
         ensures ok { OnOk result (self.new ≡ set.union self.old (entry_dots (record { site = site; base = base; loose = loose.now }))) }
         ensures unchanged { OnErr result (self.new ≡ self.old) }
-        ensures only_memory { IfErr result (λ refusal. refusal ≡ Refusal.Memory) }
+        ensures memory { IsOkUnless result Refusal.Memory }
     {
         let loose = Vec::from_slice(self.alloc, loose)?;
         self.entries.push(Entry { site, base, loose })?;
@@ -154,27 +155,26 @@ impl Context {
 
     /// The one text of the set.
     pub fn print(&self) -> Result<String, Refusal>
-        ensures ok { IfOk result (λ text. IsTextOf self.now (string_bytes text)) }
-        ensures only_memory { IfErr result (λ refusal. refusal ≡ Refusal.Memory) }
+        ensures text { IfOk result (λ text. string_bytes text ≡ text_of self.now) }
+        ensures memory { IsOkUnless result Refusal.Memory }
     {
-        Ok(text_of(self.alloc, &self.entries)?)
+        Ok(print_entries(self.alloc, &self.entries)?)
     }
 
     /// The set whose text this is.
     pub fn read(alloc: Global, text: &str) -> Result<Context, Refusal>
-        ensures ok { IfOk result (λ context. IsTextOf context text.now) }
-        ensures refused { result ≡ Err Refusal.BadContext → (dots : DotSet) → IsTextOf dots text.now → ⊥ }
-        ensures only { IfErr result (λ refusal. (refusal ≡ Refusal.BadContext) ⊎ (refusal ≡ Refusal.Memory)) }
+        ensures { IsReading (λ dots. IsTextOf dots text.now) Refusal.BadContext result }
     {
         Ok(Context {
             alloc,
-            entries: entries_of(alloc, text.as_bytes())?,
+            entries: read_entries(alloc, text.as_bytes())?,
         })
     }
 
     fn find(&self, site: u32) -> Option<&Entry>
         ensures found { IfSome result (λ entry. IsEntryAt self.now site entry.now) }
         ensures missing { IfNone result ((n : ℕ) → Holds self.now site n → ⊥) }
+        ensures in_range { AreInRange self.now }
     {
         let i = place(&self.entries, site);
         if i < self.entries.len() {
@@ -189,8 +189,26 @@ impl Context {
 
 /// A set has one list of entries and one text, and no other set has these.
 pub fn one_form()
-    ensures entries { (s t : DotSet) (es fs : List EntryValue) → AreEntriesOf s es → AreEntriesOf t fs → (s ≡ t) ↔ (es ≡ fs) }
-    ensures texts { (s t : DotSet) (a b : List ℕ) → IsTextOf s a → IsTextOf t b → (s ≡ t) ↔ (a ≡ b) }
+    ensures of_entries { (es : List EntryValue) → AreEntries es → AreInRange (set_of es) × (entries_of (set_of es) ≡ es) }
+    ensures of_set { (dots : DotSet) → AreInRange dots → AreEntries (entries_of dots) × (set_of (entries_of dots) ≡ dots) }
+    ensures entries { (s t : DotSet) → AreInRange s → AreInRange t → (s ≡ t) ↔ (entries_of s ≡ entries_of t) }
+    ensures texts { (s t : DotSet) → AreInRange s → AreInRange t → (s ≡ t) ↔ (text_of s ≡ text_of t) }
+{}
+
+/// The base of a site is the greatest number with all of the counters 1 to it in the set, and its
+/// loose counters are those above the base, rising.
+pub fn bases_and_loose()
+    ensures base { (dots : DotSet) (site : ℕ) → AreInRange dots → IsBaseOf dots site (base_of dots site) }
+    ensures loose { (dots : DotSet) (site n : ℕ) → AreInRange dots → Among (loose_of dots site) n ↔ (base_of dots site < n) × Holds dots site n }
+    ensures rising { (dots : DotSet) (site : ℕ) → AreInRange dots → RisesAbove (base_of dots site) (loose_of dots site) }
+{}
+
+/// The greatest counter of a site bounds its counters, and is one of them or 0. That of a union is
+/// the greater of the two.
+pub fn greatest_counter()
+    ensures bound { (dots : DotSet) (site n : ℕ) → Holds dots site n → n ≤ greatest site dots }
+    ensures attained { (dots : DotSet) (site : ℕ) → 0 < greatest site dots → Holds dots site (greatest site dots) }
+    ensures union { (s t : DotSet) (site : ℕ) → greatest site (set.union s t) ≡ max (greatest site s) (greatest site t) }
 {}
 
 /// How many entries are of a lower site.

@@ -1,14 +1,12 @@
 -- Lists of entries: their places, their parts and the dots of each.
-use Rattle.std.proofs.Common.{◌≡◌, ℕ, zero, suc, ◌+◌, ◌<◌, ◌≤◌, List, [], ◌∷◌, ◌++◌, length, get_or, drop, map, refl, sym, ap, ◌∙◌, subst, ◌⊎◌, inl, inr, arith, append_assoc}
+use Rattle.std.proofs.Common.{◌≡◌, ℕ, zero, suc, ◌+◌, ◌<◌, ◌≤◌, List, [], ◌∷◌, ◌++◌, length, get_or, drop, refl, sym, ap, ◌∙◌, subst, ◌⊎◌, inl, inr, arith, append_assoc}
 use Rattle.std.proofs.lemmas.Bool.{cases_lt, cases_eq}
-use Rattle.std.proofs.lemmas.List.{append-nil, drop_more, drop_all, get_or_read, get_or_default, get_or-map}
+use Rattle.std.proofs.lemmas.List.{append-nil, drop_more, drop_all, get_or_read}
 use Rattle.std.specs.List.{AllWithin}
 use Rattle.std.specs.FinSet as set
 use Rattle.mvd_dots.specs.Dot.{DotValue, IsDot}
-use Rattle.mvd_dots.specs.Entry.{EntryValue, IsEntry, RisesAbove, HasCounter}
-use Rattle.mvd_dots.specs.Context.{DotSet, Holds, AreEntriesAbove, AreEntries, IsEntryAt, IsBaseOf, AreLooseOf, AreBasesOf, IsEntryOfDot, entry_dots, set_of}
-use Rattle.mvd_dots.proofs.Rising.{above_low}
-use Rattle.mvd_dots.proofs.Joining.{loose_rises}
+use Rattle.mvd_dots.specs.Entry.{EntryValue, IsEntry, HasCounter}
+use Rattle.mvd_dots.specs.Context.{DotSet, Holds, AreEntriesAbove, AreEntries, IsEntryAt, IsEntryOfDot, entry_dots, set_of}
 use Rattle.mvd_dots.proofs.Sets.{same_dots, holds_insert, insert_new, insert_old, holds_union, union_left, union_right, empty_holds, union-empty, union_comm, union_assoc}
 use Rattle.mvd_dots.proofs.Members.{holds_entry, entry_holds, holds_cons, cons_first, cons_rest, nil_holds, site_above, set_of-nil, set_of-cons, set_of-append, some_dot}
 
@@ -86,43 +84,6 @@ missing_entry es i site form below above other n holds =
             absurd (omega (arith, rises, least, place.2))
       ]
     ]
-
--- ---- a site's greatest counter, base and loose counters, from its entry
-
-pub base_from_entry : (dots : DotSet) (site : ℕ) (e : EntryValue) → IsEntryAt dots site e → IsBaseOf dots site e.base
-base_from_entry dots site e is =
-    record {
-      all = λ n low high. is.back n (inl (low, high));
-      greatest = λ holds. elim (is.there (e.base + 1) holds) [
-        | inl k ↦ absurd (omega (arith, k.1))
-        | inr k ↦ absurd (omega (arith, above_low (e.base + 1) e.loose (e.base + 1) is.form.rising k))
-      ];
-    }
-
--- a site has one base
-pub base_unique : (dots : DotSet) (site b c : ℕ) → IsBaseOf dots site b → IsBaseOf dots site c → b ≡ c
-base_unique dots site b c p q =
-    let up : b ≤ c = elim (cases_lt c b) [ inl less ↦ absurd (q.greatest (p.all (c + 1) (omega arith) (omega arith))) | inr done ↦ done ] in
-    let down : c ≤ b = elim (cases_lt b c) [ inl less ↦ absurd (p.greatest (q.all (b + 1) (omega arith) (omega arith))) | inr done ↦ done ] in
-    omega arith
-
-pub loose_from_entry : (dots : DotSet) (site : ℕ) (e : EntryValue) (ns : List ℕ) → ns ≡ e.loose → IsEntryAt dots site e → AreLooseOf dots site ns
-loose_from_entry dots site e ns same is =
-    subst (AreLooseOf dots site) (sym same)
-    record {
-      rising = loose_rises e is.form;
-      members = λ base n is_base.
-          let bases : base ≡ e.base = base_unique dots site base e.base is_base (base_from_entry dots site e is) in (
-            λ h. (omega (arith, bases, above_low (e.base + 1) e.loose n is.form.rising h), is.back n (inr h)),
-            λ h. elim (is.there n h.1) [
-              | inl k ↦ absurd (omega (arith, bases, h.0, k.1))
-              | inr k ↦ k
-            ],
-          );
-    }
-
-pub loose_from_none : (dots : DotSet) (site : ℕ) → ((n : ℕ) → Holds dots site n → ⊥) → AreLooseOf dots site []
-loose_from_none dots site none = record { rising = tt; members = λ base n is_base. (λ h. absurd h, λ h. none n h.1) }
 
 -- ---- parts
 
@@ -327,41 +288,6 @@ missing_read es i site e form below above h is other =
 
 pub missing_past : (es : List EntryValue) (i site : ℕ) → AreEntries es → AllWithin (λ v. v.site < site) es 0 i → AllWithin (λ v. site ≤ v.site) es i (length es) → length es ≤ i → (n : ℕ) → Holds (set_of es) site n → ⊥
 missing_past es i site form below above past = missing_entry es i site form below above (λ d h _. absurd (omega arith))
-
--- ---- the bases
-
-abbrev pub base_pairs : List EntryValue → List (ℕ × ℕ)
-base_pairs es = map (λ e. (e.site, e.base)) es
-
-length-base_pairs : (es : List EntryValue) → length (base_pairs es) ≡ length es
-length-base_pairs [] = refl
-length-base_pairs (e ∷ es) = ap suc (length-base_pairs es)
-
-bases_rise : (low : ℕ) (es : List EntryValue) → AreEntriesAbove low es → RisesAbove low (map (λ b. b.0) (base_pairs es))
-bases_rise low [] form = tt
-bases_rise low (e ∷ es) form = (form.0, bases_rise e.site es form.2)
-
-pub bases_from_entries : (es : List EntryValue) → AreEntries es → AreBasesOf (set_of es) (base_pairs es)
-bases_from_entries es form =
-    let none : EntryValue = record { site = 0; base = 0; loose = [] } in
-    record {
-      rising = bases_rise 0 es form;
-      sound = λ site base has.
-          let k : ℕ = has.0 in
-          let h : k < length es = omega (arith, has.1, length-base_pairs es) in
-          let at : ((get_or es k none).site, (get_or es k none).base) ≡ (site, base) = sym (get_or-map (λ e. (e.site, e.base)) es k none (site, base) h) ∙ has.2 in
-          let entry : IsEntryAt (set_of es) site (get_or es k none)
-          = found_entry es k site (get_or es k none) form h (get_or_default es k none (get_or es k none) h) (ap (λ p. p.0) at) in
-          let some = some_dot (get_or es k none) entry.form in
-          (subst (IsBaseOf (set_of es) site) (ap (λ p. p.1) at) (base_from_entry (set_of es) site (get_or es k none) entry), (some.0, entry.back some.0 some.1));
-      complete = λ site n holds.
-          let place = place_of_site es site n none holds in
-          let k : ℕ = place.0 in
-          let h : k < length (base_pairs es) = omega (arith, place.1, length-base_pairs es) in
-          let at : get_or (base_pairs es) k (site, (get_or es k none).base) ≡ (site, (get_or es k none).base)
-          = get_or-map (λ e. (e.site, e.base)) es k none _ place.1 ∙ (λ i. (place.2 i, (get_or es k none).base)) in
-          ((get_or es k none).base, (k, h, at));
-    }
 
 -- ---- one dot more
 

@@ -9,7 +9,7 @@ use Rattle.mvd_dots.proofs.Members.{holds_cons, nil_holds, entries_unique}
 use Rattle.mvd_dots.proofs.Joining.{counter_low, counter_high}
 use Rattle.mvd_dots.proofs.Reading.{same_texts}
 
-in_range_above : (low : ℕ) (es : List EntryValue) → AreEntriesAbove low es → AreInRange (set_of es)
+pub in_range_above : (low : ℕ) (es : List EntryValue) → AreEntriesAbove low es → AreInRange (set_of es)
 in_range_above low [] form site n holds = absurd (nil_holds site n holds)
 in_range_above low (e ∷ es) form site n holds =
     elim (holds_cons e es site n holds) [

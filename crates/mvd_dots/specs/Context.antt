@@ -1,11 +1,11 @@
 -- What a causal context is: a set of dots. How it is kept and spelled: one entry for each site.
-use Rattle.std.specs.Prelude.{◌≡◌, ℕ, zero, suc, ◌+◌, ◌==◌, ◌<◌, ◌≤◌, nat_lt, ◌↔◌, List, [], ◌∷◌, map, filter, IsTrue, if◌then◌else◌}
+use Rattle.std.specs.Prelude.{◌≡◌, ℕ, zero, suc, ◌+◌, ◌==◌, ◌<◌, ◌≤◌, nat_lt, List, [], ◌∷◌, map, filter, IsTrue, if◌then◌else◌}
 use Rattle.std.specs.Ordering.{nat_cmp}
-use Rattle.std.specs.List.{Contains}
 use Rattle.std.specs.Coded.{Coded}
+use Rattle.std.specs.FinMap.{keys, from_entries}
 use Rattle.std.specs.FinSet as set
 use Rattle.mvd_dots.specs.Dot.{DotValue, IsDot, dot_cmp, dot_code}
-use Rattle.mvd_dots.specs.Entry.{EntryValue, IsEntry, HasCounter, RisesAbove, Among}
+use Rattle.mvd_dots.specs.Entry.{EntryValue, IsEntry, HasCounter}
 
 -- a finite set of dots
 abbrev pub DotSet : Type 0
@@ -22,7 +22,7 @@ Holds dots site counter = IsTrue (set.contains dots (record { site = site; count
 abbrev pub AreInRange : DotSet → Type 0
 AreInRange dots = (site counter : ℕ) → Holds dots site counter → IsDot (record { site = site; counter = counter })
 
--- ---- the greatest counter, the base and the loose counters of a site
+-- ---- the greatest counter and the base of a site
 
 -- `greatest` is the greatest counter of the site, or 0 where it has none
 pub record IsMaxOf (dots : DotSet) (site greatest : ℕ) : Type 0 where
@@ -33,17 +33,6 @@ pub record IsMaxOf (dots : DotSet) (site greatest : ℕ) : Type 0 where
 pub record IsBaseOf (dots : DotSet) (site base : ℕ) : Type 0 where
   pub all : (n : ℕ) → 0 < n → n ≤ base → Holds dots site n
   pub greatest : Holds dots site (base + 1) → ⊥
-
--- the loose counters of the site: those above the base, rising
-pub record AreLooseOf (dots : DotSet) (site : ℕ) (loose : List ℕ) : Type 0 where
-  pub rising : RisesAbove 0 loose
-  pub members : (base n : ℕ) → IsBaseOf dots site base → Among loose n ↔ (base < n) × Holds dots site n
-
--- each site that has a dot, by rising site, with its base
-pub record AreBasesOf (dots : DotSet) (bases : List (ℕ × ℕ)) : Type 0 where
-  pub rising : RisesAbove 0 (map (λ b. b.0) bases)
-  pub sound : (site base : ℕ) → Contains bases (site, base) → IsBaseOf dots site base × ((n : ℕ) × Holds dots site n)
-  pub complete : (site n : ℕ) → Holds dots site n → (base : ℕ) × Contains bases (site, base)
 
 -- ---- entries
 
@@ -93,9 +82,13 @@ pub record IsEntryOfDot (dot : DotValue) (entry : EntryValue) : Type 0 where
 
 -- ---- the entries of a set
 
+-- these numbers in order, each once
+unfoldable pub rising : List ℕ → List ℕ
+rising ns = keys (from_entries {R = nat_cmp} (map (λ n. (n, tt {0})) ns))
+
 -- the counters of a site, rising
 unfoldable pub counters_at : DotSet → ℕ → List ℕ
-counters_at dots site = map (λ d. d.counter) (filter (λ d. d.site == site) (set.items dots))
+counters_at dots site = rising (map (λ d. d.counter) (filter (λ d. d.site == site) (set.items dots)))
 
 -- how far a rising list counts on from a number without a gap
 abbrev pub counted_on : ℕ → List ℕ → ℕ
@@ -115,8 +108,12 @@ entry_of dots site = record { site = site; base = base_of dots site; loose = loo
 
 -- the sites that have a dot, rising
 unfoldable pub sites_of : DotSet → List ℕ
-sites_of dots = set.items (set.from_list {R = nat_cmp} (map (λ d. d.site) (set.items dots)))
+sites_of dots = rising (map (λ d. d.site) (set.items dots))
 
 -- one entry for each site that has a dot, by rising site: the one list of entries that spells the set
 unfoldable pub entries_of : DotSet → List EntryValue
 entries_of dots = map (entry_of dots) (sites_of dots)
+
+-- each site that has a dot, by rising site, with its base
+unfoldable pub bases_of : DotSet → List (ℕ × ℕ)
+bases_of dots = map (λ site. (site, base_of dots site)) (sites_of dots)

@@ -1,15 +1,15 @@
 //! Causal contexts: finite sets of dots.
-ghost use Rattle.std.specs.Prelude.{◌≡◌, ℕ, ◌<◌, ◌≤◌, ◌^◌, ◌↔◌, IsTrue, IfOk, IfErr, OnOk, ◌⊎◌, Err, string_bytes, OnErr, List, IfSome, IfNone, length, ◌++◌};
+ghost use Rattle.std.specs.Prelude.{◌≡◌, ℕ, ◌<◌, ◌≤◌, ◌^◌, ◌↔◌, IsTrue, IfOk, IsOkUnless, IfErr, OnOk, ◌⊎◌, Err, string_bytes, OnErr, List, IfSome, IfNone, length, ◌++◌};
 ghost use Rattle.std.specs.List.{AllWithin};
 ghost use Rattle.std.specs.FinSet as set;
-ghost use Rattle.mvd_dots.specs.Entry.{EntryValue, IsEntry};
+ghost use Rattle.mvd_dots.specs.Entry.{EntryValue, IsEntry, RisesAbove, Among};
 ghost use Rattle.mvd_dots.specs.Text.{IsTextOf};
-ghost use Rattle.mvd_dots.specs.Context.{DotSet, Holds, AreInRange, IsMaxOf, AreLooseOf, AreBasesOf, AreEntries, AreEntriesOf, IsEntryAt, entry_dots, set_of};
+ghost use Rattle.mvd_dots.specs.Context.{DotSet, Holds, AreInRange, IsMaxOf, IsBaseOf, AreEntries, AreEntriesOf, IsEntryAt, entry_dots, set_of, entries_of, bases_of, base_of, loose_of};
 
 use crate::dots::Dot;
 use crate::entries::Entry;
 use crate::refusals::Refusal;
-use crate::texts::{entries_of, text_of};
+use crate::texts::{print_entries, read_entries};
 use std::alloc::{AllocError, Global};
 use std::marker::Model;
 
@@ -65,6 +65,7 @@ impl Context {
 
     /// The entries, one for each site that has a dot, by rising site.
     pub fn entries(&self) -> &[Entry]
+        ensures entries { result.now ≡ entries_of self.now }
         ensures of_set { AreEntriesOf self.now result.now }
         ensures in_range { AreInRange self.now }
     {
@@ -73,8 +74,8 @@ impl Context {
 
     /// Each site that has a dot, by rising site, with its base.
     pub fn bases(&self) -> Result<Vec<(u32, u64)>, Refusal>
-        ensures ok { IfOk result (λ bases. AreBasesOf self.now bases.items) }
-        ensures only_memory { IfErr result (λ refusal. refusal ≡ Refusal.Memory) }
+        ensures bases { IfOk result (λ bases. bases.items ≡ bases_of self.now) }
+        ensures memory { IsOkUnless result Refusal.Memory }
     {
         let mut bases = Vec::new(self.alloc);
         for entry in &self.entries {
@@ -85,7 +86,7 @@ impl Context {
 
     /// The counters of the site above its base, rising.
     pub fn loose(&self, site: u32) -> &[u64]
-        ensures { AreLooseOf self.now site result.now }
+        ensures { result.now ≡ loose_of self.now site }
     {
         match self.find(site) {
             Some(entry) => &entry.loose,
@@ -157,7 +158,7 @@ impl Context {
         ensures ok { IfOk result (λ text. IsTextOf self.now (string_bytes text)) }
         ensures only_memory { IfErr result (λ refusal. refusal ≡ Refusal.Memory) }
     {
-        Ok(text_of(self.alloc, &self.entries)?)
+        Ok(print_entries(self.alloc, &self.entries)?)
     }
 
     /// The set whose text this is.
@@ -168,13 +169,14 @@ impl Context {
     {
         Ok(Context {
             alloc,
-            entries: entries_of(alloc, text.as_bytes())?,
+            entries: read_entries(alloc, text.as_bytes())?,
         })
     }
 
     fn find(&self, site: u32) -> Option<&Entry>
         ensures found { IfSome result (λ entry. IsEntryAt self.now site entry.now) }
         ensures missing { IfNone result ((n : ℕ) → Holds self.now site n → ⊥) }
+        ensures in_range { AreInRange self.now }
     {
         let i = place(&self.entries, site);
         if i < self.entries.len() {
@@ -189,8 +191,18 @@ impl Context {
 
 /// A set has one list of entries and one text, and no other set has these.
 pub fn one_form()
+    ensures of_entries { (es : List EntryValue) → AreEntries es → AreInRange (set_of es) × (entries_of (set_of es) ≡ es) }
+    ensures of_set { (dots : DotSet) → AreInRange dots → AreEntries (entries_of dots) × (set_of (entries_of dots) ≡ dots) }
     ensures entries { (s t : DotSet) (es fs : List EntryValue) → AreEntriesOf s es → AreEntriesOf t fs → (s ≡ t) ↔ (es ≡ fs) }
     ensures texts { (s t : DotSet) (a b : List ℕ) → IsTextOf s a → IsTextOf t b → (s ≡ t) ↔ (a ≡ b) }
+{}
+
+/// The base of a site is the greatest number with all of the counters 1 to it in the set, and its
+/// loose counters are those above the base, rising.
+pub fn bases_and_loose()
+    ensures base { (dots : DotSet) (site : ℕ) → AreInRange dots → IsBaseOf dots site (base_of dots site) }
+    ensures loose { (dots : DotSet) (site n : ℕ) → AreInRange dots → Among (loose_of dots site) n ↔ (base_of dots site < n) × Holds dots site n }
+    ensures rising { (dots : DotSet) (site : ℕ) → AreInRange dots → RisesAbove (base_of dots site) (loose_of dots site) }
 {}
 
 /// How many entries are of a lower site.

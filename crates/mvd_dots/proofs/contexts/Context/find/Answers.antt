@@ -1,6 +1,7 @@
 use Rattle.std.proofs.Common.{arith, ap, sym, ◌∙◌, subst, ◌≡◌, ◌<◌, ◌≤◌, length}
 use Rattle.std.specs.List.{AllWithin}
 use Rattle.mvd_dots.specs.Context.{Holds, IsEntryAt, set_of}
+use Rattle.mvd_dots.proofs.Laws.{in_range}
 use Rattle.mvd_dots.proofs.EntryLists.{found_entry, missing_read, missing_past}
 use Rattle.mvd_dots.proofs.contexts.Context.find.Goals as goal
 use Rattle.mvd_dots.proofs.contexts.Context.find.Goals.{then-i-len+else-entry-site, else-i-len}
@@ -23,3 +24,9 @@ returns-clause-missing c n holds =
       | then-i-len+else-entry-site w ↦ missing_read es c.place-i.result c.args.site w.index-entry.result.now c.self.invariant below above (omega (arith, w.if-i-len.true, c.len.ensures, c.self.inside.entries.ok.0)) w.index-entry.ensures (λ e. w.if-entry-site.false (ap (λ v. v.site) w.entry.view_is ∙ e)) n held
       | else-i-len w ↦ missing_past es c.place-i.result c.args.site c.self.invariant below above (omega (arith, w.if-i-len.false, c.len.ensures, c.self.inside.entries.ok.0)) n held
     ]
+
+pub returns-then-entry-site-clause-in_range : goal.returns-then-entry-site-clause-in_range
+returns-then-entry-site-clause-in_range c = in_range _ c.self.inside.entries.items record { form = c.self.invariant; same = c.self.view_is }
+
+pub returns-clause-in_range : goal.returns-clause-in_range
+returns-clause-in_range c = in_range _ c.self.inside.entries.items record { form = c.self.invariant; same = c.self.view_is }

@@ -9,12 +9,11 @@ use Rattle.mvd_dots.specs.Dot.{DotValue}
 use Rattle.mvd_dots.specs.Entry.{EntryValue}
 use Rattle.std.specs.FinSet as set
 use Rattle.mvd_dots.specs.Context.{DotSet, entries_of, set_of}
-use Rattle.mvd_dots.proofs.Laws.{in_range}
 use Rattle.mvd_keys.proofs.Parts.{entries_of_pairs}
-use Rattle.mvd_wire.proofs.Entries.{entries_are}
+use Rattle.mvd_dots.proofs.Canonical.{entries_are}
 use Rattle.mvd_keys.specs.State.{State, Text, empty_state}
 use Rattle.mvd_wire.specs.Kind.{Kind, number, raw, spell_each}
-use Rattle.mvd_wire.specs.Kinds.{layout2, dot, document, loose_from, loose_above, entry, entries, context, sibling, parts_of_state, unlimited_state, state, spell_state, spell_entry, spell_sibling}
+use Rattle.mvd_wire.specs.Kinds.{layout2, dot, document, loose_from, loose_above, entry, entries, context, sibling, siblings, unlimited_state, state, spell_state, spell_entry, spell_sibling}
 
 pub spell_each-flat_map : {S X : Type 0} (kind : S → Kind X) (next : S → X → S) (f : X → List ℕ) → ((s : S) (x : X) → (kind s).spell x ≡ f x) → (s : S) (xs : List X) → spell_each kind next s xs ≡ flat_map f xs
 spell_each-flat_map kind next f same s [] = refl
@@ -38,7 +37,7 @@ unfolding sibling
 sibling_is dots previous s = refl
 
 pub state_is : (s : State) → spell_state s ≡ (context layout2).spell s.context ++ ((number w16).spell (length (pairs s.siblings)) ++ flat_map spell_sibling (pairs s.siblings))
-unfolding spell_state state unlimited_state parts_of_state
+unfolding spell_state state unlimited_state siblings
 state_is s = ap (λ (t : List ℕ). (context layout2).spell s.context ++ ((number w16).spell (length (pairs s.siblings)) ++ t)) (spell_each-flat_map (sibling layout2 s.context) (λ _ x. Some x.0) spell_sibling (sibling_is s.context) None (pairs s.siblings))
 
 -- ---- lengths
@@ -87,7 +86,7 @@ three a b c d x y z p q r =
 
 no_entries : entries_of set.empty ≡ []
 unfolding set_of
-no_entries = sym (entries_are set.empty [] (in_range set.empty [] (record { form = tt; same = refl })) (record { form = tt; same = refl }))
+no_entries = sym (entries_are set.empty [] (record { form = tt; same = refl }))
 
 no_siblings : pairs (empty_state.siblings) ≡ []
 no_siblings = entries_of_pairs [] refl

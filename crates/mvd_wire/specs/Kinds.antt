@@ -1,5 +1,5 @@
 -- The spelled values, in either version of the format.
-use Rattle.std.specs.Prelude.{ℕ, ◌+◌, Bool, true, ◌&&◌, nat_lt, nat_le, if◌then◌else◌, List, [], ◌∷◌, ◌++◌, length, Option, Some, None, Result, Ok, Err}
+use Rattle.std.specs.Prelude.{ℕ, ◌+◌, Bool, true, ◌&&◌, nat_lt, nat_le, if◌then◌else◌, List, ◌++◌, length, Option, Some, None, Result, Ok, Err}
 use Rattle.std.specs.List.{flat_map}
 use Rattle.std.specs.Int.{Width, w16, w32, w64}
 use Rattle.std.specs.Str.{is_utf8}
@@ -67,12 +67,16 @@ entry v previous = checked BadContext (λ e. nat_lt 0 (e.base + length e.loose))
 unfoldable pub entries : Layout → Kind (List EntryValue)
 entries v = counted (entry v) (λ _ e. e.site) (number v.entries) 0
 
+-- the dots of entries that were read
+abbrev pub dots_read : Result (List EntryValue × List ℕ) Refusal → Result (DotSet × List ℕ) Refusal
+dots_read found = found >>= λ x. Ok (set_of x.0, x.1)
+
 -- a set of dots, by its entries
 unfoldable pub context : Layout → Kind DotSet
 context v = record {
   spell = λ dots. (entries v).spell (entries_of dots);
   Fits = λ dots. AreInRange dots × (entries v).Fits (entries_of dots);
-  read = λ bytes. (entries v).read bytes >>= λ x. Ok (set_of x.0, x.1);
+  read = λ bytes. dots_read ((entries v).read bytes);
 }
 
 -- ---- keys, documents, paths
@@ -109,13 +113,14 @@ sibling v dots previous = followed
     (checked BadBody (λ d. comes_after previous d && contains dots d) (dot v)) (λ _.
     document)
 
--- the context, and the siblings by rising dot
-unfoldable pub parts_of_state : Layout → Kind (DotSet × List (DotValue × Text))
-parts_of_state v = followed (context v) (λ dots.
-    counted (sibling v dots) (λ _ s. Some s.0) (number w16) None)
+-- by rising dot
+unfoldable pub siblings : Layout → DotSet → Kind (List (DotValue × Text))
+siblings v dots = counted (sibling v dots) (λ _ s. Some s.0) (number w16) None
 
 unfoldable pub unlimited_state : Layout → Kind State
-unlimited_state v = named (λ s. (s.context, pairs s.siblings)) (λ p. record { siblings = from_entries p.1; context = p.0 }) (parts_of_state v)
+unlimited_state v = named (λ s. (s.context, pairs s.siblings)) (λ p. record { siblings = from_entries p.1; context = p.0 }) (followed
+    (context v) (λ dots.
+    siblings v dots))
 
 unfoldable pub state : Layout → Kind State
 state v = checked StateTooLarge (λ s. nat_le (length ((unlimited_state v).spell s)) v.limit) (unlimited_state v)

@@ -9,6 +9,6 @@ mod version;
 mod writing;
 
 pub use encoding::encode_state;
-pub use lengths::state_length;
+pub use lengths::{empty_state_length, state_length};
 pub use reply::Reply;
 pub use request::Request;

@@ -1,4 +1,4 @@
-use Rattle.std.proofs.Common.{◌≡◌, ◌∙◌, arith, sym, ap, length}
+use Rattle.std.proofs.Common.{◌≡◌, ◌∙◌, arith, ap, length}
 use Rattle.mvd_wire.proofs.Spellings.{length_entry}
 use Rattle.mvd_wire.proofs.lengths.entry_length.Goals as goal
 

@@ -1,7 +1,6 @@
 use Rattle.std.proofs.Common.{◌≡◌, ◌-◌, ◌^◌, min, arith, length}
 use Rattle.std.specs.List.{flat_map}
 use Rattle.std.specs.FinMap.{entries as pairs}
-use Rattle.mvd_wire.specs.Kind.{Kind}
 use Rattle.mvd_wire.specs.Kinds.{layout2, context, spell_sibling}
 use Rattle.mvd_wire.proofs.Spellings.{length_state}
 use Rattle.mvd_wire.proofs.lengths.state_length.Goals as goal

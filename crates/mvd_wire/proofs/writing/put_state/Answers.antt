@@ -1,4 +1,4 @@
-use Rattle.std.proofs.Common.{◌≡◌, ◌++◌, length, map, ◌∙◌}
+use Rattle.std.proofs.Common.{◌≡◌, ◌++◌, length}
 use Rattle.std.specs.List.{flat_map}
 use Rattle.std.specs.Int.{w16}
 use Rattle.std.specs.FinMap.{entries as pairs}

@@ -1,0 +1,22 @@
+//! The states of keys, spelled.
+ghost use Rattle.mvd_wire.specs.Kind.{Gives, spelled_within};
+ghost use Rattle.mvd_wire.specs.Kinds.{layout2, state, state_limit};
+
+use crate::lengths::state_length;
+use crate::writing::put_state;
+use mvd_dots::Refusal;
+use mvd_keys::KeyState;
+use std::alloc::Global;
+
+/// The one spelling of a state, of at most 1,150,000 bytes.
+#[tactic(auto, unfolding(crate::specs::Kinds::spell_state))]
+pub fn encode_state(alloc: Global, value: &KeyState) -> Result<Vec<u8>, Refusal>
+    ensures { Gives (λ v. v.items) result (spelled_within Refusal.StateTooLarge state_limit (state layout2) value.now) }
+{
+    if state_length(value) > 1_150_000 {
+        return Err(Refusal::StateTooLarge);
+    }
+    let mut out = Vec::new(alloc);
+    put_state(&mut out, value)?;
+    Ok(out)
+}

@@ -1,0 +1,64 @@
+//! How long spellings are. Nothing here takes memory.
+ghost use Rattle.std.specs.Prelude.{◌≡◌, ◌-◌, ◌^◌, min, length};
+ghost use Rattle.std.specs.List.{flat_map};
+ghost use Rattle.mvd_keys.specs.State.{empty_state, pair_of, pairs_of};
+ghost use Rattle.mvd_wire.specs.Kind.{Kind};
+ghost use Rattle.mvd_wire.specs.Kinds.{layout2, context, spell_entry, spell_sibling, spell_state};
+
+use mvd_dots::{Context, Entry};
+use mvd_keys::{KeyState, Sibling};
+
+/// Twelve bytes of the dot, four of the length, and the text.
+fn sibling_length(sibling: &Sibling) -> u64
+    ensures { result ≡ min (length (spell_sibling (pair_of sibling.now))) (2 ^ 64 - 1) }
+{
+    (sibling.document.text().len() as u64).saturating_add(16)
+}
+
+fn siblings_length(siblings: &[Sibling]) -> u64
+    ensures { result ≡ min (length (flat_map spell_sibling (pairs_of siblings.now))) (2 ^ 64 - 1) }
+{
+    let mut total: u64 = 0;
+    for sibling in siblings {
+        total = total.saturating_add(sibling_length(sibling));
+    }
+    total
+}
+
+/// Four bytes of the site, eight of the base, four of the number, and eight for each loose counter.
+fn entry_length(entry: &Entry) -> u64
+    ensures { result ≡ min (length (spell_entry entry.now)) (2 ^ 64 - 1) }
+{
+    let loose = entry.loose.as_slice();
+    (loose.len() as u64).saturating_mul(8).saturating_add(16)
+}
+
+fn entries_length(entries: &[Entry]) -> u64
+    ensures { result ≡ min (length (flat_map spell_entry entries.now)) (2 ^ 64 - 1) }
+{
+    let mut total: u64 = 0;
+    for entry in entries {
+        total = total.saturating_add(entry_length(entry));
+    }
+    total
+}
+
+fn context_length(value: &Context) -> u64
+    ensures { result ≡ min (length ((context layout2).spell value.now)) (2 ^ 64 - 1) }
+{
+    entries_length(value.entries()).saturating_add(4)
+}
+
+/// How many bytes the state's spelling has, or the greatest number where it has more.
+pub fn state_length(state: &KeyState) -> u64
+    ensures { result ≡ min (length (spell_state state.now)) (2 ^ 64 - 1) }
+{
+    context_length(state.context())
+        .saturating_add(2)
+        .saturating_add(siblings_length(state.siblings()))
+}
+
+/// The empty state is spelled in six bytes.
+pub fn empty_state_length()
+    ensures { length (spell_state empty_state) ≡ 6 }
+{}

@@ -1,0 +1,6 @@
+/// The version of the format.
+#[derive(Clone, Copy)]
+pub enum Version {
+    First,
+    Second,
+}

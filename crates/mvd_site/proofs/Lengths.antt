@@ -1,9 +1,12 @@
 -- How long states are, and which are too long.
-use Rattle.std.proofs.Common.{◌≡◌, ℕ, ◌<◌, ◌≤◌, ◌-◌, ◌^◌, true, false, min, nat_lt, length, refl, sym, ap, ◌∙◌, le-ltb, lt-ltb, arith}
+use Rattle.std.proofs.Common.{◌≡◌, ℕ, ◌<◌, ◌≤◌, ◌-◌, ◌^◌, true, false, min, nat_lt, nat_le, if◌then◌else◌, Ok, Err, length, refl, sym, ap, ◌∙◌, le-ltb, lt-ltb, arith}
 use Rattle.mvd_keys.specs.State.{State, empty_state}
 use Rattle.mvd_keys.proofs.Lists.{IsValid-empty}
-use Rattle.mvd_wire.specs.Kinds.{spell_state}
-use Rattle.mvd_wire.specs.declared.lengths.TheConstants.{STATE_MAX}
+use Rattle.std.proofs.lemmas.Bool.Decides.{nat_tests}
+use Rattle.mvd_dots.specs.declared.refusals.Refusal.TheVariants.{StateTooLarge}
+use Rattle.mvd_wire.specs.Kind.{Kind, spelled_within}
+use Rattle.mvd_wire.specs.Kinds.{layout2, spell_state, state, state_limit}
+use Rattle.mvd_wire.proofs.Spellings.{length_empty}
 use Rattle.mvd_site.specs.Answer.{is_too_large}
 use Rattle.mvd_site.specs.Held.{IsKept}
 
@@ -14,13 +17,20 @@ long_if : (limit n counted : ℕ) → counted ≡ min n (2 ^ 64 - 1) → limit <
 long_if limit n counted is large = lt-ltb limit n (omega arith)
 
 -- a state whose length, as it is counted, is within the limit
-pub is_short : (s : State) (counted : ℕ) → counted ≡ min (length (spell_state s)) (2 ^ 64 - 1) → counted ≤ STATE_MAX → is_too_large s ≡ false
-is_short s counted is small = short_if STATE_MAX (length (spell_state s)) counted (omega arith) is small
+pub is_short : (s : State) (counted : ℕ) → counted ≡ min (length (spell_state s)) (2 ^ 64 - 1) → counted ≤ state_limit → is_too_large s ≡ false
+is_short s counted is small = short_if state_limit (length (spell_state s)) counted (omega arith) is small
 
 -- and one whose is not
-pub is_long : (s : State) (counted : ℕ) → counted ≡ min (length (spell_state s)) (2 ^ 64 - 1) → STATE_MAX < counted → is_too_large s ≡ true
-is_long s counted is large = long_if STATE_MAX (length (spell_state s)) counted is large
+pub is_long : (s : State) (counted : ℕ) → counted ≡ min (length (spell_state s)) (2 ^ 64 - 1) → state_limit < counted → is_too_large s ≡ true
+is_long s counted is large = long_if state_limit (length (spell_state s)) counted is large
 
 pub kept_empty : IsKept empty_state
+kept_empty = record { short = le-ltb state_limit (length (spell_state empty_state)) (omega (arith, length_empty)); valid = IsValid-empty }
+
+le-true : (n limit : ℕ) → n ≤ limit → nat_le n limit ≡ true
+le-true n limit low = grind (arith, nat_tests)
+
+-- what a state within the limit is spelled as
+pub spelled : (s : State) → length (spell_state s) ≤ state_limit → spelled_within StateTooLarge state_limit (state layout2) s ≡ Ok (spell_state s)
 unfolding spell_state
-kept_empty = record { short = refl; valid = IsValid-empty }
+spelled s low = ap (λ b. if b then Ok (spell_state s) else Err StateTooLarge) (le-true (length (spell_state s)) state_limit low)

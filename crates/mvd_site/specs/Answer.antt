@@ -10,8 +10,7 @@ use Rattle.mvd_dots.specs.declared.refusals.Refusal.TheVariants.{Exhausted, Stat
 use Rattle.mvd_keys.specs.Minting.{mint}
 use Rattle.mvd_keys.specs.State.{State, Text, clashes, join}
 use Rattle.mvd_keys.specs.Writes.{Key, Write, Wrote, Deleted, context, is_empty, keys, state}
-use Rattle.mvd_wire.specs.Kinds.{spell_state}
-use Rattle.mvd_wire.specs.declared.lengths.TheConstants.{STATE_MAX}
+use Rattle.mvd_wire.specs.Kinds.{spell_state, state_limit}
 use Rattle.mvd_wire.specs.declared.request.Request.{Request}
 use Rattle.mvd_wire.specs.declared.request.Request.TheVariants.{Get, Put, Delete, Push, Bye}
 use Rattle.mvd_wire.specs.declared.reply.Reply.{Reply}
@@ -20,7 +19,7 @@ use Rattle.mvd_site.specs.Config.{ConfigValue}
 
 -- the state's spelling is longer than it may be
 abbrev pub is_too_large : State → Bool
-is_too_large s = nat_lt STATE_MAX (length (spell_state s))
+is_too_large s = nat_lt state_limit (length (spell_state s))
 
 -- with this state afterwards, the key would be one too many
 abbrev pub is_one_too_many : ConfigValue → List Write → Key → State → Bool

@@ -6,8 +6,7 @@ use Rattle.mvd_dots.specs.declared.refusals.Refusal.{Refusal}
 use Rattle.mvd_dots.specs.declared.refusals.Refusal.TheVariants.{Memory}
 use Rattle.mvd_keys.specs.State.{State, state_code}
 use Rattle.mvd_keys.specs.Writes.{Key, Stands, Write, state}
-use Rattle.mvd_wire.specs.Kinds.{spell_state}
-use Rattle.mvd_wire.specs.declared.lengths.TheConstants.{STATE_MAX}
+use Rattle.mvd_wire.specs.Kinds.{spell_state, state_limit}
 use Rattle.mvd_wire.specs.declared.request.Request.{Request}
 use Rattle.mvd_wire.specs.declared.reply.Reply.{Reply}
 use Rattle.mvd_wire.specs.declared.reply.Reply.TheVariants.{State as Shown, Written, Done, Refused}
@@ -42,7 +41,7 @@ PreparesAt site request prepared = site.broken ≡ false → (known : List Write
 
 -- the reply refuses nothing, and no state in it is too long
 abbrev pub IsPlain : Reply → Type 0
-IsPlain (Shown s) = length (spell_state s) ≤ STATE_MAX
+IsPlain (Shown s) = length (spell_state s) ≤ state_limit
 IsPlain (Written dot) = ⊤
 IsPlain Done = ⊤
 IsPlain (Refused refusal) = ⊥

@@ -34,7 +34,7 @@ impl Model for Change {
 impl Change {
     ghost use Rattle.std.specs.Prelude.{◌≡◌, ◌≤◌, Ok, length};
     ghost use Rattle.mvd_dots.specs.Answer.{IsAnswer};
-    ghost use Rattle.mvd_wire.specs.Kinds.{spell_state};
+    ghost use Rattle.mvd_wire.specs.Kinds.{spell_state, state_limit};
 
     /// The change that gives the key this state, by a put of this dot if it is one.
     pub(crate) fn new(
@@ -43,7 +43,7 @@ impl Change {
         state: KeyState,
         dot: Option<Dot>,
     ) -> Result<Change, Refusal>
-        requires { length (spell_state state) ≤ 1150000 }
+        requires { length (spell_state state) ≤ state_limit }
         ensures { IsAnswer result (Ok (record { key = key.now; state = state; dot = dot })) }
     {
         let key = key.copy(alloc)?;

@@ -23,9 +23,12 @@ use crate::held::Held;
 use mvd_docs::Document;
 use mvd_dots::{Context, Dot, Refusal};
 use mvd_keys::{Key, KeyState};
-use mvd_wire::{Reply, Request, STATE_MAX, state_length};
+use mvd_wire::{Reply, Request, state_length};
 use std::alloc::Global;
 use std::marker::Model;
+
+/// The most bytes that a spelled state may have.
+const STATE_MAX: u64 = 1_150_000;
 
 /// The states of the keys that one site holds, and the answers to requests from them.
 #[derive(Drop)]

@@ -1,0 +1,105 @@
+//! The lines of a script.
+
+/// A line of a script, as it is written.
+#[derive(Clone, Copy)]
+pub enum Line<'a> {
+    /// `sites N`
+    Sites(u64),
+    /// `max N`
+    Max(u64),
+    /// A command, on the site of this number.
+    At(u64, Command<'a>),
+}
+
+/// What is to be done at a site. Texts are not read yet.
+#[derive(Clone, Copy)]
+pub enum Command<'a> {
+    Ask(Ask<'a>),
+    /// `send S K`
+    Send {
+        key: &'a str,
+    },
+    /// `recv S M`
+    Receive {
+        message: u64,
+    },
+}
+
+/// What the site itself is asked.
+#[derive(Clone, Copy)]
+pub enum Ask<'a> {
+    /// `put S K CTX DOC`
+    Put {
+        key: &'a str,
+        context: &'a str,
+        document: &'a str,
+    },
+    /// `del S K CTX`
+    Delete { key: &'a str, context: &'a str },
+    /// `get S K`
+    Get { key: &'a str },
+}
+
+/// The line that a text is, if it is one.
+pub fn line_of(text: &str) -> Option<Line<'_>> {
+    let (name, rest) = text.split_once(' ')?;
+    match name {
+        "sites" => Some(Line::Sites(number_of(rest)?)),
+        "max" => Some(Line::Max(number_of(rest)?)),
+        _ => {
+            let (site, rest) = rest.split_once(' ')?;
+            Some(Line::At(number_of(site)?, command_of(name, rest)?))
+        }
+    }
+}
+
+/// The command of a name, with what stands behind the site.
+fn command_of<'a>(name: &str, rest: &'a str) -> Option<Command<'a>> {
+    match name {
+        "put" => Some(Command::Ask(put_of(rest)?)),
+        "del" => Some(Command::Ask(delete_of(rest)?)),
+        "get" => Some(Command::Ask(Ask::Get { key: last(rest)? })),
+        "send" => Some(Command::Send { key: last(rest)? }),
+        "recv" => Some(Command::Receive {
+            message: number_of(rest)?,
+        }),
+        _ => None,
+    }
+}
+
+/// A put, whose document is the rest of the line.
+fn put_of(rest: &str) -> Option<Ask<'_>> {
+    let (key, rest) = rest.split_once(' ')?;
+    let (context, document) = rest.split_once(' ')?;
+    Some(Ask::Put {
+        key,
+        context,
+        document,
+    })
+}
+
+fn delete_of(rest: &str) -> Option<Ask<'_>> {
+    let (key, context) = rest.split_once(' ')?;
+    Some(Ask::Delete {
+        key,
+        context: last(context)?,
+    })
+}
+
+/// The last word of a line.
+fn last(text: &str) -> Option<&str> {
+    if text.as_bytes().contains(&b' ') {
+        return None;
+    }
+    Some(text)
+}
+
+/// A decimal number without leading zeros.
+fn number_of(text: &str) -> Option<u64> {
+    let digits = text.as_bytes();
+    let is_plain = digits.iter().all(|digit| digit.is_ascii_digit());
+    if !is_plain || (digits.len() > 1 && digits[0] == b'0') {
+        return None;
+    }
+    text.parse::<u64>().ok()
+}

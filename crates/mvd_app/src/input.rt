@@ -1,0 +1,33 @@
+//! All of a reader's input, up to a limit.
+ghost use Rattle.std.specs.Prelude.{◌≤◌, length, IfOk};
+
+use crate::fault::Fault;
+use mvd_dots::Refusal;
+use std::alloc::Global;
+use std::io::Read;
+
+/// All that the reader has left: `FrameTooLong` where that is more than `most` bytes.
+pub fn read_input<R: Read>(
+    alloc: Global,
+    reader: &mut R,
+    most: usize,
+) -> Result<Vec<u8>, Fault>
+    ensures { IfOk result (λ bytes. length bytes.items ≤ most) }
+{
+    let mut bytes = Vec::new(alloc);
+    let mut piece = [0u8; 4096];
+    for _ in 0..u64::MAX {
+        let count = match reader.read(&mut piece) {
+            Ok(count) => count,
+            Err(_) => return Err(Fault::Stopped(Refusal::ReadFailed)),
+        };
+        if count == 0 {
+            break;
+        }
+        if count > most - bytes.len() {
+            return Err(Fault::Stopped(Refusal::FrameTooLong));
+        }
+        bytes.extend_from_slice(&piece[..count])?;
+    }
+    Ok(bytes)
+}

@@ -1,0 +1,13 @@
+//! The commands of the program: a script over several sites, and the command line.
+#![tactic(auto)]
+
+mod command;
+mod fault;
+mod input;
+mod order;
+mod play;
+mod script;
+
+pub use fault::Fault;
+pub use order::{Order, OrderFault, order_of};
+pub use script::sim;

@@ -1,0 +1,36 @@
+//! The command line.
+use clap::{Command, Error};
+use std::alloc::Global;
+
+/// What a command line asks for.
+#[derive(Debug, Clone, Copy, PartialEq, Eq)]
+pub enum Order {
+    /// Run a script from standard input.
+    Sim,
+}
+
+/// Why a command line asks for nothing.
+#[derive(Debug, Drop)]
+pub enum OrderFault {
+    /// Its words are none of the program's, or they ask for help.
+    Words(Error),
+}
+
+/// What the words ask for, of which the first is the program's own name.
+pub fn order_of(alloc: Global, words: &[&str]) -> Result<Order, OrderFault> {
+    match matched(alloc, words) {
+        Ok(()) => Ok(Order::Sim),
+        Err(error) => Err(OrderFault::Words(error)),
+    }
+}
+
+fn matched(alloc: Global, words: &[&str]) -> Result<(), Error> {
+    let sim = Command::new(alloc, "sim").about("Run a script from standard input");
+    let command = Command::new(alloc, "mvd")
+        .about("A multi-value JSON document map with causal contexts")
+        .subcommand_required(true)
+        .arg_required_else_help(true)
+        .subcommand(sim)?;
+    command.try_get_matches_from(words)?;
+    Ok(())
+}

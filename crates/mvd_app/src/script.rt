@@ -1,0 +1,154 @@
+//! Scripts: a line is a command on one of several sites.
+ghost use Rattle.std.specs.Prelude.{◌<◌, ◌≤◌};
+ghost use Rattle.std.specs.Option.{ForSome};
+
+use crate::command::{Command, Line, line_of};
+use crate::fault::Fault;
+use crate::input::read_input;
+use crate::play::Play;
+use mvd_dots::Refusal;
+use std::alloc::Global;
+use std::io::{Read, Write};
+
+/// The most bytes of a script.
+const SCRIPT_MAX: usize = 16_777_216;
+
+/// How much is printed at once.
+const PIECE: usize = 65_536;
+
+/// The most sites of a script.
+const SITES_MAX: u64 = 16;
+
+/// The most keys that a site may hold, and how many it may where no line says.
+const KEYS_MAX: u32 = 1_000_000;
+
+/// The head lines of a script: how many sites it has, and how many keys each may hold, where a line says so.
+#[derive(Clone, Copy)]
+struct Head {
+    sites: u32,
+    max_keys: Option<u32>,
+    ghost few: { sites ≤ 16 },
+    ghost in_range: { ForSome max_keys (λ n. (0 < n) × (n ≤ 1000000)) },
+}
+
+/// A script as far as it has been read: first its head, and then its sites.
+#[derive(Drop)]
+struct Script {
+    alloc: Global,
+    head: Option<Head>,
+    play: Option<Play>,
+}
+
+impl Script {
+    fn new(alloc: Global) -> Script {
+        Script {
+            alloc,
+            head: None,
+            play: None,
+        }
+    }
+
+    /// Runs one line, without its line feed, which has this number.
+    fn run(&mut self, number: u64, line: &[u8], out: &mut String) -> Result<(), Fault> {
+        let Ok(text) = str::from_utf8(line) else {
+            return Err(Fault::Line(number));
+        };
+        if line.is_empty() || line[0] == b'#' {
+            return Ok(());
+        }
+        let is_taken = match line_of(text) {
+            Some(Line::Sites(count)) => self.set_sites(count),
+            Some(Line::Max(count)) => self.set_max(count),
+            Some(Line::At(site, command)) => self.command(site, command, out)?,
+            None => false,
+        };
+        if is_taken {
+            Ok(())
+        } else {
+            Err(Fault::Line(number))
+        }
+    }
+
+    /// Whether this may be the number of sites: it is set once, before all else.
+    fn set_sites(&mut self, count: u64) -> bool {
+        if self.head.is_some() || count == 0 || count > SITES_MAX {
+            return false;
+        }
+        self.head = Some(Head {
+            sites: count as u32,
+            max_keys: None,
+        });
+        true
+    }
+
+    /// Whether this may be the most keys of a site: it is set once, between the number of sites and the first command.
+    fn set_max(&mut self, count: u64) -> bool {
+        let Some(head) = self.head else {
+            return false;
+        };
+        let is_late = head.max_keys.is_some() || self.play.is_some();
+        if is_late || count == 0 || count > u64::from(KEYS_MAX) {
+            return false;
+        }
+        self.head = Some(Head {
+            sites: head.sites,
+            max_keys: Some(count as u32),
+        });
+        true
+    }
+
+    /// Runs a command, and whether there were head lines before it.
+    fn command(
+        &mut self,
+        site: u64,
+        command: Command<'_>,
+        out: &mut String,
+    ) -> Result<bool, Fault> {
+        if self.play.is_none() {
+            let Some(head) = self.head else {
+                return Ok(false);
+            };
+            let max_keys = head.max_keys.unwrap_or(KEYS_MAX);
+            self.play = Some(Play::new(self.alloc, head.sites, max_keys)?);
+        }
+        match &mut self.play {
+            Some(play) => {
+                play.run(site, command, out)?;
+                Ok(true)
+            }
+            None => Ok(false),
+        }
+    }
+}
+
+/// Runs the script that the reader gives, and writes what its commands print.
+///
+/// It ends as `Line` at the first line that is not a command, or is no UTF-8, and as `Stopped` where the script has over
+/// 16,777,216 bytes, the reader or the writer fails, or memory is refused. What was printed before stays.
+pub fn sim<R: Read, W: Write>(
+    alloc: Global,
+    reader: &mut R,
+    writer: &mut W,
+) -> Result<(), Fault> {
+    let bytes = read_input(alloc, reader, SCRIPT_MAX)?;
+    let mut script = Script::new(alloc);
+    let mut out = String::new(alloc);
+    let mut number: u64 = 0;
+    for line in bytes.split(|byte| *byte == b'\n') {
+        number = number.saturating_add(1);
+        let ran = script.run(number, line, &mut out);
+        if ran.is_err() || out.len() >= PIECE {
+            write_out(writer, out.as_str())?;
+            out.clear();
+        }
+        ran?;
+    }
+    write_out(writer, out.as_str())
+}
+
+fn write_out<W: Write>(writer: &mut W, text: &str) -> Result<(), Fault> {
+    match writer.write_all(text.as_bytes()) {
+        Ok(()) => Ok(()),
+        Err(_) => Err(Fault::Stopped(Refusal::WriteFailed)),
+    }
+}

@@ -1,0 +1,103 @@
+//! Scripts that end early, readers that fail, and writers that do.
+use mvd_app::{Fault, sim};
+use mvd_dots::Refusal;
+use std::io;
+use std::io::{Read, Write};
+use std::test::Fail;
+
+/// Scripts that end at a line that is no command, what they print before, and that line's number.
+const BAD_LINES: [(&str, &str, u64); 20] = [
+    ("get 1 k\n", "", 1),
+    ("sites 0\n", "", 1),
+    ("sites 17\n", "", 1),
+    ("sites 01\n", "", 1),
+    ("sites\n", "", 1),
+    ("max 1\nsites 1\n", "", 1),
+    ("sites 1\nsites 1\n", "", 2),
+    ("sites 1\nmax 0\n", "", 2),
+    ("sites 1\nmax 1000001\n", "", 2),
+    ("sites 1\nmax 1\nmax 1\n", "", 3),
+    ("sites 1\nget 1 k\nmax 1\n", "context -\n", 3),
+    ("sites 1\n# more\n\nget 1 k\nget 1\n", "context -\n", 5),
+    ("sites 1\nget 01 k\n", "", 2),
+    ("sites 1\nget +1 k\n", "", 2),
+    ("sites 1\nget 18446744073709551616 k\n", "", 2),
+    ("sites 1\nget 1 k \n", "", 2),
+    ("sites 1\n get 1 k\n", "", 2),
+    ("sites 1\nput 1 k -\n", "", 2),
+    ("sites 1\nrecv 1 x\n", "", 2),
+    ("sites 1\nunknown 1 k\n", "", 2),
+];
+
+#[test]
+fn lines_that_are_no_commands(rt: HostRuntime) -> Result<(), Fail> {
+    for (script, wanted, number) in BAD_LINES {
+        let mut reader = script.as_bytes();
+        let mut out = Vec::new(rt.alloc());
+        let ended = sim(rt.alloc(), &mut reader, &mut out);
+        assert!(rt; matches!(&ended, Err(Fault::Line(line)) if *line == number), "{script}");
+        assert_eq!(rt; out.as_slice(), wanted.as_bytes(), "{script}");
+    }
+    Ok(())
+}
+
+#[test]
+fn bytes_that_are_no_text(rt: HostRuntime) -> Result<(), Fail> {
+    let mut reader = b"sites 1\nget 1 k\nget 1 \xff\n".as_slice();
+    let mut out = Vec::new(rt.alloc());
+    let ended = sim(rt.alloc(), &mut reader, &mut out);
+    assert!(rt; matches!(&ended, Err(Fault::Line(line)) if *line == 3));
+    assert_eq!(rt; out.as_slice(), b"context -\n".as_slice());
+    Ok(())
+}
+
+/// A reader of empty lines without end.
+#[derive(Drop)]
+struct Endless;
+
+impl Read for Endless {
+    fn read(&mut self, buf: &mut [u8]) -> io::Result<usize> {
+        for byte in buf.iter_mut() {
+            *byte = b'\n';
+        }
+        Ok(buf.len())
+    }
+}
+
+/// A reader that fails at once.
+#[derive(Drop)]
+struct NoReader;
+
+impl Read for NoReader {
+    fn read(&mut self, _buf: &mut [u8]) -> io::Result<usize> {
+        Err(io::Error::from(io::ErrorKind::Other))
+    }
+}
+
+/// A writer that fails at once.
+#[derive(Drop)]
+struct NoWriter;
+
+impl Write for NoWriter {
+    fn write(&mut self, _buf: &[u8]) -> io::Result<usize> {
+        Err(io::Error::from(io::ErrorKind::Other))
+    }
+
+    fn flush(&mut self) -> io::Result<()> {
+        Ok(())
+    }
+}
+
+#[test]
+fn readers_and_writers_that_fail(rt: HostRuntime) -> Result<(), Fail> {
+    let mut out = Vec::new(rt.alloc());
+    let ended = sim(rt.alloc(), &mut Endless, &mut out);
+    assert!(rt; matches!(&ended, Err(Fault::Stopped(Refusal::FrameTooLong))));
+    let ended = sim(rt.alloc(), &mut NoReader, &mut out);
+    assert!(rt; matches!(&ended, Err(Fault::Stopped(Refusal::ReadFailed))));
+    assert!(rt; out.is_empty());
+    let mut reader = b"sites 1\nget 1 k\n".as_slice();
+    let ended = sim(rt.alloc(), &mut reader, &mut NoWriter);
+    assert!(rt; matches!(&ended, Err(Fault::Stopped(Refusal::WriteFailed))));
+    Ok(())
+}

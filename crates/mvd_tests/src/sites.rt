@@ -1,0 +1,94 @@
+//! Calls of a site that a script does not make.
+use mvd_docs::Document;
+use mvd_dots::{Context, Dot, Refusal};
+use mvd_keys::Key;
+use mvd_site::{Config, Prepared, Site, counted};
+use mvd_wire::{Reply, Request, encode_state};
+use std::alloc::Global;
+use std::test::Fail;
+
+fn put(alloc: Global, key: &str, seen: &str, document: &str) -> Result<Request, Refusal> {
+    Ok(Request::Put(
+        Key::read(alloc, key)?,
+        Context::read(alloc, seen)?,
+        Document::read(alloc, document)?,
+    ))
+}
+
+fn get(alloc: Global, key: &str) -> Result<Request, Refusal> {
+    Ok(Request::Get(Key::read(alloc, key)?))
+}
+
+/// Whether the reply shows a state of this context and so many siblings.
+fn shows(reply: &Reply, context: &str, siblings: usize) -> Result<bool, Refusal> {
+    match reply {
+        Reply::State(state) => Ok(state.context().print()?.as_str() == context
+            && state.siblings().len() == siblings),
+        _ => Ok(false),
+    }
+}
+
+fn is_written(reply: &Reply, dot: Option<Dot>) -> bool {
+    match reply {
+        Reply::Written(written) => Some(*written) == dot,
+        _ => false,
+    }
+}
+
+#[test]
+fn a_change_is_prepared_and_installed(rt: HostRuntime) -> Result<(), Fail> {
+    let alloc = rt.alloc();
+    let mut site = Site::new(alloc, Config::new(7, 2));
+    let mut looks = 0;
+    let request = put(alloc, "k", "-", "{\"a\":1}")?;
+    match counted::prepare(&site, &request, &mut looks)? {
+        Prepared::Answer(_) => assert!(rt; false, "a put changes the state"),
+        Prepared::Change(change) => {
+            assert!(rt; is_written(&change.reply(), Dot::new(7, 1)));
+            assert_eq!(rt; change.key().text(), "k");
+            let bytes = encode_state(alloc, change.state())?;
+            assert_eq!(rt; change.bytes(), bytes.as_slice());
+            site.install(change)?;
+        }
+    }
+    assert_eq!(rt; looks, 1);
+    assert_eq!(rt; site.key_count(), 1);
+    assert_eq!(rt; site.config().site(), 7);
+    assert!(rt; !site.is_broken());
+    assert!(rt; shows(&site.answer(&get(alloc, "k")?), "7:1", 1)?);
+    Ok(())
+}
+
+#[test]
+fn what_changes_nothing_is_an_answer(rt: HostRuntime) -> Result<(), Fail> {
+    let alloc = rt.alloc();
+    let mut site = Site::new(alloc, Config::new(1, 1));
+    assert!(rt; is_written(&site.answer(&put(alloc, "k", "-", "{}")?), Dot::new(1, 1)));
+    let Reply::State(state) = site.answer(&get(alloc, "k")?) else {
+        return Err(Fail::from("no state"));
+    };
+    let again = Request::Push(Key::read(alloc, "k")?, state);
+    assert!(rt; matches!(&site.prepare(&again)?, Prepared::Answer(Reply::Done)));
+    let seen = Request::Delete(Key::read(alloc, "other")?, Context::new(alloc));
+    assert!(rt; matches!(&site.prepare(&seen)?, Prepared::Answer(Reply::Done)));
+    assert!(rt; matches!(&site.answer(&Request::Bye), Reply::Done));
+    Ok(())
+}
+
+#[test]
+fn a_site_is_run_and_opened(rt: HostRuntime) -> Result<(), Fail> {
+    let alloc = rt.alloc();
+    let requests = [
+        put(alloc, "a", "-", "{\"n\":1}")?,
+        put(alloc, "a", "-", "{\"n\":2}")?,
+        get(alloc, "a")?,
+        Request::Bye,
+    ];
+    let (_site, replies) = Site::run(alloc, &Config::new(3, 9), requests.as_slice())?;
+    assert_eq!(rt; replies.len(), 4);
+    assert!(rt; is_written(&replies[1], Dot::new(3, 2)));
+    assert!(rt; shows(&replies[2], "3:2", 2)?);
+    let opened = Site::open(alloc, Config::new(3, 1), Vec::new(alloc))?;
+    assert_eq!(rt; opened.key_count(), 0);
+    Ok(())
+}

@@ -1,7 +1,11 @@
 pub mod Entries
+pub mod FrameLemmas
 pub mod KindLaws
 pub mod Laws
 pub mod Loops
+pub mod RefusalNumbers
+pub mod ReplyLaws
+pub mod RequestLaws
 pub mod Siblings
 pub mod Spellings
 pub mod Texts

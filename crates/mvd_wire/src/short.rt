@@ -1,5 +1,6 @@
 //! Short replies, whose frames take no memory.
 ghost use Rattle.std.specs.Prelude.{◌≡◌, ◌≤◌, List, ℕ, take, false, MatchOption};
+ghost use Rattle.mvd_dots.specs.Dot.{IsDot};
 ghost use Rattle.mvd_wire.specs.Replies.{is_short, reply_bytes};
 ghost use Rattle.mvd_wire.specs.declared.reply.Reply.TheVariants as reply_of;
 
@@ -32,7 +33,8 @@ impl Short {
     /// The frame of a Written.
     #[tactic(auto, unfolding(crate::specs::Kinds::dot, crate::specs::Kind::number))]
     pub fn written(dot: Dot) -> Short
-        ensures { result ≡ reply_bytes (reply_of.Written dot) }
+        ensures frame { result ≡ reply_bytes (reply_of.Written dot) }
+        ensures valid { IsDot dot }
     {
         let [a, b, c, d] = dot.site().to_be_bytes();
         let [e, f, g, h, i, j, k, l] = dot.counter().to_be_bytes();

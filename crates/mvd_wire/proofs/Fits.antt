@@ -142,6 +142,7 @@ context_fits dots in_range short =
     let all : length ((context layout2).spell dots) ≡ length (flat_map spell_entry es) + 4 = length_context dots in
     let form = (AreEntriesOf-entries_of dots in_range).form in
     fitting dots in_range (omega (arith, sixteen_each es, all, short)) (entries_fit 0 es form (omega (arith, all, short)))
+
 -- ---- states
 
 pub dot_fits : (d : DotValue) → IsDot d → (dot layout2).Fits d

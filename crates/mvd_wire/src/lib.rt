@@ -26,8 +26,13 @@ pub use replies::decode_reply;
 pub use reply::Reply;
 pub use request::Request;
 pub use requests::decode_request;
-pub use sending::{encode_bye, encode_delete, encode_get, encode_push, encode_put, encode_reply, encode_request};
+pub use sending::{
+    encode_bye, encode_delete, encode_get, encode_push, encode_put, encode_reply, encode_request,
+};
 pub use short::{Short, short_reply};
 pub use states::{decode_old_state, decode_state};
 pub use transport::{read_frame, write_frame};
 pub use unique::{can_be_sent, decoded_again, one_spelling};
+
+#[cfg(test)]
+mod tests;

@@ -37,15 +37,17 @@ entry_form v previous e narrow fits =
     let site : e.site < 2 ^ (8 * byte_len v.site) = fits.0.0.0 in
     let base : e.base ≤ COUNTER_MAX = leb-true _ _ fits.0.1.0.1 in
     let loose = loose_form (e.base + 1) (e.base + 2) e.loose (omega arith) fits.0.1.1.1.1 in
-    let some : 0 < e.base + length e.loose = ltb-true _ _ fits.1 in
-    (above, record {
-      site_low = omega arith;
-      site_high = omega arith;
-      base_high = omega arith;
-      rising = loose.0;
-      loose_high = loose.1;
-      some = has_dot e.base e.loose some;
-    })
+    let some : 0 < e.base + length e.loose = ltb-true _ _ fits.1 in (
+      above,
+      record {
+        site_low = omega arith;
+        site_high = omega arith;
+        base_high = omega arith;
+        rising = loose.0;
+        loose_high = loose.1;
+        some = has_dot e.base e.loose some;
+      },
+    )
 
 pub entries_form : (v : Layout) (previous : ℕ) (es : List EntryValue) → 2 ^ (8 * byte_len v.site) ≤ 2 ^ 32 → FitEach (entry v) (λ _ e. e.site) previous es → AreEntriesAbove previous es
 entries_form v previous [] narrow fits = tt

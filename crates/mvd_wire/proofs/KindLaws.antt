@@ -138,7 +138,7 @@ module _ (v : Layout) (wide : IsWideLayout v) where
       let form = form_of es fits in
       let same = entries_of-set_of es form in
       let at : Takes bytes ((entries v).spell (entries_of (set_of es))) rest × (AreInRange (set_of es) × (entries v).Fits (entries_of (set_of es))) =
-          (subst (λ fs. Takes bytes ((entries v).spell fs) rest) (sym same) taken, (AreInRange-set_of es form, subst (λ fs. (entries v).Fits fs) (sym same) fits)) in
+      (subst (λ fs. Takes bytes ((entries v).spell fs) rest) (sym same) taken, (AreInRange-set_of es form, subst (λ fs. (entries v).Fits fs) (sym same) fits)) in
       subst (λ (y : DotSet × List ℕ). Takes bytes ((entries v).spell (entries_of y.0)) y.1 × (AreInRange y.0 × (entries v).Fits (entries_of y.0))) is at
 
   pub lawful_context : IsLawful (context v)

@@ -11,7 +11,8 @@ use Rattle.std.specs.FinSet as set
 use Rattle.mvd_dots.specs.Context.{DotSet, entries_of, set_of}
 use Rattle.mvd_keys.proofs.Parts.{entries_of_pairs}
 use Rattle.mvd_dots.proofs.Canonical.{entries_are}
-use Rattle.mvd_keys.specs.State.{State, Text, empty_state}
+use Rattle.mvd_keys.specs.State.{State, Text, empty_state, pair_of, pairs_of}
+use Rattle.mvd_keys.specs.declared.siblings.Sibling.{Sibling}
 use Rattle.mvd_wire.specs.Kind.{Kind, number, raw, spell_each}
 use Rattle.mvd_wire.specs.Kinds.{layout2, dot, document, loose_from, loose_above, entry, entries, context, sibling, siblings, unlimited_state, state, spell_state, spell_entry, spell_sibling}
 
@@ -76,6 +77,14 @@ pub length_state : (s : State) → length (spell_state s) ≡ length ((context l
 length_state s =
     let n = sized_number (length (pairs s.siblings)) in
     rw (state_is s, length-append, length-append) (omega (arith, n.0))
+
+one_sibling_first : (x : DotValue × Text) (ps : List (DotValue × Text)) → length (flat_map spell_sibling (x ∷ ps)) ≡ length (spell_sibling x) + length (flat_map spell_sibling ps)
+one_sibling_first x ps = rw (flat_map-cons, length-append (spell_sibling x) (flat_map spell_sibling ps)) refl
+
+pub one_sibling_more : (ss : List Sibling) (s : Sibling) → length (flat_map spell_sibling (pairs_of (ss ++ s ∷ []))) ≡ length (flat_map spell_sibling (pairs_of ss)) + length (spell_sibling (pair_of s))
+one_sibling_more [] s = rw (flat_map-cons, length-append) (omega arith)
+one_sibling_more (x ∷ ss) s =
+    omega (arith, one_sibling_first (pair_of x) (pairs_of (ss ++ s ∷ [])), one_sibling_first (pair_of x) (pairs_of ss), one_sibling_more ss s)
 
 -- three texts put one after the other
 pub three : (a b c d x y z : List ℕ) → b ≡ a ++ x → c ≡ b ++ y → d ≡ c ++ z → d ≡ a ++ (x ++ (y ++ z))

@@ -1,2 +1,5 @@
+pub mod Frames
 pub mod Kind
 pub mod Kinds
+pub mod Replies
+pub mod Requests

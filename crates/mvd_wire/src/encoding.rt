@@ -1,17 +1,29 @@
-//! The states of keys, spelled.
-ghost use Rattle.mvd_wire.specs.Kind.{Gives, spelled_within};
-ghost use Rattle.mvd_wire.specs.Kinds.{layout2, state, state_limit};
+//! Keys and the states of keys, spelled.
+ghost use Rattle.std.specs.Prelude.{Ok, IfOk};
+ghost use Rattle.mvd_wire.specs.Kind.{Gives, Kind, Spells, spelled_within};
+ghost use Rattle.mvd_wire.specs.Kinds.{layout2, key, state, state_limit};
 
 use crate::lengths::state_length;
-use crate::writing::put_state;
+use crate::writing::{put_key, put_state};
 use mvd_dots::Refusal;
-use mvd_keys::KeyState;
+use mvd_keys::{Key, KeyState};
 use std::alloc::Global;
+
+/// The one spelling of a key.
+pub fn encode_key(alloc: Global, value: &Key) -> Result<Vec<u8>, Refusal>
+    ensures exact { Gives (λ v. v.items) result (Ok (key.spell value.now)) }
+    ensures spells { IfOk result (λ v. Spells key value.now v.items) }
+{
+    let mut out = Vec::new(alloc);
+    put_key(&mut out, value)?;
+    Ok(out)
+}
 
 /// The one spelling of a state, of at most 1,150,000 bytes.
 #[tactic(auto, unfolding(crate::specs::Kinds::spell_state))]
 pub fn encode_state(alloc: Global, value: &KeyState) -> Result<Vec<u8>, Refusal>
-    ensures { Gives (λ v. v.items) result (spelled_within Refusal.StateTooLarge state_limit (state layout2) value.now) }
+    ensures exact { Gives (λ v. v.items) result (spelled_within Refusal.StateTooLarge state_limit (state layout2) value.now) }
+    ensures spells { IfOk result (λ v. Spells (state layout2) value.now v.items) }
 {
     if state_length(value) > 1_150_000 {
         return Err(Refusal::StateTooLarge);

@@ -3,17 +3,36 @@
 
 mod contexts;
 mod encoding;
+pub mod frame;
 mod lengths;
 mod numbers;
+mod replies;
 pub mod reply;
 pub mod request;
+mod requests;
+mod sending;
+pub mod short;
 mod states;
+mod transport;
+mod unique;
 mod values;
 mod version;
 mod writing;
 
-pub use encoding::encode_state;
+pub use encoding::{encode_key, encode_state};
+pub use frame::Frame;
 pub use lengths::{empty_state_length, state_length};
+pub use replies::decode_reply;
 pub use reply::Reply;
 pub use request::Request;
+pub use requests::decode_request;
+pub use sending::{
+    encode_bye, encode_delete, encode_get, encode_push, encode_put, encode_reply, encode_request,
+};
+pub use short::{Short, short_reply};
 pub use states::{decode_old_state, decode_state};
+pub use transport::{read_frame, write_frame};
+pub use unique::{can_be_sent, decoded_again, one_spelling};
+
+#[cfg(test)]
+mod tests;

@@ -1,7 +1,10 @@
 //! Spelled values, put at the end of what was written.
-ghost use Rattle.std.specs.Prelude.{◌≡◌, ◌++◌, OnOk};
+ghost use Rattle.std.specs.Prelude.{◌≡◌, ◌≤◌, ◌++◌, length, true, OnOk};
 ghost use Rattle.std.specs.Int.{w16, w32, w64};
 ghost use Rattle.std.specs.List.{flat_map};
+ghost use Rattle.mvd_dots.specs.Context.{AreInRange};
+ghost use Rattle.mvd_docs.specs.Document.{IsDocument};
+ghost use Rattle.mvd_keys.specs.Key.{is_key};
 ghost use Rattle.mvd_keys.specs.State.{pair_of, pairs_of};
 ghost use Rattle.mvd_wire.specs.Kind.{Kind, number};
 ghost use Rattle.mvd_wire.specs.Kinds.{layout2, dot, key, document, context, spell_entry, spell_sibling, spell_state};
@@ -52,7 +55,8 @@ pub fn put_dot(out: &mut Vec<u8>, value: Dot) -> Result<(), AllocError>
 
 #[tactic(auto, unfolding(crate::specs::Kinds::key, crate::specs::Kind::raw))]
 pub fn put_key(out: &mut Vec<u8>, value: &Key) -> Result<(), AllocError>
-    ensures { OnOk result (out.new.items ≡ out.old.items ++ key.spell value.now) }
+    ensures bytes { OnOk result (out.new.items ≡ out.old.items ++ key.spell value.now) }
+    ensures key { is_key value.now ≡ true }
 {
     let text = value.text().as_bytes();
     out.push(text.len() as u8)?;
@@ -62,7 +66,9 @@ pub fn put_key(out: &mut Vec<u8>, value: &Key) -> Result<(), AllocError>
 
 #[tactic(auto, unfolding(crate::specs::Kinds::document, crate::specs::Kind::raw))]
 pub fn put_document(out: &mut Vec<u8>, value: &Document) -> Result<(), AllocError>
-    ensures { OnOk result (out.new.items ≡ out.old.items ++ document.spell value.now) }
+    ensures bytes { OnOk result (out.new.items ≡ out.old.items ++ document.spell value.now) }
+    ensures document { IsDocument value.now }
+    ensures short { length value.now ≤ 65536 }
 {
     let text = value.text().as_bytes();
     put_len32(out, text.len())?;
@@ -99,7 +105,8 @@ fn put_entries(out: &mut Vec<u8>, entries: &[Entry]) -> Result<(), AllocError>
 }
 
 pub fn put_context(out: &mut Vec<u8>, value: &Context) -> Result<(), AllocError>
-    ensures { OnOk result (out.new.items ≡ out.old.items ++ (context layout2).spell value.now) }
+    ensures bytes { OnOk result (out.new.items ≡ out.old.items ++ (context layout2).spell value.now) }
+    ensures in_range { AreInRange value.now }
 {
     let entries = value.entries();
     put_len32(out, entries.len())?;

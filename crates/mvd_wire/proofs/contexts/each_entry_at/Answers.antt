@@ -16,9 +16,9 @@ pub loop-init : goal.loop-init
 loop-init c =
     let whole : c.args.count - 0 ≡ c.args.count = omega arith in
     record {
-  sites = λ site n there. absurd (none_in c.new-context.result c.new-context.ensures site n there);
-  so_far = rw (c.new-context.ensures, whole) (dots_start (read_each (entry (layout_of c.args.version)) (λ _ e. e.site) 0 c.args.count c.args.bytes.now));
-}
+      sites = λ site n there. absurd (none_in c.new-context.result c.new-context.ensures site n there);
+      so_far = rw (c.new-context.ensures, whole) (dots_start (read_each (entry (layout_of c.args.version)) (λ _ e. e.site) 0 c.args.count c.args.bytes.now));
+    }
 
 pub returns-in_err-entry : goal.returns-in_err-entry
 returns-in_err-entry c =

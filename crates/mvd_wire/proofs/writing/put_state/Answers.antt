@@ -11,7 +11,7 @@ use Rattle.mvd_wire.proofs.writing.put_state.Goals as goal
 pub returns : goal.returns
 returns c =
     let s = c.args.state.now in
-    let k : c.put_context.new.out.items ≡ c.args.out.now.items ++ (context layout2).spell s.context = rw (← c.context.ensures.same) c.in_ok-put_context.ensures in
+    let k : c.put_context.new.out.items ≡ c.args.out.now.items ++ (context layout2).spell s.context = rw (← c.context.ensures.same) c.in_ok-put_context.ensures.bytes in
     let e : c.put_siblings.new.out.items ≡ c.put_len16.new.out.items ++ flat_map spell_sibling (pairs s.siblings) = rw (← c.siblings-siblings.ensures.entries) c.in_ok-put_siblings.ensures in
     let n : c.put_len16.new.out.items ≡ c.put_context.new.out.items ++ (number w16).spell (length (pairs s.siblings)) = rw (← c.siblings-siblings.ensures.entries, length-map) c.in_ok-put_len16.ensures in
     rw (state_is s)

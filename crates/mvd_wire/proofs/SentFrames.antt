@@ -1,0 +1,86 @@
+-- What fits in a frame, and that what was sent has a spelling.
+use Rattle.std.proofs.Common.{◌≡◌, ℕ, ◌+◌, ◌<◌, ◌≤◌, ◌^◌, Bool, true, ◌++◌, ltb, leb, ◌&&◌, List, length, Result, Ok, Err, refl, arith}
+use Rattle.std.specs.Prelude.{IfOk}
+use Rattle.std.specs.List.{list_all}
+use Rattle.std.proofs.lemmas.Bool.{leb-true, le-leb}
+use Rattle.std.proofs.lemmas.List.{length-append}
+use Rattle.mvd_dots.specs.declared.refusals.Refusal.{Refusal}
+use Rattle.mvd_dots.specs.Context.{DotSet, AreInRange}
+use Rattle.mvd_docs.specs.Name.{is_graphic}
+use Rattle.mvd_docs.specs.Document.{IsDocument}
+use Rattle.mvd_keys.specs.Key.{is_key}
+use Rattle.mvd_keys.specs.State.{State, Text}
+use Rattle.mvd_keys.proofs.Lists.{and_true}
+use Rattle.mvd_wire.specs.Kind.{Kind, number, raw}
+use Rattle.mvd_wire.specs.Kinds.{layout2, state_limit, dot, key, document, context, state, spell_state}
+use Rattle.mvd_wire.specs.Frames.{frame_limit}
+use Rattle.mvd_wire.specs.declared.request.Request.TheVariants.{Get, Put, Delete, Push, Bye}
+use Rattle.mvd_wire.specs.declared.reply.Reply.{Reply}
+use Rattle.mvd_wire.specs.declared.reply.Reply.TheVariants as reply
+use Rattle.mvd_wire.specs.Requests.{put, delete, push, request_bytes, request_frame}
+use Rattle.mvd_wire.specs.Replies.{refusal, is_short, reply_bytes, reply_frame, CanBeSent}
+use Rattle.mvd_wire.proofs.Fits.{key_fits, document_fits, context_fits}
+
+-- what holds of every result, holds of a good one
+pub always : {A E : Type 0} (r : Result A E) (P : Type 0) → P → IfOk r (λ _. P)
+always (Ok x) P p = p
+always (Err e) P p = tt
+
+pub follows_from : {A E : Type 0} (r : Result A E) (B P : Type 0) → IfOk r (λ _. B) → (B → P) → IfOk r (λ _. P)
+follows_from (Ok x) B P b f = f b
+follows_from (Err e) B P b f = tt
+
+length_key : (k : Text) → length (key.spell k) ≡ length k + 1
+unfolding key raw
+length_key k = omega arith
+
+short_key : (k : Text) → is_key k ≡ true → length (key.spell k) ≤ 129
+short_key k is =
+    let parts = and_true (ltb 0 (length k) && leb (length k) 128) (list_all is_graphic k) is in
+    let few : length k ≤ 128 = leb-true _ _ (and_true (ltb 0 (length k)) (leb (length k) 128) parts.0).1 in
+    omega (arith, length_key k)
+
+pub get_is_short : (k : Text) → is_key k ≡ true → request_frame (Get k) ≡ Ok (request_bytes (Get k))
+get_is_short k is =
+    let few : leb (length (key.spell k) + 1) frame_limit ≡ true = le-leb _ _ (omega (arith, short_key k is)) in
+    rw few refl
+
+pub push_is_short : (k : Text) (s : State) → is_key k ≡ true → length (spell_state s) ≤ state_limit → request_frame (Push k s) ≡ Ok (request_bytes (Push k s))
+unfolding push spell_state
+push_is_short k s is short =
+    let all : length (push.spell (k, s)) ≡ length (key.spell k) + length ((state layout2).spell s) = length-append (key.spell k) ((state layout2).spell s) in
+    let state_few : leb (length ((state layout2).spell s)) state_limit ≡ true = le-leb _ _ short in
+    let few : leb (length (push.spell (k, s)) + 1) frame_limit ≡ true = le-leb _ _ (omega (arith, short_key k is, all, short)) in
+    rw (state_few, few) refl
+
+pub push_fits : (k : Text) (s : State) → is_key k ≡ true → (state layout2).Fits s → push.Fits (k, s)
+unfolding push
+push_fits k s is fits = (key_fits k is, fits)
+
+pub put_fits : (k : Text) (c : DotSet) (d : Text) → is_key k ≡ true → AreInRange c → IsDocument d → length d ≤ 65536 → length (put.spell (k, (c, d))) < frame_limit → put.Fits (k, (c, d))
+unfolding put
+put_fits k c d is in_range document_is few short =
+    let all = length-append (key.spell k) ((context layout2).spell c ++ document.spell d) in
+    let rest = length-append ((context layout2).spell c) (document.spell d) in
+    (key_fits k is, (context_fits c in_range (omega (arith, all, rest, short)), document_fits d document_is few))
+
+pub delete_fits : (k : Text) (c : DotSet) → is_key k ≡ true → AreInRange c → length (delete.spell (k, c)) < frame_limit → delete.Fits (k, c)
+unfolding delete
+delete_fits k c is in_range short =
+    let all = length-append (key.spell k) ((context layout2).spell c) in
+    (key_fits k is, context_fits c in_range (omega (arith, all, short)))
+
+-- ---- replies
+
+pub state_can_be_sent : (s : State) → length (spell_state s) ≤ state_limit → CanBeSent (reply.State s)
+state_can_be_sent s short =
+    let state_few : leb (length (spell_state s)) state_limit ≡ true = le-leb _ _ short in
+    let few : leb (length (spell_state s) + 1) frame_limit ≡ true = le-leb _ _ (omega (arith, short)) in
+    rw (state_few, few) refl
+
+pub short_can_be_sent : (r : Reply) → is_short r ≡ true → CanBeSent r
+unfolding dot number refusal
+short_can_be_sent (reply.State s) is = absurd cc
+short_can_be_sent (reply.Written d) is = refl
+short_can_be_sent reply.Done is = refl
+short_can_be_sent (reply.Refused r) is = refl

@@ -1,0 +1,5 @@
+use Rattle.mvd_wire.proofs.SentFrames.{put_fits}
+use Rattle.mvd_wire.proofs.sending.put_put.Goals as goal
+
+pub returns-clause-fits : goal.returns-clause-fits
+returns-clause-fits c = put_fits c.args.key.now c.args.context.now c.args.document.now c.put_key.ensures.key c.put_context.ensures.in_range c.put_document.ensures.document c.put_document.ensures.short

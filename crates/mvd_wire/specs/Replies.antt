@@ -1,0 +1,81 @@
+-- Replies: their kind bytes and their payloads.
+use Rattle.std.specs.Prelude.{◌≡◌, ℕ, ◌==◌, Bool, true, false, List, [], ◌∷◌, Option, ok_or, Result, Ok, Err}
+use Rattle.std.specs.List.{find}
+use Rattle.mvd_dots.specs.declared.refusals.Refusal.{Refusal}
+use Rattle.mvd_dots.specs.declared.refusals.Refusal.TheVariants.{BadKey, BadContext, BadDocument, NotObject, BadNumber, DocumentTooLong, NotCanonical, Exhausted, StateTooLarge, Full, DotClash, NoIndex, NoView, BadPath, BadTerm, SiteMismatch, Damaged, Memory, Store, Broken, Truncated, FrameTooLong, BadKind, BadBody, ReadFailed, WriteFailed, TooManyRequests, BadDefs}
+use Rattle.mvd_dots.specs.Refusal.{number_of}
+use Rattle.mvd_wire.specs.declared.reply.Reply.{Reply}
+use Rattle.mvd_wire.specs.declared.reply.Reply.TheVariants as reply
+use Rattle.mvd_wire.specs.Kind.{Kind, ◌>>=◌, byte, nothing, tagged}
+use Rattle.mvd_wire.specs.Kinds.{layout2, dot, state, spell_state}
+use Rattle.mvd_wire.specs.Frames.{spell_frame}
+use Rattle.mvd_wire.specs.Requests.{framed, within_limit}
+
+abbrev pub refusals : List Refusal
+refusals = BadKey ∷ BadContext ∷ BadDocument ∷ NotObject ∷ BadNumber ∷ DocumentTooLong ∷ NotCanonical ∷ Exhausted ∷ StateTooLarge ∷ Full ∷ DotClash ∷ NoIndex ∷ NoView ∷ BadPath ∷ BadTerm ∷ SiteMismatch ∷ Damaged ∷ Memory ∷ Store ∷ Broken ∷ Truncated ∷ FrameTooLong ∷ BadKind ∷ BadBody ∷ ReadFailed ∷ WriteFailed ∷ TooManyRequests ∷ BadDefs ∷ []
+
+-- the refusal with this number
+unfoldable pub numbered : ℕ → Option Refusal
+numbered n = find (λ r. number_of r == n) refusals
+
+-- a refusal, by its number
+unfoldable pub refusal : Kind Refusal
+refusal = record {
+  spell = λ r. number_of r ∷ [];
+  Fits = λ _. Unit {0};
+  read = λ bytes. byte.read bytes >>= λ n. ok_or (numbered n.0) BadBody >>= λ r. Ok (r, n.1);
+}
+
+abbrev pub kind_of : Reply → ℕ
+kind_of (reply.State s) = 0xA1
+kind_of (reply.Written d) = 0xA2
+kind_of reply.Done = 0xA3
+kind_of (reply.Refused r) = 0xEE
+
+abbrev pub payload_of : Reply → List ℕ
+payload_of (reply.State s) = spell_state s
+payload_of (reply.Written d) = (dot layout2).spell d
+payload_of reply.Done = []
+payload_of (reply.Refused r) = refusal.spell r
+
+-- what has a spelling
+abbrev pub IsReply : Reply → Type 0
+IsReply (reply.State s) = (state layout2).Fits s
+IsReply (reply.Written d) = (dot layout2).Fits d
+IsReply reply.Done = Unit {0}
+IsReply (reply.Refused r) = refusal.Fits r
+
+-- the reply of a kind byte and a payload, or the first fault
+abbrev pub reply_of : ℕ → List ℕ → Result Reply Refusal
+reply_of =
+    tagged 0xA1 (state layout2) reply.State
+    (tagged 0xA2 (dot layout2) reply.Written
+    (tagged 0xA3 nothing (λ _. reply.Done)
+    (tagged 0xEE refusal reply.Refused
+    (λ _ _. Err BadKind))))
+
+-- the kind byte and the payload are the spelling of the reply
+abbrev pub SpellsReply : Reply → ℕ → List ℕ → Type 0
+SpellsReply r kind payload = IsReply r × (kind ≡ kind_of r) × (payload ≡ payload_of r)
+
+-- the frame of a reply, however long it is
+abbrev pub reply_bytes : Reply → List ℕ
+reply_bytes r = spell_frame (record { kind = kind_of r; payload = payload_of r })
+
+-- the frame of a reply, where nothing in it is too long
+abbrev pub reply_frame : Reply → Result (List ℕ) Refusal
+reply_frame (reply.State s) = within_limit s (framed 0xA1 (spell_state s))
+reply_frame (reply.Written d) = framed 0xA2 ((dot layout2).spell d)
+reply_frame reply.Done = framed 0xA3 []
+reply_frame (reply.Refused r) = framed 0xEE (refusal.spell r)
+
+-- nothing in the reply is too long for its frame
+abbrev pub CanBeSent : Reply → Type 0
+CanBeSent r = reply_frame r ≡ Ok (reply_bytes r)
+
+-- a reply whose frame has a place of fixed size
+abbrev pub is_short : Reply → Bool
+is_short (reply.State s) = false
+is_short (reply.Written d) = true
+is_short reply.Done = true
+is_short (reply.Refused r) = true

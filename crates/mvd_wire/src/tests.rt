@@ -1,0 +1,253 @@
+use super::*;
+use mvd_dots::{Context, Dot, Refusal};
+use mvd_keys::{Key, KeyState};
+use std::alloc::Global;
+use std::io::{self, Read, Write};
+use std::test::*;
+
+// Site 1, base 1, no loose counter; one sibling 1:1 with {"a":1}.
+const STATE: [u8; 45] = [
+    0, 0, 0, 1, 0, 0, 0, 1, 0, 0, 0, 0, 0, 0, 0, 1, 0, 0, 0, 0, 0, 1, 0, 0, 0, 1, 0, 0, 0, 0, 0, 0,
+    0, 1, 0, 0, 0, 7, 0x7B, 0x22, 0x61, 0x22, 0x3A, 0x31, 0x7D,
+];
+
+// The same in the first version of the format.
+const OLD_STATE: [u8; 39] = [
+    0, 1, 0, 1, 0, 0, 0, 0, 0, 0, 0, 1, 0, 0, 0, 0, 0, 1, 0, 1, 0, 0, 0, 0, 0, 0, 0, 1, 0, 0, 0, 7,
+    0x7B, 0x22, 0x61, 0x22, 0x3A, 0x31, 0x7D,
+];
+
+const PUT: [u8; 22] = [
+    0, 0, 0, 0x12, 0x22, 1, 0x6B, 0, 0, 0, 0, 0, 0, 0, 7, 0x7B, 0x22, 0x61, 0x22, 0x3A, 0x31, 0x7D,
+];
+
+const PUSH: [u8; 52] = [
+    0, 0, 0, 0x30, 0x29, 1, 0x6B, 0, 0, 0, 1, 0, 0, 0, 1, 0, 0, 0, 0, 0, 0, 0, 1, 0, 0, 0, 0, 0, 1,
+    0, 0, 0, 1, 0, 0, 0, 0, 0, 0, 0, 1, 0, 0, 0, 7, 0x7B, 0x22, 0x61, 0x22, 0x3A, 0x32, 0x7D,
+];
+
+const DELETE: [u8; 11] = [0, 0, 0, 7, 0x23, 1, 0x6B, 0, 0, 0, 0];
+
+#[test]
+fn states_are_read_and_spelled_again(rt: HostRuntime) -> Result<(), Fail> {
+    let alloc = rt.alloc();
+    let new = decode_state(alloc, &STATE)?;
+    assert_eq!(rt; state_length(&new), 45);
+    assert_eq!(rt; encode_state(alloc, &new)?.as_slice(), STATE.as_slice());
+    let old = decode_old_state(alloc, &OLD_STATE)?;
+    assert_eq!(rt; encode_state(alloc, &old)?.as_slice(), STATE.as_slice());
+    let empty = KeyState::empty(alloc);
+    assert_eq!(rt;
+        encode_state(alloc, &empty)?.as_slice(),
+        [0u8; 6].as_slice()
+    );
+    Ok(())
+}
+
+#[test]
+fn keys_and_contexts_are_spelled(rt: HostRuntime) -> Result<(), Fail> {
+    let alloc = rt.alloc();
+    let key = Key::read(alloc, "abc")?;
+    assert_eq!(rt; encode_key(alloc, &key)?.as_slice(), b"\x03abc".as_slice());
+    let context = Context::read(alloc, "2:0+3")?;
+    let bytes = [
+        0, 0, 0, 0x21, 0x23, 3, 0x61, 0x62, 0x63, 0, 0, 0, 1, 0, 0, 0, 2, 0, 0, 0, 0, 0, 0, 0, 0,
+        0, 0, 0, 1, 0, 0, 0, 0, 0, 0, 0, 3,
+    ];
+    assert_eq!(rt;
+        encode_delete(alloc, &key, &context)?.as_slice(),
+        bytes.as_slice()
+    );
+    Ok(())
+}
+
+/// The number with which a state is refused, or 0.
+fn state_fault(alloc: Global, bytes: &[u8]) -> u8 {
+    match decode_state(alloc, bytes) {
+        Ok(_) => 0,
+        Err(refusal) => refusal.number(),
+    }
+}
+
+#[test]
+fn states_are_refused(rt: HostRuntime) {
+    let alloc = rt.alloc();
+    assert_eq!(rt; state_fault(alloc, &[0; 6]), 0);
+    assert_eq!(rt; state_fault(alloc, &[0; 7]), 33);
+    assert_eq!(rt; state_fault(alloc, &STATE[..44]), 33);
+    assert_eq!(rt; state_fault(alloc, &OLD_STATE), 2);
+    let mut outside = STATE;
+    outside[33] = 2;
+    assert_eq!(rt; state_fault(alloc, &outside), 33);
+    let mut spaced = STATE;
+    spaced[38] = 0x20;
+    assert_eq!(rt; state_fault(alloc, &spaced), 3);
+}
+
+/// The number with which a request is refused, or 0.
+fn fault(alloc: Global, kind: u8, payload: &[u8]) -> u8 {
+    match decode_request(alloc, kind, payload) {
+        Ok(_) => 0,
+        Err(refusal) => refusal.number(),
+    }
+}
+
+#[test]
+fn requests_are_refused(rt: HostRuntime) {
+    let alloc = rt.alloc();
+    let base_and_next = [
+        1, 0x6B, 0, 0, 0, 1, 0, 0, 0, 1, 0, 0, 0, 0, 0, 0, 0, 1, 0, 0, 0, 1, 0, 0, 0, 0, 0, 0, 0,
+        2, 0, 0, 0, 7, 0x7B, 0x22, 0x61, 0x22, 0x3A, 0x31, 0x7D,
+    ];
+    assert_eq!(rt; fault(alloc, 0x22, &base_and_next), 2);
+    let many_loose = [
+        1, 0x6B, 0, 0, 0, 1, 0, 0, 0, 1, 0, 0, 0, 0, 0, 0, 0, 0, 0xFF, 0xFF, 0xFF, 0xFF,
+    ];
+    assert_eq!(rt; fault(alloc, 0x22, &many_loose), 33);
+    let no_dot = [
+        1, 0x6B, 0, 0, 0, 1, 0, 0, 0, 1, 0, 0, 0, 0, 0, 0, 0, 0, 0, 0, 0, 0,
+    ];
+    assert_eq!(rt; fault(alloc, 0x22, &no_dot), 2);
+    assert_eq!(rt; fault(alloc, 0x29, &[1, 0x6B, 0, 0, 0, 0, 0xFF, 0xFF]), 33);
+    assert_eq!(rt; fault(alloc, 0x01, &[1, 0x6B]), 32);
+    assert_eq!(rt; fault(alloc, 0x21, &[0]), 1);
+    assert_eq!(rt; fault(alloc, 0x21, &[2, 0x6B]), 33);
+    assert_eq!(rt; fault(alloc, 0x21, &[1, 0x6B]), 0);
+    assert_eq!(rt; fault(alloc, 0x2F, &[]), 0);
+    assert_eq!(rt; fault(alloc, 0x2F, &[0]), 33);
+}
+
+#[test]
+fn requests_go_round(rt: HostRuntime) -> Result<(), Fail> {
+    let alloc = rt.alloc();
+    let get = [0, 0, 0, 3, 0x21, 1, 0x6B];
+    let bye = [0, 0, 0, 1, 0x2F];
+    let frames: [&[u8]; 5] = [&get, &PUT, &DELETE, &PUSH, &bye];
+    for bytes in frames {
+        let mut input = bytes;
+        let frame = read_frame(alloc, &mut input)?.ok_or("a frame")?;
+        assert_eq!(rt; input.len(), 0);
+        let request = decode_request(alloc, frame.kind, &frame.payload)?;
+        let mut out = Vec::new(alloc);
+        write_frame(&mut out, &encode_request(alloc, &request)?)?;
+        assert_eq!(rt; out.as_slice(), bytes);
+    }
+    Ok(())
+}
+
+#[test]
+fn replies_go_round(rt: HostRuntime) -> Result<(), Fail> {
+    let alloc = rt.alloc();
+    let empty = [0, 0, 0, 7, 0xA1, 0, 0, 0, 0, 0, 0];
+    let written = [0, 0, 0, 13, 0xA2, 0, 0, 0, 1, 0, 0, 0, 0, 0, 0, 0, 1];
+    let done = [0, 0, 0, 1, 0xA3];
+    let refused = [0, 0, 0, 2, 0xEE, 0x1E];
+    let frames: [&[u8]; 4] = [&empty, &written, &done, &refused];
+    for bytes in frames {
+        let mut input = bytes;
+        let frame = read_frame(alloc, &mut input)?.ok_or("a frame")?;
+        let reply = decode_reply(alloc, frame.kind, &frame.payload)?;
+        assert_eq!(rt; encode_reply(alloc, &reply)?.as_slice(), bytes);
+    }
+    let dot = Dot::new(1, 1).ok_or("a dot")?;
+    assert_eq!(rt; Short::written(dot).bytes(), written.as_slice());
+    assert_eq!(rt; Short::done().bytes(), done.as_slice());
+    assert_eq!(rt;
+        Short::refused(Refusal::Truncated).bytes(),
+        refused.as_slice()
+    );
+    assert!(rt; matches!(decode_reply(alloc, 0xEE, &[18]), Err(Refusal::BadBody)));
+    Ok(())
+}
+
+/// The number with which the reading of a frame is refused, or 0.
+fn frame_fault(alloc: Global, bytes: &[u8]) -> u8 {
+    let mut input = bytes;
+    match read_frame(alloc, &mut input) {
+        Ok(_) => 0,
+        Err(refusal) => refusal.number(),
+    }
+}
+
+#[test]
+fn frames_are_refused(rt: HostRuntime) -> Result<(), Fail> {
+    let alloc = rt.alloc();
+    let mut nothing: &[u8] = &[];
+    assert!(rt; matches!(read_frame(alloc, &mut nothing), Ok(None)));
+    assert_eq!(rt; frame_fault(alloc, &[0, 0]), 30);
+    assert_eq!(rt; frame_fault(alloc, &[0, 0, 0, 3, 0x21, 1]), 30);
+    assert_eq!(rt; frame_fault(alloc, &[0, 0, 0, 0]), 31);
+    assert_eq!(rt; frame_fault(alloc, &[0, 0x12, 0x4F, 0x81]), 31);
+    assert_eq!(rt; frame_fault(alloc, &[0xFF; 4]), 31);
+    for cut in 1..PUT.len() {
+        assert_eq!(rt; frame_fault(alloc, &PUT[..cut]), 30);
+    }
+    Ok(())
+}
+
+/// One byte each call, until it is interrupted.
+#[derive(Drop)]
+struct Slow<T> {
+    inner: T,
+    calls: usize,
+}
+
+impl<T> Slow<T> {
+    fn turn(&mut self, len: usize) -> io::Result<usize> {
+        if self.calls == 0 {
+            return Err(io::Error::from(io::ErrorKind::Interrupted));
+        }
+        self.calls -= 1;
+        Ok(len.min(1))
+    }
+}
+
+impl<T: Read> Read for Slow<T> {
+    fn read(&mut self, buf: &mut [u8]) -> io::Result<usize> {
+        let len = self.turn(buf.len())?.min(buf.len());
+        self.inner.read(&mut buf[..len])
+    }
+}
+
+impl<T: Write> Write for Slow<T> {
+    fn write(&mut self, buf: &[u8]) -> io::Result<usize> {
+        let len = self.turn(buf.len())?.min(buf.len());
+        self.inner.write(&buf[..len])
+    }
+
+    fn flush(&mut self) -> io::Result<()> {
+        Ok(())
+    }
+}
+
+#[test]
+fn frames_pass_byte_by_byte(rt: HostRuntime) -> Result<(), Fail> {
+    let alloc = rt.alloc();
+    let mut reader = Slow {
+        inner: PUT.as_slice(),
+        calls: 100,
+    };
+    let frame = read_frame(alloc, &mut reader)?.ok_or("a frame")?;
+    assert_eq!(rt; frame.kind, 0x22);
+    assert_eq!(rt; frame.payload.as_slice(), &PUT[5..]);
+    let mut writer = Slow {
+        inner: Vec::new(alloc),
+        calls: 100,
+    };
+    write_frame(&mut writer, &PUT)?;
+    assert_eq!(rt; writer.inner.as_slice(), PUT.as_slice());
+    for calls in 0..PUT.len() {
+        let mut reader = Slow {
+            inner: PUT.as_slice(),
+            calls,
+        };
+        assert!(rt; matches!(read_frame(alloc, &mut reader), Err(Refusal::ReadFailed)));
+        let mut writer = Slow {
+            inner: Vec::new(alloc),
+            calls,
+        };
+        assert!(rt; matches!(write_frame(&mut writer, &PUT), Err(Refusal::WriteFailed)));
+        assert_eq!(rt; writer.inner.as_slice(), &PUT[..calls]);
+    }
+    Ok(())
+}

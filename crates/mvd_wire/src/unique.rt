@@ -1,0 +1,41 @@
+//! Laws of the spellings.
+ghost use Rattle.std.specs.Prelude.{◌≡◌, ◌≤◌, ◌+◌, ◌++◌, List, ℕ, length, true, Ok, Some};
+ghost use Rattle.mvd_keys.specs.Key.{is_key};
+ghost use Rattle.mvd_keys.specs.State.{State, Text};
+ghost use Rattle.mvd_wire.specs.Frames.{FrameValue, frame_limit, frame_at, spell_frame};
+ghost use Rattle.mvd_wire.specs.Kind.{Kind, IsPrefixFree};
+ghost use Rattle.mvd_wire.specs.Kinds.{layout1, layout2, dot, context, key, document, path, state, spell_state, state_limit};
+ghost use Rattle.mvd_wire.specs.Requests.{SpellsRequest, IsRequest, request_of, kind_of as request_kind, payload_of as request_payload, request_bytes, request_frame};
+ghost use Rattle.mvd_wire.specs.Replies.{CanBeSent, IsReply, reply_of, kind_of as reply_kind, payload_of as reply_payload, is_short};
+ghost use Rattle.mvd_wire.specs.declared.request.Request.TheVariants as asked;
+ghost use Rattle.mvd_wire.specs.declared.reply.Reply.TheVariants as answered;
+
+use crate::reply::Reply;
+use crate::request::Request;
+
+/// Each value has one spelling, and no spelling of a kind begins another of that kind.
+pub fn one_spelling()
+    ensures dots { IsPrefixFree (dot layout2) }
+    ensures contexts { IsPrefixFree (context layout2) }
+    ensures keys { IsPrefixFree key }
+    ensures documents { IsPrefixFree document }
+    ensures paths { IsPrefixFree path }
+    ensures states { IsPrefixFree (state layout2) }
+    ensures old_states { IsPrefixFree (state layout1) }
+    // A frame is read again, and what follows it is left.
+    ensures frames { (f : FrameValue) (rest : List ℕ) → length f.payload + 1 ≤ frame_limit → frame_at (spell_frame f ++ rest) ≡ Ok (Some f, rest) }
+{}
+
+/// What has a spelling is decoded from it.
+pub fn decoded_again()
+    ensures requests { (r : Request) → IsRequest r → request_of (request_kind r) (request_payload r) ≡ Ok r }
+    ensures replies { (r : Reply) → IsReply r → reply_of (reply_kind r) (reply_payload r) ≡ Ok r }
+{}
+
+/// What is never too long for a frame.
+pub fn can_be_sent()
+    ensures gets { (k : Text) → is_key k ≡ true → request_frame (asked.Get k) ≡ Ok (request_bytes (asked.Get k)) }
+    ensures pushes { (k : Text) (s : State) → is_key k ≡ true → length (spell_state s) ≤ state_limit → request_frame (asked.Push k s) ≡ Ok (request_bytes (asked.Push k s)) }
+    ensures short { (r : Reply) → is_short r ≡ true → CanBeSent r }
+    ensures states { (s : State) → length (spell_state s) ≤ state_limit → CanBeSent (answered.State s) }
+{}

@@ -33,7 +33,7 @@ pub back : (a b : Bool) → T (a && b) → T b
 back true b h = h
 back false b h = absurd h
 
-both : (a b : Bool) → T a → T b → T (a && b)
+pub both : (a b : Bool) → T a → T b → T (a && b)
 both true b p q = q
 both false b p q = p
 
@@ -207,3 +207,18 @@ lower_first k (e ∷ es) s zero (suc j) d a b h =
     ap is_lt (nat_list_cmp_total.trans e.0 (get_or es j d).0 k p (less _ (subst T (sym h) tt)))
 lower_first k (e ∷ es) s (suc i) zero d a b h = absurd (omega arith)
 lower_first k (e ∷ es) s (suc i) (suc j) d a b h = lower_first k es (back _ _ s) i j d (omega arith) (omega arith) h
+
+-- entries rise where each is below the next
+pub rises_by_pairs : (es : List Entry) → ((k : ℕ) (d : Entry) → suc k < length es → is_lt (order (get_or es k d).0 (get_or es (suc k) d).0) ≡ true) → T (is_sorted order es)
+rises_by_pairs [] h = tt
+rises_by_pairs (e ∷ []) h = tt
+rises_by_pairs (e ∷ f ∷ es) h =
+    let rest = rises_by_pairs (f ∷ es) (λ k d l. h (suc k) d (omega arith)) in
+    let first = subst T (sym (h 0 e (omega arith))) tt in
+    both _ _ (both _ _ first (below_less e.0 f.0 es (less _ first) (front _ _ rest))) rest
+
+-- and only there
+pub pairs_rise : (es : List Entry) → T (is_sorted order es) → (k : ℕ) (d : Entry) → suc k < length es → is_lt (order (get_or es k d).0 (get_or es (suc k) d).0) ≡ true
+pairs_rise [] s k d l = absurd (omega arith)
+pairs_rise (e ∷ es) s zero d l = ap is_lt (less_at e.0 es (front _ _ s) 0 d (omega arith))
+pairs_rise (e ∷ es) s (suc k) d l = pairs_rise es (back _ _ s) k d (omega arith)

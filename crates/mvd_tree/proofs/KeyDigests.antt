@@ -56,7 +56,7 @@ option_map-cond f true x y = refl
 option_map-cond f false x y = refl
 
 module _ {S : Type 0} (spelled : List ℕ → S → List ℕ) where
-  find-digests : (q : List ℕ) (es : List (List ℕ × S)) → find (slice_cmp nat_cmp) q (map (λ e. (e.0, key_digest spelled e.0 e.1)) es) ≡ option_map (key_digest spelled q) (find (slice_cmp nat_cmp) q es)
+  pub find-digests : (q : List ℕ) (es : List (List ℕ × S)) → find (slice_cmp nat_cmp) q (map (λ e. (e.0, key_digest spelled e.0 e.1)) es) ≡ option_map (key_digest spelled q) (find (slice_cmp nat_cmp) q es)
   find-digests q [] = refl
   find-digests q (e ∷ es) =
       elim (eq_by_cmp (slice_cmp nat_cmp) q e.0) as (λ b. eq_by_cmp (slice_cmp nat_cmp) q e.0 ≡ b → cond b (Some (key_digest spelled e.0 e.1)) (find (slice_cmp nat_cmp) q (map (λ e. (e.0, key_digest spelled e.0 e.1)) es)) ≡ option_map (key_digest spelled q) (cond b (Some e.1) (find (slice_cmp nat_cmp) q es))) [

@@ -3,10 +3,12 @@ ghost use Rattle.std.specs.Prelude.{◌≡◌, ◌≤◌, ◌+◌, ◌^◌, T, l
 ghost use Rattle.std.specs.FinMap.{is_sorted, from_entries};
 ghost use Rattle.mvd_keys.specs.Key.{key_cmp};
 ghost use Rattle.mvd_tree.specs.Change.{changed};
+ghost use Rattle.mvd_tree.specs.HashTree.{node_digest};
 
+use crate::digest::or_zeros;
 use crate::tree::Tree;
 use mvd_dots::Refusal;
-use mvd_keys::Key;
+use mvd_keys::{Key, Path};
 use std::alloc::Global;
 
 /// `Tree::change`, which adds the number of its SHA-256 computations to a count.
@@ -25,13 +27,18 @@ pub fn change(
     tree.change_counted(key, digest, count)
 }
 
+/// `Tree::node`, which makes no SHA-256 computation.
+pub fn node(tree: &Tree, path: &Path, count: &mut u64) -> [u8; 32]
+    requires { count.old ≤ 2 ^ 63 }
+    ensures node { result ≡ node_digest tree.now path.now }
+    ensures counted { count.new ≡ count.old }
+{
+    or_zeros(tree.kept(path))
+}
+
 /// `Tree::open`, which adds the number of its SHA-256 computations to a count: one for each key,
 /// and at most one for each node.
-pub fn open(
-    alloc: Global,
-    entries: Vec<(Key, [u8; 32])>,
-    count: &mut u64,
-) -> Result<Tree, Refusal>
+pub fn open(alloc: Global, entries: Vec<(Key, [u8; 32])>, count: &mut u64) -> Result<Tree, Refusal>
     requires rising { T (is_sorted key_cmp entries.items) }
     requires room { count.old + length entries.items ≤ 2 ^ 63 }
     ensures ok { IfOk result (λ tree. tree ≡ from_entries entries.items) }

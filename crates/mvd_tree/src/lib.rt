@@ -13,7 +13,10 @@ mod tree;
 
 ghost use Rattle.std.specs.Prelude.{◌≡◌, Ok};
 ghost use Rattle.sha2.specs.Sha256.{sha256};
+ghost use Rattle.std.specs.FinMap.{is_sorted};
+ghost use Rattle.std.specs.Ordering.{is_lt};
 ghost use Rattle.mvd_dots.specs.Answer.{IsAnswer};
+ghost use Rattle.mvd_keys.specs.Key.{key_cmp};
 ghost use Rattle.mvd_tree.specs.HashTree.{place_of};
 
 use mvd_dots::Refusal;
@@ -36,4 +39,22 @@ pub fn key_digest(spelled: &[u8]) -> [u8; 32]
 {
     let mut count = 0;
     digest::text_digest(spelled, &mut count)
+}
+
+/// Whether the keys of these entries rise, as `Tree::open` asks.
+pub fn rises(entries: &[(Key, [u8; 32])]) -> bool
+    ensures { result ≡ is_sorted key_cmp entries.now }
+{
+    for i in 1..entries.len() {
+        if !is_below(&entries[i - 1].0, &entries[i].0) {
+            return false;
+        }
+    }
+    true
+}
+
+fn is_below(key: &Key, other: &Key) -> bool
+    ensures { result ≡ is_lt (key_cmp key.now other.now) }
+{
+    key.cmp(other).is_lt()
 }

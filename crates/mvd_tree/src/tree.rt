@@ -11,7 +11,7 @@ ghost use Rattle.mvd_tree.specs.Layout.{IsPath};
 use crate::bucket::{Bucket, copies};
 use crate::buckets::{bucket_number, change_bucket, filled};
 use crate::counted;
-use crate::digest::{bucket_digest, or_zeros};
+use crate::digest::bucket_digest;
 use crate::nodes::{all_or_zeros, bucket_nodes, node_over, nodes_over};
 use mvd_dots::Refusal;
 use mvd_keys::{Key, Path};
@@ -136,7 +136,7 @@ impl Tree {
     }
 
     /// What is kept of a node.
-    fn kept(&self, path: &Path) -> Option<[u8; 32]>
+    pub(crate) fn kept(&self, path: &Path) -> Option<[u8; 32]>
         ensures { result ≡ kept_node (3 - length path.now) self.now path.now }
     {
         match digits_of(path) {
@@ -147,11 +147,12 @@ impl Tree {
         }
     }
 
-    /// The digest of a node.
+    /// The digest of a node. It takes no memory and makes no SHA-256 computation.
     pub fn node(&self, path: &Path) -> [u8; 32]
         ensures { result ≡ node_digest self.now path.now }
     {
-        or_zeros(self.kept(path))
+        let mut count = 0;
+        counted::node(self, path, &mut count)
     }
 
     /// The digests of a node's children, unless it is a bucket.

@@ -18,6 +18,6 @@ loop-key-preserved c =
       tt,
       append_assoc c.loop-key.yielded (entry ∷ []) rest ∙ all,
       hold_more c.loop-key.buckets.items c.put_in.new.buckets.items c.loop-key.yielded rest entry c.bucket_number-number.result c.loop-key.invariant.3
-      (subst (λ es. T (is_sorted key_cmp es)) (sym all) c.requires.rising) c.bucket_number-number.ensures.number c.in_ok-put_in.ensures,
+          (subst (λ es. T (is_sorted key_cmp es)) (sym all) c.requires.rising) c.bucket_number-number.ensures.number c.in_ok-put_in.ensures,
       omega (arith, longer, c.loop-key.invariant.4, c.bucket_number-number.ensures.counted),
     )

@@ -188,3 +188,7 @@ module _ {S : Type 0} (spelled : List ℕ → S → List ℕ) where
                 ap Some (same_key key key s t p q same).1
           ] refl
         ] refl both
+
+    -- nodes of one path with one digest hold the same keys in the same states
+    pub same_states_under : (levels : ℕ) (path : List ℕ) → length path + levels ≡ 3 → digest_above levels (digests_of spelled a) path ≡ digest_above levels (digests_of spelled b) path → SameUnder path a b
+    same_states_under levels path depth e key u = same_state key (same_under (digests_of spelled a) (digests_of spelled b) told levels path depth e key u)

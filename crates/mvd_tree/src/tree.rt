@@ -21,6 +21,10 @@ use std::marker::Model;
 const PAGE: usize = 1000;
 
 /// The hash tree over the digests of the keys that are held, seen as these digests by key.
+///
+/// The digest of each node under which a key is held is kept, by the number that its path spells:
+/// `lowest` has those of the 4,096 buckets, `middle` and `upper` those of the nodes with two digits
+/// and with one.
 #[derive(Drop)]
 pub struct Tree {
     alloc: Global,
@@ -64,7 +68,8 @@ impl Tree {
         Self::open(alloc, Vec::new(alloc))
     }
 
-    /// The tree of these keys with their digests. The keys rise. It computes each node once.
+    /// The tree of these keys with their digests. It computes each node once. The keys must rise,
+    /// which `rises` tests.
     pub fn open(alloc: Global, entries: Vec<(Key, [u8; 32])>) -> Result<Self, Refusal>
         requires { T (is_sorted key_cmp entries.items) }
         ensures ok { IfOk result (λ tree. tree ≡ from_entries entries.items) }
@@ -99,7 +104,8 @@ impl Tree {
         })
     }
 
-    /// Gives a key a digest, or lets it be held no more, with at most five SHA-256 computations.
+    /// Gives a key a digest, or lets it be held no more, with at most five SHA-256 computations:
+    /// those of its place, its bucket and the three nodes above.
     pub(crate) fn change_counted(
         &mut self,
         key: &Key,
@@ -125,7 +131,8 @@ impl Tree {
         Ok(())
     }
 
-    /// Gives a key a digest, or lets it be held no more.
+    /// Gives a key a digest, or lets it be held no more. Where memory is refused, which is
+    /// `Broken`, the tree is as before.
     pub fn change(&mut self, key: &Key, digest: Option<[u8; 32]>) -> Result<(), Refusal>
         ensures ok { OnOk result (self.new ≡ changed self.old key.now digest) }
         ensures err { IfErr result (λ refusal. refusal ≡ Refusal.Broken) }
@@ -155,7 +162,7 @@ impl Tree {
         counted::node(self, path, &mut count)
     }
 
-    /// The digests of a node's children, unless it is a bucket.
+    /// The digests of a node's sixteen children, or `None` for a bucket. It takes no memory.
     pub fn children(&self, path: &Path) -> Option<[[u8; 32]; 16]>
         ensures inner { length path.now < 3 → result ≡ Some (children_digests self.now path.now) }
         ensures bucket { length path.now ≡ 3 → result ≡ None }
@@ -184,8 +191,8 @@ impl Tree {
         self.buckets[number].entries_after(after)
     }
 
-    /// The first thousand keys of a bucket after a key, with their digests, and whether more are
-    /// left.
+    /// The first thousand keys of a bucket after a key, or of all its keys, with their digests, and
+    /// whether more are left. A path without just three digits is `BadPath`.
     pub fn bucket(
         &self,
         path: &Path,

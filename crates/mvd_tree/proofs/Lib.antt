@@ -1,0 +1,12 @@
+pub mod Under
+pub mod KeyDigests
+pub mod Lists
+pub mod Bytes
+pub mod Apart
+pub mod KeptNodes
+pub mod Entries
+pub mod Gathered
+pub mod Changes
+pub mod Opened
+pub mod Answers
+pub mod Held

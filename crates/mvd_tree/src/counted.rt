@@ -1,0 +1,52 @@
+//! Calls whose SHA-256 computations are counted.
+ghost use Rattle.std.specs.Prelude.{◌≡◌, ◌≤◌, ◌+◌, ◌^◌, T, length, IfOk, IfErr, OnOk, OnErr};
+ghost use Rattle.std.specs.FinMap.{is_sorted, from_entries};
+ghost use Rattle.mvd_keys.specs.Key.{key_cmp};
+ghost use Rattle.mvd_tree.specs.Change.{changed};
+ghost use Rattle.mvd_tree.specs.HashTree.{node_digest};
+
+use crate::digest::or_zeros;
+use crate::tree::Tree;
+use mvd_dots::Refusal;
+use mvd_keys::{Key, Path};
+use std::alloc::Global;
+
+/// `Tree::change`, which adds the number of its SHA-256 computations to a count.
+pub fn change(
+    tree: &mut Tree,
+    key: &Key,
+    digest: Option<[u8; 32]>,
+    count: &mut u64,
+) -> Result<(), Refusal>
+    requires { count.old ≤ 2 ^ 63 }
+    ensures ok { OnOk result (tree.new ≡ changed tree.old key.now digest) }
+    ensures err { IfErr result (λ refusal. refusal ≡ Refusal.Broken) }
+    ensures unchanged { OnErr result (tree.new ≡ tree.old) }
+    ensures counted { count.new ≤ count.old + 5 }
+{
+    tree.change_counted(key, digest, count)
+}
+
+/// `Tree::node`, which makes no SHA-256 computation.
+pub fn node(tree: &Tree, path: &Path, count: &mut u64) -> [u8; 32]
+    requires { count.old ≤ 2 ^ 63 }
+    ensures node { result ≡ node_digest tree.now path.now }
+    ensures counted { count.new ≡ count.old }
+{
+    or_zeros(tree.kept(path))
+}
+
+/// `Tree::open`, which adds the number of its SHA-256 computations to a count: one for each key,
+/// and at most one for each node.
+pub fn open(alloc: Global, entries: Vec<(Key, [u8; 32])>, count: &mut u64) -> Result<Tree, Refusal>
+    requires rising { T (is_sorted key_cmp entries.items) }
+    requires room { count.old + length entries.items ≤ 2 ^ 63 }
+    ensures ok { IfOk result (λ tree. tree ≡ from_entries entries.items) }
+    ensures err { IfErr result (λ refusal. refusal ≡ Refusal.Memory) }
+    ensures counted { count.new ≤ count.old + length entries.items + 4369 }
+{
+    match Tree::opened(alloc, entries, count) {
+        Ok(tree) => Ok(tree),
+        Err(_) => Err(Refusal::Memory),
+    }
+}

@@ -1,0 +1,25 @@
+//! What holds of the digests of nodes, each law as the contract of an empty function.
+ghost use Rattle.std.specs.Prelude.{ℕ, List};
+ghost use Rattle.mvd_tree.specs.Hashed.{ChangeLeavesOtherNodes, EqualNodesHoldEqualKeys, EqualNodesHoldEqualStates, NodesDependOnKeysUnder};
+
+/// A node's digest depends on the keys under it alone.
+pub fn nodes_depend_on_keys_under()
+    ensures { NodesDependOnKeysUnder }
+{}
+
+/// A change of one key leaves the digest of each node whose path does not begin the key's place.
+pub fn change_leaves_other_nodes()
+    ensures { ChangeLeavesOtherNodes }
+{}
+
+/// Where SHA-256 tells the texts of two trees apart, nodes of one path with one digest hold the
+/// same keys with the same digests.
+pub fn equal_nodes_hold_equal_keys()
+    ensures { EqualNodesHoldEqualKeys }
+{}
+
+/// Where it tells the spelled keys and states apart, too, those nodes hold the same keys in the
+/// same states.
+pub fn equal_nodes_hold_equal_states<S>()
+    ensures { (spelled : List ℕ → S → List ℕ) → EqualNodesHoldEqualStates spelled }
+{}

@@ -1,0 +1,60 @@
+//! The hash tree by which two sites compare what they hold.
+#![tactic(auto)]
+
+mod bucket;
+mod buckets;
+pub mod counted;
+mod digest;
+pub mod laws;
+mod nodes;
+#[cfg(test)]
+mod tests;
+mod tree;
+
+ghost use Rattle.std.specs.Prelude.{◌≡◌, Ok};
+ghost use Rattle.sha2.specs.Sha256.{sha256};
+ghost use Rattle.std.specs.FinMap.{is_sorted};
+ghost use Rattle.std.specs.Ordering.{is_lt};
+ghost use Rattle.mvd_dots.specs.Answer.{IsAnswer};
+ghost use Rattle.mvd_keys.specs.Key.{key_cmp};
+ghost use Rattle.mvd_tree.specs.HashTree.{place_of};
+
+use mvd_dots::Refusal;
+use mvd_keys::{Key, Path};
+use std::alloc::Global;
+pub use tree::Tree;
+
+/// Where a key stands in the tree: the first three hexadecimal digits of its bytes' SHA-256.
+pub fn place(alloc: Global, key: &Key) -> Result<Path, Refusal>
+    ensures { IsAnswer result (Ok (place_of key.now)) }
+{
+    let mut count = 0;
+    let digest = digest::text_digest(key.text().as_bytes(), &mut count);
+    Path::new(alloc, &[digest[0] / 16, digest[0] % 16, digest[1] / 16])
+}
+
+/// The digest of a key, from the bytes of the key and of its state as they are spelled.
+pub fn key_digest(spelled: &[u8]) -> [u8; 32]
+    ensures { result ≡ sha256 spelled.now }
+{
+    let mut count = 0;
+    digest::text_digest(spelled, &mut count)
+}
+
+/// Whether the keys of these entries rise, as `Tree::open` asks.
+pub fn rises(entries: &[(Key, [u8; 32])]) -> bool
+    ensures { result ≡ is_sorted key_cmp entries.now }
+{
+    for i in 1..entries.len() {
+        if !is_below(&entries[i - 1].0, &entries[i].0) {
+            return false;
+        }
+    }
+    true
+}
+
+fn is_below(key: &Key, other: &Key) -> bool
+    ensures { result ≡ is_lt (key_cmp key.now other.now) }
+{
+    key.cmp(other).is_lt()
+}

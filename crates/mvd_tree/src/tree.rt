@@ -1,0 +1,217 @@
+//! The tree that is kept: the digests of the held keys, and those of the nodes over them.
+ghost use Rattle.std.specs.Prelude.{◌≡◌, ◌≢◌, ◌<◌, ◌≤◌, ◌+◌, ◌-◌, ◌^◌, T, length, IfOk, IfErr, OnOk, OnErr, option_copied, Some, None, Err};
+ghost use Rattle.std.specs.FinMap.{empty, entries, is_sorted, from_entries};
+ghost use Rattle.mvd_keys.specs.Key.{key_cmp};
+ghost use Rattle.mvd_tree.specs.HashTree.{node_digest};
+ghost use Rattle.mvd_tree.specs.Kept.{kept_node};
+ghost use Rattle.mvd_tree.specs.Change.{changed};
+ghost use Rattle.mvd_tree.specs.Page.{children_digests, rest_of, page_of, is_more_after_page};
+ghost use Rattle.mvd_tree.specs.Layout.{IsPath};
+
+use crate::bucket::{Bucket, copies};
+use crate::buckets::{bucket_number, change_bucket, filled};
+use crate::counted;
+use crate::digest::bucket_digest;
+use crate::nodes::{all_or_zeros, bucket_nodes, node_over, nodes_over};
+use mvd_dots::Refusal;
+use mvd_keys::{Key, Path};
+use std::alloc::Global;
+use std::marker::Model;
+
+const PAGE: usize = 1000;
+
+/// The hash tree over the digests of the keys that are held, seen as these digests by key.
+///
+/// The digest of each node under which a key is held is kept, by the number that its path spells:
+/// `lowest` has those of the 4,096 buckets, `middle` and `upper` those of the nodes with two digits
+/// and with one.
+#[derive(Drop)]
+pub struct Tree {
+    alloc: Global,
+    buckets: Vec<Bucket>,
+    lowest: Vec<Option<[u8; 32]>>,
+    middle: Vec<Option<[u8; 32]>>,
+    upper: Vec<Option<[u8; 32]>>,
+    root: Option<[u8; 32]>,
+}
+
+impl Model for Tree {
+    ghost use Rattle.std.specs.Prelude.{List, ℕ};
+    ghost use Rattle.std.specs.Coded.{coded_ℕ, coded_list};
+    ghost use Rattle.mvd_keys.specs.Key.{key_cmp};
+    ghost use Rattle.std.specs.FinMap as map;
+    ghost use Rattle.mvd_tree.specs.Layout.{gathered, KeepsTree};
+
+    ghost Value = { map.FinMap key_cmp (List ℕ) };
+
+    ghost coded = { map.code (coded_list coded_ℕ) (coded_list coded_ℕ) };
+
+    ghost view = { λ t. gathered t.buckets.items };
+
+    ghost invariant = { λ t. KeepsTree t.buckets.items t.lowest.items t.middle.items t.upper.items t.root };
+}
+
+/// The digits of a path.
+fn digits_of(path: &Path) -> &[u8]
+    ensures digits { result.now ≡ path.now }
+    ensures path { IsPath path.now }
+{
+    path.digits()
+}
+
+impl Tree {
+    /// A tree with no key.
+    pub fn new(alloc: Global) -> Result<Self, Refusal>
+        ensures ok { IfOk result (λ tree. tree ≡ empty) }
+        ensures err { IfErr result (λ refusal. refusal ≡ Refusal.Memory) }
+    {
+        Self::open(alloc, Vec::new(alloc))
+    }
+
+    /// The tree of these keys with their digests. It computes each node once. The keys must rise,
+    /// which `rises` tests.
+    pub fn open(alloc: Global, entries: Vec<(Key, [u8; 32])>) -> Result<Self, Refusal>
+        requires { T (is_sorted key_cmp entries.items) }
+        ensures ok { IfOk result (λ tree. tree ≡ from_entries entries.items) }
+        ensures err { IfErr result (λ refusal. refusal ≡ Refusal.Memory) }
+    {
+        let mut count = 0;
+        counted::open(alloc, entries, &mut count)
+    }
+
+    pub(crate) fn opened(
+        alloc: Global,
+        entries: Vec<(Key, [u8; 32])>,
+        count: &mut u64,
+    ) -> Result<Self, Refusal>
+        requires rising { T (is_sorted key_cmp entries.items) }
+        requires room { count.old + length entries.items ≤ 2 ^ 63 }
+        ensures ok { IfOk result (λ tree. tree ≡ from_entries entries.items) }
+        ensures counted { count.new ≤ count.old + length entries.items + 4369 }
+    {
+        let buckets = filled(alloc, entries, count)?;
+        let lowest = bucket_nodes(alloc, &buckets, count)?;
+        let middle = nodes_over(alloc, &lowest, 256, count)?;
+        let upper = nodes_over(alloc, &middle, 16, count)?;
+        let root = node_over(&upper, 0, count);
+        Ok(Tree {
+            alloc,
+            buckets,
+            lowest,
+            middle,
+            upper,
+            root,
+        })
+    }
+
+    /// Gives a key a digest, or lets it be held no more, with at most five SHA-256 computations:
+    /// those of its place, its bucket and the three nodes above.
+    pub(crate) fn change_counted(
+        &mut self,
+        key: &Key,
+        digest: Option<[u8; 32]>,
+        count: &mut u64,
+    ) -> Result<(), Refusal>
+        requires { count.old ≤ 2 ^ 63 }
+        ensures ok { OnOk result (self.new ≡ changed self.old key.now digest) }
+        ensures err { IfErr result (λ refusal. refusal ≡ Refusal.Broken) }
+        ensures unchanged { OnErr result (self.new ≡ self.old) }
+        ensures counted { count.new ≤ count.old + 5 }
+    {
+        let lowest = bucket_number(key, count);
+        let middle = lowest / 16;
+        let upper = middle / 16;
+        if change_bucket(&mut self.buckets, self.alloc, lowest, key, digest).is_err() {
+            return Err(Refusal::Broken);
+        }
+        self.lowest[lowest] = bucket_digest(self.buckets[lowest].entries(), count);
+        self.middle[middle] = node_over(&self.lowest, middle, count);
+        self.upper[upper] = node_over(&self.middle, upper, count);
+        self.root = node_over(&self.upper, 0, count);
+        Ok(())
+    }
+
+    /// Gives a key a digest, or lets it be held no more. Where memory is refused, which is
+    /// `Broken`, the tree is as before.
+    pub fn change(&mut self, key: &Key, digest: Option<[u8; 32]>) -> Result<(), Refusal>
+        ensures ok { OnOk result (self.new ≡ changed self.old key.now digest) }
+        ensures err { IfErr result (λ refusal. refusal ≡ Refusal.Broken) }
+        ensures unchanged { OnErr result (self.new ≡ self.old) }
+    {
+        let mut count = 0;
+        self.change_counted(key, digest, &mut count)
+    }
+
+    /// What is kept of a node.
+    pub(crate) fn kept(&self, path: &Path) -> Option<[u8; 32]>
+        ensures { result ≡ kept_node (3 - length path.now) self.now path.now }
+    {
+        match digits_of(path) {
+            [] => self.root,
+            [a] => self.upper[*a as usize],
+            [a, b] => self.middle[*a as usize * 16 + *b as usize],
+            [a, b, c, ..] => { self.lowest[(*a as usize * 16 + *b as usize) * 16 + *c as usize] }
+        }
+    }
+
+    /// The digest of a node. It takes no memory and makes no SHA-256 computation.
+    pub fn node(&self, path: &Path) -> [u8; 32]
+        ensures { result ≡ node_digest self.now path.now }
+    {
+        let mut count = 0;
+        counted::node(self, path, &mut count)
+    }
+
+    /// The digests of a node's sixteen children, or `None` for a bucket. It takes no memory.
+    pub fn children(&self, path: &Path) -> Option<[[u8; 32]; 16]>
+        ensures inner { length path.now < 3 → result ≡ Some (children_digests self.now path.now) }
+        ensures bucket { length path.now ≡ 3 → result ≡ None }
+    {
+        match digits_of(path) {
+            [] => Some(all_or_zeros(&self.upper)),
+            [a] => {
+                let first = *a as usize * 16;
+                Some(all_or_zeros(&self.middle[first..first + 16]))
+            }
+            [a, b] => {
+                let first = (*a as usize * 16 + *b as usize) * 16;
+                Some(all_or_zeros(&self.lowest[first..first + 16]))
+            }
+            _ => None,
+        }
+    }
+
+    /// The entries of a bucket after a key.
+    fn entries_after(&self, path: &Path, after: Option<&Key>) -> &[(Key, [u8; 32])]
+        requires { length path.now ≡ 3 }
+        ensures { result.now ≡ entries (rest_of self.now path.now (option_copied after.entry)) }
+    {
+        let digits = digits_of(path);
+        let number = (digits[0] as usize * 16 + digits[1] as usize) * 16 + digits[2] as usize;
+        self.buckets[number].entries_after(after)
+    }
+
+    /// The first thousand keys of a bucket after a key, or of all its keys, with their digests, and
+    /// whether more are left. A path without just three digits is `BadPath`.
+    pub fn bucket(
+        &self,
+        path: &Path,
+        after: Option<&Key>,
+    ) -> Result<(Vec<(Key, [u8; 32])>, bool), Refusal>
+        ensures path { IfOk result (λ _. length path.now ≡ 3) }
+        ensures page { IfOk result (λ page. page.0.items ≡ page_of self.now path.now (option_copied after.entry)) }
+        ensures more { IfOk result (λ page. page.1 ≡ is_more_after_page self.now path.now (option_copied after.entry)) }
+        ensures bad_path { length path.now ≢ 3 → result ≡ Err Refusal.BadPath }
+        ensures err { length path.now ≡ 3 → IfErr result (λ refusal. refusal ≡ Refusal.Memory) }
+    {
+        if path.digits().len() != 3 {
+            return Err(Refusal::BadPath);
+        }
+        let rest = self.entries_after(path, after);
+        let count = rest.len().min(PAGE);
+        match copies(self.alloc, &rest[..count]) {
+            Ok(page) => Ok((page, PAGE < rest.len())),
+            Err(_) => Err(Refusal::Memory),
+        }
+    }
+}

@@ -4,9 +4,13 @@ use Rattle.mvd_dots.specs.Dot.{DotValue}
 use Rattle.mvd_dots.specs.Context.{DotSet}
 use Rattle.mvd_dots.specs.declared.refusals.Refusal.{Refusal}
 use Rattle.mvd_dots.specs.declared.refusals.Refusal.TheVariants.{Memory, Exhausted, DotClash, Broken}
-use Rattle.mvd_keys.specs.State.{State, Text, after_delete, after_put, clashes, join, join_answer, put_with}
-use Rattle.mvd_keys.specs.Writes.{is_empty}
-use Rattle.mvd_keys.proofs.Lists.{after_delete-empty, is_empty-after_put, join-empty}
+use Rattle.mvd_keys.specs.State.{State, Text, after_put, clashes, join, join_answer, put_with}
+use Rattle.mvd_wire.specs.declared.reply.Reply.{Reply}
+use Rattle.mvd_wire.specs.declared.reply.Reply.TheVariants.{State as Shown, Written, Done, Refused}
+use Rattle.mvd_wire.specs.Replies.{CanBeSent}
+use Rattle.mvd_wire.proofs.SentFrames.{short_can_be_sent, state_can_be_sent}
+use Rattle.mvd_site.specs.Change.{reply_of}
+use Rattle.mvd_site.specs.Prepared.{IsPlain}
 
 pub memory_or_not : (refusal : Refusal) → (refusal ≡ Memory) ⊎ (refusal ≢ Memory)
 memory_or_not Memory = inl refl
@@ -43,3 +47,18 @@ join_err s t refusal e = clash_cases s t refusal (clashes s t) e
 pub whole_where_ok : {T : Type 0} (broken : Bool) (x : T) → (broken ≡ true → ◌≡◌ {A = Result T Refusal} (Ok x) (Err Broken)) → broken ≡ false
 whole_where_ok {T} true x says = let e : ◌≡◌ {A = Result T Refusal} (Ok x) (Err Broken) = says refl in cc
 whole_where_ok false x says = refl
+
+-- ---- no reply is too long for its frame
+
+pub plain_fits : (reply : Reply) → IsPlain reply → CanBeSent reply
+plain_fits (Shown s) plain = state_can_be_sent s plain
+plain_fits (Written dot) plain = short_can_be_sent (Written dot) refl
+plain_fits Done plain = short_can_be_sent Done refl
+plain_fits (Refused refusal) plain = absurd plain
+
+pub refused_fits : (refusal : Refusal) → CanBeSent (Refused refusal)
+refused_fits refusal = short_can_be_sent (Refused refusal) refl
+
+pub change_fits : (dot : Option DotValue) → CanBeSent (reply_of dot)
+change_fits None = short_can_be_sent Done refl
+change_fits (Some dot) = short_can_be_sent (Written dot) refl

@@ -12,6 +12,7 @@ ghost use Rattle.mvd_keys.specs.State.{IsValid, empty_state};
 ghost use Rattle.mvd_keys.specs.Writes.{Write, Stands, is_empty};
 ghost use Rattle.mvd_wire.specs.declared.request.Request.TheVariants.{Get, Put, Delete, Push};
 ghost use Rattle.mvd_wire.specs.declared.reply.Reply.TheVariants.{Refused};
+ghost use Rattle.mvd_wire.specs.Replies.{CanBeSent};
 ghost use Rattle.mvd_site.specs.Held.{AreHeld, IsHeldState, IsKept, state_at};
 ghost use Rattle.mvd_site.specs.Known.{Adds, Event, IsValidRequest, Tells};
 ghost use Rattle.mvd_site.specs.Prepared.{IsReady, LimitsTo, Prepares, PreparesAt};
@@ -313,6 +314,8 @@ impl Site {
         ensures broken { self.new.broken ≡ true → result ≡ Refused Broken }
         ensures stays { self.old.broken ≡ true → self.new ≡ self.old }
         ensures unchanged { (refusal : Refusal) → result ≡ Refused refusal → refusal ≢ Broken → self.new ≡ self.old }
+        // It is not too long for its frame.
+        ensures fits { CanBeSent result }
     {
         match self.prepare(request) {
             Err(refusal) => Reply::Refused(refusal),

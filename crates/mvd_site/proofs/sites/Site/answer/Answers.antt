@@ -1,7 +1,8 @@
 use Rattle.std.proofs.Common.{◌≡◌, false, Ok, refl, ap, sym, ◌∙◌, subst}
 use Rattle.mvd_site.specs.Prepared.{IsReady, Prepares}
 use Rattle.mvd_site.specs.Sites.{SiteValue, AnswersOne}
-use Rattle.mvd_site.proofs.Outcomes.{whole_where_ok}
+use Rattle.mvd_wire.specs.Replies.{CanBeSent}
+use Rattle.mvd_site.proofs.Outcomes.{change_fits, plain_fits, refused_fits, whole_where_ok}
 use Rattle.mvd_site.proofs.Prepare.{answers_by_answer, answers_by_change}
 use Rattle.mvd_site.proofs.Runs.{fitting}
 use Rattle.mvd_site.proofs.sites.Site.answer.Goals as goal
@@ -25,3 +26,15 @@ returns-in-Ok-Answer-clause-choice c = fitting c.args.request.now c.in-Ok-Answer
 
 pub returns-in-Ok-clause-choice : goal.returns-in-Ok-clause-choice
 returns-in-Ok-clause-choice c = fitting c.args.request.now c.reply-reply.result c.in-Ok-Change.ensures.valid
+
+pub returns-in-Err-clause-fits : goal.returns-in-Err-clause-fits
+returns-in-Err-clause-fits c = refused_fits c.in-Err.refusal
+
+pub returns-in-Ok-Answer-clause-fits : goal.returns-in-Ok-Answer-clause-fits
+returns-in-Ok-Answer-clause-fits c = plain_fits c.in-Ok-Answer.reply (subst (λ p. IsReady c.args.self.now p) c.in-Ok-Answer.field-0-is c.in-Ok-Answer.ensures.ready)
+
+pub returns-in-Ok-clause-fits : goal.returns-in-Ok-clause-fits
+returns-in-Ok-clause-fits c = subst CanBeSent (sym c.reply-reply.ensures) (change_fits c.in-Ok-Change.change.dot)
+
+pub returns-in-Err-install-clause-fits : goal.returns-in-Err-install-clause-fits
+returns-in-Err-install-clause-fits c = refused_fits c.in-Err-install.refusal

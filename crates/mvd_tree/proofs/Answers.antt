@@ -5,15 +5,13 @@ use Rattle.std.proofs.Math.ListN.{get_or-map}
 use Rattle.std.proofs.Math.Nat.{min_comm}
 use Rattle.std.specs.Prelude.{min}
 use Rattle.std.proofs.lemmas.List.{ext_get_or, length-map, take_min}
-use Rattle.std.specs.Cmp.Lexicographic.{nat_list_cmp_total}
-use Rattle.std.specs.FinMap.{get, entries, empty, get-empty, same_map, retain_keys}
+use Rattle.std.specs.FinMap.{entries, empty, retain_keys}
 use Rattle.mvd_tree.specs.HashTree.{KeyDigests, digits, digest_above}
 use Rattle.mvd_tree.specs.Kept.{kept_node, digest_or_zeros}
 use Rattle.mvd_tree.specs.Page.{children_digests, rest_of, is_after}
-use Rattle.mvd_tree.specs.Layout.{IsPath, path_of_one, path_of_two, path_of_three, gathered, AreApart, KeepsLevel, KeepsTree}
-use Rattle.mvd_tree.proofs.Under.{keys_same}
-use Rattle.mvd_tree.proofs.KeptNodes.{digest_above-kept, kept_node-empty}
-use Rattle.mvd_tree.proofs.Gathered.{get-gathered, rest_in_bucket}
+use Rattle.mvd_tree.specs.Layout.{IsPath, path_of_one, path_of_two, path_of_three, gathered, AreApart, KeepsLevel}
+use Rattle.mvd_tree.proofs.KeptNodes.{digest_above-kept}
+use Rattle.mvd_tree.proofs.Gathered.{rest_in_bucket}
 use Rattle.mvd_tree.proofs.Changes.{any_default, by_digits, children_of_two, children_of_one}
 
 -- a path of three digits, read as a number

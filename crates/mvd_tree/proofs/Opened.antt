@@ -1,5 +1,5 @@
 -- A tree that is made at once of keys that rise.
-use Rattle.std.proofs.Common.{◌≡◌, ℕ, zero, suc, ◌*◌, ◌+◌, ◌<◌, Bool, true, false, cond, List, [], ◌∷◌, ◌++◌, length, get_or, set, map, refl, sym, ap, subst, ◌∙◌, arith, Some, None, Option, T}
+use Rattle.std.proofs.Common.{◌≡◌, ℕ, ◌*◌, ◌+◌, Bool, true, false, cond, List, [], ◌∷◌, ◌++◌, length, get_or, set, map, refl, sym, ap, subst, ◌∙◌, arith, Some, None, Option, T}
 use Rattle.std.specs.Prelude.{slice_range}
 use Rattle.std.specs.Option.{option_or}
 use Rattle.std.specs.declared.cmp.Ordering.{Ordering}
@@ -11,7 +11,7 @@ use Rattle.std.specs.FinMap.Entries.{below_all}
 use Rattle.std.proofs.Math.ListN.{get_or-map}
 use Rattle.std.proofs.lemmas.List.{length-map, length-set}
 use Rattle.mvd_tree.specs.HashTree.{KeyDigests}
-use Rattle.mvd_tree.specs.Kept.{kept_node, kept_bucket, kept_inner}
+use Rattle.mvd_tree.specs.Kept.{kept_bucket, kept_inner}
 use Rattle.mvd_tree.specs.Layout.{bucket_of, path_of_one, path_of_two, path_of_three, gathered, AreApart, HoldApart, AreOver, KeepsLevel, KeepsTree}
 use Rattle.mvd_tree.proofs.Under.{keys_same}
 use Rattle.mvd_tree.proofs.Entries.{Entry, order, less, front, back, turned}

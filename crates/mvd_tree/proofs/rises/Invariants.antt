@@ -1,4 +1,4 @@
-use Rattle.std.proofs.Common.{◌≡◌, ℕ, suc, ◌<◌, ◌≤◌, List, get_or, true}
+use Rattle.std.proofs.Common.{◌≡◌, ℕ, suc, ◌<◌, List, get_or, true}
 use Rattle.std.specs.Ordering.{is_lt}
 use Rattle.mvd_keys.specs.Key.{key_cmp}
 use Rattle.mvd_tree.proofs.rises.Given as goal

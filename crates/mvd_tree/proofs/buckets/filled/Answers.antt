@@ -1,4 +1,4 @@
-use Rattle.std.proofs.Common.{◌≡◌, ◌++◌, ◌∷◌, length, sym, ap, subst, ◌∙◌, arith, append_assoc, length-append, ℕ, List, [], T}
+use Rattle.std.proofs.Common.{◌≡◌, ◌++◌, ◌∷◌, sym, ap, subst, ◌∙◌, arith, append_assoc, length-append, ℕ, List, [], T}
 use Rattle.std.specs.FinMap.{is_sorted}
 use Rattle.std.specs.Vec.Iter.{into_iter_items}
 use Rattle.mvd_keys.specs.Key.{key_cmp}

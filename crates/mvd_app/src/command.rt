@@ -16,13 +16,9 @@ pub enum Line<'a> {
 pub enum Command<'a> {
     Ask(Ask<'a>),
     /// `send S K`
-    Send {
-        key: &'a str,
-    },
+    Send { key: &'a str },
     /// `recv S M`
-    Receive {
-        message: u64,
-    },
+    Receive { message: u64 },
 }
 
 /// What the site itself is asked.
@@ -35,9 +31,14 @@ pub enum Ask<'a> {
         document: &'a str,
     },
     /// `del S K CTX`
-    Delete { key: &'a str, context: &'a str },
+    Delete {
+        key: &'a str,
+        context: &'a str,
+    },
     /// `get S K`
-    Get { key: &'a str },
+    Get {
+        key: &'a str,
+    },
 }
 
 /// The line that a text is, if it is one.

@@ -1,5 +1,6 @@
 //! All of a reader's input, up to a limit.
-ghost use Rattle.std.specs.Prelude.{◌≤◌, length, IfOk};
+ghost use Rattle.std.specs.Prelude.{◌≤◌, length, IfErr, IfOk};
+ghost use Rattle.mvd_app.specs.Ends.{EndsEarly};
 
 use crate::fault::Fault;
 use mvd_dots::Refusal;
@@ -7,12 +8,9 @@ use std::alloc::Global;
 use std::io::Read;
 
 /// All that the reader has left: `FrameTooLong` where that is more than `most` bytes.
-pub fn read_input<R: Read>(
-    alloc: Global,
-    reader: &mut R,
-    most: usize,
-) -> Result<Vec<u8>, Fault>
-    ensures { IfOk result (λ bytes. length bytes.items ≤ most) }
+pub fn read_input<R: Read>(alloc: Global, reader: &mut R, most: usize) -> Result<Vec<u8>, Fault>
+    ensures short { IfOk result (λ bytes. length bytes.items ≤ most) }
+    ensures ends { IfErr result EndsEarly }
 {
     let mut bytes = Vec::new(alloc);
     let mut piece = [0u8; 4096];

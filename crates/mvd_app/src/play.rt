@@ -1,5 +1,5 @@
 //! The sites and messages of a script, and what its commands print.
-ghost use Rattle.std.specs.Prelude.{◌<◌, ◌≤◌, IfSome, length};
+ghost use Rattle.std.specs.Prelude.{◌≡◌, ◌<◌, ◌≤◌, IfErr, IfSome, length};
 
 use crate::command::{Ask, Command};
 use mvd_docs::Document;
@@ -44,12 +44,9 @@ impl Play {
     }
 
     /// Runs a command on a site, and prints what it says.
-    pub fn run(
-        &mut self,
-        site: u64,
-        command: Command<'_>,
-        out: &mut String,
-    ) -> Result<(), Refusal> {
+    pub fn run(&mut self, site: u64, command: Command<'_>, out: &mut String) -> Result<(), Refusal>
+        ensures { IfErr result (λ refusal. refusal ≡ Refusal.Memory) }
+    {
         let Some(site) = index_of(self.sites.len(), site) else {
             return none_such(out);
         };
@@ -137,12 +134,7 @@ fn request_of(alloc: Global, site: &mut Site, ask: Ask<'_>) -> Result<Request, R
 }
 
 /// The context of a text; `@` is the context that the site shows for the key now.
-fn context_of(
-    alloc: Global,
-    site: &mut Site,
-    key: &Key,
-    text: &str,
-) -> Result<Context, Refusal> {
+fn context_of(alloc: Global, site: &mut Site, key: &Key, text: &str) -> Result<Context, Refusal> {
     if text == "@" {
         let state = state_of(alloc, site, key)?;
         return state.context().copy();
@@ -159,22 +151,30 @@ fn state_of(alloc: Global, site: &mut Site, key: &Key) -> Result<KeyState, Refus
     }
 }
 
-fn none_such(out: &mut String) -> Result<(), Refusal> {
+fn none_such(out: &mut String) -> Result<(), Refusal>
+    ensures { IfErr result (λ refusal. refusal ≡ Refusal.Memory) }
+{
     out.push_str("none such\n")?;
     Ok(())
 }
 
-fn print_message(number: usize, out: &mut String) -> Result<(), Refusal> {
+fn print_message(number: usize, out: &mut String) -> Result<(), Refusal>
+    ensures { IfErr result (λ refusal. refusal ≡ Refusal.Memory) }
+{
     writeln!(out, "message {number}")?;
     Ok(())
 }
 
-fn print_refusal(refusal: Refusal, out: &mut String) -> Result<(), Refusal> {
+fn print_refusal(refusal: Refusal, out: &mut String) -> Result<(), Refusal>
+    ensures { IfErr result (λ refusal. refusal ≡ Refusal.Memory) }
+{
     writeln!(out, "refused {refusal}")?;
     Ok(())
 }
 
-fn print_reply(reply: &Reply, out: &mut String) -> Result<(), Refusal> {
+fn print_reply(reply: &Reply, out: &mut String) -> Result<(), Refusal>
+    ensures { IfErr result (λ refusal. refusal ≡ Refusal.Memory) }
+{
     match reply {
         Reply::State(state) => print_state(state, out),
         Reply::Written(dot) => {
@@ -192,7 +192,9 @@ fn print_reply(reply: &Reply, out: &mut String) -> Result<(), Refusal> {
 }
 
 /// The context, and then a line for each sibling.
-fn print_state(state: &KeyState, out: &mut String) -> Result<(), Refusal> {
+fn print_state(state: &KeyState, out: &mut String) -> Result<(), Refusal>
+    ensures { IfErr result (λ refusal. refusal ≡ Refusal.Memory) }
+{
     let context = state.context().print()?;
     writeln!(out, "context {context}")?;
     for sibling in state.siblings() {

@@ -1,6 +1,7 @@
 //! Scripts: a line is a command on one of several sites.
-ghost use Rattle.std.specs.Prelude.{◌<◌, ◌≤◌};
+ghost use Rattle.std.specs.Prelude.{◌<◌, ◌≤◌, IfErr};
 ghost use Rattle.std.specs.Option.{ForSome};
+ghost use Rattle.mvd_app.specs.Ends.{EndsEarly};
 
 use crate::command::{Command, Line, line_of};
 use crate::fault::Fault;
@@ -49,7 +50,10 @@ impl Script {
     }
 
     /// Runs one line, without its line feed, which has this number.
-    fn run(&mut self, number: u64, line: &[u8], out: &mut String) -> Result<(), Fault> {
+    fn run(&mut self, number: u64, line: &[u8], out: &mut String) -> Result<(), Fault>
+        requires { 0 < number }
+        ensures { IfErr result EndsEarly }
+    {
         let Ok(text) = str::from_utf8(line) else {
             return Err(Fault::Line(number));
         };
@@ -98,12 +102,9 @@ impl Script {
     }
 
     /// Runs a command, and whether there were head lines before it.
-    fn command(
-        &mut self,
-        site: u64,
-        command: Command<'_>,
-        out: &mut String,
-    ) -> Result<bool, Fault> {
+    fn command(&mut self, site: u64, command: Command<'_>, out: &mut String) -> Result<bool, Fault>
+        ensures { IfErr result EndsEarly }
+    {
         if self.play.is_none() {
             let Some(head) = self.head else {
                 return Ok(false);
@@ -125,18 +126,16 @@ impl Script {
 ///
 /// It ends as `Line` at the first line that is not a command, or is no UTF-8, and as `Stopped` where the script has over
 /// 16,777,216 bytes, the reader or the writer fails, or memory is refused. What was printed before stays.
-pub fn sim<R: Read, W: Write>(
-    alloc: Global,
-    reader: &mut R,
-    writer: &mut W,
-) -> Result<(), Fault> {
+pub fn sim<R: Read, W: Write>(alloc: Global, reader: &mut R, writer: &mut W) -> Result<(), Fault>
+    ensures { IfErr result EndsEarly }
+{
     let bytes = read_input(alloc, reader, SCRIPT_MAX)?;
     let mut script = Script::new(alloc);
     let mut out = String::new(alloc);
-    let mut number: u64 = 0;
+    let mut number: u64 = 1;
     for line in bytes.split(|byte| *byte == b'\n') {
-        number = number.saturating_add(1);
         let ran = script.run(number, line, &mut out);
+        number = number.saturating_add(1);
         if ran.is_err() || out.len() >= PIECE {
             write_out(writer, out.as_str())?;
             out.clear();
@@ -146,7 +145,9 @@ pub fn sim<R: Read, W: Write>(
     write_out(writer, out.as_str())
 }
 
-fn write_out<W: Write>(writer: &mut W, text: &str) -> Result<(), Fault> {
+fn write_out<W: Write>(writer: &mut W, text: &str) -> Result<(), Fault>
+    ensures { IfErr result EndsEarly }
+{
     match writer.write_all(text.as_bytes()) {
         Ok(()) => Ok(()),
         Err(_) => Err(Fault::Stopped(Refusal::WriteFailed)),

@@ -66,6 +66,7 @@ held_none es none = record {
   where
     not_some : (s : State) → ◌≡◌ {A = Option State} None (Some s) → ⊥
     not_some s e = cc
+
     nothing : (key : Key) (s : State) → get (from_entries {R = key_cmp} es) key ≡ Some s → ⊥
     nothing key s found = not_some s (sym (get-empty key_cmp key) ∙ ap (λ l. get (from_entries {R = key_cmp} l) key) (sym none) ∙ found)
 

@@ -235,12 +235,7 @@ impl Site {
     }
 
     /// Whether the key is held, and its state or the empty one. This is one look.
-    fn look<'a>(
-        &'a self,
-        key: &Key,
-        empty: &'a KeyState,
-        looks: &mut u64,
-    ) -> (bool, &'a KeyState)
+    fn look<'a>(&'a self, key: &Key, empty: &'a KeyState, looks: &mut u64) -> (bool, &'a KeyState)
         requires few { looks.old ≤ 2 ^ 63 }
         requires empty { empty.now ≡ empty_state }
         ensures is_held { result.0 ≡ is_some (map.get self.now.states key.now) }

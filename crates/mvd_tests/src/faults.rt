@@ -35,7 +35,10 @@ fn lines_that_are_no_commands(rt: HostRuntime) -> Result<(), Fail> {
         let mut reader = script.as_bytes();
         let mut out = Vec::new(rt.alloc());
         let ended = sim(rt.alloc(), &mut reader, &mut out);
-        assert!(rt; matches!(&ended, Err(Fault::Line(line)) if *line == number), "{script}");
+        assert!(rt;
+            matches!(&ended, Err(Fault::Line(line)) if *line == number),
+            "{script}"
+        );
         assert_eq!(rt; out.as_slice(), wanted.as_bytes(), "{script}");
     }
     Ok(())

@@ -27,7 +27,10 @@ fn keys_and_documents_at_their_limits(rt: HostRuntime) -> Result<(), Fail> {
     push_put(&mut script, 65_528)?;
     push_put(&mut script, 65_529)?;
     let out = printed(rt.alloc(), script.as_str())?;
-    assert_eq!(rt; out.as_str(), "dot 1:1\nrefused 1 BadKey\ndot 1:1\nrefused 6 DocumentTooLong\n");
+    assert_eq!(rt;
+        out.as_str(),
+        "dot 1:1\nrefused 1 BadKey\ndot 1:1\nrefused 6 DocumentTooLong\n"
+    );
     Ok(())
 }
 
@@ -59,6 +62,9 @@ fn a_long_script(rt: HostRuntime) -> Result<(), Fail> {
         writeln!(&mut script, "get 2 k{key}")?;
     }
     let out = printed(rt.alloc(), script.as_str())?;
-    assert!(rt; out.as_str().ends_with("message 25000\nok\ncontext 1:25\n1:25 {\"n\":24999}\n"));
+    assert!(rt;
+        out.as_str()
+            .ends_with("message 25000\nok\ncontext 1:25\n1:25 {\"n\":24999}\n")
+    );
     Ok(())
 }

@@ -22,8 +22,9 @@ fn get(alloc: Global, key: &str) -> Result<Request, Refusal> {
 /// Whether the reply shows a state of this context and so many siblings.
 fn shows(reply: &Reply, context: &str, siblings: usize) -> Result<bool, Refusal> {
     match reply {
-        Reply::State(state) => Ok(state.context().print()?.as_str() == context
-            && state.siblings().len() == siblings),
+        Reply::State(state) => Ok(
+            state.context().print()?.as_str() == context && state.siblings().len() == siblings,
+        ),
         _ => Ok(false),
     }
 }

@@ -132,10 +132,10 @@ pub fn sim<R: Read, W: Write>(alloc: Global, reader: &mut R, writer: &mut W) -> 
     let bytes = read_input(alloc, reader, SCRIPT_MAX)?;
     let mut script = Script::new(alloc);
     let mut out = String::new(alloc);
-    let mut number: u64 = 1;
+    let mut number: u64 = 0;
     for line in bytes.split(|byte| *byte == b'\n') {
-        let ran = script.run(number, line, &mut out);
         number = number.saturating_add(1);
+        let ran = script.run(number, line, &mut out);
         if ran.is_err() || out.len() >= PIECE {
             write_out(writer, out.as_str())?;
             out.clear();

@@ -1,11 +1,9 @@
 //! Stored states, as tables of a database.
 #![tactic(auto)]
 
-mod open;
+mod loading;
 mod pairs;
 mod records;
 mod statements;
-#[cfg(test)]
-mod tests;
 
 pub use records::Records;

@@ -1,49 +1,58 @@
-ghost use Rattle.std.specs.Prelude.{◌≡◌, ◌++◌, ◌∷◌, [], map, IfOk, T};
+//! Keys with their states, as rows show them.
+ghost use Rattle.std.specs.Prelude.{◌≡◌, ◌++◌, ◌∷◌, [], ◌⊎◌, true, IfOk, IfErr, OnOk, T};
 ghost use Rattle.std.specs.Ordering.{nat_cmp};
 ghost use Rattle.std.specs.Cmp.Lexicographic.{slice_cmp};
 ghost use Rattle.std.specs.FinMap.{is_sorted};
 ghost use Rattle.sqlite.specs.Order.{bytes, column};
+ghost use Rattle.mvd_keys.specs.Key.{is_key};
 ghost use Rattle.mvd_records.specs.States.{shown_entry};
-ghost use Rattle.mvd_records.specs.Pairs.{entries_of};
+ghost use Rattle.mvd_records.specs.Pairs.{entries_of, IsPair, rises};
 
-use mvd_keys::Key;
 use mvd_dots::Refusal;
-use sqlite::{Error, ErrorCode, Row};
+use mvd_keys::Key;
+use sqlite::Row;
+use sqlite::types::ValueRef;
 use std::alloc::Global;
 
-fn refusal_of(error: Error) -> Refusal {
-    match error {
-        Error::SqliteFailure(ErrorCode::OutOfMemory) => Refusal::Memory,
-        _ => Refusal::Damaged,
-    }
-}
-
 fn key_in(alloc: Global, row: &Row) -> Result<Key, Refusal>
-    ensures { IfOk result (λ key. key ≡ bytes (column row.now 0)) }
+    ensures ok { IfOk result (λ key. key ≡ bytes (column row.now 0)) }
+    ensures form { IfOk result (λ key. is_key key ≡ true) }
+    ensures damaged { IfErr result (λ e. e ≡ Refusal.Damaged → ¬ IsPair row.now) }
+    ensures which { IfErr result (λ e. (e ≡ Refusal.Damaged) ⊎ (e ≡ Refusal.Memory)) }
 {
-    let text: String = match row.get(0) {
-        Ok(text) => text,
-        Err(error) => return Err(refusal_of(error)),
+    let Ok(ValueRef::Text(text)) = row.get_ref(0) else {
+        return Err(Refusal::Damaged);
     };
-    match Key::read(alloc, text.as_str()) {
-        Ok(key) => Ok(key),
+    let Ok(text) = std::str::from_utf8(text) else {
+        return Err(Refusal::Damaged);
+    };
+    match Key::read(alloc, text) {
+        Ok(key) => {
+            let _text = key.text();
+            Ok(key)
+        }
         Err(Refusal::Memory) => Err(Refusal::Memory),
         Err(_) => Err(Refusal::Damaged),
     }
 }
 
-fn bytes_in(row: &Row) -> Result<Vec<u8>, Refusal>
-    ensures { IfOk result (λ all. all.items ≡ bytes (column row.now 1)) }
+fn bytes_in(alloc: Global, row: &Row) -> Result<Vec<u8>, Refusal>
+    ensures ok { IfOk result (λ all. all.items ≡ bytes (column row.now 1)) }
+    ensures damaged { IfErr result (λ e. e ≡ Refusal.Damaged → ¬ IsPair row.now) }
+    ensures which { IfErr result (λ e. (e ≡ Refusal.Damaged) ⊎ (e ≡ Refusal.Memory)) }
 {
-    match row.get(1) {
+    let Ok(ValueRef::Blob(bytes)) = row.get_ref(1) else {
+        return Err(Refusal::Damaged);
+    };
+    match Vec::from_slice(alloc, bytes) {
         Ok(bytes) => Ok(bytes),
-        Err(error) => Err(refusal_of(error)),
+        Err(_) => Err(Refusal::Memory),
     }
 }
 
 /// Whether the key is greater than the last one.
 fn is_above(pairs: &[(Key, Vec<u8>)], key: &Key) -> bool
-    ensures { (state : _) → T (is_sorted (slice_cmp nat_cmp) (entries_of pairs.now)) → is_sorted (slice_cmp nat_cmp) (entries_of pairs.now ++ (key.now, state) ∷ []) ≡ result }
+    ensures { (state : _) → rises (entries_of pairs.now) → is_sorted (slice_cmp nat_cmp) (entries_of pairs.now ++ (key.now, state) ∷ []) ≡ result }
 {
     match pairs.last() {
         None => true,
@@ -51,28 +60,25 @@ fn is_above(pairs: &[(Key, Vec<u8>)], key: &Key) -> bool
     }
 }
 
-/// The keys and states that the rows show, where each key is greater than the one before.
-pub fn pairs_in(alloc: Global, rows: &[Row]) -> Result<Vec<(Key, Vec<u8>)>, Refusal>
-    ensures entries { IfOk result (λ pairs. entries_of pairs.items ≡ map shown_entry rows.now) }
-    ensures rising { IfOk result (λ pairs. T (is_sorted (slice_cmp nat_cmp) (entries_of pairs.items))) }
+/// Adds the key and the state that the row shows. It is refused where the row shows none, or the key is not above the last.
+pub fn push_row(
+    alloc: Global,
+    pairs: &mut Vec<(Key, Vec<u8>)>,
+    row: &Row,
+) -> Result<(), Refusal>
+    ensures pushed { OnOk result (entries_of pairs.new.items ≡ entries_of pairs.old.items ++ shown_entry row.now ∷ []) }
+    ensures form { OnOk result (is_key (bytes (column row.now 0)) ≡ true) }
+    ensures rising { rises (entries_of pairs.old.items) → OnOk result (rises (entries_of pairs.new.items)) }
+    ensures damaged { rises (entries_of pairs.old.items) → IfErr result (λ e. e ≡ Refusal.Damaged → IsPair row.now → ¬ rises (entries_of pairs.old.items ++ shown_entry row.now ∷ [])) }
+    ensures which { IfErr result (λ e. (e ≡ Refusal.Damaged) ⊎ (e ≡ Refusal.Memory)) }
 {
-    let mut pairs: Vec<(Key, Vec<u8>)> = Vec::new(alloc);
-    for row in rows {
-        let key = key_in(alloc, row)?;
-        let bytes = bytes_in(row)?;
-        if !is_above(&pairs, &key) {
-            return Err(Refusal::Damaged);
-        }
-        if pairs.push((key, bytes)).is_err() {
-            return Err(Refusal::Memory);
-        }
+    let key = key_in(alloc, row)?;
+    let bytes = bytes_in(alloc, row)?;
+    if !is_above(pairs, &key) {
+        return Err(Refusal::Damaged);
     }
-    Ok(pairs)
-}
-
-/// Whether a key stands in both lists, whose keys rise.
-pub fn shares_key(left: &[(Key, Vec<u8>)], right: &[(Key, Vec<u8>)]) -> bool {
-    left.iter().any(|a| right
-        .binary_search_by(|b| b.0.text().cmp(a.0.text()))
-        .is_ok())
+    match pairs.push((key, bytes)) {
+        Ok(()) => Ok(()),
+        Err(_) => Err(Refusal::Memory),
+    }
 }

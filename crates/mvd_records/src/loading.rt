@@ -1,5 +1,5 @@
 //! The rows of the tables of states, read one at a time.
-ghost use Rattle.std.specs.Prelude.{◌≡◌, ◌⊎◌, [], ⊥, IsTrue, true, false, map, IfOk, IfErr, OnOk, OnErr};
+ghost use Rattle.std.specs.Prelude.{◌≡◌, ◌⊎◌, [], IsTrue, true, false, map, IfOk, IfErr, OnOk, OnErr};
 ghost use Rattle.std.specs.List.{AllByRecursion};
 ghost use Rattle.sqlite.specs.Held.{state};
 ghost use Rattle.sqlite.specs.State.{HasCleanDisk, KeepsCommit, Survives, Shown, Begins};
@@ -35,13 +35,18 @@ pub fn read_pairs<S: Alter>(
         Err(_) => return Err(Refusal::Store),
     };
     'rows: for _ in 0..u64::MAX {
-        if rows.advance().is_err() {
-            return Err(Refusal::Store);
+        match rows.advance() {
+            Ok(()) => {}
+            Err(_) => return Err(Refusal::Store),
         }
-        let Some(row) = rows.get() else {
-            return Ok(pairs);
+        let row = match rows.get() {
+            Some(row) => row,
+            None => return Ok(pairs),
         };
-        push_row(alloc, &mut pairs, row)?;
+        match push_row(alloc, &mut pairs, row) {
+            Ok(()) => {}
+            Err(refusal) => return Err(refusal),
+        }
     }
     Err(Refusal::Memory)
 }

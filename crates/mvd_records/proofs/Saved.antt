@@ -15,7 +15,7 @@ use Rattle.sqlite.specs.Listing.{understood}
 use Rattle.sqlite.proofs.Callers.{runs_as, statement_of}
 use Rattle.mvd_records.specs.Tables.{all_tables, new_states}
 use Rattle.mvd_records.specs.States.{states_in, AreMarks}
-use Rattle.mvd_records.specs.Records.{IsSettled, IsSound, HasTables, HoldsRecords, SavesState, AreOf, rows_at}
+use Rattle.mvd_records.specs.Records.{IsSettled, IsSound, HasTables, HoldsRecords, SavesState, Leaves, rows_at}
 use Rattle.mvd_records.specs.Records as maps
 use Rattle.mvd_records.proofs.Rows.{state_of, states_set}
 use Rattle.mvd_records.proofs.Rules.{AreStates, apart_in, new_states_of}
@@ -68,9 +68,9 @@ saved_now version site old new key state count settled holds h =
     (subst (HoldsRecords version site) (sym committed) it.0, subst (λ d. SavesState d new.committed key state) now (subst (λ d. SavesState old.now d key state) (sym committed) it.1))
 
 -- what a crash may leave of the statement
-pub saved_then : (version site : ℕ) (old : State) (key state : List ℕ) (trees : Trees) → IsSettled old → IsTrue old.is_open → HoldsRecords version site old.committed → CommitsBy save_text (Text key ∷ Blob state ∷ []) old trees
-    → AreOf (λ db. HoldsRecords version site db × SavesState old.committed db key state) trees
-saved_then version site old key state trees settled was holds h =
+pub saved_then : (old : State) (key state : List ℕ) (trees : Trees) → IsSettled old → CommitsBy save_text (Text key ∷ Blob state ∷ []) old trees
+    → Leaves old (λ version site db. HoldsRecords version site db × SavesState old.committed db key state) trees
+saved_then old key state trees settled h version site was holds =
     let now : old.now ≡ old.committed = settled.settled was in
     let here = subst (HoldsRecords version site) (sym now) holds in
     let may = commits_as save_text (Text key ∷ Blob state ∷ []) old all_tables here.tables.schema save_command save_is save_plain trees h in

@@ -2,7 +2,7 @@
 ghost use Rattle.std.specs.Prelude.{◌≡◌, ◌⊎◌, ◌≤◌, IsTrue, IfErr, IfOk, OnOk, OnErr};
 ghost use Rattle.sqlite.specs.Held.{state};
 ghost use Rattle.sqlite.specs.State.{HasCleanDisk, Survives};
-ghost use Rattle.mvd_records.specs.Records.{IsSound, HoldsRecords, SavesState, AreOf};
+ghost use Rattle.mvd_records.specs.Records.{IsSound, HoldsRecords, SavesState, Leaves};
 
 use crate::statements;
 use mvd_dots::Refusal;
@@ -36,7 +36,7 @@ impl<S: Alter> Records<S> {
         ensures unchanged { IsSound (state S.Store self.new.conn) → OnErr result ((state S.Store self.new.conn).committed ≡ (state S.Store self.old.conn).committed) }
         ensures refusal { IfErr result (λ e. e ≡ Refusal.Store) }
         ensures version { self.new.version ≡ self.old.version }
-        ensures survives { (version site : _) → IsTrue (state S.Store self.old.conn).is_open → HoldsRecords version site (state S.Store self.old.conn).committed → Survives (state S.Store self.old.conn) (state S.Store self.new.conn) (AreOf (λ db. HoldsRecords version site db × SavesState (state S.Store self.old.conn).committed db key.now bytes.now)) }
+        ensures survives { Survives (state S.Store self.old.conn) (state S.Store self.new.conn) (Leaves (state S.Store self.old.conn) (λ version site db. HoldsRecords version site db × SavesState (state S.Store self.old.conn).committed db key.now bytes.now)) }
     {
         statements::save(&mut self.conn, key.text(), bytes)
     }

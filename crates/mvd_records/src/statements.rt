@@ -1,7 +1,9 @@
-ghost use Rattle.std.specs.Prelude.{◌≡◌, IsTrue, IfErr, OnOk, OnErr};
+ghost use Rattle.std.specs.Prelude.{◌≡◌, ◌≢◌, ◌⊎◌, [], IsTrue, IfErr, IfOk, MatchBool, OnOk, OnErr};
 ghost use Rattle.sqlite.specs.Held.{state};
-ghost use Rattle.sqlite.specs.State.{HasCleanDisk, Survives};
-ghost use Rattle.mvd_records.specs.Records.{IsSettled, IsSound, HoldsRecords, SavesState, AreOf};
+ghost use Rattle.sqlite.specs.State.{HasCleanDisk, KeepsCommit, Shown, Survives, CommitsShowing};
+ghost use Rattle.sqlite.specs.Given.{IsPlain};
+ghost use Rattle.sqlite.specs.Listing.{understood};
+ghost use Rattle.mvd_records.specs.Records.{IsSettled, IsSound, HoldsRecords, SavesState, Leaves, OnlyReads, HasNone, AreDisjoint, AreApart, old_states, new_states};
 
 use mvd_dots::Refusal;
 use sqlite::{Alter, Connection, params};
@@ -22,7 +24,7 @@ pub fn save<S: Alter>(conn: &mut Connection<S>, key: &str, bytes: &[u8]) -> Resu
     ensures saved { (version site : _) → IsSound (state S.Store conn.new) → HoldsRecords version site (state S.Store conn.old).committed → OnOk result (SavesState (state S.Store conn.old).committed (state S.Store conn.new).committed key.now bytes.now) }
     ensures unchanged { IsSound (state S.Store conn.new) → OnErr result ((state S.Store conn.new).committed ≡ (state S.Store conn.old).committed) }
     ensures refusal { IfErr result (λ e. e ≡ Refusal.Store) }
-    ensures survives { (version site : _) → IsTrue (state S.Store conn.old).is_open → HoldsRecords version site (state S.Store conn.old).committed → Survives (state S.Store conn.old) (state S.Store conn.new) (AreOf (λ db. HoldsRecords version site db × SavesState (state S.Store conn.old).committed db key.now bytes.now)) }
+    ensures survives { Survives (state S.Store conn.old) (state S.Store conn.new) (Leaves (state S.Store conn.old) (λ version site db. HoldsRecords version site db × SavesState (state S.Store conn.old).committed db key.now bytes.now)) }
 {
     if !is_settled(conn) {
         return Err(Refusal::Store);
@@ -33,5 +35,72 @@ pub fn save<S: Alter>(conn: &mut Connection<S>, key: &str, bytes: &[u8]) -> Resu
     ) {
         Ok(_) => Ok(()),
         Err(_) => Err(Refusal::Store),
+    }
+}
+
+/// Whether a query shows a row.
+fn shows_any<S: Alter>(conn: &mut Connection<S>, sql: &str) -> Result<bool, Refusal>
+    ensures before { IsSound (state S.Store conn.new) → IsSound (state S.Store conn.old) }
+    ensures open { HasCleanDisk (state S.Store conn.new) → OnOk result (IsTrue (state S.Store conn.new).is_open) }
+    ensures shown { HasCleanDisk (state S.Store conn.new) → IfOk result (λ any. (rows : _) × Shown sql.now [] (state S.Store conn.old) (state S.Store conn.new) rows × MatchBool any (rows ≢ []) (rows ≡ [])) }
+    ensures kept { HasCleanDisk (state S.Store conn.new) → IsPlain (understood (state S.Store conn.old).now.schema sql.now) → KeepsCommit (state S.Store conn.old) (state S.Store conn.new) }
+    ensures refusal { IfErr result (λ e. e ≡ Refusal.Store) }
+    ensures survives { Survives (state S.Store conn.old) (state S.Store conn.new) (CommitsShowing sql.now [] (state S.Store conn.old)) }
+{
+    match conn.query_all(sql, &[]) {
+        Ok(rows) => Ok(!rows.is_empty()),
+        Err(_) => Err(Refusal::Store),
+    }
+}
+
+/// Whether an old key is left.
+pub fn has_old<S: Alter>(conn: &mut Connection<S>) -> Result<bool, Refusal>
+    ensures reads { OnlyReads (state S.Store conn.old) (state S.Store conn.new) }
+    ensures open { HasCleanDisk (state S.Store conn.new) → OnOk result (IsTrue (state S.Store conn.new).is_open) }
+    ensures any { (version site : _) → IsSound (state S.Store conn.new) → HoldsRecords version site (state S.Store conn.old).committed → IfOk result (λ any. MatchBool any (¬ HasNone (old_states (state S.Store conn.old).committed)) (HasNone (old_states (state S.Store conn.old).committed))) }
+    ensures refusal { IfErr result (λ e. e ≡ Refusal.Store) }
+{
+    if !is_settled(conn) {
+        return Err(Refusal::Store);
+    }
+    shows_any(conn, "SELECT key FROM states LIMIT 1")
+}
+
+/// Whether a key is in both maps.
+fn has_both<S: Alter>(conn: &mut Connection<S>) -> Result<bool, Refusal>
+    ensures reads { OnlyReads (state S.Store conn.old) (state S.Store conn.new) }
+    ensures open { HasCleanDisk (state S.Store conn.new) → OnOk result (IsTrue (state S.Store conn.new).is_open) }
+    ensures any { (version site : _) → IsSound (state S.Store conn.new) → HoldsRecords version site (state S.Store conn.old).committed → IfOk result (λ any. MatchBool any (¬ AreDisjoint (old_states (state S.Store conn.old).committed) (new_states (state S.Store conn.old).committed)) (AreDisjoint (old_states (state S.Store conn.old).committed) (new_states (state S.Store conn.old).committed))) }
+    ensures refusal { IfErr result (λ e. e ≡ Refusal.Store) }
+{
+    if !is_settled(conn) {
+        return Err(Refusal::Store);
+    }
+    shows_any(
+        conn,
+        "SELECT states.key FROM states, states2 WHERE states.key = states2.key LIMIT 1",
+    )
+}
+
+/// Refuses a key in both maps, and in version 2 an old key.
+pub fn check<S: Alter>(conn: &mut Connection<S>, version: u32) -> Result<(), Refusal>
+    ensures reads { OnlyReads (state S.Store conn.old) (state S.Store conn.new) }
+    ensures open { HasCleanDisk (state S.Store conn.new) → OnOk result (IsTrue (state S.Store conn.new).is_open) }
+    ensures apart { (marked site : _) → IsSound (state S.Store conn.new) → HoldsRecords marked site (state S.Store conn.old).committed → OnOk result (AreApart version (old_states (state S.Store conn.old).committed) (new_states (state S.Store conn.old).committed)) }
+    ensures damaged { (marked site : _) → IsSound (state S.Store conn.new) → HoldsRecords marked site (state S.Store conn.old).committed → IfErr result (λ e. e ≡ Refusal.Damaged → ¬ AreApart version (old_states (state S.Store conn.old).committed) (new_states (state S.Store conn.old).committed)) }
+    ensures refusal { IfErr result (λ e. (e ≡ Refusal.Damaged) ⊎ (e ≡ Refusal.Store)) }
+{
+    if version == 2 {
+        match has_old(conn) {
+            Ok(false) => Ok(()),
+            Ok(true) => Err(Refusal::Damaged),
+            Err(refusal) => Err(refusal),
+        }
+    } else {
+        match has_both(conn) {
+            Ok(false) => Ok(()),
+            Ok(true) => Err(Refusal::Damaged),
+            Err(refusal) => Err(refusal),
+        }
     }
 }

@@ -48,7 +48,7 @@ asked q db rows a kept shown = (
       shown ∙ ap (λ (os : List Output). take 1 (drop 0 (map (λ (o : Output). o.1) os))) empty),
 )
 
-one_each : {A B : Type 0} (f : A → B) (xs : List A) → flat_map (λ x. f x ∷ []) xs ≡ map f xs
+pub one_each : {A B : Type 0} (f : A → B) (xs : List A) → flat_map (λ x. f x ∷ []) xs ≡ map f xs
 one_each f [] = refl
 one_each f (x ∷ xs) = ap (λ l. f x ∷ l) (one_each f xs)
 

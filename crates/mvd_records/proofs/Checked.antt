@@ -1,5 +1,5 @@
 -- What a call leaves that reads the records.
-use Rattle.std.proofs.Common.{◌≡◌, ◌≢◌, ◌≤◌, ◌⊎◌, inl, inr, ℕ, List, ◌∷◌, [], Bool, true, false, IsTrue, MatchBool, Result, Ok, Err, IfOk, refl, sym, ap, subst, ◌∙◌, arith}
+use Rattle.std.proofs.Common.{◌≡◌, ◌≢◌, ◌≤◌, ◌⊎◌, inl, inr, ℕ, List, ◌∷◌, [], Bool, true, false, IsTrue, MatchBool, Result, Ok, Err, IfOk, IfErr, OnOk, refl, sym, ap, subst, ◌∙◌, arith}
 use Rattle.std.specs.Bool.{MatchBool}
 use Rattle.sqlite.specs.Order.{Row}
 use Rattle.sqlite.specs.Tree.{Trees}
@@ -103,3 +103,19 @@ pub if_ok : {X E : Type 0} (r : Result X E) (P Q : X → Type 0) → ((x : X) �
 if_ok (Ok x) P Q f h = f x h
 if_ok (Err e) P Q f h = tt
 
+
+pub if_both : {X E : Type 0} (r : Result X E) (P Q R : X → Type 0) → ((x : X) → P x → Q x → R x) → IfOk r P → IfOk r Q → IfOk r R
+if_both (Ok x) P Q R f h k = f x h k
+if_both (Err e) P Q R f h k = tt
+
+pub if_err : {X E : Type 0} (r : Result X E) (P Q : E → Type 0) → ((e : E) → P e → Q e) → IfErr r P → IfErr r Q
+if_err (Ok x) P Q f h = tt
+if_err (Err e) P Q f h = f e h
+
+pub on_ok : {X E : Type 0} (r : Result X E) (P Q : X → Type 0) (R : Type 0) → ((x : X) → P x → Q x → R) → IfOk r P → IfOk r Q → OnOk r R
+on_ok (Ok x) P Q R f h k = f x h k
+on_ok (Err e) P Q R f h k = tt
+
+-- the text is plain under the schema that it meets
+pub plain_at : (sql : List ℕ) (version site : ℕ) (old : State) → IsPlain (understood all_tables sql) → IsSettled old → IsTrue old.is_open → HoldsRecords version site old.committed → IsPlain (understood old.now.schema sql)
+plain_at sql version site old plain settled was holds = subst (λ s. IsPlain (understood s sql)) (sym (met_schema version site old settled was holds)) plain

@@ -1,10 +1,13 @@
 -- A query whose rows are read one at a time.
-use Rattle.std.proofs.Common.{◌≡◌, ◌⊎◌, inl, inr, ℕ, List, ◌∷◌, [], ◌++◌, Option, None, Some, Ok, Err, Result, refl, sym, ap, subst, ◌∙◌, true, map}
+use Rattle.std.proofs.Common.{◌≡◌, ◌⊎◌, inl, inr, ℕ, List, ◌∷◌, [], ◌++◌, Option, None, Some, Ok, Err, Result, refl, sym, ap, subst, ◌∙◌, true, map, IsTrue}
 use Rattle.sqlite.specs.Order.{Row}
 use Rattle.sqlite.specs.Effect.{Database}
 use Rattle.sqlite.specs.Listing.{understood, reads_listing, IsSourceOf}
 use Rattle.sqlite.specs.State.{State, HasCleanDisk, IsStatement, IsUnchanged, IsRolledBack, KeepsCommit, ShowsRows, Shown, Begins, Survives, CommitsShowing, Fails}
-use Rattle.sqlite.specs.Given.{IsPlain}
+use Rattle.sqlite.specs.Given.{IsPlain, HasBegun}
+use Rattle.sqlite_trees.specs.declared.store.Store.{Ghosts}
+use Rattle.sqlite.specs.Held.{Held, state}
+use Rattle.mvd_records.proofs.Calls.{shown_open}
 use Rattle.sqlite.specs.Clock.{timed}
 use Rattle.sqlite.specs.declared.error.Error.{Error}
 use Rattle.sqlite.proofs.Callers.{unchanged_then, never_commits}
@@ -55,3 +58,8 @@ one_more rows row = map-append shown_entry rows (row ∷ [])
 pub all_form : (entries : List (List ℕ × List ℕ)) (e : List ℕ × List ℕ) → AllByRecursion (λ x. is_key x.0 ≡ true) entries → is_key e.0 ≡ true → AllByRecursion (λ (x : List ℕ × List ℕ). is_key x.0 ≡ true) (entries ++ e ∷ [])
 all_form [] e all last = (last, tt)
 all_form (x ∷ entries) e all last = (all.0, all_form entries e all.1 last)
+
+-- a query that has begun found the store open
+pub begun_open : {S : Type 0} (g : Ghosts S) (sql : List ℕ) (params : Row) (old new : Held S) → HasBegun g sql params old new → IsTrue (state g old).is_open
+begun_open g sql params old new (inl h) = h.1.0.was_open
+begun_open g sql params old new (inr h) = shown_open sql params (state g old) (state g new) _ h.1

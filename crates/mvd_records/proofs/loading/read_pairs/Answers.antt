@@ -11,8 +11,8 @@ use Rattle.sqlite.specs.Given.{Advances, row_if}
 use Rattle.sqlite.proofs.StateLemmas.{survives_then}
 use Rattle.sqlite.proofs.Callers.{unchanged_then}
 use Rattle.mvd_records.specs.States.{shown_entry}
-use Rattle.mvd_records.proofs.Calls.{not_shown}
-use Rattle.mvd_records.proofs.Streams.{commits_nothing, shown_since, begins_since, not_pairs, one_more, all_form}
+use Rattle.mvd_records.proofs.Calls.{not_shown, sound_before}
+use Rattle.mvd_records.proofs.Streams.{begun_open, shown_since, begins_since, not_pairs, one_more, all_form}
 use Rattle.mvd_records.proofs.loading.read_pairs.Goals as goal
 
 pub returns-in-Err-clause-kept : goal.returns-in-Err-clause-kept
@@ -23,20 +23,29 @@ returns-in-Err-clause-kept g c clean plain =
     let failed : FailsToQuery c.args.sql.now [] old new c.in-Err.field-0 = search rules in
     not_shown _ _ old new c.in-Err.field-0 failed
 
-pub returns-in-Err-clause-survives : goal.returns-in-Err-clause-survives
-returns-in-Err-clause-survives g c plain =
+pub returns-in-Err-clause-before : goal.returns-in-Err-clause-before
+returns-in-Err-clause-before g c =
     let old = state g.S.Store c.args.conn.now in
     let new = state g.S.Store c.query.follows.lender-at-none in
     let held = c.query.follows.holds-at-none in
     let kept : Survives old new (CommitsShowing c.args.sql.now [] old) = search rules in
-    commits_nothing c.args.sql.now [] old new plain kept
+    let failed : HasCleanDisk new → FailsToQuery c.args.sql.now [] old new c.in-Err.field-0 = search rules in
+    sound_before old new kept.clean (λ clean. not_shown _ _ old new c.in-Err.field-0 (failed clean))
+
+pub returns-in-Err-clause-survives : goal.returns-in-Err-clause-survives
+returns-in-Err-clause-survives g c =
+    let old = state g.S.Store c.args.conn.now in
+    let new = state g.S.Store c.query.follows.lender-at-none in
+    let held = c.query.follows.holds-at-none in
+    let kept : Survives old new (CommitsShowing c.args.sql.now [] old) = search rules in kept
 
 pub rows-init : goal.rows-init
 rows-init g c =
     let made = c.in-Ok.ensures in
     record {
       lender = refl;
-      survives = λ plain. commits_nothing _ _ _ _ plain made.survives;
+      before = λ it. record { clean = omega (arith, made.survives.clean, it.clean); is_open = begun_open g.S.Store c.args.sql.now [] c.args.conn.now c.in-Ok.rows.conn.now (made.begun it.clean) };
+      survives = made.survives;
       given = λ plain clean. (let begun = begun_plain g.S.Store _ _ c.args.conn.now _ plain (made.begun clean) in ([], begun.0, begun.1, rw c.new-pairs.ensures.items refl));
       form = rw c.new-pairs.ensures.items tt;
       rising = rw c.new-pairs.ensures.items tt;
@@ -77,7 +86,8 @@ rows-preserved g c =
     let pushed = c.in-Ok-push_row.ensures in
     record {
       lender = moved.same_reference ∙ c.rows.invariant.lender;
-      survives = λ plain. survives_then old (state g.S.Store before) (state g.S.Store now) _ _ (λ _. ⊥) (λ _ db none. none) (λ _ db none. none) (c.rows.invariant.survives plain) moved.survives;
+      before = λ it. c.rows.invariant.before (record { clean = omega (arith, moved.survives.clean, it.clean); is_open = (moved.same it.clean).0.was_open });
+      survives = survives_then old (state g.S.Store before) (state g.S.Store now) _ _ (CommitsShowing c.args.sql.now [] old) (λ _ db it. it) (λ _ db none. absurd none) c.rows.invariant.survives moved.survives;
       given = λ plain late. (let was = c.rows.invariant.given plain (omega (arith, moved.survives.clean)) in
           let some : row_if c.advance.new.self.has_row now ≡ Some c.in-Some.row.now = sym c.get.ensures ∙ ap option_copied c.in-Some.is in
           let given = subst (Advances g.S.Store before now) some (moved.ok late) c.args.sql.now [] was.0 was.1 in

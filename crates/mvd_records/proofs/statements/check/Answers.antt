@@ -1,4 +1,4 @@
-use Rattle.mvd_records.proofs.Ordered.{shown_pairs}
+use Rattle.mvd_records.proofs.Loaded.{loaded_new, loaded_old, keys_new, keys_old, bad_new, bad_old}
 use Rattle.std.proofs.Common.{◌≡◌, ℕ, subst, rules, arith}
 use Rattle.std.specs.Bool.{MatchBool}
 use Rattle.mvd_records.specs.Records.{HasNone, AreDisjoint}

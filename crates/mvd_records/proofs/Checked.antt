@@ -119,3 +119,7 @@ on_ok (Err e) P Q R f h k = tt
 -- the text is plain under the schema that it meets
 pub plain_at : (sql : List ℕ) (version site : ℕ) (old : State) → IsPlain (understood all_tables sql) → IsSettled old → IsTrue old.is_open → HoldsRecords version site old.committed → IsPlain (understood old.now.schema sql)
 plain_at sql version site old plain settled was holds = subst (λ s. IsPlain (understood s sql)) (sym (met_schema version site old settled was holds)) plain
+
+pub on_then : {X E : Type 0} (r : Result X E) (P Q : Type 0) → (P → Q) → OnOk r P → OnOk r Q
+on_then (Ok x) P Q f h = f h
+on_then (Err e) P Q f h = tt

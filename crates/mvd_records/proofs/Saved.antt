@@ -1,8 +1,9 @@
 -- What a call that saves a state leaves.
-use Rattle.std.proofs.Common.{◌≡◌, ◌⊎◌, inl, inr, ℕ, List, ◌∷◌, [], cond, Option, None, Ok, IsTrue, refl, sym, ap, subst, ◌∙◌}
+use Rattle.std.proofs.Common.{◌≡◌, ◌⊎◌, inl, inr, ℕ, List, ◌∷◌, [], map, cond, Option, None, Ok, IsTrue, refl, sym, ap, subst, ◌∙◌}
 use Rattle.std.specs.FinMap.{insert}
 use Rattle.sqlite.specs.declared.types.Value.TheVariants.{Text, Blob}
 use Rattle.sqlite.specs.Command.TheVariants.{InsertOr}
+use Rattle.sqlite.specs.Order.{Row}
 use Rattle.sqlite.specs.Table.{Table}
 use Rattle.sqlite.specs.Tree.{Trees}
 use Rattle.sqlite.specs.Effect.{Database, IsDatabase}
@@ -14,7 +15,7 @@ use Rattle.sqlite.specs.State.{State, Executes, CommitsBy, MayCommit}
 use Rattle.sqlite.specs.Listing.{understood}
 use Rattle.sqlite.proofs.Callers.{runs_as, statement_of}
 use Rattle.mvd_records.specs.Tables.{all_tables, new_states}
-use Rattle.mvd_records.specs.States.{states_in, AreMarks}
+use Rattle.mvd_records.specs.States.{states_in, shown, AreMarks}
 use Rattle.mvd_records.specs.Records.{IsSettled, IsSound, HasTables, HoldsRecords, SavesState, Leaves, rows_at}
 use Rattle.mvd_records.specs.Records as maps
 use Rattle.mvd_records.proofs.Rows.{state_of, states_set}
@@ -44,14 +45,14 @@ saved limit text version site db after tally key state sound holds h =
     let are : AreStates (db.trees 4) = new_states_of db has sound (holds.tables.rows new_states (inr (inr (inl refl)))) in
     let it = saves limit text db after tally key state has are h in
     let done = it.1 in
-    let map = states_set (db.trees 4) (after.trees 4) done.row (apart_in _ are) done.sets in (
+    let set = states_set (db.trees 4) (after.trees 4) done.row (apart_in _ are) done.sets in (
       record {
         tables = with_rows after it.0 (subst (IsShaped shape.Table) (sym done.old_rows) (holds.tables.rows _ (inl refl))) (subst (IsShaped shape.Table) (sym done.marks) (holds.tables.rows _ (inr (inl refl)))) done.shaped;
-        marks = subst (AreMarks version site) (sym done.marks) holds.marks;
+        marks = subst (λ (rows : List Row). AreMarks version site (map shown rows)) (sym done.marks) holds.marks;
       },
       record {
         old_same = ap states_in ((rows_there after it.0).0 ∙ (done.old_rows ∙ sym (rows_there db has).0));
-        saved = ap states_in (rows_there after it.0).1 ∙ (map ∙ (ap (λ k. insert (states_in (db.trees 4)) k (state_of done.row)) done.key_is
+        saved = ap states_in (rows_there after it.0).1 ∙ (set ∙ (ap (λ k. insert (states_in (db.trees 4)) k (state_of done.row)) done.key_is
             ∙ (ap (insert (states_in (db.trees 4)) key) done.state_is ∙ ap (λ rows. insert (states_in rows) key state) (sym (rows_there db has).1))));
       },
     )

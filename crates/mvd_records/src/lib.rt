@@ -2,6 +2,7 @@
 #![tactic(auto)]
 
 mod loading;
+mod open;
 mod pairs;
 mod records;
 mod statements;

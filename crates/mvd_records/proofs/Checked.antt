@@ -123,3 +123,7 @@ plain_at sql version site old plain settled was holds = subst (λ s. IsPlain (un
 pub on_then : {X E : Type 0} (r : Result X E) (P Q : Type 0) → (P → Q) → OnOk r P → OnOk r Q
 on_then (Ok x) P Q f h = f h
 on_then (Err e) P Q f h = tt
+
+pub always : {X E : Type 0} (r : Result X E) (P : Type 0) → P → OnOk r P
+always (Ok x) P p = p
+always (Err e) P p = tt

@@ -96,7 +96,7 @@ fn marks_in(rows: &[Row]) -> Option<(u32, u32)>
 
 /// The version that the rows of `meta` tell to a site. No rows tell none.
 fn version_in(rows: &[Row], site: u32) -> Result<Option<u32>, Refusal>
-    ensures told { TellsMarks (map first_two rows.now) site result }
+    ensures { TellsMarks (map first_two rows.now) site result }
 {
     if rows.is_empty() {
         return Ok(None);
@@ -116,7 +116,7 @@ fn version_in(rows: &[Row], site: u32) -> Result<Option<u32>, Refusal>
 fn read_version<S: Alter>(tx: &mut Transaction<'_, S>, site: u32) -> Result<Option<u32>, Refusal>
     ensures same_reference { tx.new.conn.ghost_name ≡ tx.old.conn.ghost_name }
     ensures stays { StaysInside (state S.Store tx.old.conn.now) (state S.Store tx.new.conn.now) }
-    ensures inside { HasCleanDisk (state S.Store tx.new.conn.now) → IsTrue (state S.Store tx.old.conn.now).in_transaction → HasTables all_tables (state S.Store tx.old.conn.now).now → OnOk result (IsTrue (state S.Store tx.new.conn.now).in_transaction) }
+    ensures inside { HasCleanDisk (state S.Store tx.new.conn.now) → IsTrue (state S.Store tx.old.conn.now).in_transaction → OnOk result (IsTrue (state S.Store tx.new.conn.now).in_transaction) }
     ensures same { HasCleanDisk (state S.Store tx.new.conn.now) → HasTables all_tables (state S.Store tx.old.conn.now).now → OnOk result ((state S.Store tx.new.conn.now).now ≡ (state S.Store tx.old.conn.now).now) }
     ensures told { HasCleanDisk (state S.Store tx.new.conn.now) → HasTables all_tables (state S.Store tx.old.conn.now).now → TellsMarks (marks_of (state S.Store tx.old.conn.now).now) site result }
 {
@@ -131,7 +131,7 @@ fn write_marks<S: Alter>(tx: &mut Transaction<'_, S>, site: u32) -> Result<(), R
     ensures stays { StaysInside (state S.Store tx.old.conn.now) (state S.Store tx.new.conn.now) }
     ensures inside { HasCleanDisk (state S.Store tx.new.conn.now) → IsTrue (state S.Store tx.old.conn.now).in_transaction → OnOk result (IsTrue (state S.Store tx.new.conn.now).in_transaction) }
     ensures marked { HasCleanDisk (state S.Store tx.new.conn.now) → IsTrue (state S.Store tx.old.conn.now).in_transaction → HasTables all_tables (state S.Store tx.old.conn.now).now → marks_of (state S.Store tx.old.conn.now).now ≡ [] → OnOk result (HoldsRecords 2 site (state S.Store tx.new.conn.now).now) }
-    ensures states { HasCleanDisk (state S.Store tx.new.conn.now) → IsTrue (state S.Store tx.old.conn.now).in_transaction → HasTables all_tables (state S.Store tx.old.conn.now).now → OnOk result (KeepsStates (state S.Store tx.old.conn.now).now (state S.Store tx.new.conn.now).now) }
+    ensures states { HasCleanDisk (state S.Store tx.new.conn.now) → IsTrue (state S.Store tx.old.conn.now).in_transaction → HasTables all_tables (state S.Store tx.old.conn.now).now → marks_of (state S.Store tx.old.conn.now).now ≡ [] → OnOk result (KeepsStates (state S.Store tx.old.conn.now).now (state S.Store tx.new.conn.now).now) }
     ensures refusal { IfErr result (λ e. e ≡ Refusal.Store) }
 {
     match tx.execute(
@@ -146,8 +146,8 @@ fn write_marks<S: Alter>(tx: &mut Transaction<'_, S>, site: u32) -> Result<(), R
 /// The version of this site's records. It writes the marks where there are none.
 fn settle<S: Alter>(tx: &mut Transaction<'_, S>, site: u32) -> Result<u32, Refusal>
     ensures same_reference { tx.new.conn.ghost_name ≡ tx.old.conn.ghost_name }
-    ensures stays { HasTables all_tables (state S.Store tx.old.conn.now).now → StaysInside (state S.Store tx.old.conn.now) (state S.Store tx.new.conn.now) }
-    ensures inside { HasCleanDisk (state S.Store tx.new.conn.now) → IsTrue (state S.Store tx.old.conn.now).in_transaction → HasTables all_tables (state S.Store tx.old.conn.now).now → OnOk result (IsTrue (state S.Store tx.new.conn.now).in_transaction) }
+    ensures stays { StaysInside (state S.Store tx.old.conn.now) (state S.Store tx.new.conn.now) }
+    ensures inside { HasCleanDisk (state S.Store tx.new.conn.now) → IsTrue (state S.Store tx.old.conn.now).in_transaction → OnOk result (IsTrue (state S.Store tx.new.conn.now).in_transaction) }
     ensures marked { HasCleanDisk (state S.Store tx.new.conn.now) → IsTrue (state S.Store tx.old.conn.now).in_transaction → HasTables all_tables (state S.Store tx.old.conn.now).now → IfOk result (λ version. HoldsRecords version site (state S.Store tx.new.conn.now).now) }
     ensures states { HasCleanDisk (state S.Store tx.new.conn.now) → IsTrue (state S.Store tx.old.conn.now).in_transaction → HasTables all_tables (state S.Store tx.old.conn.now).now → OnOk result (KeepsStates (state S.Store tx.old.conn.now).now (state S.Store tx.new.conn.now).now) }
     ensures told { HasCleanDisk (state S.Store tx.new.conn.now) → HasTables all_tables (state S.Store tx.old.conn.now).now → TellsVersion (marks_of (state S.Store tx.old.conn.now).now) site result }

@@ -11,10 +11,11 @@ use Rattle.mvd_records.proofs.open.make_tables.Given.{Over}
 use Rattle.mvd_records.proofs.open.make_tables.Goals as goal
 
 pub returns-in-Err-run-clause-stays : goal.returns-in-Err-run-clause-stays
-returns-in-Err-run-clause-stays g c = stays_then _ _ _ c.run.ensures.stays c.run-2.ensures.stays
+returns-in-Err-run-clause-stays g c = stays_then _ _ _ (λ clean inside. (c.in-Ok.ensures.ran clean inside).inside) c.run.ensures.stays c.run-2.ensures.stays
 
 pub returns-clause-stays : goal.returns-clause-stays
-returns-clause-stays g c = stays_then _ _ _ (stays_then _ _ _ c.run.ensures.stays c.run-2.ensures.stays) c.run-3.ensures.stays
+returns-clause-stays g c = stays_then _ _ _ (λ clean inside. (c.in-Ok-run.ensures.ran clean (c.in-Ok.ensures.ran (early _ _ c.run-2.ensures.stays clean) inside).inside).inside)
+    (stays_then _ _ _ (λ clean inside. (c.in-Ok.ensures.ran clean inside).inside) c.run.ensures.stays c.run-2.ensures.stays) c.run-3.ensures.stays
 
 pub returns-clause-inside : goal.returns-clause-inside
 returns-clause-inside g c clean inside =

@@ -3,10 +3,10 @@ use Rattle.mvd_records.proofs.Inside.{execute_stays, ran_inside}
 use Rattle.mvd_records.proofs.open.run.Goals as goal
 
 pub returns-in-Ok-clause-stays : goal.returns-in-Ok-clause-stays
-returns-in-Ok-clause-stays g c = execute_stays g.S.Store c.args.tx.now.conn.now c.execute.new.self.conn.now _ _ (Ok c.in-Ok.field-0) _ c.in-Ok.ensures.ended c.in-Ok.ensures.runs c.in-Ok.ensures.survives
+returns-in-Ok-clause-stays g c = execute_stays _ _ _ _ (Ok c.in-Ok.field-0) c.in-Ok.ensures.runs c.in-Ok.ensures.survives
 
 pub returns-in-Ok-clause-ran : goal.returns-in-Ok-clause-ran
 returns-in-Ok-clause-ran g c clean inside = ran_inside _ _ _ _ c.in-Ok.field-0 (c.in-Ok.ensures.runs clean inside)
 
 pub returns-in-Err-clause-stays : goal.returns-in-Err-clause-stays
-returns-in-Err-clause-stays g c = execute_stays g.S.Store c.args.tx.now.conn.now c.execute.new.self.conn.now _ _ (Err c.in-Err.field-0) _ c.in-Err.ensures.ended c.in-Err.ensures.runs c.in-Err.ensures.survives
+returns-in-Err-clause-stays g c = execute_stays _ _ _ _ (Err c.in-Err.field-0) c.in-Err.ensures.runs c.in-Err.ensures.survives

@@ -4,7 +4,7 @@ ghost use Rattle.sqlite.specs.Held.{state};
 ghost use Rattle.sqlite.specs.State.{HasCleanDisk, KeepsCommit, Survives};
 ghost use Rattle.mvd_records.specs.States.{AreMarks, IsMark, first_two};
 ghost use Rattle.mvd_records.specs.Tables.{all_tables, meta_tree};
-ghost use Rattle.mvd_records.specs.Records.{IsSettled, IsSound, IsOurs, HasTables, HoldsRecords, KeepsStates, KeepsRows, Ran, StaysInside, TellsVersion, TellsMarks, marks_of, rows_at};
+ghost use Rattle.mvd_records.specs.Records.{IsSettled, IsSound, IsOurs, HasTables, HoldsRecords, KeepsStates, KeepsRows, Ran, StaysInside, TellsVersion, TellsMarks, LeavesOpened, IsOpenRefusal, marks_of};
 
 use crate::statements::is_settled;
 use mvd_dots::Refusal;
@@ -96,7 +96,8 @@ fn marks_in(rows: &[Row]) -> Option<(u32, u32)>
 
 /// The version that the rows of `meta` tell to a site. No rows tell none.
 fn version_in(rows: &[Row], site: u32) -> Result<Option<u32>, Refusal>
-    ensures { TellsMarks (map first_two rows.now) site result }
+    ensures told { TellsMarks (map first_two rows.now) site result }
+    ensures refusal { IfErr result IsOpenRefusal }
 {
     if rows.is_empty() {
         return Ok(None);
@@ -119,6 +120,7 @@ fn read_version<S: Alter>(tx: &mut Transaction<'_, S>, site: u32) -> Result<Opti
     ensures inside { HasCleanDisk (state S.Store tx.new.conn.now) → IsTrue (state S.Store tx.old.conn.now).in_transaction → OnOk result (IsTrue (state S.Store tx.new.conn.now).in_transaction) }
     ensures same { HasCleanDisk (state S.Store tx.new.conn.now) → HasTables all_tables (state S.Store tx.old.conn.now).now → OnOk result ((state S.Store tx.new.conn.now).now ≡ (state S.Store tx.old.conn.now).now) }
     ensures told { HasCleanDisk (state S.Store tx.new.conn.now) → HasTables all_tables (state S.Store tx.old.conn.now).now → TellsMarks (marks_of (state S.Store tx.old.conn.now).now) site result }
+    ensures refusal { IfErr result IsOpenRefusal }
 {
     match tx.query_all("SELECT name, value FROM meta", &[]) {
         Ok(rows) => version_in(&rows, site),
@@ -151,6 +153,7 @@ fn settle<S: Alter>(tx: &mut Transaction<'_, S>, site: u32) -> Result<u32, Refus
     ensures marked { HasCleanDisk (state S.Store tx.new.conn.now) → IsTrue (state S.Store tx.old.conn.now).in_transaction → HasTables all_tables (state S.Store tx.old.conn.now).now → IfOk result (λ version. HoldsRecords version site (state S.Store tx.new.conn.now).now) }
     ensures states { HasCleanDisk (state S.Store tx.new.conn.now) → IsTrue (state S.Store tx.old.conn.now).in_transaction → HasTables all_tables (state S.Store tx.old.conn.now).now → OnOk result (KeepsStates (state S.Store tx.old.conn.now).now (state S.Store tx.new.conn.now).now) }
     ensures told { HasCleanDisk (state S.Store tx.new.conn.now) → HasTables all_tables (state S.Store tx.old.conn.now).now → TellsVersion (marks_of (state S.Store tx.old.conn.now).now) site result }
+    ensures refusal { IfErr result IsOpenRefusal }
 {
     match read_version(tx, site) {
         Ok(Some(version)) => Ok(version),
@@ -159,5 +162,45 @@ fn settle<S: Alter>(tx: &mut Transaction<'_, S>, site: u32) -> Result<u32, Refus
             Err(refusal) => Err(refusal),
         },
         Err(refusal) => Err(refusal),
+    }
+}
+
+fn prepare<S: Alter>(tx: &mut Transaction<'_, S>, site: u32) -> Result<u32, Refusal>
+    ensures same_reference { tx.new.conn.ghost_name ≡ tx.old.conn.ghost_name }
+    ensures stays { StaysInside (state S.Store tx.old.conn.now) (state S.Store tx.new.conn.now) }
+    ensures inside { HasCleanDisk (state S.Store tx.new.conn.now) → IsTrue (state S.Store tx.old.conn.now).in_transaction → OnOk result (IsTrue (state S.Store tx.new.conn.now).in_transaction) }
+    ensures marked { HasCleanDisk (state S.Store tx.new.conn.now) → IsTrue (state S.Store tx.old.conn.now).in_transaction → IsOurs (state S.Store tx.old.conn.now).now → IfOk result (λ version. HoldsRecords version site (state S.Store tx.new.conn.now).now) }
+    ensures states { HasCleanDisk (state S.Store tx.new.conn.now) → IsTrue (state S.Store tx.old.conn.now).in_transaction → IsOurs (state S.Store tx.old.conn.now).now → OnOk result (KeepsStates (state S.Store tx.old.conn.now).now (state S.Store tx.new.conn.now).now) }
+    ensures told { HasCleanDisk (state S.Store tx.new.conn.now) → IsTrue (state S.Store tx.old.conn.now).in_transaction → IsOurs (state S.Store tx.old.conn.now).now → TellsVersion (marks_of (state S.Store tx.old.conn.now).now) site result }
+    ensures refusal { IfErr result IsOpenRefusal }
+{
+    match make_tables(tx) {
+        Ok(()) => {}
+        Err(refusal) => return Err(refusal),
+    }
+    settle(tx, site)
+}
+
+/// Makes what is missing in one transaction, and tells the version.
+pub fn open<S: Alter>(conn: &mut Connection<S>, site: u32) -> Result<u32, Refusal>
+    ensures before { IsSound (state S.Store conn.new) → IsSound (state S.Store conn.old) }
+    ensures opened { IsSound (state S.Store conn.new) → IsOurs (state S.Store conn.old).committed → IfOk result (λ version. HoldsRecords version site (state S.Store conn.new).committed) }
+    ensures states { IsSound (state S.Store conn.new) → IsOurs (state S.Store conn.old).committed → OnOk result (KeepsStates (state S.Store conn.old).committed (state S.Store conn.new).committed) }
+    ensures told { IsSound (state S.Store conn.new) → IsOurs (state S.Store conn.old).committed → TellsVersion (marks_of (state S.Store conn.old).committed) site result }
+    ensures refusal { IfErr result IsOpenRefusal }
+    ensures unchanged { IsSound (state S.Store conn.new) → OnErr result ((state S.Store conn.new).committed ≡ (state S.Store conn.old).committed) }
+    ensures survives { Survives (state S.Store conn.old) (state S.Store conn.new) (LeavesOpened (state S.Store conn.old) site) }
+{
+    if !is_settled(conn) {
+        return Err(Refusal::Store);
+    }
+    let mut tx = conn.transaction();
+    let version = match prepare(&mut tx, site) {
+        Ok(version) => version,
+        Err(refusal) => return Err(refusal),
+    };
+    match tx.commit() {
+        Ok(()) => Ok(version),
+        Err(_) => Err(Refusal::Store),
     }
 }

@@ -1,12 +1,12 @@
 //! Two maps from key to bytes, and a version, in the tables of a database.
-ghost use Rattle.std.specs.Prelude.{◌≡◌, ◌⊎◌, ◌≤◌, IsTrue, IfErr, IfOk, OnOk, OnErr};
+ghost use Rattle.std.specs.Prelude.{◌≡◌, ◌⊎◌, ◌≤◌, MatchResult, IsTrue, IfErr, IfOk, OnOk, OnErr};
 ghost use Rattle.std.specs.FinMap.{entries};
 ghost use Rattle.sqlite.specs.Held.{state};
 ghost use Rattle.sqlite.specs.State.{HasCleanDisk, Survives};
-ghost use Rattle.mvd_records.specs.Records.{IsSound, HoldsRecords, SavesState, Leaves, IsWhole, old_states, new_states};
+ghost use Rattle.mvd_records.specs.Records.{IsSound, IsOurs, HoldsRecords, KeepsStates, SavesState, Leaves, LeavesOpened, IsWhole, IsOpenRefusal, TellsVersion, marks_of, old_states, new_states};
 ghost use Rattle.mvd_records.specs.Pairs.{entries_of, rises};
 
-use crate::{loading, statements};
+use crate::{loading, open, statements};
 use mvd_dots::Refusal;
 use mvd_keys::Key;
 use sqlite::{Alter, Connection};
@@ -21,6 +21,32 @@ pub struct Records<S: Alter> {
 }
 
 impl<S: Alter> Records<S> {
+    /// Opens the records of a site, and makes in one transaction what is missing. A refusal gives the connection back: 21, or 17 where the marks are none of ours, or 16 where they are another site's.
+    pub fn open(
+        alloc: Global,
+        mut conn: Connection<S>,
+        site: u32,
+    ) -> Result<Records<S>, (Refusal, Connection<S>)>
+        requires { 1 ≤ site }
+        ensures before { MatchResult result (λ r. IsSound (state S.Store r.conn) → IsSound (state S.Store conn)) (λ e. IsSound (state S.Store e.1) → IsSound (state S.Store conn)) }
+        ensures opened { IfOk result (λ r. IsSound (state S.Store r.conn) → IsOurs (state S.Store conn).committed → HoldsRecords r.version site (state S.Store r.conn).committed) }
+        ensures states { IfOk result (λ r. IsSound (state S.Store r.conn) → IsOurs (state S.Store conn).committed → KeepsStates (state S.Store conn).committed (state S.Store r.conn).committed) }
+        ensures version { IfOk result (λ r. IsSound (state S.Store r.conn) → IsOurs (state S.Store conn).committed → TellsVersion (marks_of (state S.Store conn).committed) site (Ok r.version)) }
+        ensures refused { IfErr result (λ e. IsSound (state S.Store e.1) → IsOurs (state S.Store conn).committed → TellsVersion (marks_of (state S.Store conn).committed) site (Err e.0)) }
+        ensures unchanged { IfErr result (λ e. IsSound (state S.Store e.1) → (state S.Store e.1).committed ≡ (state S.Store conn).committed) }
+        ensures refusal { IfErr result (λ e. IsOpenRefusal e.0) }
+        ensures survives { MatchResult result (λ r. Survives (state S.Store conn) (state S.Store r.conn) (LeavesOpened (state S.Store conn) site)) (λ e. Survives (state S.Store conn) (state S.Store e.1) (LeavesOpened (state S.Store conn) site)) }
+    {
+        match open::open(&mut conn, site) {
+            Ok(version) => Ok(Records {
+                alloc,
+                version,
+                conn,
+            }),
+            Err(refusal) => Err((refusal, conn)),
+        }
+    }
+
     /// The version of the format: 1 until the old keys are moved, and then 2.
     pub fn version(&self) -> u32
         ensures { result ≡ self.now.version }

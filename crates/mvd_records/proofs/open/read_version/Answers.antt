@@ -22,7 +22,7 @@ returns-in-Ok-clause-same g c clean has =
     always c.version_in.result _ (shown_same marks_text _ _ _ c.in-Ok.rows.items (subst (λ s. IsPlain (understood s marks_text)) (sym has.schema) marks_plain) (c.in-Ok.ensures.ok clean)).0.now_is
 
 pub returns-in-Ok-clause-told : goal.returns-in-Ok-clause-told
-returns-in-Ok-clause-told g c clean has = told_marks _ _ c.in-Ok.rows.items c.args.site c.version_in.result has (c.in-Ok.ensures.ok clean) (rw c.deref.ensures.value at c.version_in.ensures)
+returns-in-Ok-clause-told g c clean has = told_marks _ _ c.in-Ok.rows.items c.args.site c.version_in.result has (c.in-Ok.ensures.ok clean) (rw c.deref.ensures.value at c.version_in.ensures.told)
 
 pub returns-in-Err-clause-stays : goal.returns-in-Err-clause-stays
 returns-in-Err-clause-stays g c = record { kept = λ clean _. failed_inside _ _ _ _ _ (c.in-Err.ensures.err clean); survives = c.in-Err.ensures.survives }

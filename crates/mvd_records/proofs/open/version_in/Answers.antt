@@ -4,8 +4,8 @@ use Rattle.mvd_records.proofs.Marking.{told_marks}
 use Rattle.mvd_records.proofs.Inside.{shown_inside}
 use Rattle.mvd_records.proofs.open.version_in.Goals as goal
 
-pub returns-then-version-lt1 : goal.returns-then-version-lt1
-returns-then-version-lt1 c =
+pub returns-then-version-lt1-clause-told : goal.returns-then-version-lt1-clause-told
+returns-then-version-lt1-clause-told c =
     let some : c.args.rows.now ≢ [] = search rules in
     (map_some c.args.rows.now some, λ w t it.
     (let same = marks_same _ c.in-Some.version c.in-Some.found w t c.in-Some.ensures it.2 in

@@ -1,7 +1,7 @@
 -- What a transaction leaves that was begun, and then committed or rolled back.
 use Rattle.std.proofs.Common.{◌≡◌, ◌≤◌, ◌⊎◌, inl, inr, ℕ, List, Bool, true, false, Ok, Err, Result, IsTrue, refl, sym, ap, subst, ◌∙◌, arith}
 use Rattle.sqlite.specs.Tree.{Trees}
-use Rattle.sqlite.specs.Effect.{Database}
+use Rattle.sqlite.specs.Effect.{Database, IsDatabase}
 use Rattle.sqlite_trees.specs.declared.store.Store.{Ghosts}
 use Rattle.sqlite.specs.declared.error.Error.{Error}
 use Rattle.sqlite.specs.Held.{Held, state}
@@ -11,10 +11,10 @@ use Rattle.sqlite.specs.Steps.{FailsToCommit}
 use Rattle.sqlite.proofs.InsideLemmas.{keeps_then, unchanged_keeps}
 use Rattle.sqlite.proofs.StateLemmas.{survives_then}
 use Rattle.sqlite.proofs.Callers.{survives_begin}
-use Rattle.mvd_records.specs.Records.{StaysInside, IsSound, IsSettled, IsOurs, HoldsRecords, KeepsStates, LeavesOpened}
+use Rattle.mvd_records.specs.Records.{StaysInside, IsSound, IsSettled, IsOurs, HoldsRecords, KeepsStates, MovesState, Leaves, LeavesOpened}
 
 module _ {S : Type 0} (g : Ghosts S) (old mid : Held S) where
-  abbrev begun : State
+  abbrev pub begun : State
   begun = state g (record old { in_transaction = true })
 
   -- from before the transaction on, as the connection sees it
@@ -48,3 +48,13 @@ rolled_back old new it = unchanged_keeps old new (inr it)
 pub not_committed : (old new : State) (e : Error) → FailsToCommit old new e → KeepsCommit old new
 not_committed old new e (inl failed) = unchanged_keeps old new (inr failed.3)
 not_committed old new e (inr late) = unchanged_keeps old new (inl late.2)
+
+module _ {S : Type 0} (g : Ghosts S) (old mid : Held S) where
+  -- what a crash may leave of the commit of a key that moves
+  pub moves_leave : (key bytes : List ℕ) → IsSettled (state g old)
+      → ((version site : ℕ) → IsTrue (begun g old mid).in_transaction → IsDatabase (begun g old mid).now → HoldsRecords version site (begun g old mid).now → HoldsRecords version site (state g mid).now × MovesState (begun g old mid).now (state g mid).now key bytes)
+      → (db : Trees) → db ≡ (state g mid).now.trees → Leaves (state g old) (λ version site db. HoldsRecords version site db × MovesState (state g old).committed db key bytes) db
+  moves_leave key bytes settled moved db is version site was holds =
+      let now = settled.settled was in
+      let it = moved version site refl (settled.live was).0 (subst (HoldsRecords version site) (sym now) holds) in
+      ((state g mid).now, (it.0, subst (λ (d : Database). MovesState d (state g mid).now key bytes) now it.1), is)

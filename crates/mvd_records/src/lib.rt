@@ -2,6 +2,7 @@
 #![tactic(auto)]
 
 mod loading;
+mod moving;
 mod open;
 mod pairs;
 mod records;

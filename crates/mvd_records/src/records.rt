@@ -3,10 +3,10 @@ ghost use Rattle.std.specs.Prelude.{◌≡◌, ◌⊎◌, ◌≤◌, MatchResult
 ghost use Rattle.std.specs.FinMap.{entries};
 ghost use Rattle.sqlite.specs.Held.{state};
 ghost use Rattle.sqlite.specs.State.{HasCleanDisk, Survives};
-ghost use Rattle.mvd_records.specs.Records.{IsSound, IsOurs, HoldsRecords, KeepsStates, SavesState, Leaves, LeavesOpened, IsWhole, IsOpenRefusal, TellsVersion, marks_of, old_states, new_states};
+ghost use Rattle.mvd_records.specs.Records.{IsSound, IsOurs, HoldsRecords, KeepsStates, SavesState, MovesState, HasNone, LacksKey, Leaves, LeavesOpened, IsWhole, IsOpenRefusal, TellsVersion, marks_of, old_states, new_states};
 ghost use Rattle.mvd_records.specs.Pairs.{entries_of, rises};
 
-use crate::{loading, open, statements};
+use crate::{loading, moving, open, statements};
 use mvd_dots::Refusal;
 use mvd_keys::Key;
 use sqlite::{Alter, Connection};
@@ -97,6 +97,41 @@ impl<S: Alter> Records<S> {
         ensures survives { Survives (state S.Store self.old.conn) (state S.Store self.new.conn) (Leaves (state S.Store self.old.conn) (λ _ _ _. ⊥)) }
     {
         loading::load_old(self.alloc, &mut self.conn, self.version)
+    }
+
+    /// Moves a key of version 1, whose state is spelled anew, in one transaction. 17 where the key is no old one.
+    pub fn move_key(&mut self, key: &Key, bytes: &[u8]) -> Result<(), Refusal>
+        ensures before { IsSound (state S.Store self.new.conn) → IsSound (state S.Store self.old.conn) }
+        ensures kept { (version site : _) → IsSound (state S.Store self.new.conn) → HoldsRecords version site (state S.Store self.old.conn).committed → HoldsRecords version site (state S.Store self.new.conn).committed }
+        ensures moved { (version site : _) → IsSound (state S.Store self.new.conn) → HoldsRecords version site (state S.Store self.old.conn).committed → OnOk result (MovesState (state S.Store self.old.conn).committed (state S.Store self.new.conn).committed key.now bytes.now) }
+        ensures damaged { (version site : _) → IsSound (state S.Store self.new.conn) → HoldsRecords version site (state S.Store self.old.conn).committed → IfErr result (λ e. e ≡ Refusal.Damaged → LacksKey (old_states (state S.Store self.old.conn).committed) key.now) }
+        ensures unchanged { IsSound (state S.Store self.new.conn) → OnErr result ((state S.Store self.new.conn).committed ≡ (state S.Store self.old.conn).committed) }
+        ensures refusal { IfErr result (λ e. (e ≡ Refusal.Damaged) ⊎ (e ≡ Refusal.Store)) }
+        ensures version { self.new.version ≡ self.old.version }
+        ensures survives { Survives (state S.Store self.old.conn) (state S.Store self.new.conn) (Leaves (state S.Store self.old.conn) (λ version site db. HoldsRecords version site db × MovesState (state S.Store self.old.conn).committed db key.now bytes.now)) }
+    {
+        moving::move_key(&mut self.conn, key.text(), bytes)
+    }
+
+    /// Ends the move: the version becomes 2. 17 where an old key is left.
+    pub fn finish(&mut self) -> Result<(), Refusal>
+        ensures before { IsSound (state S.Store self.new.conn) → IsSound (state S.Store self.old.conn) }
+        ensures finished { (version site : _) → IsSound (state S.Store self.new.conn) → HoldsRecords version site (state S.Store self.old.conn).committed → OnOk result (HoldsRecords 2 site (state S.Store self.new.conn).committed) }
+        ensures states { (version site : _) → IsSound (state S.Store self.new.conn) → HoldsRecords version site (state S.Store self.old.conn).committed → OnOk result (KeepsStates (state S.Store self.old.conn).committed (state S.Store self.new.conn).committed) }
+        ensures moved { (version site : _) → IsSound (state S.Store self.new.conn) → HoldsRecords version site (state S.Store self.old.conn).committed → OnOk result (HasNone (old_states (state S.Store self.old.conn).committed)) }
+        ensures damaged { (version site : _) → IsSound (state S.Store self.new.conn) → HoldsRecords version site (state S.Store self.old.conn).committed → IfErr result (λ e. e ≡ Refusal.Damaged → ¬ HasNone (old_states (state S.Store self.old.conn).committed)) }
+        ensures unchanged { (version site : _) → IsSound (state S.Store self.new.conn) → HoldsRecords version site (state S.Store self.old.conn).committed → OnErr result ((state S.Store self.new.conn).committed ≡ (state S.Store self.old.conn).committed) }
+        ensures refusal { IfErr result (λ e. (e ≡ Refusal.Damaged) ⊎ (e ≡ Refusal.Store)) }
+        ensures version { MatchResult result (λ _. self.new.version ≡ 2) (λ _. self.new.version ≡ self.old.version) }
+        ensures survives { Survives (state S.Store self.old.conn) (state S.Store self.new.conn) (Leaves (state S.Store self.old.conn) (λ version site db. HoldsRecords 2 site db × KeepsStates (state S.Store self.old.conn).committed db)) }
+    {
+        match statements::finish(&mut self.conn) {
+            Ok(()) => {
+                self.version = 2;
+                Ok(())
+            }
+            Err(refusal) => Err(refusal),
+        }
     }
 
     pub fn into_connection(self) -> Connection<S>

@@ -9,3 +9,6 @@ mod records;
 mod statements;
 
 pub use records::Records;
+
+#[cfg(test)]
+mod tests;

@@ -1,8 +1,7 @@
 use crate::Records;
 use mvd_dots::Refusal;
 use mvd_keys::Key;
-use sqlite::{Alter, Connection, Error, FileStore, Files, MemStore, Options, Row};
-use sqlite_disk::{Crash, Fuse, Memory};
+use sqlite::{Alter, Connection, Error, MemStore};
 use std::alloc::Global;
 use std::test::Fail;
 
@@ -82,12 +81,20 @@ fn old_in<S: Alter>(alloc: Global, records: &mut Records<S>) -> Result<String, R
     spelled(alloc, &pairs)
 }
 
+fn new_memory(alloc: Global) -> Result<Connection<MemStore>, Error> {
+    Ok(Connection::open_in_memory(alloc)?)
+}
+
 fn in_memory(alloc: Global, parts: &[&str]) -> Result<Connection<MemStore>, Error> {
-    let mut conn = Connection::open_in_memory(alloc)?;
+    let mut conn = new_memory(alloc)?;
     for part in parts {
         run(&mut conn, part)?;
     }
     Ok(conn)
+}
+
+fn again<S: Alter + Drop>(alloc: Global, records: Records<S>, site: u32) -> Result<Records<S>, Refusal> {
+    opened(alloc, records.into_connection(), site)
 }
 
 fn loads(alloc: Global, parts: &[&str]) -> Result<String, Refusal> {
@@ -107,11 +114,9 @@ fn saves_and_loads(rt: HostRuntime) -> Result<(), Fail> {
     assert_eq!(rt; all_in(rt.alloc(), &mut records)?.as_str(), "a=2 b=1 ");
     assert_eq!(rt; old_in(rt.alloc(), &mut records)?.as_str(), "");
     assert_eq!(rt; shift(rt.alloc(), &mut records, "a", &[1]), Err(Refusal::Damaged));
-    let conn = records.into_connection();
-    let mut records = opened(rt.alloc(), conn, 7)?;
+    let mut records = again(rt.alloc(), records, 7)?;
     assert_eq!(rt; all_in(rt.alloc(), &mut records)?.as_str(), "a=2 b=1 ");
-    let conn = records.into_connection();
-    assert!(rt; matches!(opened(rt.alloc(), conn, 8), Err(Refusal::SiteMismatch)));
+    assert!(rt; matches!(again(rt.alloc(), records, 8), Err(Refusal::SiteMismatch)));
     Ok(())
 }
 
@@ -137,7 +142,7 @@ fn moves_old_keys(rt: HostRuntime) -> Result<(), Fail> {
     assert_eq!(rt; end(&mut records), Ok(()));
     assert_eq!(rt; records.version(), 2);
     assert_eq!(rt; all_in(rt.alloc(), &mut records)?.as_str(), "a=1 b=2 ");
-    let records = opened(rt.alloc(), records.into_connection(), 7)?;
+    let records = again(rt.alloc(), records, 7)?;
     assert_eq!(rt; records.version(), 2);
     Ok(())
 }

@@ -1,0 +1,97 @@
+use Rattle.std.proofs.Common.{◌≡◌, ◌++◌, ◌∷◌, ℕ, List, [], map, Option, Some, None, refl, sym, ap, subst, ◌∙◌, rules, arith}
+use Rattle.sqlite.specs.Order.{Row}
+use Rattle.sqlite.specs.Effect.{Database}
+use Rattle.sqlite.specs.Listing.{understood}
+use Rattle.sqlite.specs.State.{State, HasCleanDisk, IsUnchanged, Survives, Shown, Begins, CommitsShowing, FailsToQuery}
+use Rattle.sqlite.specs.Held.{state}
+use Rattle.sqlite.proofs.StateLemmas.{survives_weaker}
+use Rattle.sqlite.proofs.Callers.{IsPlain, given_begin, begun_plain, never_commits}
+use Rattle.std.specs.Prelude.{option_copied}
+use Rattle.sqlite.specs.Given.{Advances, row_if}
+use Rattle.sqlite.proofs.StateLemmas.{survives_then}
+use Rattle.sqlite.proofs.Callers.{unchanged_then}
+use Rattle.mvd_records.specs.States.{shown_entry}
+use Rattle.mvd_records.proofs.Calls.{not_shown, sound_before}
+use Rattle.mvd_records.proofs.Streams.{begun_open, shown_since, begins_since, not_pairs, one_more, all_form}
+use Rattle.mvd_records.proofs.loading.read_pairs.Goals as goal
+
+pub returns-in-Err-clause-kept : goal.returns-in-Err-clause-kept
+returns-in-Err-clause-kept g c clean plain =
+    let old = state g.S.Store c.args.conn.now in
+    let new = state g.S.Store c.query.follows.lender-at-none in
+    let held = c.query.follows.holds-at-none in
+    let failed : FailsToQuery c.args.sql.now [] old new c.in-Err.field-0 = search rules in
+    not_shown _ _ old new c.in-Err.field-0 failed
+
+pub returns-in-Err-clause-before : goal.returns-in-Err-clause-before
+returns-in-Err-clause-before g c =
+    let old = state g.S.Store c.args.conn.now in
+    let new = state g.S.Store c.query.follows.lender-at-none in
+    let held = c.query.follows.holds-at-none in
+    let kept : Survives old new (CommitsShowing c.args.sql.now [] old) = search rules in
+    let failed : HasCleanDisk new → FailsToQuery c.args.sql.now [] old new c.in-Err.field-0 = search rules in
+    sound_before old new kept.clean (λ clean. not_shown _ _ old new c.in-Err.field-0 (failed clean))
+
+pub returns-in-Err-clause-survives : goal.returns-in-Err-clause-survives
+returns-in-Err-clause-survives g c =
+    let old = state g.S.Store c.args.conn.now in
+    let new = state g.S.Store c.query.follows.lender-at-none in
+    let held = c.query.follows.holds-at-none in
+    let kept : Survives old new (CommitsShowing c.args.sql.now [] old) = search rules in kept
+
+pub rows-init : goal.rows-init
+rows-init g c =
+    let made = c.in-Ok.ensures in
+    record {
+      lender = refl;
+      before = λ it. record { clean = omega (arith, made.survives.clean, it.clean); is_open = begun_open g.S.Store c.args.sql.now [] c.args.conn.now c.in-Ok.rows.conn.now (made.begun it.clean) };
+      survives = made.survives;
+      given = λ plain clean. (let begun = begun_plain g.S.Store _ _ c.args.conn.now _ plain (made.begun clean) in ([], begun.0, begun.1, rw c.new-pairs.ensures.items refl));
+      form = rw c.new-pairs.ensures.items tt;
+      rising = rw c.new-pairs.ensures.items tt;
+    }
+
+pub returns-in-None-clause-shown : goal.returns-in-None-clause-shown
+returns-in-None-clause-shown g c clean plain =
+    let old = state g.S.Store c.args.conn.now in
+    let before = c.rows.rows.conn.now in
+    let now = c.advance.new.self.conn.now in
+    let late : HasCleanDisk (state g.S.Store now) = search rules in
+    let was = c.rows.invariant.given plain (omega (arith, c.in-Ok-advance.ensures.survives.clean)) in
+    let none : row_if c.advance.new.self.has_row now ≡ None = sym c.get.ensures ∙ ap option_copied c.in-None.is in
+    let shown = subst (Advances g.S.Store before now) none (c.in-Ok-advance.ensures.ok late) c.args.sql.now [] was.0 was.1 in
+    let all : Shown c.args.sql.now [] old (state g.S.Store now) was.0 = shown_since c.args.sql.now [] old (state g.S.Store before) (state g.S.Store now) was.0 plain was.2 shown in
+    (was.0, search rules, was.3)
+
+pub returns-in-Err-push_row-clause-damaged : goal.returns-in-Err-push_row-clause-damaged
+returns-in-Err-push_row-clause-damaged g c clean plain is =
+    let old = state g.S.Store c.args.conn.now in
+    let before = c.rows.rows.conn.now in
+    let now = c.advance.new.self.conn.now in
+    let late : HasCleanDisk (state g.S.Store now) = search rules in
+    let was = c.rows.invariant.given plain (omega (arith, c.in-Ok-advance.ensures.survives.clean)) in
+    let some : row_if c.advance.new.self.has_row now ≡ Some c.in-Some.row.now = sym c.get.ensures ∙ ap option_copied c.in-Some.is in
+    let given = subst (Advances g.S.Store before now) some (c.in-Ok-advance.ensures.ok late) c.args.sql.now [] was.0 was.1 in
+    let all = was.0 ++ c.in-Some.row.now ∷ [] in
+    let begun = begins_since c.args.sql.now [] old (state g.S.Store now) all (unchanged_then old (state g.S.Store before) (state g.S.Store now) was.2 (c.in-Ok-advance.ensures.same late)) (given_begin g.S.Store c.args.sql.now [] now all given) in
+    let why = c.in-Err-push_row.ensures.damaged c.rows.invariant.rising is in
+    (all, begun, not_pairs was.0 c.in-Some.row.now (λ pair up. why pair (rw was.3 (rw one_more at up))))
+
+pub rows-preserved : goal.rows-preserved
+rows-preserved g c =
+    let old = state g.S.Store c.args.conn.now in
+    let before = c.rows.rows.conn.now in
+    let now = c.advance.new.self.conn.now in
+    let moved = c.in-Ok-advance.ensures in
+    let pushed = c.in-Ok-push_row.ensures in
+    record {
+      lender = moved.same_reference ∙ c.rows.invariant.lender;
+      before = λ it. c.rows.invariant.before (record { clean = omega (arith, moved.survives.clean, it.clean); is_open = (moved.same it.clean).0.was_open });
+      survives = survives_then old (state g.S.Store before) (state g.S.Store now) _ _ (CommitsShowing c.args.sql.now [] old) (λ _ db it. it) (λ _ db none. absurd none) c.rows.invariant.survives moved.survives;
+      given = λ plain late. (let was = c.rows.invariant.given plain (omega (arith, moved.survives.clean)) in
+          let some : row_if c.advance.new.self.has_row now ≡ Some c.in-Some.row.now = sym c.get.ensures ∙ ap option_copied c.in-Some.is in
+          let given = subst (Advances g.S.Store before now) some (moved.ok late) c.args.sql.now [] was.0 was.1 in
+          (was.0 ++ c.in-Some.row.now ∷ [], given, unchanged_then old (state g.S.Store before) (state g.S.Store now) was.2 (moved.same late), pushed.pushed ∙ (rw was.3 (sym (one_more was.0 c.in-Some.row.now)))));
+      form = rw pushed.pushed (all_form _ (shown_entry c.in-Some.row.now) c.rows.invariant.form pushed.form);
+      rising = pushed.rising c.rows.invariant.rising;
+    }

@@ -1,0 +1,14 @@
+//! Stored states, as tables of a database.
+#![tactic(auto)]
+
+mod loading;
+mod moving;
+mod open;
+mod pairs;
+mod records;
+mod statements;
+
+pub use records::Records;
+
+#[cfg(test)]
+mod tests;

@@ -1,0 +1,131 @@
+//! The rows of the tables of states, read one at a time.
+ghost use Rattle.std.specs.Prelude.{◌≡◌, ◌⊎◌, [], IsTrue, true, false, map, IfOk, IfErr, OnOk, OnErr};
+ghost use Rattle.std.specs.List.{AllByRecursion};
+ghost use Rattle.std.specs.FinMap.{entries};
+ghost use Rattle.sqlite.specs.Held.{state};
+ghost use Rattle.sqlite.specs.State.{HasCleanDisk, KeepsCommit, Survives, Shown, Begins, CommitsShowing};
+ghost use Rattle.sqlite.specs.Given.{IsPlain};
+ghost use Rattle.sqlite.specs.Listing.{understood};
+ghost use Rattle.mvd_keys.specs.Key.{is_key};
+ghost use Rattle.mvd_records.specs.States.{shown_entry};
+ghost use Rattle.mvd_records.specs.Records.{IsSettled, IsSound, HoldsRecords, OnlyReads, AreKeys, IsWhole, old_states, new_states};
+ghost use Rattle.mvd_records.specs.Pairs.{entries_of, ArePairs, rises};
+
+use crate::pairs::push_row;
+use crate::statements::{check, is_settled};
+use mvd_dots::Refusal;
+use mvd_keys::Key;
+use sqlite::{Alter, Connection};
+use std::alloc::Global;
+
+/// The keys and states that a query shows.
+fn read_pairs<S: Alter>(
+    alloc: Global,
+    conn: &mut Connection<S>,
+    sql: &str,
+) -> Result<Vec<(Key, Vec<u8>)>, Refusal>
+    ensures before { IsSound (state S.Store conn.new) → IsSound (state S.Store conn.old) }
+    ensures open { HasCleanDisk (state S.Store conn.new) → OnOk result (IsTrue (state S.Store conn.new).is_open) }
+    ensures shown { HasCleanDisk (state S.Store conn.new) → IsPlain (understood (state S.Store conn.old).now.schema sql.now) → IfOk result (λ pairs. (rows : _) × Shown sql.now [] (state S.Store conn.old) (state S.Store conn.new) rows × (entries_of pairs.items ≡ map shown_entry rows)) }
+    ensures form { IfOk result (λ pairs. AllByRecursion (λ e. is_key e.0 ≡ true) (entries_of pairs.items)) }
+    ensures rising { IfOk result (λ pairs. rises (entries_of pairs.items)) }
+    ensures damaged { HasCleanDisk (state S.Store conn.new) → IsPlain (understood (state S.Store conn.old).now.schema sql.now) → IfErr result (λ e. e ≡ Refusal.Damaged → (rows : _) × Begins sql.now [] (state S.Store conn.old) rows × ¬ ArePairs rows) }
+    ensures kept { HasCleanDisk (state S.Store conn.new) → IsPlain (understood (state S.Store conn.old).now.schema sql.now) → KeepsCommit (state S.Store conn.old) (state S.Store conn.new) }
+    ensures refusal { IfErr result (λ e. (e ≡ Refusal.Damaged) ⊎ ((e ≡ Refusal.Memory) ⊎ (e ≡ Refusal.Store))) }
+    ensures survives { Survives (state S.Store conn.old) (state S.Store conn.new) (CommitsShowing sql.now [] (state S.Store conn.old)) }
+{
+    let mut pairs = Vec::new(alloc);
+    let mut rows = match conn.query(sql, &[]) {
+        Ok(rows) => rows,
+        Err(_) => return Err(Refusal::Store),
+    };
+    'rows: for _ in 0..u64::MAX {
+        match rows.advance() {
+            Ok(()) => {}
+            Err(_) => return Err(Refusal::Store),
+        }
+        let row = match rows.get() {
+            Some(row) => row,
+            None => return Ok(pairs),
+        };
+        match push_row(alloc, &mut pairs, row) {
+            Ok(()) => {}
+            Err(refusal) => return Err(refusal),
+        }
+    }
+    Err(Refusal::Memory)
+}
+
+fn read_new<S: Alter>(
+    alloc: Global,
+    conn: &mut Connection<S>,
+) -> Result<Vec<(Key, Vec<u8>)>, Refusal>
+    ensures reads { OnlyReads (state S.Store conn.old) (state S.Store conn.new) }
+    ensures entries { (version site : _) → IsSound (state S.Store conn.new) → HoldsRecords version site (state S.Store conn.old).committed → IfOk result (λ pairs. entries_of pairs.items ≡ entries (new_states (state S.Store conn.old).committed)) }
+    ensures keys { (version site : _) → IsSound (state S.Store conn.new) → HoldsRecords version site (state S.Store conn.old).committed → OnOk result (AreKeys (new_states (state S.Store conn.old).committed)) }
+    ensures rising { IfOk result (λ pairs. rises (entries_of pairs.items)) }
+    ensures damaged { (version site : _) → IsSound (state S.Store conn.new) → HoldsRecords version site (state S.Store conn.old).committed → IfErr result (λ e. e ≡ Refusal.Damaged → ¬ AreKeys (new_states (state S.Store conn.old).committed)) }
+    ensures refusal { IfErr result (λ e. (e ≡ Refusal.Damaged) ⊎ ((e ≡ Refusal.Memory) ⊎ (e ≡ Refusal.Store))) }
+{
+    if !is_settled(conn) {
+        return Err(Refusal::Store);
+    }
+    read_pairs(alloc, conn, "SELECT key, state FROM states2 ORDER BY key")
+}
+
+/// The map of version 2, by rising key.
+pub fn load_new<S: Alter>(
+    alloc: Global,
+    conn: &mut Connection<S>,
+    version: u32,
+) -> Result<Vec<(Key, Vec<u8>)>, Refusal>
+    ensures reads { OnlyReads (state S.Store conn.old) (state S.Store conn.new) }
+    ensures entries { (marked site : _) → IsSound (state S.Store conn.new) → HoldsRecords marked site (state S.Store conn.old).committed → IfOk result (λ pairs. entries_of pairs.items ≡ entries (new_states (state S.Store conn.old).committed)) }
+    ensures rising { IfOk result (λ pairs. rises (entries_of pairs.items)) }
+    ensures whole { (marked site : _) → IsSound (state S.Store conn.new) → HoldsRecords marked site (state S.Store conn.old).committed → OnOk result (IsWhole version (new_states (state S.Store conn.old).committed) (old_states (state S.Store conn.old).committed) (new_states (state S.Store conn.old).committed)) }
+    ensures damaged { (marked site : _) → IsSound (state S.Store conn.new) → HoldsRecords marked site (state S.Store conn.old).committed → IfErr result (λ e. e ≡ Refusal.Damaged → ¬ IsWhole version (new_states (state S.Store conn.old).committed) (old_states (state S.Store conn.old).committed) (new_states (state S.Store conn.old).committed)) }
+    ensures refusal { IfErr result (λ e. (e ≡ Refusal.Damaged) ⊎ ((e ≡ Refusal.Memory) ⊎ (e ≡ Refusal.Store))) }
+{
+    match check(conn, version) {
+        Ok(()) => {}
+        Err(refusal) => return Err(refusal),
+    }
+    read_new(alloc, conn)
+}
+
+fn read_old<S: Alter>(
+    alloc: Global,
+    conn: &mut Connection<S>,
+) -> Result<Vec<(Key, Vec<u8>)>, Refusal>
+    ensures reads { OnlyReads (state S.Store conn.old) (state S.Store conn.new) }
+    ensures entries { (version site : _) → IsSound (state S.Store conn.new) → HoldsRecords version site (state S.Store conn.old).committed → IfOk result (λ pairs. entries_of pairs.items ≡ entries (old_states (state S.Store conn.old).committed)) }
+    ensures keys { (version site : _) → IsSound (state S.Store conn.new) → HoldsRecords version site (state S.Store conn.old).committed → OnOk result (AreKeys (old_states (state S.Store conn.old).committed)) }
+    ensures rising { IfOk result (λ pairs. rises (entries_of pairs.items)) }
+    ensures damaged { (version site : _) → IsSound (state S.Store conn.new) → HoldsRecords version site (state S.Store conn.old).committed → IfErr result (λ e. e ≡ Refusal.Damaged → ¬ AreKeys (old_states (state S.Store conn.old).committed)) }
+    ensures refusal { IfErr result (λ e. (e ≡ Refusal.Damaged) ⊎ ((e ≡ Refusal.Memory) ⊎ (e ≡ Refusal.Store))) }
+{
+    if !is_settled(conn) {
+        return Err(Refusal::Store);
+    }
+    read_pairs(alloc, conn, "SELECT key, state FROM states ORDER BY key")
+}
+
+/// The map of version 1, by rising key.
+pub fn load_old<S: Alter>(
+    alloc: Global,
+    conn: &mut Connection<S>,
+    version: u32,
+) -> Result<Vec<(Key, Vec<u8>)>, Refusal>
+    ensures reads { OnlyReads (state S.Store conn.old) (state S.Store conn.new) }
+    ensures entries { (marked site : _) → IsSound (state S.Store conn.new) → HoldsRecords marked site (state S.Store conn.old).committed → IfOk result (λ pairs. entries_of pairs.items ≡ entries (old_states (state S.Store conn.old).committed)) }
+    ensures rising { IfOk result (λ pairs. rises (entries_of pairs.items)) }
+    ensures whole { (marked site : _) → IsSound (state S.Store conn.new) → HoldsRecords marked site (state S.Store conn.old).committed → OnOk result (IsWhole version (old_states (state S.Store conn.old).committed) (old_states (state S.Store conn.old).committed) (new_states (state S.Store conn.old).committed)) }
+    ensures damaged { (marked site : _) → IsSound (state S.Store conn.new) → HoldsRecords marked site (state S.Store conn.old).committed → IfErr result (λ e. e ≡ Refusal.Damaged → ¬ IsWhole version (old_states (state S.Store conn.old).committed) (old_states (state S.Store conn.old).committed) (new_states (state S.Store conn.old).committed)) }
+    ensures refusal { IfErr result (λ e. (e ≡ Refusal.Damaged) ⊎ ((e ≡ Refusal.Memory) ⊎ (e ≡ Refusal.Store))) }
+{
+    match check(conn, version) {
+        Ok(()) => {}
+        Err(refusal) => return Err(refusal),
+    }
+    read_old(alloc, conn)
+}

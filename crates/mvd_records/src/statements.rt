@@ -1,0 +1,142 @@
+ghost use Rattle.std.specs.Prelude.{◌≡◌, ◌≢◌, ◌⊎◌, [], IsTrue, IfErr, IfOk, MatchBool, OnOk, OnErr};
+ghost use Rattle.sqlite.specs.Held.{state};
+ghost use Rattle.sqlite.specs.State.{HasCleanDisk, KeepsCommit, Shown, Survives, CommitsShowing};
+ghost use Rattle.sqlite.specs.Given.{IsPlain};
+ghost use Rattle.sqlite.specs.Listing.{understood};
+ghost use Rattle.mvd_records.specs.Records.{IsSettled, IsSound, HoldsRecords, SavesState, KeepsStates, Leaves, OnlyReads, HasNone, AreDisjoint, AreApart, old_states, new_states};
+
+use mvd_dots::Refusal;
+use sqlite::{Alter, Connection, params};
+
+/// No transaction is under way, so what the connection sees is what was committed.
+pub fn is_settled<S: Alter>(conn: &Connection<S>) -> bool
+    ensures { IsTrue result → IsSettled (state S.Store conn.now) }
+{
+    let _schema = conn.schema();
+    conn.is_autocommit()
+}
+
+/// Sets the state of one key.
+pub fn save<S: Alter>(conn: &mut Connection<S>, key: &str, bytes: &[u8]) -> Result<(), Refusal>
+    ensures before { IsSound (state S.Store conn.new) → IsSound (state S.Store conn.old) }
+    ensures open { HasCleanDisk (state S.Store conn.new) → OnOk result (IsTrue (state S.Store conn.new).is_open) }
+    ensures kept { (version site : _) → IsSound (state S.Store conn.new) → HoldsRecords version site (state S.Store conn.old).committed → HoldsRecords version site (state S.Store conn.new).committed }
+    ensures saved { (version site : _) → IsSound (state S.Store conn.new) → HoldsRecords version site (state S.Store conn.old).committed → OnOk result (SavesState (state S.Store conn.old).committed (state S.Store conn.new).committed key.now bytes.now) }
+    ensures unchanged { IsSound (state S.Store conn.new) → OnErr result ((state S.Store conn.new).committed ≡ (state S.Store conn.old).committed) }
+    ensures refusal { IfErr result (λ e. e ≡ Refusal.Store) }
+    ensures survives { Survives (state S.Store conn.old) (state S.Store conn.new) (Leaves (state S.Store conn.old) (λ version site db. HoldsRecords version site db × SavesState (state S.Store conn.old).committed db key.now bytes.now)) }
+{
+    if !is_settled(conn) {
+        return Err(Refusal::Store);
+    }
+    match conn.execute(
+        "INSERT INTO states2 (key, state) VALUES (?1, ?2) ON CONFLICT (key) DO UPDATE SET state = excluded.state",
+        params![key, bytes],
+    ) {
+        Ok(_) => Ok(()),
+        Err(_) => Err(Refusal::Store),
+    }
+}
+
+/// Whether a query shows a row.
+fn shows_any<S: Alter>(conn: &mut Connection<S>, sql: &str) -> Result<bool, Refusal>
+    ensures before { IsSound (state S.Store conn.new) → IsSound (state S.Store conn.old) }
+    ensures open { HasCleanDisk (state S.Store conn.new) → OnOk result (IsTrue (state S.Store conn.new).is_open) }
+    ensures shown { HasCleanDisk (state S.Store conn.new) → IfOk result (λ any. (rows : _) × Shown sql.now [] (state S.Store conn.old) (state S.Store conn.new) rows × MatchBool any (rows ≢ []) (rows ≡ [])) }
+    ensures kept { HasCleanDisk (state S.Store conn.new) → IsPlain (understood (state S.Store conn.old).now.schema sql.now) → KeepsCommit (state S.Store conn.old) (state S.Store conn.new) }
+    ensures refusal { IfErr result (λ e. e ≡ Refusal.Store) }
+    ensures survives { Survives (state S.Store conn.old) (state S.Store conn.new) (CommitsShowing sql.now [] (state S.Store conn.old)) }
+{
+    match conn.query_all(sql, &[]) {
+        Ok(rows) => Ok(!rows.is_empty()),
+        Err(_) => Err(Refusal::Store),
+    }
+}
+
+/// Whether an old key is left.
+pub fn has_old<S: Alter>(conn: &mut Connection<S>) -> Result<bool, Refusal>
+    ensures reads { OnlyReads (state S.Store conn.old) (state S.Store conn.new) }
+    ensures open { HasCleanDisk (state S.Store conn.new) → OnOk result (IsTrue (state S.Store conn.new).is_open) }
+    ensures any { (version site : _) → IsSound (state S.Store conn.new) → HoldsRecords version site (state S.Store conn.old).committed → IfOk result (λ any. MatchBool any (¬ HasNone (old_states (state S.Store conn.old).committed)) (HasNone (old_states (state S.Store conn.old).committed))) }
+    ensures refusal { IfErr result (λ e. e ≡ Refusal.Store) }
+{
+    if !is_settled(conn) {
+        return Err(Refusal::Store);
+    }
+    shows_any(conn, "SELECT key FROM states LIMIT 1")
+}
+
+/// Whether a key is in both maps.
+fn has_both<S: Alter>(conn: &mut Connection<S>) -> Result<bool, Refusal>
+    ensures reads { OnlyReads (state S.Store conn.old) (state S.Store conn.new) }
+    ensures open { HasCleanDisk (state S.Store conn.new) → OnOk result (IsTrue (state S.Store conn.new).is_open) }
+    ensures any { (version site : _) → IsSound (state S.Store conn.new) → HoldsRecords version site (state S.Store conn.old).committed → IfOk result (λ any. MatchBool any (¬ AreDisjoint (old_states (state S.Store conn.old).committed) (new_states (state S.Store conn.old).committed)) (AreDisjoint (old_states (state S.Store conn.old).committed) (new_states (state S.Store conn.old).committed))) }
+    ensures refusal { IfErr result (λ e. e ≡ Refusal.Store) }
+{
+    if !is_settled(conn) {
+        return Err(Refusal::Store);
+    }
+    shows_any(
+        conn,
+        "SELECT states.key FROM states, states2 WHERE states.key = states2.key LIMIT 1",
+    )
+}
+
+/// Refuses a key in both maps, and in version 2 an old key.
+pub fn check<S: Alter>(conn: &mut Connection<S>, version: u32) -> Result<(), Refusal>
+    ensures reads { OnlyReads (state S.Store conn.old) (state S.Store conn.new) }
+    ensures open { HasCleanDisk (state S.Store conn.new) → OnOk result (IsTrue (state S.Store conn.new).is_open) }
+    ensures apart { (marked site : _) → IsSound (state S.Store conn.new) → HoldsRecords marked site (state S.Store conn.old).committed → OnOk result (AreApart version (old_states (state S.Store conn.old).committed) (new_states (state S.Store conn.old).committed)) }
+    ensures damaged { (marked site : _) → IsSound (state S.Store conn.new) → HoldsRecords marked site (state S.Store conn.old).committed → IfErr result (λ e. e ≡ Refusal.Damaged → ¬ AreApart version (old_states (state S.Store conn.old).committed) (new_states (state S.Store conn.old).committed)) }
+    ensures refusal { IfErr result (λ e. (e ≡ Refusal.Damaged) ⊎ (e ≡ Refusal.Store)) }
+{
+    if version == 2 {
+        match has_old(conn) {
+            Ok(false) => Ok(()),
+            Ok(true) => Err(Refusal::Damaged),
+            Err(refusal) => Err(refusal),
+        }
+    } else {
+        match has_both(conn) {
+            Ok(false) => Ok(()),
+            Ok(true) => Err(Refusal::Damaged),
+            Err(refusal) => Err(refusal),
+        }
+    }
+}
+
+fn set_version<S: Alter>(conn: &mut Connection<S>) -> Result<(), Refusal>
+    ensures before { IsSound (state S.Store conn.new) → IsSound (state S.Store conn.old) }
+    ensures marked { (version site : _) → IsSound (state S.Store conn.new) → HoldsRecords version site (state S.Store conn.old).committed → OnOk result (HoldsRecords 2 site (state S.Store conn.new).committed) }
+    ensures states { (version site : _) → IsSound (state S.Store conn.new) → HoldsRecords version site (state S.Store conn.old).committed → OnOk result (KeepsStates (state S.Store conn.old).committed (state S.Store conn.new).committed) }
+    ensures unchanged { IsSound (state S.Store conn.new) → OnErr result ((state S.Store conn.new).committed ≡ (state S.Store conn.old).committed) }
+    ensures refusal { IfErr result (λ e. e ≡ Refusal.Store) }
+    ensures survives { Survives (state S.Store conn.old) (state S.Store conn.new) (Leaves (state S.Store conn.old) (λ version site db. HoldsRecords 2 site db × KeepsStates (state S.Store conn.old).committed db)) }
+{
+    if !is_settled(conn) {
+        return Err(Refusal::Store);
+    }
+    match conn.execute("UPDATE meta SET value = 2 WHERE name = 'format'", &[]) {
+        Ok(_) => Ok(()),
+        Err(_) => Err(Refusal::Store),
+    }
+}
+
+/// The version becomes 2, where no old key is left.
+pub fn finish<S: Alter>(conn: &mut Connection<S>) -> Result<(), Refusal>
+    ensures before { IsSound (state S.Store conn.new) → IsSound (state S.Store conn.old) }
+    ensures marked { (version site : _) → IsSound (state S.Store conn.new) → HoldsRecords version site (state S.Store conn.old).committed → OnOk result (HoldsRecords 2 site (state S.Store conn.new).committed) }
+    ensures states { (version site : _) → IsSound (state S.Store conn.new) → HoldsRecords version site (state S.Store conn.old).committed → OnOk result (KeepsStates (state S.Store conn.old).committed (state S.Store conn.new).committed) }
+    ensures moved { (version site : _) → IsSound (state S.Store conn.new) → HoldsRecords version site (state S.Store conn.old).committed → OnOk result (HasNone (old_states (state S.Store conn.old).committed)) }
+    ensures damaged { (version site : _) → IsSound (state S.Store conn.new) → HoldsRecords version site (state S.Store conn.old).committed → IfErr result (λ e. e ≡ Refusal.Damaged → ¬ HasNone (old_states (state S.Store conn.old).committed)) }
+    ensures unchanged { (version site : _) → IsSound (state S.Store conn.new) → HoldsRecords version site (state S.Store conn.old).committed → OnErr result ((state S.Store conn.new).committed ≡ (state S.Store conn.old).committed) }
+    ensures refusal { IfErr result (λ e. (e ≡ Refusal.Damaged) ⊎ (e ≡ Refusal.Store)) }
+    ensures survives { Survives (state S.Store conn.old) (state S.Store conn.new) (Leaves (state S.Store conn.old) (λ version site db. HoldsRecords 2 site db × KeepsStates (state S.Store conn.old).committed db)) }
+{
+    match has_old(conn) {
+        Ok(false) => {}
+        Ok(true) => return Err(Refusal::Damaged),
+        Err(refusal) => return Err(refusal),
+    }
+    set_version(conn)
+}

@@ -18,6 +18,9 @@ fn open_stopping(
     alloc: Global,
     files: Files<Stopping>,
 ) -> Result<Connection<FileStore<Stopping>>, Files<Stopping>> {
+    if !files.may_be_used() {
+        return Err(files);
+    }
     match Connection::open_files(alloc, files, Options::new(1)) {
         Ok(conn) => Ok(conn),
         Err((_, left)) => Err(left.into_files()),
@@ -32,7 +35,11 @@ fn records_of<S: Alter + Drop>(alloc: Global, conn: Connection<S>) -> Result<Rec
 }
 
 fn open_new(alloc: Global) -> Result<Connection<FileStore<Memory>>, Fail> {
-    match Connection::open_files(alloc, empty(alloc), Options::new(1)) {
+    let files = empty(alloc);
+    if !files.may_be_used() {
+        return Err("the files may not be used")?;
+    }
+    match Connection::open_files(alloc, files, Options::new(1)) {
         Ok(conn) => Ok(conn),
         Err(_) => Err("the files were not made")?,
     }

@@ -1,0 +1,11 @@
+pub mod Ranges
+pub mod Places
+pub mod Members
+pub mod Ends
+pub mod Grouped
+pub mod Room
+pub mod Least
+pub mod Going
+pub mod Stepping
+pub mod Held
+pub mod Paging

@@ -1,0 +1,16 @@
+//! Indexes and views, kept as ordered rows while the states of keys change.
+#![tactic(auto)]
+
+mod changes;
+mod definitions;
+mod index;
+mod kept;
+mod loops;
+mod marks;
+mod meters;
+mod tallies;
+mod views;
+
+pub use changes::Rows;
+pub use definitions::{Defs, ViewDef};
+pub use meters::Meter;

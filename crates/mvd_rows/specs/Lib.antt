@@ -1,4 +1,6 @@
+pub mod Answers
 pub mod Becomes
+pub mod Changes
 pub mod Counted
 pub mod Defs
 pub mod Marks

@@ -1,15 +1,19 @@
 -- When kept rows are those of what is visible.
-use Rattle.std.specs.Prelude.{List, ◌≡◌, ℕ, ◌==◌, Bool, false, true, Option, Some, None, is_some, ◌≤ℤ◌, negsuc, pos, ◌≤◌, ◌^◌, ℤ, if◌then◌else◌}
+use Rattle.std.specs.Prelude.{List, map, ◌≡◌, ℕ, ◌==◌, Bool, false, true, Option, Some, None, is_some, ◌≤ℤ◌, negsuc, pos, ◌≤◌, ◌^◌, ℤ, if◌then◌else◌}
 use Rattle.std.specs.List.{All}
-use Rattle.std.specs.FinMap.{get, len}
+use Rattle.std.specs.FinMap.{FinMap, get, len}
+use Rattle.mvd_keys.specs.Key.{key_cmp}
+use Rattle.mvd_rows.specs.Defs.{Definitions}
+use Rattle.mvd_rows.specs.declared.changes.Rows.{Rows}
+use Rattle.mvd_rows.specs.declared.definitions.ViewDef.{ViewDef}
 use Rattle.std.specs.BTreeMap as tree
 use Rattle.std.specs.BTreeMap.{BTreeMap}
-use Rattle.mvd_keys.specs.State.{Text}
+use Rattle.mvd_keys.specs.State.{Text, State}
 use Rattle.mvd_docs.specs.declared.term.Term.{Term}
 use Rattle.mvd_rows.specs.Names.{Field}
 use Rattle.mvd_docs.specs.Term.{term_cmp}
 use Rattle.mvd_rows.specs.Marks.{mark_cmp, tally_cmp, tally_of}
-use Rattle.mvd_rows.specs.Visible.{Visible}
+use Rattle.mvd_rows.specs.Visible.{Visible, visible_in}
 use Rattle.mvd_rows.specs.Views.{is_in, members, wholes, times, row_of}
 use Rattle.mvd_rows.specs.declared.index.Index.{Index}
 use Rattle.mvd_rows.specs.declared.views.Row.{Row}
@@ -83,3 +87,15 @@ IsSmall visible = len visible ≤ 2 ^ 40
 pub record AreRowsOf (indexes : List Index) (views : List View) (visible : Visible) : Type 0 where
   pub places : All (λ index. IsIndexOf index visible) indexes
   pub rows : All (λ view. IsViewOf view visible) views
+
+abbrev pub definition_of : View → ViewDef
+definition_of view = record { name = view.name; group = view.group; sum = view.sum }
+
+-- what the rows are kept of
+abbrev pub definitions_of : Rows → Definitions
+definitions_of rows = record { indexes = map (λ index. index.field) rows.indexes.items; views = map definition_of rows.views.items }
+
+-- the rows are kept of these definitions, and stand for this map of key states
+pub record IsRowsOf (kept : Rows) (definitions : Definitions) (states : FinMap key_cmp State) : Type 0 where
+  pub defs : definitions_of kept ≡ definitions
+  pub rows : AreRowsOf kept.indexes.items kept.views.items (visible_in states)

@@ -5,9 +5,11 @@ mod changes;
 mod definitions;
 mod index;
 mod kept;
+pub mod laws;
 mod loops;
 mod marks;
 mod meters;
+mod siblings;
 mod tallies;
 mod views;
 

@@ -1,8 +1,8 @@
 use Rattle.std.proofs.Common.{rules, arith, length-set, ◌∙◌, ◌≡◌, length, sym, subst}
 use Rattle.std.specs.FinMap as map
 use Rattle.std.specs.List.{All}
-use Rattle.mvd_rows.specs.Stands.{IsViewOf}
-use Rattle.mvd_rows.proofs.Stepping.{done_more, rest_less, written}
+use Rattle.mvd_rows.specs.Stands.{IsViewOf, definition_of}
+use Rattle.mvd_rows.proofs.Stepping.{same_definition, map_written, done_more, rest_less, written}
 use Rattle.mvd_rows.proofs.loops.remove_rows.Goals as goal
 
 pub remove-requires : goal.remove-requires
@@ -20,6 +20,7 @@ loop-view-preserved c =
           (c.in_ok-remove.ensures.rows visible spot (subst (λ x. IsViewOf x visible) (sym (c.loop-view.invariant.rest c.loop-view.view-index c.view-item.result (omega arith))) (all c.loop-view.view-index c.view-item.result (omega arith))) fresh)
           (c.loop-view.invariant.rows visible spot all fresh);
       rest = rest_less c.args.views.now.items c.loop-view.view-items c.loop-view.view-index c.remove.new.self c.loop-view.invariant.rest;
+      fields = map_written definition_of c.loop-view.view-items c.loop-view.view-index c.remove.new.self c.view-item.result (omega arith) (same_definition _ _ c.remove.ensures.fields) ∙ c.loop-view.invariant.fields;
       len = length-set c.loop-view.view-items c.loop-view.view-index c.remove.new.self ∙ c.loop-view.invariant.len;
       counts = omega arith;
     }

@@ -1,11 +1,12 @@
 -- How far the siblings of a key went, or came.
-use Rattle.std.proofs.Common.{◌≡◌, ℕ, ◌+◌, ◌*◌, ◌^◌, ◌≤◌, Bool, true, false, not, T, ◌&&◌, cond, List, [], ◌∷◌, length, Option, Some, None, refl, sym, ap, ◌∙◌, subst, arith, true≢false}
+use Rattle.std.proofs.Common.{◌≡◌, ℕ, ◌<◌, drop, get_or, ◌+◌, ◌*◌, ◌^◌, ◌≤◌, Bool, true, false, not, T, ◌&&◌, cond, List, [], ◌∷◌, length, Option, Some, None, refl, sym, ap, ◌∙◌, subst, arith, true≢false}
+use Rattle.std.proofs.lemmas.List.{at_drop_more, drop_all}
 use Rattle.std.specs.Ordering.{eq_by_cmp}
 use Rattle.std.specs.FinMap.{get, find, insert, remove, len, is_sorted, get-insert, get-remove}
 use Rattle.std.specs.FinMap.Entries.{below_all}
 use Rattle.mvd_dots.specs.Dot.{dot_cmp, DotValue}
 use Rattle.mvd_dots.proofs.Sets.{dot_total}
-use Rattle.mvd_keys.specs.State.{Text, pairs_of}
+use Rattle.mvd_keys.specs.State.{Text, pair_of, pairs_of}
 use Rattle.mvd_keys.specs.Writes.{Key}
 use Rattle.mvd_keys.specs.declared.siblings.Sibling.{Sibling}
 use Rattle.mvd_keys.proofs.Lists.{tied_itself_dot}
@@ -29,6 +30,13 @@ pub record Going (rows : Rows) (visible : Visible) (key : Key) (others rest : Li
 pub going_starts : (rows : Rows) (visible : Visible) (key : Key) (others all : List Pair) → AreRowsOf rows.indexes.items rows.views.items visible → HasSiblings visible key all →
     Going rows visible key others all (taken_out visible key (not_among others all))
 going_starts rows visible key others all are has = record { now = visible; are = are; few = omega arith; there = λ dot d found. has.at dot ∙ found; aims = refl }
+
+-- the next sibling, and the rest
+pub next_is : (siblings : List Sibling) (i : ℕ) (x : Sibling) → i < length siblings → x ≡ get_or siblings i x → pairs_of (drop i siblings) ≡ pair_of x ∷ pairs_of (drop (i + 1) siblings)
+next_is siblings i x h e = at_drop_more pairs_of siblings i x h ∙ ap (λ y. pair_of y ∷ pairs_of (drop (i + 1) siblings)) (sym e)
+
+pub none_left : (siblings : List Sibling) (i : ℕ) → length siblings ≤ i → pairs_of (drop i siblings) ≡ []
+none_left siblings i h = ap pairs_of (drop_all i siblings h)
 
 -- the first of the rest stands there
 pub going_first : (rows : Rows) (visible : Visible) (key : Key) (others : List Pair) (x : Pair) (rest : List Pair) (aim : Visible) (g : Going rows visible key others (x ∷ rest) aim) → get g.now (spot key x.0) ≡ Some x.1
@@ -116,3 +124,9 @@ counted_more others x rest each was now leaves h =
 
 pub counted_same : (others : List Pair) (x : Pair) (rest : List Pair) (each : ℕ) → is_among others x ≡ true → length (not_among others rest) * each ≡ length (not_among others (x ∷ rest)) * each
 counted_same others x rest each stays = sym (ap (λ b. length (cond (not b) (x ∷ not_among others rest) (not_among others rest)) * each) stays)
+
+pub counted_on : (now p was q r most : ℕ) → now + p ≤ was + q → r ≡ q → was + r ≤ most → now + p ≤ most
+counted_on now p was q r most h e g = omega arith
+
+pub same_start : (now was p : ℕ) → now ≡ was → now + p ≤ was + p
+same_start now was p e = omega arith

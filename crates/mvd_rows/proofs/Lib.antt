@@ -6,6 +6,7 @@ pub mod Grouped
 pub mod Held
 pub mod Least
 pub mod Members
+pub mod Nothing
 pub mod Paging
 pub mod Places
 pub mod Ranges
@@ -13,4 +14,5 @@ pub mod Reached
 pub mod Room
 pub mod Sorted
 pub mod Spots
+pub mod Standing
 pub mod Stepping

@@ -130,3 +130,19 @@ counted_on now p was q r most h e g = omega arith
 
 pub same_start : (now was p : ℕ) → now ≡ was → now + p ≤ was + p
 same_start now was p e = omega arith
+
+dist : (a b each : ℕ) → (a + b) * each ≡ a * each + b * each
+dist a b each = grind arith
+
+pub both_counted : (now mid was a b each other : ℕ) → mid ≤ was + a * each → now ≤ mid + b * other → other ≡ each → now ≤ was + (a + b) * each
+both_counted now mid was a b each other h g e =
+    let f = ap (λ n. b * n) e in
+    let d = dist a b each in
+    omega arith
+
+pub len-taken_out : (visible : Visible) (key : Key) (es : List Pair) (m : ℕ) → len visible ≤ m → len (taken_out visible key es) ≤ m
+len-taken_out visible key [] m h = h
+len-taken_out visible key (e ∷ es) m h = len-taken_out (remove visible (spot key e.0)) key es m (len-gone visible (spot key e.0) m h)
+
+pub same_each : (a b i v : ℕ) → a ≡ i → b ≡ v → a + 2 * b ≡ i + 2 * v
+same_each a b i v e f = omega arith

@@ -1,10 +1,11 @@
 -- What one key's siblings make visible, as some of them go and others come.
-use Rattle.std.specs.Prelude.{◌≡◌, ◌≤◌, ◌^◌, Bool, false, true, not, List, [], ◌∷◌, filter, length, Option, Some, None, is_some, unwrap_or, bytes_eq}
+use Rattle.std.specs.Prelude.{◌≡◌, ℕ, ◌+◌, ◌*◌, ◌≤◌, ◌^◌, Bool, false, true, not, List, [], ◌∷◌, filter, length, Option, Some, None, is_some, unwrap_or, bytes_eq}
 use Rattle.std.specs.FinMap.{FinMap, get, find, insert, remove, len, entries}
 use Rattle.mvd_dots.specs.Dot.{dot_cmp, DotValue}
 use Rattle.mvd_keys.specs.Key.{key_cmp}
 use Rattle.mvd_keys.specs.State.{Text, State, empty_state}
 use Rattle.mvd_keys.specs.Writes.{Key}
+use Rattle.mvd_rows.specs.Defs.{Definitions}
 use Rattle.mvd_rows.specs.Visible.{Visible, spot}
 
 abbrev pub is_document : Text → Option Text → Bool
@@ -45,3 +46,11 @@ state_in states key = unwrap_or (get states key) empty_state
 pub record IsRoomy (states : FinMap key_cmp State) : Type 0 where
   pub keys : len states ≤ 2 ^ 20
   pub siblings : (key : Key) (state : State) → get states key ≡ Some state → len state.siblings ≤ 2 ^ 16
+
+-- how many siblings stand in one of two states alone
+abbrev pub differing : State → State → ℕ
+differing old new = length (not_among (entries new.siblings) (entries old.siblings)) + length (not_among (entries old.siblings) (entries new.siblings))
+
+-- the updates that one sibling costs at most: one for each index, and two for each view
+abbrev pub updates_each : Definitions → ℕ
+updates_each defs = length defs.indexes + 2 * length defs.views

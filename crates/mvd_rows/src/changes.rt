@@ -84,6 +84,8 @@ impl Rows {
         ensures rows { OnOk result ((visible : Visible) → AreRowsOf self.old.indexes.items self.old.views.items visible → HasSiblings visible key.now (pairs_of siblings.now) →
             AreRowsOf self.new.indexes.items self.new.views.items (taken_out visible key.now (not_among (pairs_of others.now) (pairs_of siblings.now)))) }
         ensures defs { OnOk result (definitions_of self.new ≡ definitions_of self.old) }
+        ensures indexes { length self.new.indexes.items ≡ length self.old.indexes.items }
+        ensures views { length self.new.views.items ≡ length self.old.views.items }
         ensures memory { IfErr result (λ refusal. refusal ≡ Memory) }
         ensures counts { WithinUpdates (length (not_among (pairs_of others.now) (pairs_of siblings.now)) * (length self.old.indexes.items + 2 * length self.old.views.items)) meter.old meter.new }
     {
@@ -112,6 +114,8 @@ impl Rows {
         ensures rows { OnOk result ((visible : Visible) → AreRowsOf self.old.indexes.items self.old.views.items visible → IsFreeOf visible key.now (pairs_of others.now) (pairs_of siblings.now) →
             AreRowsOf self.new.indexes.items self.new.views.items (put_in visible key.now (not_among (pairs_of others.now) (pairs_of siblings.now)))) }
         ensures defs { OnOk result (definitions_of self.new ≡ definitions_of self.old) }
+        ensures indexes { length self.new.indexes.items ≡ length self.old.indexes.items }
+        ensures views { length self.new.views.items ≡ length self.old.views.items }
         ensures memory { IfErr result (λ refusal. refusal ≡ Memory) }
         ensures counts { WithinUpdates (length (not_among (pairs_of others.now) (pairs_of siblings.now)) * (length self.old.indexes.items + 2 * length self.old.views.items)) meter.old meter.new }
     {
@@ -124,6 +128,28 @@ impl Rows {
                 self.add(&spot, &sibling.document, meter)?;
             }
         }
+        Ok(())
+    }
+
+    /// From the one list of a key's siblings to the other. What stands in both is not touched.
+    pub(crate) fn replace(
+        &mut self,
+        key: &Key,
+        old: &[Sibling],
+        new: &[Sibling],
+        meter: &mut Meter,
+    ) -> Result<(), Refusal>
+        requires rising_old { IsTrue (rises old.now) }
+        requires rising_new { IsTrue (rises new.now) }
+        requires room { (visible : Visible) × (AreRowsOf self.old.indexes.items self.old.views.items visible × (len visible + length new.now ≤ 2 ^ 40) × HasSiblings visible key.now (pairs_of old.now)) }
+        ensures rows { OnOk result ((visible : Visible) → AreRowsOf self.old.indexes.items self.old.views.items visible → HasSiblings visible key.now (pairs_of old.now) →
+            AreRowsOf self.new.indexes.items self.new.views.items (put_in (taken_out visible key.now (not_among (pairs_of new.now) (pairs_of old.now))) key.now (not_among (pairs_of old.now) (pairs_of new.now)))) }
+        ensures defs { OnOk result (definitions_of self.new ≡ definitions_of self.old) }
+        ensures memory { IfErr result (λ refusal. refusal ≡ Memory) }
+        ensures counts { WithinUpdates ((length (not_among (pairs_of new.now) (pairs_of old.now)) + length (not_among (pairs_of old.now) (pairs_of new.now))) * (length self.old.indexes.items + 2 * length self.old.views.items)) meter.old meter.new }
+    {
+        self.take_out(key, old, new, meter)?;
+        self.put_in(key, new, old, meter)?;
         Ok(())
     }
 }

@@ -1,7 +1,9 @@
 //! Indexes and views, kept as ordered rows while the states of keys change.
 #![tactic(auto)]
 
+mod building;
 mod changes;
+pub mod counted;
 mod definitions;
 mod index;
 mod kept;

@@ -1,9 +1,12 @@
+pub mod Asking
 pub mod ByKey
 pub mod Changing
 pub mod Ends
 pub mod Going
 pub mod Grouped
 pub mod Held
+pub mod InOrder
+pub mod InRows
 pub mod Least
 pub mod Members
 pub mod Nothing
@@ -16,3 +19,4 @@ pub mod Sorted
 pub mod Spots
 pub mod Standing
 pub mod Stepping
+pub mod Trees

@@ -32,9 +32,13 @@ place_of field e = option_map (λ term. (place_at e.0 term, tt)) (term_of field 
 unfoldable pub places_in : Field → Visible → List Place
 places_in field visible = keys (from_entries {R = place_cmp} (filter_map (place_of field) (entries visible)))
 
+-- the group in which a sibling stands, if it has a term at the field
+abbrev pub group_of : Field → Spot × Text → Option (Term × Unit {0})
+group_of field e = option_map (λ term. (term, tt)) (term_of field e.1)
+
 -- the terms by which a field groups what is visible, in their order
 unfoldable pub groups_in : Field → Visible → List Term
-groups_in group visible = keys (from_entries {R = term_cmp} (filter_map (λ e. option_map (λ term. (term, tt)) (term_of group e.1)) (entries visible)))
+groups_in group visible = keys (from_entries {R = term_cmp} (filter_map (group_of group) (entries visible)))
 
 abbrev pub shown : Term → Row → Term × ℕ × ℤ × Option (ℤ × ℤ)
 shown term row = (term, row.count, row.sum, row.ends)

@@ -1,9 +1,13 @@
 //! The places of one field.
-ghost use Rattle.std.specs.Prelude.{◌≡◌, None, Some, OnOk, IfErr, IfOk};
+ghost use Rattle.std.specs.Prelude.{◌≡◌, Bool, List, ◌&&◌, not, filter, filter_map, None, Some, OnOk, IfErr, IfOk};
 ghost use Rattle.std.specs.BTreeMap.Range.{entries_between};
 ghost use Rattle.std.specs.declared.ops.Bound.TheVariants.{Excluded, Unbounded};
 ghost use Rattle.mvd_rows.specs.Marks.{mark_cmp};
-ghost use Rattle.mvd_rows.specs.Pages.{IsPageOf, up_to};
+ghost use Rattle.mvd_rows.specs.Pages.{IsPageOf, is_past, place_of_mark, up_to};
+ghost use Rattle.mvd_rows.specs.Answers.{page_of, places_in};
+ghost use Rattle.mvd_docs.specs.Term.{term_cmp};
+ghost use Rattle.mvd_keys.specs.declared.places.Place.{Place as PlaceValue};
+ghost use Rattle.std.specs.Ordering.{is_gt};
 ghost use Rattle.std.specs.BTreeMap as tree;
 ghost use Rattle.std.specs.FinMap as map;
 ghost use Rattle.mvd_dots.specs.declared.refusals.Refusal.TheVariants.{Memory};
@@ -15,6 +19,7 @@ use crate::kept::Kept;
 use crate::marks::{Mark, Spot};
 use crate::meters::Meter;
 use mvd_dots::Refusal;
+use mvd_keys::Place;
 use mvd_docs::{Document, Field, Term};
 use std::alloc::Global;
 
@@ -77,13 +82,14 @@ impl Index {
     }
 
     /// The first thousand marks that stand after `start`, up to a term, and whether more are left.
-    pub(crate) fn page(
+    fn marks(
         &self,
         alloc: Global,
         start: &Mark,
         to: &Term,
         meter: &mut Meter,
     ) -> Result<(Vec<Mark>, bool), Refusal>
+        ensures ordered { tree.IsOrdered mark_cmp self.now.places.map }
         ensures page { IfOk result (λ page. IsPageOf (up_to to.now (entries_between mark_cmp (Excluded start.now) Unbounded self.now.places.map.entries)) page.0.items page.1) }
         ensures memory { IfErr result (λ refusal. refusal ≡ Memory) }
         ensures counts { Within 0 1002 meter.old meter.new }
@@ -105,4 +111,38 @@ impl Index {
         };
         Ok((marks, more))
     }
+
+    /// The first thousand places that stand after `start`, up to a term, and whether more are left.
+    pub(crate) fn page(
+        &self,
+        alloc: Global,
+        start: &Mark,
+        to: &Term,
+        meter: &mut Meter,
+    ) -> Result<(Vec<Place>, bool), Refusal>
+        ensures page { IfOk result (λ page. (visible : Visible) → IsIndexOf self.now visible →
+            ◌≡◌ {A = List PlaceValue × Bool} (page.0.items, page.1) (page_of (filter (λ p. is_past start.now p && not (is_gt (term_cmp p.term to.now))) (places_in self.now.field visible)))) }
+        ensures memory { IfErr result (λ refusal. refusal ≡ Memory) }
+        ensures counts { Within 0 1002 meter.old meter.new }
+    {
+        let (marks, more) = self.marks(alloc, start, to, meter)?;
+        let places = places_of(alloc, marks)?;
+        Ok((places, more))
+    }
+}
+
+/// The places of marks.
+fn places_of(alloc: Global, marks: Vec<Mark>) -> Result<Vec<Place>, Refusal>
+    ensures places { IfOk result (λ places. places.items ≡ filter_map place_of_mark marks.items) }
+    ensures memory { IfErr result (λ refusal. refusal ≡ Memory) }
+{
+    let mut places = Vec::new(alloc);
+    for mark in marks {
+        let Mark { term, spot } = mark;
+        if let Some(spot) = spot {
+            let Spot { key, dot } = spot;
+            places.push(Place { term, key, dot })?;
+        }
+    }
+    Ok(places)
 }

@@ -70,6 +70,19 @@ impl<K: Ord + Drop, V: Drop> Kept<K, V> {
         }
     }
 
+    /// All that stands there.
+    pub fn all(&self, meter: &mut Meter) -> Walk<'_, K, V>
+        ensures rest { result.rest ≡ entries_between K.cmp Unbounded Unbounded self.now.map.entries }
+        ensures ordered { tree.IsOrdered K.cmp self.now.map }
+        ensures counts { CountsLook meter.old meter.new }
+    {
+        meter.count_look();
+        let bounds: (Bound<&K>, Bound<&K>) = (Bound::Unbounded, Bound::Unbounded);
+        Walk {
+            rest: self.map.range(bounds),
+        }
+    }
+
     /// The first key from one to another, both included.
     pub fn first_between(&self, from: &K, to: &K, meter: &mut Meter) -> Option<&K>
         requires { IsLeBy K.cmp from.now to.now }

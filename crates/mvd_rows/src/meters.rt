@@ -1,4 +1,5 @@
 //! What work on kept rows is counted by.
+ghost use Rattle.std.specs.Prelude.{◌≡◌};
 ghost use Rattle.mvd_rows.specs.Counted.{CountsUpdate, CountsLook};
 
 /// How many entries were put in, taken out or altered, and how many were looked at.
@@ -9,6 +10,16 @@ pub struct Meter {
 }
 
 impl Meter {
+    /// Nothing was counted yet.
+    pub fn new() -> Meter
+        ensures { result ≡ record { updates = 0; looks = 0 } }
+    {
+        Meter {
+            updates: 0,
+            looks: 0,
+        }
+    }
+
     pub(crate) fn count_update(&mut self)
         ensures { CountsUpdate self.old self.new }
     {

@@ -1,13 +1,18 @@
 //! The rows of one view.
 ghost use Rattle.std.specs.BTreeMap as tree;
-ghost use Rattle.std.specs.Prelude.{◌≡◌, unwrap_or, None, Some, OnOk, IfErr};
+ghost use Rattle.std.specs.Prelude.{◌≡◌, ℕ, ℤ, Bool, List, Option, filter, map as list_map, unwrap_or, None, Some, OnOk, IfErr, IfOk};
 ghost use Rattle.std.specs.FinMap as map;
+ghost use Rattle.std.specs.BTreeMap.Range.{entries_between};
+ghost use Rattle.std.specs.declared.ops.Bound.TheVariants.{Unbounded};
+ghost use Rattle.mvd_docs.specs.declared.term.Term.{Term as TermValue};
+ghost use Rattle.mvd_rows.specs.Answers.{is_after_term, page_of, view_in};
+ghost use Rattle.mvd_rows.specs.Pages.{IsPageOf, shown_entry, start_of};
 ghost use Rattle.mvd_dots.specs.declared.refusals.Refusal.TheVariants.{Memory};
 ghost use Rattle.mvd_rows.specs.declared.marks.Spot.{Spot};
 ghost use Rattle.mvd_docs.specs.Term.{term_cmp};
 ghost use Rattle.mvd_rows.specs.Becomes.{Becomes};
 ghost use Rattle.mvd_rows.specs.Counted.{Within};
-ghost use Rattle.mvd_rows.specs.Stands.{IsViewOf, IsSmall, HasSameFields, unless_none};
+ghost use Rattle.mvd_rows.specs.Stands.{IsViewOf, IsSmall, HasSameFields, definition_of, unless_none};
 ghost use Rattle.mvd_rows.specs.Views.{widened, no_row, row_of};
 ghost use Rattle.mvd_rows.specs.Visible.{Visible};
 
@@ -45,6 +50,9 @@ pub struct View {
     pub(crate) rows: Kept<Term, Row>,
     pub(crate) tallies: Tallies,
 }
+
+/// A group's term, its count, its sum, and the least and the greatest whole number that stands there.
+pub type ShownRow = (Term, u64, i128, Option<(i64, i64)>);
 
 /// The ends of a group that a whole number comes into.
 fn widened(whole: i64, ends: Option<(i64, i64)>) -> (i64, i64)
@@ -150,6 +158,49 @@ impl View {
         };
         self.set_row(group, row, meter)?;
         Ok(())
+    }
+
+    /// The first thousand rows after a term, and whether more are left.
+    fn some_rows(
+        &self,
+        alloc: Global,
+        after: &Option<Term>,
+        meter: &mut Meter,
+    ) -> Result<(Vec<ShownRow>, bool), Refusal>
+        ensures ordered { tree.IsOrdered term_cmp self.now.rows.map }
+        ensures page { IfOk result (λ page. IsPageOf (list_map shown_entry (entries_between term_cmp (start_of after.now) Unbounded self.now.rows.map.entries)) page.0.items page.1) }
+        ensures memory { IfErr result (λ refusal. refusal ≡ Memory) }
+        ensures counts { Within 0 1002 meter.old meter.new }
+    {
+        let mut rows = Vec::new(alloc);
+        let mut walk = match after {
+            Some(term) => self.rows.after(term, meter),
+            None => self.rows.all(meter),
+        };
+        for _taken in 0..1000usize {
+            let Some((term, row)) = walk.next(meter) else {
+                return Ok((rows, false));
+            };
+            rows.push((term.copy(alloc)?, row.count, row.sum, row.ends))?;
+        }
+        let more = walk.next(meter).is_some();
+        Ok((rows, more))
+    }
+
+    /// The first thousand rows after a term, and whether more are left.
+    pub(crate) fn page(
+        &self,
+        alloc: Global,
+        after: &Option<Term>,
+        meter: &mut Meter,
+    ) -> Result<(Vec<ShownRow>, bool), Refusal>
+        ensures page { IfOk result (λ page. (visible : Visible) → IsViewOf self.now visible →
+            ◌≡◌ {A = List (TermValue × ℕ × ℤ × Option (ℤ × ℤ)) × Bool} (page.0.items, page.1) (page_of (filter (λ r. is_after_term after.now r.0) (view_in (definition_of self.now) visible)))) }
+        ensures memory { IfErr result (λ refusal. refusal ≡ Memory) }
+        ensures counts { Within 0 1002 meter.old meter.new }
+    {
+        let (rows, more) = self.some_rows(alloc, after, meter)?;
+        Ok((rows, more))
     }
 
     /// Keeps a row, unless nothing is a member of it.

@@ -3,7 +3,7 @@ use Rattle.std.specs.BTreeMap.Range.{entries_between}
 use Rattle.std.specs.declared.ops.Bound.TheVariants.{Excluded, Unbounded}
 use Rattle.mvd_rows.specs.Marks.{mark_cmp}
 use Rattle.mvd_rows.specs.Pages.{up_to}
-use Rattle.mvd_rows.proofs.index.Index.page.Given as goal
+use Rattle.mvd_rows.proofs.index.Index.marks.Given as goal
 
 abbrev pub invariant-loop-taken : goal.invariant-loop-taken
 invariant-loop-taken l = record {

@@ -37,9 +37,10 @@ abbrev Range : Term → Tally → Type 0
 Range g k = IsInRange tally_cmp (Included (tally_of g LEAST)) (Included (tally_of g MOST)) k
 
 in_range : (g : Term) (w : ℤ) → IsI64 w → Range g (tally_of g w)
-in_range g w fits =
-    (ap (λ r. is_gt (ordering_then r (int_cmp LEAST w))) (tied_itself term_cmp_total g) ∙ not_above LEAST w fits.least,
-    ap (λ r. is_gt (ordering_then r (int_cmp w MOST))) (tied_itself term_cmp_total g) ∙ not_above w MOST fits.most)
+in_range g w fits = (
+  ap (λ r. is_gt (ordering_then r (int_cmp LEAST w))) (tied_itself term_cmp_total g) ∙ not_above LEAST w fits.least,
+  ap (λ r. is_gt (ordering_then r (int_cmp w MOST))) (tied_itself term_cmp_total g) ∙ not_above w MOST fits.most,
+)
 
 same_group_by : (r s b c : Ordering) → r ≡ ordering_reverse s → is_gt (ordering_then r b) ≡ false → is_gt (ordering_then s c) ≡ false → r ≡ Equal
 same_group_by Less Less b c e h k = cc

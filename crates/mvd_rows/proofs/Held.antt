@@ -12,7 +12,6 @@ use Rattle.mvd_rows.specs.declared.marks.Spot.{Spot}
 use Rattle.mvd_rows.specs.Visible.{visible, spot, spot_of_put}
 use Rattle.mvd_rows.proofs.Grouped.{is_eq-then}
 
-
 -- the first put under a key and a dot
 find_put : (key : Key) (dot : DotValue) (W : List Write) → find spot_cmp (spot key dot) (filter_map spot_of_put W) ≡ put_at key W dot
 find_put key dot [] = refl

@@ -129,9 +129,10 @@ some_later false o h = h
 
 all_spotted : (es : List Entry) → ((m : Mark) → is_some (lookup (tree.is_at (mark_cmp m)) es) ≡ true → is_some m.spot ≡ true) → AllByRecursion (λ e. is_some e.0.spot ≡ true) es
 all_spotted [] h = tt
-all_spotted (e ∷ es) h =
-    (h e.0 (ap (λ r. is_some (cond (is_eq r) (Some tt) (lookup (tree.is_at (mark_cmp e.0)) es))) (tied_itself marks_total e.0)),
-    all_spotted es (λ m found. h m (some_later (is_eq (mark_cmp m e.0)) (lookup (tree.is_at (mark_cmp m)) es) found)))
+all_spotted (e ∷ es) h = (
+  h e.0 (ap (λ r. is_some (cond (is_eq r) (Some tt) (lookup (tree.is_at (mark_cmp e.0)) es))) (tied_itself marks_total e.0)),
+  all_spotted es (λ m found. h m (some_later (is_eq (mark_cmp m e.0)) (lookup (tree.is_at (mark_cmp m)) es) found)),
+)
 
 place_spotted : (field : Field) (visible : Visible) (m : Mark) → is_some (marked (is_place field visible m)) ≡ true → is_some m.spot ≡ true
 unfolding is_place

@@ -60,14 +60,19 @@ found x [] = ((x, x), (refl, record { has_least = times_head x []; has_greatest 
 found x (y ∷ ys) =
     let f = found y ys in
     let lo = f.0.0 in
-    let hi = f.0.1 in
-    ((int_min x lo, int_max x hi), (ap (widened x) f.1.0, record {
-      has_least = ⊎_elim (λ e. subst (λ z. 1 ≤ times z (x ∷ y ∷ ys)) (sym e) (times_head x (y ∷ ys))) (λ e. subst (λ z. 1 ≤ times z (x ∷ y ∷ ys)) (sym e) (times_tail lo x (y ∷ ys) f.1.1.has_least)) (min_case x lo);
-      has_greatest = ⊎_elim (λ e. subst (λ z. 1 ≤ times z (x ∷ y ∷ ys)) (sym e) (times_head x (y ∷ ys))) (λ e. subst (λ z. 1 ≤ times z (x ∷ y ∷ ys)) (sym e) (times_tail hi x (y ∷ ys) f.1.1.has_greatest)) (max_case x hi);
-      bounds = λ w h. split _ w x (y ∷ ys)
-          (λ e. (omega (arith, ints, clamps), omega (arith, ints, clamps)))
-          (λ k. let b = f.1.1.bounds w k in let l = b.0 in let g = b.1 in (omega (arith, ints, clamps), omega (arith, ints, clamps))) h;
-    }))
+    let hi = f.0.1 in (
+      (int_min x lo, int_max x hi),
+      (
+        ap (widened x) f.1.0,
+        record {
+          has_least = ⊎_elim (λ e. subst (λ z. 1 ≤ times z (x ∷ y ∷ ys)) (sym e) (times_head x (y ∷ ys))) (λ e. subst (λ z. 1 ≤ times z (x ∷ y ∷ ys)) (sym e) (times_tail lo x (y ∷ ys) f.1.1.has_least)) (min_case x lo);
+          has_greatest = ⊎_elim (λ e. subst (λ z. 1 ≤ times z (x ∷ y ∷ ys)) (sym e) (times_head x (y ∷ ys))) (λ e. subst (λ z. 1 ≤ times z (x ∷ y ∷ ys)) (sym e) (times_tail hi x (y ∷ ys) f.1.1.has_greatest)) (max_case x hi);
+          bounds = λ w h. split _ w x (y ∷ ys)
+              (λ e. (omega (arith, ints, clamps), omega (arith, ints, clamps)))
+              (λ k. let b = f.1.1.bounds w k in let l = b.0 in let g = b.1 in (omega (arith, ints, clamps), omega (arith, ints, clamps))) h;
+        },
+      ),
+    )
 
 -- each number that a field gives fits an i64
 fits_by : (sum : Field) (e : Spot × Text) (ws : List ℤ) (w : ℤ) (o : Option ℤ) → whole_of sum e.1 ≡ o → (1 ≤ times w ws → IsI64 w) → 1 ≤ times w (cons_option o ws) → IsI64 w

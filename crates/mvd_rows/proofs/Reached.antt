@@ -90,10 +90,12 @@ coming_comes rows new visible key others x rest most aim sorted comes g are = re
   now = insert g.now (spot key x.0) x.1;
   are = are;
   few = (let few = g.few in let more = len-come g.now (spot key x.0) x.1 (len g.now + 1) (omega arith) in omega arith);
-  free = record { at = λ dot d found apart.
-      get-insert spots_total g.now (spot key x.0) x.1 (spot key dot)
-      ∙ ap (λ b. cond b (Some x.1) (get g.now (spot key dot))) (of_one_key key dot x.0 ∙ later_apart dot_total dot x rest d sorted found)
-      ∙ g.free.at dot d (found_later dot_total dot x rest d sorted found) apart };
+  free = record {
+    at = λ dot d found apart.
+        get-insert spots_total g.now (spot key x.0) x.1 (spot key dot)
+        ∙ ap (λ b. cond b (Some x.1) (get g.now (spot key dot))) (of_one_key key dot x.0 ∙ later_apart dot_total dot x rest d sorted found)
+        ∙ g.free.at dot d (found_later dot_total dot x rest d sorted found) apart;
+  };
   aims = sym (ap (λ b. put_in g.now key (cond (not b) (x ∷ not_among others rest) (not_among others rest))) comes) ∙ g.aims;
 }
 

@@ -13,8 +13,8 @@ use crate::index::Index;
 use crate::loops::{add_places, add_rows, remove_places, remove_rows};
 use crate::marks::Spot;
 use crate::meters::Meter;
-use crate::views::View;
 use crate::siblings::is_among;
+use crate::views::View;
 use mvd_docs::Document;
 use mvd_dots::Refusal;
 use mvd_keys::{Key, Sibling};
@@ -30,12 +30,7 @@ pub struct Rows {
 
 impl Rows {
     /// A sibling comes.
-    fn add(
-        &mut self,
-        spot: &Spot,
-        document: &Document,
-        meter: &mut Meter,
-    ) -> Result<(), Refusal>
+    fn add(&mut self, spot: &Spot, document: &Document, meter: &mut Meter) -> Result<(), Refusal>
         requires { (visible : Visible) × (AreRowsOf self.old.indexes.items self.old.views.items visible × IsSmall visible) }
         ensures rows { OnOk result ((visible : Visible) → AreRowsOf self.old.indexes.items self.old.views.items visible → map.get visible spot.now ≡ None →
             AreRowsOf self.new.indexes.items self.new.views.items (map.insert visible spot.now document.now)) }
@@ -51,12 +46,7 @@ impl Rows {
     }
 
     /// A sibling goes.
-    fn remove(
-        &mut self,
-        spot: &Spot,
-        document: &Document,
-        meter: &mut Meter,
-    ) -> Result<(), Refusal>
+    fn remove(&mut self, spot: &Spot, document: &Document, meter: &mut Meter) -> Result<(), Refusal>
         requires { (visible : Visible) × (AreRowsOf self.old.indexes.items self.old.views.items visible × (IsSmall visible × (map.get visible spot.now ≡ Some document.now))) }
         ensures rows { OnOk result ((visible : Visible) → AreRowsOf self.old.indexes.items self.old.views.items visible → map.get visible spot.now ≡ Some document.now →
             AreRowsOf self.new.indexes.items self.new.views.items (map.remove visible spot.now)) }

@@ -18,9 +18,9 @@ ghost use Rattle.mvd_rows.specs.Visible.{Visible};
 use crate::kept::Kept;
 use crate::marks::{Mark, Spot};
 use crate::meters::Meter;
+use mvd_docs::{Document, Field, Term};
 use mvd_dots::Refusal;
 use mvd_keys::Place;
-use mvd_docs::{Document, Field, Term};
 use std::alloc::Global;
 
 /// Where documents with a term at the field stand.

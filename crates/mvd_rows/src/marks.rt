@@ -68,9 +68,7 @@ impl Ord for Mark {
     ghost matches_eq = { Prim.search (comparing, rules) depth 12 };
 
     fn cmp(&self, other: &Mark) -> Ordering {
-        self.term
-            .cmp(&other.term)
-            .then(self.spot.cmp(&other.spot))
+        self.term.cmp(&other.term).then(self.spot.cmp(&other.spot))
     }
 }
 

@@ -135,7 +135,11 @@ impl Rows {
 
     /// A group's count, its sum, and the least and the greatest whole number that stands there. `NoView` where no view has the name.
     /// It takes no memory.
-    pub fn row(&self, name: &ViewName, term: &Term) -> Result<(u64, i128, Option<(i64, i64)>), Refusal>
+    pub fn row(
+        &self,
+        name: &ViewName,
+        term: &Term,
+    ) -> Result<(u64, i128, Option<(i64, i64)>), Refusal>
         ensures { (defs : Definitions) (states : FinMap key_cmp State) → IsRowsOf self.now defs states → result ≡ row_answer defs (visible_in states) name.now term.now }
     {
         let mut meter = Meter::new();

@@ -20,8 +20,8 @@ use crate::kept::Kept;
 use crate::marks::Tally;
 use crate::meters::Meter;
 use crate::tallies::Tallies;
-use mvd_dots::Refusal;
 use mvd_docs::{Document, Field, Term, ViewName};
+use mvd_dots::Refusal;
 use std::alloc::{AllocError, Global};
 
 /// How many siblings a group has, the sum of what its sum field gives, and the least and the greatest of it.

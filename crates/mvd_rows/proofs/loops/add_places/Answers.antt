@@ -19,4 +19,3 @@ loop-index-preserved c =
       len = length-set c.loop-index.index-items c.loop-index.index-index c.add.new.self ∙ c.loop-index.invariant.len;
       counts = omega arith;
     }
-

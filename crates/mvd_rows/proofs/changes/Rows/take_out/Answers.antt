@@ -34,9 +34,16 @@ remove-requires c =
     let v = c.requires.room.0 in
     let aim = taken_out v c.args.key.now (not_among others (pairs_of c.args.siblings.now)) in
     let g : Going c.loop-sibling.self v c.args.key.now others (x ∷ rest) aim =
-    subst (λ es. Going c.loop-sibling.self v c.args.key.now others es aim) next (c.loop-sibling.invariant.going v c.requires.room.1.0 c.requires.room.1.1.1) in
-    (g.now, (g.are, ((let few = g.few in let small = c.requires.room.1.1.0 in omega arith),
-    subst (λ k. get g.now (spot k c.sibling-item.result.dot) ≡ Some c.sibling-item.result.document) (same_ok _ _ c.in_ok-copy.ensures) (going_first c.loop-sibling.self v c.args.key.now others x rest aim g))))
+    subst (λ es. Going c.loop-sibling.self v c.args.key.now others es aim) next (c.loop-sibling.invariant.going v c.requires.room.1.0 c.requires.room.1.1.1) in (
+      g.now,
+      (
+        g.are,
+        (
+          (let few = g.few in let small = c.requires.room.1.1.0 in omega arith),
+          subst (λ k. get g.now (spot k c.sibling-item.result.dot) ≡ Some c.sibling-item.result.document) (same_ok _ _ c.in_ok-copy.ensures) (going_first c.loop-sibling.self v c.args.key.now others x rest aim g),
+        ),
+      ),
+    )
 
 pub loop-sibling-preserved : goal.loop-sibling-preserved
 loop-sibling-preserved c =

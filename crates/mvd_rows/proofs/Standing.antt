@@ -1,0 +1,75 @@
+-- From standing for one map of key states to standing for the next.
+use Rattle.std.proofs.Common.{◌≡◌, ℕ, ◌+◌, ◌-◌, ◌*◌, ◌^◌, ◌≤◌, T, List, length, not, cond, refl, sym, ap, ap₂, ◌∙◌, subst, arith}
+use Rattle.std.specs.Ordering.{eq_by_cmp}
+use Rattle.std.proofs.lemmas.List.{length-map}
+use Rattle.std.proofs.lemmas.List.Sums.{length-filter, count_by-le-length}
+use Rattle.std.specs.FinMap.{FinMap, find, get, insert, entries, entries_sorted, is_sorted, len, len-entries}
+use Rattle.mvd_dots.specs.Dot.{dot_cmp}
+use Rattle.mvd_keys.specs.Key.{key_cmp}
+use Rattle.mvd_keys.specs.State.{State}
+use Rattle.mvd_keys.specs.Writes.{Key}
+use Rattle.mvd_rows.specs.Changes.{HasSiblings, IsRoomy, differing, is_among, not_among, put_in, state_in, taken_out, updates_each}
+use Rattle.mvd_rows.specs.Defs.{Definitions}
+use Rattle.mvd_rows.specs.Stands.{AreRowsOf, IsRowsOf, definitions_of}
+use Rattle.mvd_rows.specs.Visible.{Visible, visible_in}
+use Rattle.mvd_rows.specs.declared.changes.Rows.{Rows}
+use Rattle.mvd_rows.proofs.ByKey.{few_visible, get-changed, siblings_are}
+use Rattle.mvd_rows.proofs.Changing.{Pair, changed}
+
+in_order : (s : State) (es : List Pair) → es ≡ entries s.siblings → T (is_sorted dot_cmp es)
+in_order s es e = subst (λ x. T (is_sorted dot_cmp x)) (sym e) (entries_sorted s.siblings)
+
+pub has_siblings : (states : FinMap key_cmp State) (key : Key) (old : State) (es : List Pair) → es ≡ entries old.siblings → state_in states key ≡ old → HasSiblings (visible_in states) key es
+has_siblings states key old es e is = subst (HasSiblings (visible_in states) key) (sym e) (siblings_are states key old is)
+
+pub stands_after : (rows after : Rows) (defs : Definitions) (states : FinMap key_cmp State) (key : Key) (old new : State) (os ns : List Pair) → os ≡ entries old.siblings → ns ≡ entries new.siblings →
+    IsRowsOf rows defs states → state_in states key ≡ old → definitions_of after ≡ definitions_of rows →
+    ((visible : Visible) → AreRowsOf rows.indexes.items rows.views.items visible → HasSiblings visible key os →
+    AreRowsOf after.indexes.items after.views.items (put_in (taken_out visible key (not_among ns os)) key (not_among os ns))) → IsRowsOf after defs (insert states key new)
+stands_after rows after defs states key old new os ns old_is new_is stands is same changes = record {
+  defs = same ∙ stands.defs;
+  rows = (let has = has_siblings states key old os old_is is in
+      subst (AreRowsOf after.indexes.items after.views.items)
+      (changed (visible_in states) (visible_in (insert states key new)) key os ns (in_order old os old_is) (in_order new ns new_is) has
+      (λ q. get-changed states key new q ∙ ap (λ es. cond (eq_by_cmp key_cmp q.key key) (find dot_cmp q.dot es) (get (visible_in states) q)) (sym new_is)))
+      (changes (visible_in states) stands.rows has));
+}
+
+dist : (a b each : ℕ) → (a + b) * each ≡ a * each + b * each
+dist a b each = grind arith
+
+mul_le : (a b each : ℕ) → a ≤ b → a * each ≤ b * each
+mul_le a b each h =
+    let e : b ≡ a + (b - a) = omega arith in
+    let f = ap (λ n. n * each) e in
+    let g = dist a (b - a) each in
+    omega arith
+
+few_among : (others es : List Pair) → length (not_among others es) ≤ length es
+few_among others es =
+    let e = length-filter (λ (x : Pair). not (is_among others x)) es in
+    let f = count_by-le-length (λ (x : Pair). not (is_among others x)) es in
+    omega arith
+
+few_differ : (old new : State) → differing old new ≤ len old.siblings + len new.siblings
+few_differ old new =
+    let a = few_among (entries new.siblings) (entries old.siblings) in
+    let b = few_among (entries old.siblings) (entries new.siblings) in
+    let e = len-entries old.siblings in
+    let f = len-entries new.siblings in
+    omega arith
+
+pub most_updates : (old new : State) (each now was : ℕ) → now ≤ was + differing old new * each → now ≤ was + (len old.siblings + len new.siblings) * each
+most_updates old new each now was h =
+    let e = mul_le (differing old new) (len old.siblings + len new.siblings) each (few_differ old new) in
+    omega arith
+
+pub counted_differ : (old new : State) (os ns : List Pair) (rows : Rows) (now was : ℕ) → os ≡ entries old.siblings → ns ≡ entries new.siblings →
+    now ≤ was + (length (not_among ns os) + length (not_among os ns)) * (length rows.indexes.items + 2 * length rows.views.items) → now ≤ was + differing old new * updates_each (definitions_of rows)
+counted_differ old new os ns rows now was old_is new_is h =
+    let i : length (definitions_of rows).indexes ≡ length rows.indexes.items = length-map _ _ in
+    let v : length (definitions_of rows).views ≡ length rows.views.items = length-map _ _ in
+    let each : updates_each (definitions_of rows) ≡ length rows.indexes.items + 2 * length rows.views.items = omega arith in
+    let d : length (not_among ns os) + length (not_among os ns) ≡ differing old new = ap₂ (λ xs ys. length (not_among ys xs) + length (not_among xs ys)) old_is new_is in
+    let p = ap₂ (λ a b. a * b) d (sym each) in
+    omega arith

@@ -1,0 +1,36 @@
+use Rattle.std.proofs.Common.{◌≡◌, ◌+◌, ◌*◌, ◌≤◌, ◌^◌, length, sym, ap, ◌∙◌, arith}
+use Rattle.std.proofs.lemmas.List.{length-map}
+use Rattle.std.specs.FinMap.{len, len-entries}
+use Rattle.mvd_keys.specs.State.{pairs_of}
+use Rattle.mvd_rows.specs.Changes.{updates_each}
+use Rattle.mvd_rows.specs.Stands.{definitions_of}
+use Rattle.mvd_rows.specs.Visible.{visible_in}
+use Rattle.mvd_rows.proofs.ByKey.{few_visible}
+use Rattle.mvd_rows.proofs.Standing.{counted_differ, has_siblings, most_updates, stands_after}
+use Rattle.mvd_rows.proofs.counted.change.Goals as goal
+
+pub replace-requires-clause-room : goal.replace-requires-clause-room
+replace-requires-clause-room c =
+    let states = c.requires.room.1 in
+    let few = few_visible states c.requires.room.2.2 in
+    let new = c.requires.room.2.3 in
+    let size : length (pairs_of c.siblings-2.result.now) ≡ length c.siblings-2.result.now = length-map _ _ in
+    let same = ap length c.siblings-2.ensures.entries in
+    let all = len-entries c.args.new.now.siblings in
+    (visible_in states, (c.requires.room.2.0.rows, omega arith, has_siblings states c.args.key.now c.args.old.now _ c.siblings.ensures.entries c.requires.room.2.1))
+
+pub returns-in-Ok-clause-stands : goal.returns-in-Ok-clause-stands
+returns-in-Ok-clause-stands c = λ defs states stands is.
+    stands_after _ _ defs states c.args.key.now c.args.old.now c.args.new.now _ _ c.siblings.ensures.entries c.siblings-2.ensures.entries stands is c.in-Ok.ensures.defs c.in-Ok.ensures.rows
+
+pub returns-in-Ok-clause-most : goal.returns-in-Ok-clause-most
+returns-in-Ok-clause-most c = record {
+  updates = most_updates c.args.old.now c.args.new.now (updates_each (definitions_of c.args.rows.now)) _ _
+      (counted_differ c.args.old.now c.args.new.now _ _ c.args.rows.now _ _ c.siblings.ensures.entries c.siblings-2.ensures.entries c.replace.ensures.counts.updates);
+}
+
+pub returns-in-Err-clause-most : goal.returns-in-Err-clause-most
+returns-in-Err-clause-most c = record {
+  updates = most_updates c.args.old.now c.args.new.now (updates_each (definitions_of c.args.rows.now)) _ _
+      (counted_differ c.args.old.now c.args.new.now _ _ c.args.rows.now _ _ c.siblings.ensures.entries c.siblings-2.ensures.entries c.replace.ensures.counts.updates);
+}

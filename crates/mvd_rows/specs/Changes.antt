@@ -1,0 +1,56 @@
+-- What one key's siblings make visible, as some of them go and others come.
+use Rattle.std.specs.Prelude.{◌≡◌, ℕ, ◌+◌, ◌*◌, ◌≤◌, ◌^◌, Bool, false, true, not, List, [], ◌∷◌, filter, length, Option, Some, None, is_some, unwrap_or, bytes_eq}
+use Rattle.std.specs.FinMap.{FinMap, get, find, insert, remove, len, entries}
+use Rattle.mvd_dots.specs.Dot.{dot_cmp, DotValue}
+use Rattle.mvd_keys.specs.Key.{key_cmp}
+use Rattle.mvd_keys.specs.State.{Text, State, empty_state}
+use Rattle.mvd_keys.specs.Writes.{Key}
+use Rattle.mvd_rows.specs.Defs.{Definitions}
+use Rattle.mvd_rows.specs.Visible.{Visible, spot}
+
+abbrev pub is_document : Text → Option Text → Bool
+is_document document None = false
+is_document document (Some other) = bytes_eq document other
+
+-- whether the same document stands under the same dot
+abbrev pub is_among : List (DotValue × Text) → DotValue × Text → Bool
+is_among others e = is_document e.1 (find dot_cmp e.0 others)
+
+-- those that are not among the others
+abbrev pub not_among : List (DotValue × Text) → List (DotValue × Text) → List (DotValue × Text)
+not_among others es = filter (λ e. not (is_among others e)) es
+
+-- without these siblings of the key
+abbrev pub taken_out : Visible → Key → List (DotValue × Text) → Visible
+taken_out visible key [] = visible
+taken_out visible key (e ∷ es) = taken_out (remove visible (spot key e.0)) key es
+
+-- with these siblings of the key
+abbrev pub put_in : Visible → Key → List (DotValue × Text) → Visible
+put_in visible key [] = visible
+put_in visible key (e ∷ es) = put_in (insert visible (spot key e.0) e.1) key es
+
+-- the key's siblings are just these
+pub record HasSiblings (visible : Visible) (key : Key) (es : List (DotValue × Text)) : Type 0 where
+  pub at : (dot : DotValue) → get visible (spot key dot) ≡ find dot_cmp dot es
+
+-- where one of these is not among the others, the key has no sibling under its dot
+pub record IsFreeOf (visible : Visible) (key : Key) (others es : List (DotValue × Text)) : Type 0 where
+  pub at : (dot : DotValue) (document : Text) → find dot_cmp dot es ≡ Some document → is_among others (dot, document) ≡ false → get visible (spot key dot) ≡ None
+
+-- the state of a key, empty where the key is not held
+abbrev pub state_in : FinMap key_cmp State → Key → State
+state_in states key = unwrap_or (get states key) empty_state
+
+-- no more keys and siblings than a site holds: far fewer than 2^40 siblings in all
+pub record IsRoomy (states : FinMap key_cmp State) : Type 0 where
+  pub keys : len states ≤ 2 ^ 20
+  pub siblings : (key : Key) (state : State) → get states key ≡ Some state → len state.siblings ≤ 2 ^ 16
+
+-- how many siblings stand in one of two states alone
+abbrev pub differing : State → State → ℕ
+differing old new = length (not_among (entries new.siblings) (entries old.siblings)) + length (not_among (entries old.siblings) (entries new.siblings))
+
+-- the updates that one sibling costs at most: one for each index, and two for each view
+abbrev pub updates_each : Definitions → ℕ
+updates_each defs = length defs.indexes + 2 * length defs.views

@@ -1,0 +1,23 @@
+-- The counts of updates and looks. A count that is full stays full.
+use Rattle.std.specs.Prelude.{◌≡◌, ℕ, ◌+◌, ◌^◌, ◌-◌, ◌≤◌, min}
+use Rattle.mvd_rows.specs.declared.meters.Meter.{Meter}
+
+abbrev pub counted : ℕ → ℕ
+counted n = min (n + 1) (2 ^ 64 - 1)
+
+pub record CountsUpdate (old new : Meter) : Type 0 where
+  pub updates : new.updates ≡ counted old.updates
+  pub looks : new.looks ≡ old.looks
+
+pub record CountsLook (old new : Meter) : Type 0 where
+  pub updates : new.updates ≡ old.updates
+  pub looks : new.looks ≡ counted old.looks
+
+-- at most so many updates and looks
+pub record Within (most_updates most_looks : ℕ) (old new : Meter) : Type 0 where
+  pub updates : new.updates ≤ old.updates + most_updates
+  pub looks : new.looks ≤ old.looks + most_looks
+
+-- at most so many updates
+pub record WithinUpdates (most_updates : ℕ) (old new : Meter) : Type 0 where
+  pub updates : new.updates ≤ old.updates + most_updates

@@ -1,0 +1,11 @@
+pub mod Answers
+pub mod Becomes
+pub mod Changes
+pub mod Counted
+pub mod Defs
+pub mod Marks
+pub mod Names
+pub mod Pages
+pub mod Stands
+pub mod Views
+pub mod Visible

@@ -1,0 +1,134 @@
+//! What `Rows` do, with the work that it took: how many entries of the kept rows were put in, taken
+//! out or altered, and how many looks were made at them.
+ghost use Rattle.std.specs.Prelude.{◌≡◌, ◌≢◌, ◌≤◌, ◌^◌, ◌+◌, ◌*◌, Ok, Err, OnOk, IfOk, IfErr, length};
+ghost use Rattle.std.specs.FinMap.{FinMap, insert, len};
+ghost use Rattle.mvd_dots.specs.declared.refusals.Refusal.TheVariants.{Broken, Memory};
+ghost use Rattle.mvd_keys.specs.Key.{key_cmp};
+ghost use Rattle.mvd_keys.specs.State.{State};
+ghost use Rattle.mvd_rows.specs.Answers.{find_answer, range_answer, row_answer, rows_answer};
+ghost use Rattle.mvd_rows.specs.Visible.{visible_in};
+ghost use Rattle.mvd_rows.specs.Changes.{IsRoomy, differing, state_in, updates_each};
+ghost use Rattle.mvd_rows.specs.Counted.{Within, WithinUpdates};
+ghost use Rattle.mvd_rows.specs.Defs.{Definitions};
+ghost use Rattle.mvd_rows.specs.Stands.{IsRowsOf, definitions_of};
+
+use crate::changes::Rows;
+use crate::marks::Mark;
+use crate::meters::Meter;
+use crate::questions::{spot_of, start_of};
+use crate::views::ShownRow;
+use mvd_docs::{Field, Term, ViewName};
+use mvd_dots::{Dot, Refusal};
+use mvd_keys::{Key, KeyState, Place};
+
+/// From standing for a map in which the key has the old state to standing for it with the new one there.
+/// What stands in both costs no update. After a refusal, which is `Broken`, the rows stand for nothing.
+pub fn change(
+    rows: &mut Rows,
+    key: &Key,
+    old: &KeyState,
+    new: &KeyState,
+    meter: &mut Meter,
+) -> Result<(), Refusal>
+    requires room { (defs : Definitions) × (states : FinMap key_cmp State) × (IsRowsOf rows.old defs states × (state_in states key.now ≡ old.now) × IsRoomy states × (len new.now.siblings ≤ 2 ^ 16)) }
+    requires counts { (meter.old.updates ≤ 2 ^ 63) × (meter.old.looks ≤ 2 ^ 63) }
+    ensures stands { OnOk result ((defs : Definitions) (states : FinMap key_cmp State) → IsRowsOf rows.old defs states → state_in states key.now ≡ old.now →
+        IsRowsOf rows.new defs (insert states key.now new.now)) }
+    ensures broken { IfErr result (λ refusal. refusal ≡ Broken) }
+    ensures differing { WithinUpdates (differing old.now new.now * updates_each (definitions_of rows.old)) meter.old meter.new }
+    ensures most { WithinUpdates ((len old.now.siblings + len new.now.siblings) * updates_each (definitions_of rows.old)) meter.old meter.new }
+{
+    match rows.replace(key, old.siblings(), new.siblings(), meter) {
+        Ok(()) => Ok(()),
+        Err(_) => Err(Refusal::Broken),
+    }
+}
+
+/// The first thousand places of a term after a key and a dot, and whether more are left.
+pub fn find(
+    rows: &Rows,
+    field: &Field,
+    term: &Term,
+    after: Option<(Key, Dot)>,
+    meter: &mut Meter,
+) -> Result<(Vec<Place>, bool), Refusal>
+    requires counts { (meter.old.updates ≤ 2 ^ 63) × (meter.old.looks ≤ 2 ^ 63) }
+    ensures found { IfOk result (λ page. (defs : Definitions) (states : FinMap key_cmp State) → IsRowsOf rows.now defs states →
+        find_answer defs (visible_in states) field.now term.now after ≡ Ok (page.0.items, page.1)) }
+    ensures refused { IfErr result (λ refusal. refusal ≢ Memory → (defs : Definitions) (states : FinMap key_cmp State) → IsRowsOf rows.now defs states →
+        find_answer defs (visible_in states) field.now term.now after ≡ Err refusal) }
+    ensures counts { Within 0 1100 meter.old meter.new }
+{
+    let Some(index) = rows.index_of(field) else {
+        return Err(Refusal::NoIndex);
+    };
+    let start = Mark {
+        term: term.copy(rows.alloc)?,
+        spot: spot_of(after),
+    };
+    let (places, more) = index.page(rows.alloc, &start, term, meter)?;
+    Ok((places, more))
+}
+
+/// The first thousand places of the terms from one to another, both included, after a place, and whether more are left.
+pub fn range(
+    rows: &Rows,
+    field: &Field,
+    from: &Term,
+    to: &Term,
+    after: Option<Place>,
+    meter: &mut Meter,
+) -> Result<(Vec<Place>, bool), Refusal>
+    requires counts { (meter.old.updates ≤ 2 ^ 63) × (meter.old.looks ≤ 2 ^ 63) }
+    ensures found { IfOk result (λ page. (defs : Definitions) (states : FinMap key_cmp State) → IsRowsOf rows.now defs states →
+        range_answer defs (visible_in states) field.now from.now to.now after ≡ Ok (page.0.items, page.1)) }
+    ensures refused { IfErr result (λ refusal. refusal ≢ Memory → (defs : Definitions) (states : FinMap key_cmp State) → IsRowsOf rows.now defs states →
+        range_answer defs (visible_in states) field.now from.now to.now after ≡ Err refusal) }
+    ensures counts { Within 0 1100 meter.old meter.new }
+{
+    let Some(index) = rows.index_of(field) else {
+        return Err(Refusal::NoIndex);
+    };
+    let start = start_of(rows.alloc, from, after)?;
+    let (places, more) = index.page(rows.alloc, &start, to, meter)?;
+    Ok((places, more))
+}
+
+/// A group's count, its sum, and the least and the greatest whole number that stands there. It takes no memory.
+pub fn row(
+    rows: &Rows,
+    name: &ViewName,
+    term: &Term,
+    meter: &mut Meter,
+) -> Result<(u64, i128, Option<(i64, i64)>), Refusal>
+    requires counts { (meter.old.updates ≤ 2 ^ 63) × (meter.old.looks ≤ 2 ^ 63) }
+    ensures row { (defs : Definitions) (states : FinMap key_cmp State) → IsRowsOf rows.now defs states → result ≡ row_answer defs (visible_in states) name.now term.now }
+    ensures counts { Within 0 64 meter.old meter.new }
+{
+    let Some(view) = rows.view_of(name) else {
+        return Err(Refusal::NoView);
+    };
+    let row = view.row_or_none(term, meter);
+    Ok((row.count, row.sum, row.ends))
+}
+
+/// The first thousand rows of a view after a term, and whether more are left.
+pub fn rows(
+    rows: &Rows,
+    name: &ViewName,
+    after: Option<Term>,
+    meter: &mut Meter,
+) -> Result<(Vec<ShownRow>, bool), Refusal>
+    requires counts { (meter.old.updates ≤ 2 ^ 63) × (meter.old.looks ≤ 2 ^ 63) }
+    ensures found { IfOk result (λ page. (defs : Definitions) (states : FinMap key_cmp State) → IsRowsOf rows.now defs states →
+        rows_answer defs (visible_in states) name.now after ≡ Ok (page.0.items, page.1)) }
+    ensures refused { IfErr result (λ refusal. refusal ≢ Memory → (defs : Definitions) (states : FinMap key_cmp State) → IsRowsOf rows.now defs states →
+        rows_answer defs (visible_in states) name.now after ≡ Err refusal) }
+    ensures counts { Within 0 1100 meter.old meter.new }
+{
+    let Some(view) = rows.view_of(name) else {
+        return Err(Refusal::NoView);
+    };
+    let (page, more) = view.page(rows.alloc, &after, meter)?;
+    Ok((page, more))
+}

@@ -1,0 +1,22 @@
+//! Indexes and views, kept as ordered rows while the states of keys change.
+#![tactic(auto)]
+
+mod building;
+mod changes;
+pub mod counted;
+mod definitions;
+mod index;
+mod kept;
+pub mod laws;
+mod loops;
+mod marks;
+mod meters;
+mod questions;
+mod siblings;
+mod tallies;
+mod views;
+
+pub use changes::Rows;
+pub use definitions::{Defs, ViewDef};
+pub use meters::Meter;
+pub use views::ShownRow;

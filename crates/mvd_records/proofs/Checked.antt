@@ -103,7 +103,6 @@ pub if_ok : {X E : Type 0} (r : Result X E) (P Q : X → Type 0) → ((x : X) �
 if_ok (Ok x) P Q f h = f x h
 if_ok (Err e) P Q f h = tt
 
-
 pub if_both : {X E : Type 0} (r : Result X E) (P Q R : X → Type 0) → ((x : X) → P x → Q x → R x) → IfOk r P → IfOk r Q → IfOk r R
 if_both (Ok x) P Q R f h k = f x h k
 if_both (Err e) P Q R f h k = tt

@@ -82,12 +82,14 @@ updated limit text db after tally f i has shaped there own name one h =
     let written : Edit = record { table = meta; gone = i ∷ []; news = new_mark i ∷ [] } in
     let same : edit_of db.trees meta (ids_of queried.0) Given 1 queried.0 ≡ written = ap (λ all. edit_of db.trees meta (ids_of all) Given 1 all) rows ∙ (rw (cast_int i, cast_int (pos 2)) refl) in
     let trees : after.trees ≡ edit.0 = ap (λ (d : Database). d.trees) now ∙ ap (λ (w : Written). w.trees) (same_value edit.2) in
-    let it = one_step all_tables Enforced db.trees edit.0 written refl (subst (λ e. Writes all_tables Enforced db.trees e (Ok edit.0)) same edit.1) in
-    (ap (λ (d : Database). d.schema) now, record {
-      rows = ap (λ (t : Trees). t 2) trees ∙ it.rows;
-      old_rows = ap (λ (t : Trees). t 0) trees ∙ it.tables.0 (λ e. absurd (omega (arith, e)));
-      new_rows = ap (λ (t : Trees). t 4) trees ∙ it.tables.1.1.0 (λ e. absurd (omega (arith, e)));
-    })
+    let it = one_step all_tables Enforced db.trees edit.0 written refl (subst (λ e. Writes all_tables Enforced db.trees e (Ok edit.0)) same edit.1) in (
+      ap (λ (d : Database). d.schema) now,
+      record {
+        rows = ap (λ (t : Trees). t 2) trees ∙ it.rows;
+        old_rows = ap (λ (t : Trees). t 0) trees ∙ it.tables.0 (λ e. absurd (omega (arith, e)));
+        new_rows = ap (λ (t : Trees). t 4) trees ∙ it.tables.1.1.0 (λ e. absurd (omega (arith, e)));
+      },
+    )
 
 -- ---- the two rows
 
@@ -142,14 +144,18 @@ finishes limit text db after tally version site has shaped marks h = go (db.tree
               let i = int_value (rowid a) up.1.0 in
               let there : Has (db.trees 2) a = subst (λ (l : List Row). Has l a) (sym e) (inl refl) in
               let one = λ (x : Row) (h : Has (db.trees 2) x) (p : picks x ≡ true). (let is : x ≡ a = (elim (subst (λ (l : List Row). Has l x) e h) [ inl first ↦ first | inr more ↦ elim more [ inl second ↦ absurd (let no : true ≡ false = sym p ∙ (ap picks second ∙ other b it.1.0) in cc) | inr none ↦ absurd none ] ]) in is) in
-              let done = updated limit text db after tally a i.0 has shaped there i.1 it.0.0 one h in
-              (done.0, ended db.trees after.trees i.0 site shaped done.1 (subst (λ (l : List Row). AreMarks 2 site (map shown (put_row (new_mark i.0) (without_all l (i.0 ∷ []))))) (sym e)
-              (subst (λ (l : List Row). AreMarks 2 site (map shown l)) (sym (first_put a b i.0 i.1 less)) (in_order (shown (new_mark i.0)) (shown b) 2 site ((refl, refl), it.1))))))
+              let done = updated limit text db after tally a i.0 has shaped there i.1 it.0.0 one h in (
+                done.0,
+                ended db.trees after.trees i.0 site shaped done.1 (subst (λ (l : List Row). AreMarks 2 site (map shown (put_row (new_mark i.0) (without_all l (i.0 ∷ []))))) (sym e)
+                    (subst (λ (l : List Row). AreMarks 2 site (map shown l)) (sym (first_put a b i.0 i.1 less)) (in_order (shown (new_mark i.0)) (shown b) 2 site ((refl, refl), it.1)))),
+              ))
           | inr it ↦ (
               let i = int_value (rowid b) up.1.1.0 in
               let there : Has (db.trees 2) b = subst (λ (l : List Row). Has l b) (sym e) (inr (inl refl)) in
               let one = λ (x : Row) (h : Has (db.trees 2) x) (p : picks x ≡ true). (let is : x ≡ b = (elim (subst (λ (l : List Row). Has l x) e h) [ inl first ↦ absurd (let no : true ≡ false = sym p ∙ (ap picks first ∙ other a it.1.0) in cc) | inr more ↦ elim more [ inl second ↦ second | inr none ↦ absurd none ] ]) in is) in
-              let done = updated limit text db after tally b i.0 has shaped there i.1 it.0.0 one h in
-              (done.0, ended db.trees after.trees i.0 site shaped done.1 (subst (λ (l : List Row). AreMarks 2 site (map shown (put_row (new_mark i.0) (without_all l (i.0 ∷ []))))) (sym e)
-              (subst (λ (l : List Row). AreMarks 2 site (map shown l)) (sym (second_put a b i.0 i.1 less)) (turned (shown a) (shown (new_mark i.0)) 2 site ((refl, refl), it.1))))))
+              let done = updated limit text db after tally b i.0 has shaped there i.1 it.0.0 one h in (
+                done.0,
+                ended db.trees after.trees i.0 site shaped done.1 (subst (λ (l : List Row). AreMarks 2 site (map shown (put_row (new_mark i.0) (without_all l (i.0 ∷ []))))) (sym e)
+                    (subst (λ (l : List Row). AreMarks 2 site (map shown l)) (sym (second_put a b i.0 i.1 less)) (turned (shown a) (shown (new_mark i.0)) 2 site ((refl, refl), it.1)))),
+              ))
         ]

@@ -72,10 +72,13 @@ first_step old new has it = (
 
 second_step : (old new : Database) → HasTables one_table old → Makes one_table old_tables old new → HasTables old_tables new × KeepsRows old new
 second_step old new has it = (
-  record { schema = it.is; rows = λ t there. elim there [
-    | inl is ↦ subst (λ (t : Table). IsShaped shape.Table (new.trees t.tree)) (sym is) (subst (IsShaped shape.Table) (sym it.kept.0) (has.rows old_states (inl refl)))
-    | inr more ↦ elim more [ inl is ↦ subst (λ (t : Table). IsShaped shape.Table (new.trees t.tree)) (sym is) (subst (IsShaped shape.Table) (sym it.empty) (tt, tt)) | inr none ↦ absurd none ]
-  ] },
+  record {
+    schema = it.is;
+    rows = λ t there. elim there [
+      | inl is ↦ subst (λ (t : Table). IsShaped shape.Table (new.trees t.tree)) (sym is) (subst (IsShaped shape.Table) (sym it.kept.0) (has.rows old_states (inl refl)))
+      | inr more ↦ elim more [ inl is ↦ subst (λ (t : Table). IsShaped shape.Table (new.trees t.tree)) (sym is) (subst (IsShaped shape.Table) (sym it.empty) (tt, tt)) | inr none ↦ absurd none ]
+    ];
+  },
   record {
     old_rows = rows_of new old_tables 0 it.is ∙ (it.kept.0 ∙ sym (rows_of old one_table 0 has.schema));
     marks = rows_of new old_tables 2 it.is ∙ (it.empty ∙ sym (rows_of old one_table 2 has.schema));
@@ -85,13 +88,16 @@ second_step old new has it = (
 
 third_step : (old new : Database) → HasTables old_tables old → Makes old_tables all_tables old new → HasTables all_tables new × KeepsRows old new
 third_step old new has it = (
-  record { schema = it.is; rows = λ t there. elim there [
-    | inl is ↦ subst (λ (t : Table). IsShaped shape.Table (new.trees t.tree)) (sym is) (subst (IsShaped shape.Table) (sym it.kept.0) (has.rows old_states (inl refl)))
-    | inr more ↦ elim more [
-      | inl is ↦ subst (λ (t : Table). IsShaped shape.Table (new.trees t.tree)) (sym is) (subst (IsShaped shape.Table) (sym it.kept.1.0) (has.rows meta (inr (inl refl))))
-      | inr last ↦ elim last [ inl is ↦ subst (λ (t : Table). IsShaped shape.Table (new.trees t.tree)) (sym is) (subst (IsShaped shape.Table) (sym it.empty) (tt, tt)) | inr none ↦ absurd none ]
-    ]
-  ] },
+  record {
+    schema = it.is;
+    rows = λ t there. elim there [
+      | inl is ↦ subst (λ (t : Table). IsShaped shape.Table (new.trees t.tree)) (sym is) (subst (IsShaped shape.Table) (sym it.kept.0) (has.rows old_states (inl refl)))
+      | inr more ↦ elim more [
+        | inl is ↦ subst (λ (t : Table). IsShaped shape.Table (new.trees t.tree)) (sym is) (subst (IsShaped shape.Table) (sym it.kept.1.0) (has.rows meta (inr (inl refl))))
+        | inr last ↦ elim last [ inl is ↦ subst (λ (t : Table). IsShaped shape.Table (new.trees t.tree)) (sym is) (subst (IsShaped shape.Table) (sym it.empty) (tt, tt)) | inr none ↦ absurd none ]
+      ]
+    ];
+  },
   record {
     old_rows = rows_of new all_tables 0 it.is ∙ (it.kept.0 ∙ sym (rows_of old old_tables 0 has.schema));
     marks = rows_of new all_tables 2 it.is ∙ (it.kept.1.0 ∙ sym (rows_of old old_tables 2 has.schema));

@@ -94,12 +94,14 @@ marks_written limit text db after tally site has none h =
     let trees : done.0.trees ≡ written.0 = ap (λ (it : Written). it.trees) (same_value counted.2) ∙ same_value counted.1 in
     let all : after.trees ≡ written.0 = ap (λ (d : Database). d.trees) now ∙ trees in
     let it = one_step all_tables _ db.trees written.0 (edit_of db.trees meta [] Chosen 0 given.0) refl written.1 in
-    let edit : edited db.trees (edit_of db.trees meta [] Chosen 0 given.0) ≡ first_marks site = ap (λ rows. edited db.trees (edit_of db.trees meta [] Chosen 0 rows)) given.1.1 ∙ rw (none, cast_null, cast_int (pos site), cast_int (pos 2), value_cmp-Int) in
-    (ap (λ (d : Database). d.schema) now, record {
-      rows = ap (λ (t : Trees). t 2) all ∙ (it.rows ∙ edit);
-      old_rows = ap (λ (t : Trees). t 0) all ∙ it.tables.0 (λ e. absurd (omega (arith, e)));
-      new_rows = ap (λ (t : Trees). t 4) all ∙ it.tables.1.1.0 (λ e. absurd (omega (arith, e)));
-    })
+    let edit : edited db.trees (edit_of db.trees meta [] Chosen 0 given.0) ≡ first_marks site = ap (λ rows. edited db.trees (edit_of db.trees meta [] Chosen 0 rows)) given.1.1 ∙ rw (none, cast_null, cast_int (pos site), cast_int (pos 2), value_cmp-Int) in (
+      ap (λ (d : Database). d.schema) now,
+      record {
+        rows = ap (λ (t : Trees). t 2) all ∙ (it.rows ∙ edit);
+        old_rows = ap (λ (t : Trees). t 0) all ∙ it.tables.0 (λ e. absurd (omega (arith, e)));
+        new_rows = ap (λ (t : Trees). t 4) all ∙ it.tables.1.1.0 (λ e. absurd (omega (arith, e)));
+      },
+    )
 
 shaped_marks : (site : ℕ) → IsShaped shape.Table (first_marks site)
 shaped_marks site = (((value_cmp-Int (pos 1) (pos 2) ∙ second_above, tt), (tt, tt)), (refl, (refl, tt)))
@@ -108,15 +110,16 @@ pub marked : (old new : State) (site count : ℕ) → HasTables all_tables old.n
 marked old new site count has none h =
     let w = runs_as mark_text (Int (pos site) ∷ []) old new all_tables has.schema (Insert 1 (Values mark_terms 3)) mark_is mark_plain count h in
     let empty : old.now.trees 2 ≡ [] = map_none (old.now.trees 2) (ap (map shown) (sym (meta_there old.now has.schema)) ∙ none) in
-    let it = marks_written old.step_limit (statement_of mark_text (understood all_tables mark_text)) old.now new.now w.tally site has.schema empty w.changed in
-    (record {
-      tables = with_rows new.now it.0 (subst (IsShaped shape.Table) (sym it.1.old_rows) (has.rows old_states (inl refl))) (subst (IsShaped shape.Table) (sym it.1.rows) (shaped_marks site)) (subst (IsShaped shape.Table) (sym it.1.new_rows) (has.rows new_states (inr (inr (inl refl)))));
-      marks = IsPermutation-same _ _ (ap (map shown) it.1.rows);
-    },
-    record {
-      old_same = ap states_in ((rows_there new.now it.0).0 ∙ (it.1.old_rows ∙ sym (rows_there old.now has.schema).0));
-      new_same = ap states_in ((rows_there new.now it.0).1 ∙ (it.1.new_rows ∙ sym (rows_there old.now has.schema).1));
-    })
+    let it = marks_written old.step_limit (statement_of mark_text (understood all_tables mark_text)) old.now new.now w.tally site has.schema empty w.changed in (
+      record {
+        tables = with_rows new.now it.0 (subst (IsShaped shape.Table) (sym it.1.old_rows) (has.rows old_states (inl refl))) (subst (IsShaped shape.Table) (sym it.1.rows) (shaped_marks site)) (subst (IsShaped shape.Table) (sym it.1.new_rows) (has.rows new_states (inr (inr (inl refl)))));
+        marks = IsPermutation-same _ _ (ap (map shown) it.1.rows);
+      },
+      record {
+        old_same = ap states_in ((rows_there new.now it.0).0 ∙ (it.1.old_rows ∙ sym (rows_there old.now has.schema).0));
+        new_same = ap states_in ((rows_there new.now it.0).1 ∙ (it.1.new_rows ∙ sym (rows_there old.now has.schema).1));
+      },
+    )
   where
     map_none : (rows : List Row) → map shown rows ≡ [] → rows ≡ []
     map_none [] e = refl

@@ -47,15 +47,16 @@ taken version site old new key count sound holds h =
       ];
       there = λ some. elim done.found [
         | inl there ↦ (
-            record {
-              tables = with_rows new.now it.0 done.shaped (subst (IsShaped shape.Table) (sym done.marks) (holds.tables.rows meta (inr (inl refl)))) (subst (IsShaped shape.Table) (sym done.new_rows) (holds.tables.rows new_states (inr (inr (inl refl)))));
-              marks = subst (λ (rows : List Row). AreMarks version site (map shown rows)) (sym done.marks) holds.marks;
-            },
-            record {
-              was = (state_of there.0, subst (λ k. get (maps.old_states old.now) k ≡ Some (state_of there.0)) there.2 (subst (λ (rows : List Row). get (states_in rows) (key_of there.0) ≡ Some (state_of there.0)) (sym mine) (has_get (old.now.trees 0) there.0 there.1 (apart_in _ are))));
-              removed = ap states_in next ∙ (states_dropped (old.now.trees 0) (new.now.trees 0) key (apart_in _ are) done.drops ∙ ap (λ (rows : List Row). remove (states_in rows) key) (sym mine));
-              new_same = ap states_in ((rows_there new.now it.0).1 ∙ (done.new_rows ∙ sym (rows_there old.now has).1));
-            })
+          record {
+            tables = with_rows new.now it.0 done.shaped (subst (IsShaped shape.Table) (sym done.marks) (holds.tables.rows meta (inr (inl refl)))) (subst (IsShaped shape.Table) (sym done.new_rows) (holds.tables.rows new_states (inr (inr (inl refl)))));
+            marks = subst (λ (rows : List Row). AreMarks version site (map shown rows)) (sym done.marks) holds.marks;
+          },
+          record {
+            was = (state_of there.0, subst (λ k. get (maps.old_states old.now) k ≡ Some (state_of there.0)) there.2 (subst (λ (rows : List Row). get (states_in rows) (key_of there.0) ≡ Some (state_of there.0)) (sym mine) (has_get (old.now.trees 0) there.0 there.1 (apart_in _ are))));
+            removed = ap states_in next ∙ (states_dropped (old.now.trees 0) (new.now.trees 0) key (apart_in _ are) done.drops ∙ ap (λ (rows : List Row). remove (states_in rows) key) (sym mine));
+            new_same = ap states_in ((rows_there new.now it.0).1 ∙ (done.new_rows ∙ sym (rows_there old.now has).1));
+          },
+        )
         | inr none ↦ absurd (some (w.counted ∙ ap (λ (o : Option ℕ). unwrap_or o 0) none.1))
       ];
     }

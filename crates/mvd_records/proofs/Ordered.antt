@@ -61,12 +61,15 @@ below_trans a b (e ∷ es) less low =
     left : (p q : Bool) → T (p && q) → T p
     left true q h = tt
     left false q h = h
+
     right : (p q : Bool) → T (p && q) → T q
     right true q h = h
     right false q h = absurd h
+
     both : (p q : Bool) → T p → T q → T (p && q)
     both true q h k = k
     both false q h k = h
+
     less_is : (o : Ordering) → T (is_lt o) → o ≡ Less
     less_is Less h = refl
     less_is Equal h = absurd h
@@ -78,6 +81,7 @@ put_below e f es less up = both _ _ (both _ _ (subst (λ o. T (is_lt o)) (sym le
     left : (p q : Bool) → T (p && q) → T p
     left true q h = tt
     left false q h = h
+
     both : (p q : Bool) → T p → T q → T (p && q)
     both true q h k = k
     both false q h k = h
@@ -100,8 +104,10 @@ step o p a b up apart = rw (a.is, b.is) (choose (order a.key b.key) refl)
   where
     down : is_lt (order b.key a.key) ≡ false
     down = subst (λ c. is_lt c ≡ false) (compared b.key a.key (Text b.key ∷ Blob b.state ∷ []) (Text a.key ∷ Blob a.state ∷ [])) (rw (a.is, b.is) at up)
+
     untied : is_eq (order a.key b.key) ≡ false
     untied = rw (a.is, b.is) at apart
+
     choose : (c : Ordering) → order a.key b.key ≡ c → order a.key b.key ≡ Less
     choose Less e = e
     choose Equal e = absurd (let no : true ≡ false = sym (ap is_eq e) ∙ untied in cc)
@@ -134,10 +140,13 @@ keys_distinct rows are = go rows are.shaped.0 (λ x h. h)
         others : (more : List Row) → AllByRecursion (λ x. Rattle.sqlite.specs.Order.value_cmp (rowid r) (rowid x) ≡ Less) more → Has rows r → ((x : Row) → Has more x → Has rows x)
             → AllByRecursion (λ k. eq_by_cmp order (key_of r) k ≡ false) (map key_of more)
         others [] up here there = tt
-        others (x ∷ more) up here there = (elim (cases_Bool (eq_by_cmp order (key_of r) (key_of x))) [
-          | inl same ↦ absurd (never_below r (subst (λ y. Rattle.sqlite.specs.Order.value_cmp (rowid r) (rowid y) ≡ Less) (sym (are.one r x here (there x (inl refl)) (same_key _ _ same))) up.0))
-          | inr apart ↦ apart
-        ], others more up.1 here (λ y h. there y (inr h)))
+        others (x ∷ more) up here there = (
+          elim (cases_Bool (eq_by_cmp order (key_of r) (key_of x))) [
+            | inl same ↦ absurd (never_below r (subst (λ y. Rattle.sqlite.specs.Order.value_cmp (rowid r) (rowid y) ≡ Less) (sym (are.one r x here (there x (inl refl)) (same_key _ _ same))) up.0))
+            | inr apart ↦ apart
+          ],
+          others more up.1 here (λ y h. there y (inr h)),
+        )
 
 pub shown_pairs : (rows answer : List Row) (ordered : List Output) → AreStates rows → ((x : Row) → Has rows x → is_key (key_of x) ≡ true) → IsPermutation (map output_of rows) ordered → IsSorted (output_cmp load_query) ordered
     → answer ≡ map (λ (o : Output). o.1) ordered → ArePairs answer

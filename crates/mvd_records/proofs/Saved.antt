@@ -29,13 +29,16 @@ pub rows_there : (db : Database) → db.schema ≡ all_tables → (rows_at db 0 
 rows_there db has = (ap (λ s. rows_at (record { schema = s; trees = db.trees }) 0) has, ap (λ s. rows_at (record { schema = s; trees = db.trees }) 4) has)
 
 pub with_rows : (db : Database) → db.schema ≡ all_tables → IsShaped shape.Table (db.trees 0) → IsShaped shape.Table (db.trees 2) → IsShaped shape.Table (db.trees 4) → HasTables all_tables db
-with_rows db has old marks new = record { schema = has; rows = λ t there. elim there [
-  | inl first ↦ subst (λ (t : Table). IsShaped shape.Table (db.trees t.tree)) (sym first) old
-  | inr more ↦ elim more [
-    | inl second ↦ subst (λ (t : Table). IsShaped shape.Table (db.trees t.tree)) (sym second) marks
-    | inr last ↦ elim last [ inl third ↦ subst (λ (t : Table). IsShaped shape.Table (db.trees t.tree)) (sym third) new | inr none ↦ absurd none ]
-  ]
-] }
+with_rows db has old marks new = record {
+  schema = has;
+  rows = λ t there. elim there [
+    | inl first ↦ subst (λ (t : Table). IsShaped shape.Table (db.trees t.tree)) (sym first) old
+    | inr more ↦ elim more [
+      | inl second ↦ subst (λ (t : Table). IsShaped shape.Table (db.trees t.tree)) (sym second) marks
+      | inr last ↦ elim last [ inl third ↦ subst (λ (t : Table). IsShaped shape.Table (db.trees t.tree)) (sym third) new | inr none ↦ absurd none ]
+    ]
+  ];
+}
 
 -- the database after the statement
 pub saved : (limit : Option ℕ) (text : List ℕ) (version site : ℕ) (db after : Database) (tally : Tally) (key state : List ℕ) → IsDatabase db → HoldsRecords version site db

@@ -61,11 +61,7 @@ fn is_above(pairs: &[(Key, Vec<u8>)], key: &Key) -> bool
 }
 
 /// Adds the key and the state that the row shows. It is refused where the row shows none, or the key is not above the last.
-pub fn push_row(
-    alloc: Global,
-    pairs: &mut Vec<(Key, Vec<u8>)>,
-    row: &Row,
-) -> Result<(), Refusal>
+pub fn push_row(alloc: Global, pairs: &mut Vec<(Key, Vec<u8>)>, row: &Row) -> Result<(), Refusal>
     ensures pushed { OnOk result (entries_of pairs.new.items ≡ entries_of pairs.old.items ++ shown_entry row.now ∷ []) }
     ensures form { OnOk result (is_key (bytes (column row.now 0)) ≡ true) }
     ensures rising { rises (entries_of pairs.old.items) → OnOk result (rises (entries_of pairs.new.items)) }

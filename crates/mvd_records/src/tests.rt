@@ -9,8 +9,10 @@ mod stops;
 
 const STATES: &str =
     "CREATE TABLE states (key TEXT PRIMARY KEY NOT NULL, state BLOB NOT NULL) STRICT;";
+
 const META: &str =
     "CREATE TABLE meta (name TEXT PRIMARY KEY NOT NULL, value INTEGER NOT NULL) STRICT;";
+
 const STATES2: &str =
     "CREATE TABLE states2 (key TEXT PRIMARY KEY NOT NULL, state BLOB NOT NULL) STRICT;";
 
@@ -93,7 +95,11 @@ fn in_memory(alloc: Global, parts: &[&str]) -> Result<Connection<MemStore>, Erro
     Ok(conn)
 }
 
-fn again<S: Alter + Drop>(alloc: Global, records: Records<S>, site: u32) -> Result<Records<S>, Refusal> {
+fn again<S: Alter + Drop>(
+    alloc: Global,
+    records: Records<S>,
+    site: u32,
+) -> Result<Records<S>, Refusal> {
     opened(alloc, records.into_connection(), site)
 }
 
@@ -113,7 +119,10 @@ fn saves_and_loads(rt: HostRuntime) -> Result<(), Fail> {
     assert_eq!(rt; put(rt.alloc(), &mut records, "b", &[1]), Ok(()));
     assert_eq!(rt; all_in(rt.alloc(), &mut records)?.as_str(), "a=2 b=1 ");
     assert_eq!(rt; old_in(rt.alloc(), &mut records)?.as_str(), "");
-    assert_eq!(rt; shift(rt.alloc(), &mut records, "a", &[1]), Err(Refusal::Damaged));
+    assert_eq!(rt;
+        shift(rt.alloc(), &mut records, "a", &[1]),
+        Err(Refusal::Damaged)
+    );
     let mut records = again(rt.alloc(), records, 7)?;
     assert_eq!(rt; all_in(rt.alloc(), &mut records)?.as_str(), "a=2 b=1 ");
     assert!(rt; matches!(again(rt.alloc(), records, 8), Err(Refusal::SiteMismatch)));
@@ -136,7 +145,10 @@ fn moves_old_keys(rt: HostRuntime) -> Result<(), Fail> {
     assert_eq!(rt; old_in(rt.alloc(), &mut records)?.as_str(), "a=2 b=1 ");
     assert_eq!(rt; end(&mut records), Err(Refusal::Damaged));
     assert_eq!(rt; shift(rt.alloc(), &mut records, "a", &[1]), Ok(()));
-    assert_eq!(rt; shift(rt.alloc(), &mut records, "a", &[1]), Err(Refusal::Damaged));
+    assert_eq!(rt;
+        shift(rt.alloc(), &mut records, "a", &[1]),
+        Err(Refusal::Damaged)
+    );
     assert_eq!(rt; old_in(rt.alloc(), &mut records)?.as_str(), "b=1 ");
     assert_eq!(rt; shift(rt.alloc(), &mut records, "b", &[2]), Ok(()));
     assert_eq!(rt; end(&mut records), Ok(()));
@@ -160,7 +172,10 @@ fn damaged_marks_are_refused(rt: HostRuntime) -> Result<(), Fail> {
         assert_eq!(rt; found.err(), Some(Refusal::Damaged), "{marks}");
     }
     let marks = "INSERT INTO meta VALUES ('format', 2), ('site', 9)";
-    assert_eq!(rt; loads(rt.alloc(), &[STATES, META, marks]).err(), Some(Refusal::SiteMismatch));
+    assert_eq!(rt;
+        loads(rt.alloc(), &[STATES, META, marks]).err(),
+        Some(Refusal::SiteMismatch)
+    );
     Ok(())
 }
 
@@ -172,10 +187,25 @@ fn damaged_keys_are_refused(rt: HostRuntime) -> Result<(), Fail> {
     let old = "INSERT INTO states VALUES ('a', x'01')";
     let spaced = "INSERT INTO states2 VALUES ('a b', x'01')";
     let damaged = Some(Refusal::Damaged);
-    assert_eq!(rt; loads(rt.alloc(), &[STATES, META, STATES2, two, new])?.as_str(), "a=1 ");
-    assert_eq!(rt; loads(rt.alloc(), &[STATES, META, STATES2, two, spaced]).err(), damaged);
-    assert_eq!(rt; loads(rt.alloc(), &[STATES, META, STATES2, two, old]).err(), damaged);
-    assert_eq!(rt; loads(rt.alloc(), &[STATES, META, STATES2, one, old, new]).err(), damaged);
-    assert_eq!(rt; loads(rt.alloc(), &[STATES, META, STATES2, one, old])?.as_str(), "");
+    assert_eq!(rt;
+        loads(rt.alloc(), &[STATES, META, STATES2, two, new])?.as_str(),
+        "a=1 "
+    );
+    assert_eq!(rt;
+        loads(rt.alloc(), &[STATES, META, STATES2, two, spaced]).err(),
+        damaged
+    );
+    assert_eq!(rt;
+        loads(rt.alloc(), &[STATES, META, STATES2, two, old]).err(),
+        damaged
+    );
+    assert_eq!(rt;
+        loads(rt.alloc(), &[STATES, META, STATES2, one, old, new]).err(),
+        damaged
+    );
+    assert_eq!(rt;
+        loads(rt.alloc(), &[STATES, META, STATES2, one, old])?.as_str(),
+        ""
+    );
     Ok(())
 }

@@ -1,7 +1,7 @@
 //! Files that stop before some call, and are opened again.
 use super::{META, STATES, all_in, end, old_in, opened, put, run, shift};
-use mvd_dots::Refusal;
 use crate::Records;
+use mvd_dots::Refusal;
 use sqlite::{Alter, Connection, FileStore, Files, Options};
 use sqlite_disk::{Crash, Fuse, Memory};
 use std::alloc::Global;
@@ -27,7 +27,10 @@ fn open_stopping(
     }
 }
 
-fn records_of<S: Alter + Drop>(alloc: Global, conn: Connection<S>) -> Result<Records<S>, Connection<S>> {
+fn records_of<S: Alter + Drop>(
+    alloc: Global,
+    conn: Connection<S>,
+) -> Result<Records<S>, Connection<S>> {
     match Records::open(alloc, conn, 1) {
         Ok(records) => Ok(records),
         Err((_, conn)) => Err(conn),

@@ -82,4 +82,3 @@ returns-in-Err-commit-clause-survives g c =
     let whole = survives_all g.S.Store c.args.conn.now mid (state g.S.Store end) _ left stays (λ clean db is. moves_leave g.S.Store c.args.conn.now mid c.args.key.now c.args.bytes.now settled (moved clean) db is) c.commit.ensures.survives in
     let same : end ≡ c.conn-2-1.given.0 = search rules in
     subst (λ (h : Held _). Survives old (state g.S.Store h) left) same whole
-

@@ -48,4 +48,3 @@ returns-in-Err-commit-clause-survives g c =
     (λ clean db is. leaves g.S.Store c.args.conn.now mid c.args.site c.in-Ok.version settled (marked clean) (kept clean) db is) c.commit.ensures.survives in
     let same : c.commit.new.self.0 ≡ c.conn-2-1.given.0 = search rules in
     subst (λ (h : Held _). Survives old (state g.S.Store h) (LeavesOpened old c.args.site)) same whole
-

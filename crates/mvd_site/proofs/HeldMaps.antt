@@ -10,7 +10,7 @@ use Rattle.std.specs.List.Sorted.{IsStrictlySortedBy}
 use Rattle.std.proofs.lemmas.Map.Keys.{IsDistinct-from_sorted}
 use Rattle.std.specs.FinMap.{FinMap, get, find, from_entries, insert, len, get-from_entries, get-empty, get-insert, len-insert, len-empty, same_map}
 use Rattle.std.specs.FinMap.Entries.{is_some-find}
-use Rattle.mvd_keys.specs.Key.{key_cmp}
+use Rattle.mvd_keys.specs.Key.{is_key, key_cmp}
 use Rattle.mvd_keys.specs.State.{State, IsValid}
 use Rattle.mvd_keys.specs.Writes.{Key}
 use Rattle.mvd_site.specs.Config.{ConfigValue}
@@ -57,11 +57,20 @@ module _ {X : Type 0} where
 
 -- ---- what is held
 
+-- what holds of each key of a map, and of one that comes in, holds of each afterwards
+key_inserted : (m : States) (key : Key) (s : State) → ((q : Key) (y : State) → get m q ≡ Some y → is_key q ≡ true) → is_key key ≡ true → (q : Key) (y : State) → get (insert m key s) q ≡ Some y → is_key q ≡ true
+key_inserted m key s all here q y found =
+    elim (eq_by_cmp key_cmp q key) as (λ b. eq_by_cmp key_cmp q key ≡ b → cond b (Some s) (get m q) ≡ Some y → is_key q ≡ true) [
+      | true ↦ λ tied e. ap is_key (same_where_tied q key tied) ∙ here
+      | false ↦ λ _ e. all q y e
+    ] refl (sym (get-insert key_total m key s q) ∙ found)
+
 -- no key is held in the empty map
 pub held_none : (es : List (Key × State)) → es ≡ [] → AreHeld (from_entries es)
 held_none es none = record {
   held = λ key s found. absurd (nothing key s found);
   valid = λ key s found. absurd (nothing key s found);
+  key = λ key s found. absurd (nothing key s found);
 }
   where
     not_some : (s : State) → ◌≡◌ {A = Option State} None (Some s) → ⊥
@@ -71,10 +80,11 @@ held_none es none = record {
     nothing key s found = not_some s (sym (get-empty key_cmp key) ∙ ap (λ l. get (from_entries {R = key_cmp} l) key) (sym none) ∙ found)
 
 -- a state that may be held, put in
-pub kept_inserted : (m : States) (key : Key) (s : State) → AreHeld m → IsHeldState s → IsValid s → AreHeld (insert m key s)
-kept_inserted m key s kept here valid = record {
+pub kept_inserted : (m : States) (key : Key) (s : State) → AreHeld m → IsHeldState s → IsValid s → is_key key ≡ true → AreHeld (insert m key s)
+kept_inserted m key s kept here valid is = record {
   held = held_inserted IsHeldState m key s kept.held here;
   valid = held_inserted IsValid m key s kept.valid valid;
+  key = key_inserted m key s kept.key is;
 }
 
 -- a key that may come in leaves no more keys than may be held

@@ -1,4 +1,5 @@
 pub mod HeldMaps
+pub mod KnownKeys
 pub mod Lengths
 pub mod Opened
 pub mod Outcomes

@@ -81,6 +81,7 @@ kept_rest : (e : Entry) (es : List Entry) → T (is_sorted key_cmp (e ∷ es)) �
 kept_rest e es rises kept = record {
   held = λ q s found. kept.held q s (later_found e es rises q s found);
   valid = λ q s found. kept.valid q s (later_found e es rises q s found);
+  key = λ q s found. kept.key q s (later_found e es rises q s found);
 }
 
 -- the map of rising entries that may be held stands for a set of writes: those of each state

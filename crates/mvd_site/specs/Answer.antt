@@ -2,19 +2,26 @@
 --
 -- The answers are those of a multi-value register at each key (Shapiro, Preguiça, Baquero, Zawirski, INRIA RR-7506):
 -- each is computed from the whole set of writes, and no state that a site keeps stands in it.
-use Rattle.std.specs.Prelude.{Bool, not, ◌&&◌, ◌==◌, nat_lt, if◌then◌else◌, List, [], ◌∷◌, ◌++◌, length, Option, Some, None}
-use Rattle.std.specs.FinSet.{union, contains, len}
+use Rattle.std.specs.Prelude.{ℕ, Bool, not, ◌&&◌, ◌==◌, nat_lt, if◌then◌else◌, List, [], ◌∷◌, ◌++◌, length, map, Option, Some, None}
+use Rattle.std.specs.FinMap.{FinMap, from_entries}
+use Rattle.std.specs.FinSet.{union, contains, items, len}
 use Rattle.mvd_dots.specs.Dot.{DotValue}
 use Rattle.mvd_dots.specs.Context.{DotSet}
-use Rattle.mvd_dots.specs.declared.refusals.Refusal.TheVariants.{Exhausted, StateTooLarge, Full, DotClash}
+use Rattle.mvd_dots.specs.declared.refusals.Refusal.TheVariants.{Exhausted, StateTooLarge, Full, DotClash, NoIndex, NoView, BadPath}
+use Rattle.mvd_keys.specs.Key.{key_cmp}
 use Rattle.mvd_keys.specs.Minting.{mint}
 use Rattle.mvd_keys.specs.State.{State, Text, clashes, join}
 use Rattle.mvd_keys.specs.Writes.{Key, Write, Wrote, Deleted, context, is_empty, keys, state}
-use Rattle.mvd_wire.specs.Kinds.{spell_state, state_limit}
+use Rattle.mvd_tree.specs.HashTree.{KeyDigests, node_digest}
+use Rattle.mvd_tree.specs.Page.{children_digests, is_more_after_page, page_of}
+use Rattle.mvd_tree.specs.States.{digests_of}
+use Rattle.mvd_wire.specs.Kind.{Kind}
+use Rattle.mvd_wire.specs.Kinds.{key as spelled_key, spell_state, state_limit}
 use Rattle.mvd_wire.specs.declared.request.Request.{Request}
-use Rattle.mvd_wire.specs.declared.request.Request.TheVariants.{Get, Put, Delete, Push, Bye}
+use Rattle.mvd_wire.specs.declared.request.Request.TheVariants.{Get, Put, Delete, Find, Row, Rows, Node, Bucket, Push, Range, Bye}
 use Rattle.mvd_wire.specs.declared.reply.Reply.{Reply}
-use Rattle.mvd_wire.specs.declared.reply.Reply.TheVariants.{State as Shown, Written, Done, Refused}
+use Rattle.mvd_wire.specs.declared.reply.Reply.TheVariants.{State as Shown, Written, Done, Digests as Told, Keys, Refused}
+use Rattle.mvd_wire.specs.declared.reply.Digests.{Digests}
 use Rattle.mvd_site.specs.Config.{ConfigValue}
 
 -- the state's spelling is longer than it may be
@@ -37,7 +44,31 @@ abbrev pub put_answer : ConfigValue → List Write → Key → DotSet → Text �
 put_answer config known key seen document None = Refused Exhausted
 put_answer config known key seen document (Some dot) = within_limits config known key (state key (known ++ Wrote key dot seen document ∷ [])) (Written dot)
 
--- The answer to a request, from the writes known
+-- ---- the hash tree (DeCandia et al. 2007)
+
+-- the states that follow from the writes, by key
+unfoldable pub states_of : List Write → FinMap key_cmp State
+states_of known = from_entries (map (λ key. (key, state key known)) (items (keys known)))
+
+-- a key in a state as it is spelled for its digest: the key, and then the state
+unfoldable pub spelled : Key → State → List ℕ
+spelled key s = spelled_key.spell key ++ spell_state s
+
+-- the digests of the keys that are held in these states
+abbrev pub digests : FinMap key_cmp State → KeyDigests
+digests states = digests_of spelled states
+
+-- the digest of a node and, above the buckets, those of its children
+abbrev pub node_digests : KeyDigests → List ℕ → Digests
+node_digests held path = record { own = node_digest held path; children = if nat_lt (length path) 3 then Some (children_digests held path) else None }
+
+-- a page of a bucket's keys, after a key if one is given
+abbrev pub bucket_answer : KeyDigests → List ℕ → Option Key → Reply
+bucket_answer held path after = if length path == 3 then Keys (page_of held path after) (is_more_after_page held path after) else Refused BadPath
+
+-- ---- all requests
+
+-- The answer to a request, from the writes known. No field has an index, and there is no view
 abbrev pub answer : ConfigValue → List Write → Request → Reply
 answer config known (Get key) = Shown (state key known)
 answer config known (Put key seen document) = put_answer config known key seen document (mint config.site (union (context key known) seen))
@@ -46,6 +77,12 @@ answer config known (Push key pushed) =
     if is_too_large pushed then Refused StateTooLarge
     else if clashes (state key known) pushed then Refused DotClash
     else within_limits config known key (join (state key known) pushed) Done
+answer config known (Find field term after) = Refused NoIndex
+answer config known (Range field from to after) = Refused NoIndex
+answer config known (Row view term) = Refused NoView
+answer config known (Rows view after) = Refused NoView
+answer config known (Node path) = Told (node_digests (digests (states_of known)) path)
+answer config known (Bucket path after) = bucket_answer (digests (states_of known)) path after
 answer config known Bye = Done
 
 -- a key, and the state that it has after the request, where the reply accepts one

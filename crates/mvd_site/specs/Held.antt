@@ -1,10 +1,11 @@
 -- What a site may hold at a key.
-use Rattle.std.specs.Prelude.{◌≡◌, Bool, false, true, ◌&&◌, not, nat_lt, List, length, Result, Ok, Err, if◌then◌else◌, Some, unwrap_or}
+use Rattle.std.specs.Prelude.{ℕ, map, ◌≡◌, Bool, false, true, ◌&&◌, not, nat_lt, List, length, Result, Ok, Err, if◌then◌else◌, Some, unwrap_or}
 use Rattle.std.specs.FinMap.{FinMap, get, from_entries}
-use Rattle.mvd_keys.specs.Key.{key_cmp}
+use Rattle.mvd_keys.specs.Key.{is_key, key_cmp}
 use Rattle.mvd_keys.specs.State.{IsValid, State, empty_state}
 use Rattle.mvd_keys.specs.Writes.{Key, is_empty}
-use Rattle.mvd_site.specs.Answer.{is_too_large}
+use Rattle.mvd_tree.specs.States.{key_digest}
+use Rattle.mvd_site.specs.Answer.{is_too_large, spelled}
 
 -- key states by key
 abbrev pub States : Type 0
@@ -24,6 +25,11 @@ pub record IsKept (s : State) : Type 0 where
 pub record AreHeld (states : States) : Type 0 where
   pub held : (key : Key) (s : State) → get states key ≡ Some s → IsHeldState s
   pub valid : (key : Key) (s : State) → get states key ≡ Some s → IsValid s
+  pub key : (key : Key) (s : State) → get states key ≡ Some s → is_key key ≡ true
+
+-- keys with the digests that they have in these states
+abbrev pub key_digests : List (Key × State) → List (Key × List ℕ)
+key_digests states = map (λ e. (e.0, key_digest spelled e.0 e.1)) states
 
 -- the key's state, or the empty one
 abbrev pub state_at : States → Key → State

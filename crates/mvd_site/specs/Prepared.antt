@@ -1,15 +1,14 @@
 -- What a request comes to before anything is changed.
-use Rattle.std.specs.Prelude.{◌≡◌, ◌≢◌, ◌≤◌, ◌⊎◌, List, Option, Some, None, Result, Ok, Err, false, ⊤, IfSome, length, refl, ℕ}
-use Rattle.std.specs.Coded.{Coded, code_by, coded×, coded_ℕ, coded_list, coded_option}
-use Rattle.mvd_dots.specs.Dot.{DotValue, dot_code}
+use Rattle.std.specs.Prelude.{◌≡◌, ◌≢◌, ◌⊎◌, Bool, List, Option, Some, Result, Ok, Err, false, true, IfSome}
+use Rattle.mvd_dots.specs.Dot.{DotValue}
 use Rattle.mvd_dots.specs.declared.refusals.Refusal.{Refusal}
 use Rattle.mvd_dots.specs.declared.refusals.Refusal.TheVariants.{Memory}
-use Rattle.mvd_keys.specs.State.{State, state_code}
+use Rattle.mvd_keys.specs.State.{State}
 use Rattle.mvd_keys.specs.Writes.{Key, Stands, Write, state}
-use Rattle.mvd_wire.specs.Kinds.{spell_state, state_limit}
+use Rattle.mvd_wire.specs.Replies.{CanBeSent}
 use Rattle.mvd_wire.specs.declared.request.Request.{Request}
 use Rattle.mvd_wire.specs.declared.reply.Reply.{Reply}
-use Rattle.mvd_wire.specs.declared.reply.Reply.TheVariants.{State as Shown, Written, Done, Refused}
+use Rattle.mvd_wire.specs.declared.reply.Reply.TheVariants.{Refused}
 use Rattle.mvd_site.specs.Answer.{answer, change_of}
 use Rattle.mvd_site.specs.Config.{ConfigValue}
 use Rattle.mvd_site.specs.Held.{IsHeldState, state_at}
@@ -39,17 +38,25 @@ Prepares config known request (Ok (Change change)) = PreparesChange config known
 abbrev pub PreparesAt : SiteValue → Request → Result Prepared Refusal → Type 0
 PreparesAt site request prepared = site.broken ≡ false → (known : List Write) → Stands site.states known → Prepares site.config known request prepared
 
--- the reply refuses nothing, and no state in it is too long
-abbrev pub IsPlain : Reply → Type 0
-IsPlain (Shown s) = length (spell_state s) ≤ state_limit
-IsPlain (Written dot) = ⊤
-IsPlain Done = ⊤
-IsPlain (Refused refusal) = ⊥
+abbrev pub is_refusal : Reply → Bool
+is_refusal (Refused refusal) = true
+is_refusal reply = false
+
+-- the reply refuses nothing, and is not too long for its frame
+pub record IsPlain (reply : Reply) : Type 0 where
+  pub accepts : is_refusal reply ≡ false
+  pub fits : CanBeSent reply
 
 -- a change is one that may be put in, and a reply refuses nothing
 abbrev pub IsReady : SiteValue → Prepared → Type 0
 IsReady site (Answer reply) = IsPlain reply
 IsReady site (Change change) = (has_no_room site.config site.states change.key ≡ false) × IsHeldState change.state
+
+-- an answer with nothing to change, or that refusal, or memory was refused
+abbrev pub PreparesReply : Reply → Result Prepared Refusal → Type 0
+PreparesReply reply (Err refusal) = (Refused refusal ≡ reply) ⊎ (refusal ≡ Memory)
+PreparesReply reply (Ok (Answer given)) = given ≡ reply
+PreparesReply reply (Ok (Change change)) = ⊥
 
 -- where the key is to have this state, what is prepared, by the limits
 abbrev pub LimitsTo : SiteValue → Key → State → Option DotValue → Result Prepared Refusal → Type 0

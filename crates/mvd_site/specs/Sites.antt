@@ -1,5 +1,5 @@
 -- What a site is seen as, and what it does with a request.
-use Rattle.std.specs.Prelude.{◌≡◌, Bool, false, refl, ℕ, nat_lt, List, [], ◌++◌, length, Option, Some, None, Result, Ok, Err, if◌then◌else◌, not, ◌&&◌, ◌==◌, is_some}
+use Rattle.std.specs.Prelude.{◌≡◌, ◌≤◌, Bool, false, refl, ℕ, nat_lt, List, [], ◌++◌, length, Option, Some, None, Result, Ok, Err, if◌then◌else◌, not, ◌&&◌, ◌==◌, is_some}
 use Rattle.std.specs.Coded.{Coded, code_by, coded×, coded_ℕ, coded_bool, coded_list}
 use Rattle.std.specs.FinMap.{FinMap, code, from_entries, get, len as map_len}
 use Rattle.mvd_dots.specs.Dot.{DotValue}
@@ -10,7 +10,8 @@ use Rattle.mvd_keys.specs.Writes.{Agree, Key, Stands, Write, is_empty}
 use Rattle.mvd_wire.specs.declared.request.Request.{Request}
 use Rattle.mvd_wire.specs.declared.reply.Reply.{Reply}
 use Rattle.mvd_wire.specs.declared.reply.Reply.TheVariants.{Refused}
-use Rattle.mvd_site.specs.Answer.{is_too_large}
+use Rattle.mvd_tree.specs.HashTree.{KeyDigests}
+use Rattle.mvd_site.specs.Answer.{digests, is_too_large}
 use Rattle.mvd_site.specs.Config.{ConfigValue, config_code}
 use Rattle.mvd_site.specs.Held.{States}
 use Rattle.mvd_site.specs.Known.{Adds, AllReplied, Event, MayReply, Tells, known_after}
@@ -25,6 +26,11 @@ abbrev pub site_code : Coded SiteValue
 site_code = code_by (ConfigValue × (States × Bool)) (coded× config_code (coded× (code (coded_list coded_ℕ) state_code) coded_bool))
     (λ s. (s.config, (s.states, s.broken)))
     (λ p. record { config = p.0; states = p.1.0; broken = p.1.1 }) (λ _. refl)
+
+-- what a site keeps: no more keys than it may hold, and, unless it is broken, the digests of its keys
+pub record KeepsKeys (config : ConfigValue) (states : States) (tree : KeyDigests) (broken : Bool) : Type 0 where
+  pub room : map_len states ≤ config.max_keys
+  pub tree : broken ≡ false → tree ≡ digests states
 
 -- unless it is broken, the site's states are those of the writes
 abbrev pub SiteStands : SiteValue → List Write → Type 0

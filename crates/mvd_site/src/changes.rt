@@ -1,10 +1,12 @@
 //! What a request comes to, before anything is changed.
-ghost use Rattle.std.specs.Prelude.{◌≡◌};
-ghost use Rattle.mvd_site.specs.Change.{reply_of};
+ghost use Rattle.std.specs.Prelude.{◌≡◌, ◌≤◌, IfErr, IfOk, length};
+ghost use Rattle.mvd_wire.specs.Kinds.{spell_state, state_limit};
+ghost use Rattle.mvd_site.specs.Change.{SpellsChange, reply_of};
 
 use mvd_dots::{Dot, Refusal};
 use mvd_keys::{Key, KeyState};
-use mvd_wire::{Reply, encode_state};
+use mvd_tree::key_digest;
+use mvd_wire::{Reply, encode_key, encode_state};
 use std::alloc::Global;
 use std::marker::Model;
 
@@ -13,14 +15,13 @@ use std::marker::Model;
 pub struct Change {
     key: Key,
     state: KeyState,
-    bytes: Vec<u8>,
+    key_length: usize,
+    spelled: Vec<u8>,
     dot: Option<Dot>,
 }
 
 impl Model for Change {
-    ghost use Rattle.std.specs.Prelude.{◌≡◌};
-    ghost use Rattle.mvd_wire.specs.Kinds.{spell_state};
-    ghost use Rattle.mvd_site.specs.Change.{ChangeValue, change_code};
+    ghost use Rattle.mvd_site.specs.Change.{ChangeValue, SpellsChange, change_code};
 
     ghost Value = { ChangeValue };
 
@@ -28,13 +29,15 @@ impl Model for Change {
 
     ghost view = { λ c. record { key = c.key; state = c.state; dot = c.dot } };
 
-    ghost invariant = { λ c. c.bytes.items ≡ spell_state c.state };
+    ghost invariant = { λ c. SpellsChange c.key c.state c.key_length c.spelled.items };
 }
 
 impl Change {
     ghost use Rattle.std.specs.Prelude.{◌≡◌, ◌≤◌, Ok, length};
     ghost use Rattle.mvd_dots.specs.Answer.{IsAnswer};
+    ghost use Rattle.mvd_tree.specs.States.{key_digest};
     ghost use Rattle.mvd_wire.specs.Kinds.{spell_state, state_limit};
+    ghost use Rattle.mvd_site.specs.Answer.{spelled};
 
     /// The change that gives the key this state, by a put of this dot if it is one.
     pub(crate) fn new(
@@ -47,11 +50,12 @@ impl Change {
         ensures { IsAnswer result (Ok (record { key = key.now; state = state; dot = dot })) }
     {
         let key = key.copy(alloc)?;
-        let bytes = encode_state(alloc, &state)?;
+        let (key_length, spelled) = spelled_key_state(alloc, &key, &state)?;
         Ok(Change {
             key,
             state,
-            bytes,
+            key_length,
+            spelled,
             dot,
         })
     }
@@ -73,7 +77,14 @@ impl Change {
     pub fn bytes(&self) -> &[u8]
         ensures { result.now ≡ spell_state self.now.state }
     {
-        &self.bytes
+        &self.spelled[self.key_length..]
+    }
+
+    /// The digest of the key in that state.
+    pub(crate) fn digest(&self) -> [u8; 32]
+        ensures { result ≡ key_digest spelled self.now.key self.now.state }
+    {
+        key_digest(&self.spelled)
     }
 
     /// The reply once the change is made: `Written` for a put, `Done` for a delete or a push.
@@ -90,6 +101,23 @@ impl Change {
     {
         (self.key, self.state)
     }
+}
+
+/// A key and a state of at most 1,150,000 bytes as they are spelled, one after the other, and where the state begins.
+pub(crate) fn spelled_key_state(
+    alloc: Global,
+    key: &Key,
+    state: &KeyState,
+) -> Result<(usize, Vec<u8>), Refusal>
+    requires { length (spell_state state.now) ≤ state_limit }
+    ensures spells { IfOk result (λ r. SpellsChange key.now state.now r.0 r.1.items) }
+    ensures only { IfErr result (λ refusal. refusal ≡ Refusal.Memory) }
+{
+    let mut bytes = encode_key(alloc, key)?;
+    let key_length = bytes.len();
+    let state = encode_state(alloc, state)?;
+    bytes.extend_from_slice(&state)?;
+    Ok((key_length, bytes))
 }
 
 /// A put is answered with its dot, and a delete or a push is done.

@@ -63,8 +63,9 @@ impl Held {
         ensures ok { OnOk result (self.new ≡ map.insert self.old key state) }
         ensures err { OnErr result (self.new ≡ self.old) }
     {
-        // Here it is known that each sibling's dot has been seen.
+        // Here it is known that each sibling's dot has been seen, and that the key is one.
         let _seen = state.context();
+        let _text = key.text();
         self.states.insert(key, state)?;
         Ok(())
     }

@@ -5,6 +5,7 @@ pub mod changes;
 pub mod config;
 pub mod counted;
 mod held;
+mod opening;
 pub mod sites;
 
 pub use changes::{Change, Prepared};

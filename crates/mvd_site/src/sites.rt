@@ -11,20 +11,23 @@ ghost use Rattle.mvd_keys.specs.Key.{key_cmp};
 ghost use Rattle.mvd_keys.specs.State.{IsValid, empty_state};
 ghost use Rattle.mvd_keys.specs.Writes.{Write, Stands, is_empty};
 ghost use Rattle.mvd_wire.specs.declared.request.Request.TheVariants.{Get, Put, Delete, Push};
-ghost use Rattle.mvd_wire.specs.declared.reply.Reply.TheVariants.{Refused};
+ghost use Rattle.mvd_wire.specs.declared.reply.Reply.TheVariants.{Digests as Told, Refused};
 ghost use Rattle.mvd_wire.specs.Replies.{CanBeSent};
-ghost use Rattle.mvd_site.specs.Held.{AreHeld, IsHeldState, IsKept, state_at};
+ghost use Rattle.mvd_site.specs.Held.{IsHeldState, IsKept, state_at};
 ghost use Rattle.mvd_site.specs.Known.{Adds, Event, IsValidRequest, Tells};
-ghost use Rattle.mvd_site.specs.Prepared.{IsReady, LimitsTo, Prepares, PreparesAt};
+ghost use Rattle.mvd_site.specs.Prepared.{IsPlain, IsReady, LimitsTo, Prepares, PreparesAt, PreparesReply};
+ghost use Rattle.mvd_site.specs.Answer.{bucket_answer, digests, node_digests};
 ghost use Rattle.mvd_site.specs.Sites.{AnswersAll, AnswersOne, SiteValue, has_no_room, opened};
 
 use crate::changes::{Change, Prepared, reply_of};
 use crate::config::Config;
 use crate::held::Held;
+use crate::opening::{digests_of, held_of};
 use mvd_docs::Document;
 use mvd_dots::{Context, Dot, Refusal};
-use mvd_keys::{Key, KeyState};
-use mvd_wire::{Reply, Request, state_length};
+use mvd_keys::{Key, KeyState, Path};
+use mvd_tree::Tree;
+use mvd_wire::{Digests, Items, Reply, Request, state_length};
 use std::alloc::Global;
 use std::marker::Model;
 
@@ -37,13 +40,12 @@ pub struct Site {
     alloc: Global,
     config: Config,
     states: Held,
+    tree: Tree,
     broken: bool,
 }
 
 impl Model for Site {
-    ghost use Rattle.std.specs.Prelude.{◌≤◌};
-    ghost use Rattle.std.specs.FinMap as map;
-    ghost use Rattle.mvd_site.specs.Sites.{SiteValue, site_code};
+    ghost use Rattle.mvd_site.specs.Sites.{KeepsKeys, SiteValue, site_code};
 
     ghost Value = { SiteValue };
 
@@ -51,20 +53,22 @@ impl Model for Site {
 
     ghost view = { λ s. record { config = s.config; states = s.states; broken = s.broken } };
 
-    ghost invariant = { λ s. map.len s.states ≤ s.config.max_keys };
+    ghost invariant = { λ s. KeepsKeys s.config s.states s.tree s.broken };
 }
 
 impl Site {
     /// A site with no key.
-    pub fn new(alloc: Global, config: Config) -> Site
-        ensures { result ≡ record { config = config; states = map.empty; broken = false } }
+    pub fn new(alloc: Global, config: Config) -> Result<Site, Refusal>
+        ensures { IsAnswer result (Ok (record { config = config; states = map.empty; broken = false })) }
     {
-        Site {
+        let tree = Tree::new(alloc)?;
+        Ok(Site {
             alloc,
             config,
             states: Held::new(alloc),
+            tree,
             broken: false,
-        }
+        })
     }
 
     /// A site that holds just these states, whose keys rise.
@@ -82,11 +86,13 @@ impl Site {
         if states.len() > config.max_keys() as usize {
             return Err(Refusal::Full);
         }
+        let tree = Tree::open(alloc, digests_of(alloc, &states)?)?;
         let held = held_of(alloc, states)?;
         Ok(Site {
             alloc,
             config,
             states: held,
+            tree,
             broken: false,
         })
     }
@@ -150,6 +156,12 @@ impl Site {
             Request::Put(key, seen, document) => self.prepare_put(key, seen, document, looks),
             Request::Delete(key, seen) => self.prepare_delete(key, seen, looks),
             Request::Push(key, pushed) => self.prepare_push(key, pushed, looks),
+            Request::Find(_, _, _) => Err(Refusal::NoIndex),
+            Request::Range(_, _, _, _) => Err(Refusal::NoIndex),
+            Request::Row(_, _) => Err(Refusal::NoView),
+            Request::Rows(_, _) => Err(Refusal::NoView),
+            Request::Node(path) => Ok(Prepared::Answer(self.node(path))),
+            Request::Bucket(path, after) => self.prepare_bucket(path, after.as_ref()),
             Request::Bye => Ok(Prepared::Answer(Reply::Done)),
         }
     }
@@ -234,6 +246,27 @@ impl Site {
         }
     }
 
+    /// The digests of a node and of its children.
+    fn node(&self, path: &Path) -> Reply
+        ensures answer { self.now.broken ≡ false → result ≡ Told (node_digests (digests self.now.states) path.now) }
+        ensures plain { IsPlain result }
+    {
+        Reply::Digests(Digests {
+            own: self.tree.node(path),
+            children: self.tree.children(path),
+        })
+    }
+
+    /// A page of a bucket.
+    fn prepare_bucket(&self, path: &Path, after: Option<&Key>) -> Result<Prepared, Refusal>
+        ensures answer { self.now.broken ≡ false → PreparesReply (bucket_answer (digests self.now.states) path.now (option_copied after.entry)) result }
+        ensures ready { IfOk result (IsReady self.now) }
+        ensures whole { IfErr result (λ refusal. refusal ≢ Broken) }
+    {
+        let (keys, is_more) = self.tree.bucket(path, after)?;
+        Ok(Prepared::Answer(Reply::Keys(Items::new(keys), is_more)))
+    }
+
     /// Whether the key is held, and its state or the empty one. This is one look.
     fn look<'a>(&'a self, key: &Key, empty: &'a KeyState, looks: &mut u64) -> (bool, &'a KeyState)
         requires few { looks.old ≤ 2 ^ 63 }
@@ -288,7 +321,12 @@ impl Site {
         if self.broken {
             return Err(Refusal::Broken);
         }
+        let digest = change.digest();
         let (key, state) = change.into_parts();
+        if self.tree.change(&key, Some(digest)).is_err() {
+            self.broken = true;
+            return Err(Refusal::Broken);
+        }
         match self.states.insert(key, state) {
             Ok(()) => Ok(()),
             Err(_) => {
@@ -337,7 +375,7 @@ impl Site {
         ensures count { IfOk result (λ done. length done.1.items ≡ length requests.now) }
         ensures only { IfErr result (λ refusal. refusal ≡ Memory) }
     {
-        let mut site = Site::new(alloc, config.copy());
+        let mut site = Site::new(alloc, config.copy())?;
         let mut replies = Vec::new(alloc);
         for request in requests {
             let reply = site.answer(request);
@@ -345,19 +383,4 @@ impl Site {
         }
         Ok((site, replies))
     }
-}
-
-/// The map of just these states.
-fn held_of(alloc: Global, states: Vec<(Key, KeyState)>) -> Result<Held, Refusal>
-    requires rising { IsTrue (map.is_sorted key_cmp states.items) }
-    requires held { AllByRecursion (λ entry. IsHeldState entry.1) states.items }
-    ensures held { IfOk result (λ held. held ≡ map.from_entries states.items) }
-    ensures kept { IfOk result AreHeld }
-    ensures only { IfErr result (λ refusal. refusal ≡ Memory) }
-{
-    let mut held = Held::new(alloc);
-    for (key, state) in states {
-        held.insert(key, state)?;
-    }
-    Ok(held)
 }

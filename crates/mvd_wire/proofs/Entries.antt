@@ -1,17 +1,17 @@
 -- The one list of entries of a set of dots, and the lists of entries that have a spelling.
-use Rattle.std.proofs.Common.{◌≡◌, ℕ, suc, ◌+◌, ◌*◌, ◌<◌, ◌≤◌, ◌^◌, ◌&&◌, Bool, true, false, leb, ltb, List, [], ◌∷◌, length, Result, Ok, Err, ◌≢◌, ◌-◌, refl, sym, ap, ◌∙◌, arith, inl, inr}
+use Rattle.std.proofs.Common.{◌≡◌, ℕ, suc, ◌+◌, ◌*◌, ◌<◌, ◌≤◌, ◌^◌, leb, List, [], ◌∷◌, length, Result, Ok, Err, ◌≢◌, ◌-◌, refl, sym, ap, ◌∙◌, arith, inl, inr}
 use Rattle.std.proofs.lemmas.Bool.{leb-true, ltb-true}
-use Rattle.std.specs.Int.{w16, w32, w64, byte_len}
+use Rattle.std.specs.Int.{byte_len}
 use Rattle.mvd_dots.specs.declared.dots.TheConstants.{COUNTER_MAX}
 use Rattle.mvd_dots.specs.Entry.{EntryValue, IsEntry, RisesAbove, AllBelow, HasDot}
-use Rattle.mvd_dots.specs.Context.{DotSet, AreInRange, Holds, AreEntries, AreEntriesAbove, entry_dots, set_of}
+use Rattle.mvd_dots.specs.Context.{DotSet, Holds, AreEntriesAbove, entry_dots, set_of}
 use Rattle.std.specs.FinSet as set
 use Rattle.mvd_dots.specs.declared.refusals.Refusal.{Refusal}
 use Rattle.mvd_dots.specs.declared.refusals.Refusal.TheVariants.{Memory}
 use Rattle.mvd_dots.proofs.Sets.{union-empty, union_empty_left, union_assoc, holds_union}
 use Rattle.mvd_dots.proofs.Members.{set_of-nil, set_of-cons, holds_entry}
 use Rattle.mvd_keys.proofs.Lists.{and_true}
-use Rattle.mvd_wire.specs.Kind.{◌>>=◌, Kind, number, FitEach, read_each}
+use Rattle.mvd_wire.specs.Kind.{◌>>=◌, number, FitEach, read_each}
 use Rattle.mvd_wire.specs.Kinds.{Layout, entry, loose_from, loose_above, dots_read, entries, context}
 
 -- ---- what fits is in the form of entries

@@ -1,5 +1,5 @@
 -- What the types hold has a spelling.
-use Rattle.std.proofs.Common.{◌≡◌, ℕ, suc, ◌+◌, ◌*◌, ◌<◌, ◌≤◌, ◌^◌, Bool, true, false, T, cond, not, ltb, leb, ◌&&◌, List, [], ◌∷◌, ◌++◌, length, Option, Some, None, Result, Ok, Err, is_some, refl, sym, ap, subst, ◌∙◌, arith}
+use Rattle.std.proofs.Common.{◌≡◌, ℕ, suc, ◌+◌, ◌*◌, ◌<◌, ◌≤◌, ◌^◌, Bool, true, false, T, cond, not, ltb, leb, ◌&&◌, List, [], ◌∷◌, ◌++◌, length, Option, Some, None, Result, Ok, Err, refl, subst, arith}
 use Rattle.std.proofs.lemmas.Bool.{leb-true, ltb-true, le-leb, lt-ltb}
 use Rattle.std.proofs.lemmas.List.{length-append, length-map}
 use Rattle.std.proofs.lemmas.List.Concat.{flat_map-cons}
@@ -13,11 +13,10 @@ use Rattle.std.specs.FinMap.Entries.{below_all}
 use Rattle.std.specs.Ordering.{is_lt}
 use Rattle.serde_json.specs.Data.{Data, null, boolean, number as num, string, array, object, Members, no_members, member}
 use Rattle.serde_json.specs.Read.{read}
-use Rattle.serde_json.specs.Find.{as_object}
 use Rattle.serde_json.specs.Written.{compact_text, members_text}
 use Rattle.json.specs.Print.{quoted}
 use Rattle.mvd_dots.specs.declared.refusals.Refusal.{Refusal}
-use Rattle.mvd_dots.specs.declared.refusals.Refusal.TheVariants.{BadDocument, NotObject, BadNumber, DocumentTooLong, NotCanonical}
+use Rattle.mvd_dots.specs.declared.refusals.Refusal.TheVariants.{BadDocument, BadNumber, DocumentTooLong, NotCanonical}
 use Rattle.mvd_dots.specs.Dot.{DotValue, IsDot, dot_cmp}
 use Rattle.mvd_dots.specs.Entry.{EntryValue, IsEntry, RisesAbove, AllBelow, HasDot}
 use Rattle.mvd_dots.specs.Context.{DotSet, AreInRange, AreEntriesAbove, entries_of}
@@ -31,8 +30,8 @@ use Rattle.mvd_keys.specs.declared.siblings.Sibling.{Sibling}
 use Rattle.mvd_keys.proofs.Parts.{is_true, holds, tests_of_parts}
 use Rattle.mvd_keys.proofs.Lists.{and_true}
 use Rattle.mvd_keys.proofs.Rising.{first_true, second_true}
-use Rattle.mvd_wire.specs.Kind.{Kind, number, raw, FitEach}
-use Rattle.mvd_wire.specs.Kinds.{layout2, state_limit, dot, key, document, document_of_bytes, loose_from, loose_above, entry, entries, context, comes_after, sibling, siblings, unlimited_state, state, spell_state, spell_entry, spell_sibling}
+use Rattle.mvd_wire.specs.Kind.{number, raw, FitEach}
+use Rattle.mvd_wire.specs.Kinds.{layout2, state_limit, dot, key, document, loose_from, loose_above, entry, entries, context, comes_after, sibling, siblings, unlimited_state, state, spell_state, spell_entry, spell_sibling}
 use Rattle.mvd_wire.proofs.Spellings.{length_entry, length_sibling, length_context, length_state}
 
 -- ---- keys

@@ -8,21 +8,21 @@ use Rattle.std.specs.FinMap.{entries as pairs, from_entries}
 use Rattle.mvd_dots.specs.declared.refusals.Refusal.{Refusal}
 use Rattle.mvd_dots.specs.declared.refusals.Refusal.TheVariants.{BadKey, BadContext, BadDocument, NotCanonical, DocumentTooLong, StateTooLarge, BadPath, BadBody}
 use Rattle.mvd_dots.specs.declared.dots.TheConstants.{COUNTER_MAX}
-use Rattle.mvd_dots.specs.Dot.{DotValue, dot_cmp}
+use Rattle.mvd_dots.specs.Dot.{DotValue}
 use Rattle.mvd_dots.specs.Entry.{EntryValue}
-use Rattle.mvd_dots.specs.Context.{DotSet, AreInRange, AreEntries, AreEntriesOf, entries_of, set_of}
+use Rattle.mvd_dots.specs.Context.{DotSet, AreInRange, AreEntries, entries_of, set_of}
 use Rattle.mvd_docs.specs.Document.{canonical_document_of, document_of, same_text}
 use Rattle.mvd_keys.specs.Key.{is_key, key_of_text}
 use Rattle.mvd_keys.specs.Path.{is_path, path_of}
-use Rattle.mvd_keys.specs.State.{State, Text}
+use Rattle.mvd_keys.specs.State.{Text}
 use Rattle.mvd_wire.specs.declared.version.Version.{Version}
 use Rattle.mvd_wire.specs.declared.version.Version.TheVariants.{First, Second}
-use Rattle.mvd_wire.specs.Kind.{Kind, ◌>>=◌, byte, number, raw, followed, checked, accepted, named, counted}
+use Rattle.mvd_wire.specs.Kind.{Kind, byte, number, raw, followed, checked, accepted, named}
 use Rattle.mvd_wire.specs.Kinds.{Layout, layout1, layout2, layout_of, dot, loose_from, loose_above, entry, entries, context, key, document_of_bytes, document, path, comes_after, sibling, siblings, unlimited_state, state}
 use Rattle.mvd_wire.proofs.Laws.{IsLawful, IsWide, Takes, wide16, wide32, wide64, bind_ok, ok_is, passed_ok, lawful_byte, lawful_number, lawful_raw, lawful_followed, lawful_checked, lawful_accepted, lawful_named, lawful_counted}
 use Rattle.mvd_wire.proofs.Entries.{entries_form}
 use Rattle.mvd_dots.proofs.Canonical.{set_of-entries_of, entries_of-set_of, AreInRange-set_of}
-use Rattle.mvd_wire.proofs.Siblings.{siblings_sorted, siblings_back, pairs_back}
+use Rattle.mvd_wire.proofs.Siblings.{siblings_back, pairs_back}
 
 -- both numbers of a layout are of a width with lawful bytes, and a site has at most four
 pub record IsWideLayout (v : Layout) : Type 0 where

@@ -8,7 +8,7 @@ use Rattle.std.proofs.lemmas.Nat.{be_bytes_2, be_bytes_4, be_bytes_8, from_be_by
 use Rattle.mvd_dots.specs.declared.refusals.Refusal.{Refusal}
 use Rattle.mvd_dots.specs.declared.refusals.Refusal.TheVariants.{BadBody}
 use Rattle.mvd_dots.specs.Answer.{IsAnswer}
-use Rattle.mvd_wire.specs.Kind.{◌>>=◌, Kind, byte, number, raw, followed, checked, accepted, named, read_each, spell_each, FitEach, each, counted, whole, Gives, Spells, IsPrefixFree}
+use Rattle.mvd_wire.specs.Kind.{◌>>=◌, Kind, byte, number, raw, followed, checked, accepted, named, named_where, read_each, spell_each, FitEach, each, counted, whole, Gives, Spells, IsPrefixFree}
 
 abbrev pub IsBytes : List ℕ → Type 0
 IsBytes bytes = (i : ℕ) → get_or bytes i 0 < 256
@@ -201,6 +201,17 @@ lawful_named {X} {Y} parts made kind there back law = record {
       let t = law.takes bytes a.0 fits a.1 in
       let at : Takes bytes (kind.spell (parts (made a.0.0))) a.0.1 × kind.Fits (parts (made a.0.0)) = subst (λ (x : X). Takes bytes (kind.spell x) a.0.1 × kind.Fits x) (sym (there a.0.0 t.1)) t in
       subst (λ (z : Y × List ℕ). Takes bytes (kind.spell (parts z.0)) z.1 × kind.Fits (parts z.0)) (ok_is (made a.0.0, a.0.1) y a.2) at;
+}
+
+pub lawful_named_where : {X Y : Type 0} (Good : Y → Type 0) (parts : Y → X) (made : X → Y) (kind : Kind X) → ((x : X) → kind.Fits x → (parts (made x) ≡ x) × Good (made x)) → ((y : Y) → Good y → made (parts y) ≡ y) → IsLawful kind → IsLawful (named_where Good parts made kind)
+lawful_named_where {X} {Y} Good parts made kind there back law = record {
+  again = λ y rest fits. rw (law.again (parts y) rest fits.1, back y fits.0) refl;
+  takes = λ bytes y fits e.
+      let a = bind_ok (kind.read bytes) (λ x. Ok (made x.0, x.1)) y e in
+      let t = law.takes bytes a.0 fits a.1 in
+      let is = there a.0.0 t.1 in
+      let at : Takes bytes (kind.spell (parts (made a.0.0))) a.0.1 × kind.Fits (parts (made a.0.0)) = subst (λ (x : X). Takes bytes (kind.spell x) a.0.1 × kind.Fits x) (sym is.0) t in
+      subst (λ (z : Y × List ℕ). Takes bytes (kind.spell (parts z.0)) z.1 × (Good z.0 × kind.Fits (parts z.0))) (ok_is (made a.0.0, a.0.1) y a.2) (at.0, (is.1, at.1));
 }
 
 -- ---- values one after the other

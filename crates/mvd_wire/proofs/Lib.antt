@@ -4,10 +4,14 @@ pub mod FrameLemmas
 pub mod KindLaws
 pub mod Laws
 pub mod Loops
+pub mod Names
 pub mod RefusalNumbers
 pub mod ReplyLaws
 pub mod RequestLaws
+pub mod RowFits
+pub mod RowLaws
 pub mod SentFrames
 pub mod Siblings
 pub mod Spellings
+pub mod Tagged
 pub mod Texts

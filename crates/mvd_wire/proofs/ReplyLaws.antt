@@ -1,5 +1,5 @@
 -- What is decoded of a reply is what was spelled, and what was spelled is decoded.
-use Rattle.std.proofs.Common.{◌≡◌, ℕ, ◌<◌, List, [], ◌∷◌, Option, Some, None, Result, Ok, Err, refl, sym, ap, subst, ◌∙◌, arith}
+use Rattle.std.proofs.Common.{◌≡◌, ℕ, List, [], ◌∷◌, Option, Some, None, Result, Ok, Err, refl, sym, ap, subst, ◌∙◌}
 use Rattle.std.specs.Prelude.{IfOk, ok_or}
 use Rattle.mvd_dots.specs.declared.refusals.Refusal.{Refusal}
 use Rattle.mvd_dots.specs.declared.refusals.Refusal.TheVariants.{BadBody, BadKind}
@@ -7,13 +7,15 @@ use Rattle.mvd_dots.specs.Answer.{IsAnswer}
 use Rattle.mvd_dots.specs.Refusal.{number_of}
 use Rattle.mvd_wire.specs.declared.reply.Reply.{Reply}
 use Rattle.mvd_wire.specs.declared.reply.Reply.TheVariants as reply
-use Rattle.mvd_wire.specs.Kind.{◌>>=◌, Kind, byte, nothing, whole, tagged}
+use Rattle.mvd_wire.specs.Kind.{◌>>=◌, byte, nothing}
 use Rattle.mvd_wire.specs.Kinds.{layout2, dot, state, spell_state}
 use Rattle.mvd_wire.specs.Replies.{refusal, numbered, reply_of, SpellsReply, IsReply, kind_of, payload_of}
 use Rattle.mvd_wire.proofs.Laws.{IsBytes, IsLawful, Takes, bind_ok, ok_is, whole_again, lawful_byte}
+use Rattle.mvd_wire.specs.Rows.{digests, key_entry, page, place, row, view_row}
+use Rattle.mvd_wire.proofs.RowLaws.{lawful_digests, lawful_key_entry, lawful_page, lawful_place, lawful_row, lawful_view_row}
 use Rattle.mvd_wire.proofs.KindLaws.{wide_layout2, lawful_dot, lawful_state}
 use Rattle.mvd_wire.proofs.RefusalNumbers.{own_number, number_back}
-use Rattle.mvd_wire.proofs.RequestLaws.{Decodes, decodes_tagged, lawful_nothing}
+use Rattle.mvd_wire.proofs.Tagged.{Decodes, decodes_tagged, lawful_nothing}
 
 told : (found : Option Refusal) (r : Refusal) → ok_or found BadBody ≡ Ok r → found ≡ Some r
 told (Some q) r e = ap Some (ok_is q r e)
@@ -38,14 +40,24 @@ decodes_replies =
     decodes_tagged SpellsReply 0xA1 (state layout2) reply.State _ (lawful_state layout2 wide_layout2) (λ x fits. (fits, refl, refl))
     (decodes_tagged SpellsReply 0xA2 (dot layout2) reply.Written _ (lawful_dot layout2 wide_layout2) (λ x fits. (fits, refl, refl))
     (decodes_tagged SpellsReply 0xA3 nothing (λ _. reply.Done) _ lawful_nothing (λ x fits. (tt, refl, refl))
+    (decodes_tagged SpellsReply 0xA4 (page place) (λ p. reply.Places p.0 p.1) _ (lawful_page place lawful_place) (λ x fits. (fits, refl, refl))
+    (decodes_tagged SpellsReply 0xA5 row reply.Row _ lawful_row (λ x fits. (fits, refl, refl))
+    (decodes_tagged SpellsReply 0xA6 (page view_row) (λ p. reply.Rows p.0 p.1) _ (lawful_page view_row lawful_view_row) (λ x fits. (fits, refl, refl))
+    (decodes_tagged SpellsReply 0xA7 digests reply.Digests _ lawful_digests (λ x fits. (fits, refl, refl))
+    (decodes_tagged SpellsReply 0xA8 (page key_entry) (λ p. reply.Keys p.0 p.1) _ (lawful_page key_entry lawful_key_entry) (λ x fits. (fits, refl, refl))
     (decodes_tagged SpellsReply 0xEE refusal reply.Refused (λ _ _. Err BadKind) lawful_refusal (λ x fits. (fits, refl, refl))
-    (λ kind payload y bytes e. absurd cc))))
+    (λ kind payload y bytes e. absurd cc)))))))))
 
 pub replies_again : (r : Reply) → IsReply r → reply_of (kind_of r) (payload_of r) ≡ Ok r
 unfolding spell_state
 replies_again (reply.State s) fits = rw (whole_again (state layout2) (lawful_state layout2 wide_layout2) s fits) refl
 replies_again (reply.Written d) fits = rw (whole_again (dot layout2) (lawful_dot layout2 wide_layout2) d fits) refl
 replies_again reply.Done fits = refl
+replies_again (reply.Places ps more) fits = rw (whole_again (page place) (lawful_page place lawful_place) (ps, more) fits) refl
+replies_again (reply.Row r) fits = rw (whole_again row lawful_row r fits) refl
+replies_again (reply.Rows rs more) fits = rw (whole_again (page view_row) (lawful_page view_row lawful_view_row) (rs, more) fits) refl
+replies_again (reply.Digests d) fits = rw (whole_again digests lawful_digests d fits) refl
+replies_again (reply.Keys ks more) fits = rw (whole_again (page key_entry) (lawful_page key_entry lawful_key_entry) (ks, more) fits) refl
 replies_again (reply.Refused r) fits = rw (whole_again refusal lawful_refusal r fits) refl
 
 module _ (kind : ℕ) (payload : List ℕ) where

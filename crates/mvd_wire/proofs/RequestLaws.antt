@@ -1,43 +1,19 @@
 -- What is decoded is what was spelled, and what was spelled is decoded.
-use Rattle.std.proofs.Common.{◌≡◌, ℕ, Bool, true, false, cond, eqb, List, [], Result, Ok, Err, refl, sym, ap, subst, ◌∙◌}
+use Rattle.std.proofs.Common.{◌≡◌, ℕ, List, Result, Ok, Err, refl, ap, subst, ◌∙◌}
 use Rattle.std.specs.Prelude.{IfOk}
-use Rattle.std.proofs.lemmas.Bool.{eqb-true}
 use Rattle.mvd_dots.specs.declared.refusals.Refusal.{Refusal}
 use Rattle.mvd_dots.specs.declared.refusals.Refusal.TheVariants.{BadKind}
 use Rattle.mvd_dots.specs.Answer.{IsAnswer}
 use Rattle.mvd_wire.specs.declared.request.Request.{Request}
-use Rattle.mvd_wire.specs.declared.request.Request.TheVariants.{Get, Put, Delete, Push, Bye}
-use Rattle.mvd_wire.specs.Kind.{◌>>=◌, Kind, followed, nothing, whole, tagged}
-use Rattle.mvd_wire.specs.Kinds.{layout2, key, context, document, state}
-use Rattle.mvd_wire.specs.Requests.{request_of, put, delete, push, SpellsRequest, IsRequest, kind_of, payload_of}
-use Rattle.mvd_wire.proofs.Laws.{IsBytes, IsLawful, bind_ok, ok_is, whole_takes, whole_again, lawful_followed, Takes}
-use Rattle.mvd_wire.proofs.KindLaws.{wide_layout2, lawful_key, lawful_context, lawful_document, lawful_state}
-
-pub lawful_nothing : IsLawful nothing
-lawful_nothing = record {
-  again = λ x rest fits. refl;
-  takes = λ bytes x fits e. subst (λ (y : Unit {0} × List ℕ). Takes bytes [] y.1 × Unit {0}) (ok_is (tt, bytes) x e) (record { parts = refl; rest_fits = fits }, tt);
-}
-
--- every value that is decoded is spelled by the kind byte and the payload
-abbrev pub Decodes : {Y : Type 0} → (Y → ℕ → List ℕ → Type 0) → (ℕ → List ℕ → Result Y Refusal) → Type 0
-Decodes {Y} Spelled decode = (kind : ℕ) (payload : List ℕ) (y : Y) → IsBytes payload → decode kind payload ≡ Ok y → Spelled y kind payload
-
-chosen : {A : Type 0} (b : Bool) (x y z : A) (P : Type 0) → cond b x y ≡ z → (b ≡ true → x ≡ z → P) → (y ≡ z → P) → P
-chosen true x y z P e first second = first refl e
-chosen false x y z P e first second = second e
-
-pub decodes_tagged : {X Y : Type 0} (Spelled : Y → ℕ → List ℕ → Type 0) (tag : ℕ) (kind : Kind X) (made : X → Y) (otherwise : ℕ → List ℕ → Result Y Refusal)
-    → IsLawful kind → ((x : X) → kind.Fits x → Spelled (made x) tag (kind.spell x)) → Decodes Spelled otherwise → Decodes Spelled (tagged tag kind made otherwise)
-decodes_tagged {X} {Y} Spelled tag kind made otherwise law fits others byte payload y bytes e =
-    chosen (eqb byte tag) (whole kind payload >>= λ x. Ok (made x)) (otherwise byte payload) (Ok y) (Spelled y byte payload) e
-    (λ is found.
-    let a = bind_ok (whole kind payload) (λ x. Ok (made x)) y found in
-    let s = whole_takes kind law payload a.0 bytes a.1 in
-    let one : Spelled (made a.0) tag payload = subst (λ (p : List ℕ). Spelled (made a.0) tag p) (sym s.1) (fits a.0 s.0) in
-    let two : Spelled (made a.0) byte payload = subst (λ (t : ℕ). Spelled (made a.0) t payload) (sym (eqb-true byte tag is)) one in
-    subst (λ (z : Y). Spelled z byte payload) (ok_is (made a.0) y a.2) two)
-    (λ other. others byte payload y bytes other)
+use Rattle.mvd_wire.specs.declared.request.Request.TheVariants.{Get, Put, Delete, Find, Row, Rows, Node, Bucket, Push, Range, Bye}
+use Rattle.mvd_wire.specs.Kind.{followed, nothing, optional}
+use Rattle.mvd_wire.specs.Kinds.{layout2, key, context, document, path, state}
+use Rattle.mvd_wire.specs.Rows.{field, view_name, term, spot, place}
+use Rattle.mvd_wire.specs.Requests.{request_of, put, delete, find, row_of_view, rows_of_view, bucket, push, range, SpellsRequest, IsRequest, kind_of, payload_of}
+use Rattle.mvd_wire.proofs.Laws.{IsBytes, IsLawful, whole_again, lawful_followed}
+use Rattle.mvd_wire.proofs.KindLaws.{wide_layout2, lawful_key, lawful_context, lawful_document, lawful_path, lawful_state}
+use Rattle.mvd_wire.proofs.RowLaws.{lawful_field, lawful_view_name, lawful_term, lawful_spot, lawful_place, lawful_optional}
+use Rattle.mvd_wire.proofs.Tagged.{Decodes, decodes_tagged, lawful_nothing}
 
 pub lawful_put : IsLawful put
 unfolding put
@@ -52,19 +28,54 @@ pub lawful_push : IsLawful push
 unfolding push
 lawful_push = lawful_followed key (λ _. state layout2) lawful_key (λ _. lawful_state layout2 wide_layout2)
 
+lawful_find : IsLawful find
+unfolding find
+lawful_find = lawful_followed field (λ _. followed term (λ _. optional spot)) lawful_field
+    (λ _. lawful_followed term (λ _. optional spot) lawful_term (λ _. lawful_optional spot lawful_spot))
+
+lawful_row_of_view : IsLawful row_of_view
+unfolding row_of_view
+lawful_row_of_view = lawful_followed view_name (λ _. term) lawful_view_name (λ _. lawful_term)
+
+lawful_rows_of_view : IsLawful rows_of_view
+unfolding rows_of_view
+lawful_rows_of_view = lawful_followed view_name (λ _. optional term) lawful_view_name (λ _. lawful_optional term lawful_term)
+
+lawful_bucket : IsLawful bucket
+unfolding bucket
+lawful_bucket = lawful_followed path (λ _. optional key) lawful_path (λ _. lawful_optional key lawful_key)
+
+lawful_range : IsLawful range
+unfolding range
+lawful_range = lawful_followed field (λ _. followed term (λ _. followed term (λ _. optional place))) lawful_field
+    (λ _. lawful_followed term (λ _. followed term (λ _. optional place)) lawful_term
+    (λ _. lawful_followed term (λ _. optional place) lawful_term (λ _. lawful_optional place lawful_place)))
+
 decodes_requests : Decodes SpellsRequest request_of
 decodes_requests =
     decodes_tagged SpellsRequest 0x21 key Get _ lawful_key (λ x fits. (fits, refl, refl))
     (decodes_tagged SpellsRequest 0x22 put (λ p. Put p.0 p.1.0 p.1.1) _ lawful_put (λ x fits. (fits, refl, refl))
     (decodes_tagged SpellsRequest 0x23 delete (λ p. Delete p.0 p.1) _ lawful_delete (λ x fits. (fits, refl, refl))
+    (decodes_tagged SpellsRequest 0x24 find (λ p. Find p.0 p.1.0 p.1.1) _ lawful_find (λ x fits. (fits, refl, refl))
+    (decodes_tagged SpellsRequest 0x25 row_of_view (λ p. Row p.0 p.1) _ lawful_row_of_view (λ x fits. (fits, refl, refl))
+    (decodes_tagged SpellsRequest 0x26 rows_of_view (λ p. Rows p.0 p.1) _ lawful_rows_of_view (λ x fits. (fits, refl, refl))
+    (decodes_tagged SpellsRequest 0x27 path Node _ lawful_path (λ x fits. (fits, refl, refl))
+    (decodes_tagged SpellsRequest 0x28 bucket (λ p. Bucket p.0 p.1) _ lawful_bucket (λ x fits. (fits, refl, refl))
     (decodes_tagged SpellsRequest 0x29 push (λ p. Push p.0 p.1) _ lawful_push (λ x fits. (fits, refl, refl))
+    (decodes_tagged SpellsRequest 0x2A range (λ p. Range p.0 p.1.0 p.1.1.0 p.1.1.1) _ lawful_range (λ x fits. (fits, refl, refl))
     (decodes_tagged SpellsRequest 0x2F nothing (λ _. Bye) (λ _ _. Err BadKind) lawful_nothing (λ x fits. (tt, refl, refl))
-    (λ kind payload y bytes e. absurd cc)))))
+    (λ kind payload y bytes e. absurd cc)))))))))))
 
 pub requests_again : (r : Request) → IsRequest r → request_of (kind_of r) (payload_of r) ≡ Ok r
 requests_again (Get k) fits = rw (whole_again key lawful_key k fits) refl
 requests_again (Put k c d) fits = rw (whole_again put lawful_put (k, (c, d)) fits) refl
 requests_again (Delete k c) fits = rw (whole_again delete lawful_delete (k, c) fits) refl
+requests_again (Find f t after) fits = rw (whole_again find lawful_find (f, (t, after)) fits) refl
+requests_again (Row v t) fits = rw (whole_again row_of_view lawful_row_of_view (v, t) fits) refl
+requests_again (Rows v after) fits = rw (whole_again rows_of_view lawful_rows_of_view (v, after) fits) refl
+requests_again (Node p) fits = rw (whole_again path lawful_path p fits) refl
+requests_again (Bucket p after) fits = rw (whole_again bucket lawful_bucket (p, after) fits) refl
+requests_again (Range f from to after) fits = rw (whole_again range lawful_range (f, (from, (to, after))) fits) refl
 requests_again (Push k s) fits = rw (whole_again push lawful_push (k, s) fits) refl
 requests_again Bye fits = refl
 

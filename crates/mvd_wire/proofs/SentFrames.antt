@@ -1,24 +1,25 @@
 -- What fits in a frame, and that what was sent has a spelling.
-use Rattle.std.proofs.Common.{◌≡◌, ℕ, ◌+◌, ◌<◌, ◌≤◌, ◌^◌, Bool, true, ◌++◌, ltb, leb, ◌&&◌, List, length, Result, Ok, Err, refl, arith}
+use Rattle.std.proofs.Common.{◌≡◌, ℕ, ◌+◌, ◌<◌, ◌≤◌, true, ◌++◌, ltb, leb, ◌&&◌, List, length, Option, Some, None, Result, Ok, Err, refl, arith}
 use Rattle.std.specs.Prelude.{IfOk}
 use Rattle.std.specs.List.{list_all}
 use Rattle.std.proofs.lemmas.Bool.{leb-true, le-leb}
 use Rattle.std.proofs.lemmas.List.{length-append}
-use Rattle.mvd_dots.specs.declared.refusals.Refusal.{Refusal}
 use Rattle.mvd_dots.specs.Context.{DotSet, AreInRange}
 use Rattle.mvd_docs.specs.Name.{is_graphic}
 use Rattle.mvd_docs.specs.Document.{IsDocument}
 use Rattle.mvd_keys.specs.Key.{is_key}
+use Rattle.mvd_keys.specs.Path.{is_path}
 use Rattle.mvd_keys.specs.State.{State, Text}
 use Rattle.mvd_keys.proofs.Lists.{and_true}
-use Rattle.mvd_wire.specs.Kind.{Kind, number, raw}
-use Rattle.mvd_wire.specs.Kinds.{layout2, state_limit, dot, key, document, context, state, spell_state}
+use Rattle.mvd_wire.specs.Kind.{number, optional, raw}
+use Rattle.mvd_wire.specs.Kinds.{layout2, state_limit, dot, key, document, context, path, state, spell_state}
 use Rattle.mvd_wire.specs.Frames.{frame_limit}
-use Rattle.mvd_wire.specs.declared.request.Request.TheVariants.{Get, Put, Delete, Push, Bye}
+use Rattle.mvd_wire.specs.declared.request.Request.TheVariants.{Get, Node, Bucket, Push}
 use Rattle.mvd_wire.specs.declared.reply.Reply.{Reply}
 use Rattle.mvd_wire.specs.declared.reply.Reply.TheVariants as reply
-use Rattle.mvd_wire.specs.Requests.{put, delete, push, request_bytes, request_frame}
-use Rattle.mvd_wire.specs.Replies.{refusal, is_short, reply_bytes, reply_frame, CanBeSent}
+use Rattle.mvd_wire.specs.Requests.{IsRequest, bucket, put, delete, push, request_bytes, request_frame}
+use Rattle.mvd_wire.specs.Replies.{refusal, is_short, CanBeSent}
+use Rattle.mvd_wire.proofs.RowFits.{path_fits}
 use Rattle.mvd_wire.proofs.Fits.{key_fits, document_fits, context_fits}
 
 -- what holds of every result, holds of a good one
@@ -43,6 +44,34 @@ short_key k is =
 pub get_is_short : (k : Text) → is_key k ≡ true → request_frame (Get k) ≡ Ok (request_bytes (Get k))
 get_is_short k is =
     let few : leb (length (key.spell k) + 1) frame_limit ≡ true = le-leb _ _ (omega (arith, short_key k is)) in
+    rw few refl
+
+length_path : (p : List ℕ) → length (path.spell p) ≡ length p + 1
+unfolding path raw
+length_path p = omega arith
+
+three_digits : (p : List ℕ) → path.Fits p → length p ≤ 3
+unfolding path
+three_digits p fits = leb-true _ _ fits.0.1
+
+key_size : (k : Text) → key.Fits k → length k ≤ 128
+unfolding key
+key_size k fits = leb-true _ _ (and_true (leb 1 (length k)) (leb (length k) 128) fits.0.1).1
+
+pub node_is_short : (p : List ℕ) → is_path p ≡ true → request_frame (Node p) ≡ Ok (request_bytes (Node p))
+node_is_short p is =
+    let few : leb (length (path.spell p) + 1) frame_limit ≡ true = le-leb _ _ (omega (arith, length_path p, three_digits p (path_fits p is))) in
+    rw few refl
+
+short_option : (after : Option Text) → (optional key).Fits after → length ((optional key).spell after) ≤ 130
+short_option None fits = omega arith
+short_option (Some k) fits = omega (arith, length_key k, key_size k fits)
+
+pub bucket_is_short : (p : List ℕ) (after : Option Text) → IsRequest (Bucket p after) → request_frame (Bucket p after) ≡ Ok (request_bytes (Bucket p after))
+unfolding bucket
+bucket_is_short p after fits =
+    let all : length (bucket.spell (p, after)) ≡ length (path.spell p) + length ((optional key).spell after) = length-append (path.spell p) ((optional key).spell after) in
+    let few : leb (length (bucket.spell (p, after)) + 1) frame_limit ≡ true = le-leb _ _ (omega (arith, all, length_path p, three_digits p fits.0, short_option after fits.1)) in
     rw few refl
 
 pub push_is_short : (k : Text) (s : State) → is_key k ≡ true → length (spell_state s) ≤ state_limit → request_frame (Push k s) ≡ Ok (request_bytes (Push k s))
@@ -83,4 +112,9 @@ unfolding dot number refusal
 short_can_be_sent (reply.State s) is = absurd cc
 short_can_be_sent (reply.Written d) is = refl
 short_can_be_sent reply.Done is = refl
+short_can_be_sent (reply.Places ps more) is = absurd cc
+short_can_be_sent (reply.Row r) is = absurd cc
+short_can_be_sent (reply.Rows rs more) is = absurd cc
+short_can_be_sent (reply.Digests d) is = absurd cc
+short_can_be_sent (reply.Keys ks more) is = absurd cc
 short_can_be_sent (reply.Refused r) is = refl

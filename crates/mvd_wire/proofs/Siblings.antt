@@ -1,5 +1,5 @@
 -- Siblings that have a spelling rise, and stand in the context.
-use Rattle.std.proofs.Common.{◌≡◌, ℕ, Bool, true, false, T, ◌&&◌, List, [], ◌∷◌, map, Option, Some, None, refl, sym, ap, ◌∙◌}
+use Rattle.std.proofs.Common.{◌≡◌, true, T, List, [], ◌∷◌, Option, Some, None, refl}
 use Rattle.std.specs.List.{list_all}
 use Rattle.std.specs.FinSet.{contains}
 use Rattle.std.specs.FinMap.{FinMap, entries as pairs, from_entries, is_sorted, entries_sorted, same_entries_map}
@@ -7,12 +7,12 @@ use Rattle.std.specs.FinMap.Entries.{below_all}
 use Rattle.std.specs.Ordering.{is_lt}
 use Rattle.mvd_dots.specs.Dot.{DotValue, dot_cmp}
 use Rattle.mvd_dots.specs.Context.{DotSet}
-use Rattle.mvd_keys.specs.State.{Text, AreParts, pair_of, pairs_of, rises}
+use Rattle.mvd_keys.specs.State.{Text, AreParts, pair_of, pairs_of}
 use Rattle.mvd_keys.specs.declared.siblings.Sibling.{Sibling}
 use Rattle.mvd_keys.proofs.Parts.{is_true, holds, entries_of_pairs, parts_of_tests}
 use Rattle.mvd_keys.proofs.Lists.{and_true}
 use Rattle.mvd_keys.proofs.Rising.{Pair, both_true, less_of, below_less}
-use Rattle.mvd_wire.specs.Kind.{Kind, number, FitEach}
+use Rattle.mvd_wire.specs.Kind.{FitEach}
 use Rattle.mvd_wire.specs.Kinds.{Layout, sibling, siblings, comes_after}
 
 module _ (v : Layout) (dots : DotSet) where

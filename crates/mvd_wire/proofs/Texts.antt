@@ -1,5 +1,5 @@
 -- Bytes that are no text are no document and no key.
-use Rattle.std.proofs.Common.{◌≡◌, ℕ, ◌≤◌, Bool, true, false, cond, ltb, leb, ◌&&◌, List, [], ◌∷◌, length, Ok, Err, refl, arith}
+use Rattle.std.proofs.Common.{◌≡◌, ℕ, ◌≤◌, true, false, cond, ltb, leb, ◌&&◌, List, [], ◌∷◌, length, Ok, Err, refl, arith}
 use Rattle.std.specs.Str.{IsUtf8, IsAscii, is_utf8}
 use Rattle.std.specs.List.{list_all}
 use Rattle.std.proofs.lemmas.Str.{IsUtf8-from_is_utf8, is_utf8-from_IsUtf8, IsUtf8-from_ascii}
@@ -23,7 +23,7 @@ no_text_no_document bytes h =
     ] refl
 
 -- bytes of a key are ASCII
-graphic_is_ascii : (bytes : List ℕ) → list_all is_graphic bytes ≡ true → IsAscii bytes
+pub graphic_is_ascii : (bytes : List ℕ) → list_all is_graphic bytes ≡ true → IsAscii bytes
 graphic_is_ascii [] e = IsAscii-nil
 graphic_is_ascii (b ∷ bytes) e =
     let s = and_true (is_graphic b) (list_all is_graphic bytes) e in

@@ -82,6 +82,14 @@ named parts made kind = record {
   read = λ bytes. kind.read bytes >>= λ x. Ok (made x.0, x.1);
 }
 
+-- the same for the good values alone, where parts and made are inverse
+abbrev pub named_where : {X Y : Type 0} → (Y → Type 0) → (Y → X) → (X → Y) → Kind X → Kind Y
+named_where Good parts made kind = record {
+  spell = λ y. kind.spell (parts y);
+  Fits = λ y. Good y × kind.Fits (parts y);
+  read = λ bytes. kind.read bytes >>= λ x. Ok (made x.0, x.1);
+}
+
 -- 00, or 01 and a value
 unfoldable pub read_optional : {X : Type 0} → Kind X → List ℕ → Result (Option X × List ℕ) Refusal
 read_optional kind [] = Err BadBody

@@ -3,3 +3,4 @@ pub mod Kind
 pub mod Kinds
 pub mod Replies
 pub mod Requests
+pub mod Rows

@@ -1,5 +1,5 @@
 -- Replies: their kind bytes and their payloads.
-use Rattle.std.specs.Prelude.{◌≡◌, ℕ, ◌==◌, Bool, true, false, List, [], ◌∷◌, Option, ok_or, Result, Ok, Err}
+use Rattle.std.specs.Prelude.{◌≡◌, ℕ, ◌==◌, nat_le, if◌then◌else◌, length, Bool, true, false, List, [], ◌∷◌, Option, ok_or, Result, Ok, Err}
 use Rattle.std.specs.List.{find}
 use Rattle.mvd_dots.specs.declared.refusals.Refusal.{Refusal}
 use Rattle.mvd_dots.specs.declared.refusals.Refusal.TheVariants.{BadKey, BadContext, BadDocument, NotObject, BadNumber, DocumentTooLong, NotCanonical, Exhausted, StateTooLarge, Full, DotClash, NoIndex, NoView, BadPath, BadTerm, SiteMismatch, Damaged, Memory, Store, Broken, Truncated, FrameTooLong, BadKind, BadBody, ReadFailed, WriteFailed, TooManyRequests, BadDefs}
@@ -8,6 +8,7 @@ use Rattle.mvd_wire.specs.declared.reply.Reply.{Reply}
 use Rattle.mvd_wire.specs.declared.reply.Reply.TheVariants as reply
 use Rattle.mvd_wire.specs.Kind.{Kind, ◌>>=◌, byte, nothing, tagged}
 use Rattle.mvd_wire.specs.Kinds.{layout2, dot, state, spell_state}
+use Rattle.mvd_wire.specs.Rows.{digests, key_entry, page, page_limit, place, row, view_row}
 use Rattle.mvd_wire.specs.Frames.{spell_frame}
 use Rattle.mvd_wire.specs.Requests.{framed, within_limit}
 
@@ -30,12 +31,22 @@ abbrev pub kind_of : Reply → ℕ
 kind_of (reply.State s) = 0xA1
 kind_of (reply.Written d) = 0xA2
 kind_of reply.Done = 0xA3
+kind_of (reply.Places ps more) = 0xA4
+kind_of (reply.Row r) = 0xA5
+kind_of (reply.Rows rs more) = 0xA6
+kind_of (reply.Digests d) = 0xA7
+kind_of (reply.Keys ks more) = 0xA8
 kind_of (reply.Refused r) = 0xEE
 
 abbrev pub payload_of : Reply → List ℕ
 payload_of (reply.State s) = spell_state s
 payload_of (reply.Written d) = (dot layout2).spell d
 payload_of reply.Done = []
+payload_of (reply.Places ps more) = (page place).spell (ps, more)
+payload_of (reply.Row r) = row.spell r
+payload_of (reply.Rows rs more) = (page view_row).spell (rs, more)
+payload_of (reply.Digests d) = digests.spell d
+payload_of (reply.Keys ks more) = (page key_entry).spell (ks, more)
 payload_of (reply.Refused r) = refusal.spell r
 
 -- what has a spelling
@@ -43,6 +54,11 @@ abbrev pub IsReply : Reply → Type 0
 IsReply (reply.State s) = (state layout2).Fits s
 IsReply (reply.Written d) = (dot layout2).Fits d
 IsReply reply.Done = Unit {0}
+IsReply (reply.Places ps more) = (page place).Fits (ps, more)
+IsReply (reply.Row r) = row.Fits r
+IsReply (reply.Rows rs more) = (page view_row).Fits (rs, more)
+IsReply (reply.Digests d) = digests.Fits d
+IsReply (reply.Keys ks more) = (page key_entry).Fits (ks, more)
 IsReply (reply.Refused r) = refusal.Fits r
 
 -- the reply of a kind byte and a payload, or the first fault
@@ -51,8 +67,13 @@ reply_of =
     tagged 0xA1 (state layout2) reply.State
     (tagged 0xA2 (dot layout2) reply.Written
     (tagged 0xA3 nothing (λ _. reply.Done)
+    (tagged 0xA4 (page place) (λ p. reply.Places p.0 p.1)
+    (tagged 0xA5 row reply.Row
+    (tagged 0xA6 (page view_row) (λ p. reply.Rows p.0 p.1)
+    (tagged 0xA7 digests reply.Digests
+    (tagged 0xA8 (page key_entry) (λ p. reply.Keys p.0 p.1)
     (tagged 0xEE refusal reply.Refused
-    (λ _ _. Err BadKind))))
+    (λ _ _. Err BadKind)))))))))
 
 -- the kind byte and the payload are the spelling of the reply
 abbrev pub SpellsReply : Reply → ℕ → List ℕ → Type 0
@@ -62,11 +83,20 @@ SpellsReply r kind payload = IsReply r × (kind ≡ kind_of r) × (payload ≡ p
 abbrev pub reply_bytes : Reply → List ℕ
 reply_bytes r = spell_frame (record { kind = kind_of r; payload = payload_of r })
 
+-- the answer, where the list is not too long
+abbrev pub within_page : {X : Type 0} → List X → Result (List ℕ) Refusal → Result (List ℕ) Refusal
+within_page xs answer = if nat_le (length xs) page_limit then answer else Err BadBody
+
 -- the frame of a reply, where nothing in it is too long
 abbrev pub reply_frame : Reply → Result (List ℕ) Refusal
 reply_frame (reply.State s) = within_limit s (framed 0xA1 (spell_state s))
 reply_frame (reply.Written d) = framed 0xA2 ((dot layout2).spell d)
 reply_frame reply.Done = framed 0xA3 []
+reply_frame (reply.Places ps more) = within_page ps (framed 0xA4 ((page place).spell (ps, more)))
+reply_frame (reply.Row r) = framed 0xA5 (row.spell r)
+reply_frame (reply.Rows rs more) = within_page rs (framed 0xA6 ((page view_row).spell (rs, more)))
+reply_frame (reply.Digests d) = framed 0xA7 (digests.spell d)
+reply_frame (reply.Keys ks more) = within_page ks (framed 0xA8 ((page key_entry).spell (ks, more)))
 reply_frame (reply.Refused r) = framed 0xEE (refusal.spell r)
 
 -- nothing in the reply is too long for its frame
@@ -78,4 +108,9 @@ abbrev pub is_short : Reply → Bool
 is_short (reply.State s) = false
 is_short (reply.Written d) = true
 is_short reply.Done = true
+is_short (reply.Places ps more) = false
+is_short (reply.Row r) = false
+is_short (reply.Rows rs more) = false
+is_short (reply.Digests d) = false
+is_short (reply.Keys ks more) = false
 is_short (reply.Refused r) = true

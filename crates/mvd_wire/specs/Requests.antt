@@ -1,13 +1,17 @@
 -- Requests: their kind bytes and their payloads.
-use Rattle.std.specs.Prelude.{◌≡◌, ℕ, ◌+◌, nat_le, if◌then◌else◌, List, [], length, Result, Ok, Err}
+use Rattle.std.specs.Prelude.{◌≡◌, ℕ, ◌+◌, nat_le, if◌then◌else◌, List, [], length, Option, Result, Ok, Err}
 use Rattle.mvd_dots.specs.declared.refusals.Refusal.{Refusal}
 use Rattle.mvd_dots.specs.declared.refusals.Refusal.TheVariants.{BadKind, FrameTooLong, StateTooLarge}
 use Rattle.mvd_dots.specs.Context.{DotSet}
 use Rattle.mvd_keys.specs.State.{State, Text}
 use Rattle.mvd_wire.specs.declared.request.Request.{Request}
-use Rattle.mvd_wire.specs.declared.request.Request.TheVariants.{Get, Put, Delete, Push, Bye}
-use Rattle.mvd_wire.specs.Kind.{Kind, followed, nothing, tagged}
-use Rattle.mvd_wire.specs.Kinds.{layout2, key, context, document, state, spell_state, state_limit}
+use Rattle.mvd_wire.specs.declared.request.Request.TheVariants.{Get, Put, Delete, Find, Row, Rows, Node, Bucket, Push, Range, Bye}
+use Rattle.mvd_dots.specs.Dot.{DotValue}
+use Rattle.mvd_docs.specs.declared.term.Term.{Term}
+use Rattle.mvd_keys.specs.declared.places.Place.{Place}
+use Rattle.mvd_wire.specs.Kind.{Kind, followed, nothing, optional, tagged}
+use Rattle.mvd_wire.specs.Kinds.{layout2, key, context, document, path, state, spell_state, state_limit}
+use Rattle.mvd_wire.specs.Rows.{field, view_name, term, spot, place}
 use Rattle.mvd_wire.specs.Frames.{spell_frame, frame_limit}
 
 unfoldable pub put : Kind (Text × (DotSet × Text))
@@ -19,18 +23,45 @@ delete = followed key (λ _. context layout2)
 unfoldable pub push : Kind (Text × State)
 push = followed key (λ _. state layout2)
 
+unfoldable pub find : Kind (Text × (Term × Option (Text × DotValue)))
+find = followed field (λ _. followed term (λ _. optional spot))
+
+unfoldable pub row_of_view : Kind (Text × Term)
+row_of_view = followed view_name (λ _. term)
+
+unfoldable pub rows_of_view : Kind (Text × Option Term)
+rows_of_view = followed view_name (λ _. optional term)
+
+unfoldable pub bucket : Kind (List ℕ × Option Text)
+bucket = followed path (λ _. optional key)
+
+unfoldable pub range : Kind (Text × (Term × (Term × Option Place)))
+range = followed field (λ _. followed term (λ _. followed term (λ _. optional place)))
+
 abbrev pub kind_of : Request → ℕ
 kind_of (Get k) = 0x21
 kind_of (Put k c d) = 0x22
 kind_of (Delete k c) = 0x23
+kind_of (Find f t after) = 0x24
+kind_of (Row v t) = 0x25
+kind_of (Rows v after) = 0x26
+kind_of (Node p) = 0x27
+kind_of (Bucket p after) = 0x28
 kind_of (Push k s) = 0x29
+kind_of (Range f from to after) = 0x2A
 kind_of Bye = 0x2F
 
 abbrev pub payload_of : Request → List ℕ
 payload_of (Get k) = key.spell k
 payload_of (Put k c d) = put.spell (k, (c, d))
 payload_of (Delete k c) = delete.spell (k, c)
+payload_of (Find f t after) = find.spell (f, (t, after))
+payload_of (Row v t) = row_of_view.spell (v, t)
+payload_of (Rows v after) = rows_of_view.spell (v, after)
+payload_of (Node p) = path.spell p
+payload_of (Bucket p after) = bucket.spell (p, after)
 payload_of (Push k s) = push.spell (k, s)
+payload_of (Range f from to after) = range.spell (f, (from, (to, after)))
 payload_of Bye = []
 
 -- what has a spelling
@@ -38,7 +69,13 @@ abbrev pub IsRequest : Request → Type 0
 IsRequest (Get k) = key.Fits k
 IsRequest (Put k c d) = put.Fits (k, (c, d))
 IsRequest (Delete k c) = delete.Fits (k, c)
+IsRequest (Find f t after) = find.Fits (f, (t, after))
+IsRequest (Row v t) = row_of_view.Fits (v, t)
+IsRequest (Rows v after) = rows_of_view.Fits (v, after)
+IsRequest (Node p) = path.Fits p
+IsRequest (Bucket p after) = bucket.Fits (p, after)
 IsRequest (Push k s) = push.Fits (k, s)
+IsRequest (Range f from to after) = range.Fits (f, (from, (to, after)))
 IsRequest Bye = Unit {0}
 
 -- the request of a kind byte and a payload, or the first fault
@@ -47,9 +84,15 @@ request_of =
     tagged 0x21 key Get
     (tagged 0x22 put (λ p. Put p.0 p.1.0 p.1.1)
     (tagged 0x23 delete (λ p. Delete p.0 p.1)
+    (tagged 0x24 find (λ p. Find p.0 p.1.0 p.1.1)
+    (tagged 0x25 row_of_view (λ p. Row p.0 p.1)
+    (tagged 0x26 rows_of_view (λ p. Rows p.0 p.1)
+    (tagged 0x27 path Node
+    (tagged 0x28 bucket (λ p. Bucket p.0 p.1)
     (tagged 0x29 push (λ p. Push p.0 p.1)
+    (tagged 0x2A range (λ p. Range p.0 p.1.0 p.1.1.0 p.1.1.1)
     (tagged 0x2F nothing (λ _. Bye)
-    (λ _ _. Err BadKind)))))
+    (λ _ _. Err BadKind)))))))))))
 
 -- the kind byte and the payload are the spelling of the request
 abbrev pub SpellsRequest : Request → ℕ → List ℕ → Type 0
@@ -72,5 +115,11 @@ abbrev pub request_frame : Request → Result (List ℕ) Refusal
 request_frame (Get k) = framed 0x21 (key.spell k)
 request_frame (Put k c d) = framed 0x22 (put.spell (k, (c, d)))
 request_frame (Delete k c) = framed 0x23 (delete.spell (k, c))
+request_frame (Find f t after) = framed 0x24 (find.spell (f, (t, after)))
+request_frame (Row v t) = framed 0x25 (row_of_view.spell (v, t))
+request_frame (Rows v after) = framed 0x26 (rows_of_view.spell (v, after))
+request_frame (Node p) = framed 0x27 (path.spell p)
+request_frame (Bucket p after) = framed 0x28 (bucket.spell (p, after))
+request_frame (Range f from to after) = framed 0x2A (range.spell (f, (from, (to, after))))
 request_frame (Push k s) = within_limit s (framed 0x29 (push.spell (k, s)))
 request_frame Bye = framed 0x2F []

@@ -4,12 +4,16 @@
 mod contexts;
 mod encoding;
 pub mod frame;
+pub mod items;
 mod lengths;
+mod lists;
 mod numbers;
 mod replies;
 pub mod reply;
 pub mod request;
 mod requests;
+mod row_writing;
+mod rows;
 mod sending;
 pub mod short;
 mod states;
@@ -21,9 +25,10 @@ mod writing;
 
 pub use encoding::{encode_key, encode_state};
 pub use frame::Frame;
+pub use items::Items;
 pub use lengths::{empty_state_length, state_length};
 pub use replies::decode_reply;
-pub use reply::Reply;
+pub use reply::{Digests, Reply, RowValue};
 pub use request::Request;
 pub use requests::decode_request;
 pub use sending::{

@@ -3,15 +3,21 @@ ghost use Rattle.std.specs.Prelude.{◌≡◌, ℕ, IfOk, Ok};
 ghost use Rattle.mvd_dots.specs.Answer.{IsAnswer};
 ghost use Rattle.mvd_wire.specs.Kind.{Gives, Kind, whole};
 ghost use Rattle.mvd_wire.specs.Kinds.{layout2, dot};
+ghost use Rattle.mvd_wire.specs.Rows.{digests, key_entry, page, place, row, view_row};
 ghost use Rattle.mvd_wire.specs.Replies.{SpellsReply, numbered, refusal, reply_of};
 
+use crate::items::Items;
+use crate::lists::{digests_at, key_entry_page_at, place_page_at, view_row_page_at};
 use crate::numbers::byte_at;
-use crate::reply::Reply;
+use crate::reply::{Digests, Reply, RowValue};
 use crate::requests::nothing_of;
+use crate::rows::row_at;
 use crate::states::decode_state;
 use crate::values::dot_at;
 use crate::version::Version;
+use mvd_docs::Term;
 use mvd_dots::{Dot, Refusal};
+use mvd_keys::{Key, Place};
 use std::alloc::Global;
 
 /// The refusal with this number, if there is one.
@@ -49,6 +55,59 @@ fn written_of(payload: &[u8]) -> Result<Dot, Refusal>
     }
 }
 
+fn row_of(payload: &[u8]) -> Result<RowValue, Refusal>
+    ensures { IsAnswer result (whole row payload.now) }
+{
+    let (row, rest) = row_at(payload)?;
+    if !rest.is_empty() {
+        return Err(Refusal::BadBody);
+    }
+    Ok(row)
+}
+
+fn digests_of(payload: &[u8]) -> Result<Digests, Refusal>
+    ensures { IsAnswer result (whole digests payload.now) }
+{
+    let (digests, rest) = digests_at(payload)?;
+    if !rest.is_empty() {
+        return Err(Refusal::BadBody);
+    }
+    Ok(digests)
+}
+
+fn places_of(alloc: Global, payload: &[u8]) -> Result<(Items<Place>, bool), Refusal>
+    ensures { IsAnswer result (whole (page place) payload.now) }
+{
+    let (items, more, rest) = place_page_at(alloc, payload)?;
+    if !rest.is_empty() {
+        return Err(Refusal::BadBody);
+    }
+    Ok((items, more))
+}
+
+fn rows_of(
+    alloc: Global,
+    payload: &[u8],
+) -> Result<(Items<(Term, u64, i128, Option<(i64, i64)>)>, bool), Refusal>
+    ensures { IsAnswer result (whole (page view_row) payload.now) }
+{
+    let (items, more, rest) = view_row_page_at(alloc, payload)?;
+    if !rest.is_empty() {
+        return Err(Refusal::BadBody);
+    }
+    Ok((items, more))
+}
+
+fn keys_of(alloc: Global, payload: &[u8]) -> Result<(Items<(Key, [u8; 32])>, bool), Refusal>
+    ensures { IsAnswer result (whole (page key_entry) payload.now) }
+{
+    let (items, more, rest) = key_entry_page_at(alloc, payload)?;
+    if !rest.is_empty() {
+        return Err(Refusal::BadBody);
+    }
+    Ok((items, more))
+}
+
 fn reply_at(alloc: Global, kind: u8, payload: &[u8]) -> Result<Reply, Refusal>
     ensures { IsAnswer result (reply_of kind payload.now) }
 {
@@ -58,6 +117,20 @@ fn reply_at(alloc: Global, kind: u8, payload: &[u8]) -> Result<Reply, Refusal>
         0xA3 => {
             nothing_of(payload)?;
             Ok(Reply::Done)
+        }
+        0xA4 => {
+            let (places, more) = places_of(alloc, payload)?;
+            Ok(Reply::Places(places, more))
+        }
+        0xA5 => Ok(Reply::Row(row_of(payload)?)),
+        0xA6 => {
+            let (rows, more) = rows_of(alloc, payload)?;
+            Ok(Reply::Rows(rows, more))
+        }
+        0xA7 => Ok(Reply::Digests(digests_of(payload)?)),
+        0xA8 => {
+            let (keys, more) = keys_of(alloc, payload)?;
+            Ok(Reply::Keys(keys, more))
         }
         0xEE => Ok(Reply::Refused(refused_of(payload)?)),
         _ => Err(Refusal::BadKind),

@@ -1,7 +1,7 @@
 //! What a peer asks of a site.
-use mvd_docs::Document;
-use mvd_dots::Context;
-use mvd_keys::{Key, KeyState};
+use mvd_docs::{Document, Field, Term, ViewName};
+use mvd_dots::{Context, Dot};
+use mvd_keys::{Key, KeyState, Path, Place};
 
 /// A request to one site.
 #[derive(Drop)]
@@ -12,8 +12,20 @@ pub enum Request {
     Put(Key, Context, Document),
     /// The removal of what its author had seen.
     Delete(Key, Context),
+    /// The places of a term in an index, after a key and a dot.
+    Find(Field, Term, Option<(Key, Dot)>),
+    /// One row of a view.
+    Row(ViewName, Term),
+    /// The rows of a view, after a term.
+    Rows(ViewName, Option<Term>),
+    /// The digests of a node of the hash tree.
+    Node(Path),
+    /// The keys of a bucket with their digests, after a key.
+    Bucket(Path, Option<Key>),
     /// A state of the key, to be joined to the one held.
     Push(Key, KeyState),
+    /// The places of an index from a term to a term, both included, after a place.
+    Range(Field, Term, Term, Option<Place>),
     /// The end of the connection.
     Bye,
 }

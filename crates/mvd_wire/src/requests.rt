@@ -2,17 +2,21 @@
 ghost use Rattle.std.specs.Prelude.{◌≡◌, ℕ, IfOk, Ok};
 ghost use Rattle.mvd_dots.specs.Answer.{IsAnswer};
 ghost use Rattle.mvd_wire.specs.Kind.{Gives, Kind, whole, nothing};
-ghost use Rattle.mvd_wire.specs.Kinds.{key};
-ghost use Rattle.mvd_wire.specs.Requests.{SpellsRequest, request_of, put, delete, push};
+ghost use Rattle.mvd_wire.specs.Kinds.{key, path};
+ghost use Rattle.mvd_wire.specs.Requests.{SpellsRequest, request_of, put, delete, find, row_of_view, rows_of_view, bucket, push, range};
 
 use crate::contexts::context_at;
 use crate::request::Request;
+use crate::rows::{
+    field_at, optional_key_at, optional_place_at, optional_spot_at, optional_term_at, path_at,
+    term_at, view_name_at,
+};
 use crate::states::state_at;
 use crate::values::{document_at, key_at};
 use crate::version::Version;
-use mvd_docs::Document;
-use mvd_dots::{Context, Refusal};
-use mvd_keys::{Key, KeyState};
+use mvd_docs::{Document, Field, Term, ViewName};
+use mvd_dots::{Context, Dot, Refusal};
+use mvd_keys::{Key, KeyState, Path, Place};
 use std::alloc::Global;
 
 fn get_of(alloc: Global, payload: &[u8]) -> Result<Key, Refusal>
@@ -62,6 +66,79 @@ fn push_of(alloc: Global, payload: &[u8]) -> Result<(Key, KeyState), Refusal>
     Ok((key, state))
 }
 
+#[tactic(auto, unfolding(crate::specs::Requests::find))]
+fn find_of(alloc: Global, payload: &[u8]) -> Result<(Field, Term, Option<(Key, Dot)>), Refusal>
+    ensures { Gives (λ p. (p.0, (p.1, p.2))) result (whole find payload.now) }
+{
+    let (field, rest) = field_at(alloc, payload)?;
+    let (term, rest) = term_at(alloc, rest)?;
+    let (after, rest) = optional_spot_at(alloc, rest)?;
+    if !rest.is_empty() {
+        return Err(Refusal::BadBody);
+    }
+    Ok((field, term, after))
+}
+
+#[tactic(auto, unfolding(crate::specs::Requests::row_of_view))]
+fn row_of(alloc: Global, payload: &[u8]) -> Result<(ViewName, Term), Refusal>
+    ensures { IsAnswer result (whole row_of_view payload.now) }
+{
+    let (name, rest) = view_name_at(alloc, payload)?;
+    let (term, rest) = term_at(alloc, rest)?;
+    if !rest.is_empty() {
+        return Err(Refusal::BadBody);
+    }
+    Ok((name, term))
+}
+
+#[tactic(auto, unfolding(crate::specs::Requests::rows_of_view))]
+fn rows_of(alloc: Global, payload: &[u8]) -> Result<(ViewName, Option<Term>), Refusal>
+    ensures { IsAnswer result (whole rows_of_view payload.now) }
+{
+    let (name, rest) = view_name_at(alloc, payload)?;
+    let (after, rest) = optional_term_at(alloc, rest)?;
+    if !rest.is_empty() {
+        return Err(Refusal::BadBody);
+    }
+    Ok((name, after))
+}
+
+fn node_of(alloc: Global, payload: &[u8]) -> Result<Path, Refusal>
+    ensures { IsAnswer result (whole path payload.now) }
+{
+    let (path, rest) = path_at(alloc, payload)?;
+    if !rest.is_empty() {
+        return Err(Refusal::BadBody);
+    }
+    Ok(path)
+}
+
+#[tactic(auto, unfolding(crate::specs::Requests::bucket))]
+fn bucket_of(alloc: Global, payload: &[u8]) -> Result<(Path, Option<Key>), Refusal>
+    ensures { IsAnswer result (whole bucket payload.now) }
+{
+    let (path, rest) = path_at(alloc, payload)?;
+    let (after, rest) = optional_key_at(alloc, rest)?;
+    if !rest.is_empty() {
+        return Err(Refusal::BadBody);
+    }
+    Ok((path, after))
+}
+
+#[tactic(auto, unfolding(crate::specs::Requests::range))]
+fn range_of(alloc: Global, payload: &[u8]) -> Result<(Field, Term, Term, Option<Place>), Refusal>
+    ensures { Gives (λ p. (p.0, (p.1, (p.2, p.3)))) result (whole range payload.now) }
+{
+    let (field, rest) = field_at(alloc, payload)?;
+    let (from, rest) = term_at(alloc, rest)?;
+    let (to, rest) = term_at(alloc, rest)?;
+    let (after, rest) = optional_place_at(alloc, rest)?;
+    if !rest.is_empty() {
+        return Err(Refusal::BadBody);
+    }
+    Ok((field, from, to, after))
+}
+
 /// Whether there is no payload.
 pub fn nothing_of(payload: &[u8]) -> Result<(), Refusal>
     ensures { result ≡ whole nothing payload.now }
@@ -86,6 +163,27 @@ fn request_at(alloc: Global, kind: u8, payload: &[u8]) -> Result<Request, Refusa
         0x23 => {
             let (key, context) = delete_of(alloc, payload)?;
             Ok(Request::Delete(key, context))
+        }
+        0x24 => {
+            let (field, term, after) = find_of(alloc, payload)?;
+            Ok(Request::Find(field, term, after))
+        }
+        0x25 => {
+            let (name, term) = row_of(alloc, payload)?;
+            Ok(Request::Row(name, term))
+        }
+        0x26 => {
+            let (name, after) = rows_of(alloc, payload)?;
+            Ok(Request::Rows(name, after))
+        }
+        0x27 => Ok(Request::Node(node_of(alloc, payload)?)),
+        0x28 => {
+            let (path, after) = bucket_of(alloc, payload)?;
+            Ok(Request::Bucket(path, after))
+        }
+        0x2A => {
+            let (field, from, to, after) = range_of(alloc, payload)?;
+            Ok(Request::Range(field, from, to, after))
         }
         0x29 => {
             let (key, state) = push_of(alloc, payload)?;

@@ -4,18 +4,24 @@ ghost use Rattle.mvd_keys.specs.Key.{is_key};
 ghost use Rattle.mvd_wire.specs.Kind.{Gives, Kind};
 ghost use Rattle.mvd_wire.specs.Kinds.{layout2, key, spell_state, state_limit, state as spelled};
 ghost use Rattle.mvd_wire.specs.Frames.{frame_limit};
-ghost use Rattle.mvd_wire.specs.Requests.{framed, within_limit, put, delete, push, IsRequest, request_bytes, request_frame};
-ghost use Rattle.mvd_wire.specs.Replies.{IsReply, reply_frame};
+ghost use Rattle.mvd_wire.specs.Requests.{framed, within_limit, put, delete, find, row_of_view, rows_of_view, bucket, push, range, IsRequest, request_bytes, request_frame};
+ghost use Rattle.mvd_wire.specs.Replies.{IsReply, reply_frame, within_page};
+ghost use Rattle.mvd_wire.specs.Rows.{digests, key_entry, page, page_limit, place, row, view_row};
 ghost use Rattle.mvd_wire.specs.declared.request.Request.TheVariants as asked;
 
 use crate::lengths::state_length;
-use crate::reply::Reply;
+use crate::reply::{Digests, Reply, RowValue};
 use crate::request::Request;
+use crate::row_writing::{
+    put_digests, put_field, put_key_entries, put_optional_key, put_optional_place,
+    put_optional_spot, put_optional_term, put_page_head, put_path, put_places, put_row, put_term,
+    put_view_name, put_view_rows,
+};
 use crate::short::Short;
 use crate::writing::{put_context, put_document, put_key, put_len32, put_state};
-use mvd_docs::Document;
-use mvd_dots::{Context, Refusal};
-use mvd_keys::{Key, KeyState};
+use mvd_docs::{Document, Field, Term, ViewName};
+use mvd_dots::{Context, Dot, Refusal};
+use mvd_keys::{Key, KeyState, Path, Place};
 use std::alloc::{AllocError, Global};
 
 /// The frame of a kind byte and a payload.
@@ -119,6 +125,145 @@ pub fn encode_push(alloc: Global, key: &Key, state: &KeyState) -> Result<Vec<u8>
     frame_of(alloc, 0x29, &payload)
 }
 
+#[tactic(auto, unfolding(crate::specs::Requests::find))]
+fn put_find(
+    out: &mut Vec<u8>,
+    field: &Field,
+    term: &Term,
+    after: &Option<(Key, Dot)>,
+) -> Result<(), AllocError>
+    ensures bytes { OnOk result (out.new.items ≡ out.old.items ++ find.spell (field.now, (term.now, after.now))) }
+    ensures fits { OnOk result (find.Fits (field.now, (term.now, after.now))) }
+{
+    put_field(out, field)?;
+    put_term(out, term)?;
+    put_optional_spot(out, after)?;
+    Ok(())
+}
+
+/// The whole frame of a Find.
+pub fn encode_find(
+    alloc: Global,
+    field: &Field,
+    term: &Term,
+    after: &Option<(Key, Dot)>,
+) -> Result<Vec<u8>, Refusal>
+    ensures exact { Gives (λ v. v.items) result (request_frame (asked.Find field.now term.now after.now)) }
+    ensures fits { IfOk result (λ _. IsRequest (asked.Find field.now term.now after.now)) }
+{
+    let mut payload = Vec::new(alloc);
+    put_find(&mut payload, field, term, after)?;
+    frame_of(alloc, 0x24, &payload)
+}
+
+#[tactic(auto, unfolding(crate::specs::Requests::row_of_view))]
+fn put_row_asked(out: &mut Vec<u8>, name: &ViewName, term: &Term) -> Result<(), AllocError>
+    ensures bytes { OnOk result (out.new.items ≡ out.old.items ++ row_of_view.spell (name.now, term.now)) }
+    ensures fits { OnOk result (row_of_view.Fits (name.now, term.now)) }
+{
+    put_view_name(out, name)?;
+    put_term(out, term)?;
+    Ok(())
+}
+
+/// The whole frame of a Row.
+pub fn encode_row(alloc: Global, name: &ViewName, term: &Term) -> Result<Vec<u8>, Refusal>
+    ensures exact { Gives (λ v. v.items) result (request_frame (asked.Row name.now term.now)) }
+    ensures fits { IfOk result (λ _. IsRequest (asked.Row name.now term.now)) }
+{
+    let mut payload = Vec::new(alloc);
+    put_row_asked(&mut payload, name, term)?;
+    frame_of(alloc, 0x25, &payload)
+}
+
+#[tactic(auto, unfolding(crate::specs::Requests::rows_of_view))]
+fn put_rows_asked(
+    out: &mut Vec<u8>,
+    name: &ViewName,
+    after: &Option<Term>,
+) -> Result<(), AllocError>
+    ensures bytes { OnOk result (out.new.items ≡ out.old.items ++ rows_of_view.spell (name.now, after.now)) }
+    ensures fits { OnOk result (rows_of_view.Fits (name.now, after.now)) }
+{
+    put_view_name(out, name)?;
+    put_optional_term(out, after)?;
+    Ok(())
+}
+
+/// The whole frame of a Rows.
+pub fn encode_rows(alloc: Global, name: &ViewName, after: &Option<Term>) -> Result<Vec<u8>, Refusal>
+    ensures exact { Gives (λ v. v.items) result (request_frame (asked.Rows name.now after.now)) }
+    ensures fits { IfOk result (λ _. IsRequest (asked.Rows name.now after.now)) }
+{
+    let mut payload = Vec::new(alloc);
+    put_rows_asked(&mut payload, name, after)?;
+    frame_of(alloc, 0x26, &payload)
+}
+
+#[tactic(auto, unfolding(crate::specs::Requests::bucket))]
+fn put_bucket(out: &mut Vec<u8>, path: &Path, after: &Option<Key>) -> Result<(), AllocError>
+    ensures bytes { OnOk result (out.new.items ≡ out.old.items ++ bucket.spell (path.now, after.now)) }
+    ensures fits { OnOk result (bucket.Fits (path.now, after.now)) }
+{
+    put_path(out, path)?;
+    put_optional_key(out, after)?;
+    Ok(())
+}
+
+/// The whole frame of a Bucket.
+pub fn encode_bucket(alloc: Global, path: &Path, after: &Option<Key>) -> Result<Vec<u8>, Refusal>
+    ensures exact { Gives (λ v. v.items) result (request_frame (asked.Bucket path.now after.now)) }
+    ensures fits { IfOk result (λ _. IsRequest (asked.Bucket path.now after.now)) }
+{
+    let mut payload = Vec::new(alloc);
+    put_bucket(&mut payload, path, after)?;
+    frame_of(alloc, 0x28, &payload)
+}
+
+#[tactic(auto, unfolding(crate::specs::Requests::range))]
+fn put_range(
+    out: &mut Vec<u8>,
+    field: &Field,
+    from: &Term,
+    to: &Term,
+    after: &Option<Place>,
+) -> Result<(), AllocError>
+    ensures bytes { OnOk result (out.new.items ≡ out.old.items ++ range.spell (field.now, (from.now, (to.now, after.now)))) }
+    ensures fits { OnOk result (range.Fits (field.now, (from.now, (to.now, after.now)))) }
+{
+    put_field(out, field)?;
+    put_term(out, from)?;
+    put_term(out, to)?;
+    put_optional_place(out, after)?;
+    Ok(())
+}
+
+/// The whole frame of a Range.
+pub fn encode_range(
+    alloc: Global,
+    field: &Field,
+    from: &Term,
+    to: &Term,
+    after: &Option<Place>,
+) -> Result<Vec<u8>, Refusal>
+    ensures exact { Gives (λ v. v.items) result (request_frame (asked.Range field.now from.now to.now after.now)) }
+    ensures fits { IfOk result (λ _. IsRequest (asked.Range field.now from.now to.now after.now)) }
+{
+    let mut payload = Vec::new(alloc);
+    put_range(&mut payload, field, from, to, after)?;
+    frame_of(alloc, 0x2A, &payload)
+}
+
+/// The whole frame of a Node.
+pub fn encode_node(alloc: Global, path: &Path) -> Result<Vec<u8>, Refusal>
+    ensures exact { Gives (λ v. v.items) result (request_frame (asked.Node path.now)) }
+    ensures fits { IfOk result (λ _. IsRequest (asked.Node path.now)) }
+{
+    let mut payload = Vec::new(alloc);
+    put_path(&mut payload, path)?;
+    frame_of(alloc, 0x27, &payload)
+}
+
 /// The whole frame of a Bye.
 pub fn encode_bye(alloc: Global) -> Result<Vec<u8>, Refusal>
     ensures { Gives (λ v. v.items) result (Ok (request_bytes asked.Bye)) }
@@ -136,6 +281,12 @@ pub fn encode_request(alloc: Global, request: &Request) -> Result<Vec<u8>, Refus
         Request::Get(key) => encode_get(alloc, key),
         Request::Put(key, context, document) => encode_put(alloc, key, context, document),
         Request::Delete(key, context) => encode_delete(alloc, key, context),
+        Request::Find(field, term, after) => encode_find(alloc, field, term, after),
+        Request::Row(name, term) => encode_row(alloc, name, term),
+        Request::Rows(name, after) => encode_rows(alloc, name, after),
+        Request::Node(path) => encode_node(alloc, path),
+        Request::Bucket(path, after) => encode_bucket(alloc, path, after),
+        Request::Range(field, from, to, after) => encode_range(alloc, field, from, to, after),
         Request::Push(key, state) => encode_push(alloc, key, state),
         Request::Bye => encode_bye(alloc),
     }
@@ -154,6 +305,103 @@ fn encode_state_reply(alloc: Global, state: &KeyState) -> Result<Vec<u8>, Refusa
     frame_of(alloc, 0xA1, &payload)
 }
 
+/// The whole frame of a row.
+fn encode_row_reply(alloc: Global, value: &RowValue) -> Result<Vec<u8>, Refusal>
+    ensures exact { Gives (λ v. v.items) result (framed 0xA5 (row.spell value.now)) }
+    ensures fits { IfOk result (λ _. row.Fits value.now) }
+{
+    let mut payload = Vec::new(alloc);
+    put_row(&mut payload, value.count, value.sum, value.ends)?;
+    frame_of(alloc, 0xA5, &payload)
+}
+
+/// The whole frame of digests.
+fn encode_digests(alloc: Global, value: &Digests) -> Result<Vec<u8>, Refusal>
+    ensures exact { Gives (λ v. v.items) result (framed 0xA7 (digests.spell value.now)) }
+    ensures fits { IfOk result (λ _. digests.Fits value.now) }
+{
+    let mut payload = Vec::new(alloc);
+    put_digests(&mut payload, value)?;
+    frame_of(alloc, 0xA7, &payload)
+}
+
+#[tactic(auto, unfolding(crate::specs::Rows::page, crate::specs::Rows::items))]
+fn put_places_page(out: &mut Vec<u8>, items: &[Place], more: bool) -> Result<(), AllocError>
+    ensures bytes { OnOk result (out.new.items ≡ out.old.items ++ (page place).spell (items.now, more)) }
+    ensures fits { OnOk result (length items.now ≤ page_limit → (page place).Fits (items.now, more)) }
+{
+    put_page_head(out, more, items.len())?;
+    put_places(out, items)?;
+    Ok(())
+}
+
+/// The whole frame of a list of places.
+fn encode_places(alloc: Global, items: &[Place], more: bool) -> Result<Vec<u8>, Refusal>
+    ensures exact { Gives (λ v. v.items) result (within_page items.now (framed 0xA4 ((page place).spell (items.now, more)))) }
+    ensures fits { IfOk result (λ _. (page place).Fits (items.now, more)) }
+{
+    if items.len() > 1000 {
+        return Err(Refusal::BadBody);
+    }
+    let mut payload = Vec::new(alloc);
+    put_places_page(&mut payload, items, more)?;
+    frame_of(alloc, 0xA4, &payload)
+}
+
+#[tactic(auto, unfolding(crate::specs::Rows::page, crate::specs::Rows::items))]
+fn put_view_rows_page(
+    out: &mut Vec<u8>,
+    items: &[(Term, u64, i128, Option<(i64, i64)>)],
+    more: bool,
+) -> Result<(), AllocError>
+    ensures bytes { OnOk result (out.new.items ≡ out.old.items ++ (page view_row).spell (items.now, more)) }
+    ensures fits { OnOk result (length items.now ≤ page_limit → (page view_row).Fits (items.now, more)) }
+{
+    put_page_head(out, more, items.len())?;
+    put_view_rows(out, items)?;
+    Ok(())
+}
+
+/// The whole frame of a list of rows of a view.
+fn encode_view_rows(
+    alloc: Global,
+    items: &[(Term, u64, i128, Option<(i64, i64)>)],
+    more: bool,
+) -> Result<Vec<u8>, Refusal>
+    ensures exact { Gives (λ v. v.items) result (within_page items.now (framed 0xA6 ((page view_row).spell (items.now, more)))) }
+    ensures fits { IfOk result (λ _. (page view_row).Fits (items.now, more)) }
+{
+    if items.len() > 1000 {
+        return Err(Refusal::BadBody);
+    }
+    let mut payload = Vec::new(alloc);
+    put_view_rows_page(&mut payload, items, more)?;
+    frame_of(alloc, 0xA6, &payload)
+}
+
+#[tactic(auto, unfolding(crate::specs::Rows::page, crate::specs::Rows::items))]
+fn put_keys_page(out: &mut Vec<u8>, items: &[(Key, [u8; 32])], more: bool) -> Result<(), AllocError>
+    ensures bytes { OnOk result (out.new.items ≡ out.old.items ++ (page key_entry).spell (items.now, more)) }
+    ensures fits { OnOk result (length items.now ≤ page_limit → (page key_entry).Fits (items.now, more)) }
+{
+    put_page_head(out, more, items.len())?;
+    put_key_entries(out, items)?;
+    Ok(())
+}
+
+/// The whole frame of a list of keys with their digests.
+fn encode_keys(alloc: Global, items: &[(Key, [u8; 32])], more: bool) -> Result<Vec<u8>, Refusal>
+    ensures exact { Gives (λ v. v.items) result (within_page items.now (framed 0xA8 ((page key_entry).spell (items.now, more)))) }
+    ensures fits { IfOk result (λ _. (page key_entry).Fits (items.now, more)) }
+{
+    if items.len() > 1000 {
+        return Err(Refusal::BadBody);
+    }
+    let mut payload = Vec::new(alloc);
+    put_keys_page(&mut payload, items, more)?;
+    frame_of(alloc, 0xA8, &payload)
+}
+
 fn encode_short(alloc: Global, short: &Short) -> Result<Vec<u8>, Refusal>
     ensures { Gives (λ v. v.items) result (Ok short.now) }
 {
@@ -169,6 +417,11 @@ pub fn encode_reply(alloc: Global, reply: &Reply) -> Result<Vec<u8>, Refusal>
     match reply {
         Reply::State(state) => encode_state_reply(alloc, state),
         Reply::Written(dot) => encode_short(alloc, &Short::written(*dot)),
+        Reply::Places(places, more) => encode_places(alloc, places.as_slice(), *more),
+        Reply::Row(row) => encode_row_reply(alloc, row),
+        Reply::Rows(rows, more) => encode_view_rows(alloc, rows.as_slice(), *more),
+        Reply::Digests(digests) => encode_digests(alloc, digests),
+        Reply::Keys(keys, more) => encode_keys(alloc, keys.as_slice(), *more),
         Reply::Done => encode_short(alloc, &Short::done()),
         Reply::Refused(refusal) => encode_short(alloc, &Short::refused(*refusal)),
     }

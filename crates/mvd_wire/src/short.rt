@@ -73,7 +73,12 @@ pub fn short_reply(reply: &Reply) -> Option<Short>
     ensures { MatchOption result (is_short reply.now ≡ false) (λ s. s ≡ reply_bytes reply.now) }
 {
     match reply {
-        Reply::State(_) => None,
+        Reply::State(_)
+        | Reply::Places(_, _)
+        | Reply::Row(_)
+        | Reply::Rows(_, _)
+        | Reply::Digests(_)
+        | Reply::Keys(_, _) => None,
         Reply::Written(dot) => Some(Short::written(*dot)),
         Reply::Done => Some(Short::done()),
         Reply::Refused(refusal) => Some(Short::refused(*refusal)),

@@ -1,4 +1,5 @@
 use super::*;
+use mvd_docs::Term;
 use mvd_dots::{Context, Dot, Refusal};
 use mvd_keys::{Key, KeyState};
 use std::alloc::Global;
@@ -157,6 +158,88 @@ fn replies_go_round(rt: HostRuntime) -> Result<(), Fail> {
         refused.as_slice()
     );
     assert!(rt; matches!(decode_reply(alloc, 0xEE, &[18]), Err(Refusal::BadBody)));
+    Ok(())
+}
+
+/// Whether the payload decodes to a request whose frame ends with this payload.
+fn comes_back(alloc: Global, kind: u8, payload: &[u8]) -> Result<bool, Refusal> {
+    let request = decode_request(alloc, kind, payload)?;
+    let frame = encode_request(alloc, &request)?;
+    Ok(frame.as_slice().ends_with(payload))
+}
+
+#[test]
+fn questions_go_round(rt: HostRuntime) -> Result<(), Fail> {
+    let alloc = rt.alloc();
+    assert!(rt; comes_back(alloc, 0x24, b"\x00\x04city\x04\x00\x04Oslo\x00")?);
+    assert!(rt;
+        comes_back(
+            alloc,
+            0x24,
+            b"\x00\x01n\x02\x01\x01k\0\0\0\x01\0\0\0\0\0\0\0\x02"
+        )?
+    );
+    assert!(rt; comes_back(alloc, 0x25, b"\x00\x05spend\x04\x00\x04Oslo")?);
+    assert!(rt;
+        comes_back(
+            alloc,
+            0x26,
+            b"\x00\x05spend\x01\x03\xFF\xFF\xFF\xFF\xFF\xFF\xFF\xFF"
+        )?
+    );
+    assert!(rt; comes_back(alloc, 0x27, &[3, 0, 15, 8])?);
+    assert!(rt; comes_back(alloc, 0x28, b"\x01\x02\x01\x01k")?);
+    assert!(rt; comes_back(alloc, 0x2A, b"\x00\x01n\x00\x03\0\0\0\0\0\0\0\x0A\x00")?);
+    assert_eq!(rt; fault(alloc, 0x27, &[4]), 14);
+    assert_eq!(rt; fault(alloc, 0x27, &[1, 16]), 14);
+    assert_eq!(rt; fault(alloc, 0x25, b"\x00\x01v\x05"), 15);
+    assert_eq!(rt; fault(alloc, 0x25, b"\x00\x01v\x04\x02\x01"), 15);
+    assert_eq!(rt; fault(alloc, 0x25, b"\x00\x01v\x04\x00\x01\xFF"), 15);
+    assert_eq!(rt; fault(alloc, 0x24, b"\x00\x02a.\x00\x00"), 33);
+    Ok(())
+}
+
+/// Whether the payload decodes to a reply whose frame ends with this payload.
+fn reply_comes_back(alloc: Global, kind: u8, payload: &[u8]) -> Result<bool, Refusal> {
+    let reply = decode_reply(alloc, kind, payload)?;
+    let frame = encode_reply(alloc, &reply)?;
+    Ok(frame.as_slice().ends_with(payload))
+}
+
+#[test]
+fn answers_go_round(rt: HostRuntime) -> Result<(), Fail> {
+    let alloc = rt.alloc();
+    let places = b"\x00\x00\x01\x04\x00\x04Oslo\x01a\0\0\0\x01\0\0\0\0\0\0\0\x01";
+    assert!(rt; reply_comes_back(alloc, 0xA4, places)?);
+    let row =
+        b"\0\0\0\0\0\0\0\x03\xFF\xFF\xFF\xFF\xFF\xFF\xFF\xFF\xFF\xFF\xFF\xFF\xFF\xFF\xFF\xFE\x01\xFF\xFF\xFF\xFF\xFF\xFF\xFF\xF9\0\0\0\0\0\0\0\x05";
+    assert!(rt; reply_comes_back(alloc, 0xA5, row)?);
+    match decode_reply(alloc, 0xA5, row)? {
+        Reply::Row(row) => assert!(rt;
+            row.count == 3 && row.sum == -2 && row.ends == Some((-7, 5))
+        ),
+        _ => assert!(rt; false),
+    }
+    let mut digests = [0; 545];
+    digests[32] = 16;
+    assert!(rt; reply_comes_back(alloc, 0xA7, &digests)?);
+    assert!(rt; reply_comes_back(alloc, 0xA7, &digests[512..])?);
+    assert!(rt; reply_comes_back(alloc, 0xA6, &[1, 0, 0])?);
+    assert!(rt; reply_comes_back(alloc, 0xA8, &[0, 0, 0])?);
+    assert!(rt; decode_reply(alloc, 0xA4, &[2, 0, 0]).is_err());
+    assert!(rt; decode_reply(alloc, 0xA4, &[0, 3, 0xE9]).is_err());
+    Ok(())
+}
+
+#[test]
+fn a_list_of_1001_is_refused(rt: HostRuntime) -> Result<(), Fail> {
+    let alloc = rt.alloc();
+    let mut rows = Vec::new(alloc);
+    for _ in 0..1001 {
+        rows.push((Term::Null, 1, 0, None))?;
+    }
+    let long = Reply::Rows(Items::new(rows), false);
+    assert!(rt; matches!(encode_reply(alloc, &long), Err(Refusal::BadBody)));
     Ok(())
 }
 

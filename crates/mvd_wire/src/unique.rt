@@ -1,10 +1,12 @@
 //! Laws of the spellings.
-ghost use Rattle.std.specs.Prelude.{◌≡◌, ◌≤◌, ◌+◌, ◌++◌, List, ℕ, length, true, Ok, Some};
+ghost use Rattle.std.specs.Prelude.{◌≡◌, ◌≤◌, ◌+◌, ◌++◌, List, ℕ, length, true, Option, Ok, Some};
 ghost use Rattle.mvd_keys.specs.Key.{is_key};
+ghost use Rattle.mvd_keys.specs.Path.{is_path};
 ghost use Rattle.mvd_keys.specs.State.{State, Text};
 ghost use Rattle.mvd_wire.specs.Frames.{FrameValue, frame_limit, frame_at, spell_frame};
 ghost use Rattle.mvd_wire.specs.Kind.{Kind, IsPrefixFree};
 ghost use Rattle.mvd_wire.specs.Kinds.{layout1, layout2, dot, context, key, document, path, state, spell_state, state_limit};
+ghost use Rattle.mvd_wire.specs.Rows.{digests, ends, field, key_entry, page, place, sum, term, view_name, view_row};
 ghost use Rattle.mvd_wire.specs.Requests.{SpellsRequest, IsRequest, request_of, kind_of as request_kind, payload_of as request_payload, request_bytes, request_frame};
 ghost use Rattle.mvd_wire.specs.Replies.{CanBeSent, IsReply, reply_of, kind_of as reply_kind, payload_of as reply_payload, is_short};
 ghost use Rattle.mvd_wire.specs.declared.request.Request.TheVariants as asked;
@@ -20,6 +22,18 @@ pub fn one_spelling()
     ensures keys { IsPrefixFree key }
     ensures documents { IsPrefixFree document }
     ensures paths { IsPrefixFree path }
+    ensures fields { IsPrefixFree field }
+    ensures view_names { IsPrefixFree view_name }
+    ensures terms { IsPrefixFree term }
+    ensures places { IsPrefixFree place }
+    ensures sums { IsPrefixFree sum }
+    ensures ends_of_rows { IsPrefixFree ends }
+    ensures view_rows { IsPrefixFree view_row }
+    ensures key_entries { IsPrefixFree key_entry }
+    ensures digests_of_nodes { IsPrefixFree digests }
+    ensures lists_of_places { IsPrefixFree (page place) }
+    ensures lists_of_view_rows { IsPrefixFree (page view_row) }
+    ensures lists_of_key_entries { IsPrefixFree (page key_entry) }
     ensures states { IsPrefixFree (state layout2) }
     ensures old_states { IsPrefixFree (state layout1) }
     // A frame is read again, and what follows it is left.
@@ -35,6 +49,8 @@ pub fn decoded_again()
 /// What is never too long for a frame.
 pub fn can_be_sent()
     ensures gets { (k : Text) → is_key k ≡ true → request_frame (asked.Get k) ≡ Ok (request_bytes (asked.Get k)) }
+    ensures nodes { (p : List ℕ) → is_path p ≡ true → request_frame (asked.Node p) ≡ Ok (request_bytes (asked.Node p)) }
+    ensures buckets { (p : List ℕ) (after : Option Text) → IsRequest (asked.Bucket p after) → request_frame (asked.Bucket p after) ≡ Ok (request_bytes (asked.Bucket p after)) }
     ensures pushes { (k : Text) (s : State) → is_key k ≡ true → length (spell_state s) ≤ state_limit → request_frame (asked.Push k s) ≡ Ok (request_bytes (asked.Push k s)) }
     ensures short { (r : Reply) → is_short r ≡ true → CanBeSent r }
     ensures states { (s : State) → length (spell_state s) ≤ state_limit → CanBeSent (answered.State s) }

@@ -2,6 +2,7 @@
 ghost use Rattle.std.specs.Prelude.{◌≡◌, ◌≤◌, ◌++◌, length, true, OnOk};
 ghost use Rattle.std.specs.Int.{w16, w32, w64};
 ghost use Rattle.std.specs.List.{flat_map};
+ghost use Rattle.mvd_dots.specs.Dot.{IsDot};
 ghost use Rattle.mvd_dots.specs.Context.{AreInRange};
 ghost use Rattle.mvd_docs.specs.Document.{IsDocument};
 ghost use Rattle.mvd_keys.specs.Key.{is_key};
@@ -22,7 +23,7 @@ fn put_u32(out: &mut Vec<u8>, value: u32) -> Result<(), AllocError>
 }
 
 #[tactic(auto, unfolding(crate::specs::Kind::number))]
-fn put_u64(out: &mut Vec<u8>, value: u64) -> Result<(), AllocError>
+pub fn put_u64(out: &mut Vec<u8>, value: u64) -> Result<(), AllocError>
     ensures { OnOk result (out.new.items ≡ out.old.items ++ (number w64).spell value) }
 {
     out.extend_from_slice(&value.to_be_bytes())
@@ -30,7 +31,7 @@ fn put_u64(out: &mut Vec<u8>, value: u64) -> Result<(), AllocError>
 
 /// The low two bytes of a length.
 #[tactic(auto, unfolding(crate::specs::Kind::number))]
-fn put_len16(out: &mut Vec<u8>, len: usize) -> Result<(), AllocError>
+pub fn put_len16(out: &mut Vec<u8>, len: usize) -> Result<(), AllocError>
     ensures { OnOk result (out.new.items ≡ out.old.items ++ (number w16).spell len) }
 {
     out.extend_from_slice(&len.to_be_bytes()[6..])
@@ -46,7 +47,8 @@ pub fn put_len32(out: &mut Vec<u8>, len: usize) -> Result<(), AllocError>
 
 #[tactic(auto, unfolding(crate::specs::Kinds::dot))]
 pub fn put_dot(out: &mut Vec<u8>, value: Dot) -> Result<(), AllocError>
-    ensures { OnOk result (out.new.items ≡ out.old.items ++ (dot layout2).spell value) }
+    ensures bytes { OnOk result (out.new.items ≡ out.old.items ++ (dot layout2).spell value) }
+    ensures valid { IsDot value }
 {
     put_u32(out, value.site())?;
     put_u64(out, value.counter())?;

@@ -1,5 +1,4 @@
 use Rattle.std.proofs.Common.{ℕ, List, ◌++◌, ap, ◌∙◌}
-use Rattle.mvd_wire.specs.Kind.{Kind}
 use Rattle.mvd_wire.specs.Kinds.{key}
 use Rattle.mvd_wire.proofs.Fits.{key_fits}
 use Rattle.mvd_wire.proofs.encoding.encode_key.Goals as goal

@@ -1,11 +1,7 @@
-use Rattle.std.proofs.Common.{◌≡◌, ◌++◌, ◌∷◌, ◌+◌, [], take, length, sym, ap, ◌∙◌, arith, append_assoc}
-use Rattle.std.proofs.lemmas.List.{take_more, map-append, length-append}
-use Rattle.std.proofs.lemmas.List.Concat.{flat_map-cons, flat_map-append}
+use Rattle.std.proofs.Common.{◌≡◌, ◌++◌, ◌∷◌, ◌+◌, [], take, sym, ap, ◌∙◌, arith}
+use Rattle.std.proofs.lemmas.List.{take_more}
 use Rattle.std.proofs.lemmas.List.Elements.{All-push}
-use Rattle.std.specs.List.{flat_map}
-use Rattle.mvd_keys.specs.State.{pair_of, pairs_of}
-use Rattle.mvd_wire.specs.Kind.{Kind}
-use Rattle.mvd_wire.specs.Kinds.{document, spell_sibling}
+use Rattle.mvd_wire.specs.Kinds.{document}
 use Rattle.mvd_wire.proofs.Spellings.{one_sibling_more}
 use Rattle.mvd_wire.proofs.lengths.siblings_length.Goals as goal
 

@@ -1,4 +1,3 @@
-use Rattle.mvd_wire.specs.Kind.{Kind}
 use Rattle.mvd_wire.specs.Kinds.{key}
 use Rattle.mvd_wire.proofs.Fits.{key_fits}
 use Rattle.mvd_wire.proofs.SentFrames.{always, get_is_short}

@@ -1,5 +1,4 @@
 use Rattle.std.proofs.Common.{arith}
-use Rattle.mvd_wire.specs.Kind.{Kind}
 use Rattle.mvd_wire.specs.Requests.{push}
 use Rattle.mvd_wire.proofs.SentFrames.{always, push_is_short, push_fits}
 use Rattle.mvd_wire.proofs.sending.encode_push.Goals as goal

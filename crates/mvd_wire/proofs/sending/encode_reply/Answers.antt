@@ -1,7 +1,5 @@
-use Rattle.mvd_wire.specs.Kind.{Kind}
 use Rattle.mvd_wire.specs.Kinds.{layout2, dot}
-use Rattle.mvd_wire.specs.Replies.{refusal, IsReply}
-use Rattle.mvd_wire.specs.declared.reply.Reply.TheVariants as reply
+use Rattle.mvd_wire.specs.Replies.{refusal}
 use Rattle.mvd_wire.proofs.Fits.{dot_fits}
 use Rattle.mvd_wire.proofs.SentFrames.{always}
 use Rattle.mvd_wire.proofs.sending.encode_reply.Goals as goal
@@ -12,3 +10,6 @@ returns-in-Written-clause-fits c = rw c.in-Written.is (always c.encode_short.res
 pub returns-in-Refused-clause-fits : goal.returns-in-Refused-clause-fits
 unfolding refusal
 returns-in-Refused-clause-fits c = rw c.in-Refused.is (always c.encode_short-in-Refused.result (Unit {0}) tt)
+
+pub returns-in-Rows-clause-exact : goal.returns-in-Rows-clause-exact
+returns-in-Rows-clause-exact c = rw (c.in-Rows.is, ← c.as_slice-in-Rows.ensures) c.encode_view_rows.ensures.exact

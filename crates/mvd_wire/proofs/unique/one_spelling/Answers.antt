@@ -1,4 +1,6 @@
 use Rattle.mvd_wire.specs.Kinds.{layout1, layout2, dot, context, key, document, path, state}
+use Rattle.mvd_wire.specs.Rows.{digests, ends, field, key_entry, page, place, sum, term, view_name, view_row}
+use Rattle.mvd_wire.proofs.RowLaws.{lawful_digests, lawful_ends, lawful_field, lawful_key_entry, lawful_page, lawful_place, lawful_sum, lawful_term, lawful_view_name, lawful_view_row}
 use Rattle.mvd_wire.proofs.FrameLemmas.{frame_again}
 use Rattle.mvd_wire.proofs.Laws.{prefix_free}
 use Rattle.mvd_wire.proofs.KindLaws.{wide_layout1, wide_layout2, lawful_dot, lawful_context, lawful_key, lawful_document, lawful_path, lawful_state}
@@ -11,6 +13,18 @@ returns c = record {
   keys = prefix_free key lawful_key;
   documents = prefix_free document lawful_document;
   paths = prefix_free path lawful_path;
+  fields = prefix_free field lawful_field;
+  view_names = prefix_free view_name lawful_view_name;
+  terms = prefix_free term lawful_term;
+  places = prefix_free place lawful_place;
+  sums = prefix_free sum lawful_sum;
+  ends_of_rows = prefix_free ends lawful_ends;
+  view_rows = prefix_free view_row lawful_view_row;
+  key_entries = prefix_free key_entry lawful_key_entry;
+  digests_of_nodes = prefix_free digests lawful_digests;
+  lists_of_places = prefix_free (page place) (lawful_page place lawful_place);
+  lists_of_view_rows = prefix_free (page view_row) (lawful_page view_row lawful_view_row);
+  lists_of_key_entries = prefix_free (page key_entry) (lawful_page key_entry lawful_key_entry);
   states = prefix_free (state layout2) (lawful_state layout2 wide_layout2);
   old_states = prefix_free (state layout1) (lawful_state layout1 wide_layout1);
   frames = frame_again;

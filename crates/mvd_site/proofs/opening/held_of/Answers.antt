@@ -8,7 +8,7 @@ use Rattle.mvd_keys.proofs.Parts.{holds}
 use Rattle.mvd_site.specs.Held.{AreHeld, States}
 use Rattle.mvd_site.proofs.HeldMaps.{held_none}
 use Rattle.mvd_site.proofs.Opened.{one_more}
-use Rattle.mvd_site.proofs.sites.held_of.Goals as goal
+use Rattle.mvd_site.proofs.opening.held_of.Goals as goal
 
 pub loop-key-init : goal.loop-key-init
 loop-key-init c = record { map = c.new-held.ensures; kept = subst AreHeld (sym c.new-held.ensures) (held_none [] refl) }

@@ -2,7 +2,7 @@ use Rattle.std.proofs.Common.{◌≡◌}
 use Rattle.std.specs.FinMap.{from_entries}
 use Rattle.mvd_keys.specs.Key.{key_cmp}
 use Rattle.mvd_site.specs.Held.{AreHeld}
-use Rattle.mvd_site.proofs.sites.held_of.Given as goal
+use Rattle.mvd_site.proofs.opening.held_of.Given as goal
 
 -- the map has the entries so far
 abbrev pub invariant-loop-key : goal.invariant-loop-key

@@ -1,3 +1,4 @@
+pub mod Digested
 pub mod HeldMaps
 pub mod KnownKeys
 pub mod Lengths

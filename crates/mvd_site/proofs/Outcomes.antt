@@ -1,5 +1,6 @@
 -- What a change of a key's state answered says of it.
-use Rattle.std.proofs.Common.{◌≡◌, ◌≢◌, ◌⊎◌, Bool, true, false, Option, Some, None, Result, Ok, Err, if◌then◌else◌, refl, sym, ap, ◌∙◌, inl, inr}
+use Rattle.std.proofs.Common.{◌≡◌, ◌≢◌, ◌⊎◌, Bool, true, false, Option, Some, None, Result, Ok, Err, if◌then◌else◌, refl, sym, ap, ◌∙◌, inl, inr, ⊎_elim}
+use Rattle.std.specs.Result.{OnOk, is_err}
 use Rattle.mvd_dots.specs.Dot.{DotValue}
 use Rattle.mvd_dots.specs.Context.{DotSet}
 use Rattle.mvd_dots.specs.declared.refusals.Refusal.{Refusal}
@@ -8,13 +9,23 @@ use Rattle.mvd_keys.specs.State.{State, Text, after_put, clashes, join, join_ans
 use Rattle.mvd_wire.specs.declared.reply.Reply.{Reply}
 use Rattle.mvd_wire.specs.declared.reply.Reply.TheVariants.{State as Shown, Written, Done, Refused}
 use Rattle.mvd_wire.specs.Replies.{CanBeSent}
-use Rattle.mvd_wire.proofs.SentFrames.{short_can_be_sent, state_can_be_sent}
+use Rattle.mvd_wire.proofs.SentFrames.{short_can_be_sent}
 use Rattle.mvd_site.specs.Change.{reply_of}
 use Rattle.mvd_site.specs.Prepared.{IsPlain}
 
 pub memory_or_not : (refusal : Refusal) → (refusal ≡ Memory) ⊎ (refusal ≢ Memory)
 memory_or_not Memory = inl refl
 memory_or_not refusal = inr (λ e. cc)
+
+-- where the answer is no refusal, only memory can have been refused
+pub must_be_memory : {A : Type 0} (refusal : Refusal) (x : A) (answer : Result A Refusal) → answer ≡ Ok x → (refusal ≢ Memory → answer ≡ Err refusal) → refusal ≡ Memory
+must_be_memory {A} refusal x answer ok refused =
+    ⊎_elim (λ memory. memory) (λ other. absurd (let bad : ◌≡◌ {A = Result A Refusal} (Ok x) (Err refusal) = sym ok ∙ refused other in cc)) (memory_or_not refusal)
+
+-- what holds of a call that was not refused
+pub where_ok : {A E : Type 0} (result : Result A E) (P : Type 0) → OnOk result P → false ≡ is_err result → P
+where_ok (Ok x) P holds not_err = holds
+where_ok (Err e) P holds not_err = cc
 
 pub put_ok : (s : State) (seen : DotSet) (document : Text) (o : Option DotValue) (after : State) (dot : DotValue) → put_with s seen document o ≡ Ok (after, dot) → (o ≡ Some dot) × (after ≡ after_put s dot seen document)
 put_ok s seen document None after dot e = cc
@@ -50,15 +61,10 @@ whole_where_ok false x says = refl
 
 -- ---- no reply is too long for its frame
 
-pub plain_fits : (reply : Reply) → IsPlain reply → CanBeSent reply
-plain_fits (Shown s) plain = state_can_be_sent s plain
-plain_fits (Written dot) plain = short_can_be_sent (Written dot) refl
-plain_fits Done plain = short_can_be_sent Done refl
-plain_fits (Refused refusal) plain = absurd plain
-
 pub refused_fits : (refusal : Refusal) → CanBeSent (Refused refusal)
 refused_fits refusal = short_can_be_sent (Refused refusal) refl
 
-pub change_fits : (dot : Option DotValue) → CanBeSent (reply_of dot)
-change_fits None = short_can_be_sent Done refl
-change_fits (Some dot) = short_can_be_sent (Written dot) refl
+-- what a change is answered with is no refusal
+pub change_plain : (dot : Option DotValue) → IsPlain (reply_of dot)
+change_plain None = record { accepts = refl; fits = short_can_be_sent Done refl }
+change_plain (Some dot) = record { accepts = refl; fits = short_can_be_sent (Written dot) refl }

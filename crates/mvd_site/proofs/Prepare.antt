@@ -1,5 +1,5 @@
 -- What is prepared is the answer, and what is installed follows the writes known.
-use Rattle.std.proofs.Common.{◌≡◌, ◌≢◌, ◌⊎◌, Bool, true, false, ◌||◌, if◌then◌else◌, List, [], ◌∷◌, ◌++◌, Option, Some, None, IfSome, IsSomeAnd, Result, Ok, Err, refl, sym, ap, ap₂, ◌∙◌, subst, true≢false, inl, inr, ⊎_elim}
+use Rattle.std.proofs.Common.{◌≡◌, ◌≢◌, ◌⊎◌, ℕ, Bool, true, false, ◌||◌, if◌then◌else◌, List, [], ◌∷◌, ◌++◌, Option, Some, None, IfSome, IsSomeAnd, Result, Ok, Err, refl, sym, ap, ap₂, ◌∙◌, subst, true≢false, inl, inr, ⊎_elim}
 use Rattle.std.specs.FinMap.{get, get-empty, empty as empty_map, insert as insert_at}
 use Rattle.std.specs.FinSet.{contains, union, contains-union}
 use Rattle.mvd_dots.specs.Dot.{DotValue}
@@ -15,7 +15,7 @@ use Rattle.mvd_keys.proofs.Held.{no_writes}
 use Rattle.mvd_keys.proofs.StatesOfWrites.{state-put, state-delete}
 use Rattle.mvd_keys.proofs.Lists.{mint-unseen}
 use Rattle.mvd_wire.specs.declared.request.Request.{Request}
-use Rattle.mvd_wire.specs.declared.request.Request.TheVariants.{Get, Put, Delete, Push, Bye}
+use Rattle.mvd_wire.specs.declared.request.Request.TheVariants.{Bucket, Put, Delete, Push}
 use Rattle.mvd_wire.specs.declared.reply.Reply.{Reply}
 use Rattle.mvd_wire.specs.declared.reply.Reply.TheVariants.{Written, Done, Refused}
 use Rattle.mvd_site.specs.Answer.{answer, change_of, is_too_large, put_answer, within_limits}
@@ -23,7 +23,7 @@ use Rattle.mvd_site.specs.Change.{ChangeValue, reply_of}
 use Rattle.mvd_site.specs.Config.{ConfigValue}
 use Rattle.mvd_site.specs.Held.{States, state_at}
 use Rattle.mvd_site.specs.Known.{Adds, Changes, MayReply}
-use Rattle.mvd_site.specs.Prepared.{LimitsTo, Prepares, PreparesAnswer, PreparesChange}
+use Rattle.mvd_site.specs.Prepared.{LimitsTo, Prepares, PreparesAnswer, PreparesChange, PreparesReply}
 use Rattle.mvd_site.specs.Sites.{AnswersOne, SiteStands, SiteValue, within}
 use Rattle.mvd_site.specs.declared.changes.Prepared.{Prepared}
 use Rattle.mvd_site.specs.declared.changes.Prepared.TheVariants.{Answer, Change}
@@ -105,6 +105,13 @@ pub pushed_clash : (site : SiteValue) (known : List Write) (key : Key) (pushed :
 pushed_clash site known key pushed stands small clash =
     sym (ap₂ (push_answer site.config known key pushed) small (ap (λ s. clashes s pushed) (sym (state_at-stands site.states known key stands)) ∙ clash))
 
+-- a page of a bucket changes nothing
+pub prepares_bucket : (config : ConfigValue) (known : List Write) (path : List ℕ) (after : Option Key) (result : Result Prepared Refusal) →
+    PreparesReply (answer config known (Bucket path after)) result → Prepares config known (Bucket path after) result
+prepares_bucket config known path after (Err refusal) gives = gives
+prepares_bucket config known path after (Ok (Answer reply)) gives = record { answers = gives; still = tt }
+prepares_bucket config known path after (Ok (Change change)) gives = absurd gives
+
 -- ---- the step
 
 -- where the state afterwards is the one before, the map stands for the writes added too
@@ -140,11 +147,10 @@ answers_by_change old new request change reply whole installed seen told prepare
 
 -- a refusal accepts nothing
 pub refuses_all : (request : Request) (refusal : Refusal) (W : List Write) → change_of W request (Refused refusal) ≡ None
-refuses_all (Get key) refusal W = refl
 refuses_all (Put key seen document) refusal W = refl
 refuses_all (Delete key seen) refusal W = refl
 refuses_all (Push key pushed) refusal W = refl
-refuses_all Bye refusal W = refl
+refuses_all request refusal W = refl
 
 pub answers_by_refusal : (old : SiteValue) (request : Request) (refusal : Refusal) → old.broken ≡ false →
     ((known : List Write) → Stands old.states known → (Refused refusal ≡ answer old.config known request) ⊎ (refusal ≡ Memory)) → AnswersOne old old request (Refused refusal)

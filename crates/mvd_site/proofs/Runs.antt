@@ -93,20 +93,10 @@ AnswersAll-none config site whole stands (e ∷ es) tells agree = cc (tells.aske
 -- ---- a choice that fits
 
 pub fitting : (request : Request) (reply : Reply) → IsValidRequest request → (added : List Write) × Adds request reply added
-fitting (Get key) reply valid = ([], refl)
-fitting Bye reply valid = ([], refl)
 fitting (Put key seen document) (Written dot) valid = (Wrote key dot seen document ∷ [], refl)
-fitting (Put key seen document) (Shown s) valid = ([], refl)
-fitting (Put key seen document) Done valid = ([], refl)
-fitting (Put key seen document) (Refused r) valid = ([], refl)
 fitting (Delete key seen) Done valid = (Deleted key seen ∷ [], refl)
-fitting (Delete key seen) (Written dot) valid = ([], refl)
-fitting (Delete key seen) (Shown s) valid = ([], refl)
-fitting (Delete key seen) (Refused r) valid = ([], refl)
 fitting (Push key pushed) Done valid = (writes_for key pushed, (AreOf-writes_for key pushed, state-writes_for key pushed valid))
-fitting (Push key pushed) (Written dot) valid = ([], refl)
-fitting (Push key pushed) (Shown s) valid = ([], refl)
-fitting (Push key pushed) (Refused r) valid = ([], refl)
+fitting request reply valid = ([], refl)
 
 fits_both : (es fs : List Event) → AllByRecursion Fits es → AllByRecursion Fits fs → AllByRecursion Fits (es ++ fs)
 fits_both [] fs left right = right

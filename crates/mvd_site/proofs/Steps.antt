@@ -85,34 +85,14 @@ Adds-change_of W (Delete k seen) Done V key after adds e =
     renamed W V k key _ after e (subst (AreOf k) (sym adds) (refl, tt)) (ap (λ X. state k (W ++ X)) adds)
 Adds-change_of W (Push k pushed) Done V key after adds e =
     renamed W V k key _ after e adds.0 (sym (join-state k W V) ∙ ap (join (state k W)) adds.1)
-Adds-change_of W (Get k) reply V key after adds e = cc
-Adds-change_of W Bye reply V key after adds e = cc
-Adds-change_of W (Put k seen document) (Shown s) V key after adds e = cc
-Adds-change_of W (Put k seen document) Done V key after adds e = cc
-Adds-change_of W (Put k seen document) (Refused r) V key after adds e = cc
-Adds-change_of W (Delete k seen) (Shown s) V key after adds e = cc
-Adds-change_of W (Delete k seen) (Written dot) V key after adds e = cc
-Adds-change_of W (Delete k seen) (Refused r) V key after adds e = cc
-Adds-change_of W (Push k pushed) (Shown s) V key after adds e = cc
-Adds-change_of W (Push k pushed) (Written dot) V key after adds e = cc
-Adds-change_of W (Push k pushed) (Refused r) V key after adds e = cc
+Adds-change_of W request reply V key after adds e = cc
 
 -- and any other request adds nothing
 pub Adds-nothing : (W : List Write) (request : Request) (reply : Reply) (V : List Write) → Adds request reply V → change_of W request reply ≡ None → V ≡ []
 Adds-nothing W (Put key seen document) (Written dot) V adds e = cc
 Adds-nothing W (Delete key seen) Done V adds e = cc
 Adds-nothing W (Push key pushed) Done V adds e = cc
-Adds-nothing W (Get key) reply V adds e = adds
-Adds-nothing W Bye reply V adds e = adds
-Adds-nothing W (Put key seen document) (Shown s) V adds e = adds
-Adds-nothing W (Put key seen document) Done V adds e = adds
-Adds-nothing W (Put key seen document) (Refused r) V adds e = adds
-Adds-nothing W (Delete key seen) (Shown s) V adds e = adds
-Adds-nothing W (Delete key seen) (Written dot) V adds e = adds
-Adds-nothing W (Delete key seen) (Refused r) V adds e = adds
-Adds-nothing W (Push key pushed) (Shown s) V adds e = adds
-Adds-nothing W (Push key pushed) (Written dot) V adds e = adds
-Adds-nothing W (Push key pushed) (Refused r) V adds e = adds
+Adds-nothing W request reply V adds e = adds
 
 -- a reply that refuses adds nothing
 pub Adds-Refused : (request : Request) (reply : Reply) (V : List Write) → ((W : List Write) → change_of W request reply ≡ None) → Adds request reply V → V ≡ []

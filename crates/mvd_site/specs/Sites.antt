@@ -30,7 +30,7 @@ site_code = code_by (ConfigValue × (States × Bool)) (coded× config_code (code
 -- what a site keeps: no more keys than it may hold, and, unless it is broken, the digests of its keys
 pub record KeepsKeys (config : ConfigValue) (states : States) (tree : KeyDigests) (broken : Bool) : Type 0 where
   pub room : map_len states ≤ config.max_keys
-  pub tree : broken ≡ false → tree ≡ digests states
+  pub digested : broken ≡ false → tree ≡ digests states
 
 -- unless it is broken, the site's states are those of the writes
 abbrev pub SiteStands : SiteValue → List Write → Type 0

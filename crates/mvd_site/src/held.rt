@@ -2,7 +2,7 @@
 ghost use Rattle.std.specs.Prelude.{◌≡◌, ◌<◌, ◌+◌, ◌-◌, ◌^◌, IfSome, OnErr, OnOk};
 ghost use Rattle.std.specs.Option.{option_copied};
 ghost use Rattle.std.specs.FinMap as map;
-ghost use Rattle.mvd_site.specs.Held.{IsHeldState, IsKept, States};
+ghost use Rattle.mvd_site.specs.Held.{AreHeld, IsHeldState, IsKept, States};
 
 use mvd_keys::{Key, KeyState};
 use std::alloc::{AllocError, Global};
@@ -52,7 +52,8 @@ impl Held {
 
     /// The number of keys that are held.
     pub fn len(&self) -> usize
-        ensures { result ≡ map.len self.now }
+        ensures len { result ≡ map.len self.now }
+        ensures kept { AreHeld self.now }
     {
         self.states.len()
     }

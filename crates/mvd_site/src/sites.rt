@@ -259,10 +259,13 @@ impl Site {
 
     /// A page of a bucket.
     fn prepare_bucket(&self, path: &Path, after: Option<&Key>) -> Result<Prepared, Refusal>
-        ensures answer { self.now.broken ≡ false → PreparesReply (bucket_answer (digests self.now.states) path.now (option_copied after.entry)) result }
+        requires { self.now.broken ≡ false }
+        ensures answer { PreparesReply (bucket_answer (digests self.now.states) path.now (option_copied after.entry)) result }
         ensures ready { IfOk result (IsReady self.now) }
         ensures whole { IfErr result (λ refusal. refusal ≢ Broken) }
     {
+        // Here it is known that what is held are keys.
+        let _held = self.states.len();
         let (keys, is_more) = self.tree.bucket(path, after)?;
         Ok(Prepared::Answer(Reply::Keys(Items::new(keys), is_more)))
     }

@@ -165,7 +165,7 @@ impl Tree {
     /// The digests of a node's sixteen children, or `None` for a bucket. It takes no memory.
     pub fn children(&self, path: &Path) -> Option<[[u8; 32]; 16]>
         ensures inner { length path.now < 3 → result ≡ Some (children_digests self.now path.now) }
-        ensures bucket { length path.now ≡ 3 → result ≡ None }
+        ensures bucket { 3 ≤ length path.now → result ≡ None }
     {
         match digits_of(path) {
             [] => Some(all_or_zeros(&self.upper)),

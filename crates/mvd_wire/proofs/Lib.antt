@@ -11,6 +11,7 @@ pub mod RequestLaws
 pub mod RowFits
 pub mod RowLaws
 pub mod SentFrames
+pub mod SentPages
 pub mod Siblings
 pub mod Spellings
 pub mod Tagged

@@ -35,7 +35,7 @@ length_key : (k : Text) → length (key.spell k) ≡ length k + 1
 unfolding key raw
 length_key k = omega arith
 
-short_key : (k : Text) → is_key k ≡ true → length (key.spell k) ≤ 129
+pub short_key : (k : Text) → is_key k ≡ true → length (key.spell k) ≤ 129
 short_key k is =
     let parts = and_true (ltb 0 (length k) && leb (length k) 128) (list_all is_graphic k) is in
     let few : length k ≤ 128 = leb-true _ _ (and_true (ltb 0 (length k)) (leb (length k) 128) parts.0).1 in

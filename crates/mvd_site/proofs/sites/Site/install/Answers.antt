@@ -1,15 +1,20 @@
-use Rattle.std.proofs.Common.{◌≡◌, ◌≤◌, false, ap, sym, ◌∙◌, subst}
-use Rattle.std.specs.FinMap.{insert, len}
-use Rattle.mvd_site.specs.Held.{States}
+use Rattle.std.proofs.Common.{◌≡◌, false, Some, ap, sym, ◌∙◌}
+use Rattle.std.specs.FinMap.{insert}
+use Rattle.mvd_tree.specs.Change.{changed}
+use Rattle.mvd_tree.specs.States.{key_digest}
+use Rattle.mvd_site.specs.Answer.{spelled}
 use Rattle.mvd_site.specs.Sites.{SiteValue, has_no_room}
-use Rattle.mvd_site.proofs.HeldMaps.{room_left}
+use Rattle.mvd_site.proofs.Digested.{keeps_inserted}
+use Rattle.mvd_site.proofs.Outcomes.{where_ok}
 use Rattle.mvd_site.proofs.sites.Site.install.Goals as goal
 
-pub invariant_of-self : goal.invariant_of-self
-invariant_of-self c =
+pub invariant_of-self-in-Ok : goal.invariant_of-self-in-Ok
+invariant_of-self-in-Ok c =
     let key = c.args.change.key in
-    let room : has_no_room c.self.inside.config c.self.inside.states key ≡ false = ap (λ (s : SiteValue). has_no_room s.config s.states key) c.self.view_is ∙ c.requires.room in
-    let is : c.insert.new.self ≡ insert c.self.inside.states key c.args.change.state =
-    c.in-Ok.ensures.ok ∙ (λ i. insert c.self.inside.states (c.into_parts-key.ensures.key i) (c.into_parts-key.ensures.state i)) in
-    subst (λ (m : States). len m ≤ c.self.inside.config.max_keys) (sym is)
-    (room_left c.self.inside.config c.self.inside.states key c.args.change.state room c.self.invariant)
+    let states = c.self.inside.states in
+    let room : has_no_room c.self.inside.config states key ≡ false = ap (λ (s : SiteValue). has_no_room s.config s.states key) c.self.view_is ∙ c.requires.room in
+    let is : c.insert.new.self ≡ insert states key c.args.change.state =
+    c.in-Ok.ensures.ok ∙ (λ i. insert states (c.into_parts-key.ensures.key i) (c.into_parts-key.ensures.state i)) in
+    let digested : c.change-2.new.self ≡ changed c.self.inside.tree key (Some (key_digest spelled key c.args.change.state)) =
+    where_ok c.change-2.result _ c.change-2.ensures.ok c.if-is_err.ensures.value ∙ (λ i. changed c.self.inside.tree (c.into_parts-key.ensures.key i) (Some (c.digest-digest.ensures i))) in
+    keeps_inserted c.self.inside.config states c.insert.new.self c.self.inside.tree c.change-2.new.self c.self.inside.broken key c.args.change.state c.self.invariant room is digested

@@ -1,17 +1,28 @@
-use Rattle.std.proofs.Common.{◌≡◌, ◌≤◌, ap, sym, ◌∙◌, subst, length, arith}
-use Rattle.std.specs.FinMap.{from_entries, len}
+use Rattle.std.proofs.Common.{◌≡◌, ◌≤◌, T, ap, sym, ◌∙◌, subst, length, arith}
+use Rattle.std.specs.FinMap.{from_entries, is_sorted, len}
 use Rattle.mvd_keys.specs.Key.{key_cmp}
 use Rattle.mvd_keys.proofs.Parts.{holds}
 use Rattle.mvd_keys.specs.Writes.{Stands, Write}
-use Rattle.mvd_site.specs.Held.{AreHeld, States}
+use Rattle.mvd_site.specs.Held.{AreHeld, States, key_digests}
+use Rattle.mvd_tree.proofs.Held.{digests_rise}
+use Rattle.mvd_site.specs.Answer.{spelled}
+use Rattle.mvd_site.proofs.Digested.{keeps_opened}
 use Rattle.mvd_site.proofs.Opened.{rising_len, stands_for}
 use Rattle.mvd_site.proofs.sites.Site.open.Goals as goal
+
+pub open-requires : goal.open-requires
+open-requires c =
+    let entries = c.args.states.items in
+    let are : c.in_ok-digests_of.field-0.items ≡ key_digests entries = c.in_ok-digests_of.ensures.digests ∙ ap key_digests c.deref.ensures.value in
+    subst (λ l. T (is_sorted key_cmp l)) (sym are) (digests_rise spelled entries (holds _ c.requires.rising))
 
 pub invariant_of-result : goal.invariant_of-result
 invariant_of-result c =
     let entries = c.args.states.items in
     let size : len c.in_ok-held.held ≡ length entries = ap len c.in_ok-held.ensures.held ∙ rising_len entries (holds _ c.requires.rising) in
-    omega (arith, size, c.len.ensures, c.max_keys.ensures.max_keys)
+    let digested : c.in_ok-tree.tree ≡ from_entries (key_digests entries) =
+    c.in_ok-tree.ensures.ok ∙ ap from_entries (c.in_ok-digests_of.ensures.digests ∙ ap key_digests c.deref.ensures.value) in
+    keeps_opened c.args.config entries c.in_ok-held.held c.in_ok-tree.tree _ c.in_ok-held.ensures.held digested (omega (arith, size, c.len.ensures, c.max_keys.ensures.max_keys))
 
 pub returns-clause-stands : goal.returns-clause-stands
 returns-clause-stands c =

@@ -54,6 +54,9 @@ clash_cases s t refusal false e = cc
 pub join_err : (s t : State) (refusal : Refusal) → join_answer s t ≡ Err refusal → (clashes s t ≡ true) × (refusal ≡ DotClash)
 join_err s t refusal e = clash_cases s t refusal (clashes s t) e
 
+pub err_is : {A : Type 0} (refusal other : Refusal) → ◌≡◌ {A = Result A Refusal} (Err refusal) (Err other) → refusal ≡ other
+err_is refusal other e = cc
+
 -- what answered Ok was not broken
 pub whole_where_ok : {T : Type 0} (broken : Bool) (x : T) → (broken ≡ true → ◌≡◌ {A = Result T Refusal} (Ok x) (Err Broken)) → broken ≡ false
 whole_where_ok {T} true x says = let e : ◌≡◌ {A = Result T Refusal} (Ok x) (Err Broken) = says refl in cc

@@ -1,11 +1,23 @@
-use Rattle.std.proofs.Common.{◌≡◌, false, Ok, refl, ap, sym, ◌∙◌, subst}
+use Rattle.std.proofs.Common.{◌≡◌, true, false, Ok, refl, ap, sym, ◌∙◌, subst}
 use Rattle.mvd_site.specs.Prepared.{IsReady, Prepares}
 use Rattle.mvd_site.specs.Sites.{SiteValue, AnswersOne}
+use Rattle.mvd_dots.specs.declared.refusals.Refusal.TheVariants.{Broken}
+use Rattle.mvd_wire.specs.declared.reply.Reply.TheVariants.{Refused}
 use Rattle.mvd_wire.specs.Replies.{CanBeSent}
-use Rattle.mvd_site.proofs.Outcomes.{change_fits, plain_fits, refused_fits, whole_where_ok}
-use Rattle.mvd_site.proofs.Prepare.{answers_by_answer, answers_by_change}
+use Rattle.mvd_site.proofs.Outcomes.{change_plain, err_is, refused_fits, whole_where_ok}
+use Rattle.mvd_site.proofs.Prepare.{answers_broken, answers_by_answer, answers_by_change, answers_by_refusal}
 use Rattle.mvd_site.proofs.Runs.{fitting}
 use Rattle.mvd_site.proofs.sites.Site.answer.Goals as goal
+
+pub returns-in-Err-clause-answer : goal.returns-in-Err-clause-answer
+returns-in-Err-clause-answer c =
+    let old = c.args.self.now in
+    let request = c.args.request.now in
+    let refusal = c.in-Err.refusal in
+    elim old.broken as (λ b. old.broken ≡ b → AnswersOne old old request (Refused refusal)) [
+      | true ↦ λ broken. subst (λ r. AnswersOne old old request (Refused r)) (sym (err_is refusal Broken (c.in-Err.ensures.broken broken))) (answers_broken old request broken)
+      | false ↦ λ whole. answers_by_refusal old request refusal whole (λ known stands. c.in-Err.ensures.answer whole known stands)
+    ] refl
 
 pub returns-in-Ok-Answer-clause-answer : goal.returns-in-Ok-Answer-clause-answer
 returns-in-Ok-Answer-clause-answer c =
@@ -31,10 +43,10 @@ pub returns-in-Err-clause-fits : goal.returns-in-Err-clause-fits
 returns-in-Err-clause-fits c = refused_fits c.in-Err.refusal
 
 pub returns-in-Ok-Answer-clause-fits : goal.returns-in-Ok-Answer-clause-fits
-returns-in-Ok-Answer-clause-fits c = plain_fits c.in-Ok-Answer.reply (subst (λ p. IsReady c.args.self.now p) c.in-Ok-Answer.field-0-is c.in-Ok-Answer.ensures.ready)
+returns-in-Ok-Answer-clause-fits c = (subst (λ p. IsReady c.args.self.now p) c.in-Ok-Answer.field-0-is c.in-Ok-Answer.ensures.ready).fits
 
 pub returns-in-Ok-clause-fits : goal.returns-in-Ok-clause-fits
-returns-in-Ok-clause-fits c = subst CanBeSent (sym c.reply-reply.ensures) (change_fits c.in-Ok-Change.change.dot)
+returns-in-Ok-clause-fits c = subst CanBeSent (sym c.reply-reply.ensures) (change_plain c.in-Ok-Change.change.dot).fits
 
 pub returns-in-Err-install-clause-fits : goal.returns-in-Err-install-clause-fits
 returns-in-Err-install-clause-fits c = refused_fits c.in-Err-install.refusal

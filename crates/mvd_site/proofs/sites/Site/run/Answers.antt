@@ -1,5 +1,6 @@
-use Rattle.std.proofs.Common.{ap, sym, ◌∙◌, subst, subst₂, take, refl, ◌++◌, ◌∷◌, [], arith, length-append, length}
-use Rattle.std.proofs.lemmas.List.{take_more}
+use Rattle.std.proofs.Common.{◌≡◌, false, ap, sym, ◌∙◌, subst, subst₂, take, refl, ◌++◌, ◌∷◌, [], arith, length-append, length}
+use Rattle.std.proofs.lemmas.List.{take_all, take_more}
+use Rattle.std.specs.FinMap.{empty}
 use Rattle.mvd_site.specs.Sites.{SiteValue, SiteStands, AnswersAll}
 use Rattle.mvd_site.proofs.Runs.{AnswersAll-none, AnswersAll-push, HasChoice, HasChoice-push}
 use Rattle.mvd_site.proofs.Prepare.{Stands-none}
@@ -8,12 +9,13 @@ use Rattle.mvd_site.proofs.sites.Site.run.Goals as goal
 pub loop-request-init : goal.loop-request-init
 loop-request-init c =
     let config = c.args.config.now in
-    let site = c.new-site.result in
-    let stands : SiteStands site [] = λ _. Stands-none site.states (ap (λ (s : SiteValue). s.states) c.new-site.ensures) in
+    let site = c.in_ok-site.site in
+    let is : site ≡ record { config = c.copy.result; states = empty; broken = false } = cc (c.in_ok-site.ensures) in
+    let stands : SiteStands site [] = λ _. Stands-none site.states (ap (λ (s : SiteValue). s.states) is) in
     record {
-      answers = subst (AnswersAll config site []) (sym c.new-replies.ensures.items) (AnswersAll-none config site (ap (λ (s : SiteValue). s.broken) c.new-site.ensures) stands);
+      answers = subst (AnswersAll config site []) (sym c.new-replies.ensures.items) (AnswersAll-none config site (ap (λ (s : SiteValue). s.broken) is) stands);
       choice = ([], record { asked = refl; told = sym c.new-replies.ensures.items; fits = tt });
-      config = ap (λ (s : SiteValue). s.config) c.new-site.ensures ∙ c.copy.ensures;
+      config = ap (λ (s : SiteValue). s.config) is ∙ c.copy.ensures;
       count = ap length c.new-replies.ensures.items;
     }
 
@@ -35,3 +37,7 @@ loop-request-preserved c =
       config = c.answer-reply.ensures.config ∙ c.loop-request.invariant.config;
       count = grind (arith, length-append, c.in_ok-push.ensures.items, c.loop-request.invariant.count);
     }
+
+pub returns-clause-answers : goal.returns-clause-answers
+returns-clause-answers c =
+    subst (λ l. AnswersAll c.args.config.now c.loop-request.site l c.loop-request.replies.items) (take_all c.loop-request.request-index c.args.requests.now c.loop-request-test.false) c.loop-request.invariant.answers

@@ -15,6 +15,7 @@ pub enum Line<'a> {
 #[derive(Clone, Copy)]
 pub enum Command<'a> {
     Ask(Ask<'a>),
+    List(List<'a>),
     /// `send S K`
     Send { key: &'a str },
     /// `recv S M`
@@ -39,6 +40,26 @@ pub enum Ask<'a> {
     Get {
         key: &'a str,
     },
+    /// `row S V TERM`
+    Row {
+        view: &'a str,
+        term: &'a str,
+    },
+    /// `node S PATH`, and `root S`, whose path is `-`
+    Node {
+        path: &'a str,
+    },
+}
+
+/// What the site is asked page after page.
+#[derive(Clone, Copy)]
+pub enum List<'a> {
+    /// `find S F TERM`
+    Find { field: &'a str, term: &'a str },
+    /// `range S F PAIR`
+    Range { field: &'a str, terms: &'a str },
+    /// `rows S V`
+    Rows { view: &'a str },
 }
 
 /// The line that a text is, if it is one.
@@ -47,6 +68,10 @@ pub fn line_of(text: &str) -> Option<Line<'_>> {
     match name {
         "sites" => Some(Line::Sites(number_of(rest)?)),
         "max" => Some(Line::Max(number_of(rest)?)),
+        "root" => {
+            let root = Command::Ask(Ask::Node { path: "-" });
+            Some(Line::At(number_of(rest)?, root))
+        }
         _ => {
             let (site, rest) = rest.split_once(' ')?;
             Some(Line::At(number_of(site)?, command_of(name, rest)?))
@@ -60,6 +85,11 @@ fn command_of<'a>(name: &str, rest: &'a str) -> Option<Command<'a>> {
         "put" => Some(Command::Ask(put_of(rest)?)),
         "del" => Some(Command::Ask(delete_of(rest)?)),
         "get" => Some(Command::Ask(Ask::Get { key: last(rest)? })),
+        "node" => Some(Command::Ask(Ask::Node { path: last(rest)? })),
+        "row" => Some(Command::Ask(row_of(rest)?)),
+        "rows" => Some(Command::List(List::Rows { view: last(rest)? })),
+        "find" => Some(Command::List(find_of(rest)?)),
+        "range" => Some(Command::List(range_of(rest)?)),
         "send" => Some(Command::Send { key: last(rest)? }),
         "recv" => Some(Command::Receive {
             message: number_of(rest)?,
@@ -85,6 +115,23 @@ fn delete_of(rest: &str) -> Option<Ask<'_>> {
         key,
         context: last(context)?,
     })
+}
+
+/// A row, whose term is the rest of the line.
+fn row_of(rest: &str) -> Option<Ask<'_>> {
+    let (view, term) = rest.split_once(' ')?;
+    Some(Ask::Row { view, term })
+}
+
+fn find_of(rest: &str) -> Option<List<'_>> {
+    let (field, term) = rest.split_once(' ')?;
+    Some(List::Find { field, term })
+}
+
+/// A range, whose terms are the rest of the line.
+fn range_of(rest: &str) -> Option<List<'_>> {
+    let (field, terms) = rest.split_once(' ')?;
+    Some(List::Range { field, terms })
 }
 
 /// The last word of a line.

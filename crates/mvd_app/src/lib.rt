@@ -4,8 +4,11 @@
 mod command;
 mod fault;
 mod input;
+mod lists;
 mod order;
 mod play;
+mod printing;
+mod requests;
 mod script;
 
 pub use fault::Fault;

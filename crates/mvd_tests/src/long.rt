@@ -68,3 +68,16 @@ fn a_long_script(rt: HostRuntime) -> Result<(), Fail> {
     );
     Ok(())
 }
+
+#[test]
+fn digests_after_many_changes(rt: HostRuntime) -> Result<(), Fail> {
+    let mut script = String::from_str(rt.alloc(), "sites 1\n")?;
+    for turn in 0..50_000u32 {
+        let key = turn % 20_000;
+        writeln!(&mut script, "put 1 k{key} @ {{}}")?;
+        script.push_str("root 1\n")?;
+    }
+    let out = printed(rt.alloc(), script.as_str())?;
+    assert!(rt; out.as_str().ends_with("fe63bf067988a1893dd1d0f58fc1698996b8a74d032d73a900e3f9580aa48087\n"));
+    Ok(())
+}

@@ -46,8 +46,8 @@ const BASICS: [Case; 8] = [
     ),
     (
         "a message that comes again changes nothing",
-        "sites 2\nput 1 k - {\"v\":1}\nput 2 k - {\"v\":2}\nsend 2 k\nrecv 1 1\nrecv 1 1\nrecv 1 1\nrecv 1 1\nget 1 k\n",
-        "dot 1:1\ndot 2:1\nmessage 1\nok\nok\nok\nok\ncontext 1:1,2:1\n1:1 {\"v\":1}\n2:1 {\"v\":2}\n",
+        "sites 2\nput 1 k - {\"v\":1}\nput 2 k - {\"v\":2}\nsend 2 k\nrecv 1 1\nroot 1\nrecv 1 1\nrecv 1 1\nrecv 1 1\nroot 1\nget 1 k\n",
+        "dot 1:1\ndot 2:1\nmessage 1\nok\n886da2412097c18c39ad0a4bd1827a9efe5d5c91c03b91a0b3b7b8c0a8a97000\nok\nok\nok\n886da2412097c18c39ad0a4bd1827a9efe5d5c91c03b91a0b3b7b8c0a8a97000\ncontext 1:1,2:1\n1:1 {\"v\":1}\n2:1 {\"v\":2}\n",
     ),
     (
         "a put that was covered before it came stays invisible",
@@ -64,8 +64,8 @@ const LIMITS: [Case; 9] = [
     ),
     (
         "a delete that saw nothing makes no key",
-        "sites 1\nmax 1\ndel 1 k -\nget 1 k\nput 1 l - {}\n",
-        "ok\ncontext -\ndot 1:1\n",
+        "sites 1\nmax 1\ndel 1 k -\nget 1 k\nroot 1\nput 1 l - {}\n",
+        "ok\ncontext -\n0000000000000000000000000000000000000000000000000000000000000000\ndot 1:1\n",
     ),
     (
         "values that are no documents",
@@ -101,6 +101,19 @@ const LIMITS: [Case; 9] = [
         "wide sites",
         "sites 1\nput 1 k 70000:2 {\"a\":1}\nget 1 k\nput 1 k 4294967296:1 {}\n",
         "dot 1:1\ncontext 1:1,70000:2\n1:1 {\"a\":1}\nrefused 2 BadContext\n",
+    ),
+];
+
+const NODES: [Case; 2] = [
+    (
+        "nodes of the hash tree, as SHA-256 gives them",
+        "sites 1\nput 1 abc - {}\nnode 1 ba8\nnode 1 ba7\nnode 1 ba\nnode 1 -\n",
+        "dot 1:1\n0000000000000000000000000000000000000000000000000000000000000000\n57b496402e74bd3514d5dd13d7995b0795902e49914cd378b01c7a8a2b4da60e\n96ca74c5aa29e21c3d4b099483b58f6a4e39d234021352d34735de76796e63d3\n0bbd072618d939960857918444b01f18dddc3efa96f7b34854a4e6d4e866d107\n",
+    ),
+    (
+        "paths that are none",
+        "sites 1\nnode 1 xyz\nnode 1 BA7\nnode 1 ba77\nnode 1 \nroot 2\n",
+        "refused 14 BadPath\nrefused 14 BadPath\nrefused 14 BadPath\nrefused 14 BadPath\nnone such\n",
     ),
 ];
 
@@ -145,6 +158,15 @@ fn writes_meet(rt: HostRuntime) -> Result<(), Fail> {
 #[test]
 fn limits_are_kept(rt: HostRuntime) -> Result<(), Fail> {
     for (name, script, wanted) in LIMITS {
+        let out = printed(rt.alloc(), script)?;
+        assert_eq!(rt; out.as_str(), wanted, "{name}");
+    }
+    Ok(())
+}
+
+#[test]
+fn nodes_are_told(rt: HostRuntime) -> Result<(), Fail> {
+    for (name, script, wanted) in NODES {
         let out = printed(rt.alloc(), script)?;
         assert_eq!(rt; out.as_str(), wanted, "{name}");
     }

@@ -1,7 +1,7 @@
 //! Calls of a site that a script does not make.
 use mvd_docs::Document;
 use mvd_dots::{Context, Dot, Refusal};
-use mvd_keys::Key;
+use mvd_keys::{Key, Path};
 use mvd_site::{Config, Prepared, Site, counted};
 use mvd_wire::{Reply, Request, encode_state};
 use std::alloc::Global;
@@ -39,7 +39,7 @@ fn is_written(reply: &Reply, dot: Option<Dot>) -> bool {
 #[test]
 fn a_change_is_prepared_and_installed(rt: HostRuntime) -> Result<(), Fail> {
     let alloc = rt.alloc();
-    let mut site = Site::new(alloc, Config::new(7, 2));
+    let mut site = Site::new(alloc, Config::new(7, 2))?;
     let mut looks = 0;
     let request = put(alloc, "k", "-", "{\"a\":1}")?;
     match counted::prepare(&site, &request, &mut looks)? {
@@ -63,7 +63,7 @@ fn a_change_is_prepared_and_installed(rt: HostRuntime) -> Result<(), Fail> {
 #[test]
 fn what_changes_nothing_is_an_answer(rt: HostRuntime) -> Result<(), Fail> {
     let alloc = rt.alloc();
-    let mut site = Site::new(alloc, Config::new(1, 1));
+    let mut site = Site::new(alloc, Config::new(1, 1))?;
     assert!(rt; is_written(&site.answer(&put(alloc, "k", "-", "{}")?), Dot::new(1, 1)));
     let Reply::State(state) = site.answer(&get(alloc, "k")?) else {
         return Err(Fail::from("no state"));
@@ -91,5 +91,57 @@ fn a_site_is_run_and_opened(rt: HostRuntime) -> Result<(), Fail> {
     assert!(rt; shows(&replies[2], "3:2", 2)?);
     let opened = Site::open(alloc, Config::new(3, 1), Vec::new(alloc))?;
     assert_eq!(rt; opened.key_count(), 0);
+    Ok(())
+}
+
+/// The digest of the root.
+fn root(alloc: Global, site: &mut Site) -> Result<[u8; 32], Refusal> {
+    match site.answer(&Request::Node(Path::new(alloc, &[])?)) {
+        Reply::Digests(digests) => Ok(digests.own),
+        _ => Err(Refusal::BadKind),
+    }
+}
+
+/// The keys that a page of a bucket tells, and whether more follow.
+fn page(site: &mut Site, path: Path, after: Option<Key>) -> Result<(usize, bool), Refusal> {
+    match site.answer(&Request::Bucket(path, after)) {
+        Reply::Keys(keys, is_more) => Ok((keys.as_slice().len(), is_more)),
+        Reply::Refused(refusal) => Err(refusal),
+        _ => Err(Refusal::BadKind),
+    }
+}
+
+#[test]
+fn a_site_that_is_opened_has_the_same_digests(rt: HostRuntime) -> Result<(), Fail> {
+    let alloc = rt.alloc();
+    let mut site = Site::new(alloc, Config::new(3, 9))?;
+    site.answer(&put(alloc, "a", "-", "{}")?);
+    let Reply::State(state) = site.answer(&get(alloc, "a")?) else {
+        return Err(Fail::from("no state"));
+    };
+    let mut states = Vec::new(alloc);
+    states.push((Key::read(alloc, "a")?, state))?;
+    let mut opened = Site::open(alloc, Config::new(4, 1), states)?;
+    assert_eq!(rt; root(alloc, &mut opened)?, root(alloc, &mut site)?);
+    let bucket = page(&mut opened, Path::new(alloc, &[12, 10, 9])?, None)?;
+    assert_eq!(rt; bucket, (1, false));
+    let rest = page(&mut opened, Path::new(alloc, &[12, 10, 9])?, Some(Key::read(alloc, "a")?))?;
+    assert_eq!(rt; rest, (0, false));
+    let inner = page(&mut opened, Path::new(alloc, &[12, 10])?, None);
+    assert!(rt; matches!(&inner, Err(Refusal::BadPath)));
+    Ok(())
+}
+
+#[test]
+fn a_node_costs_no_look(rt: HostRuntime) -> Result<(), Fail> {
+    let alloc = rt.alloc();
+    let site = Site::new(alloc, Config::new(3, 9))?;
+    let mut looks = 0;
+    let node = counted::prepare(&site, &Request::Node(Path::new(alloc, &[])?), &mut looks)?;
+    assert!(rt; matches!(&node, Prepared::Answer(Reply::Digests(_))));
+    let bucket = Request::Bucket(Path::new(alloc, &[1, 2, 3])?, None);
+    let keys = counted::prepare(&site, &bucket, &mut looks)?;
+    assert!(rt; matches!(&keys, Prepared::Answer(Reply::Keys(_, false))));
+    assert_eq!(rt; looks, 0);
     Ok(())
 }

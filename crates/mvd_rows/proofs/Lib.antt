@@ -15,6 +15,7 @@ pub mod Places
 pub mod Ranges
 pub mod Reached
 pub mod Room
+pub mod Searching
 pub mod Sorted
 pub mod Spots
 pub mod Standing

@@ -70,6 +70,7 @@ impl Rows {
         meter: &mut Meter,
     ) -> Result<(), Refusal>
         requires rising { IsTrue (rises siblings.now) }
+        requires others_rise { IsTrue (rises others.now) }
         requires room { (visible : Visible) × (AreRowsOf self.old.indexes.items self.old.views.items visible × (IsSmall visible × HasSiblings visible key.now (pairs_of siblings.now))) }
         ensures rows { OnOk result ((visible : Visible) → AreRowsOf self.old.indexes.items self.old.views.items visible → HasSiblings visible key.now (pairs_of siblings.now) →
             AreRowsOf self.new.indexes.items self.new.views.items (taken_out visible key.now (not_among (pairs_of others.now) (pairs_of siblings.now)))) }
@@ -100,6 +101,7 @@ impl Rows {
         meter: &mut Meter,
     ) -> Result<(), Refusal>
         requires rising { IsTrue (rises siblings.now) }
+        requires others_rise { IsTrue (rises others.now) }
         requires room { (visible : Visible) × (AreRowsOf self.old.indexes.items self.old.views.items visible × (len visible + length siblings.now ≤ 2 ^ 40) × IsFreeOf visible key.now (pairs_of others.now) (pairs_of siblings.now)) }
         ensures rows { OnOk result ((visible : Visible) → AreRowsOf self.old.indexes.items self.old.views.items visible → IsFreeOf visible key.now (pairs_of others.now) (pairs_of siblings.now) →
             AreRowsOf self.new.indexes.items self.new.views.items (put_in visible key.now (not_among (pairs_of others.now) (pairs_of siblings.now)))) }

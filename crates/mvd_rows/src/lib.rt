@@ -20,3 +20,4 @@ pub use changes::Rows;
 pub use definitions::{Defs, ViewDef};
 pub use meters::Meter;
 pub use views::ShownRow;
+

@@ -1,4 +1,5 @@
 pub mod Asking
+pub mod Benches
 pub mod ByKey
 pub mod Changing
 pub mod Ends

@@ -14,10 +14,11 @@ mod meters;
 mod questions;
 mod siblings;
 mod tallies;
+#[cfg(test)]
+mod tests;
 mod views;
 
 pub use changes::Rows;
 pub use definitions::{Defs, ViewDef};
 pub use meters::Meter;
 pub use views::ShownRow;
-

@@ -20,7 +20,8 @@ use mvd_dots::Refusal;
 use mvd_keys::{Key, Sibling};
 use std::alloc::Global;
 
-/// The places of each index and the rows of each view.
+/// The places of each index and the rows of each view. They stand for a map of key states: every answer is the one that
+/// computing afresh from those states would give.
 #[derive(Drop)]
 pub struct Rows {
     pub(crate) alloc: Global,

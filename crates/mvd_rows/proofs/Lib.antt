@@ -1,4 +1,5 @@
 pub mod Asking
+pub mod Benches
 pub mod ByKey
 pub mod Changing
 pub mod Ends
@@ -15,6 +16,7 @@ pub mod Places
 pub mod Ranges
 pub mod Reached
 pub mod Room
+pub mod Searching
 pub mod Sorted
 pub mod Spots
 pub mod Standing

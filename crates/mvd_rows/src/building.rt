@@ -70,7 +70,7 @@ fn new_views(alloc: Global, defs: &[ViewDef]) -> Result<Vec<View>, Refusal>
 }
 
 impl Rows {
-    /// The rows of these definitions, for a map with no keys.
+    /// The rows of these definitions, for a map with no keys. It is refused only for want of memory.
     #[tactic(auto, using(crate::proofs::Nothing::nothing_visible))]
     pub fn new(alloc: Global, defs: Defs) -> Result<Rows, Refusal>
         ensures stands { IfOk result (λ rows. IsRowsOf rows defs empty) }

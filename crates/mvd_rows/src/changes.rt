@@ -20,7 +20,8 @@ use mvd_dots::Refusal;
 use mvd_keys::{Key, Sibling};
 use std::alloc::Global;
 
-/// The places of each index and the rows of each view.
+/// The places of each index and the rows of each view. They stand for a map of key states: every answer is the one that
+/// computing afresh from those states would give.
 #[derive(Drop)]
 pub struct Rows {
     pub(crate) alloc: Global,
@@ -70,6 +71,7 @@ impl Rows {
         meter: &mut Meter,
     ) -> Result<(), Refusal>
         requires rising { IsTrue (rises siblings.now) }
+        requires others_rise { IsTrue (rises others.now) }
         requires room { (visible : Visible) × (AreRowsOf self.old.indexes.items self.old.views.items visible × (IsSmall visible × HasSiblings visible key.now (pairs_of siblings.now))) }
         ensures rows { OnOk result ((visible : Visible) → AreRowsOf self.old.indexes.items self.old.views.items visible → HasSiblings visible key.now (pairs_of siblings.now) →
             AreRowsOf self.new.indexes.items self.new.views.items (taken_out visible key.now (not_among (pairs_of others.now) (pairs_of siblings.now)))) }
@@ -100,6 +102,7 @@ impl Rows {
         meter: &mut Meter,
     ) -> Result<(), Refusal>
         requires rising { IsTrue (rises siblings.now) }
+        requires others_rise { IsTrue (rises others.now) }
         requires room { (visible : Visible) × (AreRowsOf self.old.indexes.items self.old.views.items visible × (len visible + length siblings.now ≤ 2 ^ 40) × IsFreeOf visible key.now (pairs_of others.now) (pairs_of siblings.now)) }
         ensures rows { OnOk result ((visible : Visible) → AreRowsOf self.old.indexes.items self.old.views.items visible → IsFreeOf visible key.now (pairs_of others.now) (pairs_of siblings.now) →
             AreRowsOf self.new.indexes.items self.new.views.items (put_in visible key.now (not_among (pairs_of others.now) (pairs_of siblings.now)))) }

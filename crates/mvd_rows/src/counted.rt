@@ -1,5 +1,5 @@
 //! What `Rows` do, with the work that it took: how many entries of the kept rows were put in, taken
-//! out or altered, and how many looks were made at them.
+//! out or altered, and how many looks were made at them. Each count handed in is at most `2^63`.
 ghost use Rattle.std.specs.Prelude.{◌≡◌, ◌≢◌, ◌≤◌, ◌^◌, ◌+◌, ◌*◌, Ok, Err, OnOk, IfOk, IfErr, length};
 ghost use Rattle.std.specs.FinMap.{FinMap, insert, len};
 ghost use Rattle.mvd_dots.specs.declared.refusals.Refusal.TheVariants.{Broken, Memory};
@@ -21,8 +21,8 @@ use mvd_docs::{Field, Term, ViewName};
 use mvd_dots::{Dot, Refusal};
 use mvd_keys::{Key, KeyState, Place};
 
-/// From standing for a map in which the key has the old state to standing for it with the new one there.
-/// What stands in both costs no update. After a refusal, which is `Broken`, the rows stand for nothing.
+/// `Rows::change`. For each sibling that stands in one of the two states alone it makes at most one update for each index
+/// and two for each view; one that stands in both costs none.
 pub fn change(
     rows: &mut Rows,
     key: &Key,
@@ -44,7 +44,7 @@ pub fn change(
     }
 }
 
-/// The first thousand places of a term after a key and a dot, and whether more are left.
+/// `Rows::find`, by no update and at most 1,100 looks.
 pub fn find(
     rows: &Rows,
     field: &Field,
@@ -70,7 +70,7 @@ pub fn find(
     Ok((places, more))
 }
 
-/// The first thousand places of the terms from one to another, both included, after a place, and whether more are left.
+/// `Rows::range`, by no update and at most 1,100 looks.
 pub fn range(
     rows: &Rows,
     field: &Field,
@@ -94,7 +94,7 @@ pub fn range(
     Ok((places, more))
 }
 
-/// A group's count, its sum, and the least and the greatest whole number that stands there. It takes no memory.
+/// `Rows::row`, by no update and at most 64 looks.
 pub fn row(
     rows: &Rows,
     name: &ViewName,
@@ -112,7 +112,7 @@ pub fn row(
     Ok((row.count, row.sum, row.ends))
 }
 
-/// The first thousand rows of a view after a term, and whether more are left.
+/// `Rows::rows`, by no update and at most 1,100 looks.
 pub fn rows(
     rows: &Rows,
     name: &ViewName,

@@ -40,6 +40,7 @@ impl Model for Defs {
 }
 
 impl ViewDef {
+    /// The same view.
     pub fn copy(&self, alloc: Global) -> Result<ViewDef, Refusal>
         ensures { IsAnswer result (Ok self.now) }
     {
@@ -96,7 +97,7 @@ impl Defs {
         }
     }
 
-    /// One more index. A second one of the field, and a seventeenth, is refused.
+    /// One more index. A second one of the field, and a seventeenth, is `BadDefs`. A refusal changes nothing.
     pub fn index(&mut self, field: Field) -> Result<(), Refusal>
         ensures ok { OnOk result (with_index self.old field ≡ Ok self.new) }
         ensures refused { IfErr result (λ refusal. refusal ≢ Refusal.Memory → with_index self.old field ≡ Err refusal) }
@@ -109,7 +110,8 @@ impl Defs {
         Ok(())
     }
 
-    /// One more view. A second one of the name, and a seventeenth, is refused.
+    /// One more view: documents are grouped by the term at `group`, and the whole numbers at `sum` are added up.
+    /// A second one of the name, and a seventeenth, is `BadDefs`. A refusal changes nothing.
     pub fn view(&mut self, name: ViewName, group: Field, sum: Field) -> Result<(), Refusal>
         ensures ok { OnOk result (with_view self.old (record { name = name; group = group; sum = sum }) ≡ Ok self.new) }
         ensures refused { IfErr result (λ refusal. refusal ≢ Refusal.Memory → with_view self.old (record { name = name; group = group; sum = sum }) ≡ Err refusal) }
@@ -136,6 +138,7 @@ impl Defs {
         &self.views
     }
 
+    /// The same definitions.
     pub fn copy(&self) -> Result<Defs, Refusal>
         ensures { IsAnswer result (Ok self.now) }
     {

@@ -2,7 +2,8 @@
 ghost use Rattle.std.specs.Prelude.{◌≡◌};
 ghost use Rattle.mvd_rows.specs.Counted.{CountsUpdate, CountsLook};
 
-/// How many entries were put in, taken out or altered, and how many were looked at.
+/// How many entries of the kept rows were put in, taken out or altered, and how many were looked at: looked up by key,
+/// or taken from a walk. A count that is full, at `2^64 - 1`, stays there.
 #[derive(Clone, Copy, Debug)]
 pub struct Meter {
     pub updates: u64,

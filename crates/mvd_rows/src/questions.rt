@@ -87,8 +87,9 @@ impl Rows {
         None
     }
 
-    /// From standing for a map in which the key has the old state to standing for it with the new one
-    /// there. What stands in both is not touched. After a refusal, which is `Broken`, the rows stand for nothing.
+    /// From standing for a map in which the key has the old state, empty where it is not held, to standing for that map
+    /// with the new state there. What stands in both is not touched. The map has at most `2^20` keys, and each state at
+    /// most `2^16` siblings. The one refusal is `Broken`, for want of memory: after it the rows stand for nothing.
     pub fn change(&mut self, key: &Key, old: &KeyState, new: &KeyState) -> Result<(), Refusal>
         requires { (defs : Definitions) × (states : FinMap key_cmp State) × (IsRowsOf self.old defs states × (state_in states key.now ≡ old.now) × IsRoomy states × (len new.now.siblings ≤ 2 ^ 16)) }
         ensures stands { OnOk result ((defs : Definitions) (states : FinMap key_cmp State) → IsRowsOf self.old defs states → state_in states key.now ≡ old.now →
@@ -99,7 +100,8 @@ impl Rows {
         counted::change(self, key, old, new, &mut meter)
     }
 
-    /// The first thousand places of a term after a key and a dot, and whether more are left. `NoIndex` where the field has no index.
+    /// The first thousand places of a term, in their order, strictly after a key and a dot, and whether more are left.
+    /// `NoIndex` where the field has no index.
     pub fn find(
         &self,
         field: &Field,
@@ -115,8 +117,8 @@ impl Rows {
         counted::find(self, field, term, after, &mut meter)
     }
 
-    /// The first thousand places of the terms from one to another, both included, after a place, and whether more are left.
-    /// `NoIndex` where the field has no index.
+    /// The first thousand places of the terms from one to another, both included, in their order, strictly after a place,
+    /// and whether more are left. None where `from` is greater than `to`. `NoIndex` where the field has no index.
     pub fn range(
         &self,
         field: &Field,
@@ -133,8 +135,8 @@ impl Rows {
         counted::range(self, field, from, to, after, &mut meter)
     }
 
-    /// A group's count, its sum, and the least and the greatest whole number that stands there. `NoView` where no view has the name.
-    /// It takes no memory.
+    /// A group's count of siblings, the sum of their whole numbers, and the least and the greatest of these, if any: 0, 0
+    /// and none for a group in which nothing stands. `NoView` where no view has the name. It takes no memory.
     pub fn row(
         &self,
         name: &ViewName,
@@ -146,7 +148,8 @@ impl Rows {
         counted::row(self, name, term, &mut meter)
     }
 
-    /// The first thousand rows of a view after a term, and whether more are left. `NoView` where no view has the name.
+    /// The first thousand rows of a view, by rising term, strictly after a term, and whether more are left. `NoView` where
+    /// no view has the name.
     pub fn rows(
         &self,
         name: &ViewName,

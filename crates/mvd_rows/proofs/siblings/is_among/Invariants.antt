@@ -1,7 +1,14 @@
-use Rattle.std.proofs.Common.{◌≡◌, drop}
-use Rattle.mvd_keys.specs.State.{pair_of, pairs_of}
-use Rattle.mvd_rows.specs.Changes.{is_among}
+use Rattle.std.proofs.Common.{◌≤◌, ◌-◌, length}
+use Rattle.mvd_rows.proofs.Searching.{AllAbove, AllBelow}
 use Rattle.mvd_rows.proofs.siblings.is_among.Given as goal
 
-abbrev pub invariant-loop-other : goal.invariant-loop-other
-invariant-loop-other l = is_among (pairs_of l.others) (pair_of l.sibling) ≡ is_among (pairs_of (drop l.other-index l.others)) (pair_of l.sibling)
+abbrev pub invariant-loop-low : goal.invariant-loop-low
+invariant-loop-low l = record {
+  met : l.low ≤ l.high;
+  within : l.high ≤ length l.others;
+  below : AllBelow l.others l.sibling.dot l.low;
+  above : AllAbove l.others l.sibling.dot l.high;
+}
+
+abbrev pub decreases-loop-low : goal.decreases-loop-low
+decreases-loop-low l = l.high - l.low

@@ -55,16 +55,16 @@ roomy_empty = record {
     not_some : (s : State) → ◌≡◌ {A = Option State} None (Some s) → ⊥
     not_some s e = cc
 
-pub roomy_changed : (m : FinMap key_cmp State) (key : Key) (s : State) (n : ℕ) → IsRoomy m → len m ≤ n → n + 1 ≤ 2 ^ 20 → len s.siblings ≤ 2 ^ 16 → IsRoomy (insert m key s)
+pub roomy_changed : (m : FinMap key_cmp State) (key : Key) (s : State) (n : ℕ) → IsRoomy m → len m ≤ n → n + 1 ≤ 2 ^ 20 → len s.siblings ≤ 2 ^ 17 → IsRoomy (insert m key s)
 roomy_changed m key s n roomy few room small = record {
   keys = (let h = one_more m key s n few in omega arith);
-  siblings = λ q t found. elim (eq_by_cmp key_cmp q key) as (λ b. cond b (Some s) (get m q) ≡ Some t → len t.siblings ≤ 2 ^ 16) [
-    | true ↦ λ e. let same : s ≡ t = cc in subst (λ (x : State). len x.siblings ≤ 2 ^ 16) same small
+  siblings = λ q t found. elim (eq_by_cmp key_cmp q key) as (λ b. cond b (Some s) (get m q) ≡ Some t → len t.siblings ≤ 2 ^ 17) [
+    | true ↦ λ e. let same : s ≡ t = cc in subst (λ (x : State). len x.siblings ≤ 2 ^ 17) same small
     | false ↦ λ e. roomy.siblings q t e
   ] (sym (get-insert key_total m key s q) ∙ found);
 }
 
-pub few_siblings : (s : State) (siblings : List Sibling) → pairs_of siblings ≡ entries s.siblings → length siblings ≤ 2 ^ 16 → len s.siblings ≤ 2 ^ 16
+pub few_siblings : (s : State) (siblings : List Sibling) → pairs_of siblings ≡ entries s.siblings → length siblings ≤ 2 ^ 16 → len s.siblings ≤ 2 ^ 17
 few_siblings s siblings e few =
     let size : length (pairs_of siblings) ≡ length siblings = length-map _ _ in
     let same = ap length e in

@@ -99,7 +99,7 @@ len_of_entries (e ∷ es) =
     let i = len-insert spots_total (from_entries es) e.0 e.1 in
     omega arith
 
-few_in : (es : Held) → T (is_sorted key_cmp es) → ((key : Key) (s : State) → find key_cmp key es ≡ Some s → len s.siblings ≤ 2 ^ 16) → length (all_of es) ≤ length es * 2 ^ 16
+few_in : (es : Held) → T (is_sorted key_cmp es) → ((key : Key) (s : State) → find key_cmp key es ≡ Some s → len s.siblings ≤ 2 ^ 17) → length (all_of es) ≤ length es * 2 ^ 17
 few_in [] sorted few = omega arith
 few_in (e ∷ es) sorted few =
     let own = few e.0 e.1 (ap (λ b. cond b (Some e.1) (find key_cmp e.0 es)) (tied_itself_key e.0)) in
@@ -109,7 +109,7 @@ few_in (e ∷ es) sorted few =
     let sum = length-append (siblings_at e.0 e.1.siblings) (all_of es) in
     omega arith
 
-pub few_visible : (states : FinMap key_cmp State) → IsRoomy states → len (visible_in states) ≤ 2 ^ 36
+pub few_visible : (states : FinMap key_cmp State) → IsRoomy states → len (visible_in states) ≤ 2 ^ 37
 unfolding visible_in
 few_visible states roomy =
     let some = len_of_entries (all_of (entries states)) in

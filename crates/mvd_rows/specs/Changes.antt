@@ -45,7 +45,7 @@ state_in states key = unwrap_or (get states key) empty_state
 -- no more keys and siblings than a site holds: far fewer than 2^40 siblings in all
 pub record IsRoomy (states : FinMap key_cmp State) : Type 0 where
   pub keys : len states ≤ 2 ^ 20
-  pub siblings : (key : Key) (state : State) → get states key ≡ Some state → len state.siblings ≤ 2 ^ 16
+  pub siblings : (key : Key) (state : State) → get states key ≡ Some state → len state.siblings ≤ 2 ^ 17
 
 -- how many siblings stand in one of two states alone
 abbrev pub differing : State → State → ℕ

@@ -30,7 +30,7 @@ pub fn change(
     new: &KeyState,
     meter: &mut Meter,
 ) -> Result<(), Refusal>
-    requires room { (defs : Definitions) × (states : FinMap key_cmp State) × (IsRowsOf rows.old defs states × (state_in states key.now ≡ old.now) × IsRoomy states × (len new.now.siblings ≤ 2 ^ 16)) }
+    requires room { (defs : Definitions) × (states : FinMap key_cmp State) × (IsRowsOf rows.old defs states × (state_in states key.now ≡ old.now) × IsRoomy states × (len new.now.siblings ≤ 2 ^ 17)) }
     requires counts { (meter.old.updates ≤ 2 ^ 63) × (meter.old.looks ≤ 2 ^ 63) }
     ensures stands { OnOk result ((defs : Definitions) (states : FinMap key_cmp State) → IsRowsOf rows.old defs states → state_in states key.now ≡ old.now →
         IsRowsOf rows.new defs (insert states key.now new.now)) }

@@ -89,9 +89,9 @@ impl Rows {
 
     /// From standing for a map in which the key has the old state, empty where it is not held, to standing for that map
     /// with the new state there. What stands in both is not touched. The map has at most `2^20` keys, and each state at
-    /// most `2^16` siblings. The one refusal is `Broken`, for want of memory: after it the rows stand for nothing.
+    /// most `2^17` siblings. The one refusal is `Broken`, for want of memory: after it the rows stand for nothing.
     pub fn change(&mut self, key: &Key, old: &KeyState, new: &KeyState) -> Result<(), Refusal>
-        requires { (defs : Definitions) × (states : FinMap key_cmp State) × (IsRowsOf self.old defs states × (state_in states key.now ≡ old.now) × IsRoomy states × (len new.now.siblings ≤ 2 ^ 16)) }
+        requires { (defs : Definitions) × (states : FinMap key_cmp State) × (IsRowsOf self.old defs states × (state_in states key.now ≡ old.now) × IsRoomy states × (len new.now.siblings ≤ 2 ^ 17)) }
         ensures stands { OnOk result ((defs : Definitions) (states : FinMap key_cmp State) → IsRowsOf self.old defs states → state_in states key.now ≡ old.now →
             IsRowsOf self.new defs (insert states key.now new.now)) }
         ensures broken { IfErr result (λ refusal. refusal ≡ Broken) }

@@ -12,6 +12,8 @@ use Rattle.mvd_keys.specs.Key.{is_key, key_cmp}
 use Rattle.mvd_keys.specs.State.{State}
 use Rattle.mvd_keys.specs.Writes.{Key}
 use Rattle.mvd_keys.proofs.KeyOrder.{key_antisymmetric, key_total, same_where_tied}
+use Rattle.mvd_rows.specs.Stands.{IsRowsOf}
+use Rattle.mvd_rows.specs.declared.changes.Rows.{Rows}
 use Rattle.mvd_tree.specs.Change.{changed}
 use Rattle.mvd_tree.specs.HashTree.{KeyDigests, digest_above, digest_unless_empty, digits, is_under, node_digest, zero_digest}
 use Rattle.mvd_tree.specs.Page.{children_digests, is_after, page_of, rest_of}
@@ -45,28 +47,32 @@ behind key s first second whole one two all = record {
   within = grind (arith, length-append, all);
 }
 
--- ---- the tree of a site
+-- ---- what a site keeps
 
 -- with no key, and with no key more than it may have
-pub keeps_none : (config : ConfigValue) (states : States) (tree : KeyDigests) (broken : Bool) → states ≡ empty → tree ≡ empty → KeepsKeys config states tree broken
-keeps_none config states tree broken none no_digest = record {
+pub keeps_none : (config : ConfigValue) (states : States) (tree : KeyDigests) (rows : Rows) (broken : Bool) → states ≡ empty → tree ≡ empty → IsRowsOf rows config.defs empty → KeepsKeys config states tree rows broken
+keeps_none config states tree rows broken none no_digest no_row = record {
   room = subst (λ (m : States). len m ≤ config.max_keys) (sym none) (subst (λ n. n ≤ config.max_keys) (sym (len-empty key_cmp State)) (omega arith));
   digested = λ _. no_digest ∙ sym (ap digests none ∙ digests_of-empty spelled);
+  listed = λ _. subst (IsRowsOf rows config.defs) (sym none) no_row;
 }
 
 -- opened with rising entries
-pub keeps_opened : (config : ConfigValue) (entries : List (Key × State)) (states : States) (tree : KeyDigests) (broken : Bool) → states ≡ from_entries entries → tree ≡ from_entries (key_digests entries) → len states ≤ config.max_keys → KeepsKeys config states tree broken
-keeps_opened config entries states tree broken are digested few = record {
+pub keeps_opened : (config : ConfigValue) (entries : List (Key × State)) (states : States) (tree : KeyDigests) (rows : Rows) (broken : Bool) → states ≡ from_entries entries → tree ≡ from_entries (key_digests entries) →
+    IsRowsOf rows config.defs (from_entries entries) → len states ≤ config.max_keys → KeepsKeys config states tree rows broken
+keeps_opened config entries states tree rows broken are digested listed few = record {
   room = few;
   digested = λ _. digested ∙ sym (ap digests are ∙ digests_of-entries spelled entries);
+  listed = λ _. subst (IsRowsOf rows config.defs) (sym are) listed;
 }
 
 -- and with one key's state put in
-pub keeps_inserted : (config : ConfigValue) (states after : States) (tree grown : KeyDigests) (broken : Bool) (key : Key) (s : State) → KeepsKeys config states tree broken → has_no_room config states key ≡ false →
-    after ≡ insert states key s → grown ≡ changed tree key (Some (key_digest spelled key s)) → KeepsKeys config after grown broken
-keeps_inserted config states after tree grown broken key s keeps room is digested = record {
+pub keeps_inserted : (config : ConfigValue) (states after : States) (tree grown : KeyDigests) (rows listed : Rows) (broken : Bool) (key : Key) (s : State) → KeepsKeys config states tree rows broken → has_no_room config states key ≡ false →
+    after ≡ insert states key s → grown ≡ changed tree key (Some (key_digest spelled key s)) → (IsRowsOf rows config.defs states → IsRowsOf listed config.defs (insert states key s)) → KeepsKeys config after grown listed broken
+keeps_inserted config states after tree grown rows listed broken key s keeps room is digested follows = record {
   room = subst (λ (m : States). len m ≤ config.max_keys) (sym is) (room_left config states key s room keeps.room);
   digested = λ whole. digested ∙ ap (λ t. changed t key (Some (key_digest spelled key s))) (keeps.digested whole) ∙ sym (ap digests is ∙ digests_of-insert spelled states key s);
+  listed = λ whole. subst (IsRowsOf listed config.defs) (sym is) (follows (keeps.listed whole));
 }
 
 -- ---- what is told of a node

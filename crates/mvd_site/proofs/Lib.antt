@@ -1,9 +1,11 @@
 pub mod Digested
 pub mod HeldMaps
 pub mod KnownKeys
+pub mod Listed
 pub mod Lengths
 pub mod Opened
 pub mod Outcomes
 pub mod Prepare
+pub mod Room
 pub mod Runs
 pub mod Steps

@@ -1,7 +1,7 @@
 -- The map of rising entries, and a set of writes that it stands for.
-use Rattle.std.proofs.Common.{◌≡◌, Bool, true, false, not, ◌&&◌, cond, List, [], ◌∷◌, ◌++◌, Option, Some, None, refl, sym, ap, ap₂, ◌∙◌, subst, true≢false, T, is_some, unwrap_or, arith, ℕ, ◌+◌, suc, ◌<◌, length, map, take, drop, get_or}
+use Rattle.std.proofs.Common.{◌≡◌, Bool, true, false, not, ◌&&◌, cond, List, [], ◌∷◌, ◌++◌, Option, Some, None, refl, sym, ap, ap₂, ◌∙◌, subst, true≢false, T, is_some, unwrap_or, arith, ℕ, ◌+◌, zero, suc, ◌<◌, length, map, take, drop, get_or}
 use Rattle.std.proofs.Math.Seq.{split_at}
-use Rattle.std.proofs.lemmas.List.{map-id}
+use Rattle.std.proofs.lemmas.List.{map-id, take_more}
 use Rattle.std.specs.List.{AllByRecursion}
 use Rattle.std.specs.declared.cmp.Ordering.{Ordering}
 use Rattle.std.specs.declared.cmp.Ordering.TheVariants.{Less, Equal, Greater}
@@ -112,3 +112,22 @@ rising_len (e ∷ es) rises =
     len-insert key_total (from_entries es) e.0 e.1
     ∙ ap (λ o. cond (is_some o) (len (from_entries {R = key_cmp} es)) (len (from_entries {R = key_cmp} es) + 1)) (missing e es rises)
     ∙ (let rest : len (from_entries {R = key_cmp} es) ≡ length es = rising_len es (second_true (below_all key_cmp e.0 es) _ rises) in omega arith)
+
+-- a rising entry is of none of the keys before it
+pub fresh_at : (es : List Entry) (i : ℕ) (e : Entry) → T (is_sorted key_cmp es) → i < length es → e ≡ get_or es i e → get (from_entries {R = key_cmp} (take i es)) e.0 ≡ None
+fresh_at es i e rises low is =
+    get-from_entries key_total (take i es) e.0
+    ∙ find_before (take i es) e (drop (suc i) es) (subst (λ l. T (is_sorted key_cmp l)) (split_at es i e low ∙ ap (λ x. take i es ++ x ∷ drop (suc i) es) (sym is)) rises)
+
+-- to put it in is to have one entry more
+pub next_at : (es : List Entry) (i : ℕ) (e : Entry) → T (is_sorted key_cmp es) → i < length es → e ≡ get_or es i e → insert (from_entries {R = key_cmp} (take i es)) e.0 e.1 ≡ from_entries (take (i + 1) es)
+next_at es i e rises low is =
+    sym (from_entries_push key_total key_antisymmetric (take i es) e.0 e.1
+    (find_before (take i es) e (drop (suc i) es) (subst (λ l. T (is_sorted key_cmp l)) (split_at es i e low ∙ ap (λ x. take i es ++ x ∷ drop (suc i) es) (sym is)) rises)))
+    ∙ ap (λ l. from_entries {R = key_cmp} l) (sym (take_more es i e low ∙ ap (λ x. take i es ++ x ∷ []) (sym is)))
+
+-- what holds of each, holds of one of them
+pub each_at : (P : Entry → Type 0) (es : List Entry) (i : ℕ) (e : Entry) → AllByRecursion P es → i < length es → e ≡ get_or es i e → P e
+each_at P [] i e all low is = absurd (omega (arith, low))
+each_at P (x ∷ es) zero e all low is = subst P (sym is) all.0
+each_at P (x ∷ es) (suc i) e all low is = each_at P es i e all.1 (omega (arith, low)) is

@@ -1,5 +1,5 @@
 -- What is prepared is the answer, and what is installed follows the writes known.
-use Rattle.std.proofs.Common.{◌≡◌, ◌≢◌, ◌⊎◌, ℕ, Bool, true, false, ◌||◌, if◌then◌else◌, List, [], ◌∷◌, ◌++◌, Option, Some, None, IfSome, IsSomeAnd, Result, Ok, Err, refl, sym, ap, ap₂, ◌∙◌, subst, true≢false, inl, inr, ⊎_elim}
+use Rattle.std.proofs.Common.{◌≡◌, ◌≢◌, ◌⊎◌, Bool, true, false, ◌||◌, if◌then◌else◌, List, [], ◌∷◌, ◌++◌, Option, Some, None, IfSome, IsSomeAnd, Result, Ok, Err, refl, sym, ap, ap₂, ◌∙◌, subst, true≢false, inl, inr, ⊎_elim}
 use Rattle.std.specs.FinMap.{get, get-empty, empty as empty_map, insert as insert_at}
 use Rattle.std.specs.FinSet.{contains, union, contains-union}
 use Rattle.mvd_dots.specs.Dot.{DotValue}
@@ -15,7 +15,7 @@ use Rattle.mvd_keys.proofs.Held.{no_writes}
 use Rattle.mvd_keys.proofs.StatesOfWrites.{state-put, state-delete}
 use Rattle.mvd_keys.proofs.Lists.{mint-unseen}
 use Rattle.mvd_wire.specs.declared.request.Request.{Request}
-use Rattle.mvd_wire.specs.declared.request.Request.TheVariants.{Bucket, Put, Delete, Push}
+use Rattle.mvd_wire.specs.declared.request.Request.TheVariants.{Put, Delete, Push}
 use Rattle.mvd_wire.specs.declared.reply.Reply.{Reply}
 use Rattle.mvd_wire.specs.declared.reply.Reply.TheVariants.{Written, Done, Refused}
 use Rattle.mvd_site.specs.Answer.{answer, change_of, is_too_large, put_answer, within_limits}
@@ -105,12 +105,12 @@ pub pushed_clash : (site : SiteValue) (known : List Write) (key : Key) (pushed :
 pushed_clash site known key pushed stands small clash =
     sym (ap₂ (push_answer site.config known key pushed) small (ap (λ s. clashes s pushed) (sym (state_at-stands site.states known key stands)) ∙ clash))
 
--- a page of a bucket changes nothing
-pub prepares_bucket : (config : ConfigValue) (known : List Write) (path : List ℕ) (after : Option Key) (result : Result Prepared Refusal) →
-    PreparesReply (answer config known (Bucket path after)) result → Prepares config known (Bucket path after) result
-prepares_bucket config known path after (Err refusal) gives = gives
-prepares_bucket config known path after (Ok (Answer reply)) gives = record { answers = gives; still = tt }
-prepares_bucket config known path after (Ok (Change change)) gives = absurd gives
+-- a question changes nothing
+pub prepares_reply : (config : ConfigValue) (known : List Write) (request : Request) (result : Result Prepared Refusal) → ((reply : Reply) → change_of known request reply ≡ None) →
+    PreparesReply (answer config known request) result → Prepares config known request result
+prepares_reply config known request (Err refusal) nothing gives = gives
+prepares_reply config known request (Ok (Answer reply)) nothing gives = record { answers = gives; still = subst (λ o. IfSome o (λ c. c.1 ≡ state c.0 known)) (sym (nothing reply)) tt }
+prepares_reply config known request (Ok (Change change)) nothing gives = absurd gives
 
 -- ---- the step
 

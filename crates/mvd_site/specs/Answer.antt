@@ -2,16 +2,21 @@
 --
 -- The answers are those of a multi-value register at each key (Shapiro, Preguiça, Baquero, Zawirski, INRIA RR-7506):
 -- each is computed from the whole set of writes, and no state that a site keeps stands in it.
-use Rattle.std.specs.Prelude.{ℕ, Bool, not, ◌&&◌, ◌==◌, nat_lt, if◌then◌else◌, List, [], ◌∷◌, ◌++◌, length, map, Option, Some, None}
+use Rattle.std.specs.Prelude.{ℕ, ℤ, Bool, not, ◌&&◌, ◌==◌, nat_lt, if◌then◌else◌, List, [], ◌∷◌, ◌++◌, length, map, Option, Some, None, Result, Ok, Err}
 use Rattle.std.specs.FinMap.{FinMap, from_entries}
 use Rattle.std.specs.FinSet.{union, contains, items, len}
 use Rattle.mvd_dots.specs.Dot.{DotValue}
 use Rattle.mvd_dots.specs.Context.{DotSet}
-use Rattle.mvd_dots.specs.declared.refusals.Refusal.TheVariants.{Exhausted, StateTooLarge, Full, DotClash, NoIndex, NoView, BadPath}
+use Rattle.mvd_dots.specs.declared.refusals.Refusal.{Refusal}
+use Rattle.mvd_dots.specs.declared.refusals.Refusal.TheVariants.{Exhausted, StateTooLarge, Full, DotClash, BadPath}
 use Rattle.mvd_keys.specs.Key.{key_cmp}
 use Rattle.mvd_keys.specs.Minting.{mint}
 use Rattle.mvd_keys.specs.State.{State, Text, clashes, join}
 use Rattle.mvd_keys.specs.Writes.{Key, Write, Wrote, Deleted, context, is_empty, keys, state}
+use Rattle.mvd_docs.specs.declared.term.Term.{Term}
+use Rattle.mvd_keys.specs.declared.places.Place.{Place}
+use Rattle.mvd_rows.specs.Answers.{find_answer, range_answer, row_answer, rows_answer}
+use Rattle.mvd_rows.specs.Visible.{visible}
 use Rattle.mvd_tree.specs.HashTree.{KeyDigests, node_digest}
 use Rattle.mvd_tree.specs.Page.{children_digests, is_more_after_page, page_of}
 use Rattle.mvd_tree.specs.States.{digests_of}
@@ -20,8 +25,9 @@ use Rattle.mvd_wire.specs.Kinds.{key as spelled_key, spell_state, state_limit}
 use Rattle.mvd_wire.specs.declared.request.Request.{Request}
 use Rattle.mvd_wire.specs.declared.request.Request.TheVariants.{Get, Put, Delete, Find, Row, Rows, Node, Bucket, Push, Range, Bye}
 use Rattle.mvd_wire.specs.declared.reply.Reply.{Reply}
-use Rattle.mvd_wire.specs.declared.reply.Reply.TheVariants.{State as Shown, Written, Done, Digests as Told, Keys, Refused}
+use Rattle.mvd_wire.specs.declared.reply.Reply.TheVariants.{State as Shown, Written, Done, Places, Row as RowTold, Rows as RowsTold, Digests as Told, Keys, Refused}
 use Rattle.mvd_wire.specs.declared.reply.Digests.{Digests}
+use Rattle.mvd_wire.specs.declared.reply.RowValue.{RowValue}
 use Rattle.mvd_site.specs.Config.{ConfigValue}
 
 -- the state's spelling is longer than it may be
@@ -66,9 +72,26 @@ node_digests held path = record { own = node_digest held path; children = if nat
 abbrev pub bucket_answer : KeyDigests → List ℕ → Option Key → Reply
 bucket_answer held path after = if length path == 3 then Keys (page_of held path after) (is_more_after_page held path after) else Refused BadPath
 
+-- ---- indexes and views
+
+-- a page of places, or why there is none
+abbrev pub places_reply : Result (List Place × Bool) Refusal → Reply
+places_reply (Ok page) = Places page.0 page.1
+places_reply (Err refusal) = Refused refusal
+
+-- a row of a view, or why there is none
+abbrev pub row_reply : Result (ℕ × ℤ × Option (ℤ × ℤ)) Refusal → Reply
+row_reply (Ok row) = RowTold (record { count = row.0; sum = row.1; ends = row.2 })
+row_reply (Err refusal) = Refused refusal
+
+-- a page of a view's rows, or why there is none
+abbrev pub rows_reply : Result (List (Term × ℕ × ℤ × Option (ℤ × ℤ)) × Bool) Refusal → Reply
+rows_reply (Ok page) = RowsTold page.0 page.1
+rows_reply (Err refusal) = Refused refusal
+
 -- ---- all requests
 
--- The answer to a request, from the writes known. No field has an index, and there is no view
+-- The answer to a request, from the writes known
 abbrev pub answer : ConfigValue → List Write → Request → Reply
 answer config known (Get key) = Shown (state key known)
 answer config known (Put key seen document) = put_answer config known key seen document (mint config.site (union (context key known) seen))
@@ -77,10 +100,10 @@ answer config known (Push key pushed) =
     if is_too_large pushed then Refused StateTooLarge
     else if clashes (state key known) pushed then Refused DotClash
     else within_limits config known key (join (state key known) pushed) Done
-answer config known (Find field term after) = Refused NoIndex
-answer config known (Range field from to after) = Refused NoIndex
-answer config known (Row view term) = Refused NoView
-answer config known (Rows view after) = Refused NoView
+answer config known (Find field term after) = places_reply (find_answer config.defs (visible known) field term after)
+answer config known (Range field from to after) = places_reply (range_answer config.defs (visible known) field from to after)
+answer config known (Row view term) = row_reply (row_answer config.defs (visible known) view term)
+answer config known (Rows view after) = rows_reply (rows_answer config.defs (visible known) view after)
 answer config known (Node path) = Told (node_digests (digests (states_of known)) path)
 answer config known (Bucket path after) = bucket_answer (digests (states_of known)) path after
 answer config known Bye = Done

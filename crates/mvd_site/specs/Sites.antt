@@ -10,6 +10,8 @@ use Rattle.mvd_keys.specs.Writes.{Agree, Key, Stands, Write, is_empty}
 use Rattle.mvd_wire.specs.declared.request.Request.{Request}
 use Rattle.mvd_wire.specs.declared.reply.Reply.{Reply}
 use Rattle.mvd_wire.specs.declared.reply.Reply.TheVariants.{Refused}
+use Rattle.mvd_rows.specs.Stands.{IsRowsOf}
+use Rattle.mvd_rows.specs.declared.changes.Rows.{Rows}
 use Rattle.mvd_tree.specs.HashTree.{KeyDigests}
 use Rattle.mvd_site.specs.Answer.{digests, is_too_large}
 use Rattle.mvd_site.specs.Config.{ConfigValue, config_code}
@@ -27,10 +29,11 @@ site_code = code_by (ConfigValue × (States × Bool)) (coded× config_code (code
     (λ s. (s.config, (s.states, s.broken)))
     (λ p. record { config = p.0; states = p.1.0; broken = p.1.1 }) (λ _. refl)
 
--- what a site keeps: no more keys than it may hold, and, unless it is broken, the digests of its keys
-pub record KeepsKeys (config : ConfigValue) (states : States) (tree : KeyDigests) (broken : Bool) : Type 0 where
+-- what a site keeps: no more keys than it may hold, and, unless it is broken, the digests of its keys, and the rows of its indexes and views
+pub record KeepsKeys (config : ConfigValue) (states : States) (tree : KeyDigests) (rows : Rows) (broken : Bool) : Type 0 where
   pub room : map_len states ≤ config.max_keys
   pub digested : broken ≡ false → tree ≡ digests states
+  pub listed : broken ≡ false → IsRowsOf rows config.defs states
 
 -- unless it is broken, the site's states are those of the writes
 abbrev pub SiteStands : SiteValue → List Write → Type 0

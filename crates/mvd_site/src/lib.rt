@@ -5,7 +5,9 @@ pub mod changes;
 pub mod config;
 pub mod counted;
 mod held;
+mod listing;
 mod opening;
+mod questions;
 pub mod sites;
 
 pub use changes::{Change, Prepared};

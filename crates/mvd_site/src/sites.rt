@@ -1,6 +1,5 @@
 //! One site.
 ghost use Rattle.std.specs.Prelude.{◌≡◌, ◌≢◌, ◌≤◌, ◌+◌, ◌^◌, ℕ, List, false, true, None, Some, Err, Ok, is_some, length, IfOk, IfErr, OnOk, IsTrue};
-ghost use Rattle.std.specs.Option.{option_copied};
 ghost use Rattle.std.specs.List.{AllByRecursion};
 ghost use Rattle.std.specs.FinMap as map;
 ghost use Rattle.mvd_dots.specs.Answer.{IsAnswer};
@@ -11,23 +10,25 @@ ghost use Rattle.mvd_keys.specs.Key.{key_cmp};
 ghost use Rattle.mvd_keys.specs.State.{IsValid, empty_state};
 ghost use Rattle.mvd_keys.specs.Writes.{Write, Stands, is_empty};
 ghost use Rattle.mvd_wire.specs.declared.request.Request.TheVariants.{Get, Put, Delete, Push};
-ghost use Rattle.mvd_wire.specs.declared.reply.Reply.TheVariants.{Digests as Told, Refused};
+ghost use Rattle.mvd_wire.specs.declared.reply.Reply.TheVariants.{Refused};
 ghost use Rattle.mvd_wire.specs.Replies.{CanBeSent};
 ghost use Rattle.mvd_site.specs.Held.{IsHeldState, IsKept, state_at};
 ghost use Rattle.mvd_site.specs.Known.{Adds, Event, IsValidRequest, Tells};
-ghost use Rattle.mvd_site.specs.Prepared.{IsPlain, IsReady, LimitsTo, Prepares, PreparesAt, PreparesReply};
-ghost use Rattle.mvd_site.specs.Answer.{bucket_answer, digests, node_digests};
+ghost use Rattle.mvd_rows.specs.Changes.{IsRoomy};
+ghost use Rattle.mvd_site.specs.Prepared.{IsReady, LimitsTo, Prepares, PreparesAt};
 ghost use Rattle.mvd_site.specs.Sites.{AnswersAll, AnswersOne, SiteValue, has_no_room, opened};
 
 use crate::changes::{Change, Prepared, reply_of};
 use crate::config::Config;
 use crate::held::Held;
+use crate::listing::{change_rows, rows_of};
 use crate::opening::{digests_of, held_of};
 use mvd_docs::Document;
 use mvd_dots::{Context, Dot, Refusal};
-use mvd_keys::{Key, KeyState, Path};
+use mvd_keys::{Key, KeyState};
+use mvd_rows::Rows;
 use mvd_tree::Tree;
-use mvd_wire::{Digests, Items, Reply, Request, state_length};
+use mvd_wire::{Reply, Request, state_length};
 use std::alloc::Global;
 use std::marker::Model;
 
@@ -37,10 +38,11 @@ const STATE_MAX: u64 = 1_150_000;
 /// The states of the keys that one site holds, and the answers to requests from them.
 #[derive(Drop)]
 pub struct Site {
-    alloc: Global,
+    pub(crate) alloc: Global,
     config: Config,
-    states: Held,
-    tree: Tree,
+    pub(crate) states: Held,
+    pub(crate) tree: Tree,
+    pub(crate) rows: Rows,
     broken: bool,
 }
 
@@ -53,7 +55,7 @@ impl Model for Site {
 
     ghost view = { λ s. record { config = s.config; states = s.states; broken = s.broken } };
 
-    ghost invariant = { λ s. KeepsKeys s.config s.states s.tree s.broken };
+    ghost invariant = { λ s. KeepsKeys s.config s.states s.tree s.rows s.broken };
 }
 
 impl Site {
@@ -62,11 +64,13 @@ impl Site {
         ensures { IsAnswer result (Ok (record { config = config; states = map.empty; broken = false })) }
     {
         let tree = Tree::new(alloc)?;
+        let rows = Rows::new(alloc, config.defs().copy()?)?;
         Ok(Site {
             alloc,
             config,
             states: Held::new(alloc),
             tree,
+            rows,
             broken: false,
         })
     }
@@ -87,12 +91,14 @@ impl Site {
             return Err(Refusal::Full);
         }
         let tree = Tree::open(alloc, digests_of(alloc, &states)?)?;
+        let rows = rows_of(alloc, config.defs(), &states)?;
         let held = held_of(alloc, states)?;
         Ok(Site {
             alloc,
             config,
             states: held,
             tree,
+            rows,
             broken: false,
         })
     }
@@ -156,10 +162,10 @@ impl Site {
             Request::Put(key, seen, document) => self.prepare_put(key, seen, document, looks),
             Request::Delete(key, seen) => self.prepare_delete(key, seen, looks),
             Request::Push(key, pushed) => self.prepare_push(key, pushed, looks),
-            Request::Find(_, _, _) => Err(Refusal::NoIndex),
-            Request::Range(_, _, _, _) => Err(Refusal::NoIndex),
-            Request::Row(_, _) => Err(Refusal::NoView),
-            Request::Rows(_, _) => Err(Refusal::NoView),
+            Request::Find(field, term, after) => self.prepare_find(field, term, after),
+            Request::Range(field, from, to, after) => self.prepare_range(field, from, to, after),
+            Request::Row(view, term) => self.prepare_row(view, term),
+            Request::Rows(view, after) => self.prepare_rows(view, after),
             Request::Node(path) => Ok(Prepared::Answer(self.node(path))),
             Request::Bucket(path, after) => self.prepare_bucket(path, after.as_ref()),
             Request::Bye => Ok(Prepared::Answer(Reply::Done)),
@@ -246,30 +252,6 @@ impl Site {
         }
     }
 
-    /// The digests of a node and of its children.
-    fn node(&self, path: &Path) -> Reply
-        ensures answer { self.now.broken ≡ false → result ≡ Told (node_digests (digests self.now.states) path.now) }
-        ensures plain { IsPlain result }
-    {
-        Reply::Digests(Digests {
-            own: self.tree.node(path),
-            children: self.tree.children(path),
-        })
-    }
-
-    /// A page of a bucket.
-    fn prepare_bucket(&self, path: &Path, after: Option<&Key>) -> Result<Prepared, Refusal>
-        requires { self.now.broken ≡ false }
-        ensures answer { PreparesReply (bucket_answer (digests self.now.states) path.now (option_copied after.entry)) result }
-        ensures ready { IfOk result (IsReady self.now) }
-        ensures whole { IfErr result (λ refusal. refusal ≢ Broken) }
-    {
-        // Here it is known that what is held are keys.
-        let _held = self.states.len();
-        let (keys, is_more) = self.tree.bucket(path, after)?;
-        Ok(Prepared::Answer(Reply::Keys(Items::new(keys), is_more)))
-    }
-
     /// Whether the key is held, and its state or the empty one. This is one look.
     fn look<'a>(&'a self, key: &Key, empty: &'a KeyState, looks: &mut u64) -> (bool, &'a KeyState)
         requires few { looks.old ≤ 2 ^ 63 }
@@ -314,6 +296,14 @@ impl Site {
         Ok(Prepared::Change(change))
     }
 
+    /// Here it is known that there are few keys, and few siblings of each.
+    fn few(&self)
+        ensures { IsRoomy self.now.states }
+    {
+        let _most = self.config.max_keys();
+        let _held = self.states.len();
+    }
+
     /// Puts in the change of one key, and changes no other. Where memory is refused the site is broken from then on.
     pub fn install(&mut self, change: Change) -> Result<(), Refusal>
         requires room { has_no_room self.old.config self.old.states change.key ≡ false }
@@ -324,9 +314,11 @@ impl Site {
         if self.broken {
             return Err(Refusal::Broken);
         }
+        self.few();
         let digest = change.digest();
         let (key, state) = change.into_parts();
-        if self.tree.change(&key, Some(digest)).is_err() {
+        let digested = self.tree.change(&key, Some(digest)).is_ok();
+        if !digested || change_rows(self.alloc, &mut self.rows, &self.states, &key, &state).is_err() {
             self.broken = true;
             return Err(Refusal::Broken);
         }
@@ -378,7 +370,7 @@ impl Site {
         ensures count { IfOk result (λ done. length done.1.items ≡ length requests.now) }
         ensures only { IfErr result (λ refusal. refusal ≡ Memory) }
     {
-        let mut site = Site::new(alloc, config.copy())?;
+        let mut site = Site::new(alloc, config.copy()?)?;
         let mut replies = Vec::new(alloc);
         for request in requests {
             let reply = site.answer(request);

@@ -10,12 +10,13 @@ pub loop-request-init : goal.loop-request-init
 loop-request-init c =
     let config = c.args.config.now in
     let site = c.in_ok-site.site in
-    let is : site ≡ record { config = c.copy.result; states = empty; broken = false } = cc (c.in_ok-site.ensures) in
+    let is : site ≡ record { config = c.in_ok-copy.field-0; states = empty; broken = false } = cc (c.in_ok-site.ensures) in
+    let copied : config ≡ c.in_ok-copy.field-0 = cc (c.in_ok-copy.ensures) in
     let stands : SiteStands site [] = λ _. Stands-none site.states (ap (λ (s : SiteValue). s.states) is) in
     record {
       answers = subst (AnswersAll config site []) (sym c.new-replies.ensures.items) (AnswersAll-none config site (ap (λ (s : SiteValue). s.broken) is) stands);
       choice = ([], record { asked = refl; told = sym c.new-replies.ensures.items; fits = tt });
-      config = ap (λ (s : SiteValue). s.config) is ∙ c.copy.ensures;
+      config = ap (λ (s : SiteValue). s.config) is ∙ sym copied;
       count = ap length c.new-replies.ensures.items;
     }
 

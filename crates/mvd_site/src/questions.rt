@@ -1,0 +1,141 @@
+//! Questions to the hash tree, the indexes and the views: they change nothing, and make no look at the held states.
+ghost use Rattle.std.specs.Prelude.{◌≡◌, ◌≢◌, false, IfErr, IfOk, Ok};
+ghost use Rattle.std.specs.Option.{option_copied};
+ghost use Rattle.mvd_dots.specs.Answer.{IsAnswer};
+ghost use Rattle.mvd_dots.specs.declared.refusals.Refusal.TheVariants.{Broken};
+ghost use Rattle.mvd_rows.specs.Answers.{find_answer, range_answer, row_answer, rows_answer};
+ghost use Rattle.mvd_rows.specs.Visible.{visible_in};
+ghost use Rattle.mvd_wire.specs.declared.reply.Reply.TheVariants.{Digests as Told};
+ghost use Rattle.mvd_site.specs.Answer.{bucket_answer, digests, node_digests, places_reply, row_reply, rows_reply};
+ghost use Rattle.mvd_site.specs.Prepared.{IsPlain, IsReady, PreparesReply};
+
+use crate::changes::Prepared;
+use crate::sites::Site;
+use mvd_docs::{Field, Term, ViewName};
+use mvd_dots::{Dot, Refusal};
+use mvd_keys::{Key, Path, Place};
+use mvd_wire::{Digests, Items, Reply, RowValue};
+use std::alloc::Global;
+
+impl Site {
+    /// The digests of a node and of its children.
+    pub(crate) fn node(&self, path: &Path) -> Reply
+        ensures answer { self.now.broken ≡ false → result ≡ Told (node_digests (digests self.now.states) path.now) }
+        ensures plain { IsPlain result }
+    {
+        Reply::Digests(Digests {
+            own: self.tree.node(path),
+            children: self.tree.children(path),
+        })
+    }
+
+    /// A page of a bucket.
+    pub(crate) fn prepare_bucket(
+        &self,
+        path: &Path,
+        after: Option<&Key>,
+    ) -> Result<Prepared, Refusal>
+        requires { self.now.broken ≡ false }
+        ensures answer { PreparesReply (bucket_answer (digests self.now.states) path.now (option_copied after.entry)) result }
+        ensures ready { IfOk result (IsReady self.now) }
+        ensures whole { IfErr result (λ refusal. refusal ≢ Broken) }
+    {
+        // Here it is known that what is held are keys.
+        let _held = self.states.len();
+        let (keys, is_more) = self.tree.bucket(path, after)?;
+        Ok(Prepared::Answer(Reply::Keys(Items::new(keys), is_more)))
+    }
+
+    /// A page of the places of a term.
+    pub(crate) fn prepare_find(
+        &self,
+        field: &Field,
+        term: &Term,
+        after: &Option<(Key, Dot)>,
+    ) -> Result<Prepared, Refusal>
+        requires { self.now.broken ≡ false }
+        ensures answer { PreparesReply (places_reply (find_answer self.now.config.defs (visible_in self.now.states) field.now term.now after.now)) result }
+        ensures ready { IfOk result (IsReady self.now) }
+        ensures whole { IfErr result (λ refusal. refusal ≢ Broken) }
+    {
+        // Here it is known that what is held are keys.
+        let _held = self.states.len();
+        let after = copy_spot(self.alloc, after)?;
+        let (places, is_more) = self.rows.find(field, term, after)?;
+        Ok(Prepared::Answer(Reply::Places(Items::new(places), is_more)))
+    }
+
+    /// A page of the places of the terms from one to another.
+    pub(crate) fn prepare_range(
+        &self,
+        field: &Field,
+        from: &Term,
+        to: &Term,
+        after: &Option<Place>,
+    ) -> Result<Prepared, Refusal>
+        requires { self.now.broken ≡ false }
+        ensures answer { PreparesReply (places_reply (range_answer self.now.config.defs (visible_in self.now.states) field.now from.now to.now after.now)) result }
+        ensures ready { IfOk result (IsReady self.now) }
+        ensures whole { IfErr result (λ refusal. refusal ≢ Broken) }
+    {
+        // Here it is known that what is held are keys.
+        let _held = self.states.len();
+        let after = copy_place(self.alloc, after)?;
+        let (places, is_more) = self.rows.range(field, from, to, after)?;
+        Ok(Prepared::Answer(Reply::Places(Items::new(places), is_more)))
+    }
+
+    /// A row of a view.
+    pub(crate) fn prepare_row(&self, view: &ViewName, term: &Term) -> Result<Prepared, Refusal>
+        requires { self.now.broken ≡ false }
+        ensures answer { PreparesReply (row_reply (row_answer self.now.config.defs (visible_in self.now.states) view.now term.now)) result }
+        ensures ready { IfOk result (IsReady self.now) }
+        ensures whole { IfErr result (λ refusal. refusal ≢ Broken) }
+    {
+        let (count, sum, ends) = self.rows.row(view, term)?;
+        Ok(Prepared::Answer(Reply::Row(RowValue { count, sum, ends })))
+    }
+
+    /// A page of a view's rows.
+    pub(crate) fn prepare_rows(
+        &self,
+        view: &ViewName,
+        after: &Option<Term>,
+    ) -> Result<Prepared, Refusal>
+        requires { self.now.broken ≡ false }
+        ensures answer { PreparesReply (rows_reply (rows_answer self.now.config.defs (visible_in self.now.states) view.now after.now)) result }
+        ensures ready { IfOk result (IsReady self.now) }
+        ensures whole { IfErr result (λ refusal. refusal ≢ Broken) }
+    {
+        let after = copy_term(self.alloc, after)?;
+        let (rows, is_more) = self.rows.rows(view, after)?;
+        Ok(Prepared::Answer(Reply::Rows(Items::new(rows), is_more)))
+    }
+}
+
+fn copy_spot(alloc: Global, spot: &Option<(Key, Dot)>) -> Result<Option<(Key, Dot)>, Refusal>
+    ensures { IsAnswer result (Ok spot.now) }
+{
+    match spot {
+        Some((key, dot)) => Ok(Some((key.copy(alloc)?, *dot))),
+        None => Ok(None),
+    }
+}
+
+fn copy_place(alloc: Global, place: &Option<Place>) -> Result<Option<Place>, Refusal>
+    ensures { IsAnswer result (Ok place.now) }
+{
+    match place {
+        Some(place) => Ok(Some(place.copy(alloc)?)),
+        None => Ok(None),
+    }
+}
+
+fn copy_term(alloc: Global, term: &Option<Term>) -> Result<Option<Term>, Refusal>
+    ensures { IsAnswer result (Ok term.now) }
+{
+    match term {
+        Some(term) => Ok(Some(term.copy(alloc)?)),
+        None => Ok(None),
+    }
+}

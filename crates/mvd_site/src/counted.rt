@@ -1,8 +1,8 @@
 //! Calls that count their work.
-ghost use Rattle.std.specs.Prelude.{◌≡◌, ◌≤◌, ◌+◌, ◌^◌, ◌≢◌, true, IfOk, IfErr, Err};
+ghost use Rattle.std.specs.Prelude.{◌≡◌, ◌≤◌, ◌+◌, ◌^◌, ◌≢◌, true, false, IfOk, IfErr, Err};
 ghost use Rattle.mvd_dots.specs.declared.refusals.Refusal.TheVariants.{Broken};
 ghost use Rattle.mvd_site.specs.Known.{IsValidRequest};
-ghost use Rattle.mvd_site.specs.Prepared.{IsReady, PreparesAt};
+ghost use Rattle.mvd_site.specs.Prepared.{IsReady, PreparesAt, is_of_state};
 
 use crate::changes::Prepared;
 use crate::sites::Site;
@@ -17,7 +17,8 @@ pub fn prepare(site: &Site, request: &Request, looks: &mut u64) -> Result<Prepar
     ensures valid { IfOk result (λ _. IsValidRequest request.now) }
     ensures broken { site.now.broken ≡ true → result ≡ Err Broken }
     ensures whole { IfErr result (λ refusal. refusal ≡ Broken → site.now.broken ≡ true) }
-    // At most one look.
+    // At most one look, and none for a question to the hash tree, an index or a view.
+    ensures none { is_of_state request.now ≡ false → looks.new ≡ looks.old }
     ensures from { looks.old ≤ looks.new }
     ensures to { looks.new ≤ looks.old + 1 }
 {

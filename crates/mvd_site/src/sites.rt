@@ -15,7 +15,7 @@ ghost use Rattle.mvd_wire.specs.Replies.{CanBeSent};
 ghost use Rattle.mvd_site.specs.Held.{IsHeldState, IsKept, state_at};
 ghost use Rattle.mvd_site.specs.Known.{Adds, Event, IsValidRequest, Tells};
 ghost use Rattle.mvd_rows.specs.Changes.{IsRoomy};
-ghost use Rattle.mvd_site.specs.Prepared.{IsReady, LimitsTo, Prepares, PreparesAt};
+ghost use Rattle.mvd_site.specs.Prepared.{IsReady, LimitsTo, Prepares, PreparesAt, is_of_state};
 ghost use Rattle.mvd_site.specs.Sites.{AnswersAll, AnswersOne, SiteValue, has_no_room, opened};
 
 use crate::changes::{Change, Prepared, reply_of};
@@ -151,6 +151,7 @@ impl Site {
         ensures valid { IfOk result (λ _. IsValidRequest request.now) }
         ensures broken { self.now.broken ≡ true → result ≡ Err Broken }
         ensures whole { IfErr result (λ refusal. refusal ≡ Broken → self.now.broken ≡ true) }
+        ensures none { is_of_state request.now ≡ false → looks.new ≡ looks.old }
         ensures from { looks.old ≤ looks.new }
         ensures to { looks.new ≤ looks.old + 1 }
     {

@@ -7,8 +7,20 @@ pub enum Line<'a> {
     Sites(u64),
     /// `max N`
     Max(u64),
+    /// `index F`
+    Index(&'a str),
+    /// `view V G S`
+    View(View<'a>),
     /// A command, on the site of this number.
     At(u64, Command<'a>),
+}
+
+/// A view, as it is written: its name, the field that groups, and the field that is summed.
+#[derive(Clone, Copy)]
+pub struct View<'a> {
+    pub name: &'a str,
+    pub group: &'a str,
+    pub sum: &'a str,
 }
 
 /// What is to be done at a site. Texts are not read yet.
@@ -68,6 +80,8 @@ pub fn line_of(text: &str) -> Option<Line<'_>> {
     match name {
         "sites" => Some(Line::Sites(number_of(rest)?)),
         "max" => Some(Line::Max(number_of(rest)?)),
+        "index" => Some(Line::Index(rest)),
+        "view" => Some(Line::View(view_of(rest)?)),
         "root" => {
             let root = Command::Ask(Ask::Node { path: "-" });
             Some(Line::At(number_of(rest)?, root))
@@ -77,6 +91,12 @@ pub fn line_of(text: &str) -> Option<Line<'_>> {
             Some(Line::At(number_of(site)?, command_of(name, rest)?))
         }
     }
+}
+
+fn view_of(rest: &str) -> Option<View<'_>> {
+    let (name, rest) = rest.split_once(' ')?;
+    let (group, sum) = rest.split_once(' ')?;
+    Some(View { name, group, sum })
 }
 
 /// The command of a name, with what stands behind the site.

@@ -7,6 +7,7 @@ use crate::printing::{none_such, print_message, print_refusal, print_reply};
 use crate::requests::{request_of, state_of};
 use mvd_dots::Refusal;
 use mvd_keys::{Key, KeyState};
+use mvd_rows::Defs;
 use mvd_site::{Config, Site};
 use mvd_wire::Request;
 use std::alloc::Global;
@@ -27,8 +28,13 @@ pub struct Play {
 }
 
 impl Play {
-    /// This many sites with no key, each of which may hold `max_keys` keys.
-    pub fn new(alloc: Global, count: u32, max_keys: u32) -> Result<Play, Refusal>
+    /// This many sites with no key, each of which may hold `max_keys` keys and has these indexes and views.
+    pub fn new(
+        alloc: Global,
+        count: u32,
+        max_keys: u32,
+        defs: &Defs,
+    ) -> Result<Play, Refusal>
         requires few { count ≤ 16 }
         requires low { 0 < max_keys }
         requires high { max_keys ≤ 1000000 }
@@ -36,7 +42,8 @@ impl Play {
     {
         let mut sites = Vec::new(alloc);
         for site in 0..count {
-            sites.push(Site::new(alloc, Config::new(site + 1, max_keys))?)?;
+            let config = Config::new(site + 1, max_keys, defs.copy()?);
+            sites.push(Site::new(alloc, config)?)?;
         }
         Ok(Play {
             alloc,

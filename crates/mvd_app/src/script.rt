@@ -3,11 +3,13 @@ ghost use Rattle.std.specs.Prelude.{◌<◌, ◌≤◌, IfErr};
 ghost use Rattle.std.specs.Option.{ForSome};
 ghost use Rattle.mvd_app.specs.Ends.{EndsEarly};
 
-use crate::command::{Command, Line, line_of};
+use crate::command::{Command, Line, View, line_of};
 use crate::fault::Fault;
 use crate::input::read_input;
 use crate::play::Play;
+use mvd_docs::{Field, ViewName};
 use mvd_dots::Refusal;
+use mvd_rows::Defs;
 use std::alloc::Global;
 use std::io::{Read, Write};
 
@@ -32,11 +34,12 @@ struct Head {
     ghost in_range: { ForSome max_keys (λ n. (0 < n) × (n ≤ 1000000)) },
 }
 
-/// A script as far as it has been read: first its head, and then its sites.
+/// A script as far as it has been read: first its head, with its indexes and views, and then its sites.
 #[derive(Drop)]
 struct Script {
     alloc: Global,
     head: Option<Head>,
+    defs: Defs,
     play: Option<Play>,
 }
 
@@ -45,6 +48,7 @@ impl Script {
         Script {
             alloc,
             head: None,
+            defs: Defs::new(alloc),
             play: None,
         }
     }
@@ -63,6 +67,8 @@ impl Script {
         let is_taken = match line_of(text) {
             Some(Line::Sites(count)) => self.set_sites(count),
             Some(Line::Max(count)) => self.set_max(count),
+            Some(Line::Index(field)) => self.set_index(field)?,
+            Some(Line::View(view)) => self.set_view(view)?,
             Some(Line::At(site, command)) => self.command(site, command, out)?,
             None => false,
         };
@@ -101,6 +107,31 @@ impl Script {
         true
     }
 
+    /// Whether indexes and views may be set: between the number of sites and the first command.
+    fn is_in_head(&self) -> bool {
+        self.head.is_some() && self.play.is_none()
+    }
+
+    /// Whether this may be one more index.
+    fn set_index(&mut self, field: &str) -> Result<bool, Fault>
+        ensures { IfErr result EndsEarly }
+    {
+        if !self.is_in_head() {
+            return Ok(false);
+        }
+        taken(add_index(self.alloc, &mut self.defs, field))
+    }
+
+    /// Whether this may be one more view.
+    fn set_view(&mut self, view: View<'_>) -> Result<bool, Fault>
+        ensures { IfErr result EndsEarly }
+    {
+        if !self.is_in_head() {
+            return Ok(false);
+        }
+        taken(add_view(self.alloc, &mut self.defs, view))
+    }
+
     /// Runs a command, and whether there were head lines before it.
     fn command(&mut self, site: u64, command: Command<'_>, out: &mut String) -> Result<bool, Fault>
         ensures { IfErr result EndsEarly }
@@ -110,7 +141,7 @@ impl Script {
                 return Ok(false);
             };
             let max_keys = head.max_keys.unwrap_or(KEYS_MAX);
-            self.play = Some(Play::new(self.alloc, head.sites, max_keys)?);
+            self.play = Some(Play::new(self.alloc, head.sites, max_keys, &self.defs)?);
         }
         match &mut self.play {
             Some(play) => {
@@ -119,6 +150,28 @@ impl Script {
             }
             None => Ok(false),
         }
+    }
+}
+
+fn add_index(alloc: Global, defs: &mut Defs, field: &str) -> Result<(), Refusal> {
+    defs.index(Field::read(alloc, field)?)
+}
+
+fn add_view(alloc: Global, defs: &mut Defs, view: View<'_>) -> Result<(), Refusal> {
+    let name = ViewName::read(alloc, view.name)?;
+    let group = Field::read(alloc, view.group)?;
+    let sum = Field::read(alloc, view.sum)?;
+    defs.view(name, group, sum)
+}
+
+/// Whether a definition was taken: it ends the script where memory was refused.
+fn taken(added: Result<(), Refusal>) -> Result<bool, Fault>
+    ensures { IfErr result EndsEarly }
+{
+    match added {
+        Ok(()) => Ok(true),
+        Err(Refusal::Memory) => Err(Fault::Stopped(Refusal::Memory)),
+        Err(_) => Ok(false),
     }
 }
 

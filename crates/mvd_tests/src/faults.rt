@@ -6,7 +6,7 @@ use std::io::{Read, Write};
 use std::test::Fail;
 
 /// Scripts that end at a line that is no command, what they print before, and that line's number.
-const BAD_LINES: [(&str, &str, u64); 24] = [
+const BAD_LINES: [(&str, &str, u64); 31] = [
     ("get 1 k\n", "", 1),
     ("sites 0\n", "", 1),
     ("sites 17\n", "", 1),
@@ -28,6 +28,13 @@ const BAD_LINES: [(&str, &str, u64); 24] = [
     ("sites 1\nrecv 1 x\n", "", 2),
     ("sites 1\nunknown 1 k\n", "", 2),
     ("sites 1\nroot 1 k\n", "", 2),
+    ("index a\nsites 1\n", "", 1),
+    ("sites 1\nindex a..b\n", "", 2),
+    ("sites 1\nindex a b\n", "", 2),
+    ("sites 1\nindex a\nindex a\n", "", 3),
+    ("sites 1\nget 1 k\nindex a\n", "context -\n", 3),
+    ("sites 1\nview v a\n", "", 2),
+    ("sites 1\nview v a b\nview v c d\n", "", 3),
     ("sites 1\nnode 1\n", "", 2),
     ("sites 1\nfind 1 f\n", "", 2),
     ("sites 1\nrow 1 v\n", "", 2),

@@ -15,7 +15,7 @@ pub fn printed(alloc: Global, script: &str) -> Result<String, Fault> {
 }
 
 /// A name, a script, and what it prints.
-type Case = (&'static str, &'static str, &'static str);
+pub type Case = (&'static str, &'static str, &'static str);
 
 const BASICS: [Case; 8] = [
     ("nothing is held", "sites 1\nget 1 k\n", "context -\n"),

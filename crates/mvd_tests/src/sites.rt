@@ -2,6 +2,7 @@
 use mvd_docs::Document;
 use mvd_dots::{Context, Dot, Refusal};
 use mvd_keys::{Key, Path};
+use mvd_rows::Defs;
 use mvd_site::{Config, Prepared, Site, counted};
 use mvd_wire::{Reply, Request, encode_state};
 use std::alloc::Global;
@@ -39,7 +40,7 @@ fn is_written(reply: &Reply, dot: Option<Dot>) -> bool {
 #[test]
 fn a_change_is_prepared_and_installed(rt: HostRuntime) -> Result<(), Fail> {
     let alloc = rt.alloc();
-    let mut site = Site::new(alloc, Config::new(7, 2))?;
+    let mut site = Site::new(alloc, Config::new(7, 2, Defs::new(alloc)))?;
     let mut looks = 0;
     let request = put(alloc, "k", "-", "{\"a\":1}")?;
     match counted::prepare(&site, &request, &mut looks)? {
@@ -63,7 +64,7 @@ fn a_change_is_prepared_and_installed(rt: HostRuntime) -> Result<(), Fail> {
 #[test]
 fn what_changes_nothing_is_an_answer(rt: HostRuntime) -> Result<(), Fail> {
     let alloc = rt.alloc();
-    let mut site = Site::new(alloc, Config::new(1, 1))?;
+    let mut site = Site::new(alloc, Config::new(1, 1, Defs::new(alloc)))?;
     assert!(rt; is_written(&site.answer(&put(alloc, "k", "-", "{}")?), Dot::new(1, 1)));
     let Reply::State(state) = site.answer(&get(alloc, "k")?) else {
         return Err(Fail::from("no state"));
@@ -85,11 +86,11 @@ fn a_site_is_run_and_opened(rt: HostRuntime) -> Result<(), Fail> {
         get(alloc, "a")?,
         Request::Bye,
     ];
-    let (_site, replies) = Site::run(alloc, &Config::new(3, 9), requests.as_slice())?;
+    let (_site, replies) = Site::run(alloc, &Config::new(3, 9, Defs::new(alloc)), requests.as_slice())?;
     assert_eq!(rt; replies.len(), 4);
     assert!(rt; is_written(&replies[1], Dot::new(3, 2)));
     assert!(rt; shows(&replies[2], "3:2", 2)?);
-    let opened = Site::open(alloc, Config::new(3, 1), Vec::new(alloc))?;
+    let opened = Site::open(alloc, Config::new(3, 1, Defs::new(alloc)), Vec::new(alloc))?;
     assert_eq!(rt; opened.key_count(), 0);
     Ok(())
 }
@@ -114,14 +115,14 @@ fn page(site: &mut Site, path: Path, after: Option<Key>) -> Result<(usize, bool)
 #[test]
 fn a_site_that_is_opened_has_the_same_digests(rt: HostRuntime) -> Result<(), Fail> {
     let alloc = rt.alloc();
-    let mut site = Site::new(alloc, Config::new(3, 9))?;
+    let mut site = Site::new(alloc, Config::new(3, 9, Defs::new(alloc)))?;
     site.answer(&put(alloc, "a", "-", "{}")?);
     let Reply::State(state) = site.answer(&get(alloc, "a")?) else {
         return Err(Fail::from("no state"));
     };
     let mut states = Vec::new(alloc);
     states.push((Key::read(alloc, "a")?, state))?;
-    let mut opened = Site::open(alloc, Config::new(4, 1), states)?;
+    let mut opened = Site::open(alloc, Config::new(4, 1, Defs::new(alloc)), states)?;
     assert_eq!(rt; root(alloc, &mut opened)?, root(alloc, &mut site)?);
     let bucket = page(&mut opened, Path::new(alloc, &[12, 10, 9])?, None)?;
     assert_eq!(rt; bucket, (1, false));
@@ -135,7 +136,7 @@ fn a_site_that_is_opened_has_the_same_digests(rt: HostRuntime) -> Result<(), Fai
 #[test]
 fn a_node_costs_no_look(rt: HostRuntime) -> Result<(), Fail> {
     let alloc = rt.alloc();
-    let site = Site::new(alloc, Config::new(3, 9))?;
+    let site = Site::new(alloc, Config::new(3, 9, Defs::new(alloc)))?;
     let mut looks = 0;
     let node = counted::prepare(&site, &Request::Node(Path::new(alloc, &[])?), &mut looks)?;
     assert!(rt; matches!(&node, Prepared::Answer(Reply::Digests(_))));

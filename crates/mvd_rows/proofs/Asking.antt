@@ -1,5 +1,5 @@
 -- From a page of kept rows to the answer of a question.
-use Rattle.std.proofs.Common.{◌≡◌, ℕ, ℤ, Bool, true, false, not, ◌&&◌, ◌||◌, ◌<◌, if◌then◌else◌, List, [], ◌∷◌, map, filter, length, drop, get_or, Option, Some, None, Result, Ok, Err, refl, sym, ap, ap₂, ◌∙◌, subst, true≢false, Ordering, Less, Equal, Greater}
+use Rattle.std.proofs.Common.{◌≡◌, ℕ, ℤ, Bool, true, false, not, ◌&&◌, if◌then◌else◌, List, filter, Option, Some, None, Result, Ok, Err, refl, sym, ap, ap₂, ◌∙◌, true≢false, Ordering, Less, Equal, Greater}
 use Rattle.std.proofs.lemmas.Slice.Eq.{bytes_eq-Decides}
 use Rattle.std.specs.Option.{option_cmp}
 use Rattle.std.specs.Str.{bytes_eq}
@@ -19,17 +19,16 @@ use Rattle.mvd_keys.specs.Writes.{Key}
 use Rattle.mvd_keys.specs.declared.places.Place.{Place}
 use Rattle.mvd_rows.specs.Answers.{find_answer, is_after, is_after_place, is_after_term, is_between, page_of, places_in, range_answer, row_answer, row_of_view, rows_answer, rows_of_view, view_in, view_named}
 use Rattle.mvd_rows.specs.Defs.{Definitions, has_index}
-use Rattle.mvd_rows.specs.Marks.{mark_cmp, spot_cmp}
+use Rattle.mvd_rows.specs.Marks.{spot_cmp}
 use Rattle.mvd_rows.specs.Names.{Field}
 use Rattle.mvd_rows.specs.Pages.{is_past, mark_of, spot_at}
-use Rattle.mvd_rows.specs.Stands.{AreRowsOf, IsIndexOf, IsRowsOf, IsViewOf, definition_of, definitions_of}
+use Rattle.mvd_rows.specs.Stands.{IsRowsOf, definition_of, definitions_of}
 use Rattle.mvd_rows.specs.Views.{row_of}
-use Rattle.mvd_rows.specs.Visible.{Visible, visible_in}
+use Rattle.mvd_rows.specs.Visible.{visible_in}
 use Rattle.mvd_rows.specs.declared.changes.Rows.{Rows}
 use Rattle.mvd_rows.specs.declared.definitions.ViewDef.{ViewDef}
 use Rattle.mvd_rows.specs.declared.index.Index.{Index}
 use Rattle.mvd_rows.specs.declared.marks.Mark.{Mark}
-use Rattle.mvd_rows.specs.declared.marks.Spot.{Spot}
 use Rattle.mvd_rows.specs.declared.views.Row.{Row}
 use Rattle.mvd_rows.specs.declared.views.View.{View}
 

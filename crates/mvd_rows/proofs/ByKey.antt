@@ -1,22 +1,20 @@
 -- What is visible in a map of key states, key by key, and that it is what the writes make visible that the map stands for.
-use Rattle.std.proofs.Common.{◌≡◌, ℕ, ◌+◌, ◌*◌, ◌^◌, ◌≤◌, Bool, true, false, T, ◌&&◌, cond, List, [], ◌∷◌, ◌++◌, map, flat_map, length, length-append, Option, Some, None, is_some, unwrap_or, refl, sym, ap, ap₂, ◌∙◌, subst, true≢false, arith}
+use Rattle.std.proofs.Common.{◌≡◌, ℕ, ◌+◌, ◌*◌, ◌^◌, ◌≤◌, Bool, true, false, T, ◌&&◌, cond, List, [], ◌∷◌, ◌++◌, map, flat_map, length, length-append, Option, Some, None, unwrap_or, refl, sym, ap, ap₂, ◌∙◌, arith}
 use Rattle.std.specs.Ordering.{eq_by_cmp}
-use Rattle.std.specs.Cmp.{tied_itself}
 use Rattle.std.specs.Option.{option_or}
 use Rattle.std.proofs.lemmas.List.{length-map}
 use Rattle.std.specs.FinMap.{FinMap, get, find, insert, len, entries, entries_sorted, is_sorted, from_entries, contains_key, get-empty, get-entries, get-insert, get-from_entries, len-entries, len-insert, len-empty, same_map}
 use Rattle.std.specs.FinMap.Entries.{below_all}
-use Rattle.std.specs.FinSet.{contains}
 use Rattle.mvd_dots.specs.Dot.{dot_cmp, DotValue}
 use Rattle.mvd_keys.specs.Key.{key_cmp}
 use Rattle.mvd_keys.specs.State.{Text, State, IsValid, empty_state}
 use Rattle.mvd_keys.specs.Writes.{Key, Write, Stands, context, held, is_empty, siblings, state}
-use Rattle.mvd_keys.proofs.KeyOrder.{key_total, key_antisymmetric, same_where_tied, tied_itself_key}
+use Rattle.mvd_keys.proofs.KeyOrder.{key_total, tied_itself_key}
 use Rattle.mvd_keys.proofs.Lists.{state_of_empty}
 use Rattle.mvd_keys.proofs.Sets.{IsValid-state}
 use Rattle.mvd_rows.specs.Changes.{HasSiblings, IsRoomy, state_in}
 use Rattle.mvd_rows.specs.Marks.{spot_cmp, spots_total, spots_exact}
-use Rattle.mvd_rows.specs.Visible.{Visible, siblings_at, spot, visible, visible_in}
+use Rattle.mvd_rows.specs.Visible.{siblings_at, spot, visible, visible_in}
 use Rattle.mvd_rows.specs.declared.marks.Spot.{Spot}
 use Rattle.mvd_rows.proofs.Held.{get-visible}
 use Rattle.mvd_rows.proofs.Sorted.{none_below, found_later, first, second}

@@ -1,5 +1,5 @@
 -- What is visible once some siblings of a key went and others came, dot by dot.
-use Rattle.std.proofs.Common.{◌≡◌, ℕ, ◌+◌, ◌-◌, ◌≤◌, Bool, true, false, not, T, ◌&&◌, cond, List, [], ◌∷◌, filter, length, Option, Some, None, is_some, refl, sym, ap, ap₂, ◌∙◌, subst, true≢false, arith}
+use Rattle.std.proofs.Common.{◌≡◌, ℕ, ◌+◌, ◌-◌, ◌≤◌, Bool, true, false, not, T, ◌&&◌, cond, List, [], ◌∷◌, Option, Some, None, is_some, refl, sym, ap, ap₂, ◌∙◌, subst, true≢false, arith}
 use Rattle.std.specs.Ordering.{eq_by_cmp}
 use Rattle.std.specs.Option.{option_or}
 use Rattle.std.specs.Str.{bytes_eq}
@@ -12,13 +12,12 @@ use Rattle.mvd_keys.specs.Key.{key_cmp}
 use Rattle.mvd_keys.specs.State.{Text}
 use Rattle.mvd_keys.specs.Writes.{Key}
 use Rattle.mvd_keys.proofs.KeyOrder.{tied_itself_key, same_where_tied}
-use Rattle.mvd_keys.proofs.Lists.{tied_itself_dot}
 use Rattle.mvd_rows.specs.Changes.{HasSiblings, IsFreeOf, is_among, is_document, not_among, put_in, taken_out}
-use Rattle.mvd_rows.specs.Marks.{spot_cmp, spots_total, spots_exact}
+use Rattle.mvd_rows.specs.Marks.{spots_total, spots_exact}
 use Rattle.mvd_rows.specs.Visible.{Visible, spot}
 use Rattle.mvd_rows.specs.declared.marks.Spot.{Spot}
-use Rattle.mvd_rows.proofs.Sorted.{kept, none_below, found_later, later_apart, sorted-filter, find-filter, first, second}
-use Rattle.mvd_rows.proofs.Spots.{spots_tied, of_one_key}
+use Rattle.mvd_rows.proofs.Sorted.{kept, none_below, sorted-filter, find-filter, first, second}
+use Rattle.mvd_rows.proofs.Spots.{spots_tied}
 
 abbrev pub Pair : Type 0
 Pair = DotValue × Text

@@ -9,8 +9,8 @@ use Rattle.std.specs.List.{AllByRecursion, cons_option}
 use Rattle.std.specs.List.Sorted.{IsStrictlySortedBy}
 use Rattle.std.specs.Option.{option_cmp}
 use Rattle.std.specs.Ordering.{eq_by_cmp, is_eq, is_gt, is_lt, ordering_then, ordering_reverse}
-use Rattle.std.specs.Cmp.{IsTotalOrder, tied_itself, Equal-is}
-use Rattle.std.specs.FinMap.{FinMap, entries, entries_sorted, find, from_entries, get, get-entries, get-from_entries, is_sorted, keys}
+use Rattle.std.specs.Cmp.{tied_itself}
+use Rattle.std.specs.FinMap.{entries, entries_sorted, find, from_entries, get-entries, get-from_entries, is_sorted}
 use Rattle.std.specs.FinMap.Entries.{below_all, same_entries}
 use Rattle.mvd_docs.specs.Document.{term_of}
 use Rattle.mvd_docs.specs.Term.{term_cmp}
@@ -25,14 +25,13 @@ use Rattle.mvd_rows.specs.Marks.{mark_cmp, marks_total, spot_cmp, spots_total}
 use Rattle.mvd_rows.specs.Names.{Field}
 use Rattle.mvd_rows.specs.Pages.{IsPageOf, is_past, mark_of, place_of_mark, place_with, up_to}
 use Rattle.mvd_rows.specs.Stands.{IsIndexOf, is_in_some, is_place, is_place_at}
-use Rattle.mvd_rows.specs.Views.{is_in, is_term}
+use Rattle.mvd_rows.specs.Views.{is_term}
 use Rattle.mvd_rows.specs.Visible.{Visible}
 use Rattle.mvd_rows.specs.declared.index.Index.{Index}
 use Rattle.mvd_rows.specs.declared.marks.Mark.{Mark}
 use Rattle.mvd_rows.specs.declared.marks.Spot.{Spot}
 use Rattle.mvd_rows.proofs.Grouped.{is_eq-then}
 use Rattle.mvd_rows.proofs.Sorted.{both, first, none_below, second}
-use Rattle.mvd_rows.proofs.Trees.{find_is}
 
 abbrev Entry : Type 0
 Entry = Mark × Unit {0}

@@ -1,14 +1,12 @@
 -- The kept rows of a view are its rows.
-use Rattle.std.proofs.Common.{◌≡◌, ℕ, ◌+◌, ◌==◌, ne_eqb, suc, zero, nat_lt, Bool, true, false, not, T, ◌&&◌, cond, if◌then◌else◌, List, [], ◌∷◌, map, filter, filter_map, length, take, Option, Some, None, is_some, option_map, refl, sym, ap, ap₂, ◌∙◌, subst, true≢false, arith, ℤ, unwrap_or, lt-ltb, Bor}
+use Rattle.std.proofs.Common.{◌≡◌, ℕ, ◌==◌, ne_eqb, suc, nat_lt, Bool, true, false, T, ◌&&◌, cond, if◌then◌else◌, List, [], ◌∷◌, map, filter, filter_map, length, take, Option, Some, None, is_some, option_map, refl, sym, ap, ap₂, ◌∙◌, true≢false, arith, ℤ, unwrap_or, lt-ltb, Bor}
 use Rattle.std.specs.Map.Iter.{TakesFirst, deref_pair}
-use Rattle.std.proofs.lemmas.List.{length-map, take-map}
 use Rattle.std.specs.BTreeMap as tree
 use Rattle.std.specs.BTreeMap.Range.{entries_between}
-use Rattle.std.specs.declared.ops.Bound.TheVariants.{Excluded, Unbounded}
-use Rattle.std.specs.Map.{keys_of, lookup}
+use Rattle.std.specs.declared.ops.Bound.TheVariants.{Unbounded}
 use Rattle.std.specs.List.{cons_option}
 use Rattle.std.specs.Ordering.{eq_by_cmp, is_lt}
-use Rattle.std.specs.FinMap.{FinMap, entries, entries_sorted, find, from_entries, get-entries, get-from_entries, is_sorted, keys}
+use Rattle.std.specs.FinMap.{entries, entries_sorted, find, from_entries, get-entries, get-from_entries, is_sorted}
 use Rattle.std.specs.FinMap.Entries.{below_all, same_entries}
 use Rattle.mvd_docs.specs.Document.{term_of}
 use Rattle.mvd_docs.specs.Term.{term_cmp}

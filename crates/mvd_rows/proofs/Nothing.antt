@@ -1,21 +1,19 @@
 -- Rows of nothing.
-use Rattle.std.proofs.Common.{◌≡◌, ℕ, ◌==◌, Bool, false, List, [], ◌∷◌, length, filter, flat_map, Ordering, Option, Some, None, refl, sym, ap, ◌∙◌, arith, if◌then◌else◌}
+use Rattle.std.proofs.Common.{◌≡◌, false, List, [], ◌∷◌, length, filter, flat_map, Ordering, Option, Some, None, refl, sym, ap, ◌∙◌, arith, if◌then◌else◌}
 use Rattle.std.specs.BTreeMap as tree
 use Rattle.std.specs.Map.{lookup}
-use Rattle.std.specs.FinMap.{FinMap, empty, entries, get, get-empty, len-empty, len-entries, empty_of_len, from_entries}
+use Rattle.std.specs.FinMap.{empty, entries, get-empty, len-empty, len-entries, from_entries}
 use Rattle.mvd_docs.specs.Term.{term_cmp}
 use Rattle.mvd_docs.specs.declared.term.Term.{Term}
 use Rattle.mvd_keys.specs.Key.{key_cmp}
 use Rattle.mvd_keys.specs.State.{State, Text}
 use Rattle.mvd_rows.specs.Marks.{mark_cmp, spot_cmp, tally_cmp}
 use Rattle.mvd_rows.specs.Names.{Field}
-use Rattle.mvd_rows.specs.Stands.{IsIndexOf, IsTallied, IsViewOf, is_in_some, is_place, is_place_at, row_at, tally_at, unless_none}
+use Rattle.mvd_rows.specs.Stands.{IsIndexOf, IsViewOf, is_in_some, is_place, is_place_at, row_at, tally_at, unless_none}
 use Rattle.mvd_rows.specs.Views.{is_in, members, row_of_members, times, wholes}
-use Rattle.mvd_rows.specs.Visible.{Visible, siblings_at, visible_in}
+use Rattle.mvd_rows.specs.Visible.{siblings_at, visible_in}
 use Rattle.mvd_rows.specs.declared.index.Index.{Index}
-use Rattle.mvd_rows.specs.declared.marks.Mark.{Mark}
 use Rattle.mvd_rows.specs.declared.marks.Spot.{Spot}
-use Rattle.mvd_rows.specs.declared.views.Row.{Row}
 use Rattle.mvd_rows.specs.declared.views.View.{View}
 
 no_entries_by : {A : Type 0} (es : List A) → length es ≡ 0 → es ≡ []

@@ -1,5 +1,5 @@
 -- A whole number of a document fits an i64.
-use Rattle.std.proofs.Common.{◌≡◌, ◌<◌, ◌≤◌, ℤ, ℕ, Bool, pos, negsuc, List, [], ◌∷◌, Option, Some, None, IfSome, option_map, option_and_then, refl, sym, true≢false, arith, true, false, ◌≤ℤ◌, ◌&&◌, Ordering, Less, Equal, Greater, nat_lt, nat_le, if◌then◌else◌, ◌^◌, subst}
+use Rattle.std.proofs.Common.{◌≡◌, ◌<◌, ◌≤◌, ℤ, ℕ, Bool, pos, negsuc, List, [], ◌∷◌, Option, Some, None, IfSome, option_map, option_and_then, refl, sym, true≢false, arith, true, false, ◌≤ℤ◌, ◌&&◌, Ordering, Less, Equal, Greater, nat_lt, nat_le, if◌then◌else◌, ◌^◌}
 use Rattle.std.specs.Prelude.{⊤, unwrap_or}
 use Rattle.std.proofs.lemmas.Int.{ints}
 use Rattle.std.proofs.lemmas.Bool.Decides.{nat_tests}

@@ -1,9 +1,7 @@
 -- How far the siblings of a key went, or came.
-use Rattle.std.proofs.Common.{◌≡◌, ℕ, ◌<◌, drop, get_or, ◌+◌, ◌*◌, ◌^◌, ◌≤◌, Bool, true, false, not, T, ◌&&◌, cond, List, [], ◌∷◌, length, Option, Some, None, refl, sym, ap, ◌∙◌, subst, arith, true≢false}
+use Rattle.std.proofs.Common.{◌≡◌, ℕ, ◌<◌, drop, get_or, ◌+◌, ◌*◌, ◌≤◌, true, false, not, T, cond, List, [], ◌∷◌, length, Some, None, refl, sym, ap, ◌∙◌, subst, arith}
 use Rattle.std.proofs.lemmas.List.{at_drop_more, drop_all}
-use Rattle.std.specs.Ordering.{eq_by_cmp}
 use Rattle.std.specs.FinMap.{get, find, insert, remove, len, is_sorted, get-insert, get-remove}
-use Rattle.std.specs.FinMap.Entries.{below_all}
 use Rattle.mvd_dots.specs.Dot.{dot_cmp, DotValue}
 use Rattle.mvd_dots.proofs.Sets.{dot_total}
 use Rattle.mvd_keys.specs.State.{Text, pair_of, pairs_of}
@@ -16,7 +14,7 @@ use Rattle.mvd_rows.specs.Stands.{AreRowsOf}
 use Rattle.mvd_rows.specs.Visible.{Visible, spot}
 use Rattle.mvd_rows.specs.declared.changes.Rows.{Rows}
 use Rattle.mvd_rows.proofs.Changing.{Pair, len-come, len-gone}
-use Rattle.mvd_rows.proofs.Sorted.{found_later, later_apart, second}
+use Rattle.mvd_rows.proofs.Sorted.{found_later, later_apart}
 use Rattle.mvd_rows.proofs.Spots.{of_one_key}
 
 -- the rows stand for what is visible now, and what is left to go is still there

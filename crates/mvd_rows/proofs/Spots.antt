@@ -1,12 +1,11 @@
 -- When two spots are one.
-use Rattle.std.proofs.Common.{◌≡◌, true, false, ◌&&◌, refl, sym, ap, ◌∙◌, true≢false, Bool}
-use Rattle.std.specs.Ordering.{eq_by_cmp, is_eq}
-use Rattle.std.specs.Cmp.{tied_itself}
+use Rattle.std.proofs.Common.{◌≡◌, ◌&&◌, ap, ◌∙◌}
+use Rattle.std.specs.Ordering.{eq_by_cmp}
 use Rattle.mvd_dots.specs.Dot.{dot_cmp, DotValue}
 use Rattle.mvd_keys.specs.Key.{key_cmp}
 use Rattle.mvd_keys.specs.Writes.{Key}
 use Rattle.mvd_keys.proofs.KeyOrder.{tied_itself_key}
-use Rattle.mvd_rows.specs.Marks.{spot_cmp, spots_total}
+use Rattle.mvd_rows.specs.Marks.{spot_cmp}
 use Rattle.mvd_rows.specs.Visible.{spot}
 use Rattle.mvd_rows.specs.declared.marks.Spot.{Spot}
 use Rattle.mvd_rows.proofs.Grouped.{is_eq-then}

@@ -1,5 +1,5 @@
 -- From standing for one map of key states to standing for the next.
-use Rattle.std.proofs.Common.{◌≡◌, ℕ, ◌+◌, ◌-◌, ◌*◌, ◌^◌, ◌≤◌, T, List, length, not, cond, refl, sym, ap, ap₂, ◌∙◌, subst, arith}
+use Rattle.std.proofs.Common.{◌≡◌, ℕ, ◌+◌, ◌-◌, ◌*◌, ◌≤◌, T, List, length, not, cond, sym, ap, ap₂, ◌∙◌, subst, arith}
 use Rattle.std.specs.Ordering.{eq_by_cmp}
 use Rattle.std.proofs.lemmas.List.{length-map}
 use Rattle.std.proofs.lemmas.List.Sums.{length-filter, count_by-le-length}
@@ -8,12 +8,12 @@ use Rattle.mvd_dots.specs.Dot.{dot_cmp}
 use Rattle.mvd_keys.specs.Key.{key_cmp}
 use Rattle.mvd_keys.specs.State.{State}
 use Rattle.mvd_keys.specs.Writes.{Key}
-use Rattle.mvd_rows.specs.Changes.{HasSiblings, IsRoomy, differing, is_among, not_among, put_in, state_in, taken_out, updates_each}
+use Rattle.mvd_rows.specs.Changes.{HasSiblings, differing, is_among, not_among, put_in, state_in, taken_out, updates_each}
 use Rattle.mvd_rows.specs.Defs.{Definitions}
 use Rattle.mvd_rows.specs.Stands.{AreRowsOf, IsRowsOf, definitions_of}
 use Rattle.mvd_rows.specs.Visible.{Visible, visible_in}
 use Rattle.mvd_rows.specs.declared.changes.Rows.{Rows}
-use Rattle.mvd_rows.proofs.ByKey.{few_visible, get-changed, siblings_are}
+use Rattle.mvd_rows.proofs.ByKey.{get-changed, siblings_are}
 use Rattle.mvd_rows.proofs.Changing.{Pair, changed}
 
 in_order : (s : State) (es : List Pair) → es ≡ entries s.siblings → T (is_sorted dot_cmp es)

@@ -1,5 +1,5 @@
 -- The entries of an ordered map, as those of a finite map.
-use Rattle.std.proofs.Common.{◌≡◌, Bool, true, false, T, ◌&&◌, cond, List, [], ◌∷◌, map, Option, Some, None, refl, sym, ap, ◌∙◌, subst, Ordering, Less}
+use Rattle.std.proofs.Common.{◌≡◌, T, cond, List, [], ◌∷◌, Some, refl, sym, ap, subst, Ordering, Less}
 use Rattle.std.specs.BTreeMap as tree
 use Rattle.std.specs.Map.{keys_of, lookup}
 use Rattle.std.specs.List.{AllByRecursion}

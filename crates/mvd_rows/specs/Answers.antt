@@ -1,16 +1,15 @@
 -- What the questions answer, computed afresh from what is visible.
-use Rattle.std.specs.Prelude.{◌≡◌, ℕ, ℤ, Bool, true, false, not, ◌&&◌, List, [], ◌∷◌, map, filter, filter_map, length, take, nat_lt, Option, Some, None, option_map, Result, Ok, Err, if◌then◌else◌, bytes_eq}
+use Rattle.std.specs.Prelude.{ℕ, ℤ, Bool, true, not, ◌&&◌, List, [], ◌∷◌, map, filter, filter_map, length, take, nat_lt, Option, Some, None, option_map, Result, Ok, Err, if◌then◌else◌, bytes_eq}
 use Rattle.std.specs.Ordering.{eq_by_cmp, is_gt, is_lt}
-use Rattle.std.specs.FinMap.{FinMap, entries, from_entries, keys}
+use Rattle.std.specs.FinMap.{entries, from_entries, keys}
 use Rattle.mvd_dots.specs.Dot.{DotValue}
 use Rattle.mvd_dots.specs.declared.refusals.Refusal.{Refusal}
 use Rattle.mvd_dots.specs.declared.refusals.Refusal.TheVariants.{NoIndex, NoView}
 use Rattle.mvd_docs.specs.Document.{term_of}
 use Rattle.mvd_docs.specs.Term.{term_cmp}
 use Rattle.mvd_docs.specs.declared.term.Term.{Term}
-use Rattle.mvd_keys.specs.Key.{key_cmp}
 use Rattle.mvd_keys.specs.Place.{place_cmp}
-use Rattle.mvd_keys.specs.State.{Text, State}
+use Rattle.mvd_keys.specs.State.{Text}
 use Rattle.mvd_keys.specs.Writes.{Key, Write}
 use Rattle.mvd_keys.specs.declared.places.Place.{Place}
 use Rattle.mvd_rows.specs.Defs.{Definitions, has_index}

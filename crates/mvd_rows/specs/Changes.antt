@@ -1,5 +1,5 @@
 -- What one key's siblings make visible, as some of them go and others come.
-use Rattle.std.specs.Prelude.{◌≡◌, ℕ, ◌+◌, ◌*◌, ◌≤◌, ◌^◌, Bool, false, true, not, List, [], ◌∷◌, filter, length, Option, Some, None, is_some, unwrap_or, bytes_eq}
+use Rattle.std.specs.Prelude.{◌≡◌, ℕ, ◌+◌, ◌*◌, ◌≤◌, ◌^◌, Bool, false, not, List, [], ◌∷◌, filter, length, Option, Some, None, unwrap_or, bytes_eq}
 use Rattle.std.specs.FinMap.{FinMap, get, find, insert, remove, len, entries}
 use Rattle.mvd_dots.specs.Dot.{dot_cmp, DotValue}
 use Rattle.mvd_keys.specs.Key.{key_cmp}

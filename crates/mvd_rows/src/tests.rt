@@ -463,6 +463,7 @@ fn all_pages(
     Ok((count, most))
 }
 
+// A third of a second as it is built; the checked run of `rt try` does not end it in its time.
 #[test]
 fn many_keys_are_indexed_and_asked_for(rt: HostRuntime) -> Result<(), Fail> {
     let alloc = rt.alloc();

@@ -1,6 +1,6 @@
-use Rattle.std.proofs.Common.{◌≡◌, ◌+◌, ◌*◌, ◌≤◌, ◌^◌, length, sym, ap, ◌∙◌, arith}
+use Rattle.std.proofs.Common.{◌≡◌, length, ap, arith}
 use Rattle.std.proofs.lemmas.List.{length-map}
-use Rattle.std.specs.FinMap.{len, len-entries}
+use Rattle.std.specs.FinMap.{len-entries}
 use Rattle.mvd_keys.specs.State.{pairs_of}
 use Rattle.mvd_rows.specs.Changes.{updates_each}
 use Rattle.mvd_rows.specs.Stands.{definitions_of}
@@ -27,10 +27,14 @@ pub returns-in-Ok-clause-most : goal.returns-in-Ok-clause-most
 returns-in-Ok-clause-most c = record {
   updates = most_updates c.args.old.now c.args.new.now (updates_each (definitions_of c.args.rows.now)) _ _
       (counted_differ c.args.old.now c.args.new.now _ _ c.args.rows.now _ _ c.siblings.ensures.entries c.siblings-2.ensures.entries c.replace.ensures.counts.updates);
+  least_updates = c.replace.ensures.counts.least_updates;
+  least_looks = c.replace.ensures.counts.least_looks;
 }
 
 pub returns-in-Err-clause-most : goal.returns-in-Err-clause-most
 returns-in-Err-clause-most c = record {
   updates = most_updates c.args.old.now c.args.new.now (updates_each (definitions_of c.args.rows.now)) _ _
       (counted_differ c.args.old.now c.args.new.now _ _ c.args.rows.now _ _ c.siblings.ensures.entries c.siblings-2.ensures.entries c.replace.ensures.counts.updates);
+  least_updates = c.replace.ensures.counts.least_updates;
+  least_looks = c.replace.ensures.counts.least_looks;
 }

@@ -1,4 +1,4 @@
-use Rattle.std.proofs.Common.{◌∙◌, sym}
+use Rattle.std.proofs.Common.{◌∙◌}
 use Rattle.mvd_rows.proofs.InOrder.{no_more_place, one_more_place}
 use Rattle.mvd_rows.proofs.index.places_of.Goals as goal
 

@@ -15,6 +15,10 @@ loop-view-preserved c =
     let count = c.add.ensures.counts.updates in
     let same = c.loop-view.invariant.len in
     let counts = c.loop-view.invariant.counts in
+    let updates = c.loop-view.invariant.least_updates in
+    let looks = c.loop-view.invariant.least_looks in
+    let more_updates = c.add.ensures.counts.least_updates in
+    let more_looks = c.add.ensures.counts.least_looks in
     record {
       rows = λ visible spot all fresh. done_more (λ x. IsViewOf x (map.insert visible spot c.args.document.now)) c.loop-view.view-items c.loop-view.view-index c.add.new.self (omega arith)
           (c.in_ok-add.ensures.rows visible spot (subst (λ x. IsViewOf x visible) (sym (c.loop-view.invariant.rest c.loop-view.view-index c.view-item.result (omega arith))) (all c.loop-view.view-index c.view-item.result (omega arith))) fresh)
@@ -23,6 +27,8 @@ loop-view-preserved c =
       fields = map_written definition_of c.loop-view.view-items c.loop-view.view-index c.add.new.self c.view-item.result (omega arith) (same_definition _ _ c.add.ensures.fields) ∙ c.loop-view.invariant.fields;
       len = length-set c.loop-view.view-items c.loop-view.view-index c.add.new.self ∙ c.loop-view.invariant.len;
       counts = omega arith;
+      least_updates = omega arith;
+      least_looks = omega arith;
     }
 
 pub returns-clause-rows : goal.returns-clause-rows

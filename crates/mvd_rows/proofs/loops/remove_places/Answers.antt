@@ -10,6 +10,10 @@ loop-index-preserved c =
     let count = c.remove.ensures.counts.updates in
     let same = c.loop-index.invariant.len in
     let counts = c.loop-index.invariant.counts in
+    let updates = c.loop-index.invariant.least_updates in
+    let looks = c.loop-index.invariant.least_looks in
+    let more_updates = c.remove.ensures.counts.least_updates in
+    let more_looks = c.remove.ensures.counts.least_looks in
     record {
       places = λ visible all fresh. done_more (λ x. IsIndexOf x (map.remove visible c.args.spot.now)) c.loop-index.index-items c.loop-index.index-index c.remove.new.self (omega arith)
           (c.in_ok-remove.ensures.places visible (subst (λ x. IsIndexOf x visible) (sym (c.loop-index.invariant.rest c.loop-index.index-index c.index-item.result (omega arith))) (all c.loop-index.index-index c.index-item.result (omega arith))) fresh)
@@ -18,4 +22,6 @@ loop-index-preserved c =
       fields = map_written (λ (x : Index). x.field) c.loop-index.index-items c.loop-index.index-index c.remove.new.self c.index-item.result (omega arith) c.remove.ensures.field ∙ c.loop-index.invariant.fields;
       len = length-set c.loop-index.index-items c.loop-index.index-index c.remove.new.self ∙ c.loop-index.invariant.len;
       counts = omega arith;
+      least_updates = omega arith;
+      least_looks = omega arith;
     }

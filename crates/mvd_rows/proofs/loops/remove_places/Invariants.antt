@@ -14,4 +14,6 @@ invariant-loop-index l = record {
   fields : map (λ (x : Index). x.field) l.index-items ≡ map (λ (x : Index). x.field) l.fn.indexes.items;
   len : length l.index-items ≡ length l.fn.indexes.items;
   counts : l.meter.updates ≤ l.fn.meter.updates + l.index-index;
+  least_updates : l.fn.meter.updates ≤ l.meter.updates;
+  least_looks : l.fn.meter.looks ≤ l.meter.looks;
 }

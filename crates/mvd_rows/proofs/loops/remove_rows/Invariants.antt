@@ -15,4 +15,6 @@ invariant-loop-view l = record {
   fields : map definition_of l.view-items ≡ map definition_of l.fn.views.items;
   len : length l.view-items ≡ length l.fn.views.items;
   counts : l.meter.updates ≤ l.fn.meter.updates + 2 * l.view-index;
+  least_updates : l.fn.meter.updates ≤ l.meter.updates;
+  least_looks : l.fn.meter.looks ≤ l.meter.looks;
 }

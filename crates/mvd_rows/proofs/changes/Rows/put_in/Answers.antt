@@ -1,17 +1,17 @@
-use Rattle.std.proofs.Common.{◌≡◌, ◌+◌, ◌≤◌, ◌∷◌, T, drop, length, ◌*◌, refl, sym, ap, ◌∙◌, subst, arith, false, true, not, None}
+use Rattle.std.proofs.Common.{◌≡◌, ◌+◌, ◌∷◌, T, drop, length, ◌*◌, refl, sym, ap, ◌∙◌, subst, arith, None}
 use Rattle.std.proofs.lemmas.List.{length-map}
 use Rattle.std.specs.FinMap.{get, insert, is_sorted, len}
 use Rattle.std.specs.FinMap.Entries.{below_all}
 use Rattle.mvd_dots.specs.Dot.{dot_cmp}
 use Rattle.mvd_keys.proofs.Parts.{holds}
 use Rattle.mvd_keys.specs.State.{pair_of, pairs_of}
-use Rattle.mvd_rows.specs.Changes.{IsFreeOf, is_among, not_among, put_in}
+use Rattle.mvd_rows.specs.Changes.{IsFreeOf, not_among, put_in}
 use Rattle.mvd_rows.specs.Stands.{AreRowsOf, definitions_of}
 use Rattle.mvd_rows.specs.declared.changes.Rows.{Rows}
 use Rattle.mvd_rows.specs.declared.meters.Meter.{Meter}
 use Rattle.mvd_rows.specs.Visible.{Visible, spot}
 use Rattle.mvd_rows.proofs.Grouped.{same_ok}
-use Rattle.mvd_rows.proofs.Reached.{Coming, coming_starts, coming_first, coming_comes, coming_stays, coming_ends, next_is, none_left, counted_more, counted_on, counted_same, same_start}
+use Rattle.mvd_rows.proofs.Reached.{Coming, coming_starts, coming_first, coming_comes, coming_stays, next_is, counted_more, counted_on, counted_same, same_start}
 use Rattle.mvd_rows.proofs.Sorted.{second}
 use Rattle.mvd_rows.proofs.changes.Rows.put_in.Goals as goal
 use Rattle.mvd_rows.proofs.changes.Rows.put_in.Goals.{then-not-is_among+in_ok-copy+in_ok-add, else-not-is_among}
@@ -24,6 +24,8 @@ loop-sibling-init c = record {
   indexes = refl;
   views = refl;
   counts = omega arith;
+  least_updates = omega arith;
+  least_looks = omega arith;
 }
 
 pub add-requires : goal.add-requires
@@ -52,11 +54,16 @@ loop-sibling-preserved c =
     λ visible are has. subst (λ es. Coming c.loop-sibling.self visible key others es (len visible + length (pairs_of c.args.siblings.now)) (aim visible)) next (c.loop-sibling.invariant.coming visible are has) in
     let indexes = c.loop-sibling.invariant.indexes in
     let views = c.loop-sibling.invariant.views in
+    let updates = c.loop-sibling.invariant.least_updates in
+    let looks = c.loop-sibling.invariant.least_looks in
     elim c.if-not-is_among.branch [
       | then-not-is_among+in_ok-copy+in_ok-add w ↦
           let copied = same_ok _ _ w.in_ok-copy.ensures in
           let meter = ap (λ (m : Meter). m.updates) w.meter-is in
+          let looked = ap (λ (m : Meter). m.looks) w.meter-is in
           let added = w.add.ensures.counts.updates in
+          let more_updates = w.add.ensures.counts.least_updates in
+          let more_looks = w.add.ensures.counts.least_looks in
           record {
             coming = λ visible are has.
                 let g = reached visible are has in
@@ -71,9 +78,12 @@ loop-sibling-preserved c =
             counts = counted_on _ _ c.loop-sibling.meter.updates (length (not_among others (x ∷ rest)) * each) _ _
                 (counted_more others x rest each c.loop-sibling.meter.updates _ (sym w.if-not-is_among.ensures) (omega arith))
                 (ap (λ es. length (not_among others es) * each) next) c.loop-sibling.invariant.counts;
+            least_updates = omega arith;
+            least_looks = omega arith;
           }
       | else-not-is_among w ↦
           let meter = ap (λ (m : Meter). m.updates) w.meter-is in
+          let looked = ap (λ (m : Meter). m.looks) w.meter-is in
           record {
             coming = λ visible are has. subst (λ s. Coming s visible key others rest (len visible + length (pairs_of c.args.siblings.now)) (aim visible)) (sym w.self-is)
                 (coming_stays c.loop-sibling.self visible key others x rest (len visible + length (pairs_of c.args.siblings.now)) (aim visible) sorted (sym w.if-not-is_among.ensures) (reached visible are has));
@@ -84,5 +94,7 @@ loop-sibling-preserved c =
             counts = counted_on _ _ c.loop-sibling.meter.updates (length (not_among others rest) * each) _ _
                 (same_start _ c.loop-sibling.meter.updates _ meter)
                 (ap (λ es. length (not_among others es) * each) next ∙ sym (counted_same others x rest each (sym w.if-not-is_among.ensures))) c.loop-sibling.invariant.counts;
+            least_updates = omega arith;
+            least_looks = omega arith;
           }
     ]

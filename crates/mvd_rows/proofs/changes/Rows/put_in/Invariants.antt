@@ -19,4 +19,6 @@ invariant-loop-sibling l = record {
   views : length l.self.views.items ≡ length l.fn.self.views.items;
   counts : l.meter.updates + length (not_among (pairs_of l.others) (pairs_of (drop l.sibling-index l.siblings))) * (length l.fn.self.indexes.items + 2 * length l.fn.self.views.items)
       ≤ l.fn.meter.updates + length (not_among (pairs_of l.others) (pairs_of l.siblings)) * (length l.fn.self.indexes.items + 2 * length l.fn.self.views.items);
+  least_updates : l.fn.meter.updates ≤ l.meter.updates;
+  least_looks : l.fn.meter.looks ≤ l.meter.looks;
 }

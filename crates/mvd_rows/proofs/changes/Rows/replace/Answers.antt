@@ -1,4 +1,4 @@
-use Rattle.std.proofs.Common.{◌≡◌, ◌+◌, ◌*◌, ◌≤◌, length, arith}
+use Rattle.std.proofs.Common.{length, arith}
 use Rattle.std.specs.FinMap.{len}
 use Rattle.mvd_keys.specs.State.{pairs_of}
 use Rattle.mvd_keys.proofs.Parts.{holds}
@@ -28,10 +28,14 @@ pub returns-in_err-put_in-clause-counts : goal.returns-in_err-put_in-clause-coun
 returns-in_err-put_in-clause-counts c = record {
   updates = both_counted _ _ _ (length (not_among (pairs_of c.args.new.now) (pairs_of c.args.old.now))) (length (not_among (pairs_of c.args.old.now) (pairs_of c.args.new.now))) _ _
       c.take_out.ensures.counts.updates c.put_in.ensures.counts.updates (same_each _ _ _ _ c.take_out.ensures.indexes c.take_out.ensures.views);
+  least_updates = (let first = c.take_out.ensures.counts.least_updates in let second = c.put_in.ensures.counts.least_updates in omega arith);
+  least_looks = (let first = c.take_out.ensures.counts.least_looks in let second = c.put_in.ensures.counts.least_looks in omega arith);
 }
 
 pub returns-clause-counts : goal.returns-clause-counts
 returns-clause-counts c = record {
   updates = both_counted _ _ _ (length (not_among (pairs_of c.args.new.now) (pairs_of c.args.old.now))) (length (not_among (pairs_of c.args.old.now) (pairs_of c.args.new.now))) _ _
       c.take_out.ensures.counts.updates c.put_in.ensures.counts.updates (same_each _ _ _ _ c.take_out.ensures.indexes c.take_out.ensures.views);
+  least_updates = (let first = c.take_out.ensures.counts.least_updates in let second = c.put_in.ensures.counts.least_updates in omega arith);
+  least_looks = (let first = c.take_out.ensures.counts.least_looks in let second = c.put_in.ensures.counts.least_looks in omega arith);
 }

@@ -1,16 +1,16 @@
-use Rattle.std.proofs.Common.{◌≡◌, ◌+◌, ◌≤◌, ◌∷◌, T, drop, length, ◌*◌, refl, sym, ap, ◌∙◌, subst, arith, false, true, not, Some}
+use Rattle.std.proofs.Common.{◌≡◌, ◌+◌, ◌∷◌, T, drop, length, ◌*◌, refl, sym, ap, ◌∙◌, subst, arith, Some}
 use Rattle.std.specs.FinMap.{get, is_sorted, remove}
 use Rattle.std.specs.FinMap.Entries.{below_all}
 use Rattle.mvd_dots.specs.Dot.{dot_cmp}
 use Rattle.mvd_keys.proofs.Parts.{holds}
 use Rattle.mvd_keys.specs.State.{pair_of, pairs_of}
-use Rattle.mvd_rows.specs.Changes.{HasSiblings, is_among, not_among, taken_out}
+use Rattle.mvd_rows.specs.Changes.{HasSiblings, not_among, taken_out}
 use Rattle.mvd_rows.specs.Stands.{AreRowsOf, definitions_of}
 use Rattle.mvd_rows.specs.declared.changes.Rows.{Rows}
 use Rattle.mvd_rows.specs.declared.meters.Meter.{Meter}
 use Rattle.mvd_rows.specs.Visible.{Visible, spot}
 use Rattle.mvd_rows.proofs.Grouped.{same_ok}
-use Rattle.mvd_rows.proofs.Reached.{Going, going_starts, going_first, going_goes, going_stays, going_ends, next_is, none_left, counted_more, counted_on, counted_same, same_start}
+use Rattle.mvd_rows.proofs.Reached.{Going, going_starts, going_first, going_goes, going_stays, next_is, counted_more, counted_on, counted_same, same_start}
 use Rattle.mvd_rows.proofs.Sorted.{second}
 use Rattle.mvd_rows.proofs.changes.Rows.take_out.Goals as goal
 use Rattle.mvd_rows.proofs.changes.Rows.take_out.Goals.{then-not-is_among+in_ok-copy+in_ok-remove, else-not-is_among}
@@ -23,6 +23,8 @@ loop-sibling-init c = record {
   indexes = refl;
   views = refl;
   counts = omega arith;
+  least_updates = omega arith;
+  least_looks = omega arith;
 }
 
 pub remove-requires : goal.remove-requires
@@ -59,11 +61,16 @@ loop-sibling-preserved c =
     λ visible are has. subst (λ es. Going c.loop-sibling.self visible key others es (aim visible)) next (c.loop-sibling.invariant.going visible are has) in
     let indexes = c.loop-sibling.invariant.indexes in
     let views = c.loop-sibling.invariant.views in
+    let updates = c.loop-sibling.invariant.least_updates in
+    let looks = c.loop-sibling.invariant.least_looks in
     elim c.if-not-is_among.branch [
       | then-not-is_among+in_ok-copy+in_ok-remove w ↦
           let copied = same_ok _ _ w.in_ok-copy.ensures in
           let meter = ap (λ (m : Meter). m.updates) w.meter-is in
+          let looked = ap (λ (m : Meter). m.looks) w.meter-is in
           let added = w.remove.ensures.counts.updates in
+          let more_updates = w.remove.ensures.counts.least_updates in
+          let more_looks = w.remove.ensures.counts.least_looks in
           record {
             going = λ visible are has.
                 let g = reached visible are has in
@@ -78,9 +85,12 @@ loop-sibling-preserved c =
             counts = counted_on _ _ c.loop-sibling.meter.updates (length (not_among others (x ∷ rest)) * each) _ _
                 (counted_more others x rest each c.loop-sibling.meter.updates _ (sym w.if-not-is_among.ensures) (omega arith))
                 (ap (λ es. length (not_among others es) * each) next) c.loop-sibling.invariant.counts;
+            least_updates = omega arith;
+            least_looks = omega arith;
           }
       | else-not-is_among w ↦
           let meter = ap (λ (m : Meter). m.updates) w.meter-is in
+          let looked = ap (λ (m : Meter). m.looks) w.meter-is in
           record {
             going = λ visible are has. subst (λ s. Going s visible key others rest (aim visible)) (sym w.self-is)
                 (going_stays c.loop-sibling.self visible key others x rest (aim visible) sorted (sym w.if-not-is_among.ensures) (reached visible are has));
@@ -91,5 +101,7 @@ loop-sibling-preserved c =
             counts = counted_on _ _ c.loop-sibling.meter.updates (length (not_among others rest) * each) _ _
                 (same_start _ c.loop-sibling.meter.updates _ meter)
                 (ap (λ es. length (not_among others es) * each) next ∙ sym (counted_same others x rest each (sym w.if-not-is_among.ensures))) c.loop-sibling.invariant.counts;
+            least_updates = omega arith;
+            least_looks = omega arith;
           }
     ]

@@ -20,6 +20,8 @@ loop-taken-preserved c =
     let taken = c.loop-taken.invariant.taken in
     let looks = c.loop-taken.invariant.looks in
     let updates = c.loop-taken.invariant.updates in
+    let least_updates = c.loop-taken.invariant.least_updates in
+    let least_looks = c.loop-taken.invariant.least_looks in
     let counts = c.in-Some.ensures.counts in
     let len = ap length c.in_ok-push.ensures.items in
     record {
@@ -29,6 +31,8 @@ loop-taken-preserved c =
       looks = grind arith;
       taken = grind arith;
       updates = grind arith;
+      least_updates = grind arith;
+      least_looks = grind arith;
     }
 
 pub returns-clause-page : goal.returns-clause-page

@@ -13,4 +13,6 @@ invariant-loop-taken l = record {
   looks : l.meter.looks ≤ l.fn.meter.looks + 1 + length l.rows.items;
   taken : length l.rows.items ≡ l._taken;
   updates : l.meter.updates ≤ l.fn.meter.updates;
+  least_updates : l.fn.meter.updates ≤ l.meter.updates;
+  least_looks : l.fn.meter.looks ≤ l.meter.looks;
 }

@@ -1,5 +1,6 @@
 //! Laws of the spellings.
-ghost use Rattle.std.specs.Prelude.{◌≡◌, ◌≤◌, ◌+◌, ◌++◌, List, ℕ, length, true, Option, Ok, Some};
+ghost use Rattle.std.specs.Prelude.{◌≡◌, ◌≤◌, ◌<◌, ◌+◌, ◌++◌, List, ℕ, [], length, true, Option, Ok, Some, None};
+ghost use Rattle.std.specs.List.{All};
 ghost use Rattle.mvd_keys.specs.Key.{is_key};
 ghost use Rattle.mvd_keys.specs.Path.{is_path};
 ghost use Rattle.mvd_keys.specs.State.{State, Text};
@@ -38,6 +39,10 @@ pub fn one_spelling()
     ensures old_states { IsPrefixFree (state layout1) }
     // A frame is read again, and what follows it is left.
     ensures frames { (f : FrameValue) (rest : List ℕ) → length f.payload + 1 ≤ frame_limit → frame_at (spell_frame f ++ rest) ≡ Ok (Some f, rest) }
+    // Where bytes are read as a frame, they begin with its spelling.
+    ensures frames_read { (bytes : List ℕ) (f : FrameValue) (rest : List ℕ) → All (λ b. b < 256) bytes → frame_at bytes ≡ Ok (Some f, rest) → (bytes ≡ spell_frame f ++ rest) × (length f.payload + 1 ≤ frame_limit) }
+    // Where no frame is read, there is no byte.
+    ensures no_frame { (bytes : List ℕ) (rest : List ℕ) → frame_at bytes ≡ Ok (None, rest) → (bytes ≡ []) × (rest ≡ []) }
 {}
 
 /// What has a spelling is decoded from it.

@@ -2,6 +2,7 @@ use Rattle.mvd_wire.specs.Kinds.{layout1, layout2, dot, context, key, document, 
 use Rattle.mvd_wire.specs.Rows.{digests, ends, field, key_entry, page, place, sum, term, view_name, view_row}
 use Rattle.mvd_wire.proofs.RowLaws.{lawful_digests, lawful_ends, lawful_field, lawful_key_entry, lawful_page, lawful_place, lawful_sum, lawful_term, lawful_view_name, lawful_view_row}
 use Rattle.mvd_wire.proofs.FrameLemmas.{frame_again}
+use Rattle.mvd_wire.proofs.FramesRead.{frame_taken, no_frame_taken}
 use Rattle.mvd_wire.proofs.Laws.{prefix_free}
 use Rattle.mvd_wire.proofs.KindLaws.{wide_layout1, wide_layout2, lawful_dot, lawful_context, lawful_key, lawful_document, lawful_path, lawful_state}
 use Rattle.mvd_wire.proofs.unique.one_spelling.Goals as goal
@@ -28,4 +29,6 @@ returns c = record {
   states = prefix_free (state layout2) (lawful_state layout2 wide_layout2);
   old_states = prefix_free (state layout1) (lawful_state layout1 wide_layout1);
   frames = frame_again;
+  frames_read = frame_taken;
+  no_frame = no_frame_taken;
 }

@@ -10,6 +10,15 @@ use Rattle.mvd_dots.specs.declared.refusals.Refusal.TheVariants.{Truncated, Fram
 use Rattle.mvd_keys.proofs.Lists.{and_true}
 use Rattle.mvd_wire.specs.Kind.{number}
 use Rattle.mvd_wire.specs.Frames.{FrameValue, body_at, length_at, frame_at, frame_behind, frame_limit, spell_frame}
+use Rattle.mvd_wire.specs.declared.request.Request.{Request}
+use Rattle.mvd_wire.specs.declared.reply.Reply.{Reply}
+use Rattle.mvd_wire.specs.Requests as asked
+use Rattle.mvd_wire.specs.Requests.{IsRequest, request_bytes, request_of}
+use Rattle.mvd_wire.specs.Replies as told
+use Rattle.mvd_wire.specs.Replies.{IsReply, reply_bytes, reply_of}
+use Rattle.mvd_wire.proofs.FrameLemmas.{frame_again}
+use Rattle.mvd_wire.proofs.RequestLaws.{requests_again}
+use Rattle.mvd_wire.proofs.ReplyLaws.{replies_again}
 use Rattle.mvd_wire.proofs.Laws.{IsBytes, wide32, IsBytes-take, bind_ok, guard_ok, passed_ok, ok_is}
 
 all_bytes : (bytes : List ℕ) → All (λ b. b < 256) bytes → IsBytes bytes
@@ -133,3 +142,23 @@ unfolding frame_at
 no_frame_taken bytes rest e =
     let a = bind_ok (length_at bytes) frame_behind (None, rest) e in
     no_length bytes rest (a.1 ∙ ap (λ (p : Option ℕ × List ℕ). Ok p) (behind_none a.0 rest a.2))
+
+-- no frame begins another
+pub frames_differ : (f g : FrameValue) (a b : List ℕ) → length f.payload + 1 ≤ frame_limit → length g.payload + 1 ≤ frame_limit → spell_frame f ++ a ≡ spell_frame g ++ b → (f ≡ g) × (a ≡ b)
+frames_differ f g a b few_f few_g e =
+    let both : (Some f, a) ≡ (Some g, b) = ok_is (Some f, a) (Some g, b) (sym (frame_again f a few_f) ∙ ap frame_at e ∙ frame_again g b few_g) in
+    (some_is f g (ap (λ (p : Option FrameValue × List ℕ). p.0) both), ap (λ (p : Option FrameValue × List ℕ). p.1) both)
+
+pub requests_differ : (r s : Request) (a b : List ℕ) → IsRequest r → IsRequest s → length (asked.payload_of r) + 1 ≤ frame_limit → length (asked.payload_of s) + 1 ≤ frame_limit → request_bytes r ++ a ≡ request_bytes s ++ b → (r ≡ s) × (a ≡ b)
+requests_differ r s a b is_r is_s few_r few_s e =
+    let f : FrameValue = record { kind = asked.kind_of r; payload = asked.payload_of r } in
+    let g : FrameValue = record { kind = asked.kind_of s; payload = asked.payload_of s } in
+    let parts = frames_differ f g a b few_r few_s e in
+    (ok_is r s (sym (requests_again r is_r) ∙ ap (λ (h : FrameValue). request_of h.kind h.payload) parts.0 ∙ requests_again s is_s), parts.1)
+
+pub replies_differ : (r s : Reply) (a b : List ℕ) → IsReply r → IsReply s → length (told.payload_of r) + 1 ≤ frame_limit → length (told.payload_of s) + 1 ≤ frame_limit → reply_bytes r ++ a ≡ reply_bytes s ++ b → (r ≡ s) × (a ≡ b)
+replies_differ r s a b is_r is_s few_r few_s e =
+    let f : FrameValue = record { kind = told.kind_of r; payload = told.payload_of r } in
+    let g : FrameValue = record { kind = told.kind_of s; payload = told.payload_of s } in
+    let parts = frames_differ f g a b few_r few_s e in
+    (ok_is r s (sym (replies_again r is_r) ∙ ap (λ (h : FrameValue). reply_of h.kind h.payload) parts.0 ∙ replies_again s is_s), parts.1)

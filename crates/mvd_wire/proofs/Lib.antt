@@ -1,6 +1,7 @@
 pub mod Entries
 pub mod Fits
 pub mod FrameLemmas
+pub mod FramesRead
 pub mod KindLaws
 pub mod Laws
 pub mod Loops

@@ -1,5 +1,5 @@
 -- Requests: their kind bytes and their payloads.
-use Rattle.std.specs.Prelude.{◌≡◌, ℕ, ◌+◌, nat_le, if◌then◌else◌, List, [], length, Option, Result, Ok, Err}
+use Rattle.std.specs.Prelude.{◌≡◌, ℕ, ◌+◌, nat_le, if◌then◌else◌, List, [], ◌∷◌, length, Option, Result, Ok, Err}
 use Rattle.mvd_dots.specs.declared.refusals.Refusal.{Refusal}
 use Rattle.mvd_dots.specs.declared.refusals.Refusal.TheVariants.{BadKind, FrameTooLong, StateTooLarge}
 use Rattle.mvd_dots.specs.Context.{DotSet}
@@ -101,6 +101,10 @@ SpellsRequest r kind payload = IsRequest r × (kind ≡ kind_of r) × (payload �
 -- the frame of a kind byte and a payload, where it is not too long
 abbrev pub framed : ℕ → List ℕ → Result (List ℕ) Refusal
 framed kind payload = if nat_le (length payload + 1) frame_limit then Ok (spell_frame (record { kind = kind; payload = payload })) else Err FrameTooLong
+
+-- a frame that is being written, with a place for its length
+abbrev pub unmeasured : ℕ → List ℕ → List ℕ
+unmeasured kind payload = 0 ∷ 0 ∷ 0 ∷ 0 ∷ kind ∷ payload
 
 -- the answer, where the state is not too long
 abbrev pub within_limit : State → Result (List ℕ) Refusal → Result (List ℕ) Refusal

@@ -32,7 +32,8 @@ pub use reply::{Digests, Reply, RowValue};
 pub use request::Request;
 pub use requests::decode_request;
 pub use sending::{
-    encode_bye, encode_delete, encode_get, encode_push, encode_put, encode_reply, encode_request,
+    encode_bucket, encode_bye, encode_delete, encode_find, encode_get, encode_node, encode_push,
+    encode_put, encode_range, encode_reply, encode_request, encode_row, encode_rows,
 };
 pub use short::{Short, short_reply};
 pub use states::{decode_old_state, decode_state};

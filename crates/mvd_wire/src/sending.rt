@@ -1,10 +1,10 @@
 //! Whole frames of requests and replies.
-ghost use Rattle.std.specs.Prelude.{◌≡◌, ◌≤◌, ◌<◌, ◌+◌, ◌++◌, length, true, Ok, IfOk, OnOk};
+ghost use Rattle.std.specs.Prelude.{◌≡◌, ◌≤◌, ◌<◌, ◌+◌, ◌++◌, [], drop, length, slice_index, true, Ok, IfOk, OnOk};
 ghost use Rattle.mvd_keys.specs.Key.{is_key};
 ghost use Rattle.mvd_wire.specs.Kind.{Gives, Kind};
 ghost use Rattle.mvd_wire.specs.Kinds.{layout2, key, spell_state, state_limit, state as spelled};
 ghost use Rattle.mvd_wire.specs.Frames.{frame_limit};
-ghost use Rattle.mvd_wire.specs.Requests.{framed, within_limit, put, delete, find, row_of_view, rows_of_view, bucket, push, range, IsRequest, request_bytes, request_frame};
+ghost use Rattle.mvd_wire.specs.Requests.{framed, unmeasured, within_limit, put, delete, find, row_of_view, rows_of_view, bucket, push, range, IsRequest, request_bytes, request_frame};
 ghost use Rattle.mvd_wire.specs.Replies.{IsReply, reply_frame, within_page};
 ghost use Rattle.mvd_wire.specs.Rows.{digests, key_entry, page, page_limit, place, row, view_row};
 ghost use Rattle.mvd_wire.specs.declared.request.Request.TheVariants as asked;
@@ -18,25 +18,45 @@ use crate::row_writing::{
     put_view_name, put_view_rows,
 };
 use crate::short::Short;
-use crate::writing::{put_context, put_document, put_key, put_len32, put_state};
+use crate::writing::{put_context, put_document, put_key, put_state};
 use mvd_docs::{Document, Field, Term, ViewName};
 use mvd_dots::{Context, Dot, Refusal};
 use mvd_keys::{Key, KeyState, Path, Place};
 use std::alloc::{AllocError, Global};
 
-/// The frame of a kind byte and a payload.
-fn frame_of(alloc: Global, kind: u8, payload: &[u8]) -> Result<Vec<u8>, Refusal>
-    ensures exact { Gives (λ v. v.items) result (framed kind payload.now) }
-    ensures bound { IfOk result (λ _. length payload.now + 1 ≤ frame_limit) }
+/// The head of a frame: a place for its length, and the kind byte.
+fn head_of(alloc: Global, kind: u8) -> Result<Vec<u8>, AllocError>
+    ensures { IfOk result (λ v. v.items ≡ unmeasured kind []) }
 {
-    if payload.len() >= 1_200_000 {
+    head_with_room(alloc, kind, 0)
+}
+
+/// The head of a frame, with room for that many bytes of payload.
+fn head_with_room(alloc: Global, kind: u8, room: usize) -> Result<Vec<u8>, AllocError>
+    ensures { IfOk result (λ v. v.items ≡ unmeasured kind []) }
+{
+    let mut head = Vec::with_capacity(alloc, room.saturating_add(5))?;
+    head.extend_from_slice(&[0, 0, 0, 0, kind])?;
+    Ok(head)
+}
+
+/// The frame with its length, which is set when all of it was written.
+fn measured(frame: Vec<u8>) -> Result<Vec<u8>, Refusal>
+    requires { 5 ≤ length frame.items }
+    ensures exact { Gives (λ v. v.items) result (framed (slice_index frame.items 4) (drop 5 frame.items)) }
+    ensures bound { IfOk result (λ _. length frame.items ≤ frame_limit + 4) }
+{
+    let length = frame.len() - 4;
+    if length > 1_200_000 {
         return Err(Refusal::FrameTooLong);
     }
-    let mut out = Vec::new(alloc);
-    put_len32(&mut out, payload.len() + 1)?;
-    out.push(kind)?;
-    out.extend_from_slice(payload)?;
-    Ok(out)
+    let [a, b, c, d] = (length as u32).to_be_bytes();
+    let mut frame = frame;
+    frame[0] = a;
+    frame[1] = b;
+    frame[2] = c;
+    frame[3] = d;
+    Ok(frame)
 }
 
 #[tactic(auto, unfolding(crate::specs::Requests::put))]
@@ -81,9 +101,9 @@ pub fn encode_get(alloc: Global, key: &Key) -> Result<Vec<u8>, Refusal>
     ensures fits { IfOk result (λ _. IsRequest (asked.Get key.now)) }
     ensures short { request_frame (asked.Get key.now) ≡ Ok (request_bytes (asked.Get key.now)) }
 {
-    let mut payload = Vec::new(alloc);
-    put_key(&mut payload, key)?;
-    frame_of(alloc, 0x21, &payload)
+    let mut frame = head_with_room(alloc, 0x21, key.text().len() + 1)?;
+    put_key(&mut frame, key)?;
+    measured(frame)
 }
 
 /// The whole frame of a Put.
@@ -96,9 +116,9 @@ pub fn encode_put(
     ensures exact { Gives (λ v. v.items) result (request_frame (asked.Put key.now context.now document.now)) }
     ensures fits { IfOk result (λ _. IsRequest (asked.Put key.now context.now document.now)) }
 {
-    let mut payload = Vec::new(alloc);
-    put_put(&mut payload, key, context, document)?;
-    frame_of(alloc, 0x22, &payload)
+    let mut frame = head_of(alloc, 0x22)?;
+    put_put(&mut frame, key, context, document)?;
+    measured(frame)
 }
 
 /// The whole frame of a Delete.
@@ -106,9 +126,9 @@ pub fn encode_delete(alloc: Global, key: &Key, context: &Context) -> Result<Vec<
     ensures exact { Gives (λ v. v.items) result (request_frame (asked.Delete key.now context.now)) }
     ensures fits { IfOk result (λ _. IsRequest (asked.Delete key.now context.now)) }
 {
-    let mut payload = Vec::new(alloc);
-    put_delete(&mut payload, key, context)?;
-    frame_of(alloc, 0x23, &payload)
+    let mut frame = head_of(alloc, 0x23)?;
+    put_delete(&mut frame, key, context)?;
+    measured(frame)
 }
 
 /// The whole frame of a Push, which is too long only where the state is.
@@ -117,12 +137,14 @@ pub fn encode_push(alloc: Global, key: &Key, state: &KeyState) -> Result<Vec<u8>
     ensures fits { IfOk result (λ _. IsRequest (asked.Push key.now state.now)) }
     ensures short { length (spell_state state.now) ≤ state_limit → request_frame (asked.Push key.now state.now) ≡ Ok (request_bytes (asked.Push key.now state.now)) }
 {
-    if state_length(state) > 1_150_000 {
+    let length = state_length(state);
+    if length > 1_150_000 {
         return Err(Refusal::StateTooLarge);
     }
-    let mut payload = Vec::new(alloc);
-    put_push(&mut payload, key, state)?;
-    frame_of(alloc, 0x29, &payload)
+    let room = key.text().len() + 1 + length as usize;
+    let mut frame = head_with_room(alloc, 0x29, room)?;
+    put_push(&mut frame, key, state)?;
+    measured(frame)
 }
 
 #[tactic(auto, unfolding(crate::specs::Requests::find))]
@@ -151,9 +173,9 @@ pub fn encode_find(
     ensures exact { Gives (λ v. v.items) result (request_frame (asked.Find field.now term.now after.now)) }
     ensures fits { IfOk result (λ _. IsRequest (asked.Find field.now term.now after.now)) }
 {
-    let mut payload = Vec::new(alloc);
-    put_find(&mut payload, field, term, after)?;
-    frame_of(alloc, 0x24, &payload)
+    let mut frame = head_of(alloc, 0x24)?;
+    put_find(&mut frame, field, term, after)?;
+    measured(frame)
 }
 
 #[tactic(auto, unfolding(crate::specs::Requests::row_of_view))]
@@ -171,9 +193,9 @@ pub fn encode_row(alloc: Global, name: &ViewName, term: &Term) -> Result<Vec<u8>
     ensures exact { Gives (λ v. v.items) result (request_frame (asked.Row name.now term.now)) }
     ensures fits { IfOk result (λ _. IsRequest (asked.Row name.now term.now)) }
 {
-    let mut payload = Vec::new(alloc);
-    put_row_asked(&mut payload, name, term)?;
-    frame_of(alloc, 0x25, &payload)
+    let mut frame = head_of(alloc, 0x25)?;
+    put_row_asked(&mut frame, name, term)?;
+    measured(frame)
 }
 
 #[tactic(auto, unfolding(crate::specs::Requests::rows_of_view))]
@@ -195,9 +217,9 @@ pub fn encode_rows(alloc: Global, name: &ViewName, after: &Option<Term>) -> Resu
     ensures exact { Gives (λ v. v.items) result (request_frame (asked.Rows name.now after.now)) }
     ensures fits { IfOk result (λ _. IsRequest (asked.Rows name.now after.now)) }
 {
-    let mut payload = Vec::new(alloc);
-    put_rows_asked(&mut payload, name, after)?;
-    frame_of(alloc, 0x26, &payload)
+    let mut frame = head_of(alloc, 0x26)?;
+    put_rows_asked(&mut frame, name, after)?;
+    measured(frame)
 }
 
 #[tactic(auto, unfolding(crate::specs::Requests::bucket))]
@@ -215,9 +237,9 @@ pub fn encode_bucket(alloc: Global, path: &Path, after: &Option<Key>) -> Result<
     ensures exact { Gives (λ v. v.items) result (request_frame (asked.Bucket path.now after.now)) }
     ensures fits { IfOk result (λ _. IsRequest (asked.Bucket path.now after.now)) }
 {
-    let mut payload = Vec::new(alloc);
-    put_bucket(&mut payload, path, after)?;
-    frame_of(alloc, 0x28, &payload)
+    let mut frame = head_of(alloc, 0x28)?;
+    put_bucket(&mut frame, path, after)?;
+    measured(frame)
 }
 
 #[tactic(auto, unfolding(crate::specs::Requests::range))]
@@ -249,9 +271,9 @@ pub fn encode_range(
     ensures exact { Gives (λ v. v.items) result (request_frame (asked.Range field.now from.now to.now after.now)) }
     ensures fits { IfOk result (λ _. IsRequest (asked.Range field.now from.now to.now after.now)) }
 {
-    let mut payload = Vec::new(alloc);
-    put_range(&mut payload, field, from, to, after)?;
-    frame_of(alloc, 0x2A, &payload)
+    let mut frame = head_of(alloc, 0x2A)?;
+    put_range(&mut frame, field, from, to, after)?;
+    measured(frame)
 }
 
 /// The whole frame of a Node.
@@ -259,16 +281,16 @@ pub fn encode_node(alloc: Global, path: &Path) -> Result<Vec<u8>, Refusal>
     ensures exact { Gives (λ v. v.items) result (request_frame (asked.Node path.now)) }
     ensures fits { IfOk result (λ _. IsRequest (asked.Node path.now)) }
 {
-    let mut payload = Vec::new(alloc);
-    put_path(&mut payload, path)?;
-    frame_of(alloc, 0x27, &payload)
+    let mut frame = head_of(alloc, 0x27)?;
+    put_path(&mut frame, path)?;
+    measured(frame)
 }
 
 /// The whole frame of a Bye.
 pub fn encode_bye(alloc: Global) -> Result<Vec<u8>, Refusal>
     ensures { Gives (λ v. v.items) result (Ok (request_bytes asked.Bye)) }
 {
-    frame_of(alloc, 0x2F, &[])
+    measured(head_of(alloc, 0x2F)?)
 }
 
 /// The whole frame of a request.
@@ -297,12 +319,13 @@ fn encode_state_reply(alloc: Global, state: &KeyState) -> Result<Vec<u8>, Refusa
     ensures exact { Gives (λ v. v.items) result (within_limit state.now (framed 0xA1 (spell_state state.now))) }
     ensures fits { IfOk result (λ _. (spelled layout2).Fits state.now) }
 {
-    if state_length(state) > 1_150_000 {
+    let length = state_length(state);
+    if length > 1_150_000 {
         return Err(Refusal::StateTooLarge);
     }
-    let mut payload = Vec::new(alloc);
-    put_state(&mut payload, state)?;
-    frame_of(alloc, 0xA1, &payload)
+    let mut frame = head_with_room(alloc, 0xA1, length as usize)?;
+    put_state(&mut frame, state)?;
+    measured(frame)
 }
 
 /// The whole frame of a row.
@@ -310,9 +333,9 @@ fn encode_row_reply(alloc: Global, value: &RowValue) -> Result<Vec<u8>, Refusal>
     ensures exact { Gives (λ v. v.items) result (framed 0xA5 (row.spell value.now)) }
     ensures fits { IfOk result (λ _. row.Fits value.now) }
 {
-    let mut payload = Vec::new(alloc);
-    put_row(&mut payload, value.count, value.sum, value.ends)?;
-    frame_of(alloc, 0xA5, &payload)
+    let mut frame = head_of(alloc, 0xA5)?;
+    put_row(&mut frame, value.count, value.sum, value.ends)?;
+    measured(frame)
 }
 
 /// The whole frame of digests.
@@ -320,9 +343,9 @@ fn encode_digests(alloc: Global, value: &Digests) -> Result<Vec<u8>, Refusal>
     ensures exact { Gives (λ v. v.items) result (framed 0xA7 (digests.spell value.now)) }
     ensures fits { IfOk result (λ _. digests.Fits value.now) }
 {
-    let mut payload = Vec::new(alloc);
-    put_digests(&mut payload, value)?;
-    frame_of(alloc, 0xA7, &payload)
+    let mut frame = head_of(alloc, 0xA7)?;
+    put_digests(&mut frame, value)?;
+    measured(frame)
 }
 
 #[tactic(auto, unfolding(crate::specs::Rows::page, crate::specs::Rows::items))]
@@ -343,9 +366,9 @@ fn encode_places(alloc: Global, items: &[Place], more: bool) -> Result<Vec<u8>, 
     if items.len() > 1000 {
         return Err(Refusal::BadBody);
     }
-    let mut payload = Vec::new(alloc);
-    put_places_page(&mut payload, items, more)?;
-    frame_of(alloc, 0xA4, &payload)
+    let mut frame = head_of(alloc, 0xA4)?;
+    put_places_page(&mut frame, items, more)?;
+    measured(frame)
 }
 
 #[tactic(auto, unfolding(crate::specs::Rows::page, crate::specs::Rows::items))]
@@ -374,9 +397,9 @@ fn encode_view_rows(
     if items.len() > 1000 {
         return Err(Refusal::BadBody);
     }
-    let mut payload = Vec::new(alloc);
-    put_view_rows_page(&mut payload, items, more)?;
-    frame_of(alloc, 0xA6, &payload)
+    let mut frame = head_of(alloc, 0xA6)?;
+    put_view_rows_page(&mut frame, items, more)?;
+    measured(frame)
 }
 
 #[tactic(auto, unfolding(crate::specs::Rows::page, crate::specs::Rows::items))]
@@ -397,9 +420,9 @@ fn encode_keys(alloc: Global, items: &[(Key, [u8; 32])], more: bool) -> Result<V
     if items.len() > 1000 {
         return Err(Refusal::BadBody);
     }
-    let mut payload = Vec::new(alloc);
-    put_keys_page(&mut payload, items, more)?;
-    frame_of(alloc, 0xA8, &payload)
+    let mut frame = head_of(alloc, 0xA8)?;
+    put_keys_page(&mut frame, items, more)?;
+    measured(frame)
 }
 
 fn encode_short(alloc: Global, short: &Short) -> Result<Vec<u8>, Refusal>

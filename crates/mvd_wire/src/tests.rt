@@ -35,8 +35,15 @@ fn states_are_read_and_spelled_again(rt: HostRuntime) -> Result<(), Fail> {
     let new = decode_state(alloc, &STATE)?;
     assert_eq!(rt; state_length(&new), 45);
     assert_eq!(rt; encode_state(alloc, &new)?.as_slice(), STATE.as_slice());
+    let reply = encode_reply(alloc, &Reply::State(new))?;
+    assert_eq!(rt; &reply[..5], b"\0\0\0\x2E\xA1".as_slice());
+    assert_eq!(rt; &reply[5..], STATE.as_slice());
     let old = decode_old_state(alloc, &OLD_STATE)?;
     assert_eq!(rt; encode_state(alloc, &old)?.as_slice(), STATE.as_slice());
+    let other =
+        b"\0\0\0\x01\0\0\0\x01\0\0\0\0\0\0\0\x01\0\0\0\0\0\x01\0\0\0\x01\0\0\0\0\0\0\0\x01\0\0\0\x02{}";
+    let state = decode_state(alloc, other)?;
+    assert_eq!(rt; encode_state(alloc, &state)?.as_slice(), other.as_slice());
     let empty = KeyState::empty(alloc);
     assert_eq!(rt;
         encode_state(alloc, &empty)?.as_slice(),
@@ -50,15 +57,19 @@ fn keys_and_contexts_are_spelled(rt: HostRuntime) -> Result<(), Fail> {
     let alloc = rt.alloc();
     let key = Key::read(alloc, "abc")?;
     assert_eq!(rt; encode_key(alloc, &key)?.as_slice(), b"\x03abc".as_slice());
-    let context = Context::read(alloc, "2:0+3")?;
-    let bytes = [
-        0, 0, 0, 0x21, 0x23, 3, 0x61, 0x62, 0x63, 0, 0, 0, 1, 0, 0, 0, 2, 0, 0, 0, 0, 0, 0, 0, 0,
-        0, 0, 0, 1, 0, 0, 0, 0, 0, 0, 0, 3,
+    let contexts: [(&str, &[u8]); 3] = [
+        ("-", b"\0\0\0\0"),
+        ("1:1", b"\0\0\0\x01\0\0\0\x01\0\0\0\0\0\0\0\x01\0\0\0\0"),
+        (
+            "2:0+3",
+            b"\0\0\0\x01\0\0\0\x02\0\0\0\0\0\0\0\0\0\0\0\x01\0\0\0\0\0\0\0\x03",
+        ),
     ];
-    assert_eq!(rt;
-        encode_delete(alloc, &key, &context)?.as_slice(),
-        bytes.as_slice()
-    );
+    for (text, spelled) in contexts {
+        let context = Context::read(alloc, text)?;
+        let frame = encode_delete(alloc, &key, &context)?;
+        assert!(rt; frame.as_slice().ends_with(spelled));
+    }
     Ok(())
 }
 
@@ -111,6 +122,7 @@ fn requests_are_refused(rt: HostRuntime) {
     assert_eq!(rt; fault(alloc, 0x22, &no_dot), 2);
     assert_eq!(rt; fault(alloc, 0x29, &[1, 0x6B, 0, 0, 0, 0, 0xFF, 0xFF]), 33);
     assert_eq!(rt; fault(alloc, 0x01, &[1, 0x6B]), 32);
+    assert_eq!(rt; fault(alloc, 0x70, &[]), 32);
     assert_eq!(rt; fault(alloc, 0x21, &[0]), 1);
     assert_eq!(rt; fault(alloc, 0x21, &[2, 0x6B]), 33);
     assert_eq!(rt; fault(alloc, 0x21, &[1, 0x6B]), 0);
@@ -121,9 +133,16 @@ fn requests_are_refused(rt: HostRuntime) {
 #[test]
 fn requests_go_round(rt: HostRuntime) -> Result<(), Fail> {
     let alloc = rt.alloc();
-    let get = [0, 0, 0, 3, 0x21, 1, 0x6B];
-    let bye = [0, 0, 0, 1, 0x2F];
-    let frames: [&[u8]; 5] = [&get, &PUT, &DELETE, &PUSH, &bye];
+    let frames: [&[u8]; 8] = [
+        b"\0\0\0\x03\x21\x01k",
+        &PUT,
+        &DELETE,
+        &PUSH,
+        b"\0\0\0\x0F\x24\0\x04city\x04\0\x04Oslo\0",
+        b"\0\0\0\x0F\x25\0\x05spend\x04\0\x04Oslo",
+        b"\0\0\0\x02\x27\0",
+        b"\0\0\0\x01\x2F",
+    ];
     for bytes in frames {
         let mut input = bytes;
         let frame = read_frame(alloc, &mut input)?.ok_or("a frame")?;
@@ -140,10 +159,12 @@ fn requests_go_round(rt: HostRuntime) -> Result<(), Fail> {
 fn replies_go_round(rt: HostRuntime) -> Result<(), Fail> {
     let alloc = rt.alloc();
     let empty = [0, 0, 0, 7, 0xA1, 0, 0, 0, 0, 0, 0];
+    let places =
+        b"\0\0\0\x43\xA4\0\0\x03\x04\0\x04Oslo\x01a\0\0\0\x01\0\0\0\0\0\0\0\x01\x04\0\x04Oslo\x01a\0\0\0\x01\0\0\0\0\0\0\0\x02\x04\0\x04Oslo\x01b\0\0\0\x01\0\0\0\0\0\0\0\x01";
     let written = [0, 0, 0, 13, 0xA2, 0, 0, 0, 1, 0, 0, 0, 0, 0, 0, 0, 1];
     let done = [0, 0, 0, 1, 0xA3];
     let refused = [0, 0, 0, 2, 0xEE, 0x1E];
-    let frames: [&[u8]; 4] = [&empty, &written, &done, &refused];
+    let frames: [&[u8]; 5] = [&empty, places, &written, &done, &refused];
     for bytes in frames {
         let mut input = bytes;
         let frame = read_frame(alloc, &mut input)?.ok_or("a frame")?;
@@ -223,6 +244,8 @@ fn answers_go_round(rt: HostRuntime) -> Result<(), Fail> {
     let mut digests = [0; 545];
     digests[32] = 16;
     assert!(rt; reply_comes_back(alloc, 0xA7, &digests)?);
+    let node = encode_reply(alloc, &decode_reply(alloc, 0xA7, &digests)?)?;
+    assert_eq!(rt; &node[..5], b"\0\0\x02\x22\xA7".as_slice());
     assert!(rt; reply_comes_back(alloc, 0xA7, &digests[512..])?);
     assert!(rt; reply_comes_back(alloc, 0xA6, &[1, 0, 0])?);
     assert!(rt; reply_comes_back(alloc, 0xA8, &[0, 0, 0])?);
@@ -266,6 +289,29 @@ fn frames_are_refused(rt: HostRuntime) -> Result<(), Fail> {
         assert_eq!(rt; frame_fault(alloc, &PUT[..cut]), 30);
     }
     Ok(())
+}
+
+#[test]
+fn the_longest_frame_is_read(rt: HostRuntime) -> Result<(), Fail> {
+    let alloc = rt.alloc();
+    let mut bytes = Vec::new(alloc);
+    bytes.extend_from_slice(&[0, 0x12, 0x4F, 0x80])?;
+    for _ in 0..12_001 {
+        bytes.extend_from_slice(&[7; 100])?;
+    }
+    let mut input = bytes.as_slice();
+    let frame = read_frame(alloc, &mut input)?.ok_or("a frame")?;
+    assert_eq!(rt; frame.payload.len(), 1_199_999);
+    assert_eq!(rt; input.len(), 100);
+    Ok(())
+}
+
+#[test]
+fn a_full_writer_is_refused(rt: HostRuntime) {
+    let mut room = [0; 20];
+    let mut writer: &mut [u8] = &mut room;
+    assert!(rt; matches!(write_frame(&mut writer, &PUT), Err(Refusal::WriteFailed)));
+    assert_eq!(rt; room.as_slice(), &PUT[..20]);
 }
 
 /// One byte each call, until it is interrupted.

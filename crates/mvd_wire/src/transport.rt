@@ -1,7 +1,9 @@
 //! Frames, read from a reader and written to a writer.
-ghost use Rattle.std.specs.Prelude.{◌≡◌, ◌≤◌, ◌<◌, ℕ, take, length, ◌⊎◌, IfOk, IfErr, OnOk, OnErr, IfSome, option_map};
+ghost use Rattle.std.specs.Prelude.{◌≡◌, ◌≤◌, ◌<◌, ◌+◌, ◌∷◌, ℕ, take, length, ◌⊎◌, IfOk, IfErr, OnOk, OnErr, IfSome, option_map};
+ghost use Rattle.std.specs.Int.{w32, from_be_bytes};
 ghost use Rattle.std.specs.Io.KnownBytes.{Appends, Consumes, IsAtEnd};
-ghost use Rattle.mvd_wire.specs.Frames.{AppendsFront, EndsReading, Reads, frame_value, length_at, body_at, frame_at};
+ghost use Rattle.mvd_wire.specs.Frames.{AppendsFront, EndsReading, Reads, frame_value, frame_limit, spell_frame, length_at, body_at, frame_at};
+ghost use Rattle.mvd_wire.specs.Kind.{Kind, number};
 
 use crate::frame::Frame;
 use mvd_dots::Refusal;
@@ -64,11 +66,21 @@ fn read_up_to<R: Read>(alloc: Global, reader: &mut R, count: usize) -> Result<Ve
     Ok(bytes)
 }
 
+/// The number that four bytes spell.
+fn number_of(head: &[u8; 4]) -> u32
+    ensures value { result ≡ from_be_bytes w32 head.now }
+    ensures spelled { (number w32).spell result ≡ head.now }
+{
+    u32::from_be_bytes(*head)
+}
+
 /// The length of the next frame, or nothing where the reader is at its end.
 #[tactic(auto, unfolding(crate::specs::Frames::length_at))]
 fn read_length<R: Read>(reader: &mut R) -> Result<Option<u32>, Refusal>
     ensures read { Reads (λ n. n) (R.remaining reader.old) (R.remaining reader.new) result length_at }
     ensures some { IfOk result (λ o. IfSome o (λ n. 1 ≤ n)) }
+    ensures few { IfOk result (λ o. IfSome o (λ n. n ≤ frame_limit)) }
+    ensures spelled { IfOk result (λ o. IfSome o (λ n. Consumes (R.remaining reader.old) (R.remaining reader.new) ((number w32).spell n))) }
     ensures err { IfErr result EndsReading }
 {
     let mut head = [0u8; 4];
@@ -79,7 +91,7 @@ fn read_length<R: Read>(reader: &mut R) -> Result<Option<u32>, Refusal>
     if came < 4 {
         return Err(Refusal::Truncated);
     }
-    let length = u32::from_be_bytes(head);
+    let length = number_of(&head);
     if length == 0 || length > 1_200_000 {
         return Err(Refusal::FrameTooLong);
     }
@@ -88,16 +100,18 @@ fn read_length<R: Read>(reader: &mut R) -> Result<Option<u32>, Refusal>
 
 /// The kind and the payload of a frame, of a length together.
 #[tactic(auto, unfolding(crate::specs::Frames::body_at))]
-fn read_body<R: Read>(alloc: Global, reader: &mut R, length: u32) -> Result<Frame, Refusal>
-    requires { 1 ≤ length }
-    ensures read { Reads frame_value (R.remaining reader.old) (R.remaining reader.new) result (body_at length) }
+fn read_body<R: Read>(alloc: Global, reader: &mut R, size: u32) -> Result<Frame, Refusal>
+    requires { 1 ≤ size }
+    ensures read { Reads frame_value (R.remaining reader.old) (R.remaining reader.new) result (body_at size) }
+    ensures len { IfOk result (λ f. length f.payload.items + 1 ≡ size) }
+    ensures spelled { IfOk result (λ f. Consumes (R.remaining reader.old) (R.remaining reader.new) (f.kind ∷ f.payload.items)) }
     ensures err { IfErr result EndsReading }
 {
     let mut kind = [0u8; 1];
     if fill(reader, &mut kind)? < 1 {
         return Err(Refusal::Truncated);
     }
-    let count = (length - 1) as usize;
+    let count = (size - 1) as usize;
     let payload = read_up_to(alloc, reader, count)?;
     if payload.len() < count {
         return Err(Refusal::Truncated);
@@ -112,6 +126,9 @@ fn read_body<R: Read>(alloc: Global, reader: &mut R, length: u32) -> Result<Fram
 #[tactic(auto, unfolding(crate::specs::Frames::frame_at))]
 pub fn read_frame<R: Read>(alloc: Global, reader: &mut R) -> Result<Option<Frame>, Refusal>
     ensures read { Reads (option_map frame_value) (R.remaining reader.old) (R.remaining reader.new) result frame_at }
+    // What was read is the spelling of the frame, which is short enough to be sent again.
+    ensures spelled { IfOk result (λ o. IfSome o (λ f. Consumes (R.remaining reader.old) (R.remaining reader.new) (spell_frame (frame_value f)))) }
+    ensures few { IfOk result (λ o. IfSome o (λ f. length f.payload.items + 1 ≤ frame_limit)) }
     ensures err { IfErr result EndsReading }
 {
     match read_length(reader)? {

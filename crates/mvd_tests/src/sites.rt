@@ -1,10 +1,13 @@
 //! Calls of a site that a script does not make.
+ghost use Rattle.std.specs.Prelude.{IfOk};
+ghost use Rattle.mvd_site.specs.Held.{IsHeldState};
+
 use mvd_docs::Document;
 use mvd_dots::{Context, Dot, Refusal};
-use mvd_keys::{Key, Path};
+use mvd_keys::{Key, KeyState, Path};
 use mvd_rows::Defs;
 use mvd_site::{Config, Prepared, Site, counted};
-use mvd_wire::{Reply, Request, encode_state};
+use mvd_wire::{Reply, Request, encode_state, state_length};
 use std::alloc::Global;
 use std::test::Fail;
 
@@ -112,23 +115,46 @@ fn page(site: &mut Site, path: Path, after: Option<Key>) -> Result<(usize, bool)
     }
 }
 
+/// The state after one put of `{}` at site 3.
+fn held_state(alloc: Global) -> Result<KeyState, Refusal>
+    ensures { IfOk result IsHeldState }
+{
+    let document = Document::read(alloc, "{}")?;
+    let seen = Context::new(alloc);
+    let (state, _) = KeyState::empty(alloc).put(alloc, 3, &seen, document)?;
+    if state_length(&state) > 1_150_000 {
+        return Err(Refusal::StateTooLarge);
+    }
+    Ok(state)
+}
+
+/// A site that is opened with that state at the key `a`.
+fn opened(alloc: Global) -> Result<Site, Refusal> {
+    let mut states = Vec::new(alloc);
+    states.push((Key::read(alloc, "a")?, held_state(alloc)?))?;
+    Site::open(alloc, Config::new(4, 1, Defs::new(alloc)), states)
+}
+
 #[test]
 fn a_site_that_is_opened_has_the_same_digests(rt: HostRuntime) -> Result<(), Fail> {
     let alloc = rt.alloc();
     let mut site = Site::new(alloc, Config::new(3, 9, Defs::new(alloc)))?;
     site.answer(&put(alloc, "a", "-", "{}")?);
-    let Reply::State(state) = site.answer(&get(alloc, "a")?) else {
-        return Err(Fail::from("no state"));
-    };
-    let mut states = Vec::new(alloc);
-    states.push((Key::read(alloc, "a")?, state))?;
-    let mut opened = Site::open(alloc, Config::new(4, 1, Defs::new(alloc)), states)?;
+    let mut opened = opened(alloc)?;
     assert_eq!(rt; root(alloc, &mut opened)?, root(alloc, &mut site)?);
-    let bucket = page(&mut opened, Path::new(alloc, &[12, 10, 9])?, None)?;
+    Ok(())
+}
+
+#[test]
+fn buckets_are_told_in_pages(rt: HostRuntime) -> Result<(), Fail> {
+    let alloc = rt.alloc();
+    let mut site = opened(alloc)?;
+    let bucket = page(&mut site, Path::new(alloc, &[12, 10, 9])?, None)?;
     assert_eq!(rt; bucket, (1, false));
-    let rest = page(&mut opened, Path::new(alloc, &[12, 10, 9])?, Some(Key::read(alloc, "a")?))?;
+    let after = Some(Key::read(alloc, "a")?);
+    let rest = page(&mut site, Path::new(alloc, &[12, 10, 9])?, after)?;
     assert_eq!(rt; rest, (0, false));
-    let inner = page(&mut opened, Path::new(alloc, &[12, 10])?, None);
+    let inner = page(&mut site, Path::new(alloc, &[12, 10])?, None);
     assert!(rt; matches!(&inner, Err(Refusal::BadPath)));
     Ok(())
 }

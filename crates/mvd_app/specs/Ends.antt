@@ -1,6 +1,5 @@
 -- How a script may end early.
 use Rattle.std.specs.Prelude.{◌≡◌, ◌<◌, ◌⊎◌}
-use Rattle.mvd_dots.specs.declared.refusals.Refusal.{Refusal}
 use Rattle.mvd_dots.specs.declared.refusals.Refusal.TheVariants.{Memory, FrameTooLong, ReadFailed, WriteFailed}
 use Rattle.mvd_app.specs.declared.fault.Fault.{Fault}
 use Rattle.mvd_app.specs.declared.fault.Fault.TheVariants.{Stopped, Line}

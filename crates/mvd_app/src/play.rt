@@ -29,12 +29,7 @@ pub struct Play {
 
 impl Play {
     /// This many sites with no key, each of which may hold `max_keys` keys and has these indexes and views.
-    pub fn new(
-        alloc: Global,
-        count: u32,
-        max_keys: u32,
-        defs: &Defs,
-    ) -> Result<Play, Refusal>
+    pub fn new(alloc: Global, count: u32, max_keys: u32, defs: &Defs) -> Result<Play, Refusal>
         requires few { count ≤ 16 }
         requires low { 0 < max_keys }
         requires high { max_keys ≤ 1000000 }

@@ -4,23 +4,22 @@ use Rattle.std.specs.Prelude.{option_map}
 use Rattle.std.proofs.Math.Seq.{drop-append_seam}
 use Rattle.std.proofs.lemmas.Bool.{ltb-false, ltb-true}
 use Rattle.std.proofs.lemmas.List.{length-take}
-use Rattle.std.specs.List.{AllByRecursion, flat_map}
-use Rattle.std.specs.FinMap.{FinMap, entries, get, insert, len, len-empty, empty, from_entries, get-retain_keys, is_sorted}
+use Rattle.std.specs.List.{AllByRecursion}
+use Rattle.std.specs.FinMap.{entries, get, insert, len, len-empty, empty, from_entries, get-retain_keys}
 use Rattle.sha2.specs.Sha256.{sha256}
 use Rattle.sha2.proofs.Facts256.{length-sha256}
-use Rattle.mvd_keys.specs.Key.{is_key, key_cmp}
+use Rattle.mvd_keys.specs.Key.{key_cmp}
 use Rattle.mvd_keys.specs.State.{State}
 use Rattle.mvd_keys.specs.Writes.{Key}
-use Rattle.mvd_keys.proofs.KeyOrder.{key_antisymmetric, key_total, same_where_tied}
+use Rattle.mvd_keys.proofs.KeyOrder.{key_antisymmetric, key_total}
 use Rattle.mvd_rows.specs.Stands.{IsRowsOf}
 use Rattle.mvd_rows.specs.declared.changes.Rows.{Rows}
 use Rattle.mvd_tree.specs.Change.{changed}
 use Rattle.mvd_tree.specs.HashTree.{KeyDigests, digest_above, digest_unless_empty, digits, is_under, node_digest, zero_digest}
 use Rattle.mvd_tree.specs.Page.{children_digests, is_after, page_of, rest_of}
 use Rattle.mvd_tree.specs.States.{key_digest}
-use Rattle.mvd_tree.proofs.Held.{digests_of-empty, digests_of-entries, digests_of-insert, digests_rise}
+use Rattle.mvd_tree.proofs.Held.{digests_of-empty, digests_of-entries, digests_of-insert}
 use Rattle.mvd_tree.proofs.KeyDigests.{Each, get-digests_of, got_each}
-use Rattle.mvd_wire.specs.Kind.{Kind}
 use Rattle.mvd_wire.specs.Kinds.{key as spelled_key, spell_state}
 use Rattle.mvd_wire.specs.Replies.{CanBeSent}
 use Rattle.mvd_wire.specs.declared.reply.Digests.{Digests}

@@ -1,12 +1,12 @@
 -- The states and the digests of the keys held are those of the writes known.
-use Rattle.std.proofs.Common.{◌≡◌, ℕ, Bool, true, false, not, ◌||◌, cond, List, [], ◌∷◌, map, Option, Some, None, refl, sym, ap, ◌∙◌}
+use Rattle.std.proofs.Common.{◌≡◌, Bool, true, false, not, ◌||◌, cond, List, [], ◌∷◌, map, Some, None, refl, sym, ap, ◌∙◌}
 use Rattle.std.specs.List.{list_any}
 use Rattle.std.specs.Ordering.{eq_by_cmp}
 use Rattle.std.specs.FinMap.{find, get-from_entries, same_map}
-use Rattle.std.specs.FinSet.{items, contains, contains-items}
+use Rattle.std.specs.FinSet.{items, contains-items}
 use Rattle.mvd_keys.specs.Key.{key_cmp}
 use Rattle.mvd_keys.specs.State.{State}
-use Rattle.mvd_keys.specs.Writes.{Key, Stands, Write, context, held, is_empty, keys, state}
+use Rattle.mvd_keys.specs.Writes.{Key, Stands, Write, context, is_empty, keys, state}
 use Rattle.mvd_keys.proofs.Held.{contains-keys}
 use Rattle.mvd_keys.proofs.KeyOrder.{key_antisymmetric, key_total, same_where_tied}
 use Rattle.mvd_site.specs.Answer.{states_of}

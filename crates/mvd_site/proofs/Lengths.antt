@@ -1,10 +1,10 @@
 -- How long states are, and which are too long.
-use Rattle.std.proofs.Common.{◌≡◌, ℕ, ◌<◌, ◌≤◌, ◌-◌, ◌^◌, true, false, min, nat_lt, nat_le, if◌then◌else◌, Ok, Err, length, refl, sym, ap, ◌∙◌, le-ltb, lt-ltb, arith}
+use Rattle.std.proofs.Common.{◌≡◌, ℕ, ◌<◌, ◌≤◌, ◌-◌, ◌^◌, true, false, min, nat_lt, nat_le, if◌then◌else◌, Ok, Err, length, ap, le-ltb, lt-ltb, arith}
 use Rattle.mvd_keys.specs.State.{State, empty_state}
 use Rattle.mvd_keys.proofs.Lists.{IsValid-empty}
 use Rattle.std.proofs.lemmas.Bool.Decides.{nat_tests}
 use Rattle.mvd_dots.specs.declared.refusals.Refusal.TheVariants.{StateTooLarge}
-use Rattle.mvd_wire.specs.Kind.{Kind, spelled_within}
+use Rattle.mvd_wire.specs.Kind.{spelled_within}
 use Rattle.mvd_wire.specs.Kinds.{layout2, spell_state, state, state_limit}
 use Rattle.mvd_wire.proofs.Spellings.{length_empty}
 use Rattle.mvd_site.specs.Answer.{is_too_large}

@@ -1,5 +1,5 @@
 -- What indexes and views tell is not too long, and is refused only for want of an index, a view or memory.
-use Rattle.std.proofs.Common.{◌≡◌, ◌≢◌, ℕ, ℤ, zero, suc, ◌≤◌, Bool, true, false, cond, if◌then◌else◌, leb, List, [], ◌∷◌, ◌++◌, take, length, map, ◌&&◌, Option, Some, None, IfSome, Result, Ok, Err, refl, sym, ap, ◌∙◌, subst, arith}
+use Rattle.std.proofs.Common.{◌≡◌, ◌≢◌, ℕ, ℤ, zero, suc, ◌≤◌, Bool, true, false, cond, if◌then◌else◌, List, [], ◌∷◌, ◌++◌, take, length, map, ◌&&◌, Option, Some, None, IfSome, Result, Ok, Err, refl, sym, ap, ◌∙◌, subst, arith}
 use Rattle.std.specs.Prelude.{filter, filter_map, flat_map, option_map, option_and_then}
 use Rattle.std.proofs.lemmas.Bool.{leb-true}
 use Rattle.std.proofs.lemmas.List.{length-take}
@@ -8,20 +8,19 @@ use Rattle.std.specs.List.{AllByRecursion}
 use Rattle.std.specs.declared.cmp.Ordering.{Ordering}
 use Rattle.std.specs.Ordering.{eq_by_cmp}
 use Rattle.std.specs.Cmp.{Equal-is, IsTotalOrder}
-use Rattle.std.specs.FinMap.{FinMap, IsAntisymmetric, entries, find, from_entries, get, get-from_entries, keys}
+use Rattle.std.specs.FinMap.{IsAntisymmetric, entries, find, from_entries, get, get-from_entries, keys}
 use Rattle.serde_json.specs.Data.{Data, null, boolean, number, string, array, object}
 use Rattle.serde_json.specs.Find.{as_i64}
 use Rattle.mvd_docs.specs.Document.{member_of, term_of}
 use Rattle.mvd_docs.specs.Term.{term_cmp, term_of_data}
 use Rattle.mvd_docs.specs.TermText.{is_term_text}
 use Rattle.mvd_docs.specs.declared.term.Term.{Term}
-use Rattle.mvd_docs.specs.declared.term.Term.TheVariants.{Null, False, True, Whole, Text}
+use Rattle.mvd_docs.specs.declared.term.Term.TheVariants.{Whole, Text}
 use Rattle.mvd_docs.proofs.TermOrder.{term_cmp_total, term_cmp-IsAntisymmetric}
-use Rattle.mvd_dots.specs.Dot.{DotValue, dot_cmp}
+use Rattle.mvd_dots.specs.Dot.{DotValue}
 use Rattle.mvd_dots.specs.declared.refusals.Refusal.{Refusal}
-use Rattle.mvd_dots.specs.declared.refusals.Refusal.TheVariants.{Broken, Memory, NoIndex, NoView}
-use Rattle.mvd_keys.specs.Key.{is_key, key_cmp}
-use Rattle.mvd_keys.specs.Place.{place_cmp}
+use Rattle.mvd_dots.specs.declared.refusals.Refusal.TheVariants.{Broken, Memory, NoIndex}
+use Rattle.mvd_keys.specs.Key.{is_key}
 use Rattle.mvd_keys.specs.State.{State, Text as Document}
 use Rattle.mvd_keys.specs.Writes.{Key}
 use Rattle.mvd_keys.specs.declared.places.Place.{Place}
@@ -29,7 +28,7 @@ use Rattle.mvd_keys.proofs.KeyOrder.{key_total}
 use Rattle.mvd_keys.proofs.PlaceOrder.{place_antisymmetric, place_total}
 use Rattle.mvd_rows.specs.Answers.{find_answer, group_of, groups_in, is_after, is_after_place, is_after_term, is_between, page_of, place_at, place_of, places_in, range_answer, row_answer, row_of_view, rows_answer, rows_of_view, shown, view_in, view_named}
 use Rattle.mvd_rows.specs.Defs.{Definitions, has_index}
-use Rattle.mvd_rows.specs.Marks.{spot_cmp, spots_exact, spots_total}
+use Rattle.mvd_rows.specs.Marks.{spots_exact, spots_total}
 use Rattle.mvd_rows.specs.Views.{row_of}
 use Rattle.mvd_rows.specs.Visible.{Visible, siblings_at, spot, visible_in}
 use Rattle.mvd_rows.specs.declared.definitions.ViewDef.{ViewDef}

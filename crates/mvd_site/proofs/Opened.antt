@@ -1,5 +1,5 @@
 -- The map of rising entries, and a set of writes that it stands for.
-use Rattle.std.proofs.Common.{◌≡◌, Bool, true, false, not, ◌&&◌, cond, List, [], ◌∷◌, ◌++◌, Option, Some, None, refl, sym, ap, ap₂, ◌∙◌, subst, true≢false, T, is_some, unwrap_or, arith, ℕ, ◌+◌, zero, suc, ◌<◌, length, map, take, drop, get_or}
+use Rattle.std.proofs.Common.{◌≡◌, true, false, cond, List, [], ◌∷◌, ◌++◌, Option, Some, None, refl, sym, ap, ◌∙◌, subst, T, is_some, unwrap_or, arith, ℕ, ◌+◌, zero, suc, ◌<◌, length, map, take, drop, get_or}
 use Rattle.std.proofs.Math.Seq.{split_at}
 use Rattle.std.proofs.lemmas.List.{map-id, take_more}
 use Rattle.std.specs.List.{AllByRecursion}
@@ -11,7 +11,7 @@ use Rattle.std.specs.FinMap.{get, find, from_entries, from_entries_push, get-fro
 use Rattle.std.specs.FinMap.Entries.{below_all}
 use Rattle.mvd_keys.specs.Key.{key_cmp}
 use Rattle.mvd_keys.specs.State.{State, empty_state, join}
-use Rattle.mvd_keys.specs.Writes.{Key, Stands, Write, is_empty, state, writes_for}
+use Rattle.mvd_keys.specs.Writes.{Key, Stands, Write, state, writes_for}
 use Rattle.mvd_keys.proofs.KeyOrder.{key_antisymmetric, key_total, same_where_tied, tied_itself_key}
 use Rattle.mvd_keys.proofs.Held.{no_writes}
 use Rattle.mvd_keys.proofs.Lists.{state_of_empty}

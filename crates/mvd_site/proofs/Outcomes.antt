@@ -6,8 +6,7 @@ use Rattle.mvd_dots.specs.Context.{DotSet}
 use Rattle.mvd_dots.specs.declared.refusals.Refusal.{Refusal}
 use Rattle.mvd_dots.specs.declared.refusals.Refusal.TheVariants.{Memory, Exhausted, DotClash, Broken}
 use Rattle.mvd_keys.specs.State.{State, Text, after_put, clashes, join, join_answer, put_with}
-use Rattle.mvd_wire.specs.declared.reply.Reply.{Reply}
-use Rattle.mvd_wire.specs.declared.reply.Reply.TheVariants.{State as Shown, Written, Done, Refused}
+use Rattle.mvd_wire.specs.declared.reply.Reply.TheVariants.{Written, Done, Refused}
 use Rattle.mvd_wire.specs.Replies.{CanBeSent}
 use Rattle.mvd_wire.proofs.SentFrames.{short_can_be_sent}
 use Rattle.mvd_site.specs.Change.{reply_of}

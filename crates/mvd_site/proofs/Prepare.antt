@@ -9,7 +9,7 @@ use Rattle.mvd_dots.specs.declared.refusals.Refusal.{Refusal}
 use Rattle.mvd_dots.specs.declared.refusals.Refusal.TheVariants.{StateTooLarge, DotClash, Broken, Memory, Exhausted}
 use Rattle.mvd_keys.specs.Key.{key_cmp}
 use Rattle.mvd_keys.specs.Minting.{mint}
-use Rattle.mvd_keys.specs.State.{State, Text, IsValid, after_put, after_delete, clashes, join}
+use Rattle.mvd_keys.specs.State.{State, Text, after_put, after_delete, clashes, join}
 use Rattle.mvd_keys.specs.Writes.{Key, Write, Wrote, Deleted, AreOf, Stands, context, is_empty, state}
 use Rattle.mvd_keys.proofs.Held.{no_writes}
 use Rattle.mvd_keys.proofs.StatesOfWrites.{state-put, state-delete}
@@ -24,7 +24,7 @@ use Rattle.mvd_site.specs.Config.{ConfigValue}
 use Rattle.mvd_site.specs.Held.{States, state_at}
 use Rattle.mvd_site.specs.Known.{Adds, Changes, MayReply}
 use Rattle.mvd_site.specs.Prepared.{LimitsTo, Prepares, PreparesAnswer, PreparesChange, PreparesReply}
-use Rattle.mvd_site.specs.Sites.{AnswersOne, SiteStands, SiteValue, within}
+use Rattle.mvd_site.specs.Sites.{AnswersOne, SiteValue}
 use Rattle.mvd_site.specs.declared.changes.Prepared.{Prepared}
 use Rattle.mvd_site.specs.declared.changes.Prepared.TheVariants.{Answer, Change}
 use Rattle.mvd_site.proofs.Steps.{Adds-change_of, Adds-nothing, Stands-insert, Stands-nothing, Stands-same, state_at-stands, within-stands}

@@ -1,14 +1,14 @@
 -- A run, one request after another.
-use Rattle.std.proofs.Common.{◌≡◌, Bool, true, false, List, [], ◌∷◌, ◌++◌, map, refl, sym, ap, ◌∙◌, subst, subst₂, append_assoc, append-nil}
+use Rattle.std.proofs.Common.{◌≡◌, Bool, false, List, [], ◌∷◌, ◌++◌, map, refl, sym, ap, ◌∙◌, subst, subst₂, append_assoc, append-nil}
 use Rattle.std.proofs.lemmas.List.{map-append}
 use Rattle.std.proofs.lemmas.Grind.{flat_map-append}
 use Rattle.std.specs.List.{AllByRecursion}
 use Rattle.mvd_keys.specs.Writes.{Write, Wrote, Deleted, Agree, writes_for}
 use Rattle.mvd_keys.proofs.Sets.{Agree-left, AreOf-writes_for, state-writes_for}
 use Rattle.mvd_wire.specs.declared.request.Request.{Request}
-use Rattle.mvd_wire.specs.declared.request.Request.TheVariants.{Get, Put, Delete, Push, Bye}
+use Rattle.mvd_wire.specs.declared.request.Request.TheVariants.{Put, Delete, Push}
 use Rattle.mvd_wire.specs.declared.reply.Reply.{Reply}
-use Rattle.mvd_wire.specs.declared.reply.Reply.TheVariants.{State as Shown, Written, Done, Refused}
+use Rattle.mvd_wire.specs.declared.reply.Reply.TheVariants.{Written, Done}
 use Rattle.mvd_site.specs.Config.{ConfigValue}
 use Rattle.mvd_site.specs.Known.{Adds, AllReplied, Event, IsValidRequest, MayReply, Tells, known_after}
 use Rattle.mvd_site.specs.Sites.{AnswersAll, AnswersOne, SiteStands, SiteValue}

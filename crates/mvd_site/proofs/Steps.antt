@@ -1,22 +1,22 @@
 -- One request: the map of states follows the writes known.
-use Rattle.std.proofs.Common.{◌≡◌, Bool, true, false, not, ◌&&◌, ◌==◌, cond, if◌then◌else◌, List, [], ◌∷◌, ◌++◌, Option, Some, None, is_some, refl, sym, ap, ap₂, ◌∙◌, subst, true≢false, append-nil, unwrap_or}
+use Rattle.std.proofs.Common.{◌≡◌, Bool, true, false, not, ◌&&◌, ◌==◌, cond, if◌then◌else◌, List, [], ◌++◌, Option, Some, None, is_some, refl, sym, ap, ap₂, ◌∙◌, subst, true≢false, append-nil, unwrap_or}
 use Rattle.std.specs.Ordering.{eq_by_cmp}
 use Rattle.std.specs.FinMap.{get, get-insert, insert as insert_at, len as len_of}
 use Rattle.std.specs.FinSet.{len-empty}
 use Rattle.mvd_dots.specs.Dot.{dot_cmp}
 use Rattle.mvd_dots.specs.declared.refusals.Refusal.TheVariants.{StateTooLarge, Full}
 use Rattle.mvd_keys.specs.Key.{key_cmp}
-use Rattle.mvd_keys.specs.State.{State, IsValid, empty_state, join}
-use Rattle.mvd_keys.specs.Writes.{Key, Write, Wrote, Deleted, AreOf, Stands, context, held, is_empty, state}
-use Rattle.mvd_keys.proofs.KeyOrder.{key_total, same_where_tied, tied_itself_key}
+use Rattle.mvd_keys.specs.State.{State, empty_state, join}
+use Rattle.mvd_keys.specs.Writes.{Key, Write, AreOf, Stands, context, held, is_empty, state}
+use Rattle.mvd_keys.proofs.KeyOrder.{key_total, same_where_tied}
 use Rattle.mvd_keys.proofs.StatesOfWrites.{state-untouched, join-state, key_tied}
 use Rattle.mvd_keys.proofs.Sets.{IsValid-state}
 use Rattle.mvd_keys.proofs.Held.{contains-keys, is_some-held, len-stands}
 use Rattle.mvd_keys.proofs.Lists.{state_of_empty}
 use Rattle.mvd_wire.specs.declared.request.Request.{Request}
-use Rattle.mvd_wire.specs.declared.request.Request.TheVariants.{Get, Put, Delete, Push, Bye}
+use Rattle.mvd_wire.specs.declared.request.Request.TheVariants.{Put, Delete, Push}
 use Rattle.mvd_wire.specs.declared.reply.Reply.{Reply}
-use Rattle.mvd_wire.specs.declared.reply.Reply.TheVariants.{State as Shown, Written, Done, Refused}
+use Rattle.mvd_wire.specs.declared.reply.Reply.TheVariants.{Written, Done, Refused}
 use Rattle.mvd_site.specs.Answer.{change_of, is_too_large, within_limits}
 use Rattle.mvd_site.specs.Config.{ConfigValue}
 use Rattle.mvd_site.specs.Held.{States, state_at}

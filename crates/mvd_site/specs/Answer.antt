@@ -20,14 +20,12 @@ use Rattle.mvd_rows.specs.Visible.{visible}
 use Rattle.mvd_tree.specs.HashTree.{KeyDigests, node_digest}
 use Rattle.mvd_tree.specs.Page.{children_digests, is_more_after_page, page_of}
 use Rattle.mvd_tree.specs.States.{digests_of}
-use Rattle.mvd_wire.specs.Kind.{Kind}
 use Rattle.mvd_wire.specs.Kinds.{key as spelled_key, spell_state, state_limit}
 use Rattle.mvd_wire.specs.declared.request.Request.{Request}
 use Rattle.mvd_wire.specs.declared.request.Request.TheVariants.{Get, Put, Delete, Find, Row, Rows, Node, Bucket, Push, Range, Bye}
 use Rattle.mvd_wire.specs.declared.reply.Reply.{Reply}
 use Rattle.mvd_wire.specs.declared.reply.Reply.TheVariants.{State as Shown, Written, Done, Places, Row as RowTold, Rows as RowsTold, Digests as Told, Keys, Refused}
 use Rattle.mvd_wire.specs.declared.reply.Digests.{Digests}
-use Rattle.mvd_wire.specs.declared.reply.RowValue.{RowValue}
 use Rattle.mvd_site.specs.Config.{ConfigValue}
 
 -- the state's spelling is longer than it may be

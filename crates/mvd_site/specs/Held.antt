@@ -1,6 +1,6 @@
 -- What a site may hold at a key.
-use Rattle.std.specs.Prelude.{ℕ, map, ◌≡◌, Bool, false, true, ◌&&◌, not, nat_lt, List, length, Result, Ok, Err, if◌then◌else◌, Some, unwrap_or}
-use Rattle.std.specs.FinMap.{FinMap, get, from_entries}
+use Rattle.std.specs.Prelude.{ℕ, map, ◌≡◌, false, true, List, Some, unwrap_or}
+use Rattle.std.specs.FinMap.{FinMap, get}
 use Rattle.mvd_keys.specs.Key.{is_key, key_cmp}
 use Rattle.mvd_keys.specs.State.{IsValid, State, empty_state}
 use Rattle.mvd_keys.specs.Writes.{Key, is_empty}

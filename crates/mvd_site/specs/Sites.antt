@@ -1,8 +1,7 @@
 -- What a site is seen as, and what it does with a request.
-use Rattle.std.specs.Prelude.{◌≡◌, ◌≤◌, Bool, false, refl, ℕ, nat_lt, List, [], ◌++◌, length, Option, Some, None, Result, Ok, Err, if◌then◌else◌, not, ◌&&◌, ◌==◌, is_some}
+use Rattle.std.specs.Prelude.{◌≡◌, ◌≤◌, Bool, false, refl, nat_lt, List, [], ◌++◌, length, Result, Ok, Err, if◌then◌else◌, not, ◌&&◌, ◌==◌, is_some}
 use Rattle.std.specs.Coded.{Coded, code_by, coded×, coded_ℕ, coded_bool, coded_list}
-use Rattle.std.specs.FinMap.{FinMap, code, from_entries, get, len as map_len}
-use Rattle.mvd_dots.specs.Dot.{DotValue}
+use Rattle.std.specs.FinMap.{code, from_entries, get, len as map_len}
 use Rattle.mvd_dots.specs.declared.refusals.Refusal.{Refusal}
 use Rattle.mvd_dots.specs.declared.refusals.Refusal.TheVariants.{StateTooLarge, Full}
 use Rattle.mvd_keys.specs.State.{State, state_code}

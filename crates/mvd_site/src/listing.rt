@@ -16,11 +16,7 @@ use mvd_rows::{Defs, Rows};
 use std::alloc::Global;
 
 /// The rows of these definitions for just these states.
-pub fn rows_of(
-    alloc: Global,
-    defs: &Defs,
-    states: &[(Key, KeyState)],
-) -> Result<Rows, Refusal>
+pub fn rows_of(alloc: Global, defs: &Defs, states: &[(Key, KeyState)]) -> Result<Rows, Refusal>
     requires rising { IsTrue (is_sorted key_cmp states.now) }
     requires held { AllByRecursion (λ entry. IsHeldState entry.1) states.now }
     requires few { length states.now ≤ 1000000 }

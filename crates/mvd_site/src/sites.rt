@@ -319,7 +319,9 @@ impl Site {
         let digest = change.digest();
         let (key, state) = change.into_parts();
         let digested = self.tree.change(&key, Some(digest)).is_ok();
-        if !digested || change_rows(self.alloc, &mut self.rows, &self.states, &key, &state).is_err() {
+        if !digested
+            || change_rows(self.alloc, &mut self.rows, &self.states, &key, &state).is_err()
+        {
             self.broken = true;
             return Err(Refusal::Broken);
         }

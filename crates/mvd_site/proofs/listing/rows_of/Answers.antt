@@ -1,7 +1,5 @@
-use Rattle.std.proofs.Common.{◌≡◌, ℕ, take, length, T, ap, sym, ◌∙◌, subst, ◌++◌, ◌∷◌, [], unwrap_or, arith}
-use Rattle.std.proofs.lemmas.List.{take_more}
+use Rattle.std.proofs.Common.{◌≡◌, take, ap, sym, ◌∙◌, subst, unwrap_or}
 use Rattle.std.specs.FinMap.{empty, from_entries}
-use Rattle.mvd_keys.specs.Key.{key_cmp}
 use Rattle.mvd_keys.specs.State.{empty_state}
 use Rattle.mvd_keys.proofs.Parts.{holds}
 use Rattle.mvd_rows.specs.Changes.{state_in}
@@ -17,9 +15,16 @@ change-requires c =
     let i = c.loop-entry.entry-index in
     let e = c.entry-item.result in
     let at : state_in (from_entries (take i es)) e.0 ≡ c.empty-empty.result =
-    ap (λ o. unwrap_or o empty_state) (fresh_at es i e (holds _ c.requires.rising) c.loop-entry-test.true c.entry-item.is) ∙ sym c.empty-empty.ensures in
-    (c.args.defs.now, from_entries (take i es), (c.loop-entry.invariant.rows, at, roomy_entries es i c.requires.held c.requires.few,
-    few_siblings e.1 (each_at _ es i e c.requires.held c.loop-entry-test.true c.entry-item.is).short))
+    ap (λ o. unwrap_or o empty_state) (fresh_at es i e (holds _ c.requires.rising) c.loop-entry-test.true c.entry-item.is) ∙ sym c.empty-empty.ensures in (
+      c.args.defs.now,
+      from_entries (take i es),
+      (
+        c.loop-entry.invariant.rows,
+        at,
+        roomy_entries es i c.requires.held c.requires.few,
+        few_siblings e.1 (each_at _ es i e c.requires.held c.loop-entry-test.true c.entry-item.is).short,
+      ),
+    )
 
 pub loop-entry-init : goal.loop-entry-init
 loop-entry-init c =

@@ -1,5 +1,4 @@
-use Rattle.std.proofs.Common.{ap, sym, ◌∙◌}
-use Rattle.sha2.specs.Sha256.{sha256}
+use Rattle.std.proofs.Common.{ap, ◌∙◌}
 use Rattle.mvd_tree.specs.States.{key_digest}
 use Rattle.mvd_site.specs.Answer.{spelled}
 use Rattle.mvd_site.specs.Change.{ChangeValue}

@@ -1,6 +1,6 @@
-use Rattle.std.proofs.Common.{◌≡◌, true, false, Ok, refl, ap, sym, ◌∙◌, subst}
+use Rattle.std.proofs.Common.{◌≡◌, true, false, Ok, refl, sym, subst}
 use Rattle.mvd_site.specs.Prepared.{IsReady, Prepares}
-use Rattle.mvd_site.specs.Sites.{SiteValue, AnswersOne}
+use Rattle.mvd_site.specs.Sites.{AnswersOne}
 use Rattle.mvd_dots.specs.declared.refusals.Refusal.TheVariants.{Broken}
 use Rattle.mvd_wire.specs.declared.reply.Reply.TheVariants.{Refused}
 use Rattle.mvd_wire.specs.Replies.{CanBeSent}

@@ -21,5 +21,5 @@ invariant_of-self-in-Ok c =
     where_ok c.change-2.result _ c.change-2.ensures.ok (sym c.if-not-digested.ensures.negation) ∙ (λ i. changed c.self.inside.tree (c.into_parts-key.ensures.key i) (Some (c.digest-digest.ensures i))) in
     let listed : IsRowsOf c.self.inside.rows config.defs states → IsRowsOf c.change_rows.new.rows config.defs (insert states key c.args.change.state) =
     λ rows. subst₂ (λ k s. IsRowsOf c.change_rows.new.rows config.defs (insert states k s)) c.into_parts-key.ensures.key c.into_parts-key.ensures.state
-        (where_ok c.change_rows.result _ c.change_rows.ensures.stand c.if-is_err.ensures.value config.defs rows) in
+    (where_ok c.change_rows.result _ c.change_rows.ensures.stand c.if-is_err.ensures.value config.defs rows) in
     keeps_inserted config states c.insert.new.self c.self.inside.tree c.change-2.new.self c.self.inside.rows c.change_rows.new.rows c.self.inside.broken key c.args.change.state c.self.invariant room is digested listed

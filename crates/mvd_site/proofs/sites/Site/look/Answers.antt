@@ -1,4 +1,4 @@
-use Rattle.std.proofs.Common.{ap, sym, ◌∙◌, subst}
+use Rattle.std.proofs.Common.{sym, subst}
 use Rattle.mvd_site.specs.Held.{IsKept}
 use Rattle.mvd_site.proofs.Lengths.{kept_empty}
 use Rattle.mvd_site.proofs.sites.Site.look.Goals as goal

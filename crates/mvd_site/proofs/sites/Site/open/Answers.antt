@@ -1,8 +1,8 @@
-use Rattle.std.proofs.Common.{◌≡◌, ◌≤◌, T, ap, sym, ◌∙◌, subst, subst₂, length, arith}
+use Rattle.std.proofs.Common.{◌≡◌, T, ap, sym, ◌∙◌, subst, subst₂, length, arith}
 use Rattle.std.specs.FinMap.{from_entries, is_sorted, len}
 use Rattle.mvd_keys.specs.Key.{key_cmp}
 use Rattle.mvd_keys.proofs.Parts.{holds}
-use Rattle.mvd_keys.specs.Writes.{Stands, Write}
+use Rattle.mvd_keys.specs.Writes.{Stands}
 use Rattle.mvd_site.specs.Held.{AreHeld, States, key_digests}
 use Rattle.mvd_tree.proofs.Held.{digests_rise}
 use Rattle.mvd_site.specs.Answer.{spelled}

@@ -1,10 +1,9 @@
-use Rattle.std.proofs.Common.{◌≡◌, ◌≤◌, false, length, refl, ap, sym, ◌∙◌, subst, arith, length-take, take}
+use Rattle.std.proofs.Common.{◌≡◌, ◌≤◌, false, length, refl, ap, sym, ◌∙◌, subst}
 use Rattle.std.specs.List.{AllByRecursion}
 use Rattle.std.specs.Option.{option_copied}
 use Rattle.mvd_tree.specs.Page.{page_of}
 use Rattle.mvd_wire.proofs.SentPages.{IsEntry, keys_can_be_sent}
 use Rattle.mvd_site.specs.Answer.{digests}
-use Rattle.mvd_site.specs.Held.{AreHeld}
 use Rattle.mvd_site.specs.Sites.{SiteValue}
 use Rattle.mvd_site.proofs.Digested.{page_entries, short_page}
 use Rattle.mvd_site.proofs.sites.Site.prepare_bucket.Goals as goal

@@ -1,6 +1,4 @@
 use Rattle.std.proofs.Common.{◌≡◌, ap, sym, ◌∙◌}
-use Rattle.mvd_keys.specs.State.{State}
-use Rattle.mvd_keys.specs.Writes.{state}
 use Rattle.mvd_wire.specs.declared.reply.Reply.TheVariants.{State as Shown}
 use Rattle.mvd_site.proofs.Steps.{state_at-stands}
 use Rattle.mvd_site.proofs.sites.Site.prepare_get.Goals as goal

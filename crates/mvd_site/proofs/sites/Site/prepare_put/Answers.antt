@@ -1,7 +1,5 @@
-use Rattle.std.proofs.Common.{◌≡◌, Some, None, Ok, ap, ap₂, sym, ◌∙◌, true≢false, ⊎_elim, inl, inr}
+use Rattle.std.proofs.Common.{◌≡◌, ap, ap₂, sym, ◌∙◌, true≢false, ⊎_elim, inl, inr}
 use Rattle.std.specs.FinSet.{union}
-use Rattle.mvd_dots.specs.Dot.{DotValue}
-use Rattle.mvd_dots.specs.declared.refusals.Refusal.TheVariants.{Exhausted}
 use Rattle.mvd_keys.specs.Minting.{mint}
 use Rattle.mvd_keys.specs.State.{State, Text, after_put}
 use Rattle.mvd_keys.specs.Writes.{is_empty}

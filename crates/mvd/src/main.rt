@@ -22,6 +22,7 @@ fn main(rt: HostRuntime) -> io::Result<ExitCode> {
             rt.eprint(&error)?;
             Ok(ExitCode::from(2))
         }
+        Err(OrderFault::Stopped(refusal)) => told(&rt, &Fault::Stopped(refusal)),
     }
 }
 
@@ -31,11 +32,14 @@ fn run_sim(rt: &(impl Input + Print + Eprint + AllocGlobal)) -> io::Result<ExitC
     let mut writer = io::writer(rt);
     match sim(rt.alloc(), &mut reader, &mut writer) {
         Ok(()) => Ok(ExitCode::SUCCESS),
-        Err(fault) => {
-            eprintln!(rt; "mvd: {fault}")?;
-            Ok(status_of(&fault))
-        }
+        Err(fault) => told(rt, &fault),
     }
+}
+
+/// Tells a fault on standard error, and gives its status.
+fn told(rt: &impl Eprint, fault: &Fault) -> io::Result<ExitCode> {
+    eprintln!(rt; "mvd: {fault}")?;
+    Ok(status_of(fault))
 }
 
 /// 1 where a command was stopped, and 3 where a line is not a command.

@@ -1,5 +1,7 @@
 //! The command line.
+use clap::error::ErrorKind;
 use clap::{Command, Error};
+use mvd_dots::Refusal;
 use std::alloc::Global;
 
 /// What a command line asks for.
@@ -14,13 +16,18 @@ pub enum Order {
 pub enum OrderFault {
     /// Its words are none of the program's, or they ask for help.
     Words(Error),
+    /// Memory was refused.
+    Stopped(Refusal),
 }
 
 /// What the words ask for, of which the first is the program's own name.
 pub fn order_of(alloc: Global, words: &[&str]) -> Result<Order, OrderFault> {
     match matched(alloc, words) {
         Ok(()) => Ok(Order::Sim),
-        Err(error) => Err(OrderFault::Words(error)),
+        Err(error) => match error.kind() {
+            ErrorKind::OutOfMemory => Err(OrderFault::Stopped(Refusal::Memory)),
+            _ => Err(OrderFault::Words(error)),
+        },
     }
 }
 

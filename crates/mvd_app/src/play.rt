@@ -47,16 +47,20 @@ impl Play {
         })
     }
 
-    /// Runs a command on a site, and prints what it says, or how it is refused.
+    /// Runs a command on a site, and prints what it says, or only how it is refused.
     pub fn run(&mut self, site: u64, command: Command<'_>, out: &mut String) -> Result<(), Refusal>
         ensures { IfErr result (λ refusal. refusal ≡ Refusal.Memory) }
     {
         let Some(site) = index_of(self.sites.len(), site) else {
             return none_such(out);
         };
+        let start = out.len();
         match self.say(site, command, out) {
             Ok(()) => Ok(()),
-            Err(refusal) => print_refusal(refusal, out),
+            Err(refusal) => {
+                cut(out, start);
+                print_refusal(refusal, out)
+            }
         }
     }
 
@@ -103,6 +107,13 @@ impl Play {
         let state = message.state.copy(self.alloc)?;
         let reply = self.sites[site].answer(&Request::Push(key, state));
         print_reply(self.alloc, &reply, out)
+    }
+}
+
+/// Takes back what was printed from a place on, where that is no middle of a character.
+fn cut(out: &mut String, start: usize) {
+    if out.as_str().is_char_boundary(start) {
+        out.truncate(start);
     }
 }
 

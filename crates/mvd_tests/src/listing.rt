@@ -129,7 +129,11 @@ fn answers_have_their_bytes(rt: HostRuntime) -> Result<(), Fail> {
     );
     let places = site.answer(&Request::Find(Field::read(alloc, "city")?, oslo(alloc)?, None));
     let places = hex::encode(alloc, encode_reply(alloc, &places)?)?;
-    assert!(rt; places.as_str().starts_with("00000043a40000030400044f736c6f0161"));
+    assert!(rt;
+        places
+            .as_str()
+            .starts_with("00000043a40000030400044f736c6f0161")
+    );
     assert_eq!(rt; places.len(), 142);
     Ok(())
 }

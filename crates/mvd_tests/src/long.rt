@@ -78,6 +78,8 @@ fn digests_after_many_changes(rt: HostRuntime) -> Result<(), Fail> {
         script.push_str("root 1\n")?;
     }
     let out = printed(rt.alloc(), script.as_str())?;
-    assert!(rt; out.as_str().ends_with("fe63bf067988a1893dd1d0f58fc1698996b8a74d032d73a900e3f9580aa48087\n"));
+    assert!(rt;
+        out.as_str().ends_with("fe63bf067988a1893dd1d0f58fc1698996b8a74d032d73a900e3f9580aa48087\n")
+    );
     Ok(())
 }

@@ -89,7 +89,11 @@ fn a_site_is_run_and_opened(rt: HostRuntime) -> Result<(), Fail> {
         get(alloc, "a")?,
         Request::Bye,
     ];
-    let (_site, replies) = Site::run(alloc, &Config::new(3, 9, Defs::new(alloc)), requests.as_slice())?;
+    let (_site, replies) = Site::run(
+        alloc,
+        &Config::new(3, 9, Defs::new(alloc)),
+        requests.as_slice(),
+    )?;
     assert_eq!(rt; replies.len(), 4);
     assert!(rt; is_written(&replies[1], Dot::new(3, 2)));
     assert!(rt; shows(&replies[2], "3:2", 2)?);

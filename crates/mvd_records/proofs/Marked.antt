@@ -26,8 +26,8 @@ format v = mark (codes "format") v
 abbrev site : ℕ → Row
 site s = mark (codes "site") s
 
-shows_mark : (name : List ℕ) (row : Row) (n : ℕ) → IsMark name row n → first_two row ≡ mark name n
-shows_mark name row n it = ap (λ v. v ∷ column row 1 ∷ []) it.0 ∙ ap (λ v. Text name ∷ v ∷ []) it.1
+shows_mark : (name : List ℕ) (pair : Row) (n : ℕ) → IsMark name pair n → first_two pair ≡ mark name n
+shows_mark name pair n it = ap (λ v. v ∷ column pair 1 ∷ []) it.0 ∙ ap (λ v. Text name ∷ v ∷ []) it.1
 
 is_mark : (name : List ℕ) (row : Row) (n : ℕ) → first_two row ≡ mark name n → IsMark name row n
 is_mark name row n e = (ap (λ (r : Row). column r 0) e, ap (λ (r : Row). column r 1) e)

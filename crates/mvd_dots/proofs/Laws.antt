@@ -1,5 +1,5 @@
 -- Sets within the limits are equal exactly where their entries are, and where their texts are.
-use Rattle.std.proofs.Common.{◌≡◌, ℕ, Bool, true, false, ◌==◌, List, [], ◌∷◌, length, Err, ◌⊎◌, inl, inr, refl, sym, ap, ◌∙◌, ◌↔◌, arith, eqb-true}
+use Rattle.std.proofs.Common.{◌≡◌, ℕ, Bool, true, false, ◌==◌, List, [], ◌∷◌, length, Err, ◌⊎◌, inl, inr, refl, sym, ap, ◌∙◌, ◌↔◌, arith, eqb-true, ne_eqb}
 use Rattle.std.specs.FinSet as set
 use Rattle.mvd_dots.specs.declared.refusals.Refusal.{Refusal}
 use Rattle.mvd_dots.specs.declared.refusals.Refusal.TheVariants.{BadContext, Memory}
@@ -54,7 +54,7 @@ pub counted_entries : (es : List EntryValue) → AreEntries es → (length es ==
 counted_entries [] form = sym (ap (λ s. set.len s == 0) set_of-nil ∙ ap (λ n. n == 0) (set.len-empty dot_cmp))
 counted_entries (e ∷ es) form =
     let some : (n : ℕ) × HasCounter e.base e.loose n = some_counter e.base e.loose form.1.some in
-    sym (counted_dot (set_of (e ∷ es)) e.site some.0 (cons_first e es some.0 some.1))
+    ne_eqb (length (e ∷ es)) 0 (λ none. absurd (omega (arith, none))) ∙ sym (counted_dot (set_of (e ∷ es)) e.site some.0 (cons_first e es some.0 some.1))
 
 -- a set has the length 0 exactly where it is empty
 pub empty_decides : (dots : DotSet) (b : Bool) → b ≡ (set.len dots == 0) → (b ≡ true) ↔ (dots ≡ set.empty)

@@ -58,7 +58,7 @@ impl Context {
         ensures none { IsTrue result ↔ (self.now ≡ set.empty) }
         ensures count { result ≡ (set.len self.now == 0) }
     {
-        self.entries.is_empty()
+        self.entries().is_empty()
     }
 
     /// The greatest counter of the site, or 0 where it has none.

@@ -1,0 +1,44 @@
+-- A minted dot is the site's next one, and no write has it.
+use Rattle.std.proofs.Common.{◌≡◌, ℕ, ◌+◌, ◌<◌, ◌≤◌, Bool, true, false, nat_lt, if◌then◌else◌, ◌||◌, List, Some, None, Contains, is_some, refl, sym, ap, ◌∙◌, subst, arith, true≢false, ltb-true}
+use Rattle.std.specs.FinSet.{contains, union}
+use Rattle.mvd_dots.specs.Dot.{DotValue}
+use Rattle.mvd_dots.specs.Context.{DotSet, Holds, greatest}
+use Rattle.mvd_dots.specs.declared.dots.TheConstants.{COUNTER_MAX}
+use Rattle.mvd_dots.proofs.Greatest.{greatest_bounds}
+use Rattle.mvd_keys.specs.Minting.{mint}
+use Rattle.mvd_keys.specs.State.{Text}
+use Rattle.mvd_keys.specs.Writes.{Key, Write, Wrote, context, covered}
+use Rattle.mvd_keys.proofs.Parts.{minted_not_seen, minted_unseen}
+use Rattle.mvd_keys.proofs.Sets.{is_some-put_at}
+use Rattle.mvd_keys.proofs.StatesOfWrites.{contains-context, put_at}
+
+-- a minted dot is the next one after the greatest, which was not the last
+pub record IsNext (site : ℕ) (seen : DotSet) (dot : DotValue) : Type 0 where
+  pub own : dot.site ≡ site
+  pub next : dot.counter ≡ greatest site seen + 1
+  pub early : greatest site seen < COUNTER_MAX
+
+pub minted_next : (site : ℕ) (seen : DotSet) (dot : DotValue) → mint site seen ≡ Some dot → IsNext site seen dot
+minted_next site seen dot h =
+    elim (nat_lt (greatest site seen) COUNTER_MAX) as (λ b. nat_lt (greatest site seen) COUNTER_MAX ≡ b → (if b then Some (record { site = site; counter = greatest site seen + 1 }) else None) ≡ Some dot → IsNext site seen dot) [
+      | true ↦ λ low e.
+          let one : ◌≡◌ {A = DotValue} (record { site = site; counter = greatest site seen + 1 }) dot = cc in
+          record { own = sym (ap (λ (d : DotValue). d.site) one); next = sym (ap (λ (d : DotValue). d.counter) one); early = ltb-true _ _ low }
+      | false ↦ λ _ e. cc
+    ] refl h
+
+pub minted_within : (site : ℕ) (seen : DotSet) (dot : DotValue) → mint site seen ≡ Some dot → (1 ≤ dot.counter) × (dot.counter ≤ COUNTER_MAX)
+minted_within site seen dot h = let next = minted_next site seen dot h in (omega (arith, next.next), omega (arith, next.next, next.early))
+
+pub minted_above : (site : ℕ) (seen : DotSet) (dot : DotValue) (n : ℕ) → mint site seen ≡ Some dot → Holds seen site n → n < dot.counter
+minted_above site seen dot n h has = let next = minted_next site seen dot h in let low : n ≤ greatest site seen = greatest_bounds seen site n has in omega (arith, next.next)
+
+seen_too : (a b : Bool) → b ≡ true → (a || b) ≡ true
+seen_too true b h = refl
+seen_too false b h = h
+
+-- no write of the key has the dot
+pub minted_unwritten : (key : Key) (W : List Write) (site : ℕ) (seen also_seen : DotSet) (dot : DotValue) (document : Text) → mint site (union (context key W) seen) ≡ Some dot → Contains W (Wrote key dot also_seen document) → ⊥
+minted_unwritten key W site seen also_seen dot document h written =
+    true≢false (sym (contains-context key W dot ∙ seen_too (contains (covered key W) dot) (is_some (put_at key W dot)) (is_some-put_at key W dot document (also_seen, written)))
+    ∙ minted_unseen (context key W) seen site dot (sym h))

@@ -1,10 +1,10 @@
 -- The spelled values, in either version of the format.
-use Rattle.std.specs.Prelude.{ℕ, ◌+◌, Bool, true, ◌&&◌, nat_lt, nat_le, if◌then◌else◌, List, ◌++◌, length, Option, Some, None, Result, Ok, Err}
+use Rattle.std.specs.Prelude.{◌≡◌, ℕ, ◌≤◌, ◌+◌, Bool, true, ◌&&◌, nat_lt, nat_le, if◌then◌else◌, List, ◌++◌, length, Option, Some, None, Result, Ok, Err}
 use Rattle.std.specs.List.{flat_map}
 use Rattle.std.specs.Int.{Width, w16, w32, w64}
 use Rattle.std.specs.Str.{is_utf8}
 use Rattle.std.specs.Ordering.{is_lt}
-use Rattle.std.specs.FinMap.{entries as pairs, from_entries}
+use Rattle.std.specs.FinMap.{entries as pairs, from_entries, get}
 use Rattle.std.specs.FinSet.{contains}
 use Rattle.mvd_dots.specs.declared.refusals.Refusal.{Refusal}
 use Rattle.mvd_dots.specs.declared.refusals.Refusal.TheVariants.{BadKey, BadContext, BadDocument, DocumentTooLong, StateTooLarge, BadPath, BadBody}
@@ -12,10 +12,10 @@ use Rattle.mvd_dots.specs.declared.dots.TheConstants.{COUNTER_MAX}
 use Rattle.mvd_dots.specs.Dot.{DotValue, dot_cmp}
 use Rattle.mvd_dots.specs.Entry.{EntryValue}
 use Rattle.mvd_dots.specs.Context.{DotSet, AreInRange, entries_of, set_of}
-use Rattle.mvd_docs.specs.Document.{canonical_document_of}
+use Rattle.mvd_docs.specs.Document.{IsDocument, canonical_document_of}
 use Rattle.mvd_keys.specs.Key.{key_of_text}
 use Rattle.mvd_keys.specs.Path.{path_of}
-use Rattle.mvd_keys.specs.State.{State, Text}
+use Rattle.mvd_keys.specs.State.{State, Text, IsValid}
 use Rattle.mvd_wire.specs.declared.version.Version.{Version}
 use Rattle.mvd_wire.specs.declared.version.Version.TheVariants.{First, Second}
 use Rattle.mvd_wire.specs.Kind.{Kind, ◌>>=◌, byte, number, raw, followed, checked, accepted, named, counted}
@@ -128,6 +128,14 @@ state v = checked StateTooLarge (λ s. nat_le (length ((unlimited_state v).spell
 -- the spelling of a key's state
 unfoldable pub spell_state : State → List ℕ
 spell_state = (state layout2).spell
+
+-- what a state with a spelling is: each sibling's dot was seen, all dots are within the limits, each document is
+-- the text of its own value, and the spelling is not too long
+pub record IsInForm (s : State) : Type 0 where
+  pub valid : IsValid s
+  pub in_range : AreInRange s.context
+  pub documents : (d : DotValue) (text : Text) → get s.siblings d ≡ Some text → IsDocument text × (length text ≤ 65536)
+  pub short : length (spell_state s) ≤ state_limit
 
 -- ---- the spelling alone, which does not depend on what came before
 

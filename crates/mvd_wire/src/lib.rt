@@ -38,7 +38,6 @@ pub use sending::{
 pub use short::{Short, short_reply};
 pub use states::{decode_old_state, decode_state};
 pub use transport::{read_frame, write_frame};
-pub use unique::{can_be_sent, decoded_again, one_spelling};
-
-#[cfg(test)]
-mod tests;
+pub use unique::{
+    can_be_sent, decoded_again, old_states_are_short, one_spelling, one_text, spelled_states,
+};

@@ -1,9 +1,9 @@
 //! The states of keys, read.
-ghost use Rattle.std.specs.Prelude.{◌≡◌, ◌+◌, length, IfOk, Some, None, Ok};
+ghost use Rattle.std.specs.Prelude.{◌≡◌, ◌≤◌, ◌+◌, length, IfOk, Some, None, Ok};
 ghost use Rattle.mvd_dots.specs.Answer.{IsAnswer};
 ghost use Rattle.mvd_keys.specs.State.{AreParts, State, pair_of, pairs_of};
 ghost use Rattle.mvd_wire.specs.Kind.{Gives, Kind, each, whole, Spells};
-ghost use Rattle.mvd_wire.specs.Kinds.{comes_after, sibling, siblings, unlimited_state, state, layout_of, layout1, layout2, Layout};
+ghost use Rattle.mvd_wire.specs.Kinds.{comes_after, sibling, siblings, unlimited_state, state, layout_of, layout1, layout2, Layout, spell_state, state_limit};
 
 use crate::contexts::context_at;
 use crate::numbers::u16_at;
@@ -166,6 +166,9 @@ pub fn decode_old_state(alloc: Global, bytes: &[u8]) -> Result<KeyState, Refusal
     ensures found { IfOk result (λ s. Spells (state layout1) s bytes.now) }
     ensures only { (s : State) → Spells (state layout1) s bytes.now → IsAnswer result (Ok s) }
     ensures exact { IsAnswer result (whole (state layout1) bytes.now) }
+    // What is decoded has a spelling in the second version too, which is not too long.
+    ensures spelled { IfOk result (λ s. (state layout2).Fits s) }
+    ensures short { IfOk result (λ s. length (spell_state s) ≤ state_limit) }
 {
     decode(alloc, Version::First, bytes)
 }

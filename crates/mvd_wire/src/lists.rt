@@ -4,6 +4,7 @@ ghost use Rattle.mvd_wire.specs.Kind.{Gives, Kind, each};
 ghost use Rattle.mvd_wire.specs.Rows.{children, digest, digests, flag, item_of, item_count, key_entry, page, place, view_row, items};
 
 use crate::items::Items;
+use crate::limits::PAGE_LIMIT;
 use crate::numbers::{byte_at, raw_at, u16_at};
 use crate::reply::Digests;
 use crate::rows::{place_at, row_at, term_at};
@@ -80,7 +81,7 @@ fn count_at(bytes: &[u8]) -> Result<(u16, &[u8]), Refusal>
     ensures { Gives (λ x. (x.0, x.1.now)) result (item_count.read bytes.now) }
 {
     let (count, rest) = u16_at(bytes)?;
-    if count > 1000 {
+    if usize::from(count) > PAGE_LIMIT {
         return Err(Refusal::BadBody);
     }
     Ok((count, rest))

@@ -10,6 +10,7 @@ ghost use Rattle.mvd_wire.specs.Rows.{digests, key_entry, page, page_limit, plac
 ghost use Rattle.mvd_wire.specs.declared.request.Request.TheVariants as asked;
 
 use crate::lengths::state_length;
+use crate::limits::{FRAME_LIMIT, PAGE_LIMIT, STATE_LIMIT};
 use crate::reply::{Digests, Reply, RowValue};
 use crate::request::Request;
 use crate::row_writing::{
@@ -47,7 +48,7 @@ fn measured(frame: Vec<u8>) -> Result<Vec<u8>, Refusal>
     ensures bound { IfOk result (λ _. length frame.items ≤ frame_limit + 4) }
 {
     let length = frame.len() - 4;
-    if length > 1_200_000 {
+    if length > FRAME_LIMIT {
         return Err(Refusal::FrameTooLong);
     }
     let [a, b, c, d] = (length as u32).to_be_bytes();
@@ -138,7 +139,7 @@ pub fn encode_push(alloc: Global, key: &Key, state: &KeyState) -> Result<Vec<u8>
     ensures short { length (spell_state state.now) ≤ state_limit → request_frame (asked.Push key.now state.now) ≡ Ok (request_bytes (asked.Push key.now state.now)) }
 {
     let length = state_length(state);
-    if length > 1_150_000 {
+    if length > STATE_LIMIT {
         return Err(Refusal::StateTooLarge);
     }
     let room = key.text().len() + 1 + length as usize;
@@ -320,7 +321,7 @@ fn encode_state_reply(alloc: Global, state: &KeyState) -> Result<Vec<u8>, Refusa
     ensures fits { IfOk result (λ _. (spelled layout2).Fits state.now) }
 {
     let length = state_length(state);
-    if length > 1_150_000 {
+    if length > STATE_LIMIT {
         return Err(Refusal::StateTooLarge);
     }
     let mut frame = head_with_room(alloc, 0xA1, length as usize)?;
@@ -363,7 +364,7 @@ fn encode_places(alloc: Global, items: &[Place], more: bool) -> Result<Vec<u8>, 
     ensures exact { Gives (λ v. v.items) result (within_page items.now (framed 0xA4 ((page place).spell (items.now, more)))) }
     ensures fits { IfOk result (λ _. (page place).Fits (items.now, more)) }
 {
-    if items.len() > 1000 {
+    if items.len() > PAGE_LIMIT {
         return Err(Refusal::BadBody);
     }
     let mut frame = head_of(alloc, 0xA4)?;
@@ -394,7 +395,7 @@ fn encode_view_rows(
     ensures exact { Gives (λ v. v.items) result (within_page items.now (framed 0xA6 ((page view_row).spell (items.now, more)))) }
     ensures fits { IfOk result (λ _. (page view_row).Fits (items.now, more)) }
 {
-    if items.len() > 1000 {
+    if items.len() > PAGE_LIMIT {
         return Err(Refusal::BadBody);
     }
     let mut frame = head_of(alloc, 0xA6)?;
@@ -417,7 +418,7 @@ fn encode_keys(alloc: Global, items: &[(Key, [u8; 32])], more: bool) -> Result<V
     ensures exact { Gives (λ v. v.items) result (within_page items.now (framed 0xA8 ((page key_entry).spell (items.now, more)))) }
     ensures fits { IfOk result (λ _. (page key_entry).Fits (items.now, more)) }
 {
-    if items.len() > 1000 {
+    if items.len() > PAGE_LIMIT {
         return Err(Refusal::BadBody);
     }
     let mut frame = head_of(alloc, 0xA8)?;

@@ -1,0 +1,102 @@
+//! Requests.
+use mvd_dots::Refusal;
+use mvd_wire::{decode_request, encode_request, read_frame, write_frame};
+use std::alloc::Global;
+use std::test::Fail;
+
+/// The number with which a request is refused, or 0.
+fn fault(alloc: Global, kind: u8, payload: &[u8]) -> u8 {
+    match decode_request(alloc, kind, payload) {
+        Ok(_) => 0,
+        Err(refusal) => refusal.number(),
+    }
+}
+
+#[test]
+fn contexts_are_refused(rt: HostRuntime) {
+    let base_and_next =
+        b"\x01k\0\0\0\x01\0\0\0\x01\0\0\0\0\0\0\0\x01\0\0\0\x01\0\0\0\0\0\0\0\x02\0\0\0\x07{\"a\":1}";
+    let many_loose = b"\x01k\0\0\0\x01\0\0\0\x01\0\0\0\0\0\0\0\0\xFF\xFF\xFF\xFF";
+    let no_dot = b"\x01k\0\0\0\x01\0\0\0\x01\0\0\0\0\0\0\0\0\0\0\0\0";
+    assert_eq!(rt; fault(rt.alloc(), 0x22, base_and_next), 2);
+    assert_eq!(rt; fault(rt.alloc(), 0x22, many_loose), 33);
+    assert_eq!(rt; fault(rt.alloc(), 0x22, no_dot), 2);
+    assert_eq!(rt; fault(rt.alloc(), 0x29, b"\x01k\0\0\0\0\xFF\xFF"), 33);
+}
+
+#[test]
+fn keys_and_kinds_are_refused(rt: HostRuntime) {
+    let cases: [(u8, &[u8], u8); 7] = [
+        (0x01, b"\x01k", 32),
+        (0x70, b"", 32),
+        (0x21, b"\0", 1),
+        (0x21, b"\x02k", 33),
+        (0x21, b"\x01k", 0),
+        (0x2F, b"", 0),
+        (0x2F, b"\0", 33),
+    ];
+    for (kind, payload, number) in cases {
+        assert_eq!(rt; fault(rt.alloc(), kind, payload), number);
+    }
+}
+
+#[test]
+fn questions_are_refused(rt: HostRuntime) {
+    let cases: [(u8, &[u8], u8); 6] = [
+        (0x27, b"\x04", 14),
+        (0x27, b"\x01\x10", 14),
+        (0x25, b"\x00\x01v\x05", 15),
+        (0x25, b"\x00\x01v\x04\x02\x01", 15),
+        (0x25, b"\x00\x01v\x04\x00\x01\xFF", 15),
+        (0x24, b"\x00\x02a.\x00\x00", 33),
+    ];
+    for (kind, payload, number) in cases {
+        assert_eq!(rt; fault(rt.alloc(), kind, payload), number);
+    }
+}
+
+/// Whether these bytes are the frame of a request, which is written so again.
+fn comes_back(alloc: Global, bytes: &[u8]) -> Result<bool, Refusal> {
+    let mut input = bytes;
+    let Some(frame) = read_frame(alloc, &mut input)? else {
+        return Ok(false);
+    };
+    let request = decode_request(alloc, frame.kind, &frame.payload)?;
+    let mut out = Vec::new(alloc);
+    write_frame(&mut out, &encode_request(alloc, &request)?)?;
+    Ok(input.is_empty() && out.as_slice() == bytes)
+}
+
+#[test]
+fn frames_of_writes_come_back(rt: HostRuntime) -> Result<(), Fail> {
+    let frames: [&[u8]; 5] = [
+        b"\0\0\0\x03\x21\x01k",
+        b"\0\0\0\x12\x22\x01k\0\0\0\0\0\0\0\x07{\"a\":1}",
+        b"\0\0\0\x07\x23\x01k\0\0\0\0",
+        b"\0\0\0\x30\x29\x01k\0\0\0\x01\0\0\0\x01\0\0\0\0\0\0\0\x01\0\0\0\0\0\x01\0\0\0\x01\0\0\0\0\0\0\0\x01\0\0\0\x07{\"a\":2}",
+        b"\0\0\0\x01\x2F",
+    ];
+    for bytes in frames {
+        assert!(rt; comes_back(rt.alloc(), bytes)?);
+    }
+    Ok(())
+}
+
+#[test]
+fn frames_of_questions_come_back(rt: HostRuntime) -> Result<(), Fail> {
+    let frames: [&[u8]; 9] = [
+        b"\0\0\0\x0F\x24\0\x04city\x04\0\x04Oslo\0",
+        b"\0\0\0\x14\x24\0\x01n\x02\x01\x01k\0\0\0\x01\0\0\0\0\0\0\0\x02",
+        b"\0\0\0\x0F\x25\0\x05spend\x04\0\x04Oslo",
+        b"\0\0\0\x12\x26\0\x05spend\x01\x03\xFF\xFF\xFF\xFF\xFF\xFF\xFF\xFF",
+        b"\0\0\0\x02\x27\0",
+        b"\0\0\0\x05\x27\x03\0\x0F\x08",
+        b"\0\0\0\x06\x28\x01\x02\x01\x01k",
+        b"\0\0\0\x0F\x2A\0\x01n\x00\x03\0\0\0\0\0\0\0\x0A\x00",
+        b"\0\0\0\x03\x28\0\0",
+    ];
+    for bytes in frames {
+        assert!(rt; comes_back(rt.alloc(), bytes)?);
+    }
+    Ok(())
+}

@@ -1,5 +1,4 @@
 pub mod Asking
-pub mod Benches
 pub mod ByKey
 pub mod Changing
 pub mod Ends

@@ -14,8 +14,6 @@ mod meters;
 mod questions;
 mod siblings;
 mod tallies;
-#[cfg(test)]
-mod tests;
 mod views;
 
 pub use changes::Rows;

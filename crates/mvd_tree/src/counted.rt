@@ -1,9 +1,10 @@
 //! Calls whose SHA-256 computations are counted.
-ghost use Rattle.std.specs.Prelude.{◌≡◌, ◌≤◌, ◌+◌, ◌^◌, T, length, IfOk, IfErr, OnOk, OnErr};
+ghost use Rattle.std.specs.Prelude.{◌≡◌, ◌≢◌, ◌<◌, ◌≤◌, ◌+◌, ◌^◌, T, length, IfOk, IfErr, OnOk, OnErr, option_copied, None, Some, Err};
 ghost use Rattle.std.specs.FinMap.{is_sorted, from_entries};
 ghost use Rattle.mvd_keys.specs.Key.{key_cmp};
 ghost use Rattle.mvd_tree.specs.Change.{changed};
 ghost use Rattle.mvd_tree.specs.HashTree.{node_digest};
+ghost use Rattle.mvd_tree.specs.Page.{children_digests, is_more_after_page, page_of};
 
 use crate::digest::or_zeros;
 use crate::tree::Tree;
@@ -23,6 +24,7 @@ pub fn change(
     ensures err { IfErr result (λ refusal. refusal ≡ Refusal.Broken) }
     ensures unchanged { OnErr result (tree.new ≡ tree.old) }
     ensures counted { count.new ≤ count.old + 5 }
+    ensures at_least { count.old ≤ count.new }
 {
     tree.change_counted(key, digest, count)
 }
@@ -36,6 +38,32 @@ pub fn node(tree: &Tree, path: &Path, count: &mut u64) -> [u8; 32]
     or_zeros(tree.kept(path))
 }
 
+/// `Tree::children`, which makes no SHA-256 computation.
+pub fn children(tree: &Tree, path: &Path, count: &mut u64) -> Option<[[u8; 32]; 16]>
+    ensures inner { length path.now < 3 → result ≡ Some (children_digests tree.now path.now) }
+    ensures bucket { 3 ≤ length path.now → result ≡ None }
+    ensures counted { count.new ≡ count.old }
+{
+    tree.kept_children(path)
+}
+
+/// `Tree::bucket`, which makes no SHA-256 computation.
+pub fn bucket(
+    tree: &Tree,
+    path: &Path,
+    after: Option<&Key>,
+    count: &mut u64,
+) -> Result<(Vec<(Key, [u8; 32])>, bool), Refusal>
+    ensures path { IfOk result (λ _. length path.now ≡ 3) }
+    ensures page { IfOk result (λ page. page.0.items ≡ page_of tree.now path.now (option_copied after.entry)) }
+    ensures more { IfOk result (λ page. page.1 ≡ is_more_after_page tree.now path.now (option_copied after.entry)) }
+    ensures bad_path { length path.now ≢ 3 → result ≡ Err Refusal.BadPath }
+    ensures err { length path.now ≡ 3 → IfErr result (λ refusal. refusal ≡ Refusal.Memory) }
+    ensures counted { count.new ≡ count.old }
+{
+    tree.kept_page(path, after)
+}
+
 /// `Tree::open`, which adds the number of its SHA-256 computations to a count: one for each key,
 /// and at most one for each node.
 pub fn open(alloc: Global, entries: Vec<(Key, [u8; 32])>, count: &mut u64) -> Result<Tree, Refusal>
@@ -44,6 +72,7 @@ pub fn open(alloc: Global, entries: Vec<(Key, [u8; 32])>, count: &mut u64) -> Re
     ensures ok { IfOk result (λ tree. tree ≡ from_entries entries.items) }
     ensures err { IfErr result (λ refusal. refusal ≡ Refusal.Memory) }
     ensures counted { count.new ≤ count.old + length entries.items + 4369 }
+    ensures at_least { count.old ≤ count.new }
 {
     match Tree::opened(alloc, entries, count) {
         Ok(tree) => Ok(tree),

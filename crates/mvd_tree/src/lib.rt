@@ -7,8 +7,6 @@ pub mod counted;
 mod digest;
 pub mod laws;
 mod nodes;
-#[cfg(test)]
-mod tests;
 mod tree;
 
 ghost use Rattle.std.specs.Prelude.{◌≡◌, Ok};

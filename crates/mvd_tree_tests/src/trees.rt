@@ -1,6 +1,7 @@
-use crate::{Tree, counted, key_digest, place, rises};
+//! Trees against digests that another program made.
 use mvd_dots::Refusal;
 use mvd_keys::{Key, Path};
+use mvd_tree::{Tree, counted, key_digest, place, rises};
 use std::alloc::Global;
 use std::test::Fail;
 

@@ -3,8 +3,8 @@ use Rattle.std.specs.FinMap.{len, len-empty}
 use Rattle.mvd_keys.specs.Key.{key_cmp}
 use Rattle.mvd_keys.specs.State.{State}
 use Rattle.mvd_rows.specs.Changes.{IsRoomy}
-use Rattle.mvd_rows.proofs.Benches.{none_held, roomy_empty}
-use Rattle.mvd_rows.proofs.tests.started.Goals as goal
+use Rattle.mvd_rows_tests.proofs.KeyStates.{none_held, roomy_empty}
+use Rattle.mvd_rows_tests.proofs.benches.started.Goals as goal
 
 pub returns-clause-roomy : goal.returns-clause-roomy
 returns-clause-roomy c = subst IsRoomy (sym (none_held c.new-2.result.entries c.new-2.ensures.empty)) roomy_empty

@@ -2,8 +2,8 @@ use Rattle.std.proofs.Common.{◌+◌, ◌≤◌, sym, subst, arith}
 use Rattle.std.specs.FinMap.{from_entries, len}
 use Rattle.mvd_rows.specs.Changes.{IsRoomy}
 use Rattle.mvd_rows.specs.Stands.{definitions_of}
-use Rattle.mvd_rows.proofs.Benches.{few_siblings, one_held, one_more, roomy_changed, stands_again}
-use Rattle.mvd_rows.proofs.tests.change.Goals as goal
+use Rattle.mvd_rows_tests.proofs.KeyStates.{few_siblings, one_held, one_more, roomy_changed, stands_again}
+use Rattle.mvd_rows_tests.proofs.benches.change.Goals as goal
 
 pub change-requires-clause-room : goal.change-requires-clause-room
 change-requires-clause-room c =

@@ -3,7 +3,7 @@ use Rattle.std.specs.FinMap.{from_entries, len}
 use Rattle.mvd_keys.specs.Key.{key_cmp}
 use Rattle.mvd_rows.specs.Changes.{IsRoomy}
 use Rattle.mvd_rows.specs.Stands.{IsRowsOf, definitions_of}
-use Rattle.mvd_rows.proofs.tests.run.Given as goal
+use Rattle.mvd_rows_tests.proofs.benches.run.Given as goal
 
 -- the rows stand for the states so far
 abbrev pub invariant-loop-step : goal.invariant-loop-step

@@ -1,7 +1,7 @@
 //! Files that stop before some call, and are opened again.
-use super::{META, STATES, all_in, end, old_in, opened, put, run, shift};
-use crate::Records;
+use super::calls::{META, STATES, all_in, end, old_in, opened, put, run, shift};
 use mvd_dots::Refusal;
+use mvd_records::Records;
 use sqlite::{Alter, Connection, FileStore, Files, Options};
 use sqlite_disk::{Crash, Fuse, Memory};
 use std::alloc::Global;

@@ -1,15 +1,15 @@
 -- How far the siblings of a key went, or came.
-use Rattle.std.proofs.Common.{◌≡◌, ℕ, suc, ◌<◌, drop, get_or, ◌+◌, ◌*◌, ◌≤◌, true, false, not, T, cond, List, [], ◌∷◌, length, Option, Some, None, refl, sym, ap, ap₂, ◌∙◌, subst, arith}
+use Rattle.std.proofs.Common.{◌≡◌, ℕ, suc, ◌<◌, drop, get_or, ◌+◌, ◌*◌, ◌≤◌, true, false, not, T, cond, List, [], ◌∷◌, length, Some, None, refl, sym, ap, ◌∙◌, subst, arith}
 use Rattle.std.proofs.lemmas.List.{at_drop_more, drop_all}
 use Rattle.std.specs.Ordering.{eq_by_cmp}
-use Rattle.std.specs.FinMap.{get, find, insert, remove, len, is_sorted, get-insert, get-remove}
-use Rattle.mvd_dots.specs.Dot.{dot_cmp, DotValue}
+use Rattle.std.specs.FinMap.{get, find, remove, len, is_sorted, get-insert, get-remove}
+use Rattle.mvd_dots.specs.Dot.{dot_cmp}
 use Rattle.mvd_dots.proofs.Sets.{dot_total}
 use Rattle.mvd_keys.specs.State.{Text, pair_of, pairs_of}
 use Rattle.mvd_keys.specs.Writes.{Key}
 use Rattle.mvd_keys.specs.declared.siblings.Sibling.{Sibling}
 use Rattle.mvd_keys.proofs.Lists.{tied_itself_dot}
-use Rattle.mvd_rows.specs.Changes.{CanMove, HasSiblings, before, growth, is_among, moved, moved_all, not_among, taken_out}
+use Rattle.mvd_rows.specs.Changes.{CanMove, before, growth, is_among, moved, moved_all, not_among, taken_out}
 use Rattle.mvd_rows.specs.Marks.{spot_cmp, spots_total}
 use Rattle.mvd_rows.specs.Stands.{AreRowsOf}
 use Rattle.mvd_rows.specs.Visible.{Visible, spot}

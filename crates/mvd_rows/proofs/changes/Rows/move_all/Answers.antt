@@ -1,4 +1,4 @@
-use Rattle.std.proofs.Common.{◌≡◌, ◌+◌, ◌^◌, ◌≤◌, ◌∷◌, T, drop, length, ◌*◌, false, refl, sym, ap, ap₂, ◌∙◌, subst, arith}
+use Rattle.std.proofs.Common.{◌≡◌, ◌+◌, ◌^◌, ◌≤◌, ◌∷◌, T, drop, length, false, refl, sym, ap, ◌∙◌, subst, arith}
 use Rattle.std.proofs.lemmas.List.{length-map}
 use Rattle.std.specs.FinMap.{get, is_sorted, len}
 use Rattle.std.specs.FinMap.Entries.{below_all}
@@ -6,7 +6,6 @@ use Rattle.mvd_dots.specs.Dot.{dot_cmp}
 use Rattle.mvd_keys.proofs.Parts.{holds}
 use Rattle.mvd_keys.specs.State.{pair_of, pairs_of}
 use Rattle.mvd_rows.specs.Changes.{CanMove, before, growth, is_among, moved, moved_all, not_among}
-use Rattle.mvd_rows.specs.Counted.{Within}
 use Rattle.mvd_rows.specs.Stands.{AreRowsOf, definitions_of}
 use Rattle.mvd_rows.specs.declared.changes.Rows.{Rows}
 use Rattle.mvd_rows.specs.Visible.{Visible, spot}

@@ -1,4 +1,4 @@
-use Rattle.std.proofs.Common.{◌≡◌, ◌+◌, ◌*◌, ◌≤◌, drop, length, T}
+use Rattle.std.proofs.Common.{◌≡◌, ◌+◌, ◌*◌, drop, length, T}
 use Rattle.std.specs.FinMap.{len}
 use Rattle.std.specs.FinMap.{is_sorted}
 use Rattle.mvd_dots.specs.Dot.{dot_cmp}

@@ -47,7 +47,7 @@ fn changes_cost_what_differs(rt: HostRuntime) -> Result<(), Fail> {
     let oslo = "{\"city\":\"Oslo\"}";
     let bench = spent(rt.alloc(), &["city"], &[("a", "@", oslo)])?;
     assert_eq!(rt; rows_of(&bench, "spend")?.as_str(), "\"Oslo\" 2 0 - - | ");
-    assert!(rt; bench.meter.updates <= 9);
+    assert!(rt; bench.meter.updates() <= 9);
     assert_eq!(rt;
         found(&bench, "city", "\"Oslo\"")?.as_str(),
         "\"Oslo\" a 1:3 | \"Oslo\" b 1:1 | "

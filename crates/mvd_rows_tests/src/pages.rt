@@ -16,13 +16,13 @@ fn a_thousand_places_are_a_page(rt: HostRuntime) -> Result<(), Fail> {
         let (mut page, more) = counted::find(&bench.rows, &field, &term, None, &mut meter)?;
         assert_eq!(rt; page.len(), 1000);
         assert_eq!(rt; more, left > 0);
-        assert!(rt; meter.looks <= 1100);
+        assert!(rt; meter.looks() <= 1100);
         let after = page.pop().map(|place| (place.key, place.dot));
         let mut meter = Meter::new();
         let (rest, more) = counted::find(&bench.rows, &field, &term, after, &mut meter)?;
         assert_eq!(rt; rest.len(), left);
         assert!(rt; !more);
-        assert!(rt; meter.looks <= 3);
+        assert!(rt; meter.looks() <= 3);
     }
     Ok(())
 }
@@ -38,13 +38,13 @@ fn a_thousand_rows_are_a_page(rt: HostRuntime) -> Result<(), Fail> {
         let (mut page, more) = counted::rows(&bench.rows, &name, None, &mut meter)?;
         assert_eq!(rt; page.len(), 1000);
         assert_eq!(rt; more, left > 0);
-        assert!(rt; meter.looks <= 1100);
+        assert!(rt; meter.looks() <= 1100);
         let after = page.pop().map(|row| row.0);
         let mut meter = Meter::new();
         let (rest, more) = counted::rows(&bench.rows, &name, after, &mut meter)?;
         assert_eq!(rt; rest.len(), left);
         assert!(rt; !more);
-        assert!(rt; meter.looks <= 3);
+        assert!(rt; meter.looks() <= 3);
     }
     Ok(())
 }
@@ -62,7 +62,7 @@ fn all_pages(
         let mut meter = Meter::new();
         let (mut places, more) = counted::range(&bench.rows, field, from, to, after, &mut meter)?;
         count = count.saturating_add(places.len());
-        most = most.max(meter.looks);
+        most = most.max(meter.looks());
         if !more {
             break;
         }
@@ -88,7 +88,7 @@ fn many_keys_are_indexed_and_asked_for(rt: HostRuntime) -> Result<(), Fail> {
     let mut meter = Meter::new();
     let row = counted::row(&bench.rows, &name, &Term::Whole(7), &mut meter)?;
     assert_eq!(rt; row, (100, 700, Some((7, 7))));
-    assert!(rt; meter.looks <= 64);
+    assert!(rt; meter.looks() <= 64);
     Ok(())
 }
 
@@ -103,6 +103,6 @@ fn siblings_that_stay_cost_no_update(rt: HostRuntime) -> Result<(), Fail> {
     let bench = run(alloc, defs, all)?;
     let page = bench.rows.rows(&ViewName::read(alloc, "v")?, None)?;
     assert_eq!(rt; page.0.len(), 300);
-    assert!(rt; bench.meter.updates <= 3);
+    assert!(rt; bench.meter.updates() <= 3);
     Ok(())
 }

@@ -1,16 +1,37 @@
 //! Calls whose SHA-256 computations are counted.
-ghost use Rattle.std.specs.Prelude.{◌≡◌, ◌≢◌, ◌<◌, ◌≤◌, ◌+◌, ◌^◌, T, length, IfOk, IfErr, OnOk, OnErr, option_copied, None, Some, Err};
+ghost use Rattle.std.specs.Prelude.{◌≡◌, ◌≢◌, ◌<◌, ◌≤◌, ◌+◌, ◌^◌, T, length, IfOk, IfErr, OnOk, OnErr, option_copied, None, Some, Ok, Err};
 ghost use Rattle.std.specs.FinMap.{is_sorted, from_entries};
 ghost use Rattle.mvd_keys.specs.Key.{key_cmp};
 ghost use Rattle.mvd_tree.specs.Change.{changed};
-ghost use Rattle.mvd_tree.specs.HashTree.{node_digest};
+ghost use Rattle.sha2.specs.Sha256.{sha256};
+ghost use Rattle.mvd_dots.specs.Answer.{IsAnswer};
+ghost use Rattle.mvd_tree.specs.HashTree.{node_digest, place_of};
 ghost use Rattle.mvd_tree.specs.Page.{children_digests, is_more_after_page, page_of};
 
-use crate::digest::or_zeros;
+use crate::digest::{or_zeros, text_digest};
 use crate::tree::Tree;
 use mvd_dots::Refusal;
 use mvd_keys::{Key, Path};
 use std::alloc::Global;
+
+/// `place`, by one SHA-256 computation.
+pub fn place(alloc: Global, key: &Key, count: &mut u64) -> Result<Path, Refusal>
+    requires { count.old ≤ 2 ^ 63 }
+    ensures place { IsAnswer result (Ok (place_of key.now)) }
+    ensures counted { count.new ≡ count.old + 1 }
+{
+    let digest = text_digest(key.text().as_bytes(), count);
+    Path::new(alloc, &[digest[0] / 16, digest[0] % 16, digest[1] / 16])
+}
+
+/// `key_digest`, by one SHA-256 computation.
+pub fn key_digest(spelled: &[u8], count: &mut u64) -> [u8; 32]
+    requires { count.old ≤ 2 ^ 63 }
+    ensures digest { result ≡ sha256 spelled.now }
+    ensures counted { count.new ≡ count.old + 1 }
+{
+    text_digest(spelled, count)
+}
 
 /// `Tree::change`, which adds the number of its SHA-256 computations to a count.
 pub fn change(

@@ -84,12 +84,6 @@ marks_same pairs v s w t one two =
       elim (across (site s) (inr (inl refl))) [ inl other ↦ absurd (other_name w s (sym other)) | inr more ↦ elim more [ inl same ↦ same_site s t same | inr none ↦ absurd none ] ],
     )
 
-pub version_is : (v : ℕ) → 1 ≤ v → v ≤ 2 → IsVersion v
-version_is zero low high = absurd (omega arith)
-version_is (suc zero) low high = inl refl
-version_is (suc (suc zero)) low high = inr refl
-version_is (suc (suc (suc v))) low high = absurd (omega arith)
-
 pub version_low : (v : ℕ) → IsVersion v → (1 ≤ v) × (v ≤ 2)
 version_low v (inl is) = (omega arith, omega arith)
 version_low v (inr is) = (omega arith, omega arith)

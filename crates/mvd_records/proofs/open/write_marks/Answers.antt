@@ -20,10 +20,7 @@ pub returns-in-Ok-clause-inside : goal.returns-in-Ok-clause-inside
 returns-in-Ok-clause-inside g c clean inside = (ran g c clean inside).inside
 
 pub returns-in-Ok-clause-marked : goal.returns-in-Ok-clause-marked
-returns-in-Ok-clause-marked g c clean inside has none = (let it = ran g c clean inside in marked _ _ c.args.site it.count has none it.did).0
-
-pub returns-in-Ok-clause-states : goal.returns-in-Ok-clause-states
-returns-in-Ok-clause-states g c clean inside has none = (let it = ran g c clean inside in marked _ _ c.args.site it.count has none it.did).1
+returns-in-Ok-clause-marked g c clean inside has none = (let it = ran g c clean inside in marked _ _ c.args.site it.count has none it.did)
 
 pub returns-in-Err-clause-stays : goal.returns-in-Err-clause-stays
 returns-in-Err-clause-stays g c = execute_stays _ _ _ _ (Err c.in-Err.field-0) c.in-Err.ensures.runs c.in-Err.ensures.survives

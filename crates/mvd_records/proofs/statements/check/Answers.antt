@@ -1,6 +1,3 @@
-use Rattle.mvd_records.proofs.Taking.{takes}
-use Rattle.mvd_records.proofs.Finishing.{finishes}
-use Rattle.mvd_records.proofs.Loaded.{loaded_new, loaded_old, keys_new, keys_old, bad_new, bad_old}
 use Rattle.std.proofs.Common.{◌≡◌, ℕ, subst, rules, arith}
 use Rattle.std.specs.Bool.{MatchBool}
 use Rattle.mvd_records.specs.Records.{HasNone, AreDisjoint}

@@ -13,7 +13,7 @@ use Rattle.mvd_records.proofs.statements.set_version.Goals as goal
 
 module _ (g : Over) (c : goal.In-Ok g) where
   settled : IsSettled (state g.S.Store c.args.conn.now)
-  settled = let yes : IsTrue c.is_settled.result = search rules in c.is_settled.ensures yes
+  settled = c.is_settled.ensures c.if-not-is_settled.false
 
   ran : HasCleanDisk (state g.S.Store c.execute.new.self) → Executes finish_text [] (state g.S.Store c.args.conn.now) (state g.S.Store c.execute.new.self) (Ok c.in-Ok.field-0)
   ran clean = c.in-Ok.ensures.runs clean
@@ -26,10 +26,7 @@ returns-in-Ok-clause-before g c it =
     record { clean = omega (arith, (may g c).clean, it.clean); is_open = ran_open finish_text [] _ _ c.in-Ok.field-0 (settled g c).autocommit (ran g c it.clean) }
 
 pub returns-in-Ok-clause-marked : goal.returns-in-Ok-clause-marked
-returns-in-Ok-clause-marked g c version site it holds = (finished_now version site _ _ c.in-Ok.field-0 (settled g c) holds (ran g c it.clean)).0
-
-pub returns-in-Ok-clause-states : goal.returns-in-Ok-clause-states
-returns-in-Ok-clause-states g c version site it holds = (finished_now version site _ _ c.in-Ok.field-0 (settled g c) holds (ran g c it.clean)).1
+returns-in-Ok-clause-marked g c version site it holds = finished_now version site _ _ c.in-Ok.field-0 (settled g c) holds (ran g c it.clean)
 
 pub returns-in-Ok-clause-survives : goal.returns-in-Ok-clause-survives
 returns-in-Ok-clause-survives g c = survives_weaker _ _ _ _ (λ _ db h. finished_then _ db (settled g c) h) (may g c)
@@ -46,7 +43,7 @@ returns-in-Err-clause-unchanged g c = same_commit _ _ (kept g c)
 
 pub returns-in-Err-clause-survives : goal.returns-in-Err-clause-survives
 returns-in-Err-clause-survives g c =
-    let settled : IsSettled (state g.S.Store c.args.conn.now) = (let yes : IsTrue c.is_settled.result = search rules in c.is_settled.ensures yes) in
+    let settled : IsSettled (state g.S.Store c.args.conn.now) = c.is_settled.ensures c.if-not-is_settled.false in
     let may : Survives (state g.S.Store c.args.conn.now) (state g.S.Store c.execute.new.self) (CommitsBy finish_text [] (state g.S.Store c.args.conn.now))
     = c.in-Err.ensures.survives in
     survives_weaker _ _ _ _ (λ _ db h. finished_then _ db settled h) may

@@ -5,12 +5,12 @@ use Rattle.sqlite.specs.Held.{state}
 use Rattle.sqlite.specs.State.{State, HasCleanDisk}
 use Rattle.mvd_dots.specs.declared.refusals.Refusal.TheVariants.{Damaged}
 use Rattle.mvd_records.specs.Pairs.{entries_of}
-use Rattle.mvd_records.specs.Records.{IsSound, HoldsRecords, OnlyReads, AreKeys, IsWhole, AreApart, old_states, new_states}
+use Rattle.mvd_records.specs.Records.{IsSound, HoldsRecords, OnlyReads, AreKeys, IsWhole, AreApart, old_states, new_states, states_at}
 use Rattle.mvd_records.proofs.Checked.{reads_then, if_err, on_then}
-use Rattle.mvd_records.proofs.loading.load_new.Given.{Over}
-use Rattle.mvd_records.proofs.loading.load_new.Goals as goal
+use Rattle.mvd_records.proofs.loading.load.Given.{Over}
+use Rattle.mvd_records.proofs.loading.load.Goals as goal
 
-module _ (g : Over) (c : goal.After-read_new g) where
+module _ (g : Over) (c : goal.After-read_half g) where
   abbrev old : State
   old = state g.S.Store c.args.conn.now
 
@@ -18,30 +18,30 @@ module _ (g : Over) (c : goal.After-read_new g) where
   mid = state g.S.Store c.check.new.conn
 
   abbrev new : State
-  new = state g.S.Store c.read_new.new.conn
+  new = state g.S.Store c.read_half.new.conn
 
   same : (marked site : ℕ) → IsSound new → HoldsRecords marked site old.committed → mid.committed ≡ old.committed
-  same marked site it holds = c.check.ensures.reads.unchanged marked site (c.read_new.ensures.reads.before it) holds
+  same marked site it holds = c.check.ensures.reads.unchanged marked site (c.read_half.ensures.reads.before it) holds
 
   held : (marked site : ℕ) → IsSound new → HoldsRecords marked site old.committed → HoldsRecords marked site mid.committed
   held marked site it holds = subst (HoldsRecords marked site) (sym (same marked site it holds)) holds
 
 pub returns-clause-reads : goal.returns-clause-reads
 returns-clause-reads g c =
-    reads_then _ _ _ (λ clean. c.in-Ok.ensures.open (omega (arith, c.read_new.ensures.reads.survives.clean, clean))) c.check.ensures.reads c.read_new.ensures.reads
+    reads_then _ _ _ (λ clean. c.in-Ok.ensures.open (omega (arith, c.read_half.ensures.reads.survives.clean, clean))) c.check.ensures.reads c.read_half.ensures.reads
 
 pub returns-clause-entries : goal.returns-clause-entries
 returns-clause-entries g c marked site it holds =
-    subst (λ (d : Database). IfOk c.read_new.result (λ pairs. entries_of pairs.items ≡ entries (new_states d))) (same g c marked site it holds) (c.read_new.ensures.entries marked site it (held g c marked site it holds))
+    subst (λ (d : Database). IfOk c.read_half.result (λ pairs. entries_of pairs.items ≡ entries (states_at c.args.half d))) (same g c marked site it holds) (c.read_half.ensures.entries marked site it (held g c marked site it holds))
 
 pub returns-clause-whole : goal.returns-clause-whole
 returns-clause-whole g c marked site it holds =
-    let apart = c.in-Ok.ensures.apart marked site (c.read_new.ensures.reads.before it) holds in
-    on_then c.read_new.result _ _ (λ keys. record { keys = subst (λ (d : Database). AreKeys (new_states d)) (same g c marked site it holds) keys; tables = apart }) (c.read_new.ensures.keys marked site it (held g c marked site it holds))
+    let apart = c.in-Ok.ensures.apart marked site (c.read_half.ensures.reads.before it) holds in
+    on_then c.read_half.result _ _ (λ keys. record { keys = subst (λ (d : Database). AreKeys (states_at c.args.half d)) (same g c marked site it holds) keys; tables = apart }) (c.read_half.ensures.keys marked site it (held g c marked site it holds))
 
 pub returns-clause-damaged : goal.returns-clause-damaged
 returns-clause-damaged g c marked site it holds =
-    if_err c.read_new.result _ _ (λ e bad is whole. bad is (subst (λ (d : Database). AreKeys (new_states d)) (sym (same g c marked site it holds)) whole.keys)) (c.read_new.ensures.damaged marked site it (held g c marked site it holds))
+    if_err c.read_half.result _ _ (λ e bad is whole. bad is (subst (λ (d : Database). AreKeys (states_at c.args.half d)) (sym (same g c marked site it holds)) whole.keys)) (c.read_half.ensures.damaged marked site it (held g c marked site it holds))
 
 pub returns-in-Err-clause-damaged : goal.returns-in-Err-clause-damaged
 returns-in-Err-clause-damaged g c marked site it holds is whole = c.in-Err.ensures.damaged marked site it holds is whole.tables

@@ -2,7 +2,7 @@
 ghost use Rattle.std.specs.Prelude.{◌≡◌, ◌≤◌, ◌+◌, ◌^◌, ◌≢◌, true, false, IfOk, IfErr, Err};
 ghost use Rattle.mvd_dots.specs.declared.refusals.Refusal.TheVariants.{Broken};
 ghost use Rattle.mvd_site.specs.Known.{IsValidRequest};
-ghost use Rattle.mvd_site.specs.Prepared.{IsReady, PreparesAt, is_of_state};
+ghost use Rattle.mvd_site.specs.Prepared.{IsReady, PreparesAt, PreparesFromStates, is_of_state};
 
 use crate::changes::Prepared;
 use crate::sites::Site;
@@ -13,6 +13,7 @@ use mvd_wire::Request;
 pub fn prepare(site: &Site, request: &Request, looks: &mut u64) -> Result<Prepared, Refusal>
     requires { looks.old ≤ 2 ^ 63 }
     ensures answer { PreparesAt site.now request.now result }
+    ensures states { PreparesFromStates site.now request.now result }
     ensures ready { IfOk result (IsReady site.now) }
     ensures valid { IfOk result (λ _. IsValidRequest request.now) }
     ensures broken { site.now.broken ≡ true → result ≡ Err Broken }

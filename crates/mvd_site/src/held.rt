@@ -2,7 +2,7 @@
 ghost use Rattle.std.specs.Prelude.{◌≡◌, ◌<◌, ◌+◌, ◌-◌, ◌^◌, IfSome, OnErr, OnOk};
 ghost use Rattle.std.specs.Option.{option_copied};
 ghost use Rattle.std.specs.FinMap as map;
-ghost use Rattle.mvd_site.specs.Held.{AreHeld, IsHeldState, IsKept, States};
+ghost use Rattle.mvd_site.specs.Held.{AreHeld, IsHeldState, IsKept, IsSpelled, States};
 
 use mvd_keys::{Key, KeyState};
 use std::alloc::{AllocError, Global};
@@ -60,7 +60,8 @@ impl Held {
 
     /// Puts in the state of a key.
     pub fn insert(&mut self, key: Key, state: KeyState) -> Result<(), AllocError>
-        requires { IsHeldState state }
+        requires held { IsHeldState state }
+        requires spelled { IsSpelled state }
         ensures ok { OnOk result (self.new ≡ map.insert self.old key state) }
         ensures err { OnErr result (self.new ≡ self.old) }
     {

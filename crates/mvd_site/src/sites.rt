@@ -21,8 +21,10 @@ ghost use Rattle.mvd_site.specs.Sites.{AnswersAll, AnswersOne, SiteValue, has_no
 
 use crate::changes::{Change, Prepared, reply_of};
 use crate::config::Config;
+use crate::counted;
+use crate::counted::Looks;
 use crate::held::Held;
-use crate::listing::{change_rows, rows_of};
+use crate::listing::rows_of;
 use crate::opening::{digests_of, held_of};
 use mvd_docs::Document;
 use mvd_dots::{Context, Dot, Refusal};
@@ -140,14 +142,14 @@ impl Site {
         ensures whole { IfErr result (λ refusal. refusal ≡ Broken → self.now.broken ≡ true) }
     {
         let mut looks = 0;
-        self.prepare_counted(request, &mut looks)
+        counted::prepare(self, request, &mut looks)
     }
 
     /// What a request comes to, with at most one look at a held key state.
     pub(crate) fn prepare_counted(
         &self,
         request: &Request,
-        looks: &mut u64,
+        looks: &mut Looks,
     ) -> Result<Prepared, Refusal>
         requires { looks.old ≤ 2 ^ 63 }
         ensures states { PreparesFromStates self.now request.now result }
@@ -177,7 +179,7 @@ impl Site {
         }
     }
 
-    fn prepare_get(&self, key: &Key, looks: &mut u64) -> Result<Prepared, Refusal>
+    fn prepare_get(&self, key: &Key, looks: &mut Looks) -> Result<Prepared, Refusal>
         requires { looks.old ≤ 2 ^ 63 }
         ensures answer { PreparesReply (Shown (state_at self.now.states key.now)) result }
         ensures ready { IfOk result (IsReady self.now) }
@@ -194,14 +196,11 @@ impl Site {
         ensures state { IfOk result (λ state. state ≡ state_at self.now.states key.now) }
         ensures refused { IfErr result (λ refusal. refusal ≡ unless_broken self.now.broken Broken Memory) }
     {
-        if self.broken {
-            return Err(Refusal::Broken);
-        }
         let mut looks = 0;
-        self.get_counted(key, &mut looks)
+        counted::get(self, key, &mut looks)
     }
 
-    fn get_counted(&self, key: &Key, looks: &mut u64) -> Result<KeyState, Refusal>
+    pub(crate) fn get_counted(&self, key: &Key, looks: &mut Looks) -> Result<KeyState, Refusal>
         requires { looks.old ≤ 2 ^ 63 }
         ensures state { IfOk result (λ state. state ≡ state_at self.now.states key.now) }
         ensures kept { IfOk result IsKept }
@@ -218,7 +217,7 @@ impl Site {
         key: &Key,
         seen: &Context,
         document: &Document,
-        looks: &mut u64,
+        looks: &mut Looks,
     ) -> Result<Prepared, Refusal>
         requires { looks.old ≤ 2 ^ 63 }
         ensures answer { PreparesFrom self.now.config self.now.states (Put key.now seen.now document.now) result }
@@ -239,7 +238,7 @@ impl Site {
         &self,
         key: &Key,
         seen: &Context,
-        looks: &mut u64,
+        looks: &mut Looks,
     ) -> Result<Prepared, Refusal>
         requires { looks.old ≤ 2 ^ 63 }
         ensures answer { PreparesFrom self.now.config self.now.states (Delete key.now seen.now) result }
@@ -255,11 +254,11 @@ impl Site {
         }
     }
 
-    fn prepare_push(
+    pub(crate) fn prepare_push(
         &self,
         key: &Key,
         pushed: &KeyState,
-        looks: &mut u64,
+        looks: &mut Looks,
     ) -> Result<Prepared, Refusal>
         requires { looks.old ≤ 2 ^ 63 }
         ensures answer { PreparesFrom self.now.config self.now.states (Push key.now pushed.now) result }
@@ -281,7 +280,7 @@ impl Site {
     }
 
     /// Whether the key is held, and its state or the empty one. This is one look.
-    fn look<'a>(&'a self, key: &Key, empty: &'a KeyState, looks: &mut u64) -> (bool, &'a KeyState)
+    fn look<'a>(&'a self, key: &Key, empty: &'a KeyState, looks: &mut Looks) -> (bool, &'a KeyState)
         requires few { looks.old ≤ 2 ^ 63 }
         requires empty { empty.now ≡ empty_state }
         ensures is_held { result.0 ≡ is_some (map.get self.now.states key.now) }
@@ -346,13 +345,11 @@ impl Site {
         let digest = change.digest();
         let (key, state) = change.into_parts();
         let digested = self.tree.change(&key, Some(digest)).is_ok();
-        if !digested
-            || change_rows(self.alloc, &mut self.rows, &self.states, &key, &state).is_err()
-        {
+        if !digested {
             self.broken = true;
             return Err(Refusal::Broken);
         }
-        match self.states.insert(key, state) {
+        match self.states.replace(self.alloc, &mut self.rows, key, state) {
             Ok(()) => Ok(()),
             Err(_) => {
                 self.broken = true;
@@ -377,7 +374,7 @@ impl Site {
             return Err(Refusal::Broken);
         }
         let mut looks = 0;
-        match self.prepare_push(key, pushed, &mut looks) {
+        match counted::prepare_push(self, key, pushed, &mut looks) {
             Err(refusal) => Err(refusal),
             Ok(Prepared::Answer(_)) => Ok(()),
             Ok(Prepared::Change(change)) => self.install(change),

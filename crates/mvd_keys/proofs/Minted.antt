@@ -11,7 +11,7 @@ use Rattle.mvd_dots.specs.declared.refusals.Refusal.{Refusal}
 use Rattle.mvd_dots.specs.declared.refusals.Refusal.TheVariants.{Exhausted, Memory}
 use Rattle.mvd_keys.specs.State.{State, Text, after_put, put_with}
 use Rattle.mvd_keys.specs.Writes.{Key, Write, Wrote, context, covered}
-use Rattle.mvd_keys.proofs.Parts.{minted_not_seen, minted_unseen}
+use Rattle.mvd_keys.proofs.Parts.{minted_unseen}
 use Rattle.mvd_keys.proofs.Sets.{is_some-put_at}
 use Rattle.mvd_keys.proofs.StatesOfWrites.{contains-context, put_at}
 

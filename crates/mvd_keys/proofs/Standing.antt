@@ -1,5 +1,5 @@
 -- What stands at a key is of the key's own writes; the maps that stand for writes.
-use Rattle.std.proofs.Common.{◌≡◌, Bool, true, false, not, ◌&&◌, T, cond, List, [], ◌∷◌, ◌++◌, map, filter_map, Option, Some, None, refl, sym, ap, ◌∙◌, append-nil, true≢false}
+use Rattle.std.proofs.Common.{◌≡◌, true, false, not, T, cond, List, [], ◌∷◌, ◌++◌, map, filter_map, Option, Some, None, refl, sym, ap, ◌∙◌, append-nil, true≢false}
 use Rattle.std.specs.Ordering.{eq_by_cmp, is_lt}
 use Rattle.std.specs.FinMap.{FinMap, get, entries, entries_sorted, is_sorted, find, from_entries, get-entries, retain_keys, same_map}
 use Rattle.std.specs.FinMap.Entries.{below_all}

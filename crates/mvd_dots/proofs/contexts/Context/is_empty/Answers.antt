@@ -1,4 +1,4 @@
-use Rattle.std.proofs.Common.{◌≡◌, ◌==◌, ap, ◌∙◌}
+use Rattle.std.proofs.Common.{◌==◌, ap, ◌∙◌}
 use Rattle.std.specs.FinSet as set
 use Rattle.mvd_dots.proofs.Laws.{counted_entries, empty_decides}
 use Rattle.mvd_dots.proofs.contexts.Context.is_empty.Goals as goal

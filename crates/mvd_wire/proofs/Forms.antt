@@ -48,11 +48,13 @@ text_of_ok false r y e = absurd cc
 
 document_is : (d : Text) → document.Fits d → IsDocument d × (length d ≤ 65536)
 unfolding document
-document_is d fits =
-    (record {
-      is_text = IsUtf8-from_is_utf8 d (text_of_ok (is_utf8 d) (canonical_document_of d) d fits.1.1);
-      is_its_own = own_of_same d (document_of d) (if_text (is_utf8 d) (canonical_document_of d) d fits.1.1);
-    }, leb-true _ _ fits.0.1)
+document_is d fits = (
+  record {
+    is_text = IsUtf8-from_is_utf8 d (text_of_ok (is_utf8 d) (canonical_document_of d) d fits.1.1);
+    is_its_own = own_of_same d (document_of d) (if_text (is_utf8 d) (canonical_document_of d) d fits.1.1);
+  },
+  leb-true _ _ fits.0.1,
+)
 
 some_is : (x y : Text) → ◌≡◌ {A = Option Text} (Some x) (Some y) → x ≡ y
 some_is x y e = cc

@@ -27,17 +27,16 @@ fn no_frame_is_read_from_nothing(rt: HostRuntime) {
 }
 
 #[test]
-fn frames_are_refused(rt: HostRuntime) {
-    let cases: [(&[u8], u8); 5] = [
-        (&[0, 0], 30),
-        (&[0, 0, 0, 3, 0x21, 1], 30),
-        (&[0, 0, 0, 0], 31),
-        (&[0, 0x12, 0x4F, 0x81], 31),
-        (&[0xFF, 0xFF, 0xFF, 0xFF], 31),
-    ];
-    for (bytes, number) in cases {
-        assert_eq!(rt; fault(rt.alloc(), bytes), number);
-    }
+fn frames_that_end_early_are_refused(rt: HostRuntime) {
+    assert_eq!(rt; fault(rt.alloc(), &[0, 0]), 30);
+    assert_eq!(rt; fault(rt.alloc(), &[0, 0, 0, 3, 0x21, 1]), 30);
+}
+
+#[test]
+fn lengths_are_refused(rt: HostRuntime) {
+    assert_eq!(rt; fault(rt.alloc(), &[0, 0, 0, 0]), 31);
+    assert_eq!(rt; fault(rt.alloc(), &[0, 0x12, 0x4F, 0x81]), 31);
+    assert_eq!(rt; fault(rt.alloc(), &[0xFF; 4]), 31);
 }
 
 #[test]
@@ -134,7 +133,12 @@ fn readers_that_fail_are_told(rt: HostRuntime) {
             inner: PUT.as_slice(),
             calls,
         };
-        assert!(rt; matches!(read_frame(rt.alloc(), &mut reader), Err(Refusal::ReadFailed)));
+        assert!(rt;
+            matches!(
+                read_frame(rt.alloc(), &mut reader),
+                Err(Refusal::ReadFailed)
+            )
+        );
     }
 }
 

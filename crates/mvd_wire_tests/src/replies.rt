@@ -17,18 +17,19 @@ fn comes_back(alloc: Global, bytes: &[u8]) -> Result<bool, Refusal> {
 }
 
 #[test]
-fn replies_come_back(rt: HostRuntime) -> Result<(), Fail> {
-    let frames: [&[u8]; 6] = [
-        b"\0\0\0\x07\xA1\0\0\0\0\0\0",
-        b"\0\0\0\x0D\xA2\0\0\0\x01\0\0\0\0\0\0\0\x01",
-        b"\0\0\0\x01\xA3",
-        b"\0\0\0\x04\xA6\x01\0\0",
-        b"\0\0\0\x04\xA8\0\0\0",
-        b"\0\0\0\x02\xEE\x1E",
-    ];
-    for bytes in frames {
-        assert!(rt; comes_back(rt.alloc(), bytes)?);
-    }
+fn short_replies_come_back(rt: HostRuntime) -> Result<(), Fail> {
+    let written = b"\0\0\0\x0D\xA2\0\0\0\x01\0\0\0\0\0\0\0\x01";
+    assert!(rt; comes_back(rt.alloc(), written)?);
+    assert!(rt; comes_back(rt.alloc(), b"\0\0\0\x01\xA3")?);
+    assert!(rt; comes_back(rt.alloc(), b"\0\0\0\x02\xEE\x1E")?);
+    Ok(())
+}
+
+#[test]
+fn empty_replies_come_back(rt: HostRuntime) -> Result<(), Fail> {
+    assert!(rt; comes_back(rt.alloc(), b"\0\0\0\x07\xA1\0\0\0\0\0\0")?);
+    assert!(rt; comes_back(rt.alloc(), b"\0\0\0\x04\xA6\x01\0\0")?);
+    assert!(rt; comes_back(rt.alloc(), b"\0\0\0\x04\xA8\0\0\0")?);
     Ok(())
 }
 
@@ -43,7 +44,8 @@ fn places_come_back(rt: HostRuntime) -> Result<(), Fail> {
 }
 
 /// A row of three siblings, with sum -2, and ends -7 and 5.
-const ROW: &[u8] = b"\0\0\0\0\0\0\0\x03\xFF\xFF\xFF\xFF\xFF\xFF\xFF\xFF\xFF\xFF\xFF\xFF\xFF\xFF\xFF\xFE\x01\xFF\xFF\xFF\xFF\xFF\xFF\xFF\xF9\0\0\0\0\0\0\0\x05";
+const ROW: &[u8] =
+    b"\0\0\0\0\0\0\0\x03\xFF\xFF\xFF\xFF\xFF\xFF\xFF\xFF\xFF\xFF\xFF\xFF\xFF\xFF\xFF\xFE\x01\xFF\xFF\xFF\xFF\xFF\xFF\xFF\xF9\0\0\0\0\0\0\0\x05";
 
 /// Whether the payload decodes to a reply whose frame ends with this payload.
 fn payload_comes_back(alloc: Global, kind: u8, payload: &[u8]) -> Result<bool, Refusal> {

@@ -25,34 +25,32 @@ fn contexts_are_refused(rt: HostRuntime) {
 }
 
 #[test]
-fn keys_and_kinds_are_refused(rt: HostRuntime) {
-    let cases: [(u8, &[u8], u8); 7] = [
-        (0x01, b"\x01k", 32),
-        (0x70, b"", 32),
-        (0x21, b"\0", 1),
-        (0x21, b"\x02k", 33),
-        (0x21, b"\x01k", 0),
-        (0x2F, b"", 0),
-        (0x2F, b"\0", 33),
-    ];
-    for (kind, payload, number) in cases {
-        assert_eq!(rt; fault(rt.alloc(), kind, payload), number);
-    }
+fn keys_are_refused(rt: HostRuntime) {
+    assert_eq!(rt; fault(rt.alloc(), 0x21, b"\0"), 1);
+    assert_eq!(rt; fault(rt.alloc(), 0x21, b"\x02k"), 33);
+    assert_eq!(rt; fault(rt.alloc(), 0x21, b"\x01k"), 0);
 }
 
 #[test]
-fn questions_are_refused(rt: HostRuntime) {
-    let cases: [(u8, &[u8], u8); 6] = [
-        (0x27, b"\x04", 14),
-        (0x27, b"\x01\x10", 14),
-        (0x25, b"\x00\x01v\x05", 15),
-        (0x25, b"\x00\x01v\x04\x02\x01", 15),
-        (0x25, b"\x00\x01v\x04\x00\x01\xFF", 15),
-        (0x24, b"\x00\x02a.\x00\x00", 33),
-    ];
-    for (kind, payload, number) in cases {
-        assert_eq!(rt; fault(rt.alloc(), kind, payload), number);
-    }
+fn kinds_are_refused(rt: HostRuntime) {
+    assert_eq!(rt; fault(rt.alloc(), 0x01, b"\x01k"), 32);
+    assert_eq!(rt; fault(rt.alloc(), 0x70, b""), 32);
+    assert_eq!(rt; fault(rt.alloc(), 0x2F, b""), 0);
+    assert_eq!(rt; fault(rt.alloc(), 0x2F, b"\0"), 33);
+}
+
+#[test]
+fn paths_and_names_are_refused(rt: HostRuntime) {
+    assert_eq!(rt; fault(rt.alloc(), 0x27, b"\x04"), 14);
+    assert_eq!(rt; fault(rt.alloc(), 0x27, b"\x01\x10"), 14);
+    assert_eq!(rt; fault(rt.alloc(), 0x24, b"\x00\x02a.\x00\x00"), 33);
+}
+
+#[test]
+fn terms_are_refused(rt: HostRuntime) {
+    assert_eq!(rt; fault(rt.alloc(), 0x25, b"\x00\x01v\x05"), 15);
+    assert_eq!(rt; fault(rt.alloc(), 0x25, b"\x00\x01v\x04\x02\x01"), 15);
+    assert_eq!(rt; fault(rt.alloc(), 0x25, b"\x00\x01v\x04\x00\x01\xFF"), 15);
 }
 
 /// Whether these bytes are the frame of a request, which is written so again.
@@ -68,35 +66,47 @@ fn comes_back(alloc: Global, bytes: &[u8]) -> Result<bool, Refusal> {
 }
 
 #[test]
-fn frames_of_writes_come_back(rt: HostRuntime) -> Result<(), Fail> {
-    let frames: [&[u8]; 5] = [
-        b"\0\0\0\x03\x21\x01k",
-        b"\0\0\0\x12\x22\x01k\0\0\0\0\0\0\0\x07{\"a\":1}",
-        b"\0\0\0\x07\x23\x01k\0\0\0\0",
-        b"\0\0\0\x30\x29\x01k\0\0\0\x01\0\0\0\x01\0\0\0\0\0\0\0\x01\0\0\0\0\0\x01\0\0\0\x01\0\0\0\0\0\0\0\x01\0\0\0\x07{\"a\":2}",
-        b"\0\0\0\x01\x2F",
-    ];
-    for bytes in frames {
-        assert!(rt; comes_back(rt.alloc(), bytes)?);
-    }
+fn gets_and_writes_come_back(rt: HostRuntime) -> Result<(), Fail> {
+    let put = b"\0\0\0\x12\x22\x01k\0\0\0\0\0\0\0\x07{\"a\":1}";
+    assert!(rt; comes_back(rt.alloc(), b"\0\0\0\x03\x21\x01k")?);
+    assert!(rt; comes_back(rt.alloc(), put)?);
+    assert!(rt; comes_back(rt.alloc(), b"\0\0\0\x07\x23\x01k\0\0\0\0")?);
     Ok(())
 }
 
 #[test]
-fn frames_of_questions_come_back(rt: HostRuntime) -> Result<(), Fail> {
-    let frames: [&[u8]; 9] = [
-        b"\0\0\0\x0F\x24\0\x04city\x04\0\x04Oslo\0",
-        b"\0\0\0\x14\x24\0\x01n\x02\x01\x01k\0\0\0\x01\0\0\0\0\0\0\0\x02",
-        b"\0\0\0\x0F\x25\0\x05spend\x04\0\x04Oslo",
-        b"\0\0\0\x12\x26\0\x05spend\x01\x03\xFF\xFF\xFF\xFF\xFF\xFF\xFF\xFF",
-        b"\0\0\0\x02\x27\0",
-        b"\0\0\0\x05\x27\x03\0\x0F\x08",
-        b"\0\0\0\x06\x28\x01\x02\x01\x01k",
-        b"\0\0\0\x0F\x2A\0\x01n\x00\x03\0\0\0\0\0\0\0\x0A\x00",
-        b"\0\0\0\x03\x28\0\0",
-    ];
-    for bytes in frames {
-        assert!(rt; comes_back(rt.alloc(), bytes)?);
-    }
+fn pushes_and_the_end_come_back(rt: HostRuntime) -> Result<(), Fail> {
+    let push =
+        b"\0\0\0\x30\x29\x01k\0\0\0\x01\0\0\0\x01\0\0\0\0\0\0\0\x01\0\0\0\0\0\x01\0\0\0\x01\0\0\0\0\0\0\0\x01\0\0\0\x07{\"a\":2}";
+    assert!(rt; comes_back(rt.alloc(), push)?);
+    assert!(rt; comes_back(rt.alloc(), b"\0\0\0\x01\x2F")?);
+    Ok(())
+}
+
+#[test]
+fn finds_come_back(rt: HostRuntime) -> Result<(), Fail> {
+    let first = b"\0\0\0\x0F\x24\0\x04city\x04\0\x04Oslo\0";
+    let next = b"\0\0\0\x14\x24\0\x01n\x02\x01\x01k\0\0\0\x01\0\0\0\0\0\0\0\x02";
+    let range = b"\0\0\0\x0F\x2A\0\x01n\x00\x03\0\0\0\0\0\0\0\x0A\x00";
+    assert!(rt; comes_back(rt.alloc(), first)?);
+    assert!(rt; comes_back(rt.alloc(), next)?);
+    assert!(rt; comes_back(rt.alloc(), range)?);
+    Ok(())
+}
+
+#[test]
+fn questions_to_views_come_back(rt: HostRuntime) -> Result<(), Fail> {
+    let row = b"\0\0\0\x0F\x25\0\x05spend\x04\0\x04Oslo";
+    let rows = b"\0\0\0\x12\x26\0\x05spend\x01\x03\xFF\xFF\xFF\xFF\xFF\xFF\xFF\xFF";
+    assert!(rt; comes_back(rt.alloc(), row)?);
+    assert!(rt; comes_back(rt.alloc(), rows)?);
+    Ok(())
+}
+
+#[test]
+fn questions_to_the_tree_come_back(rt: HostRuntime) -> Result<(), Fail> {
+    assert!(rt; comes_back(rt.alloc(), b"\0\0\0\x02\x27\0")?);
+    assert!(rt; comes_back(rt.alloc(), b"\0\0\0\x05\x27\x03\0\x0F\x08")?);
+    assert!(rt; comes_back(rt.alloc(), b"\0\0\0\x06\x28\x01\x02\x01\x01k")?);
     Ok(())
 }

@@ -39,14 +39,20 @@ fn states_come_back(rt: HostRuntime) -> Result<(), Fail> {
 #[test]
 fn the_empty_state_has_six_bytes(rt: HostRuntime) -> Result<(), Fail> {
     let empty = KeyState::empty(rt.alloc());
-    assert_eq!(rt; encode_state(rt.alloc(), &empty)?.as_slice(), [0u8; 6].as_slice());
+    assert_eq!(rt;
+        encode_state(rt.alloc(), &empty)?.as_slice(),
+        [0u8; 6].as_slice()
+    );
     Ok(())
 }
 
 #[test]
 fn old_states_are_spelled_anew(rt: HostRuntime) -> Result<(), Fail> {
     let old = decode_old_state(rt.alloc(), &OLD_STATE)?;
-    assert_eq!(rt; encode_state(rt.alloc(), &old)?.as_slice(), STATE.as_slice());
+    assert_eq!(rt;
+        encode_state(rt.alloc(), &old)?.as_slice(),
+        STATE.as_slice()
+    );
     Ok(())
 }
 
@@ -96,7 +102,10 @@ fn states_with_another_byte_are_refused(rt: HostRuntime) {
 #[test]
 fn keys_are_spelled(rt: HostRuntime) -> Result<(), Fail> {
     let key = Key::read(rt.alloc(), "abc")?;
-    assert_eq!(rt; encode_key(rt.alloc(), &key)?.as_slice(), b"\x03abc".as_slice());
+    assert_eq!(rt;
+        encode_key(rt.alloc(), &key)?.as_slice(),
+        b"\x03abc".as_slice()
+    );
     Ok(())
 }
 

@@ -1,21 +1,20 @@
 -- What the rows that a load reads say of the map.
-use Rattle.std.proofs.Common.{◌≡◌, ◌⊎◌, inl, inr, ℕ, List, [], ◌∷◌, ◌++◌, ◌&&◌, map, flat_map, Bool, true, false, T, Some, None, Option, refl, sym, ap, subst, ◌∙◌, IsTrue}
+use Rattle.std.proofs.Common.{◌≡◌, inl, inr, ℕ, List, [], ◌∷◌, ◌++◌, ◌&&◌, map, Bool, true, false, T, refl, sym, ap, subst, ◌∙◌, IsTrue}
 use Rattle.std.specs.List.{AllByRecursion}
 use Rattle.std.specs.List.Sorted.{IsPermutation}
-use Rattle.std.specs.FinMap.{entries, get, is_sorted}
+use Rattle.std.specs.FinMap.{entries, is_sorted}
 use Rattle.std.specs.FinMap.Entries.{below_all}
 use Rattle.sqlite.specs.declared.types.Value.TheVariants.{Null}
-use Rattle.sqlite.specs.Order.{Row, column}
-use Rattle.sqlite.specs.Query.{IsAnswer, Output, output}
+use Rattle.sqlite.specs.Order.{Row}
+use Rattle.sqlite.specs.Query.{IsAnswer}
 use Rattle.sqlite.specs.Program.{overlay}
 use Rattle.sqlite.specs.State.{State, Shown, Begins}
 use Rattle.sqlite.proofs.Callers.{begins_as}
-use Rattle.sqlite_trees.proofs.ListLemmas.{map-map}
 use Rattle.sqlite_rules.specs.Lists.{Has}
 use Rattle.mvd_keys.specs.Key.{is_key}
 use Rattle.mvd_records.specs.Tables.{all_tables}
-use Rattle.mvd_records.specs.States.{States, states_in, shown, shown_entry}
-use Rattle.mvd_records.specs.Pairs.{IsPair, ArePairs, rises}
+use Rattle.mvd_records.specs.States.{states_in, shown, shown_entry}
+use Rattle.mvd_records.specs.Pairs.{ArePairs, rises}
 use Rattle.mvd_records.specs.Records.{IsSettled, HoldsRecords, AreKeys, states_at}
 use Rattle.mvd_records.specs.declared.loading.Half.{Half}
 use Rattle.mvd_records.specs.declared.loading.Half.TheVariants.{Old, New}
@@ -23,7 +22,7 @@ use Rattle.mvd_records.proofs.Rows.{key_of, order}
 use Rattle.mvd_records.proofs.Rules.{AreStates, apart_in}
 use Rattle.mvd_records.proofs.Calls.{shown_open}
 use Rattle.mvd_records.proofs.Listed.{Lists, listed, loaded, has_moved, output_of, kept_all, table_read}
-use Rattle.mvd_records.proofs.Asked.{get_has, has_get, one_each}
+use Rattle.mvd_records.proofs.Asked.{get_has, has_get}
 use Rattle.mvd_records.proofs.Ordered.{shown_pairs}
 use Rattle.mvd_records.proofs.Checked.{met_schema, states_of, maps_of}
 use Rattle.mvd_records.proofs.Texts.{load_text, tree_of, load_query, load_is, load_plain}

@@ -1,16 +1,16 @@
 -- Reading the marks, and writing the first ones.
-use Rattle.std.proofs.Common.{◌≡◌, ◌≢◌, ◌⊎◌, inl, inr, ℕ, ℤ, pos, ◌+ℤ◌, List, [], ◌∷◌, ◌++◌, map, length, codes, Bool, true, false, cond, Option, Some, None, Ok, Err, Result, OnOk, IsTrue, refl, sym, ap, subst, ◌∙◌, arith}
+use Rattle.std.proofs.Common.{◌≡◌, inl, inr, ℕ, pos, ◌+ℤ◌, List, [], ◌∷◌, map, length, codes, Option, Some, None, Ok, Err, Result, refl, sym, ap, subst, ◌∙◌, arith}
 use Rattle.std.specs.Ordering.{int_cmp}
 use Rattle.std.specs.Cmp.{int_cmp_is}
 use Rattle.std.specs.declared.cmp.Ordering.TheVariants.{Less}
 use Rattle.std.proofs.lemmas.Int.{ints}
 use Rattle.std.specs.List.Sorted.{IsPermutation}
-use Rattle.std.proofs.lemmas.List.Sorted.{IsPermutation-map, IsPermutation-sym, IsPermutation-trans, IsPermutation-refl, length_permutation}
+use Rattle.std.proofs.lemmas.List.Sorted.{IsPermutation-map, IsPermutation-sym, IsPermutation-trans, length_permutation}
 use Rattle.sqlite.specs.declared.types.Value.TheVariants.{Null, Int, Text}
-use Rattle.sqlite.specs.Order.{Row, column}
+use Rattle.sqlite.specs.Order.{Row}
 use Rattle.sqlite.specs.Query.{IsAnswer, Output, output}
 use Rattle.sqlite.specs.Program.{overlay}
-use Rattle.sqlite.specs.Edit.{Edit, edit_of, edited}
+use Rattle.sqlite.specs.Edit.{edit_of, edited}
 use Rattle.sqlite.specs.Rowids.TheVariants.{Chosen}
 use Rattle.sqlite.specs.Source.TheVariants.{Values}
 use Rattle.sqlite.specs.Command.TheVariants.{Insert}
@@ -19,7 +19,7 @@ use Rattle.sqlite.specs.Rows.{Written}
 use Rattle.sqlite.specs.Tree.{Trees}
 use Rattle.sqlite.specs.Effect.{Database}
 use Rattle.sqlite.specs.Listing.{understood}
-use Rattle.sqlite.specs.State.{State, mode_of, Executes, Shown}
+use Rattle.sqlite.specs.State.{State, Executes, Shown}
 use Rattle.sqlite.specs.View.{IsShaped}
 use Rattle.sqlite.proofs.Callers.{statement_of, reads_as, runs_as, one_step}
 use Rattle.sqlite_trees.specs.declared.store.Shape.TheVariants as shape
@@ -28,9 +28,8 @@ use Rattle.sqlite_trees.proofs.ListLemmas.{map-map, IsPermutation-same}
 use Rattle.mvd_dots.specs.declared.refusals.Refusal.{Refusal}
 use Rattle.mvd_dots.specs.declared.refusals.Refusal.TheVariants.{SiteMismatch, Damaged}
 use Rattle.mvd_records.specs.Tables.{all_tables, old_states, meta, new_states}
-use Rattle.mvd_records.specs.States.{mark, AreMarks, first_two, shown, states_in}
+use Rattle.mvd_records.specs.States.{AreMarks, first_two, shown, states_in}
 use Rattle.mvd_records.specs.Records.{HasTables, HoldsRecords, OpensRecords, KeepsRows, KeepsStates, TellsVersion, TellsMarks, marks_of, rows_at}
-use Rattle.mvd_records.proofs.Listed.{Lists}
 use Rattle.mvd_records.proofs.Asked.{one_each}
 use Rattle.mvd_records.proofs.Saving.{went, same_value, cast_null, cast_int, plain_mode}
 use Rattle.mvd_records.proofs.Saved.{rows_there, with_rows}

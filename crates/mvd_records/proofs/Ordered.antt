@@ -1,5 +1,5 @@
 -- An answer that ORDER BY has put in order, of rows whose keys differ, rises.
-use Rattle.std.proofs.Common.{◌≡◌, ◌≢◌, ◌⊎◌, inl, inr, ℕ, suc, ◌+◌, ◌<◌, List, [], ◌∷◌, ◌++◌, ◌&&◌, map, length, Bool, true, false, T, Some, None, Option, get_or, refl, sym, ap, subst, subst₂, ◌∙◌, arith, IsTrue}
+use Rattle.std.proofs.Common.{◌≡◌, inl, inr, ℕ, suc, ◌+◌, ◌<◌, List, [], ◌∷◌, ◌&&◌, map, length, Bool, true, false, T, get_or, refl, sym, ap, subst, subst₂, ◌∙◌, arith}
 use Rattle.std.specs.List.{AllByRecursion, IsDistinct}
 use Rattle.std.specs.List.Sorted.{IsPermutation, IsSorted}
 use Rattle.std.proofs.lemmas.List.Sorted.{IsPermutation-sym, IsPermutation-map}
@@ -10,7 +10,7 @@ use Rattle.std.specs.FinMap.Entries.{below_all}
 use Rattle.std.specs.Ordering.{nat_cmp, eq_by_cmp, is_eq, is_lt}
 use Rattle.std.specs.declared.cmp.Ordering.{Ordering}
 use Rattle.std.specs.declared.cmp.Ordering.TheVariants.{Less, Equal, Greater}
-use Rattle.std.specs.Cmp.Lexicographic.{slice_cmp, nat_list_cmp_total}
+use Rattle.std.specs.Cmp.Lexicographic.{nat_list_cmp_total}
 use Rattle.sqlite.specs.declared.types.Value.TheVariants.{Text, Blob}
 use Rattle.sqlite.specs.Order.{Row, column, bytes}
 use Rattle.sqlite.specs.Query.{Output, output_cmp}
@@ -19,12 +19,11 @@ use Rattle.sqlite_value.proofs.OrderLemmas.{value_cmp-Text}
 use Rattle.sqlite_trees.proofs.TreeLemmas.{above}
 use Rattle.sqlite_trees.proofs.ListLemmas.{map-map}
 use Rattle.sqlite_rules.specs.Lists.{Has}
-use Rattle.sqlite_rules.proofs.ListLemmas.{all_has, all_from}
 use Rattle.mvd_keys.specs.Key.{is_key}
 use Rattle.mvd_records.specs.Tables.{new_tree}
 use Rattle.mvd_records.specs.States.{shown, shown_entry}
-use Rattle.mvd_records.specs.Pairs.{IsPair, ArePairs, rises}
-use Rattle.mvd_records.proofs.Rows.{IsEntry, key_of, order, same_key}
+use Rattle.mvd_records.specs.Pairs.{ArePairs}
+use Rattle.mvd_records.proofs.Rows.{key_of, order, same_key}
 use Rattle.mvd_records.proofs.Rules.{AreStates}
 use Rattle.mvd_records.proofs.Listed.{has_moved, output_of}
 use Rattle.mvd_records.proofs.Saving.{never_below}

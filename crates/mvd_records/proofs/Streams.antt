@@ -1,18 +1,17 @@
 -- A query whose rows are read one at a time.
-use Rattle.std.proofs.Common.{◌≡◌, ◌⊎◌, inl, inr, ℕ, List, ◌∷◌, [], ◌++◌, Option, None, Some, Ok, Err, Result, refl, sym, ap, subst, ◌∙◌, true, map, IsTrue}
+use Rattle.std.proofs.Common.{◌≡◌, ◌⊎◌, inl, inr, ℕ, List, ◌∷◌, [], ◌++◌, Ok, refl, sym, subst, true, map, IsTrue}
 use Rattle.sqlite.specs.Order.{Row}
 use Rattle.sqlite.specs.Effect.{Database}
 use Rattle.sqlite.specs.Listing.{understood, reads_listing, IsSourceOf}
-use Rattle.sqlite.specs.State.{State, HasCleanDisk, IsStatement, IsUnchanged, IsRolledBack, KeepsCommit, ShowsRows, Shown, Begins, Survives, CommitsShowing, Fails}
+use Rattle.sqlite.specs.State.{State, IsStatement, IsUnchanged, KeepsCommit, ShowsRows, Shown, Begins, Fails}
 use Rattle.sqlite.specs.Given.{IsPlain, HasBegun}
 use Rattle.sqlite_trees.specs.declared.store.Store.{Ghosts}
 use Rattle.sqlite.specs.Held.{Held, state}
 use Rattle.mvd_records.proofs.Calls.{shown_open}
 use Rattle.sqlite.specs.Clock.{timed}
 use Rattle.sqlite.specs.declared.error.Error.{Error}
-use Rattle.sqlite.proofs.Callers.{unchanged_then, never_commits}
-use Rattle.sqlite.proofs.StateLemmas.{survives_weaker}
-use Rattle.sqlite.proofs.InsideLemmas.{unchanged_keeps, keeps_then}
+use Rattle.sqlite.proofs.Callers.{unchanged_then}
+use Rattle.sqlite.proofs.InsideLemmas.{unchanged_keeps}
 use Rattle.sqlite_rules.specs.Lists.{Has}
 use Rattle.mvd_records.specs.Pairs.{IsPair, ArePairs, rises}
 use Rattle.mvd_records.specs.States.{shown_entry}

@@ -1,11 +1,10 @@
-use Rattle.std.proofs.Common.{◌≡◌, List, ℕ, IfOk, IfErr, OnOk, IsTrue, subst, sym, rules, arith}
+use Rattle.std.proofs.Common.{◌≡◌, ℕ, IfOk, subst, sym, arith}
 use Rattle.std.specs.FinMap.{entries}
 use Rattle.sqlite.specs.Effect.{Database}
 use Rattle.sqlite.specs.Held.{state}
-use Rattle.sqlite.specs.State.{State, HasCleanDisk}
-use Rattle.mvd_dots.specs.declared.refusals.Refusal.TheVariants.{Damaged}
+use Rattle.sqlite.specs.State.{State}
 use Rattle.mvd_records.specs.Pairs.{entries_of}
-use Rattle.mvd_records.specs.Records.{IsSound, HoldsRecords, OnlyReads, AreKeys, IsWhole, AreApart, old_states, new_states, states_at}
+use Rattle.mvd_records.specs.Records.{IsSound, HoldsRecords, AreKeys, states_at}
 use Rattle.mvd_records.proofs.Checked.{reads_then, if_err, on_then}
 use Rattle.mvd_records.proofs.loading.load.Given.{Over}
 use Rattle.mvd_records.proofs.loading.load.Goals as goal

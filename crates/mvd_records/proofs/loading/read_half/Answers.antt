@@ -1,6 +1,5 @@
-use Rattle.std.proofs.Common.{◌≡◌, refl, List, ℕ, ◌∷◌, [], Ok, IsTrue, subst, ◌∙◌, sym, T, map, true, rules, arith}
+use Rattle.std.proofs.Common.{◌≡◌, refl, List, ℕ, subst, ◌∙◌, sym, true}
 use Rattle.std.specs.List.{AllByRecursion}
-use Rattle.std.specs.FinMap.{entries}
 use Rattle.sqlite.specs.Held.{state}
 use Rattle.sqlite.specs.Given.{IsPlain}
 use Rattle.sqlite.specs.Listing.{understood}

@@ -1,11 +1,8 @@
-use Rattle.std.proofs.Common.{◌≡◌, ◌⊎◌, inl, inr, IsTrue, ◌++◌, ◌∷◌, ℕ, List, [], map, Option, Some, None, refl, sym, ap, subst, ◌∙◌, rules, arith}
-use Rattle.sqlite.specs.Order.{Row}
-use Rattle.sqlite.specs.Effect.{Database}
+use Rattle.std.proofs.Common.{◌≡◌, inl, IsTrue, ◌++◌, ◌∷◌, [], Some, None, refl, sym, ap, subst, ◌∙◌, rules, arith}
 use Rattle.sqlite.specs.Listing.{understood}
-use Rattle.sqlite.specs.State.{State, HasCleanDisk, IsUnchanged, KeepsCommit, Survives, Shown, Begins, CommitsShowing, FailsToQuery}
+use Rattle.sqlite.specs.State.{HasCleanDisk, KeepsCommit, Survives, Shown, CommitsShowing, FailsToQuery}
 use Rattle.sqlite.specs.Held.{Held, state}
-use Rattle.sqlite.proofs.StateLemmas.{survives_weaker}
-use Rattle.sqlite.proofs.Callers.{IsPlain, given_begin, begun_plain, never_commits}
+use Rattle.sqlite.proofs.Callers.{IsPlain, given_begin, begun_plain}
 use Rattle.std.specs.Prelude.{option_copied}
 use Rattle.sqlite.specs.Given.{Advances, row_if}
 use Rattle.sqlite.proofs.StateLemmas.{survives_then}

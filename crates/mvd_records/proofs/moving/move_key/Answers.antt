@@ -1,8 +1,7 @@
-use Rattle.std.proofs.Common.{◌≡◌, ◌∙◌, ℕ, List, ap, subst, sym, refl, IsTrue, rules, arith}
-use Rattle.sqlite.specs.Tree.{Trees}
+use Rattle.std.proofs.Common.{◌≡◌, ℕ, subst, sym, refl, IsTrue, rules, arith}
 use Rattle.sqlite.specs.Effect.{Database, IsDatabase}
 use Rattle.sqlite.specs.Held.{Held, state}
-use Rattle.sqlite.specs.State.{State, HasCleanDisk, KeepsCommit, Survives}
+use Rattle.sqlite.specs.State.{HasCleanDisk, KeepsCommit, Survives}
 use Rattle.mvd_dots.specs.declared.refusals.Refusal.TheVariants.{Damaged}
 use Rattle.mvd_records.specs.Records.{IsSettled, IsSound, HoldsRecords, MovesState, StaysInside, Leaves, LacksKey, old_states}
 use Rattle.mvd_records.proofs.Opened.{begun, undone, before_undone, committed_before, rolled_back, not_committed, survives_all, moves_leave}

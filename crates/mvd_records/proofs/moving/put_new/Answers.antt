@@ -1,4 +1,4 @@
-use Rattle.std.proofs.Common.{◌≡◌, ℕ, List, [], ◌∷◌, Ok, Err, IsTrue, rules}
+use Rattle.std.proofs.Common.{Ok, Err}
 use Rattle.mvd_records.proofs.Moved.{put}
 use Rattle.mvd_records.proofs.Inside.{execute_stays, ran_inside}
 use Rattle.mvd_records.proofs.moving.put_new.Goals as goal

@@ -1,8 +1,7 @@
-use Rattle.std.proofs.Common.{◌≡◌, ◌∙◌, ℕ, List, ap, subst, sym, refl, map, IfOk, OnOk, IsTrue, true, Err, rules, arith}
-use Rattle.sqlite.specs.Tree.{Trees}
+use Rattle.std.proofs.Common.{◌≡◌, subst, sym, refl, IsTrue, Err, rules, arith}
 use Rattle.sqlite.specs.Effect.{Database}
 use Rattle.sqlite.specs.Held.{Held, state}
-use Rattle.sqlite.specs.State.{State, HasCleanDisk, KeepsCommit, Survives}
+use Rattle.sqlite.specs.State.{HasCleanDisk, KeepsCommit, Survives}
 use Rattle.mvd_records.specs.Records.{IsSettled, IsSound, IsOurs, OpensRecords, StaysInside, LeavesOpened, LeavesRefused, TellsVersion, marks_of}
 use Rattle.mvd_records.proofs.Opened.{begun, undone, before_undone, committed_before, rolled_back, not_committed, survives_all, leaves, opened_mid}
 use Rattle.mvd_records.proofs.Calls.{same_commit}

@@ -1,10 +1,10 @@
-use Rattle.std.proofs.Common.{◌≡◌, ◌∙◌, ℕ, List, ap, subst, sym, map, IfOk, IfErr, OnOk, Err, IsTrue}
+use Rattle.std.proofs.Common.{List, subst, map, Err, IsTrue}
 use Rattle.sqlite.specs.Order.{Row}
 use Rattle.sqlite.specs.Held.{state}
-use Rattle.sqlite.specs.State.{State, HasCleanDisk}
-use Rattle.mvd_records.specs.States.{shown, states_in}
+use Rattle.sqlite.specs.State.{HasCleanDisk}
+use Rattle.mvd_records.specs.States.{shown}
 use Rattle.mvd_records.specs.Tables.{all_tables}
-use Rattle.mvd_records.specs.Records.{IsOurs, HasTables, HoldsRecords, KeepsRows, KeepsStates, TellsVersion, marks_of}
+use Rattle.mvd_records.specs.Records.{IsOurs, HasTables, KeepsRows, TellsVersion}
 use Rattle.mvd_records.proofs.Checked.{if_ok, if_err}
 use Rattle.mvd_records.proofs.Inside.{stays_then, early}
 use Rattle.mvd_records.proofs.Marked.{told_store}

@@ -1,4 +1,4 @@
-use Rattle.std.proofs.Common.{◌≡◌, ℕ, [], subst, sym}
+use Rattle.std.proofs.Common.{◌≡◌, [], subst, sym}
 use Rattle.sqlite.specs.Effect.{Database}
 use Rattle.mvd_records.specs.Tables.{all_tables}
 use Rattle.mvd_records.specs.Records.{HasTables, marks_of}

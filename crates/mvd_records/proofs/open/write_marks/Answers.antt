@@ -1,7 +1,7 @@
-use Rattle.std.proofs.Common.{◌≡◌, ℕ, pos, List, [], ◌∷◌, Ok, Err, IsTrue}
+use Rattle.std.proofs.Common.{pos, [], ◌∷◌, Ok, Err, IsTrue}
 use Rattle.sqlite.specs.declared.types.Value.TheVariants.{Int}
 use Rattle.sqlite.specs.Held.{state}
-use Rattle.sqlite.specs.State.{HasCleanDisk, Executes}
+use Rattle.sqlite.specs.State.{HasCleanDisk}
 use Rattle.mvd_records.specs.Records.{Ran}
 use Rattle.mvd_records.proofs.Inside.{execute_stays, ran_inside}
 use Rattle.mvd_records.proofs.Marking.{marked}

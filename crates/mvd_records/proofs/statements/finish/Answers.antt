@@ -1,8 +1,7 @@
-use Rattle.std.proofs.Common.{◌≡◌, ◌∙◌, ℕ, OnOk, OnErr, IsTrue, subst, sym, rules, arith}
-use Rattle.sqlite.specs.Effect.{Database}
+use Rattle.std.proofs.Common.{◌≡◌, ◌∙◌, ℕ, subst, sym}
 use Rattle.sqlite.specs.Held.{state}
-use Rattle.sqlite.specs.State.{State, HasCleanDisk}
-use Rattle.mvd_records.specs.Records.{IsSound, HoldsRecords, KeepsStates}
+use Rattle.sqlite.specs.State.{State}
+use Rattle.mvd_records.specs.Records.{IsSound, HoldsRecords}
 use Rattle.mvd_records.proofs.Checked.{on_then, on_err, reads_leave}
 use Rattle.mvd_records.proofs.Finished.{asked_then, ended}
 use Rattle.mvd_records.proofs.statements.finish.Given.{Over}

@@ -1,7 +1,5 @@
-use Rattle.std.proofs.Common.{◌≡◌, List, ℕ, ◌∷◌, [], Bool, Ok, Err, Result, IfOk, IsTrue, arith, rules}
 use Rattle.sqlite.specs.Held.{state}
-use Rattle.sqlite.specs.State.{HasCleanDisk}
-use Rattle.mvd_records.specs.Records.{IsSettled, HoldsRecords, IsSound}
+use Rattle.mvd_records.specs.Records.{IsSettled}
 use Rattle.mvd_records.proofs.Texts.{any_both_text, any_both_plain}
 use Rattle.mvd_records.proofs.Checked.{only_reads, reads_nothing, tells_both, if_ok}
 use Rattle.mvd_records.proofs.statements.has_both.Given.{Over}

@@ -1,10 +1,8 @@
-use Rattle.std.proofs.Common.{◌≡◌, List, ℕ, ◌∷◌, [], Ok, IsTrue, arith, rules, subst, sym}
-use Rattle.sqlite.specs.declared.types.Value.TheVariants.{Text, Blob}
-use Rattle.sqlite.specs.Tree.{Trees}
-use Rattle.sqlite.specs.State.{State, HasCleanDisk, KeepsCommit, Executes, CommitsBy, Survives}
+use Rattle.std.proofs.Common.{[], Ok, arith}
+use Rattle.sqlite.specs.State.{HasCleanDisk, KeepsCommit, Executes, CommitsBy, Survives}
 use Rattle.sqlite.specs.Held.{state}
 use Rattle.sqlite.proofs.StateLemmas.{survives_weaker}
-use Rattle.mvd_records.specs.Records.{IsSettled, IsSound, HoldsRecords, SavesState}
+use Rattle.mvd_records.specs.Records.{IsSettled}
 use Rattle.mvd_records.proofs.Texts.{finish_text}
 use Rattle.mvd_records.proofs.Calls.{refused, sound_before, same_commit, ran_open}
 use Rattle.mvd_records.proofs.Finished.{finished_now, finished_then}

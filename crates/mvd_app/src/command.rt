@@ -82,15 +82,18 @@ pub fn line_of(text: &str) -> Option<Line<'_>> {
         "max" => Some(Line::Max(number_of(rest)?)),
         "index" => Some(Line::Index(rest)),
         "view" => Some(Line::View(view_of(rest)?)),
-        "root" => {
-            let root = Command::Ask(Ask::Node { path: "-" });
-            Some(Line::At(number_of(rest)?, root))
-        }
-        _ => {
-            let (site, rest) = rest.split_once(' ')?;
-            Some(Line::At(number_of(site)?, command_of(name, rest)?))
-        }
+        "root" => Some(Line::At(number_of(rest)?, ROOT)),
+        _ => at_of(name, rest),
     }
+}
+
+/// The digest of the whole hash tree.
+const ROOT: Command<'static> = Command::Ask(Ask::Node { path: "-" });
+
+/// The command of a name on a site, which stands first.
+fn at_of<'a>(name: &str, rest: &'a str) -> Option<Line<'a>> {
+    let (site, rest) = rest.split_once(' ')?;
+    Some(Line::At(number_of(site)?, command_of(name, rest)?))
 }
 
 fn view_of(rest: &str) -> Option<View<'_>> {
@@ -102,18 +105,31 @@ fn view_of(rest: &str) -> Option<View<'_>> {
 /// The command of a name, with what stands behind the site.
 fn command_of<'a>(name: &str, rest: &'a str) -> Option<Command<'a>> {
     match name {
-        "put" => Some(Command::Ask(put_of(rest)?)),
-        "del" => Some(Command::Ask(delete_of(rest)?)),
-        "get" => Some(Command::Ask(Ask::Get { key: last(rest)? })),
-        "node" => Some(Command::Ask(Ask::Node { path: last(rest)? })),
-        "row" => Some(Command::Ask(row_of(rest)?)),
-        "rows" => Some(Command::List(List::Rows { view: last(rest)? })),
-        "find" => Some(Command::List(find_of(rest)?)),
-        "range" => Some(Command::List(range_of(rest)?)),
         "send" => Some(Command::Send { key: last(rest)? }),
         "recv" => Some(Command::Receive {
             message: number_of(rest)?,
         }),
+        "rows" | "find" | "range" => Some(Command::List(list_of(name, rest)?)),
+        _ => Some(Command::Ask(ask_of(name, rest)?)),
+    }
+}
+
+fn ask_of<'a>(name: &str, rest: &'a str) -> Option<Ask<'a>> {
+    match name {
+        "put" => put_of(rest),
+        "del" => delete_of(rest),
+        "get" => Some(Ask::Get { key: last(rest)? }),
+        "node" => Some(Ask::Node { path: last(rest)? }),
+        "row" => row_of(rest),
+        _ => None,
+    }
+}
+
+fn list_of<'a>(name: &str, rest: &'a str) -> Option<List<'a>> {
+    match name {
+        "rows" => Some(List::Rows { view: last(rest)? }),
+        "find" => find_of(rest),
+        "range" => range_of(rest),
         _ => None,
     }
 }

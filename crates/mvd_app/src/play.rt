@@ -1,10 +1,10 @@
 //! The sites and messages of a script.
 ghost use Rattle.std.specs.Prelude.{◌≡◌, ◌<◌, ◌≤◌, IfErr, IfSome, length};
 
-use crate::command::Command;
+use crate::command::{Ask, Command};
 use crate::lists::print_list;
 use crate::printing::{none_such, print_message, print_refusal, print_reply};
-use crate::requests::{request_of, state_of};
+use crate::requests::{answered, request_of, shown, state_of};
 use mvd_dots::Refusal;
 use mvd_keys::{Key, KeyState};
 use mvd_rows::Defs;
@@ -17,6 +17,14 @@ use std::alloc::Global;
 struct Message {
     key: Key,
     state: KeyState,
+}
+
+impl Message {
+    /// The request that brings it.
+    fn push(&self, alloc: Global) -> Result<Request, Refusal> {
+        let key = self.key.copy(alloc)?;
+        Ok(Request::Push(key, self.state.copy(alloc)?))
+    }
 }
 
 /// Sites numbered from 1, and the messages sent, numbered from 1.
@@ -68,23 +76,24 @@ impl Play {
         requires { site < length self.old.sites.items }
     {
         match command {
-            Command::Ask(ask) => {
-                let request = request_of(self.alloc, &mut self.sites[site], ask)?;
-                let reply = self.sites[site].answer(&request);
-                print_reply(self.alloc, &reply, out)
-            }
+            Command::Ask(ask) => self.ask(site, ask, out),
             Command::List(list) => print_list(self.alloc, &mut self.sites[site], list, out),
             Command::Send { key } => {
                 self.send(site, key)?;
                 print_message(self.messages.len(), out)
             }
-            Command::Receive { message } => {
-                let Some(message) = index_of(self.messages.len(), message) else {
-                    return none_such(out);
-                };
-                self.receive(site, message, out)
-            }
+            Command::Receive { message } => self.receive(site, message, out),
         }
+    }
+
+    /// What the site answers is printed.
+    fn ask(&mut self, site: usize, ask: Ask<'_>, out: &mut String) -> Result<(), Refusal>
+        requires { site < length self.old.sites.items }
+    {
+        let site = &mut self.sites[site];
+        let request = request_of(self.alloc, site, ask)?;
+        let reply = answered(site, &request);
+        print_reply(self.alloc, &reply, out)
     }
 
     /// The site's state of the key becomes the next message.
@@ -92,20 +101,21 @@ impl Play {
         requires { site < length self.old.sites.items }
     {
         let key = Key::read(self.alloc, key)?;
-        let state = state_of(self.alloc, &mut self.sites[site], &key)?;
+        let reply = shown(self.alloc, &mut self.sites[site], &key)?;
+        let state = state_of(&reply)?.copy(self.alloc)?;
         self.messages.push(Message { key, state })?;
         Ok(())
     }
 
-    /// The message is pushed to the site.
-    fn receive(&mut self, site: usize, message: usize, out: &mut String) -> Result<(), Refusal>
-        requires site { site < length self.old.sites.items }
-        requires message { message < length self.old.messages.items }
+    /// The message of this number is pushed to the site.
+    fn receive(&mut self, site: usize, number: u64, out: &mut String) -> Result<(), Refusal>
+        requires { site < length self.old.sites.items }
     {
-        let message = &self.messages[message];
-        let key = message.key.copy(self.alloc)?;
-        let state = message.state.copy(self.alloc)?;
-        let reply = self.sites[site].answer(&Request::Push(key, state));
+        let Some(message) = index_of(self.messages.len(), number) else {
+            return none_such(out);
+        };
+        let request = self.messages[message].push(self.alloc)?;
+        let reply = answered(&mut self.sites[site], &request);
         print_reply(self.alloc, &reply, out)
     }
 }

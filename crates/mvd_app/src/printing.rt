@@ -30,7 +30,9 @@ pub fn print_refusal(refusal: Refusal, out: &mut String) -> Result<(), Refusal>
 }
 
 /// Prints the reply to a request that asks for no list.
-pub fn print_reply(alloc: Global, reply: &Reply, out: &mut String) -> Result<(), Refusal> {
+pub fn print_reply(alloc: Global, reply: &Reply, out: &mut String) -> Result<(), Refusal>
+    ensures { IfErr result (λ refusal. refusal ≡ Refusal.Memory) }
+{
     match reply {
         Reply::State(state) => print_state(state, out),
         Reply::Written(dot) => {
@@ -55,7 +57,9 @@ pub fn print_reply(alloc: Global, reply: &Reply, out: &mut String) -> Result<(),
 }
 
 /// The context, and then a line for each sibling.
-fn print_state(state: &KeyState, out: &mut String) -> Result<(), Refusal> {
+fn print_state(state: &KeyState, out: &mut String) -> Result<(), Refusal>
+    ensures { IfErr result (λ refusal. refusal ≡ Refusal.Memory) }
+{
     let context = state.context().print()?;
     writeln!(out, "context {context}")?;
     for sibling in state.siblings() {
@@ -68,7 +72,9 @@ fn print_state(state: &KeyState, out: &mut String) -> Result<(), Refusal> {
 }
 
 /// The key and the dot of a place.
-pub fn print_spot(place: &Place, out: &mut String) -> Result<(), Refusal> {
+pub fn print_spot(place: &Place, out: &mut String) -> Result<(), Refusal>
+    ensures { IfErr result (λ refusal. refusal ≡ Refusal.Memory) }
+{
     let key = place.key.text();
     let site = place.dot.site();
     let counter = place.dot.counter();
@@ -77,7 +83,9 @@ pub fn print_spot(place: &Place, out: &mut String) -> Result<(), Refusal> {
 }
 
 /// A term, and a space behind it.
-pub fn print_term(alloc: Global, term: &Term, out: &mut String) -> Result<(), Refusal> {
+pub fn print_term(alloc: Global, term: &Term, out: &mut String) -> Result<(), Refusal>
+    ensures { IfErr result (λ refusal. refusal ≡ Refusal.Memory) }
+{
     let text = term.print(alloc)?;
     write!(out, "{text} ")?;
     Ok(())
@@ -89,7 +97,9 @@ pub fn print_row(
     sum: i128,
     ends: Option<(i64, i64)>,
     out: &mut String,
-) -> Result<(), Refusal> {
+) -> Result<(), Refusal>
+    ensures { IfErr result (λ refusal. refusal ≡ Refusal.Memory) }
+{
     match ends {
         Some((least, greatest)) => writeln!(out, "{count} {sum} {least} {greatest}")?,
         None => writeln!(out, "{count} {sum} - -")?,

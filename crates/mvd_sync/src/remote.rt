@@ -259,7 +259,10 @@ impl<R: Read + Drop, W: Write + Drop> Peer for Remote<R, W> {
 
     ghost in_form = { λ _ never. absurd never };
 
-    fn node(&mut self, path: &Path) -> Result<Digests, Refusal> {
+    fn node(&mut self, path: &Path) -> Result<Digests, Refusal>
+        ensures asked { MatchResult result (λ digests. SendsFrame (record { input = R.remaining self.old.reader; output = W.contents self.old.writer; refused = self.old.refused }) (record { input = R.remaining self.new.reader; output = W.contents self.new.writer; refused = self.new.refused }) (Node path.now) (Ok (Told digests))) (λ refusal. Refuses (record { input = R.remaining self.old.reader; output = W.contents self.old.writer; refused = self.old.refused }) (record { input = R.remaining self.new.reader; output = W.contents self.new.writer; refused = self.new.refused }) (Node path.now) refusal) }
+        ensures stays { (refusal : Refusal) → self.old.refused ≡ Some refusal → (result ≡ Err refusal) × (self.new ≡ self.old) }
+    {
         Remote::node(self, path)
     }
 
@@ -267,15 +270,24 @@ impl<R: Read + Drop, W: Write + Drop> Peer for Remote<R, W> {
         &mut self,
         path: &Path,
         after: Option<&Key>,
-    ) -> Result<(Vec<(Key, [u8; 32])>, bool), Refusal> {
+    ) -> Result<(Vec<(Key, [u8; 32])>, bool), Refusal>
+        ensures asked { MatchResult result (λ page. SendsFrame (record { input = R.remaining self.old.reader; output = W.contents self.old.writer; refused = self.old.refused }) (record { input = R.remaining self.new.reader; output = W.contents self.new.writer; refused = self.new.refused }) (Bucket path.now (option_copied after.entry)) (Ok (Keys page.0.items page.1))) (λ refusal. Refuses (record { input = R.remaining self.old.reader; output = W.contents self.old.writer; refused = self.old.refused }) (record { input = R.remaining self.new.reader; output = W.contents self.new.writer; refused = self.new.refused }) (Bucket path.now (option_copied after.entry)) refusal) }
+        ensures stays { (refusal : Refusal) → self.old.refused ≡ Some refusal → (result ≡ Err refusal) × (self.new ≡ self.old) }
+    {
         Remote::bucket(self, path, after)
     }
 
-    fn get(&mut self, key: &Key) -> Result<KeyState, Refusal> {
+    fn get(&mut self, key: &Key) -> Result<KeyState, Refusal>
+        ensures asked { MatchResult result (λ state. SendsFrame (record { input = R.remaining self.old.reader; output = W.contents self.old.writer; refused = self.old.refused }) (record { input = R.remaining self.new.reader; output = W.contents self.new.writer; refused = self.new.refused }) (Get key.now) (Ok (Shown state))) (λ refusal. Refuses (record { input = R.remaining self.old.reader; output = W.contents self.old.writer; refused = self.old.refused }) (record { input = R.remaining self.new.reader; output = W.contents self.new.writer; refused = self.new.refused }) (Get key.now) refusal) }
+        ensures stays { (refusal : Refusal) → self.old.refused ≡ Some refusal → (result ≡ Err refusal) × (self.new ≡ self.old) }
+    {
         Remote::get(self, key)
     }
 
-    fn push(&mut self, key: &Key, state: &KeyState) -> Result<(), Refusal> {
+    fn push(&mut self, key: &Key, state: &KeyState) -> Result<(), Refusal>
+        ensures asked { MatchResult result (λ _. SendsFrame (record { input = R.remaining self.old.reader; output = W.contents self.old.writer; refused = self.old.refused }) (record { input = R.remaining self.new.reader; output = W.contents self.new.writer; refused = self.new.refused }) (Push key.now state.now) (Ok (Done))) (λ refusal. Refuses (record { input = R.remaining self.old.reader; output = W.contents self.old.writer; refused = self.old.refused }) (record { input = R.remaining self.new.reader; output = W.contents self.new.writer; refused = self.new.refused }) (Push key.now state.now) refusal) }
+        ensures stays { (refusal : Refusal) → self.old.refused ≡ Some refusal → (result ≡ Err refusal) × (self.new ≡ self.old) }
+    {
         Remote::push(self, key, state)
     }
 }

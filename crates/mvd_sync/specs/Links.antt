@@ -43,9 +43,9 @@ pub record Exchanged (old new : Link) (sent : List ℕ) (Came : FrameValue → T
 abbrev pub Tells : ℕ → Reply → FrameValue → Type 0
 Tells kind reply frame = ((frame.kind ≡ kind) ⊎ (frame.kind ≡ 0xEE)) × (reply_of frame.kind frame.payload ≡ Ok reply)
 
--- the frame spells no reply, for this reason, unless memory was refused
-abbrev pub TellsNone : Refusal → FrameValue → Type 0
-TellsNone refusal frame = refusal ≢ Memory → reply_of frame.kind frame.payload ≡ Err refusal
+-- the frame is of the kind that was asked for, or a refusal, and spells no reply, for this reason, unless memory was refused
+abbrev pub TellsNone : ℕ → Refusal → FrameValue → Type 0
+TellsNone kind refusal frame = ((frame.kind ≡ kind) ⊎ (frame.kind ≡ 0xEE)) × (refusal ≢ Memory → reply_of frame.kind frame.payload ≡ Err refusal)
 
 -- the refusals of a link itself: those from 30 on, and want of memory while a frame is read
 abbrev pub IsOwn : Refusal → Type 0
@@ -60,7 +60,7 @@ pub record Breaks (old new : Link) (sent : List ℕ) (refusal : Refusal) : Type 
 -- how the sending of a frame over a link that goes on ends, where a reply of this kind is asked for
 abbrev pub Sends : Link → Link → List ℕ → ℕ → Result Reply Refusal → Type 0
 Sends old new sent kind (Ok reply) = Exchanged old new sent (Tells kind reply)
-Sends old new sent kind (Err refusal) = Breaks old new sent refusal ⊎ (Exchanged old new sent (TellsNone refusal) × (number_of refusal < 30))
+Sends old new sent kind (Err refusal) = Breaks old new sent refusal ⊎ (Exchanged old new sent (TellsNone kind refusal) × (number_of refusal < 30))
 
 -- nothing was sent: the link had refused before, or the request has no frame, or memory was refused for it
 abbrev pub SendsNothing : Link → Link → Request → Refusal → Type 0

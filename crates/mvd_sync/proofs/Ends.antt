@@ -95,6 +95,7 @@ ends_ok count tell part T U a b a' b' report t u w = record {
   local_side = λ _ k. ap (λ (p : States × States). state_at p.0 k) w.states ∙ (exchanges w.keys a b w.distinct).0 k;
   peer_side = λ _ k. ap (λ (p : States × States). state_at p.1 k) w.states ∙ (exchanges w.keys a b w.distinct).1 k;
   end = (t, u, refl, w.counted);
+  apart = λ k h. (w.met k h).apart;
 }
 
 given_end : (ks : List (List ℕ)) (last : Option (List ℕ)) → (ks ≡ with_last ks last) ⊎ ((key : List ℕ) × (with_last ks last ≡ ks ++ key ∷ []))
@@ -109,11 +110,12 @@ ends_err count part T U a b a' b' fault s = record {
   local_side = λ t k. ap (λ m. state_at m k) (s.local t) ∙ (stops s.keys s.last a b s.distinct).0 k;
   peer_side = λ u k. ap (λ m. state_at m k) (s.peer u) ∙ (stops s.keys s.last a b s.distinct).1 k;
   end = given_end s.keys s.last;
+  apart = tt;
 }
 
 -- nothing was done
 pub ends_at_once : {R : Type 0} (count : R → ℕ) (T U : Type 0) (a b : States) (fault : SyncFault) → SessionEnds {R = R} count T U a b a b (Err fault)
-ends_at_once count T U a b fault = record { pulled = []; given = []; distinct = tt; local_side = λ _ k. refl; peer_side = λ _ k. refl; end = inl refl }
+ends_at_once count T U a b fault = record { pulled = []; given = []; distinct = tt; local_side = λ _ k. refl; peer_side = λ _ k. refl; end = inl refl; apart = tt }
 
 pub clash_of : (part : List ℕ → Type 0) (T U : Type 0) (a b a' b' : States) (fault : SyncFault) → Stopped part T U a b a' b' fault → IsClash fault → HaveClash a b
 clash_of part T U a b a' b' fault s is = let found = s.clash is in record { key = found.key; clash = found.clash }
@@ -139,6 +141,7 @@ completes a b a' b' n apart p q w =
       keys = w.keys;
       distinct = w.distinct;
       counted = w.counted;
+      apart = λ k h. (w.met k h).apart;
       differing = λ k. (
         λ h. (w.met k h).differ,
         λ other.

@@ -1,5 +1,5 @@
 -- What a session does to the key states of its two sides.
-use Rattle.std.specs.Prelude.{◌≡◌, ◌≢◌, ℕ, ◌==◌, Bool, true, false, cond, ◌&&◌, ◌||◌, List, [], ◌∷◌, ◌++◌, length, IsTrue, if◌then◌else◌, Result, Ok, Err, MatchResult, ◌⊎◌, ◌↔◌}
+use Rattle.std.specs.Prelude.{◌≡◌, ◌≢◌, ℕ, ◌==◌, Bool, true, false, cond, ◌&&◌, ◌||◌, List, [], ◌∷◌, ◌++◌, length, IsTrue, if◌then◌else◌, Result, Ok, Err, IfOk, MatchResult, ◌⊎◌, ◌↔◌}
 use Rattle.std.specs.Ordering.{eq_by_cmp}
 use Rattle.std.specs.FinMap.{get, insert, len, remove}
 use Rattle.mvd_dots.specs.declared.refusals.Refusal.TheVariants.{DotClash}
@@ -68,6 +68,10 @@ abbrev pub IsEnd : {R : Type 0} → (R → ℕ) → Type 0 → Type 0 → List K
 IsEnd count local_true peer_true pulled given (Ok report) = local_true × peer_true × (given ≡ pulled) × (count report ≡ length pulled)
 IsEnd count local_true peer_true pulled given (Err fault) = (given ≡ pulled) ⊎ ((key : Key) × (pulled ≡ given ++ key ∷ []))
 
+-- the two states of each of these keys do not clash
+abbrev pub DoNotClash : List Key → States → States → Type 0
+DoNotClash keys local peer = (key : Key) → IsTrue (is_member keys key) → clashes (state_at local key) (state_at peer key) ≡ false
+
 -- how a session of two sides that were true ends, as far as they still are: the peer's states of
 -- some keys were joined to the local side, and the local states after that were given back
 pub record SessionEnds {R : Type 0} (count : R → ℕ) (local_true peer_true : Type 0) (local peer local' peer' : States) (result : Result R SyncFault) : Type 0 where
@@ -77,6 +81,7 @@ pub record SessionEnds {R : Type 0} (count : R → ℕ) (local_true peer_true : 
   pub local_side : local_true → Pulls pulled local peer local'
   pub peer_side : peer_true → Gives given local peer peer'
   pub end : IsEnd count local_true peer_true pulled given result
+  pub apart : IfOk result (λ _. DoNotClash pulled local peer)
 
 -- two states of a key that clash
 pub record HaveClash (local peer : States) : Type 0 where
@@ -90,6 +95,7 @@ pub record SessionCompletes (local peer local' peer' : States) (count : ℕ) : T
   pub distinct : AreDistinct keys
   pub differing : (key : Key) → IsTrue (is_member keys key) ↔ (get local key ≢ get peer key)
   pub counted : count ≡ length keys
+  pub apart : DoNotClash keys local peer
   pub local_side : (key : Key) → state_at local' key ≡ join (state_at local key) (state_at peer key)
   pub peer_side : (key : Key) → state_at peer' key ≡ join (state_at local key) (state_at peer key)
   pub kept : (key : Key) → get local key ≡ get peer key → (get local' key ≡ get local key) × (get peer' key ≡ get peer key)

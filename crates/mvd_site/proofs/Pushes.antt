@@ -112,6 +112,10 @@ push_facts old new key pushed (Err refusal) whole answers =
     rest)
     (answers whole)
 
+pub on_ok : {A E P : Type 0} (result : Result A E) → P → OnOk result P
+on_ok (Ok done) here = here
+on_ok (Err error) here = tt
+
 -- ---- how it comes about
 
 pub not_broken : (broken : Bool) → broken ≡ false → broken ≡ true → ⊥

@@ -369,6 +369,8 @@ impl Site {
         // Whether it is broken, and for good.
         ensures told { IfErr result (λ refusal. refusal ≡ Broken → self.new ≡ record { config = self.old.config; states = self.old.states; broken = true }) }
         ensures stays { self.old.broken ≡ true → result ≡ Err Broken }
+        // A state that was joined is that of some set of writes.
+        ensures valid { OnOk result (IsValid pushed.now) }
     {
         if self.broken {
             return Err(Refusal::Broken);

@@ -1,5 +1,5 @@
 -- How long states are, and which are too long.
-use Rattle.std.proofs.Common.{◌≡◌, ◌==◌, ℕ, ◌<◌, ◌≤◌, ◌-◌, ◌^◌, true, false, min, nat_lt, nat_le, if◌then◌else◌, Ok, Err, length, ap, le-ltb, lt-ltb, arith}
+use Rattle.std.proofs.Common.{◌≡◌, ℕ, ◌<◌, ◌≤◌, ◌-◌, ◌^◌, true, false, min, nat_lt, nat_le, if◌then◌else◌, Ok, Err, length, ap, le-ltb, lt-ltb, arith}
 use Rattle.mvd_keys.specs.State.{State, empty_state}
 use Rattle.mvd_keys.proofs.Lists.{IsValid-empty}
 use Rattle.std.proofs.lemmas.Bool.Decides.{nat_tests}

@@ -1,18 +1,18 @@
 -- The map of rising entries, and a set of writes that it stands for.
-use Rattle.std.proofs.Common.{◌≡◌, true, false, cond, List, [], ◌∷◌, ◌++◌, Option, Some, None, refl, sym, ap, ◌∙◌, subst, T, is_some, unwrap_or, arith, ℕ, ◌+◌, zero, suc, ◌<◌, length, map, take, drop, get_or}
+use Rattle.std.proofs.Common.{◌≡◌, false, cond, List, [], ◌∷◌, ◌++◌, Some, None, refl, sym, ap, ◌∙◌, subst, T, is_some, arith, ℕ, ◌+◌, zero, suc, ◌<◌, length, map, take, drop, get_or}
 use Rattle.std.proofs.Math.Seq.{split_at}
 use Rattle.std.proofs.lemmas.List.{map-id, take_more}
 use Rattle.std.specs.List.{AllByRecursion}
 use Rattle.std.specs.declared.cmp.Ordering.{Ordering}
 use Rattle.std.specs.declared.cmp.Ordering.TheVariants.{Less, Equal, Greater}
-use Rattle.std.specs.Ordering.{eq_by_cmp, is_eq, is_lt}
+use Rattle.std.specs.Ordering.{is_eq, is_lt}
 use Rattle.std.specs.Cmp.{eq_by_cmp_equiv}
-use Rattle.std.specs.FinMap.{entries, entries_sorted, get, get-entries, find, from_entries, from_entries_push, get-from_entries, get-insert, insert, is_sorted, len, len-empty, len-insert, same_map}
+use Rattle.std.specs.FinMap.{get, find, from_entries, from_entries_push, get-from_entries, insert, is_sorted, len, len-empty, len-insert}
 use Rattle.std.specs.FinMap.Entries.{below_all}
 use Rattle.mvd_keys.specs.Key.{key_cmp}
 use Rattle.mvd_keys.specs.State.{State}
 use Rattle.mvd_keys.specs.Writes.{Key, Stands, Write}
-use Rattle.mvd_keys.proofs.KeyOrder.{key_antisymmetric, key_total, same_where_tied, tied_itself_key}
+use Rattle.mvd_keys.proofs.KeyOrder.{key_antisymmetric, key_total}
 use Rattle.mvd_keys.proofs.Rising.{first_true, second_true}
 use Rattle.mvd_keys.proofs.Standing.{Stands-for}
 use Rattle.mvd_site.specs.Held.{AreHeld, States}

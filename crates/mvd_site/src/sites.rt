@@ -327,7 +327,8 @@ impl Site {
         let _held = self.states.len();
     }
 
-    /// Puts in the change of one key, and changes no other. Where memory is refused the site is broken from then on.
+    /// Puts in the change of one key, and changes no other. Where memory is refused the site is broken from then on. The
+    /// key's state is to be still the one that the change was prepared from: what came between would be undone.
     pub fn install(&mut self, change: Change) -> Result<(), Refusal>
         requires room { has_no_room self.old.config self.old.states change.key ≡ false }
         requires held { IsHeldState change.state }

@@ -1,3 +1,4 @@
+pub mod Alike
 pub mod Answered
 pub mod Clashes
 pub mod Digested

@@ -1,5 +1,5 @@
 -- What a push comes to, from what a site does with the request.
-use Rattle.std.proofs.Common.{◌≡◌, ◌≢◌, ◌⊎◌, Bool, true, false, if◌then◌else◌, Some, Result, Ok, Err, IfErr, refl, sym, ap, ◌∙◌, subst, true≢false, ⊎_elim}
+use Rattle.std.proofs.Common.{◌≡◌, ◌≢◌, Bool, true, false, if◌then◌else◌, Some, Result, Ok, Err, IfErr, refl, sym, ap, ◌∙◌, subst, true≢false, ⊎_elim}
 use Rattle.std.specs.Result.{OnOk}
 use Rattle.std.specs.FinMap.{insert}
 use Rattle.mvd_dots.specs.declared.refusals.Refusal.{Refusal}
@@ -111,6 +111,10 @@ push_facts old new key pushed (Err refusal) whole answers =
     })
     rest)
     (answers whole)
+
+pub on_ok : {A E P : Type 0} (result : Result A E) → P → OnOk result P
+on_ok (Ok done) here = here
+on_ok (Err error) here = tt
 
 -- ---- how it comes about
 

@@ -2,7 +2,7 @@
 --
 -- The answers are those of a multi-value register at each key (Shapiro, Preguiça, Baquero, Zawirski, INRIA RR-7506):
 -- each is computed from the whole set of writes, and no state that a site keeps stands in it.
-use Rattle.std.specs.Prelude.{ℕ, ℤ, Bool, not, ◌&&◌, ◌==◌, nat_lt, if◌then◌else◌, List, [], ◌∷◌, ◌++◌, length, map, Option, Some, None, Result, Ok, Err}
+use Rattle.std.specs.Prelude.{ℕ, ℤ, Bool, true, false, not, ◌&&◌, ◌==◌, nat_lt, if◌then◌else◌, List, [], ◌∷◌, ◌++◌, length, map, Option, Some, None, Result, Ok, Err}
 use Rattle.std.specs.FinMap.{FinMap, from_entries}
 use Rattle.std.specs.FinSet.{union, contains, items, len}
 use Rattle.mvd_dots.specs.Dot.{DotValue}
@@ -109,6 +109,17 @@ answer config known (Rows view after) = rows_reply (rows_answer config.defs (vis
 answer config known (Node path) = Told (node_digests (digests (states_of known)) path)
 answer config known (Bucket path after) = bucket_answer (digests (states_of known)) path after
 answer config known Bye = Done
+
+-- the request only asks: for the state of a key, for places, for rows of a view, or for digests of the hash tree
+abbrev pub is_question : Request → Bool
+is_question (Get key) = true
+is_question (Find field term after) = true
+is_question (Range field from to after) = true
+is_question (Row view term) = true
+is_question (Rows view after) = true
+is_question (Node path) = true
+is_question (Bucket path after) = true
+is_question request = false
 
 -- a key, and the state that it has after the request, where the reply accepts one
 abbrev pub change_of : List Write → Request → Reply → Option (Key × State)

@@ -68,9 +68,10 @@ impl Change {
         &self.key
     }
 
-    /// The state that the key is to have.
+    /// The state that the key is to have. It has a spelling, so its bytes decode to it again.
     pub fn state(&self) -> &KeyState
-        ensures { result.now ≡ self.now.state }
+        ensures state { result.now ≡ self.now.state }
+        ensures spelled { IsSpelled self.now.state }
     {
         &self.state
     }

@@ -1,12 +1,12 @@
 //! What holds of a site's states and of its answers, each law as the contract of an empty function.
-ghost use Rattle.std.specs.Prelude.{◌≡◌, ◌≤◌, ℕ, List, ◌++◌, length};
+ghost use Rattle.std.specs.Prelude.{◌≡◌, ◌≤◌, ℕ, List, ◌++◌, length, true};
 ghost use Rattle.mvd_dots.specs.declared.refusals.Refusal.TheVariants.{DotClash};
 ghost use Rattle.mvd_keys.specs.Writes.{Stands, Write};
 ghost use Rattle.mvd_tree.specs.Hashed.{HashesTellApart, HaveOneText, SameUnder};
 ghost use Rattle.mvd_tree.specs.HashTree.{node_digest};
 ghost use Rattle.mvd_wire.specs.declared.request.Request.{Request};
 ghost use Rattle.mvd_wire.specs.declared.reply.Reply.TheVariants.{Refused};
-ghost use Rattle.mvd_site.specs.Answer.{answer, digests, spelled};
+ghost use Rattle.mvd_site.specs.Answer.{answer, digests, is_question, spelled};
 ghost use Rattle.mvd_site.specs.Config.{ConfigValue};
 ghost use Rattle.mvd_site.specs.FromStates.{IsClash, after_from, answer_from};
 ghost use Rattle.mvd_site.specs.Held.{AreHeld, States};
@@ -21,6 +21,19 @@ pub fn answers_from_states()
     ensures clash { (config : ConfigValue) (states : States) (request : Request) → answer_from config states request ≡ Refused DotClash → IsClash states request }
     // Two sets of writes with the same states have the same answers.
     ensures alike { (config : ConfigValue) (states : States) (V W : List Write) (request : Request) → Stands states V → Stands states W → answer config V request ≡ answer config W request }
+{}
+
+/// Sites that know the same writes give equal answers: to a question, of the configuration only the definitions of indexes
+/// and views count, whatever a site's number is and however many keys it may hold.
+pub fn questions_are_answered_alike()
+    ensures writes { (a b : ConfigValue) (known : List Write) (request : Request) → a.defs ≡ b.defs → is_question request ≡ true → answer a known request ≡ answer b known request }
+    ensures states { (a b : ConfigValue) (states : States) (request : Request) → a.defs ≡ b.defs → is_question request ≡ true → answer_from a states request ≡ answer_from b states request }
+    // Two maps of states that stand for the same writes.
+    ensures standing { (a b : ConfigValue) (m n : States) (known : List Write) (request : Request) → a.defs ≡ b.defs → is_question request ≡ true → Stands m known → Stands n known → answer_from a m request ≡ answer_from b n request }
+    // Two sets of writes with the same states.
+    ensures known { (a b : ConfigValue) (states : States) (V W : List Write) (request : Request) → a.defs ≡ b.defs → is_question request ≡ true → Stands states V → Stands states W → answer a V request ≡ answer b W request }
+    // A question changes nothing.
+    ensures still { (config : ConfigValue) (states : States) (request : Request) → is_question request ≡ true → after_from config states request ≡ states }
 {}
 
 /// A map of states that a site may hold stands for a set of writes.

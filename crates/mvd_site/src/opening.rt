@@ -11,24 +11,20 @@ ghost use Rattle.mvd_site.specs.Held.{AreHeld, IsHeldState, IsSpelled, key_diges
 
 use crate::changes::spelled_key_state;
 use crate::held::Held;
-use crate::sites::STATE_MAX;
 use mvd_dots::Refusal;
 use mvd_keys::{Key, KeyState};
 use mvd_tree::key_digest;
-use mvd_wire::state_length;
+use mvd_wire::{STATE_LIMIT, state_length};
 use std::alloc::Global;
 
 /// Whether a site may hold the state: it has seen a dot, and is spelled in at most 1,150,000 bytes.
 pub fn may_be_held(state: &KeyState) -> bool
     ensures { IsTrue result ↔ IsHeldState state.now }
 {
-    if state_length(state) > STATE_MAX {
+    if state_length(state) > STATE_LIMIT {
         return false;
     }
-    if state.context().entries().is_empty() {
-        return false;
-    }
-    true
+    !state.context().is_empty()
 }
 
 /// The map of just these states.

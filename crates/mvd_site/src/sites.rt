@@ -1,9 +1,8 @@
 //! One site.
-ghost use Rattle.std.specs.Prelude.{◌≡◌, ◌≢◌, ◌≤◌, ◌+◌, ◌^◌, ℕ, List, false, true, None, Some, Err, Ok, is_some, length, IfOk, IfErr, OnOk, IsTrue};
+ghost use Rattle.std.specs.Prelude.{◌≡◌, ◌≢◌, ◌≤◌, ◌+◌, ◌^◌, List, false, true, None, Some, Err, Ok, is_some, length, IfOk, IfErr, OnOk, IsTrue};
 ghost use Rattle.std.specs.List.{AllByRecursion};
 ghost use Rattle.std.specs.FinMap as map;
 ghost use Rattle.mvd_dots.specs.Answer.{IsAnswer};
-ghost use Rattle.mvd_dots.specs.Dot.{DotValue};
 ghost use Rattle.mvd_dots.specs.declared.refusals.Refusal.{Refusal};
 ghost use Rattle.mvd_dots.specs.declared.refusals.Refusal.TheVariants.{Broken, DotClash, Memory};
 ghost use Rattle.mvd_keys.specs.Key.{key_cmp};
@@ -31,12 +30,9 @@ use mvd_dots::{Context, Dot, Refusal};
 use mvd_keys::{Key, KeyState};
 use mvd_rows::Rows;
 use mvd_tree::Tree;
-use mvd_wire::{Reply, Request, state_length};
+use mvd_wire::{Reply, Request, STATE_LIMIT, state_length};
 use std::alloc::Global;
 use std::marker::Model;
-
-/// The most bytes that a spelled state may have.
-pub(crate) const STATE_MAX: u64 = 1_150_000;
 
 /// The states of the keys that one site holds, and the answers to requests from them.
 #[derive(Drop)]
@@ -268,7 +264,7 @@ impl Site {
         ensures from { looks.old ≤ looks.new }
         ensures to { looks.new ≤ looks.old + 1 }
     {
-        if state_length(pushed) > STATE_MAX {
+        if state_length(pushed) > STATE_LIMIT {
             return Err(Refusal::StateTooLarge);
         }
         let empty = KeyState::empty(self.alloc);
@@ -310,7 +306,7 @@ impl Site {
         ensures ready { IfOk result (IsReady self.now) }
         ensures whole { IfErr result (λ refusal. refusal ≢ Broken) }
     {
-        if state_length(&after) > STATE_MAX {
+        if state_length(&after) > STATE_LIMIT {
             return Err(Refusal::StateTooLarge);
         }
         if old.same(&after) {
@@ -331,7 +327,8 @@ impl Site {
         let _held = self.states.len();
     }
 
-    /// Puts in the change of one key, and changes no other. Where memory is refused the site is broken from then on.
+    /// Puts in the change of one key, and changes no other. Where memory is refused the site is broken from then on. The
+    /// key's state is to be still the one that the change was prepared from: what came between would be undone.
     pub fn install(&mut self, change: Change) -> Result<(), Refusal>
         requires room { has_no_room self.old.config self.old.states change.key ≡ false }
         requires held { IsHeldState change.state }
@@ -369,6 +366,8 @@ impl Site {
         // Whether it is broken, and for good.
         ensures told { IfErr result (λ refusal. refusal ≡ Broken → self.new ≡ record { config = self.old.config; states = self.old.states; broken = true }) }
         ensures stays { self.old.broken ≡ true → result ≡ Err Broken }
+        // A state that was joined is that of some set of writes.
+        ensures valid { OnOk result (IsValid pushed.now) }
     {
         if self.broken {
             return Err(Refusal::Broken);

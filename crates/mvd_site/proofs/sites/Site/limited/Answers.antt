@@ -11,7 +11,7 @@ use Rattle.mvd_site.proofs.sites.Site.limited.Goals as goal
 pub returns-then-same-clause-limits : goal.returns-then-same-clause-limits
 returns-then-same-clause-limits c =
     let site = c.args.self.now in
-    let small : is_too_large c.args.after ≡ false = is_short c.args.after c.state_length.result c.state_length.ensures.length c.if-state_length-gt-STATE_MAX.false in
+    let small : is_too_large c.args.after ≡ false = is_short c.args.after c.state_length.result c.state_length.ensures.length c.if-state_length-gt-STATE_LIMIT.false in
     let still : c.args.after ≡ state_at site.states c.args.key.now = sym (c.if-same.ensures.0 refl) ∙ c.requires.old in
     (within-still site.config site.states c.args.key.now c.args.after (reply_of c.args.dot) small still ∙ sym c.reply_of.ensures, c.reply_of.ensures, still)
 

@@ -2,13 +2,12 @@ use Rattle.std.proofs.Common.{◌≡◌, T, ap, sym, ◌∙◌, subst, subst₂,
 use Rattle.std.specs.FinMap.{from_entries, is_sorted, len}
 use Rattle.mvd_keys.specs.Key.{key_cmp}
 use Rattle.mvd_keys.proofs.Parts.{holds}
-use Rattle.mvd_keys.specs.Writes.{Stands}
-use Rattle.mvd_site.specs.Held.{AreHeld, States, key_digests}
+use Rattle.mvd_site.specs.Held.{key_digests}
 use Rattle.mvd_tree.proofs.Held.{digests_rise}
 use Rattle.mvd_site.specs.Answer.{spelled}
 use Rattle.mvd_site.proofs.Digested.{keeps_opened}
 use Rattle.mvd_rows.specs.Stands.{IsRowsOf}
-use Rattle.mvd_site.proofs.Opened.{rising_len, stands_for}
+use Rattle.mvd_site.proofs.Opened.{rising_len, stands_held}
 use Rattle.mvd_site.proofs.sites.Site.open.Goals as goal
 
 pub open-requires : goal.open-requires
@@ -27,7 +26,4 @@ invariant_of-result c =
 
 pub returns-clause-stands : goal.returns-clause-stands
 returns-clause-stands c =
-    let entries = c.args.states.items in
-    let is = c.in_ok-held.ensures.held in
-    let known = stands_for entries (holds _ c.requires.rising) (subst AreHeld is c.in_ok-held.ensures.kept) in
-    (known.0, subst (λ (m : States). Stands m known.0) (sym is) known.1)
+    stands_held c.in_ok-held.held c.in_ok-held.ensures.kept

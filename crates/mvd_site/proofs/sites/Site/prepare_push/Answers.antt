@@ -13,7 +13,7 @@ pub returns-in-Err-clause-answer : goal.returns-in-Err-clause-answer
 returns-in-Err-clause-answer c =
     let old = c.look-is_held.result.1.now in
     let pushed = c.args.pushed.now in
-    let small : is_too_large pushed ≡ false = is_short pushed c.state_length.result c.state_length.ensures.length c.if-state_length-gt-STATE_MAX.false in
+    let small : is_too_large pushed ≡ false = is_short pushed c.state_length.result c.state_length.ensures.length c.if-state_length-gt-STATE_LIMIT.false in
     ⊎_elim (λ memory. inr memory)
     (λ other.
     let clash = join_err old pushed c.in-Err.refusal (c.in-Err.ensures.answer other) in
@@ -30,7 +30,7 @@ pub returns-in-Ok-clause-answer : goal.returns-in-Ok-clause-answer
 returns-in-Ok-clause-answer c =
     let old = c.look-is_held.result.1.now in
     let pushed = c.args.pushed.now in
-    let small : is_too_large pushed ≡ false = is_short pushed c.state_length.result c.state_length.ensures.length c.if-state_length-gt-STATE_MAX.false in
+    let small : is_too_large pushed ≡ false = is_short pushed c.state_length.result c.state_length.ensures.length c.if-state_length-gt-STATE_LIMIT.false in
     let done = join_ok old pushed c.in-Ok.state c.in-Ok.ensures.answer in
     limited_push c.args.self.now c.args.key.now pushed c.in-Ok.state c.limited.result small
     (ap (λ s. clashes s pushed) (sym c.look-is_held.ensures.state) ∙ done.0) (done.1 ∙ ap (λ s. join s pushed) c.look-is_held.ensures.state) c.limited.ensures.limits

@@ -60,6 +60,10 @@ PreparesFrom config states request (Err refusal) = (Refused refusal ≡ answer_f
 PreparesFrom config states request (Ok (Answer reply)) = PreparesAnswerFrom config states request reply
 PreparesFrom config states request (Ok (Change change)) = PreparesChangeFrom config states request change
 
+-- the change is what some request comes to from the states that the site has now
+abbrev pub IsChangeNow : SiteValue → ChangeValue → Type 0
+IsChangeNow site change = (request : Request) × PreparesChangeFrom site.config site.states request change
+
 -- what a site that is not broken prepares, from its states alone
 abbrev pub PreparesFromStates : SiteValue → Request → Result Prepared Refusal → Type 0
 PreparesFromStates site request prepared = site.broken ≡ false → PreparesFrom site.config site.states request prepared

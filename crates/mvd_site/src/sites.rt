@@ -15,7 +15,7 @@ ghost use Rattle.mvd_site.specs.FromStates.{AnswersFrom, push_reply, unless_brok
 ghost use Rattle.mvd_site.specs.Held.{AreHeld, IsHeldState, IsKept, state_at};
 ghost use Rattle.mvd_site.specs.Known.{Adds, Event, IsValidRequest, Tells};
 ghost use Rattle.mvd_rows.specs.Changes.{IsRoomy};
-ghost use Rattle.mvd_site.specs.Prepared.{IsReady, LimitsTo, PreparesAt, PreparesFrom, PreparesFromStates, PreparesReply, is_of_state};
+ghost use Rattle.mvd_site.specs.Prepared.{IsChangeNow, IsReady, LimitsTo, PreparesAt, PreparesFrom, PreparesFromStates, PreparesReply, is_of_state};
 ghost use Rattle.mvd_site.specs.Sites.{AnswersAll, AnswersOne, SiteValue, has_no_room, opened};
 
 use crate::changes::{Change, Prepared, reply_of};
@@ -332,6 +332,8 @@ impl Site {
     pub fn install(&mut self, change: Change) -> Result<(), Refusal>
         requires room { has_no_room self.old.config self.old.states change.key ≡ false }
         requires held { IsHeldState change.state }
+        // The key's state is still the one that the change was prepared from.
+        requires fresh { IsChangeNow self.old change }
         ensures ok { OnOk result ((self.old.broken ≡ false) × (self.new ≡ record { config = self.old.config; states = map.insert self.old.states change.key change.state; broken = false })) }
         ensures err { IfErr result (λ refusal. (refusal ≡ Broken) × (self.new ≡ record { config = self.old.config; states = self.old.states; broken = true })) }
     {

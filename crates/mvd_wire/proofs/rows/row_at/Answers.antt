@@ -1,4 +1,4 @@
-use Rattle.std.proofs.Common.{refl, rules}
+use Rattle.std.proofs.Common.{rules}
 use Rattle.mvd_wire.specs.Rows.{row}
 use Rattle.mvd_wire.proofs.rows.row_at.Goals as goal
 

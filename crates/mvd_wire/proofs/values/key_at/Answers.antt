@@ -6,6 +6,6 @@ use Rattle.mvd_wire.proofs.values.key_at.Goals as goal
 pub returns : goal.returns
 unfolding key
 returns c =
-    let some : leb 1 c.in_ok-count.count ≡ true = le-leb _ _ (omega (arith, c.if-count-eq0.false)) in
-    let few : leb c.in_ok-count.count 128 ≡ true = le-leb _ _ c.if-count-gt128.false in
+    let some : leb 1 c.in_ok-count.count ≡ true = le-leb _ _ (omega arith) in
+    let few : leb c.in_ok-count.count 128 ≡ true = le-leb _ _ (omega arith) in
     rw (c.in_ok-count.ensures, some, few, ← c.from.ensures, c.in_ok-text.ensures, c.in_ok-key_of_bytes.ensures) refl

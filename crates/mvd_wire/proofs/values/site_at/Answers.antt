@@ -1,9 +1,6 @@
 use Rattle.std.proofs.lemmas.Result.{err_from_is_err_and}
 use Rattle.mvd_wire.proofs.values.site_at.Goals as goal
 
-pub returns-in-Second : goal.returns-in-Second
-returns-in-Second c = rw c.in-Second.is c.u32_at.ensures
-
 pub returns-in_ok-site-in-First : goal.returns-in_ok-site-in-First
 returns-in_ok-site-in-First c = rw (c.in-First.is, c.from.ensures) c.in_ok-site-in-First.ensures
 

@@ -1,24 +1,24 @@
 -- The states with a spelling are those in form.
-use Rattle.std.proofs.Common.{◌≡◌, ℕ, ◌≤◌, Bool, true, false, T, cond, List, [], ◌∷◌, map, length, Option, Some, None, Result, Ok, Err, refl, sym, ap, subst, ◌∙◌, arith}
+use Rattle.std.proofs.Common.{◌≡◌, ◌≤◌, Bool, true, false, T, cond, List, [], ◌∷◌, map, length, Option, Some, None, Result, Ok, Err, refl, sym, ap, subst, ◌∙◌, arith}
 use Rattle.std.proofs.lemmas.Bool.{leb-true}
 use Rattle.std.proofs.lemmas.List.Elements.{All-cons}
 use Rattle.std.proofs.lemmas.Str.{IsUtf8-from_is_utf8}
 use Rattle.std.specs.List.{All}
 use Rattle.std.specs.Str.{is_utf8}
 use Rattle.std.specs.Ordering.{eq_by_cmp}
-use Rattle.std.specs.FinMap.{FinMap, entries as pairs, entries_sorted, find, from_entries, get, get-entries, is_sorted}
+use Rattle.std.specs.FinMap.{FinMap, entries as pairs, entries_sorted, find, from_entries, get-entries, is_sorted}
 use Rattle.std.specs.FinMap.Entries.{below_all}
 use Rattle.mvd_dots.specs.declared.refusals.Refusal.{Refusal}
 use Rattle.mvd_dots.specs.declared.refusals.Refusal.TheVariants.{BadDocument}
 use Rattle.mvd_dots.specs.Dot.{DotValue, dot_cmp}
 use Rattle.mvd_dots.specs.Context.{DotSet, AreInRange}
 use Rattle.mvd_docs.specs.Document.{IsDocument, canonical_document_of, document_of}
-use Rattle.mvd_keys.specs.State.{State, Text, AreParts, IsValid, pair_of, pairs_of, rises, state_of}
+use Rattle.mvd_keys.specs.State.{State, Text, AreParts, IsValid, pairs_of, rises, state_of}
 use Rattle.mvd_keys.specs.declared.siblings.Sibling.{Sibling}
 use Rattle.mvd_keys.proofs.Lists.{tied_itself_dot}
 use Rattle.mvd_keys.proofs.Parts.{is_true}
 use Rattle.mvd_keys.proofs.Rising.{Pair, first_true, second_true, none_found}
-use Rattle.mvd_wire.specs.Kind.{number, FitEach}
+use Rattle.mvd_wire.specs.Kind.{FitEach}
 use Rattle.mvd_wire.specs.Kinds.{layout2, document, context, sibling, siblings, unlimited_state, state, spell_state, IsInForm}
 use Rattle.mvd_wire.proofs.Fits.{document_fits, if_text, own_of_same, state_fits}
 use Rattle.mvd_wire.proofs.Siblings.{pairs_back as map_back, siblings_parts}

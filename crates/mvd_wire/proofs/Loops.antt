@@ -9,6 +9,10 @@ use Rattle.mvd_wire.specs.Kind.{◌>>=◌, Kind, read_each}
 abbrev pub with_front : {X : Type 0} → List X → Result (List X × List ℕ) Refusal → Result (List X × List ℕ) Refusal
 with_front front read = read >>= λ x. Ok (front ++ x.0, x.1)
 
+pub starts : {X : Type 0} (read : Result (List X × List ℕ) Refusal) → with_front [] read ≡ read
+starts (Ok x) = refl
+starts (Err f) = refl
+
 regroup : {X : Type 0} (front : List X) (n : X) (read : Result (List X × List ℕ) Refusal) → with_front front (read >>= λ x. Ok (n ∷ x.0, x.1)) ≡ with_front (front ++ n ∷ []) read
 regroup {X} front n (Ok x) = ap (λ (ns : List X). Ok (ns, x.1)) (simp append_assoc)
 regroup front n (Err f) = refl

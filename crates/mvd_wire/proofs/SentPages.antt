@@ -1,17 +1,16 @@
 -- The answers to questions about indexes, views and the hash tree are never too long for a frame.
-use Rattle.std.proofs.Common.{◌≡◌, ℕ, ℤ, ◌+◌, ◌*◌, ◌/◌, ◌%◌, ◌^◌, ◌≤◌, Bool, true, false, leb, IfSome, List, [], ◌∷◌, ◌++◌, length, Option, Some, None, Ok, refl, arith}
+use Rattle.std.proofs.Common.{◌≡◌, ℕ, ℤ, ◌+◌, ◌*◌, ◌/◌, ◌%◌, ◌^◌, ◌≤◌, Bool, true, false, leb, IfSome, List, [], ◌∷◌, length, Option, Some, None, refl, arith}
 use Rattle.std.specs.List.{AllByRecursion, flat_map}
-use Rattle.std.specs.Int.{w16, w64, w128, cast_unsigned}
+use Rattle.std.specs.Int.{w64, w128, cast_unsigned}
 use Rattle.std.proofs.lemmas.Bool.{le-leb}
 use Rattle.std.proofs.lemmas.List.{length-append}
 use Rattle.std.proofs.lemmas.List.Concat.{flat_map-cons}
 use Rattle.mvd_docs.specs.declared.term.Term.{Term}
 use Rattle.mvd_docs.specs.declared.term.Term.TheVariants.{Null, False, True, Whole, Text}
-use Rattle.mvd_dots.specs.Dot.{DotValue}
 use Rattle.mvd_keys.specs.Key.{is_key}
 use Rattle.mvd_keys.specs.declared.places.Place.{Place}
-use Rattle.mvd_wire.specs.Kind.{Kind, number, raw}
-use Rattle.mvd_wire.specs.Kinds.{layout2, dot, key}
+use Rattle.mvd_wire.specs.Kind.{Kind, raw}
+use Rattle.mvd_wire.specs.Kinds.{dot}
 use Rattle.mvd_wire.specs.Frames.{frame_limit}
 use Rattle.mvd_wire.specs.Rows.{children, digest, digests, ends, flag, key_entry, page, page_limit, place, row, spot, sum, term, term_text, view_row, whole_number}
 use Rattle.mvd_wire.specs.declared.reply.Digests.{Digests}

@@ -1,5 +1,5 @@
 -- A key with a state is told by its text.
-use Rattle.std.proofs.Common.{◌≡◌, true, ◌++◌, [], ap, sym, ◌∙◌}
+use Rattle.std.proofs.Common.{◌≡◌, true, ◌++◌, [], sym, ◌∙◌}
 use Rattle.std.proofs.lemmas.List.{append-nil}
 use Rattle.mvd_keys.specs.Key.{is_key}
 use Rattle.mvd_keys.specs.State.{State, Text}

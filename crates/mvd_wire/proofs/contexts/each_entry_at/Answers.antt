@@ -25,6 +25,11 @@ returns-in_err-entry c =
     let p = err_from_is_err_and c.from_residual.result c.from_residual.ensures.1 in
     rw (p.1, p.2) (dots_end (layout_of c.args.version) c.in_err-entry.field-0.0 c.loop.context c.loop.previous c.args.count c.loop.counter c.loop.rest.now (dots_read (read_each (entry (layout_of c.args.version)) (λ _ e. e.site) 0 c.args.count c.args.bytes.now)) c.loop-test.true c.in_err-entry.ensures.read c.loop.invariant.so_far)
 
+pub returns-in_err-add_entry : goal.returns-in_err-add_entry
+returns-in_err-add_entry c =
+    let p = err_from_is_err_and c.from_residual-in_err-add_entry.result c.from_residual-in_err-add_entry.ensures.1 in
+    rw p.1 (λ other. absurd (other (p.2 ∙ c.in_err-add_entry.ensures.memory)))
+
 pub loop-preserved : goal.loop-preserved
 loop-preserved c =
     let e = c.in_ok-entry.entry in

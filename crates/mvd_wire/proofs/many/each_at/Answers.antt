@@ -1,8 +1,19 @@
+use Rattle.std.proofs.Common.{◌≡◌, ◌-◌, arith}
 use Rattle.std.proofs.lemmas.Result.{err_from_is_err_and}
 use Rattle.mvd_wire.specs.Kind.{read_each}
 use Rattle.mvd_wire.specs.Rows.{item_of}
-use Rattle.mvd_wire.proofs.Loops.{goes_on, ends, is_done}
+use Rattle.mvd_wire.proofs.Loops.{starts, goes_on, ends, is_done}
 use Rattle.mvd_wire.proofs.many.each_at.Goals as goal
+
+pub loop-init : goal.loop-init
+loop-init g c =
+    let whole : c.args.count - 0 ≡ c.args.count = omega arith in
+    rw (c.new-items.ensures.items, whole) (starts (read_each (item_of g.T.Spelled.kind) (λ s _. s) tt c.args.count c.args.bytes.now))
+
+pub returns-in_err-push : goal.returns-in_err-push
+returns-in_err-push g c =
+    let p = err_from_is_err_and c.from_residual-in_err-push.result c.from_residual-in_err-push.ensures.1 in
+    rw p.1 (λ other. absurd (other p.2))
 
 pub returns-in_err-item : goal.returns-in_err-item
 returns-in_err-item g c =

@@ -1,5 +1,11 @@
+use Rattle.std.proofs.Common.{append_assoc}
+use Rattle.mvd_wire.specs.Requests.{delete}
 use Rattle.mvd_wire.proofs.SentFrames.{delete_fits}
 use Rattle.mvd_wire.proofs.sending.put_delete.Goals as goal
 
 pub returns-clause-fits : goal.returns-clause-fits
 returns-clause-fits c = delete_fits c.args.key.now c.args.context.now c.put_key.ensures.key c.put_context.ensures.in_range
+
+pub returns-clause-bytes : goal.returns-clause-bytes
+unfolding delete
+returns-clause-bytes c = rw (c.in_ok-put_context.ensures.bytes, c.in_ok-put_key.ensures.bytes) (simp append_assoc)

@@ -1,4 +1,4 @@
-use Rattle.std.proofs.Common.{◌≡◌, arith}
+use Rattle.std.proofs.Common.{arith}
 use Rattle.std.specs.Prelude.{IfOk}
 use Rattle.mvd_wire.specs.Kind.{Spells}
 use Rattle.mvd_wire.specs.Kinds.{state, layout1}

@@ -1,11 +1,21 @@
-use Rattle.std.proofs.Common.{◌≡◌, ◌++◌, ◌∷◌, [], Some, None}
+use Rattle.std.proofs.Common.{◌≡◌, ◌-◌, arith, ◌++◌, ◌∷◌, [], Some, None}
 use Rattle.std.proofs.lemmas.Result.{err_from_is_err_and}
 use Rattle.std.proofs.lemmas.List.{map_push}
 use Rattle.mvd_keys.specs.State.{pair_of, pairs_of}
 use Rattle.mvd_wire.specs.Kind.{read_each}
 use Rattle.mvd_wire.specs.Kinds.{sibling, layout_of}
-use Rattle.mvd_wire.proofs.Loops.{goes_on, ends, is_done}
+use Rattle.mvd_wire.proofs.Loops.{starts, goes_on, ends, is_done}
 use Rattle.mvd_wire.proofs.states.each_sibling_at.Goals as goal
+
+pub loop-init : goal.loop-init
+loop-init c =
+    let whole : c.args.count - 0 ≡ c.args.count = omega arith in
+    rw (c.new-siblings.ensures.items, whole) (starts (read_each (sibling (layout_of c.args.version) c.args.context.now) (λ _ s. Some s.0) None c.args.count c.args.bytes.now))
+
+pub returns-in_err-push : goal.returns-in_err-push
+returns-in_err-push c =
+    let p = err_from_is_err_and c.from_residual-in_err-push.result c.from_residual-in_err-push.ensures.1 in
+    rw p.1 (λ other. absurd (other p.2))
 
 pub returns-in_err-sibling : goal.returns-in_err-sibling
 returns-in_err-sibling c =

@@ -1,5 +1,5 @@
 //! Causal contexts: finite sets of dots.
-ghost use Rattle.std.specs.Prelude.{◌≡◌, ℕ, ◌<◌, ◌≤◌, ◌^◌, ◌↔◌, IsTrue, IfOk, IsOkUnless, OnOk, Ok, string_bytes, max, OnErr, List, IfSome, IfNone, length, ◌++◌};
+ghost use Rattle.std.specs.Prelude.{◌≡◌, ℕ, ◌==◌, ◌<◌, ◌≤◌, ◌^◌, ◌↔◌, IsTrue, IfOk, IsOkUnless, OnOk, Ok, string_bytes, max, OnErr, List, IfSome, IfNone, length, ◌++◌};
 ghost use Rattle.std.specs.List.{AllWithin};
 ghost use Rattle.std.specs.FinSet as set;
 ghost use Rattle.mvd_dots.specs.Entry.{EntryValue, IsEntry, RisesAbove, Among};
@@ -51,6 +51,14 @@ impl Context {
             Some(entry) => entry.contains(dot.counter()),
             None => false,
         }
+    }
+
+    /// Whether it has no dot.
+    pub fn is_empty(&self) -> bool
+        ensures none { IsTrue result ↔ (self.now ≡ set.empty) }
+        ensures count { result ≡ (set.len self.now == 0) }
+    {
+        self.entries().is_empty()
     }
 
     /// The greatest counter of the site, or 0 where it has none.

@@ -1,33 +1,28 @@
 -- What it says that a query shows a row, or none.
-use Rattle.std.proofs.Common.{◌≡◌, ◌≢◌, ◌⊎◌, inl, inr, ℕ, suc, List, [], ◌∷◌, ◌++◌, ◌&&◌, ◌≤◌, map, flat_map, length, take, drop, Bool, true, false, cond, Some, None, Option, Ok, Err, Result, refl, sym, ap, subst, subst₂, ◌∙◌, arith}
+use Rattle.std.proofs.Common.{◌≡◌, ◌≢◌, inl, inr, ℕ, List, [], ◌∷◌, ◌++◌, ◌&&◌, map, flat_map, length, take, drop, Bool, true, false, cond, Some, None, refl, sym, ap, subst, ◌∙◌, arith}
 use Rattle.std.proofs.lemmas.List.{length-map}
-use Rattle.std.specs.List.Sorted.{IsPermutation}
 use Rattle.std.proofs.lemmas.List.Sorted.{length_permutation}
 use Rattle.std.proofs.lemmas.Bool.{cases_Bool, and_parts}
 use Rattle.std.specs.Ordering.{nat_cmp, is_eq}
 use Rattle.std.specs.Cmp.{tied_itself}
 use Rattle.std.specs.Cmp.Lexicographic.{slice_cmp, nat_list_cmp_total}
-use Rattle.std.specs.FinMap.{get, get-from_entries}
+use Rattle.std.specs.FinMap.{get}
 use Rattle.sqlite.specs.declared.types.Value.TheVariants.{Null, Text}
 use Rattle.sqlite.specs.Order.{Row, column}
 use Rattle.sqlite.specs.Ops.{binary}
 use Rattle.sqlite.specs.Collation.TheVariants.{Binary}
 use Rattle.sqlite.specs.Tree.{Trees}
-use Rattle.sqlite.specs.Query.{Query, IsAnswer, Output, output, page}
+use Rattle.sqlite.specs.Query.{Query, IsAnswer, Output, output}
 use Rattle.sqlite.specs.Program.{overlay}
 use Rattle.sqlite.specs.State.{State, Shown}
-use Rattle.sqlite.specs.Effect.{Database, IsDatabase}
 use Rattle.sqlite.proofs.Callers.{reads_as}
 use Rattle.sqlite_schema.specs.Rules.{equal}
 use Rattle.sqlite_value.proofs.OrderLemmas.{value_cmp-Text}
 use Rattle.sqlite_rules.specs.Lists.{Has}
-use Rattle.mvd_records.specs.Tables.{all_tables, old_states, new_states}
+use Rattle.mvd_records.specs.Tables.{all_tables}
 use Rattle.mvd_records.specs.States.{states_in}
-use Rattle.mvd_records.specs.Records.{HasTables, AreApart, rows_at}
-use Rattle.mvd_records.specs.Records as maps
 use Rattle.mvd_records.proofs.Rows.{IsEntry, IsApart, key_of, state_of, found, absent, looked_up, HasKey, same_key, get_at}
-use Rattle.mvd_records.proofs.Rules.{AreStates, apart_in, old_states_of, new_states_of, true_is}
-use Rattle.mvd_records.proofs.Saved.{rows_there}
+use Rattle.mvd_records.proofs.Rules.{AreStates, true_is}
 use Rattle.mvd_records.proofs.Texts.{any_old_text, any_old_query, any_old_is, any_old_plain, any_both_text, any_both_query, any_both_is, any_both_plain}
 
 none_long : {X : Type 0} (xs : List X) → length xs ≡ 0 → xs ≡ []

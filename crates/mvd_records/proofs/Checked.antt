@@ -1,8 +1,7 @@
 -- What a call leaves that reads the records.
-use Rattle.std.proofs.Common.{◌≡◌, ◌≢◌, ◌≤◌, ◌⊎◌, inl, inr, ℕ, List, ◌∷◌, [], Bool, true, false, IsTrue, MatchBool, Result, Ok, Err, IfOk, IfErr, OnOk, OnErr, refl, sym, ap, subst, ◌∙◌, arith}
+use Rattle.std.proofs.Common.{◌≡◌, ◌≢◌, inl, inr, ℕ, List, [], Bool, true, false, IsTrue, MatchBool, Result, Ok, Err, IfOk, IfErr, OnOk, OnErr, refl, sym, ap, subst, ◌∙◌, arith}
 use Rattle.std.specs.Bool.{MatchBool}
 use Rattle.sqlite.specs.Order.{Row}
-use Rattle.sqlite.specs.Tree.{Trees}
 use Rattle.sqlite.specs.Effect.{Database}
 use Rattle.sqlite.specs.Listing.{understood}
 use Rattle.sqlite.specs.Given.{IsPlain}
@@ -10,7 +9,7 @@ use Rattle.sqlite.specs.State.{State, HasCleanDisk, KeepsCommit, Survives, Shown
 use Rattle.sqlite.proofs.Callers.{never_commits}
 use Rattle.sqlite.proofs.StateLemmas.{survives_then, survives_weaker}
 use Rattle.mvd_records.specs.Tables.{all_tables, old_states, new_states}
-use Rattle.mvd_records.specs.States.{States, states_in}
+use Rattle.mvd_records.specs.States.{states_in}
 use Rattle.mvd_records.specs.Records.{IsSound, IsSettled, HoldsRecords, OnlyReads, Leaves, HasNone, AreDisjoint, rows_at}
 use Rattle.mvd_records.specs.Records as maps
 use Rattle.mvd_records.proofs.Calls.{shown_open}

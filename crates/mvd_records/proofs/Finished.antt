@@ -1,18 +1,19 @@
 -- What a call leaves that ends the move of keys.
-use Rattle.std.proofs.Common.{◌≡◌, ◌⊎◌, inl, inr, ℕ, List, ◌∷◌, [], map, cond, Option, None, Ok, IsTrue, refl, sym, ap, subst, ◌∙◌, arith}
+use Rattle.std.proofs.Common.{◌≡◌, inl, inr, ℕ, List, [], cond, Option, None, Ok, IsTrue, refl, sym, ap, subst, ◌∙◌, arith}
 use Rattle.sqlite.specs.Command.TheVariants.{Update}
 use Rattle.sqlite.specs.Tree.{Trees}
-use Rattle.sqlite.specs.Effect.{Database, IsDatabase}
+use Rattle.sqlite.specs.Effect.{Database}
 use Rattle.sqlite.specs.Does.{Tally, Does}
 use Rattle.sqlite.specs.View.{IsShaped}
 use Rattle.sqlite_trees.specs.declared.store.Shape.TheVariants as shape
-use Rattle.sqlite.specs.State.{State, HasCleanDisk, Executes, CommitsBy, MayCommit, Survives}
+use Rattle.sqlite.specs.State.{State, HasCleanDisk, Executes, CommitsBy, Survives}
 use Rattle.sqlite.specs.Listing.{understood}
 use Rattle.sqlite.proofs.Callers.{runs_as, statement_of}
 use Rattle.sqlite.proofs.StateLemmas.{survives_then}
 use Rattle.mvd_records.specs.Tables.{all_tables, old_states, meta, new_states}
 use Rattle.mvd_records.specs.States.{states_in}
-use Rattle.mvd_records.specs.Records.{IsSettled, IsSound, HoldsRecords, KeepsStates, Leaves, OnlyReads}
+use Rattle.mvd_records.specs.Records.{IsSettled, IsSound, HoldsRecords, KeepsStates, EndsMove, HasNone, Leaves, OnlyReads}
+use Rattle.mvd_records.specs.Records as maps
 use Rattle.mvd_records.proofs.Texts.{finish_text, finish_query, finish_is, finish_plain}
 use Rattle.mvd_records.proofs.Saving.{plain_mode}
 use Rattle.mvd_records.proofs.Saved.{rows_there, with_rows}
@@ -55,13 +56,17 @@ finished_then old trees settled h version site was holds =
           (it.2, (done.0, subst (λ d. KeepsStates d it.2) now done.1), it.5))
     ]
 
+-- no old key was left, and none is
+pub ended : (site : ℕ) (old mid new : Database) → mid ≡ old → HasNone (maps.old_states old) → HoldsRecords 2 site new × KeepsStates mid new → EndsMove site old new
+ended site old mid new same none it =
+    let states = subst (λ (d : Database). KeepsStates d new) same it.1 in record { holds = it.0; states = states; moved = subst HasNone (sym states.old_same) none }
+
 -- a question first, and then the statement
-pub asked_then : (a b c : State) → OnlyReads a b → (HasCleanDisk b → IsTrue b.is_open) → Survives b c (Leaves b (λ version site db. HoldsRecords 2 site db × KeepsStates b.committed db))
-    → Survives a c (Leaves a (λ version site db. HoldsRecords 2 site db × KeepsStates a.committed db))
-asked_then a b c reads stays ends = survives_then a b c _ _ _ (λ _ db left version site was holds. absurd ((left version site was holds).1))
-    (λ clean db left version site was holds. (
+pub asked_then : (a b c : State) → OnlyReads a b → (HasCleanDisk b → IsTrue b.is_open) → ((version site : ℕ) → IsSound b → HoldsRecords version site a.committed → HasNone (maps.old_states a.committed))
+    → Survives b c (Leaves b (λ version site db. HoldsRecords 2 site db × KeepsStates b.committed db)) → Survives a c (Leaves a (λ _ site db. EndsMove site a.committed db))
+asked_then a b c reads stays none ends = survives_then a b c _ _ _ (λ _ db left version site was holds. absurd ((left version site was holds).1)) (λ clean db left version site was holds. (
     let mid : HasCleanDisk b = omega (arith, ends.clean, clean) in
     let sound : IsSound b = record { clean = mid; is_open = stays mid } in
     let same = reads.unchanged version site sound holds in
     let it = left version site (stays mid) (subst (HoldsRecords version site) (sym same) holds) in
-    (it.0, (it.1.0, subst (λ (d : Database). KeepsStates d it.0) same it.1.1), it.2))) reads.survives ends
+    (it.0, ended site a.committed b.committed it.0 same (none version site sound holds) it.1, it.2))) reads.survives ends

@@ -1,20 +1,18 @@
 -- What the statement that ends the move of keys does to the marks.
-use Rattle.std.proofs.Common.{◌≡◌, ◌≢◌, ◌⊎◌, inl, inr, ℕ, ℤ, pos, List, [], ◌∷◌, ◌++◌, ◌&&◌, map, length, codes, Bool, true, false, not, cond, Option, Some, None, Ok, Err, Result, IsTrue, refl, sym, ap, subst, subst₂, ◌∙◌, arith}
+use Rattle.std.proofs.Common.{◌≡◌, inl, inr, ℕ, ℤ, pos, List, [], ◌∷◌, ◌&&◌, map, length, codes, Bool, true, false, not, Option, None, Ok, refl, sym, ap, subst, ◌∙◌, arith}
 use Rattle.std.specs.List.Sorted.{IsPermutation}
 use Rattle.std.specs.Ordering.{is_eq}
 use Rattle.std.specs.Cmp.{tied_itself}
-use Rattle.std.specs.declared.cmp.Ordering.{Ordering}
 use Rattle.std.specs.declared.cmp.Ordering.TheVariants.{Less, Equal, Greater}
 use Rattle.std.proofs.lemmas.List.Sorted.{length_permutation}
 use Rattle.std.proofs.lemmas.List.{length-map}
-use Rattle.std.proofs.lemmas.Bool.{and_parts}
 use Rattle.sqlite.specs.declared.types.Value.{Value}
 use Rattle.sqlite.specs.declared.types.Value.TheVariants.{Null, Int, Text}
 use Rattle.sqlite.specs.Order.{Row, column, value_cmp}
 use Rattle.sqlite.specs.Query.{IsAnswer, Output, output, page}
 use Rattle.sqlite.specs.Program.{overlay}
 use Rattle.sqlite.specs.Collation.TheVariants.{Binary}
-use Rattle.sqlite.specs.Edit.{Edit, edit_of, edited, without_all}
+use Rattle.sqlite.specs.Edit.{Edit, edit_of, without_all}
 use Rattle.sqlite.specs.Rowids.TheVariants.{Given}
 use Rattle.sqlite.specs.Command.TheVariants.{Update}
 use Rattle.sqlite.specs.Does.{Tally, Does}
@@ -32,7 +30,7 @@ use Rattle.sqlite_rules.specs.Action.{Writes}
 use Rattle.sqlite_rules.specs.Calls.{ids_of}
 use Rattle.sqlite_rules.specs.Lists.{Has}
 use Rattle.mvd_records.specs.Tables.{all_tables, meta}
-use Rattle.mvd_records.specs.States.{mark, AreMarks, IsMark, shown}
+use Rattle.mvd_records.specs.States.{AreMarks, shown}
 use Rattle.mvd_records.proofs.Rules.{int_value}
 use Rattle.mvd_records.proofs.Asked.{text_tie}
 use Rattle.mvd_records.proofs.Marked.{either, in_order, turned}

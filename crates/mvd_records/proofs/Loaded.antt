@@ -1,31 +1,31 @@
 -- What the rows that a load reads say of the map.
-use Rattle.std.proofs.Common.{◌≡◌, ◌⊎◌, inl, inr, ℕ, List, [], ◌∷◌, ◌++◌, ◌&&◌, map, flat_map, Bool, true, false, T, Some, None, Option, refl, sym, ap, subst, ◌∙◌, IsTrue}
+use Rattle.std.proofs.Common.{◌≡◌, inl, inr, ℕ, List, [], ◌∷◌, ◌++◌, ◌&&◌, map, Bool, true, false, T, refl, sym, ap, subst, ◌∙◌, IsTrue}
 use Rattle.std.specs.List.{AllByRecursion}
 use Rattle.std.specs.List.Sorted.{IsPermutation}
-use Rattle.std.specs.FinMap.{entries, get, is_sorted}
+use Rattle.std.specs.FinMap.{entries, is_sorted}
 use Rattle.std.specs.FinMap.Entries.{below_all}
 use Rattle.sqlite.specs.declared.types.Value.TheVariants.{Null}
-use Rattle.sqlite.specs.Order.{Row, column}
-use Rattle.sqlite.specs.Query.{IsAnswer, Output, output}
+use Rattle.sqlite.specs.Order.{Row}
+use Rattle.sqlite.specs.Query.{IsAnswer}
 use Rattle.sqlite.specs.Program.{overlay}
 use Rattle.sqlite.specs.State.{State, Shown, Begins}
 use Rattle.sqlite.proofs.Callers.{begins_as}
-use Rattle.sqlite_trees.proofs.ListLemmas.{map-map}
 use Rattle.sqlite_rules.specs.Lists.{Has}
 use Rattle.mvd_keys.specs.Key.{is_key}
 use Rattle.mvd_records.specs.Tables.{all_tables}
-use Rattle.mvd_records.specs.States.{States, states_in, shown, shown_entry}
-use Rattle.mvd_records.specs.Pairs.{IsPair, ArePairs, rises}
-use Rattle.mvd_records.specs.Records.{IsSettled, HoldsRecords, AreKeys}
-use Rattle.mvd_records.specs.Records as maps
+use Rattle.mvd_records.specs.States.{states_in, shown, shown_entry}
+use Rattle.mvd_records.specs.Pairs.{ArePairs, rises}
+use Rattle.mvd_records.specs.Records.{IsSettled, HoldsRecords, AreKeys, states_at}
+use Rattle.mvd_records.specs.declared.loading.Half.{Half}
+use Rattle.mvd_records.specs.declared.loading.Half.TheVariants.{Old, New}
 use Rattle.mvd_records.proofs.Rows.{key_of, order}
 use Rattle.mvd_records.proofs.Rules.{AreStates, apart_in}
 use Rattle.mvd_records.proofs.Calls.{shown_open}
-use Rattle.mvd_records.proofs.Listed.{Lists, listed, listed_old, loaded, has_moved}
-use Rattle.mvd_records.proofs.Asked.{get_has, has_get, one_each}
-use Rattle.mvd_records.proofs.Ordered.{output_of, shown_pairs}
+use Rattle.mvd_records.proofs.Listed.{Lists, listed, loaded, has_moved, output_of, kept_all, table_read}
+use Rattle.mvd_records.proofs.Asked.{get_has, has_get}
+use Rattle.mvd_records.proofs.Ordered.{shown_pairs}
 use Rattle.mvd_records.proofs.Checked.{met_schema, states_of, maps_of}
-use Rattle.mvd_records.proofs.Texts.{load_text, load_query, load_is, load_plain, load_old_text, load_old_query, load_old_is, load_old_plain}
+use Rattle.mvd_records.proofs.Texts.{load_text, tree_of, load_query, load_is, load_plain}
 
 abbrev Entry : Type 0
 Entry = List ℕ × List ℕ
@@ -85,41 +85,36 @@ front_pairs rows tail are = record {
 keys_of_rows : (rows : List Row) → AreStates rows → AreKeys (states_in rows) → (x : Row) → Has rows x → is_key (key_of x) ≡ true
 keys_of_rows rows are keys x there = keys (key_of x) _ (has_get rows x there (apart_in rows are))
 
--- ---- version 2
+module _ (half : Half) (version site : ℕ) (old : State) (settled : IsSettled old) (holds : HoldsRecords version site old.committed) where
+  -- the rows of the table, and the map that they are
+  are : IsTrue old.is_open → AreStates (old.now.trees (tree_of half))
+  are was = choose half
+    where
+      choose : (half : Half) → AreStates (old.now.trees (tree_of half))
+      choose Old = (states_of version site old settled was holds).0
+      choose New = (states_of version site old settled was holds).1
 
-module _ (version site : ℕ) (old : State) (settled : IsSettled old) (holds : HoldsRecords version site old.committed) where
-  pub loaded_new : (new : State) (rows : List Row) → Shown load_text [] old new rows → rises (map shown_entry rows) → entries (maps.new_states old.committed) ≡ map shown_entry rows
-  loaded_new new rows h up =
-      let was = shown_open load_text [] old new rows h in
-      ap entries (maps_of version site old settled was holds).1 ∙ loaded _ _ (listed old new rows (met_schema version site old settled was holds) h) up
+  map_is : IsTrue old.is_open → states_at half old.committed ≡ states_in (old.now.trees (tree_of half))
+  map_is was = choose half
+    where
+      choose : (half : Half) → states_at half old.committed ≡ states_in (old.now.trees (tree_of half))
+      choose Old = (maps_of version site old settled was holds).0
+      choose New = (maps_of version site old settled was holds).1
 
-  pub loaded_old : (new : State) (rows : List Row) → Shown load_old_text [] old new rows → rises (map shown_entry rows) → entries (maps.old_states old.committed) ≡ map shown_entry rows
-  loaded_old new rows h up =
-      let was = shown_open load_old_text [] old new rows h in
-      ap entries (maps_of version site old settled was holds).0 ∙ loaded _ _ (listed_old old new rows (met_schema version site old settled was holds) h) up
+  pub loaded_half : (new : State) (rows : List Row) → Shown (load_text half) [] old new rows → rises (map shown_entry rows) → entries (states_at half old.committed) ≡ map shown_entry rows
+  loaded_half new rows h up =
+      let was = shown_open (load_text half) [] old new rows h in
+      ap entries (map_is was) ∙ loaded _ _ (listed half old new rows (met_schema version site old settled was holds) h) up
 
-  pub keys_new : (new : State) (rows : List Row) → Shown load_text [] old new rows → AllByRecursion (λ (e : Entry). is_key e.0 ≡ true) (map shown_entry rows) → AreKeys (maps.new_states old.committed)
-  keys_new new rows h form =
-      let was = shown_open load_text [] old new rows h in
-      subst AreKeys (sym (maps_of version site old settled was holds).1) (keys_in _ _ (listed old new rows (met_schema version site old settled was holds) h) form)
+  pub keys_half : (new : State) (rows : List Row) → Shown (load_text half) [] old new rows → AllByRecursion (λ (e : Entry). is_key e.0 ≡ true) (map shown_entry rows) → AreKeys (states_at half old.committed)
+  keys_half new rows h form =
+      let was = shown_open (load_text half) [] old new rows h in
+      subst AreKeys (sym (map_is was)) (keys_in _ _ (listed half old new rows (met_schema version site old settled was holds) h) form)
 
-  pub keys_old : (new : State) (rows : List Row) → Shown load_old_text [] old new rows → AllByRecursion (λ (e : Entry). is_key e.0 ≡ true) (map shown_entry rows) → AreKeys (maps.old_states old.committed)
-  keys_old new rows h form =
-      let was = shown_open load_old_text [] old new rows h in
-      subst AreKeys (sym (maps_of version site old settled was holds).0) (keys_in _ _ (listed_old old new rows (met_schema version site old settled was holds) h) form)
-
-  pub bad_new : (rows : List Row) → IsTrue old.is_open → Begins load_text [] old rows → ¬ ArePairs rows → ¬ AreKeys (maps.new_states old.committed)
-  bad_new rows was h bad keys =
-      let read = (begins_as load_text [] old old all_tables (met_schema version site old settled was holds) _ load_is.0 load_plain load_is.1 rows h).1 in
-      let a : IsAnswer load_query (overlay old.now.trees []) [] (rows ++ read.0) = read.1 Null in
-      let kept = a.distinct ∙ ap (map (output load_query)) (a.grouped ∙ one_each (λ (r : Row). [] ∷ r ∷ []) (old.now.trees 4)) ∙ map-map (output load_query) (λ (r : Row). [] ∷ r ∷ []) (old.now.trees 4) in
-      let are = (states_of version site old settled was holds).1 in
-      bad (front_pairs rows read.0 (shown_pairs (old.now.trees 4) (rows ++ read.0) a.ordered are (keys_of_rows _ are (subst AreKeys (maps_of version site old settled was holds).1 keys)) (subst (λ k. IsPermutation k a.ordered) kept a.same) a.sorted a.shown))
-
-  pub bad_old : (rows : List Row) → IsTrue old.is_open → Begins load_old_text [] old rows → ¬ ArePairs rows → ¬ AreKeys (maps.old_states old.committed)
-  bad_old rows was h bad keys =
-      let read = (begins_as load_old_text [] old old all_tables (met_schema version site old settled was holds) _ load_old_is.0 load_old_plain load_old_is.1 rows h).1 in
-      let a : IsAnswer load_old_query (overlay old.now.trees []) [] (rows ++ read.0) = read.1 Null in
-      let kept = a.distinct ∙ ap (map (output load_old_query)) (a.grouped ∙ one_each (λ (r : Row). [] ∷ r ∷ []) (old.now.trees 0)) ∙ map-map (output load_old_query) (λ (r : Row). [] ∷ r ∷ []) (old.now.trees 0) in
-      let are = (states_of version site old settled was holds).0 in
-      bad (front_pairs rows read.0 (shown_pairs (old.now.trees 0) (rows ++ read.0) a.ordered are (keys_of_rows _ are (subst AreKeys (maps_of version site old settled was holds).0 keys)) (subst (λ k. IsPermutation k a.ordered) kept a.same) a.sorted a.shown))
+  -- rows that are no pairs are of a key out of form
+  pub bad_half : (rows : List Row) → IsTrue old.is_open → Begins (load_text half) [] old rows → ¬ ArePairs rows → ¬ AreKeys (states_at half old.committed)
+  bad_half rows was h bad keys =
+      let read = (begins_as (load_text half) [] old old all_tables (met_schema version site old settled was holds) _ (load_is half).0 (load_plain half) (load_is half).1 rows h).1 in
+      let a : IsAnswer (load_query (tree_of half)) (overlay old.now.trees []) [] (rows ++ read.0) = read.1 Null in
+      let kept = kept_all (tree_of half) old.now.trees (rows ++ read.0) a ∙ ap (map output_of) (table_read half old.now.trees) in
+      bad (front_pairs rows read.0 (shown_pairs (old.now.trees (tree_of half)) (rows ++ read.0) a.ordered (are was) (keys_of_rows _ (are was) (subst AreKeys (map_is was) keys)) (subst (λ k. IsPermutation k a.ordered) kept a.same) a.sorted a.shown))

@@ -1,13 +1,11 @@
 -- What CREATE TABLE IF NOT EXISTS does to a database of ours.
-use Rattle.std.proofs.Common.{◌≡◌, ◌≢◌, ◌⊎◌, inl, inr, ℕ, List, [], ◌∷◌, ◌++◌, Bool, true, false, None, Some, Ok, Err, Result, refl, sym, ap, subst, ◌∙◌, IsTrue}
-use Rattle.sqlite.specs.Order.{Row}
+use Rattle.std.proofs.Common.{◌≡◌, ◌⊎◌, inl, inr, ℕ, List, [], false, None, Ok, refl, sym, ap, subst, ◌∙◌}
 use Rattle.sqlite.specs.Command.TheVariants.{CreateTable, Nothing}
 use Rattle.sqlite.specs.Compile.{table_defined_by}
 use Rattle.sqlite.specs.Change.{created, next_tree}
-use Rattle.sqlite.specs.Does.{Tally, Does, lacks_sequence}
+use Rattle.sqlite.specs.Does.{Tally, lacks_sequence}
 use Rattle.sqlite.specs.Table.{Table}
 use Rattle.sqlite.specs.Schema.{Schema}
-use Rattle.sqlite.specs.Tree.{Trees}
 use Rattle.sqlite.specs.Effect.{Database}
 use Rattle.sqlite.specs.Listing.{understood}
 use Rattle.sqlite.specs.State.{State, Writes, Executes}
@@ -15,7 +13,6 @@ use Rattle.sqlite.specs.View.{IsShaped}
 use Rattle.sqlite.proofs.Callers.{IsPlain, command_of, statement_of, runs_as}
 use Rattle.sqlite_trees.specs.declared.store.Shape.TheVariants as shape
 use Rattle.sqlite.specs.Change as change
-use Rattle.sqlite_rules.specs.Lists.{Has}
 use Rattle.mvd_records.specs.Tables.{no_tables, old_tables, all_tables, old_states, meta, new_states}
 use Rattle.mvd_records.specs.Records.{HasTables, IsOurs, KeepsRows, rows_at}
 use Rattle.mvd_records.proofs.Saving.{went, same_value}

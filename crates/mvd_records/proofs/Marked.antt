@@ -1,17 +1,17 @@
 -- The two marks.
-use Rattle.std.proofs.Common.{◌≡◌, ◌≢◌, ◌⊎◌, inl, inr, ℕ, zero, suc, ◌+◌, ◌<◌, ◌≤◌, ◌^◌, ℤ, pos, List, [], ◌∷◌, ◌++◌, map, length, codes, Option, Some, None, Ok, Err, Result, get_or, refl, sym, ap, subst, ◌∙◌, arith}
+use Rattle.std.proofs.Common.{◌≡◌, ◌≢◌, ◌⊎◌, inl, inr, ℕ, ◌<◌, ◌≤◌, ◌^◌, List, [], ◌∷◌, map, length, codes, Option, Some, None, Err, get_or, refl, sym, ap, subst, ◌∙◌, arith}
 use Rattle.std.specs.Option.{MatchOption}
 use Rattle.std.specs.List.Sorted.{IsPermutation}
 use Rattle.std.proofs.lemmas.List.Sorted.{IsPermutation-sym, IsPermutation-append_comm, length_permutation}
 use Rattle.std.proofs.lemmas.List.{length-map}
 use Rattle.sqlite_trees.proofs.ListLemmas.{IsPermutation-same}
-use Rattle.sqlite.specs.declared.types.Value.TheVariants.{Int, Text}
+use Rattle.sqlite.specs.declared.types.Value.TheVariants.{Text}
 use Rattle.sqlite.specs.Order.{Row, column}
 use Rattle.sqlite_rules.specs.Lists.{Has}
 use Rattle.mvd_dots.specs.declared.refusals.Refusal.{Refusal}
 use Rattle.mvd_dots.specs.declared.refusals.Refusal.TheVariants.{Store}
 use Rattle.mvd_records.specs.States.{mark, AreMarks, IsMark, first_two}
-use Rattle.mvd_records.specs.Records.{IsVersion, TellsVersion, TellsMarks}
+use Rattle.mvd_records.specs.Records.{IsVersion, TellsVersion}
 use Rattle.mvd_records.proofs.Listed.{has_moved}
 
 pub two_rows : (rows : List Row) (a b : Row) → length rows ≡ 2 → a ≡ get_or rows 0 a → b ≡ get_or rows 1 b → rows ≡ a ∷ b ∷ []
@@ -83,12 +83,6 @@ marks_same pairs v s w t one two =
       elim (across (format v) (inl refl)) [ inl same ↦ same_number v w same | inr more ↦ elim more [ inl other ↦ absurd (other_name v t other) | inr none ↦ absurd none ] ],
       elim (across (site s) (inr (inl refl))) [ inl other ↦ absurd (other_name w s (sym other)) | inr more ↦ elim more [ inl same ↦ same_site s t same | inr none ↦ absurd none ] ],
     )
-
-pub version_is : (v : ℕ) → 1 ≤ v → v ≤ 2 → IsVersion v
-version_is zero low high = absurd (omega arith)
-version_is (suc zero) low high = inl refl
-version_is (suc (suc zero)) low high = inr refl
-version_is (suc (suc (suc v))) low high = absurd (omega arith)
 
 pub version_low : (v : ℕ) → IsVersion v → (1 ≤ v) × (v ≤ 2)
 version_low v (inl is) = (omega arith, omega arith)

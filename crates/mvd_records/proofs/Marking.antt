@@ -1,16 +1,16 @@
 -- Reading the marks, and writing the first ones.
-use Rattle.std.proofs.Common.{◌≡◌, ◌≢◌, ◌⊎◌, inl, inr, ℕ, ℤ, pos, ◌+ℤ◌, List, [], ◌∷◌, ◌++◌, map, length, codes, Bool, true, false, cond, Option, Some, None, Ok, Err, Result, OnOk, IsTrue, refl, sym, ap, subst, ◌∙◌, arith}
+use Rattle.std.proofs.Common.{◌≡◌, inl, inr, ℕ, pos, ◌+ℤ◌, List, [], ◌∷◌, map, length, codes, Option, Some, None, Ok, Err, Result, refl, sym, ap, subst, ◌∙◌, arith}
 use Rattle.std.specs.Ordering.{int_cmp}
 use Rattle.std.specs.Cmp.{int_cmp_is}
 use Rattle.std.specs.declared.cmp.Ordering.TheVariants.{Less}
 use Rattle.std.proofs.lemmas.Int.{ints}
 use Rattle.std.specs.List.Sorted.{IsPermutation}
-use Rattle.std.proofs.lemmas.List.Sorted.{IsPermutation-map, IsPermutation-sym, IsPermutation-trans, IsPermutation-refl, length_permutation}
+use Rattle.std.proofs.lemmas.List.Sorted.{IsPermutation-map, IsPermutation-sym, IsPermutation-trans, length_permutation}
 use Rattle.sqlite.specs.declared.types.Value.TheVariants.{Null, Int, Text}
-use Rattle.sqlite.specs.Order.{Row, column}
+use Rattle.sqlite.specs.Order.{Row}
 use Rattle.sqlite.specs.Query.{IsAnswer, Output, output}
 use Rattle.sqlite.specs.Program.{overlay}
-use Rattle.sqlite.specs.Edit.{Edit, edit_of, edited}
+use Rattle.sqlite.specs.Edit.{edit_of, edited}
 use Rattle.sqlite.specs.Rowids.TheVariants.{Chosen}
 use Rattle.sqlite.specs.Source.TheVariants.{Values}
 use Rattle.sqlite.specs.Command.TheVariants.{Insert}
@@ -19,7 +19,7 @@ use Rattle.sqlite.specs.Rows.{Written}
 use Rattle.sqlite.specs.Tree.{Trees}
 use Rattle.sqlite.specs.Effect.{Database}
 use Rattle.sqlite.specs.Listing.{understood}
-use Rattle.sqlite.specs.State.{State, mode_of, Executes, Shown}
+use Rattle.sqlite.specs.State.{State, Executes, Shown}
 use Rattle.sqlite.specs.View.{IsShaped}
 use Rattle.sqlite.proofs.Callers.{statement_of, reads_as, runs_as, one_step}
 use Rattle.sqlite_trees.specs.declared.store.Shape.TheVariants as shape
@@ -28,9 +28,8 @@ use Rattle.sqlite_trees.proofs.ListLemmas.{map-map, IsPermutation-same}
 use Rattle.mvd_dots.specs.declared.refusals.Refusal.{Refusal}
 use Rattle.mvd_dots.specs.declared.refusals.Refusal.TheVariants.{SiteMismatch, Damaged}
 use Rattle.mvd_records.specs.Tables.{all_tables, old_states, meta, new_states}
-use Rattle.mvd_records.specs.States.{mark, AreMarks, first_two, shown, states_in}
-use Rattle.mvd_records.specs.Records.{HasTables, HoldsRecords, KeepsStates, TellsVersion, TellsMarks, marks_of, rows_at}
-use Rattle.mvd_records.proofs.Listed.{Lists}
+use Rattle.mvd_records.specs.States.{AreMarks, first_two, shown, states_in}
+use Rattle.mvd_records.specs.Records.{HasTables, HoldsRecords, OpensRecords, KeepsRows, KeepsStates, TellsVersion, TellsMarks, marks_of, rows_at}
 use Rattle.mvd_records.proofs.Asked.{one_each}
 use Rattle.mvd_records.proofs.Saving.{went, same_value, cast_null, cast_int, plain_mode}
 use Rattle.mvd_records.proofs.Saved.{rows_there, with_rows}
@@ -68,6 +67,26 @@ told_marks old new answer site r has h tells =
     let same = IsPermutation-map first_two _ _ (listed_marks old new answer has.schema h) in
     let moved : IsPermutation (map shown (old.now.trees 2)) (map first_two answer) = subst (λ l. IsPermutation l (map first_two answer)) (map-map first_two shown (old.now.trees 2)) same in
     subst (λ (rows : List Row). TellsMarks (map shown rows) site r) (sym (meta_there old.now has.schema)) (tells_moved _ _ site r moved tells)
+
+-- the marks that are there tell the version
+pub told_opens : (version site : ℕ) (old new : Database) → new ≡ old → HasTables all_tables old → TellsMarks (marks_of old) site (Ok (Some version)) → OpensRecords version site old new
+told_opens version site old new same has told = subst (OpensRecords version site old) (sym same) (record {
+  holds = record { tables = has; marks = subst (λ (rows : List Row). AreMarks version site (map shown rows)) (meta_there old has.schema) told.1 };
+  states = record { old_same = refl; new_same = refl };
+  told = inr told;
+})
+
+-- the marks that are written where there were none
+pub marked_opens : (site : ℕ) (old mid new : Database) → mid ≡ old → marks_of old ≡ [] → HoldsRecords 2 site new × KeepsStates mid new → OpensRecords 2 site old new
+marked_opens site old mid new same none it = record { holds = it.0; states = subst (λ (d : Database). KeepsStates d new) same it.1; told = inl (none, refl) }
+
+-- the tables that were made before have the same rows
+pub opens_since : (old mid new : Database) (version site : ℕ) → KeepsRows old mid → OpensRecords version site mid new → OpensRecords version site old new
+opens_since old mid new version site kept it = record {
+  holds = it.holds;
+  states = record { old_same = it.states.old_same ∙ ap states_in kept.old_rows; new_same = it.states.new_same ∙ ap states_in kept.new_rows };
+  told = subst (λ (l : List Row). TellsVersion (map shown l) site (Ok version)) kept.marks it.told;
+}
 
 -- ---- the first marks
 

@@ -1,18 +1,16 @@
 -- What a call leaves that moves a key.
-use Rattle.std.proofs.Common.{◌≡◌, ◌≢◌, ◌⊎◌, inl, inr, ℕ, ◌+◌, List, ◌∷◌, [], map, cond, Option, Some, None, Ok, IsTrue, unwrap_or, refl, sym, ap, subst, ◌∙◌, arith}
+use Rattle.std.proofs.Common.{◌≡◌, ◌≢◌, inl, inr, ℕ, List, ◌∷◌, [], map, Option, Some, Ok, unwrap_or, refl, sym, ap, subst, ◌∙◌, arith}
 use Rattle.std.specs.FinMap.{get, insert, remove}
 use Rattle.sqlite.specs.declared.types.Value.TheVariants.{Text, Blob}
 use Rattle.sqlite.specs.Command.TheVariants.{Delete, Insert}
 use Rattle.sqlite.specs.Source.TheVariants.{Values}
 use Rattle.sqlite.specs.Order.{Row}
-use Rattle.sqlite.specs.Tree.{Trees}
 use Rattle.sqlite.specs.Effect.{Database, IsDatabase}
 use Rattle.sqlite.specs.View.{IsShaped}
 use Rattle.sqlite_trees.specs.declared.store.Shape.TheVariants as shape
 use Rattle.sqlite.specs.State.{State, Executes}
 use Rattle.sqlite.specs.Listing.{understood}
 use Rattle.sqlite.proofs.Callers.{runs_as, statement_of}
-use Rattle.sqlite_rules.specs.Lists.{Has}
 use Rattle.mvd_records.specs.Tables.{all_tables, old_states, meta, new_states}
 use Rattle.mvd_records.specs.States.{states_in, shown, AreMarks}
 use Rattle.mvd_records.specs.Records.{HoldsRecords, TakesState, SavesState, MovesState, LacksKey}
@@ -20,7 +18,6 @@ use Rattle.mvd_records.specs.Records as maps
 use Rattle.mvd_records.proofs.Rows.{key_of, state_of, states_set, states_dropped}
 use Rattle.mvd_records.proofs.Rules.{AreStates, apart_in, old_states_of, new_states_of}
 use Rattle.mvd_records.proofs.Asked.{get_has, has_get}
-use Rattle.mvd_records.proofs.Saving.{plain_mode}
 use Rattle.mvd_records.proofs.Saved.{rows_there, with_rows}
 use Rattle.mvd_records.proofs.Taking.{takes, puts}
 use Rattle.mvd_records.proofs.Texts.{take_text, take_query, take_is, take_plain, put_text, put_is, put_plain, save_terms}

@@ -1,17 +1,18 @@
 -- What a transaction leaves that was begun, and then committed or rolled back.
-use Rattle.std.proofs.Common.{◌≡◌, ◌≤◌, ◌⊎◌, inl, inr, ℕ, List, Bool, true, false, Ok, Err, Result, IsTrue, refl, sym, ap, subst, ◌∙◌, arith}
+use Rattle.std.proofs.Common.{◌≡◌, ◌≤◌, inl, inr, ℕ, List, true, IsTrue, refl, sym, subst, arith}
 use Rattle.sqlite.specs.Tree.{Trees}
 use Rattle.sqlite.specs.Effect.{Database, IsDatabase}
 use Rattle.sqlite_trees.specs.declared.store.Store.{Ghosts}
 use Rattle.sqlite.specs.declared.error.Error.{Error}
 use Rattle.sqlite.specs.Held.{Held, state}
-use Rattle.sqlite.specs.State.{State, HasCleanDisk, KeepsCommit, Survives, Shows, IsRolledBack}
+use Rattle.sqlite.specs.State.{State, HasCleanDisk, KeepsCommit, Survives, IsRolledBack}
 use Rattle.sqlite.specs.View.{doubt}
 use Rattle.sqlite.specs.Steps.{FailsToCommit}
 use Rattle.sqlite.proofs.InsideLemmas.{keeps_then, unchanged_keeps}
 use Rattle.sqlite.proofs.StateLemmas.{survives_then}
 use Rattle.sqlite.proofs.Callers.{survives_begin}
-use Rattle.mvd_records.specs.Records.{StaysInside, IsSound, IsSettled, IsOurs, HoldsRecords, KeepsStates, MovesState, Leaves, LeavesOpened}
+use Rattle.mvd_records.proofs.Calls.{sound_before}
+use Rattle.mvd_records.specs.Records.{StaysInside, IsSound, IsSettled, IsOurs, HoldsRecords, OpensRecords, MovesState, Leaves, LeavesOpened}
 
 module _ {S : Type 0} (g : Ghosts S) (old mid : Held S) where
   abbrev pub begun : State
@@ -31,16 +32,23 @@ module _ {S : Type 0} (g : Ghosts S) (old mid : Held S) where
   pub undone : (end : State) → StaysInside begun (state g mid) → doubt (state g mid).is_clean ≤ doubt end.is_clean → (HasCleanDisk end → KeepsCommit (state g mid) end) → HasCleanDisk end → KeepsCommit (state g old) end
   undone end stays rises ends clean = keeps_then (state g old) (state g mid) end (since (stays.kept (omega (arith, rises, clean)) refl)) (ends clean)
 
+  -- and the premise on the store goes backward
+  pub before_undone : (end : State) → StaysInside begun (state g mid) → doubt (state g mid).is_clean ≤ doubt end.is_clean → (HasCleanDisk end → KeepsCommit (state g mid) end) → IsSound end → IsSound (state g old)
+  before_undone end stays rises ends = sound_before (state g old) end (omega (arith, stays.survives.clean, rises)) (undone end stays rises ends)
+
   pub survives_all : (end : State) (P Q : Trees → Type 0) → StaysInside begun (state g mid) → (HasCleanDisk end → (db : Trees) → P db → Q db) → Survives (state g mid) end P → Survives (state g old) end Q
   survives_all end P Q stays f ends = survives_then (state g old) (state g mid) end (λ _. ⊥) P Q (λ _ db none. absurd none) f (survives_begin g old (state g mid) (λ _. ⊥) stays.survives) ends
 
-  -- what a crash may leave of the commit
-  pub leaves : (site version : ℕ) → IsSettled (state g old) → (IsTrue begun.in_transaction → IsOurs begun.now → HoldsRecords version site (state g mid).now) → (IsTrue begun.in_transaction → IsOurs begun.now → KeepsStates begun.now (state g mid).now)
-      → (db : Trees) → db ≡ (state g mid).now.trees → LeavesOpened (state g old) site db
-  leaves site version settled marked kept db is was ours =
+  -- what the transaction makes of the records, which a commit keeps
+  pub opened_mid : (site version : ℕ) → IsSettled (state g old) → IsTrue (state g old).is_open → IsOurs (state g old).committed → (IsTrue begun.in_transaction → IsOurs begun.now → OpensRecords version site begun.now (state g mid).now)
+      → OpensRecords version site (state g old).committed (state g mid).now
+  opened_mid site version settled was ours opened =
       let now = settled.settled was in
-      let here = subst IsOurs (sym now) ours in
-      ((state g mid).now, version, marked refl here, subst (λ (d : Database). KeepsStates d (state g mid).now) now (kept refl here), is)
+      subst (λ (d : Database). OpensRecords version site d (state g mid).now) now (opened refl (subst IsOurs (sym now) ours))
+
+  -- what a crash may leave of the commit
+  pub leaves : (site version : ℕ) → IsSettled (state g old) → (IsTrue begun.in_transaction → IsOurs begun.now → OpensRecords version site begun.now (state g mid).now) → (db : Trees) → db ≡ (state g mid).now.trees → LeavesOpened (state g old) site db
+  leaves site version settled opened db is was ours = ((state g mid).now, version, opened_mid site version settled was ours opened, is)
 
 pub rolled_back : (old new : State) → IsRolledBack old new → KeepsCommit old new
 rolled_back old new it = unchanged_keeps old new (inr it)

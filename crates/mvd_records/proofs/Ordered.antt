@@ -1,5 +1,5 @@
 -- An answer that ORDER BY has put in order, of rows whose keys differ, rises.
-use Rattle.std.proofs.Common.{◌≡◌, ◌≢◌, ◌⊎◌, inl, inr, ℕ, suc, ◌+◌, ◌<◌, List, [], ◌∷◌, ◌++◌, ◌&&◌, map, length, Bool, true, false, T, Some, None, Option, get_or, refl, sym, ap, subst, subst₂, ◌∙◌, arith, IsTrue}
+use Rattle.std.proofs.Common.{◌≡◌, inl, inr, ℕ, suc, ◌+◌, ◌<◌, List, [], ◌∷◌, ◌&&◌, map, length, Bool, true, false, T, get_or, refl, sym, ap, subst, subst₂, ◌∙◌, arith}
 use Rattle.std.specs.List.{AllByRecursion, IsDistinct}
 use Rattle.std.specs.List.Sorted.{IsPermutation, IsSorted}
 use Rattle.std.proofs.lemmas.List.Sorted.{IsPermutation-sym, IsPermutation-map}
@@ -10,7 +10,7 @@ use Rattle.std.specs.FinMap.Entries.{below_all}
 use Rattle.std.specs.Ordering.{nat_cmp, eq_by_cmp, is_eq, is_lt}
 use Rattle.std.specs.declared.cmp.Ordering.{Ordering}
 use Rattle.std.specs.declared.cmp.Ordering.TheVariants.{Less, Equal, Greater}
-use Rattle.std.specs.Cmp.Lexicographic.{slice_cmp, nat_list_cmp_total}
+use Rattle.std.specs.Cmp.Lexicographic.{nat_list_cmp_total}
 use Rattle.sqlite.specs.declared.types.Value.TheVariants.{Text, Blob}
 use Rattle.sqlite.specs.Order.{Row, column, bytes}
 use Rattle.sqlite.specs.Query.{Output, output_cmp}
@@ -19,19 +19,19 @@ use Rattle.sqlite_value.proofs.OrderLemmas.{value_cmp-Text}
 use Rattle.sqlite_trees.proofs.TreeLemmas.{above}
 use Rattle.sqlite_trees.proofs.ListLemmas.{map-map}
 use Rattle.sqlite_rules.specs.Lists.{Has}
-use Rattle.sqlite_rules.proofs.ListLemmas.{all_has, all_from}
 use Rattle.mvd_keys.specs.Key.{is_key}
+use Rattle.mvd_records.specs.Tables.{new_tree}
 use Rattle.mvd_records.specs.States.{shown, shown_entry}
-use Rattle.mvd_records.specs.Pairs.{IsPair, ArePairs, rises}
-use Rattle.mvd_records.proofs.Rows.{IsEntry, key_of, order, same_key}
+use Rattle.mvd_records.specs.Pairs.{ArePairs}
+use Rattle.mvd_records.proofs.Rows.{key_of, order, same_key}
 use Rattle.mvd_records.proofs.Rules.{AreStates}
-use Rattle.mvd_records.proofs.Listed.{has_moved}
+use Rattle.mvd_records.proofs.Listed.{has_moved, output_of}
 use Rattle.mvd_records.proofs.Saving.{never_below}
 use Rattle.mvd_records.proofs.Texts.{load_query}
 
--- what the query puts in order
-abbrev pub output_of : Row → Output
-output_of r = (column r 1 ∷ [], shown r)
+-- the order of the outputs, by their keys
+abbrev pub output_order : Output → Output → Ordering
+output_order = output_cmp (load_query new_tree)
 
 abbrev key_in : Output → List ℕ
 key_in o = bytes (column o.1 0)
@@ -45,7 +45,7 @@ pub record IsText (o : Output) : Type 0 where
   pub state : List ℕ
   pub is : o ≡ (Text key ∷ [], Text key ∷ Blob state ∷ [])
 
-compared : (k l : List ℕ) (x y : Row) → output_cmp load_query (Text k ∷ [], x) (Text l ∷ [], y) ≡ order k l
+compared : (k l : List ℕ) (x y : Row) → output_order (Text k ∷ [], x) (Text l ∷ [], y) ≡ order k l
 compared k l x y = then_equal _ ∙ value_cmp-Text k l
   where
     then_equal : (o : Ordering) → Rattle.std.specs.Ordering.ordering_then o Equal ≡ o
@@ -88,18 +88,18 @@ put_below e f es less up = both _ _ (both _ _ (subst (λ o. T (is_lt o)) (sym le
 
 -- no output is less than the one before it
 abbrev Climbs : List Output → Type 0
-Climbs os = (k : ℕ) (d : Output) → k + 1 < length os → is_lt (output_cmp load_query (get_or os (k + 1) d) (get_or os k d)) ≡ false
+Climbs os = (k : ℕ) (d : Output) → k + 1 < length os → is_lt (output_order (get_or os (k + 1) d) (get_or os k d)) ≡ false
 
 climbs_tail : (o : Output) (os : List Output) → Climbs (o ∷ os) → Climbs os
 climbs_tail o os up k d low =
     let next : get_or (o ∷ os) (k + 1 + 1) d ≡ get_or os (k + 1) d = behind (k + 1) in
     let this : get_or (o ∷ os) (k + 1) d ≡ get_or os k d = behind k in
-    subst₂ (λ x y. is_lt (output_cmp load_query x y) ≡ false) next this (up (k + 1) d (omega arith))
+    subst₂ (λ x y. is_lt (output_order x y) ≡ false) next this (up (k + 1) d (omega arith))
   where
     behind : (i : ℕ) → get_or (o ∷ os) (i + 1) d ≡ get_or os i d
     behind i = let e : i + 1 ≡ suc i = omega arith in rw e refl
 
-step : (o p : Output) → IsText o → IsText p → is_lt (output_cmp load_query p o) ≡ false → eq_by_cmp order (key_in o) (key_in p) ≡ false → order (key_in o) (key_in p) ≡ Less
+step : (o p : Output) → IsText o → IsText p → is_lt (output_order p o) ≡ false → eq_by_cmp order (key_in o) (key_in p) ≡ false → order (key_in o) (key_in p) ≡ Less
 step o p a b up apart = rw (a.is, b.is) (choose (order a.key b.key) refl)
   where
     down : is_lt (order b.key a.key) ≡ false
@@ -148,7 +148,7 @@ keys_distinct rows are = go rows are.shaped.0 (λ x h. h)
           others more up.1 here (λ y h. there y (inr h)),
         )
 
-pub shown_pairs : (rows answer : List Row) (ordered : List Output) → AreStates rows → ((x : Row) → Has rows x → is_key (key_of x) ≡ true) → IsPermutation (map output_of rows) ordered → IsSorted (output_cmp load_query) ordered
+pub shown_pairs : (rows answer : List Row) (ordered : List Output) → AreStates rows → ((x : Row) → Has rows x → is_key (key_of x) ≡ true) → IsPermutation (map output_of rows) ordered → IsSorted output_order ordered
     → answer ≡ map (λ (o : Output). o.1) ordered → ArePairs answer
 shown_pairs rows answer ordered are keys same up is = record {
   each = λ row there. (let o = has_mapped (λ (o : Output). o.1) ordered row (subst (λ (l : List Row). Has l row) is there) in

@@ -1,8 +1,7 @@
 -- What a call that saves a state leaves.
-use Rattle.std.proofs.Common.{◌≡◌, ◌⊎◌, inl, inr, ℕ, List, ◌∷◌, [], map, cond, Option, None, Ok, IsTrue, refl, sym, ap, subst, ◌∙◌}
+use Rattle.std.proofs.Common.{◌≡◌, inl, inr, ℕ, List, ◌∷◌, [], map, cond, Option, None, Ok, refl, sym, ap, subst, ◌∙◌}
 use Rattle.std.specs.FinMap.{insert}
 use Rattle.sqlite.specs.declared.types.Value.TheVariants.{Text, Blob}
-use Rattle.sqlite.specs.Command.TheVariants.{InsertOr}
 use Rattle.sqlite.specs.Order.{Row}
 use Rattle.sqlite.specs.Table.{Table}
 use Rattle.sqlite.specs.Tree.{Trees}
@@ -10,14 +9,12 @@ use Rattle.sqlite.specs.Effect.{Database, IsDatabase}
 use Rattle.sqlite.specs.Does.{Tally, Does}
 use Rattle.sqlite.specs.View.{IsShaped}
 use Rattle.sqlite_trees.specs.declared.store.Shape.TheVariants as shape
-use Rattle.sqlite_rules.specs.Lists.{Has}
-use Rattle.sqlite.specs.State.{State, Executes, CommitsBy, MayCommit}
+use Rattle.sqlite.specs.State.{State, Executes, CommitsBy}
 use Rattle.sqlite.specs.Listing.{understood}
 use Rattle.sqlite.proofs.Callers.{runs_as, statement_of}
 use Rattle.mvd_records.specs.Tables.{all_tables, new_states}
 use Rattle.mvd_records.specs.States.{states_in, shown, AreMarks}
-use Rattle.mvd_records.specs.Records.{IsSettled, IsSound, HasTables, HoldsRecords, SavesState, Leaves, rows_at}
-use Rattle.mvd_records.specs.Records as maps
+use Rattle.mvd_records.specs.Records.{IsSettled, HasTables, HoldsRecords, SavesState, Leaves, rows_at}
 use Rattle.mvd_records.proofs.Rows.{state_of, states_set}
 use Rattle.mvd_records.proofs.Rules.{AreStates, apart_in, new_states_of}
 use Rattle.mvd_records.proofs.Texts.{save_text, save_command, save_is, save_plain}

@@ -1,27 +1,23 @@
 -- A query whose rows are read one at a time.
-use Rattle.std.proofs.Common.{◌≡◌, ◌⊎◌, inl, inr, ℕ, List, ◌∷◌, [], ◌++◌, Option, None, Some, Ok, Err, Result, refl, sym, ap, subst, ◌∙◌, true, map, IsTrue}
+use Rattle.std.proofs.Common.{◌≡◌, ◌⊎◌, inl, inr, ℕ, List, ◌∷◌, [], ◌++◌, Ok, refl, sym, subst, true, map, IsTrue}
 use Rattle.sqlite.specs.Order.{Row}
 use Rattle.sqlite.specs.Effect.{Database}
 use Rattle.sqlite.specs.Listing.{understood, reads_listing, IsSourceOf}
-use Rattle.sqlite.specs.State.{State, HasCleanDisk, IsStatement, IsUnchanged, IsRolledBack, KeepsCommit, ShowsRows, Shown, Begins, Survives, CommitsShowing, Fails}
+use Rattle.sqlite.specs.State.{State, IsStatement, IsUnchanged, KeepsCommit, ShowsRows, Shown, Begins, Fails}
 use Rattle.sqlite.specs.Given.{IsPlain, HasBegun}
 use Rattle.sqlite_trees.specs.declared.store.Store.{Ghosts}
 use Rattle.sqlite.specs.Held.{Held, state}
 use Rattle.mvd_records.proofs.Calls.{shown_open}
 use Rattle.sqlite.specs.Clock.{timed}
 use Rattle.sqlite.specs.declared.error.Error.{Error}
-use Rattle.sqlite.proofs.Callers.{unchanged_then, never_commits}
-use Rattle.sqlite.proofs.StateLemmas.{survives_weaker}
-use Rattle.sqlite.proofs.InsideLemmas.{unchanged_keeps, keeps_then}
+use Rattle.sqlite.proofs.Callers.{unchanged_then}
+use Rattle.sqlite.proofs.InsideLemmas.{unchanged_keeps}
 use Rattle.sqlite_rules.specs.Lists.{Has}
 use Rattle.mvd_records.specs.Pairs.{IsPair, ArePairs, rises}
 use Rattle.mvd_records.specs.States.{shown_entry}
 use Rattle.mvd_keys.specs.Key.{is_key}
 use Rattle.std.specs.List.{AllByRecursion}
 use Rattle.std.proofs.lemmas.List.{map-append}
-
-pub commits_nothing : (sql : List ℕ) (params : Row) (old new : State) → IsPlain (understood old.now.schema sql) → Survives old new (CommitsShowing sql params old) → Survives old new (λ _. ⊥)
-commits_nothing sql params old new plain = survives_weaker old new _ _ (λ _ db. never_commits sql params old db plain)
 
 earlier : (sql : List ℕ) (params : Row) (first old : State) (c : _) → IsUnchanged first old → IsStatement old sql params c → IsStatement first sql params c
 earlier sql params first old c same it = record { is = subst (λ (d : Database). understood d.schema sql ≡ Ok c) same.0.now_is it.is; whole = it.whole; given = it.given; now = it.now }
@@ -49,9 +45,6 @@ not_pairs rows row why it = why (it.each row (last_there rows)) it.rising
     last_there [] = inl refl
     last_there (x ∷ xs) = inr (last_there xs)
 
-pub fault_keeps : (first old new : State) (e : Error) → IsUnchanged first old → Fails old new ⊥ e ⊎ IsUnchanged old new → KeepsCommit first new
-fault_keeps first old new e same h = keeps_then first old new (unchanged_keeps first old (inl same)) (unchanged_keeps old new (elim h [ inl failed ↦ inr failed.3 | inr still ↦ inl still ]))
-
 pub one_more : (rows : List Row) (row : Row) → map shown_entry (rows ++ row ∷ []) ≡ map shown_entry rows ++ shown_entry row ∷ []
 one_more rows row = map-append shown_entry rows (row ∷ [])
 
@@ -63,3 +56,7 @@ all_form (x ∷ entries) e all last = (all.0, all_form entries e all.1 last)
 pub begun_open : {S : Type 0} (g : Ghosts S) (sql : List ℕ) (params : Row) (old new : Held S) → HasBegun g sql params old new → IsTrue (state g old).is_open
 begun_open g sql params old new (inl h) = h.1.0.was_open
 begun_open g sql params old new (inr h) = shown_open sql params (state g old) (state g new) _ h.1
+
+-- what a read of one more row leaves of the last commit, where it failed
+pub fault_keeps : (old new : State) (e : Error) → Fails old new ⊥ e ⊎ IsUnchanged old new → KeepsCommit old new
+fault_keeps old new e h = unchanged_keeps old new (elim h [ inl failed ↦ inr failed.3 | inr still ↦ inl still ])

@@ -1,5 +1,5 @@
 -- What the two statements that move a key do to the rows.
-use Rattle.std.proofs.Common.{◌≡◌, ◌≢◌, ◌⊎◌, inl, inr, ℕ, ℤ, pos, List, [], ◌∷◌, ◌++◌, ◌&&◌, map, length, Bool, true, false, not, cond, Option, Some, None, Ok, Err, Result, IsTrue, refl, sym, ap, subst, subst₂, ◌∙◌, arith}
+use Rattle.std.proofs.Common.{◌≡◌, ◌≢◌, ◌⊎◌, inl, inr, ℕ, ℤ, List, [], ◌∷◌, ◌&&◌, map, length, Bool, true, false, not, Option, Some, None, Ok, refl, sym, ap, subst, ◌∙◌, arith}
 use Rattle.std.specs.List.Sorted.{IsPermutation}
 use Rattle.std.specs.Ordering.{is_eq, nat_cmp}
 use Rattle.std.specs.Cmp.{tied_itself}
@@ -7,14 +7,14 @@ use Rattle.std.specs.Cmp.Lexicographic.{slice_cmp, nat_list_cmp_total}
 use Rattle.std.specs.declared.cmp.Ordering.{Ordering}
 use Rattle.std.specs.declared.cmp.Ordering.TheVariants.{Less, Equal, Greater}
 use Rattle.std.proofs.lemmas.List.Sorted.{length_permutation}
-use Rattle.std.proofs.lemmas.Bool.{and_parts, and_from, cases_Bool}
+use Rattle.std.proofs.lemmas.Bool.{and_parts, cases_Bool}
 use Rattle.sqlite.specs.declared.types.Value.TheVariants.{Null, Int, Text, Blob}
 use Rattle.sqlite.specs.Order.{Row, column, value_cmp}
 use Rattle.sqlite.specs.Query.{IsAnswer, Output, output, page}
 use Rattle.sqlite.specs.Program.{overlay}
 use Rattle.sqlite.specs.Collation.TheVariants.{Binary}
 use Rattle.sqlite.specs.Edit.{Edit, edit_of, edited, without_all, taken_by, next_rowid, are_fresh}
-use Rattle.sqlite.specs.Rowids.TheVariants.{Given, Chosen}
+use Rattle.sqlite.specs.Rowids.TheVariants.{Chosen}
 use Rattle.sqlite.specs.Source.TheVariants.{Values}
 use Rattle.sqlite.specs.Command.TheVariants.{Delete, Insert}
 use Rattle.sqlite.specs.Does.{Tally, Does}
@@ -33,12 +33,12 @@ use Rattle.sqlite_rules.specs.Calls.{ids_of}
 use Rattle.sqlite_rules.specs.Lists.{Has}
 use Rattle.sqlite_rules.proofs.ListLemmas.{has_filtered, has_kept, some_from}
 use Rattle.sqlite_rules.proofs.PlaceLemmas.{tied_same}
-use Rattle.sqlite_rules.proofs.TableLemmas.{has_put, put_has, put_all_keeps}
+use Rattle.sqlite_rules.proofs.TableLemmas.{has_put, put_all_keeps}
 use Rattle.mvd_records.specs.Tables.{all_tables, old_states, new_states}
-use Rattle.mvd_records.proofs.Rows.{IsEntry, HasKey, Drops, Sets, looked_up, key_of, state_of, same_key}
+use Rattle.mvd_records.proofs.Rows.{IsEntry, Drops, looked_up, key_of, same_key}
 use Rattle.mvd_records.proofs.Rules.{AreStates, new_states_of}
 use Rattle.mvd_records.proofs.Asked.{text_tie}
-use Rattle.mvd_records.proofs.Saving.{went, same_value, cast_int, cast_null, plain_mode, only_one, none_picked, entry, one_row_edit, applied, inserted, Saves}
+use Rattle.mvd_records.proofs.Saving.{went, same_value, cast_null, plain_mode, only_one, none_picked, entry, one_row_edit, applied, inserted, Saves}
 use Rattle.mvd_records.proofs.Texts.{take_query, save_terms}
 
 -- ---- out of the old table

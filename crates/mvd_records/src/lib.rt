@@ -9,6 +9,3 @@ mod records;
 mod statements;
 
 pub use records::Records;
-
-#[cfg(test)]
-mod tests;

@@ -8,7 +8,7 @@ ghost use Rattle.sqlite.specs.Given.{IsPlain};
 ghost use Rattle.sqlite.specs.Listing.{understood};
 ghost use Rattle.mvd_keys.specs.Key.{is_key};
 ghost use Rattle.mvd_records.specs.States.{shown_entry};
-ghost use Rattle.mvd_records.specs.Records.{IsSettled, IsSound, HoldsRecords, OnlyReads, AreKeys, IsWhole, old_states, new_states};
+ghost use Rattle.mvd_records.specs.Records.{IsSettled, IsSound, HoldsRecords, OnlyReads, AreKeys, IsWhole, old_states, new_states, states_at};
 ghost use Rattle.mvd_records.specs.Pairs.{entries_of, ArePairs, rises};
 
 use crate::pairs::push_row;
@@ -17,6 +17,13 @@ use mvd_dots::Refusal;
 use mvd_keys::Key;
 use sqlite::{Alter, Connection};
 use std::alloc::Global;
+
+/// The map of version 1, or that of version 2.
+#[derive(Clone, Copy)]
+pub enum Half {
+    Old,
+    New,
+}
 
 /// The keys and states that a query shows.
 fn read_pairs<S: Alter>(
@@ -56,76 +63,45 @@ fn read_pairs<S: Alter>(
     Err(Refusal::Memory)
 }
 
-fn read_new<S: Alter>(
+fn read_half<S: Alter>(
     alloc: Global,
     conn: &mut Connection<S>,
+    half: Half,
 ) -> Result<Vec<(Key, Vec<u8>)>, Refusal>
     ensures reads { OnlyReads (state S.Store conn.old) (state S.Store conn.new) }
-    ensures entries { (version site : _) → IsSound (state S.Store conn.new) → HoldsRecords version site (state S.Store conn.old).committed → IfOk result (λ pairs. entries_of pairs.items ≡ entries (new_states (state S.Store conn.old).committed)) }
-    ensures keys { (version site : _) → IsSound (state S.Store conn.new) → HoldsRecords version site (state S.Store conn.old).committed → OnOk result (AreKeys (new_states (state S.Store conn.old).committed)) }
+    ensures entries { (version site : _) → IsSound (state S.Store conn.new) → HoldsRecords version site (state S.Store conn.old).committed → IfOk result (λ pairs. entries_of pairs.items ≡ entries (states_at half (state S.Store conn.old).committed)) }
+    ensures keys { (version site : _) → IsSound (state S.Store conn.new) → HoldsRecords version site (state S.Store conn.old).committed → OnOk result (AreKeys (states_at half (state S.Store conn.old).committed)) }
     ensures rising { IfOk result (λ pairs. rises (entries_of pairs.items)) }
-    ensures damaged { (version site : _) → IsSound (state S.Store conn.new) → HoldsRecords version site (state S.Store conn.old).committed → IfErr result (λ e. e ≡ Refusal.Damaged → ¬ AreKeys (new_states (state S.Store conn.old).committed)) }
+    ensures damaged { (version site : _) → IsSound (state S.Store conn.new) → HoldsRecords version site (state S.Store conn.old).committed → IfErr result (λ e. e ≡ Refusal.Damaged → ¬ AreKeys (states_at half (state S.Store conn.old).committed)) }
     ensures refusal { IfErr result (λ e. (e ≡ Refusal.Damaged) ⊎ ((e ≡ Refusal.Memory) ⊎ (e ≡ Refusal.Store))) }
 {
     if !is_settled(conn) {
         return Err(Refusal::Store);
     }
-    read_pairs(alloc, conn, "SELECT key, state FROM states2 ORDER BY key")
+    let sql = match half {
+        Half::Old => "SELECT key, state FROM states ORDER BY key",
+        Half::New => "SELECT key, state FROM states2 ORDER BY key",
+    };
+    read_pairs(alloc, conn, sql)
 }
 
-/// The map of version 2, by rising key.
-pub fn load_new<S: Alter>(
+/// One of the two maps, by rising key.
+pub fn load<S: Alter>(
     alloc: Global,
     conn: &mut Connection<S>,
     version: u32,
+    half: Half,
 ) -> Result<Vec<(Key, Vec<u8>)>, Refusal>
     ensures reads { OnlyReads (state S.Store conn.old) (state S.Store conn.new) }
-    ensures entries { (marked site : _) → IsSound (state S.Store conn.new) → HoldsRecords marked site (state S.Store conn.old).committed → IfOk result (λ pairs. entries_of pairs.items ≡ entries (new_states (state S.Store conn.old).committed)) }
+    ensures entries { (marked site : _) → IsSound (state S.Store conn.new) → HoldsRecords marked site (state S.Store conn.old).committed → IfOk result (λ pairs. entries_of pairs.items ≡ entries (states_at half (state S.Store conn.old).committed)) }
     ensures rising { IfOk result (λ pairs. rises (entries_of pairs.items)) }
-    ensures whole { (marked site : _) → IsSound (state S.Store conn.new) → HoldsRecords marked site (state S.Store conn.old).committed → OnOk result (IsWhole version (new_states (state S.Store conn.old).committed) (old_states (state S.Store conn.old).committed) (new_states (state S.Store conn.old).committed)) }
-    ensures damaged { (marked site : _) → IsSound (state S.Store conn.new) → HoldsRecords marked site (state S.Store conn.old).committed → IfErr result (λ e. e ≡ Refusal.Damaged → ¬ IsWhole version (new_states (state S.Store conn.old).committed) (old_states (state S.Store conn.old).committed) (new_states (state S.Store conn.old).committed)) }
+    ensures whole { (marked site : _) → IsSound (state S.Store conn.new) → HoldsRecords marked site (state S.Store conn.old).committed → OnOk result (IsWhole version (states_at half (state S.Store conn.old).committed) (old_states (state S.Store conn.old).committed) (new_states (state S.Store conn.old).committed)) }
+    ensures damaged { (marked site : _) → IsSound (state S.Store conn.new) → HoldsRecords marked site (state S.Store conn.old).committed → IfErr result (λ e. e ≡ Refusal.Damaged → ¬ IsWhole version (states_at half (state S.Store conn.old).committed) (old_states (state S.Store conn.old).committed) (new_states (state S.Store conn.old).committed)) }
     ensures refusal { IfErr result (λ e. (e ≡ Refusal.Damaged) ⊎ ((e ≡ Refusal.Memory) ⊎ (e ≡ Refusal.Store))) }
 {
     match check(conn, version) {
         Ok(()) => {}
         Err(refusal) => return Err(refusal),
     }
-    read_new(alloc, conn)
-}
-
-fn read_old<S: Alter>(
-    alloc: Global,
-    conn: &mut Connection<S>,
-) -> Result<Vec<(Key, Vec<u8>)>, Refusal>
-    ensures reads { OnlyReads (state S.Store conn.old) (state S.Store conn.new) }
-    ensures entries { (version site : _) → IsSound (state S.Store conn.new) → HoldsRecords version site (state S.Store conn.old).committed → IfOk result (λ pairs. entries_of pairs.items ≡ entries (old_states (state S.Store conn.old).committed)) }
-    ensures keys { (version site : _) → IsSound (state S.Store conn.new) → HoldsRecords version site (state S.Store conn.old).committed → OnOk result (AreKeys (old_states (state S.Store conn.old).committed)) }
-    ensures rising { IfOk result (λ pairs. rises (entries_of pairs.items)) }
-    ensures damaged { (version site : _) → IsSound (state S.Store conn.new) → HoldsRecords version site (state S.Store conn.old).committed → IfErr result (λ e. e ≡ Refusal.Damaged → ¬ AreKeys (old_states (state S.Store conn.old).committed)) }
-    ensures refusal { IfErr result (λ e. (e ≡ Refusal.Damaged) ⊎ ((e ≡ Refusal.Memory) ⊎ (e ≡ Refusal.Store))) }
-{
-    if !is_settled(conn) {
-        return Err(Refusal::Store);
-    }
-    read_pairs(alloc, conn, "SELECT key, state FROM states ORDER BY key")
-}
-
-/// The map of version 1, by rising key.
-pub fn load_old<S: Alter>(
-    alloc: Global,
-    conn: &mut Connection<S>,
-    version: u32,
-) -> Result<Vec<(Key, Vec<u8>)>, Refusal>
-    ensures reads { OnlyReads (state S.Store conn.old) (state S.Store conn.new) }
-    ensures entries { (marked site : _) → IsSound (state S.Store conn.new) → HoldsRecords marked site (state S.Store conn.old).committed → IfOk result (λ pairs. entries_of pairs.items ≡ entries (old_states (state S.Store conn.old).committed)) }
-    ensures rising { IfOk result (λ pairs. rises (entries_of pairs.items)) }
-    ensures whole { (marked site : _) → IsSound (state S.Store conn.new) → HoldsRecords marked site (state S.Store conn.old).committed → OnOk result (IsWhole version (old_states (state S.Store conn.old).committed) (old_states (state S.Store conn.old).committed) (new_states (state S.Store conn.old).committed)) }
-    ensures damaged { (marked site : _) → IsSound (state S.Store conn.new) → HoldsRecords marked site (state S.Store conn.old).committed → IfErr result (λ e. e ≡ Refusal.Damaged → ¬ IsWhole version (old_states (state S.Store conn.old).committed) (old_states (state S.Store conn.old).committed) (new_states (state S.Store conn.old).committed)) }
-    ensures refusal { IfErr result (λ e. (e ≡ Refusal.Damaged) ⊎ ((e ≡ Refusal.Memory) ⊎ (e ≡ Refusal.Store))) }
-{
-    match check(conn, version) {
-        Ok(()) => {}
-        Err(refusal) => return Err(refusal),
-    }
-    read_old(alloc, conn)
+    read_half(alloc, conn, half)
 }

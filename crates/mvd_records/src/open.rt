@@ -1,10 +1,10 @@
 //! Opening the records: the tables and the marks, in one transaction.
-ghost use Rattle.std.specs.Prelude.{◌≡◌, ◌≤◌, ◌<◌, ◌^◌, [], map, codes, MatchOption, IsTrue, IfErr, IfOk, OnOk, OnErr};
+ghost use Rattle.std.specs.Prelude.{◌≡◌, ◌≤◌, ◌<◌, ◌^◌, [], map, codes, MatchOption, MatchResult, IsTrue, IfErr, IfOk, OnOk, OnErr, Err};
 ghost use Rattle.sqlite.specs.Held.{state};
 ghost use Rattle.sqlite.specs.State.{HasCleanDisk, KeepsCommit, Survives};
 ghost use Rattle.mvd_records.specs.States.{AreMarks, IsMark, first_two};
 ghost use Rattle.mvd_records.specs.Tables.{all_tables, meta_tree};
-ghost use Rattle.mvd_records.specs.Records.{IsSettled, IsSound, IsOurs, HasTables, HoldsRecords, KeepsStates, KeepsRows, Ran, StaysInside, TellsVersion, TellsMarks, LeavesOpened, IsOpenRefusal, marks_of};
+ghost use Rattle.mvd_records.specs.Records.{IsSettled, IsSound, IsOurs, HasTables, HoldsRecords, OpensRecords, KeepsStates, KeepsRows, Ran, StaysInside, TellsVersion, TellsMarks, LeavesOpened, LeavesRefused, IsOpenRefusal, marks_of};
 
 use crate::statements::is_settled;
 use mvd_dots::Refusal;
@@ -132,8 +132,8 @@ fn write_marks<S: Alter>(tx: &mut Transaction<'_, S>, site: u32) -> Result<(), R
     ensures same_reference { tx.new.conn.ghost_name ≡ tx.old.conn.ghost_name }
     ensures stays { StaysInside (state S.Store tx.old.conn.now) (state S.Store tx.new.conn.now) }
     ensures inside { HasCleanDisk (state S.Store tx.new.conn.now) → IsTrue (state S.Store tx.old.conn.now).in_transaction → OnOk result (IsTrue (state S.Store tx.new.conn.now).in_transaction) }
-    ensures marked { HasCleanDisk (state S.Store tx.new.conn.now) → IsTrue (state S.Store tx.old.conn.now).in_transaction → HasTables all_tables (state S.Store tx.old.conn.now).now → marks_of (state S.Store tx.old.conn.now).now ≡ [] → OnOk result (HoldsRecords 2 site (state S.Store tx.new.conn.now).now) }
-    ensures states { HasCleanDisk (state S.Store tx.new.conn.now) → IsTrue (state S.Store tx.old.conn.now).in_transaction → HasTables all_tables (state S.Store tx.old.conn.now).now → marks_of (state S.Store tx.old.conn.now).now ≡ [] → OnOk result (KeepsStates (state S.Store tx.old.conn.now).now (state S.Store tx.new.conn.now).now) }
+    ensures marked { HasCleanDisk (state S.Store tx.new.conn.now) → IsTrue (state S.Store tx.old.conn.now).in_transaction → HasTables all_tables (state S.Store tx.old.conn.now).now → marks_of (state S.Store tx.old.conn.now).now ≡ []
+        → OnOk result (HoldsRecords 2 site (state S.Store tx.new.conn.now).now × KeepsStates (state S.Store tx.old.conn.now).now (state S.Store tx.new.conn.now).now) }
     ensures refusal { IfErr result (λ e. e ≡ Refusal.Store) }
 {
     match tx.execute(
@@ -150,9 +150,8 @@ fn settle<S: Alter>(tx: &mut Transaction<'_, S>, site: u32) -> Result<u32, Refus
     ensures same_reference { tx.new.conn.ghost_name ≡ tx.old.conn.ghost_name }
     ensures stays { StaysInside (state S.Store tx.old.conn.now) (state S.Store tx.new.conn.now) }
     ensures inside { HasCleanDisk (state S.Store tx.new.conn.now) → IsTrue (state S.Store tx.old.conn.now).in_transaction → OnOk result (IsTrue (state S.Store tx.new.conn.now).in_transaction) }
-    ensures marked { HasCleanDisk (state S.Store tx.new.conn.now) → IsTrue (state S.Store tx.old.conn.now).in_transaction → HasTables all_tables (state S.Store tx.old.conn.now).now → IfOk result (λ version. HoldsRecords version site (state S.Store tx.new.conn.now).now) }
-    ensures states { HasCleanDisk (state S.Store tx.new.conn.now) → IsTrue (state S.Store tx.old.conn.now).in_transaction → HasTables all_tables (state S.Store tx.old.conn.now).now → OnOk result (KeepsStates (state S.Store tx.old.conn.now).now (state S.Store tx.new.conn.now).now) }
-    ensures told { HasCleanDisk (state S.Store tx.new.conn.now) → HasTables all_tables (state S.Store tx.old.conn.now).now → TellsVersion (marks_of (state S.Store tx.old.conn.now).now) site result }
+    ensures opened { HasCleanDisk (state S.Store tx.new.conn.now) → IsTrue (state S.Store tx.old.conn.now).in_transaction → HasTables all_tables (state S.Store tx.old.conn.now).now → IfOk result (λ version. OpensRecords version site (state S.Store tx.old.conn.now).now (state S.Store tx.new.conn.now).now) }
+    ensures refused { HasCleanDisk (state S.Store tx.new.conn.now) → HasTables all_tables (state S.Store tx.old.conn.now).now → IfErr result (λ e. TellsVersion (marks_of (state S.Store tx.old.conn.now).now) site (Err e)) }
     ensures refusal { IfErr result IsOpenRefusal }
 {
     match read_version(tx, site) {
@@ -169,9 +168,8 @@ fn prepare<S: Alter>(tx: &mut Transaction<'_, S>, site: u32) -> Result<u32, Refu
     ensures same_reference { tx.new.conn.ghost_name ≡ tx.old.conn.ghost_name }
     ensures stays { StaysInside (state S.Store tx.old.conn.now) (state S.Store tx.new.conn.now) }
     ensures inside { HasCleanDisk (state S.Store tx.new.conn.now) → IsTrue (state S.Store tx.old.conn.now).in_transaction → OnOk result (IsTrue (state S.Store tx.new.conn.now).in_transaction) }
-    ensures marked { HasCleanDisk (state S.Store tx.new.conn.now) → IsTrue (state S.Store tx.old.conn.now).in_transaction → IsOurs (state S.Store tx.old.conn.now).now → IfOk result (λ version. HoldsRecords version site (state S.Store tx.new.conn.now).now) }
-    ensures states { HasCleanDisk (state S.Store tx.new.conn.now) → IsTrue (state S.Store tx.old.conn.now).in_transaction → IsOurs (state S.Store tx.old.conn.now).now → OnOk result (KeepsStates (state S.Store tx.old.conn.now).now (state S.Store tx.new.conn.now).now) }
-    ensures told { HasCleanDisk (state S.Store tx.new.conn.now) → IsTrue (state S.Store tx.old.conn.now).in_transaction → IsOurs (state S.Store tx.old.conn.now).now → TellsVersion (marks_of (state S.Store tx.old.conn.now).now) site result }
+    ensures opened { HasCleanDisk (state S.Store tx.new.conn.now) → IsTrue (state S.Store tx.old.conn.now).in_transaction → IsOurs (state S.Store tx.old.conn.now).now → IfOk result (λ version. OpensRecords version site (state S.Store tx.old.conn.now).now (state S.Store tx.new.conn.now).now) }
+    ensures refused { HasCleanDisk (state S.Store tx.new.conn.now) → IsTrue (state S.Store tx.old.conn.now).in_transaction → IsOurs (state S.Store tx.old.conn.now).now → IfErr result (λ e. TellsVersion (marks_of (state S.Store tx.old.conn.now).now) site (Err e)) }
     ensures refusal { IfErr result IsOpenRefusal }
 {
     match make_tables(tx) {
@@ -184,12 +182,11 @@ fn prepare<S: Alter>(tx: &mut Transaction<'_, S>, site: u32) -> Result<u32, Refu
 /// Makes what is missing in one transaction, and tells the version.
 pub fn open<S: Alter>(conn: &mut Connection<S>, site: u32) -> Result<u32, Refusal>
     ensures before { IsSound (state S.Store conn.new) → IsSound (state S.Store conn.old) }
-    ensures opened { IsSound (state S.Store conn.new) → IsOurs (state S.Store conn.old).committed → IfOk result (λ version. HoldsRecords version site (state S.Store conn.new).committed) }
-    ensures states { IsSound (state S.Store conn.new) → IsOurs (state S.Store conn.old).committed → OnOk result (KeepsStates (state S.Store conn.old).committed (state S.Store conn.new).committed) }
-    ensures told { IsSound (state S.Store conn.new) → IsOurs (state S.Store conn.old).committed → TellsVersion (marks_of (state S.Store conn.old).committed) site result }
+    ensures opened { IsSound (state S.Store conn.new) → IsOurs (state S.Store conn.old).committed → IfOk result (λ version. OpensRecords version site (state S.Store conn.old).committed (state S.Store conn.new).committed) }
+    ensures refused { IsSound (state S.Store conn.new) → IsOurs (state S.Store conn.old).committed → IfErr result (λ e. TellsVersion (marks_of (state S.Store conn.old).committed) site (Err e)) }
     ensures refusal { IfErr result IsOpenRefusal }
     ensures unchanged { IsSound (state S.Store conn.new) → OnErr result ((state S.Store conn.new).committed ≡ (state S.Store conn.old).committed) }
-    ensures survives { Survives (state S.Store conn.old) (state S.Store conn.new) (LeavesOpened (state S.Store conn.old) site) }
+    ensures survives { MatchResult result (λ _. Survives (state S.Store conn.old) (state S.Store conn.new) (LeavesOpened (state S.Store conn.old) site)) (λ e. Survives (state S.Store conn.old) (state S.Store conn.new) (LeavesRefused e (state S.Store conn.old) site)) }
 {
     if !is_settled(conn) {
         return Err(Refusal::Store);

@@ -1,11 +1,13 @@
 //! Two maps from key to bytes, and a version, in the tables of a database.
 ghost use Rattle.std.specs.Prelude.{◌≡◌, ◌⊎◌, ◌≤◌, MatchResult, IsTrue, IfErr, IfOk, OnOk, OnErr};
-ghost use Rattle.std.specs.FinMap.{entries};
+ghost use Rattle.std.specs.FinMap.{entries, is_sorted};
 ghost use Rattle.sqlite.specs.Held.{state};
 ghost use Rattle.sqlite.specs.State.{HasCleanDisk, Survives};
-ghost use Rattle.mvd_records.specs.Records.{IsSound, IsOurs, HoldsRecords, KeepsStates, SavesState, MovesState, HasNone, LacksKey, Leaves, LeavesOpened, IsWhole, IsOpenRefusal, TellsVersion, marks_of, old_states, new_states};
+ghost use Rattle.mvd_records.specs.Records.{IsSound, IsOurs, HoldsRecords, OpensRecords, EndsMove, SavesState, MovesState, HasNone, LacksKey, Leaves, LeavesOpened, LeavesRefused, IsWhole, IsOpenRefusal, TellsVersion, marks_of, old_states, new_states};
+ghost use Rattle.mvd_keys.specs.Key.{key_cmp};
 ghost use Rattle.mvd_records.specs.Pairs.{entries_of, rises};
 
+use crate::loading::Half;
 use crate::{loading, moving, open, statements};
 use mvd_dots::Refusal;
 use mvd_keys::Key;
@@ -29,13 +31,11 @@ impl<S: Alter> Records<S> {
     ) -> Result<Records<S>, (Refusal, Connection<S>)>
         requires { 1 ≤ site }
         ensures before { MatchResult result (λ r. IsSound (state S.Store r.conn) → IsSound (state S.Store conn)) (λ e. IsSound (state S.Store e.1) → IsSound (state S.Store conn)) }
-        ensures opened { IfOk result (λ r. IsSound (state S.Store r.conn) → IsOurs (state S.Store conn).committed → HoldsRecords r.version site (state S.Store r.conn).committed) }
-        ensures states { IfOk result (λ r. IsSound (state S.Store r.conn) → IsOurs (state S.Store conn).committed → KeepsStates (state S.Store conn).committed (state S.Store r.conn).committed) }
-        ensures version { IfOk result (λ r. IsSound (state S.Store r.conn) → IsOurs (state S.Store conn).committed → TellsVersion (marks_of (state S.Store conn).committed) site (Ok r.version)) }
+        ensures opened { IfOk result (λ r. IsSound (state S.Store r.conn) → IsOurs (state S.Store conn).committed → OpensRecords r.version site (state S.Store conn).committed (state S.Store r.conn).committed) }
         ensures refused { IfErr result (λ e. IsSound (state S.Store e.1) → IsOurs (state S.Store conn).committed → TellsVersion (marks_of (state S.Store conn).committed) site (Err e.0)) }
         ensures unchanged { IfErr result (λ e. IsSound (state S.Store e.1) → (state S.Store e.1).committed ≡ (state S.Store conn).committed) }
         ensures refusal { IfErr result (λ e. IsOpenRefusal e.0) }
-        ensures survives { MatchResult result (λ r. Survives (state S.Store conn) (state S.Store r.conn) (LeavesOpened (state S.Store conn) site)) (λ e. Survives (state S.Store conn) (state S.Store e.1) (LeavesOpened (state S.Store conn) site)) }
+        ensures survives { MatchResult result (λ r. Survives (state S.Store conn) (state S.Store r.conn) (LeavesOpened (state S.Store conn) site)) (λ e. Survives (state S.Store conn) (state S.Store e.1) (LeavesRefused e.0 (state S.Store conn) site)) }
     {
         match open::open(&mut conn, site) {
             Ok(version) => Ok(Records {
@@ -75,13 +75,15 @@ impl<S: Alter> Records<S> {
         ensures unchanged { (version site : _) → IsSound (state S.Store self.new.conn) → HoldsRecords version site (state S.Store self.old.conn).committed → (state S.Store self.new.conn).committed ≡ (state S.Store self.old.conn).committed }
         ensures entries { (version site : _) → IsSound (state S.Store self.new.conn) → HoldsRecords version site (state S.Store self.old.conn).committed → IfOk result (λ pairs. entries_of pairs.items ≡ entries (new_states (state S.Store self.old.conn).committed)) }
         ensures rising { IfOk result (λ pairs. rises (entries_of pairs.items)) }
+        // The form in which a site takes its states.
+        ensures sorted { IfOk result (λ pairs. IsTrue (is_sorted key_cmp pairs.items)) }
         ensures whole { (version site : _) → IsSound (state S.Store self.new.conn) → HoldsRecords version site (state S.Store self.old.conn).committed → OnOk result (IsWhole self.old.version (new_states (state S.Store self.old.conn).committed) (old_states (state S.Store self.old.conn).committed) (new_states (state S.Store self.old.conn).committed)) }
         ensures damaged { (version site : _) → IsSound (state S.Store self.new.conn) → HoldsRecords version site (state S.Store self.old.conn).committed → IfErr result (λ e. e ≡ Refusal.Damaged → ¬ IsWhole self.old.version (new_states (state S.Store self.old.conn).committed) (old_states (state S.Store self.old.conn).committed) (new_states (state S.Store self.old.conn).committed)) }
         ensures refusal { IfErr result (λ e. (e ≡ Refusal.Damaged) ⊎ ((e ≡ Refusal.Memory) ⊎ (e ≡ Refusal.Store))) }
         ensures version { self.new.version ≡ self.old.version }
         ensures survives { Survives (state S.Store self.old.conn) (state S.Store self.new.conn) (Leaves (state S.Store self.old.conn) (λ _ _ _. ⊥)) }
     {
-        loading::load_new(self.alloc, &mut self.conn, self.version)
+        loading::load(self.alloc, &mut self.conn, self.version, Half::New)
     }
 
     /// The map of version 1, whose keys are not moved yet, by rising key. 17 where a key is out of form or in both maps, or an old key is left in version 2.
@@ -90,13 +92,15 @@ impl<S: Alter> Records<S> {
         ensures unchanged { (version site : _) → IsSound (state S.Store self.new.conn) → HoldsRecords version site (state S.Store self.old.conn).committed → (state S.Store self.new.conn).committed ≡ (state S.Store self.old.conn).committed }
         ensures entries { (version site : _) → IsSound (state S.Store self.new.conn) → HoldsRecords version site (state S.Store self.old.conn).committed → IfOk result (λ pairs. entries_of pairs.items ≡ entries (old_states (state S.Store self.old.conn).committed)) }
         ensures rising { IfOk result (λ pairs. rises (entries_of pairs.items)) }
+        // The form in which a site takes its states.
+        ensures sorted { IfOk result (λ pairs. IsTrue (is_sorted key_cmp pairs.items)) }
         ensures whole { (version site : _) → IsSound (state S.Store self.new.conn) → HoldsRecords version site (state S.Store self.old.conn).committed → OnOk result (IsWhole self.old.version (old_states (state S.Store self.old.conn).committed) (old_states (state S.Store self.old.conn).committed) (new_states (state S.Store self.old.conn).committed)) }
         ensures damaged { (version site : _) → IsSound (state S.Store self.new.conn) → HoldsRecords version site (state S.Store self.old.conn).committed → IfErr result (λ e. e ≡ Refusal.Damaged → ¬ IsWhole self.old.version (old_states (state S.Store self.old.conn).committed) (old_states (state S.Store self.old.conn).committed) (new_states (state S.Store self.old.conn).committed)) }
         ensures refusal { IfErr result (λ e. (e ≡ Refusal.Damaged) ⊎ ((e ≡ Refusal.Memory) ⊎ (e ≡ Refusal.Store))) }
         ensures version { self.new.version ≡ self.old.version }
         ensures survives { Survives (state S.Store self.old.conn) (state S.Store self.new.conn) (Leaves (state S.Store self.old.conn) (λ _ _ _. ⊥)) }
     {
-        loading::load_old(self.alloc, &mut self.conn, self.version)
+        loading::load(self.alloc, &mut self.conn, self.version, Half::Old)
     }
 
     /// Moves a key of version 1, whose state is spelled anew, in one transaction. 17 where the key is no old one.
@@ -116,14 +120,12 @@ impl<S: Alter> Records<S> {
     /// Ends the move: the version becomes 2. 17 where an old key is left.
     pub fn finish(&mut self) -> Result<(), Refusal>
         ensures before { IsSound (state S.Store self.new.conn) → IsSound (state S.Store self.old.conn) }
-        ensures finished { (version site : _) → IsSound (state S.Store self.new.conn) → HoldsRecords version site (state S.Store self.old.conn).committed → OnOk result (HoldsRecords 2 site (state S.Store self.new.conn).committed) }
-        ensures states { (version site : _) → IsSound (state S.Store self.new.conn) → HoldsRecords version site (state S.Store self.old.conn).committed → OnOk result (KeepsStates (state S.Store self.old.conn).committed (state S.Store self.new.conn).committed) }
-        ensures moved { (version site : _) → IsSound (state S.Store self.new.conn) → HoldsRecords version site (state S.Store self.old.conn).committed → OnOk result (HasNone (old_states (state S.Store self.old.conn).committed)) }
+        ensures finished { (version site : _) → IsSound (state S.Store self.new.conn) → HoldsRecords version site (state S.Store self.old.conn).committed → OnOk result (EndsMove site (state S.Store self.old.conn).committed (state S.Store self.new.conn).committed) }
         ensures damaged { (version site : _) → IsSound (state S.Store self.new.conn) → HoldsRecords version site (state S.Store self.old.conn).committed → IfErr result (λ e. e ≡ Refusal.Damaged → ¬ HasNone (old_states (state S.Store self.old.conn).committed)) }
         ensures unchanged { (version site : _) → IsSound (state S.Store self.new.conn) → HoldsRecords version site (state S.Store self.old.conn).committed → OnErr result ((state S.Store self.new.conn).committed ≡ (state S.Store self.old.conn).committed) }
         ensures refusal { IfErr result (λ e. (e ≡ Refusal.Damaged) ⊎ (e ≡ Refusal.Store)) }
         ensures version { MatchResult result (λ _. self.new.version ≡ 2) (λ _. self.new.version ≡ self.old.version) }
-        ensures survives { Survives (state S.Store self.old.conn) (state S.Store self.new.conn) (Leaves (state S.Store self.old.conn) (λ version site db. HoldsRecords 2 site db × KeepsStates (state S.Store self.old.conn).committed db)) }
+        ensures survives { Survives (state S.Store self.old.conn) (state S.Store self.new.conn) (Leaves (state S.Store self.old.conn) (λ _ site db. EndsMove site (state S.Store self.old.conn).committed db)) }
     {
         match statements::finish(&mut self.conn) {
             Ok(()) => {

@@ -3,7 +3,7 @@ ghost use Rattle.sqlite.specs.Held.{state};
 ghost use Rattle.sqlite.specs.State.{HasCleanDisk, KeepsCommit, Shown, Survives, CommitsShowing};
 ghost use Rattle.sqlite.specs.Given.{IsPlain};
 ghost use Rattle.sqlite.specs.Listing.{understood};
-ghost use Rattle.mvd_records.specs.Records.{IsSettled, IsSound, HoldsRecords, SavesState, KeepsStates, Leaves, OnlyReads, HasNone, AreDisjoint, AreApart, old_states, new_states};
+ghost use Rattle.mvd_records.specs.Records.{IsSettled, IsSound, HoldsRecords, SavesState, KeepsStates, EndsMove, Leaves, OnlyReads, HasNone, AreDisjoint, AreApart, old_states, new_states};
 
 use mvd_dots::Refusal;
 use sqlite::{Alter, Connection, params};
@@ -107,8 +107,7 @@ pub fn check<S: Alter>(conn: &mut Connection<S>, version: u32) -> Result<(), Ref
 
 fn set_version<S: Alter>(conn: &mut Connection<S>) -> Result<(), Refusal>
     ensures before { IsSound (state S.Store conn.new) → IsSound (state S.Store conn.old) }
-    ensures marked { (version site : _) → IsSound (state S.Store conn.new) → HoldsRecords version site (state S.Store conn.old).committed → OnOk result (HoldsRecords 2 site (state S.Store conn.new).committed) }
-    ensures states { (version site : _) → IsSound (state S.Store conn.new) → HoldsRecords version site (state S.Store conn.old).committed → OnOk result (KeepsStates (state S.Store conn.old).committed (state S.Store conn.new).committed) }
+    ensures marked { (version site : _) → IsSound (state S.Store conn.new) → HoldsRecords version site (state S.Store conn.old).committed → OnOk result (HoldsRecords 2 site (state S.Store conn.new).committed × KeepsStates (state S.Store conn.old).committed (state S.Store conn.new).committed) }
     ensures unchanged { IsSound (state S.Store conn.new) → OnErr result ((state S.Store conn.new).committed ≡ (state S.Store conn.old).committed) }
     ensures refusal { IfErr result (λ e. e ≡ Refusal.Store) }
     ensures survives { Survives (state S.Store conn.old) (state S.Store conn.new) (Leaves (state S.Store conn.old) (λ version site db. HoldsRecords 2 site db × KeepsStates (state S.Store conn.old).committed db)) }
@@ -125,13 +124,11 @@ fn set_version<S: Alter>(conn: &mut Connection<S>) -> Result<(), Refusal>
 /// The version becomes 2, where no old key is left.
 pub fn finish<S: Alter>(conn: &mut Connection<S>) -> Result<(), Refusal>
     ensures before { IsSound (state S.Store conn.new) → IsSound (state S.Store conn.old) }
-    ensures marked { (version site : _) → IsSound (state S.Store conn.new) → HoldsRecords version site (state S.Store conn.old).committed → OnOk result (HoldsRecords 2 site (state S.Store conn.new).committed) }
-    ensures states { (version site : _) → IsSound (state S.Store conn.new) → HoldsRecords version site (state S.Store conn.old).committed → OnOk result (KeepsStates (state S.Store conn.old).committed (state S.Store conn.new).committed) }
-    ensures moved { (version site : _) → IsSound (state S.Store conn.new) → HoldsRecords version site (state S.Store conn.old).committed → OnOk result (HasNone (old_states (state S.Store conn.old).committed)) }
+    ensures finished { (version site : _) → IsSound (state S.Store conn.new) → HoldsRecords version site (state S.Store conn.old).committed → OnOk result (EndsMove site (state S.Store conn.old).committed (state S.Store conn.new).committed) }
     ensures damaged { (version site : _) → IsSound (state S.Store conn.new) → HoldsRecords version site (state S.Store conn.old).committed → IfErr result (λ e. e ≡ Refusal.Damaged → ¬ HasNone (old_states (state S.Store conn.old).committed)) }
     ensures unchanged { (version site : _) → IsSound (state S.Store conn.new) → HoldsRecords version site (state S.Store conn.old).committed → OnErr result ((state S.Store conn.new).committed ≡ (state S.Store conn.old).committed) }
     ensures refusal { IfErr result (λ e. (e ≡ Refusal.Damaged) ⊎ (e ≡ Refusal.Store)) }
-    ensures survives { Survives (state S.Store conn.old) (state S.Store conn.new) (Leaves (state S.Store conn.old) (λ version site db. HoldsRecords 2 site db × KeepsStates (state S.Store conn.old).committed db)) }
+    ensures survives { Survives (state S.Store conn.old) (state S.Store conn.new) (Leaves (state S.Store conn.old) (λ _ site db. EndsMove site (state S.Store conn.old).committed db)) }
 {
     match has_old(conn) {
         Ok(false) => {}

@@ -1,14 +1,12 @@
 -- From a page of kept rows to the answer of a question.
 use Rattle.std.proofs.Common.{◌≡◌, ℕ, ℤ, Bool, true, false, not, ◌&&◌, if◌then◌else◌, List, filter, Option, Some, None, Result, Ok, Err, refl, sym, ap, ap₂, ◌∙◌, true≢false, Ordering, Less, Equal, Greater}
-use Rattle.std.proofs.lemmas.Slice.Eq.{bytes_eq-Decides}
 use Rattle.std.specs.Option.{option_cmp}
-use Rattle.std.specs.Str.{bytes_eq}
 use Rattle.std.specs.Ordering.{eq_by_cmp, is_eq, is_gt, is_lt, ordering_then, ordering_reverse}
 use Rattle.std.specs.Cmp.{tied_itself}
 use Rattle.std.specs.FinMap.{FinMap}
 use Rattle.mvd_dots.specs.Dot.{DotValue}
 use Rattle.mvd_dots.specs.declared.refusals.Refusal.{Refusal}
-use Rattle.mvd_dots.specs.declared.refusals.Refusal.TheVariants.{NoIndex, NoView}
+use Rattle.mvd_dots.specs.declared.refusals.Refusal.TheVariants.{NoIndex}
 use Rattle.mvd_docs.specs.Term.{term_cmp}
 use Rattle.mvd_docs.specs.declared.term.Term.{Term}
 use Rattle.mvd_docs.proofs.TermOrder.{term_cmp_total, term_cmp-IsAntisymmetric}
@@ -92,11 +90,6 @@ at_by at from p Greater e h = sym (never at.term from p.term _ (term_cmp at.term
 pub start_at : (from : Term) (at : Place) → is_lt (term_cmp at.term from) ≡ false → (p : Place) → (not (is_gt (term_cmp from p.term)) && is_after_place (Some at) p) ≡ is_past (mark_of at) p
 start_at from at h p = at_by at from p (term_cmp from p.term) refl h
 
--- ---- what is looked up
-
-pub same_name : (a b : List ℕ) → bytes_eq a b ≡ true → b ≡ a
-same_name a b h = sym ((bytes_eq-Decides a b).0 h)
-
 -- ---- answers
 
 swap : (a b c : Bool) → ((a && c) && b) ≡ ((a && b) && c)
@@ -108,12 +101,6 @@ swap false b c = refl
 module _ (rows : Rows) (defs : Definitions) (states : FinMap key_cmp State) (stands : IsRowsOf rows defs states) where
   has_here : (field : Field) (b : Bool) → has_index (definitions_of rows).indexes field ≡ b → has_index defs.indexes field ≡ b
   has_here field b e = ap (λ d. has_index d.indexes field) (sym stands.defs) ∙ e
-
-  pub find_none : (field : Field) (term : Term) (after : Option (Key × DotValue)) → has_index (definitions_of rows).indexes field ≡ false → find_answer defs (visible_in states) field term after ≡ Err NoIndex
-  find_none field term after none = ap (λ b. if b then Ok (page_of (filter (λ p. eq_by_cmp term_cmp term p.term && is_after after p) (places_in field (visible_in states)))) else Err NoIndex) (has_here field false none)
-
-  pub range_none : (field : Field) (from to : Term) (after : Option Place) → has_index (definitions_of rows).indexes field ≡ false → range_answer defs (visible_in states) field from to after ≡ Err NoIndex
-  range_none field from to after none = ap (λ b. if b then Ok (page_of (filter (λ p. is_between from to p.term && is_after_place after p) (places_in field (visible_in states)))) else Err NoIndex) (has_here field false none)
 
   pub find_some : (index : Index) (field : Field) (term copied : Term) (after : Option (Key × DotValue)) (page : List Place × Bool) → has_index (definitions_of rows).indexes field ≡ true → index.field ≡ field → term ≡ copied →
       page ≡ page_of (filter (λ p. is_past (record { term = copied; spot = spot_at after }) p && not (is_gt (term_cmp p.term term))) (places_in index.field (visible_in states))) →
@@ -134,15 +121,9 @@ module _ (rows : Rows) (defs : Definitions) (states : FinMap key_cmp State) (sta
   named_here : (name : List ℕ) (o : Option ViewDef) → view_named (definitions_of rows).views name ≡ o → view_named defs.views name ≡ o
   named_here name o e = ap (λ d. view_named d.views name) (sym stands.defs) ∙ e
 
-  pub row_none : (name : List ℕ) (term : Term) → view_named (definitions_of rows).views name ≡ None → row_answer defs (visible_in states) name term ≡ Err NoView
-  row_none name term none = ap (row_of_view (visible_in states) term) (named_here name None none)
-
   pub row_some : (view : View) (name : List ℕ) (term : Term) (row : Row) → view_named (definitions_of rows).views name ≡ Some (definition_of view) → row ≡ row_of view.group view.sum term (visible_in states) →
       ◌≡◌ {A = Result (ℕ × ℤ × Option (ℤ × ℤ)) Refusal} (Ok (row.count, row.sum, row.ends)) (row_answer defs (visible_in states) name term)
   row_some view name term row named is = ap (λ (r : Row). Ok (r.count, r.sum, r.ends)) is ∙ sym (ap (row_of_view (visible_in states) term) (named_here name (Some (definition_of view)) named))
-
-  pub rows_none : (name : List ℕ) (after : Option Term) → view_named (definitions_of rows).views name ≡ None → rows_answer defs (visible_in states) name after ≡ Err NoView
-  rows_none name after none = ap (rows_of_view (visible_in states) after) (named_here name None none)
 
   pub rows_some : (view : View) (name : List ℕ) (after : Option Term) (page : List (Term × ℕ × ℤ × Option (ℤ × ℤ)) × Bool) → view_named (definitions_of rows).views name ≡ Some (definition_of view) →
       page ≡ page_of (filter (λ r. is_after_term after r.0) (view_in (definition_of view) (visible_in states))) → rows_answer defs (visible_in states) name after ≡ Ok page

@@ -12,10 +12,11 @@ use Rattle.mvd_keys.specs.Key.{key_cmp}
 use Rattle.mvd_keys.specs.State.{Text}
 use Rattle.mvd_keys.specs.Writes.{Key}
 use Rattle.mvd_keys.proofs.KeyOrder.{tied_itself_key, same_where_tied}
-use Rattle.mvd_rows.specs.Changes.{HasSiblings, IsFreeOf, is_among, is_document, not_among, put_in, taken_out}
+use Rattle.mvd_rows.specs.Changes.{CanMove, HasSiblings, is_among, is_document, not_among, put_in, taken_out}
 use Rattle.mvd_rows.specs.Marks.{spots_total, spots_exact}
 use Rattle.mvd_rows.specs.Visible.{Visible, spot}
 use Rattle.mvd_rows.specs.declared.marks.Spot.{Spot}
+use Rattle.mvd_rows.specs.declared.moves.Way.TheVariants.{Comes, Goes}
 use Rattle.mvd_rows.proofs.Sorted.{kept, none_below, sorted-filter, find-filter, first, second}
 use Rattle.mvd_rows.proofs.Spots.{spots_tied}
 
@@ -109,8 +110,12 @@ free_by (Some x) new d is apart =
       | false ↦ λ _. refl
     ] refl
 
+-- a key's siblings can go
+pub can_go : (visible : Visible) (key : Key) (others es : List Pair) → HasSiblings visible key es → CanMove Goes visible key others es
+can_go visible key others es has = record { at = λ dot d found _. has.at dot ∙ found }
+
 -- where those that are not new went, nothing stands under the dots of those that are not old
-pub free : (visible : Visible) (key : Key) (old new : List Pair) → T (is_sorted dot_cmp old) → HasSiblings visible key old → IsFreeOf (taken_out visible key (not_among new old)) key old new
+pub free : (visible : Visible) (key : Key) (old new : List Pair) → T (is_sorted dot_cmp old) → HasSiblings visible key old → CanMove Comes (taken_out visible key (not_among new old)) key old new
 free visible key old new old_sorted has = record {
   at = λ dot d found apart.
       get-taken_out visible key (not_among new old) (spot key dot)

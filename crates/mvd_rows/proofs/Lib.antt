@@ -1,7 +1,7 @@
 pub mod Asking
-pub mod Benches
 pub mod ByKey
 pub mod Changing
+pub mod Counting
 pub mod Ends
 pub mod Going
 pub mod Grouped

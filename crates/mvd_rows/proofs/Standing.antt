@@ -8,13 +8,16 @@ use Rattle.mvd_dots.specs.Dot.{dot_cmp}
 use Rattle.mvd_keys.specs.Key.{key_cmp}
 use Rattle.mvd_keys.specs.State.{State}
 use Rattle.mvd_keys.specs.Writes.{Key}
-use Rattle.mvd_rows.specs.Changes.{HasSiblings, differing, is_among, not_among, put_in, state_in, taken_out, updates_each}
+use Rattle.mvd_rows.specs.Changes.{HasSiblings, differing, is_among, looks_each, not_among, put_in, state_in, taken_out, updates_each}
+use Rattle.mvd_rows.specs.Counted.{Within, WithinUpdates}
 use Rattle.mvd_rows.specs.Defs.{Definitions}
 use Rattle.mvd_rows.specs.Stands.{AreRowsOf, IsRowsOf, definitions_of}
 use Rattle.mvd_rows.specs.Visible.{Visible, visible_in}
 use Rattle.mvd_rows.specs.declared.changes.Rows.{Rows}
+use Rattle.mvd_rows.specs.declared.meters.Meter.{Meter}
 use Rattle.mvd_rows.proofs.ByKey.{get-changed, siblings_are}
 use Rattle.mvd_rows.proofs.Changing.{Pair, changed}
+use Rattle.mvd_rows.proofs.Counting.{within_less}
 
 in_order : (s : State) (es : List Pair) → es ≡ entries s.siblings → T (is_sorted dot_cmp es)
 in_order s es e = subst (λ x. T (is_sorted dot_cmp x)) (sym e) (entries_sorted s.siblings)
@@ -59,17 +62,33 @@ few_differ old new =
     let f = len-entries new.siblings in
     omega arith
 
-pub most_updates : (old new : State) (each now was : ℕ) → now ≤ was + differing old new * each → now ≤ was + (len old.siblings + len new.siblings) * each
-most_updates old new each now was h =
-    let e = mul_le (differing old new) (len old.siblings + len new.siblings) each (few_differ old new) in
-    omega arith
-
-pub counted_differ : (old new : State) (os ns : List Pair) (rows : Rows) (now was : ℕ) → os ≡ entries old.siblings → ns ≡ entries new.siblings →
-    now ≤ was + (length (not_among ns os) + length (not_among os ns)) * (length rows.indexes.items + 2 * length rows.views.items) → now ≤ was + differing old new * updates_each (definitions_of rows)
-counted_differ old new os ns rows now was old_is new_is h =
+-- the work of a change, by the siblings in which the two states differ
+pub differ_within : (old new : State) (os ns : List Pair) (rows : Rows) (x y : Meter) → os ≡ entries old.siblings → ns ≡ entries new.siblings →
+    Within ((length (not_among ns os) + length (not_among os ns)) * (length rows.indexes.items + 2 * length rows.views.items)) ((length (not_among ns os) + length (not_among os ns)) * (4 * length rows.views.items)) x y →
+    Within (differing old new * updates_each (definitions_of rows)) (differing old new * looks_each (definitions_of rows)) x y
+differ_within old new os ns rows x y old_is new_is h =
     let i : length (definitions_of rows).indexes ≡ length rows.indexes.items = length-map _ _ in
     let v : length (definitions_of rows).views ≡ length rows.views.items = length-map _ _ in
-    let each : updates_each (definitions_of rows) ≡ length rows.indexes.items + 2 * length rows.views.items = omega arith in
     let d : length (not_among ns os) + length (not_among os ns) ≡ differing old new = ap₂ (λ xs ys. length (not_among ys xs) + length (not_among xs ys)) old_is new_is in
-    let p = ap₂ (λ a b. a * b) d (sym each) in
-    omega arith
+    let updates = ap₂ (λ a b. a * b) d (sums _ _ _ _ i v) in
+    let looks = ap₂ (λ a b. a * b) d (ap (λ n. 4 * n) (sym v)) in
+    within_less _ _ _ _ x y (same _ _ updates) (same _ _ looks) h
+  where
+    sums : (a b m n : ℕ) → a ≡ m → b ≡ n → m + 2 * n ≡ a + 2 * b
+    sums a b m n e f = omega arith
+
+    same : (m n : ℕ) → m ≡ n → m ≤ n
+    same m n e = omega arith
+
+pub differ_updates : (old new : State) (u l : ℕ) (x y : Meter) → Within (differing old new * u) l x y → WithinUpdates (differing old new * u) x y
+differ_updates old new u l x y is = record { updates = is.updates; least_updates = is.least_updates; least_looks = is.least_looks }
+
+pub most_updates : (old new : State) (u l : ℕ) (x y : Meter) → Within (differing old new * u) l x y → WithinUpdates ((len old.siblings + len new.siblings) * u) x y
+most_updates old new u l x y is = record {
+  updates = more _ _ _ _ (mul_le (differing old new) (len old.siblings + len new.siblings) u (few_differ old new)) is.updates;
+  least_updates = is.least_updates;
+  least_looks = is.least_looks;
+}
+  where
+    more : (x y a m : ℕ) → a ≤ m → y ≤ x + a → y ≤ x + m
+    more x y a m h e = omega arith

@@ -7,6 +7,9 @@ use Rattle.mvd_keys.specs.State.{Text, State, empty_state}
 use Rattle.mvd_keys.specs.Writes.{Key}
 use Rattle.mvd_rows.specs.Defs.{Definitions}
 use Rattle.mvd_rows.specs.Visible.{Visible, spot}
+use Rattle.mvd_rows.specs.declared.marks.Spot.{Spot}
+use Rattle.mvd_rows.specs.declared.moves.Way.{Way}
+use Rattle.mvd_rows.specs.declared.moves.Way.TheVariants.{Comes, Goes}
 
 abbrev pub is_document : Text → Option Text → Bool
 is_document document None = false
@@ -20,23 +23,41 @@ is_among others e = is_document e.1 (find dot_cmp e.0 others)
 abbrev pub not_among : List (DotValue × Text) → List (DotValue × Text) → List (DotValue × Text)
 not_among others es = filter (λ e. not (is_among others e)) es
 
+-- a sibling comes, or goes
+abbrev pub moved : Way → Visible → Spot → Text → Visible
+moved Comes visible spot document = insert visible spot document
+moved Goes visible spot document = remove visible spot
+
+-- what stands at its spot before it does
+abbrev pub before : Way → Text → Option Text
+before Comes document = None
+before Goes document = Some document
+
+-- these siblings of the key come, or go
+abbrev pub moved_all : Way → Visible → Key → List (DotValue × Text) → Visible
+moved_all way visible key [] = visible
+moved_all way visible key (e ∷ es) = moved_all way (moved way visible (spot key e.0) e.1) key es
+
 -- without these siblings of the key
 abbrev pub taken_out : Visible → Key → List (DotValue × Text) → Visible
-taken_out visible key [] = visible
-taken_out visible key (e ∷ es) = taken_out (remove visible (spot key e.0)) key es
+taken_out visible key es = moved_all Goes visible key es
 
 -- with these siblings of the key
 abbrev pub put_in : Visible → Key → List (DotValue × Text) → Visible
-put_in visible key [] = visible
-put_in visible key (e ∷ es) = put_in (insert visible (spot key e.0) e.1) key es
+put_in visible key es = moved_all Comes visible key es
+
+-- how many more are visible at most once so many came, or went
+abbrev pub growth : Way → ℕ → ℕ
+growth Comes n = n
+growth Goes n = 0
 
 -- the key's siblings are just these
 pub record HasSiblings (visible : Visible) (key : Key) (es : List (DotValue × Text)) : Type 0 where
   pub at : (dot : DotValue) → get visible (spot key dot) ≡ find dot_cmp dot es
 
--- where one of these is not among the others, the key has no sibling under its dot
-pub record IsFreeOf (visible : Visible) (key : Key) (others es : List (DotValue × Text)) : Type 0 where
-  pub at : (dot : DotValue) (document : Text) → find dot_cmp dot es ≡ Some document → is_among others (dot, document) ≡ false → get visible (spot key dot) ≡ None
+-- where one of these is not among the others, the key has under its dot what must stand there before it moves
+pub record CanMove (way : Way) (visible : Visible) (key : Key) (others es : List (DotValue × Text)) : Type 0 where
+  pub at : (dot : DotValue) (document : Text) → find dot_cmp dot es ≡ Some document → is_among others (dot, document) ≡ false → get visible (spot key dot) ≡ before way document
 
 -- the state of a key, empty where the key is not held
 abbrev pub state_in : FinMap key_cmp State → Key → State
@@ -54,3 +75,7 @@ differing old new = length (not_among (entries new.siblings) (entries old.siblin
 -- the updates that one sibling costs at most: one for each index, and two for each view
 abbrev pub updates_each : Definitions → ℕ
 updates_each defs = length defs.indexes + 2 * length defs.views
+
+-- the looks that one sibling costs at most: four for each view
+abbrev pub looks_each : Definitions → ℕ
+looks_each defs = 4 * length defs.views

@@ -1,18 +1,19 @@
 //! All kept rows.
-ghost use Rattle.std.specs.Prelude.{◌≡◌, ◌+◌, ◌*◌, ◌≤◌, ◌^◌, None, Some, OnOk, IfErr, IsTrue, length};
+ghost use Rattle.std.specs.Prelude.{◌≡◌, ◌+◌, ◌*◌, ◌≤◌, ◌^◌, OnOk, IfErr, IsTrue, length};
 ghost use Rattle.std.specs.FinMap.{len};
 ghost use Rattle.mvd_keys.specs.State.{pairs_of, rises};
-ghost use Rattle.mvd_rows.specs.Changes.{HasSiblings, IsFreeOf, not_among, put_in, taken_out};
+ghost use Rattle.mvd_rows.specs.Changes.{CanMove, HasSiblings, before, growth, moved, moved_all, not_among, put_in, taken_out};
 ghost use Rattle.std.specs.FinMap as map;
 ghost use Rattle.mvd_dots.specs.declared.refusals.Refusal.TheVariants.{Memory};
-ghost use Rattle.mvd_rows.specs.Counted.{WithinUpdates};
+ghost use Rattle.mvd_rows.specs.Counted.{Within};
 ghost use Rattle.mvd_rows.specs.Stands.{AreRowsOf, IsSmall, definitions_of};
 ghost use Rattle.mvd_rows.specs.Visible.{Visible};
 
 use crate::index::Index;
-use crate::loops::{add_places, add_rows, remove_places, remove_rows};
+use crate::loops::{change_places, change_rows};
 use crate::marks::Spot;
 use crate::meters::Meter;
+use crate::moves::Way;
 use crate::siblings::is_among;
 use crate::views::View;
 use mvd_docs::Document;
@@ -30,41 +31,32 @@ pub struct Rows {
 }
 
 impl Rows {
-    /// A sibling comes.
-    fn add(&mut self, spot: &Spot, document: &Document, meter: &mut Meter) -> Result<(), Refusal>
-        requires { (visible : Visible) × (AreRowsOf self.old.indexes.items self.old.views.items visible × IsSmall visible) }
-        ensures rows { OnOk result ((visible : Visible) → AreRowsOf self.old.indexes.items self.old.views.items visible → map.get visible spot.now ≡ None →
-            AreRowsOf self.new.indexes.items self.new.views.items (map.insert visible spot.now document.now)) }
-        ensures defs { OnOk result (definitions_of self.new ≡ definitions_of self.old) }
-        ensures indexes { length self.new.indexes.items ≡ length self.old.indexes.items }
-        ensures views { length self.new.views.items ≡ length self.old.views.items }
-        ensures memory { IfErr result (λ refusal. refusal ≡ Memory) }
-        ensures counts { WithinUpdates (length self.old.indexes.items + 2 * length self.old.views.items) meter.old meter.new }
-    {
-        add_places(self.alloc, &mut self.indexes, spot, document, meter)?;
-        add_rows(self.alloc, &mut self.views, document, meter)?;
-        Ok(())
-    }
-
-    /// A sibling goes.
-    fn remove(&mut self, spot: &Spot, document: &Document, meter: &mut Meter) -> Result<(), Refusal>
-        requires { (visible : Visible) × (AreRowsOf self.old.indexes.items self.old.views.items visible × (IsSmall visible × (map.get visible spot.now ≡ Some document.now))) }
-        ensures rows { OnOk result ((visible : Visible) → AreRowsOf self.old.indexes.items self.old.views.items visible → map.get visible spot.now ≡ Some document.now →
-            AreRowsOf self.new.indexes.items self.new.views.items (map.remove visible spot.now)) }
-        ensures defs { OnOk result (definitions_of self.new ≡ definitions_of self.old) }
-        ensures indexes { length self.new.indexes.items ≡ length self.old.indexes.items }
-        ensures views { length self.new.views.items ≡ length self.old.views.items }
-        ensures memory { IfErr result (λ refusal. refusal ≡ Memory) }
-        ensures counts { WithinUpdates (length self.old.indexes.items + 2 * length self.old.views.items) meter.old meter.new }
-    {
-        remove_places(self.alloc, &mut self.indexes, spot, document, meter)?;
-        remove_rows(self.alloc, &mut self.views, document, meter)?;
-        Ok(())
-    }
-
-    /// The siblings that are not among the others go.
-    fn take_out(
+    /// A sibling comes or goes.
+    fn move_one(
         &mut self,
+        way: Way,
+        spot: &Spot,
+        document: &Document,
+        meter: &mut Meter,
+    ) -> Result<(), Refusal>
+        requires { (visible : Visible) × (AreRowsOf self.old.indexes.items self.old.views.items visible × (IsSmall visible × (map.get visible spot.now ≡ before way document.now))) }
+        ensures rows { OnOk result ((visible : Visible) → AreRowsOf self.old.indexes.items self.old.views.items visible → map.get visible spot.now ≡ before way document.now →
+            AreRowsOf self.new.indexes.items self.new.views.items (moved way visible spot.now document.now)) }
+        ensures defs { OnOk result (definitions_of self.new ≡ definitions_of self.old) }
+        ensures indexes { length self.new.indexes.items ≡ length self.old.indexes.items }
+        ensures views { length self.new.views.items ≡ length self.old.views.items }
+        ensures memory { IfErr result (λ refusal. refusal ≡ Memory) }
+        ensures counts { Within (length self.old.indexes.items + 2 * length self.old.views.items) (4 * length self.old.views.items) meter.old meter.new }
+    {
+        change_places(self.alloc, &mut self.indexes, way, spot, document, meter)?;
+        change_rows(self.alloc, &mut self.views, way, document, meter)?;
+        Ok(())
+    }
+
+    /// The siblings that are not among the others come or go.
+    fn move_all(
+        &mut self,
+        way: Way,
         key: &Key,
         siblings: &[Sibling],
         others: &[Sibling],
@@ -72,14 +64,15 @@ impl Rows {
     ) -> Result<(), Refusal>
         requires rising { IsTrue (rises siblings.now) }
         requires others_rise { IsTrue (rises others.now) }
-        requires room { (visible : Visible) × (AreRowsOf self.old.indexes.items self.old.views.items visible × (IsSmall visible × HasSiblings visible key.now (pairs_of siblings.now))) }
-        ensures rows { OnOk result ((visible : Visible) → AreRowsOf self.old.indexes.items self.old.views.items visible → HasSiblings visible key.now (pairs_of siblings.now) →
-            AreRowsOf self.new.indexes.items self.new.views.items (taken_out visible key.now (not_among (pairs_of others.now) (pairs_of siblings.now)))) }
+        requires room { (visible : Visible) × (AreRowsOf self.old.indexes.items self.old.views.items visible × (len visible + growth way (length siblings.now) ≤ 2 ^ 40) × CanMove way visible key.now (pairs_of others.now) (pairs_of siblings.now)) }
+        ensures rows { OnOk result ((visible : Visible) → AreRowsOf self.old.indexes.items self.old.views.items visible → CanMove way visible key.now (pairs_of others.now) (pairs_of siblings.now) →
+            AreRowsOf self.new.indexes.items self.new.views.items (moved_all way visible key.now (not_among (pairs_of others.now) (pairs_of siblings.now)))) }
         ensures defs { OnOk result (definitions_of self.new ≡ definitions_of self.old) }
         ensures indexes { length self.new.indexes.items ≡ length self.old.indexes.items }
         ensures views { length self.new.views.items ≡ length self.old.views.items }
         ensures memory { IfErr result (λ refusal. refusal ≡ Memory) }
-        ensures counts { WithinUpdates (length (not_among (pairs_of others.now) (pairs_of siblings.now)) * (length self.old.indexes.items + 2 * length self.old.views.items)) meter.old meter.new }
+        ensures counts { let moved = length (not_among (pairs_of others.now) (pairs_of siblings.now)) in
+            Within (moved * (length self.old.indexes.items + 2 * length self.old.views.items)) (moved * (4 * length self.old.views.items)) meter.old meter.new }
     {
         for sibling in siblings {
             if !is_among(others, sibling) {
@@ -87,38 +80,7 @@ impl Rows {
                     key: key.copy(self.alloc)?,
                     dot: sibling.dot,
                 };
-                self.remove(&spot, &sibling.document, meter)?;
-            }
-        }
-        Ok(())
-    }
-
-    /// The siblings that are not among the others come.
-    fn put_in(
-        &mut self,
-        key: &Key,
-        siblings: &[Sibling],
-        others: &[Sibling],
-        meter: &mut Meter,
-    ) -> Result<(), Refusal>
-        requires rising { IsTrue (rises siblings.now) }
-        requires others_rise { IsTrue (rises others.now) }
-        requires room { (visible : Visible) × (AreRowsOf self.old.indexes.items self.old.views.items visible × (len visible + length siblings.now ≤ 2 ^ 40) × IsFreeOf visible key.now (pairs_of others.now) (pairs_of siblings.now)) }
-        ensures rows { OnOk result ((visible : Visible) → AreRowsOf self.old.indexes.items self.old.views.items visible → IsFreeOf visible key.now (pairs_of others.now) (pairs_of siblings.now) →
-            AreRowsOf self.new.indexes.items self.new.views.items (put_in visible key.now (not_among (pairs_of others.now) (pairs_of siblings.now)))) }
-        ensures defs { OnOk result (definitions_of self.new ≡ definitions_of self.old) }
-        ensures indexes { length self.new.indexes.items ≡ length self.old.indexes.items }
-        ensures views { length self.new.views.items ≡ length self.old.views.items }
-        ensures memory { IfErr result (λ refusal. refusal ≡ Memory) }
-        ensures counts { WithinUpdates (length (not_among (pairs_of others.now) (pairs_of siblings.now)) * (length self.old.indexes.items + 2 * length self.old.views.items)) meter.old meter.new }
-    {
-        for sibling in siblings {
-            if !is_among(others, sibling) {
-                let spot = Spot {
-                    key: key.copy(self.alloc)?,
-                    dot: sibling.dot,
-                };
-                self.add(&spot, &sibling.document, meter)?;
+                self.move_one(way, &spot, &sibling.document, meter)?;
             }
         }
         Ok(())
@@ -139,10 +101,11 @@ impl Rows {
             AreRowsOf self.new.indexes.items self.new.views.items (put_in (taken_out visible key.now (not_among (pairs_of new.now) (pairs_of old.now))) key.now (not_among (pairs_of old.now) (pairs_of new.now)))) }
         ensures defs { OnOk result (definitions_of self.new ≡ definitions_of self.old) }
         ensures memory { IfErr result (λ refusal. refusal ≡ Memory) }
-        ensures counts { WithinUpdates ((length (not_among (pairs_of new.now) (pairs_of old.now)) + length (not_among (pairs_of old.now) (pairs_of new.now))) * (length self.old.indexes.items + 2 * length self.old.views.items)) meter.old meter.new }
+        ensures counts { let moved = length (not_among (pairs_of new.now) (pairs_of old.now)) + length (not_among (pairs_of old.now) (pairs_of new.now)) in
+            Within (moved * (length self.old.indexes.items + 2 * length self.old.views.items)) (moved * (4 * length self.old.views.items)) meter.old meter.new }
     {
-        self.take_out(key, old, new, meter)?;
-        self.put_in(key, new, old, meter)?;
+        self.move_all(Way::Goes, key, old, new, meter)?;
+        self.move_all(Way::Comes, key, new, old, meter)?;
         Ok(())
     }
 }

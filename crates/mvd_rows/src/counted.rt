@@ -7,7 +7,7 @@ ghost use Rattle.mvd_keys.specs.Key.{key_cmp};
 ghost use Rattle.mvd_keys.specs.State.{State};
 ghost use Rattle.mvd_rows.specs.Answers.{find_answer, range_answer, row_answer, rows_answer};
 ghost use Rattle.mvd_rows.specs.Visible.{visible_in};
-ghost use Rattle.mvd_rows.specs.Changes.{IsRoomy, differing, state_in, updates_each};
+ghost use Rattle.mvd_rows.specs.Changes.{IsRoomy, differing, looks_each, state_in, updates_each};
 ghost use Rattle.mvd_rows.specs.Counted.{Within, WithinUpdates};
 ghost use Rattle.mvd_rows.specs.Defs.{Definitions};
 ghost use Rattle.mvd_rows.specs.Stands.{IsRowsOf, definitions_of};
@@ -22,7 +22,7 @@ use mvd_dots::{Dot, Refusal};
 use mvd_keys::{Key, KeyState, Place};
 
 /// `Rows::change`. For each sibling that stands in one of the two states alone it makes at most one update for each index
-/// and two for each view; one that stands in both costs none.
+/// and two for each view, and at most four looks for each view; one that stands in both costs none.
 pub fn change(
     rows: &mut Rows,
     key: &Key,
@@ -36,6 +36,7 @@ pub fn change(
         IsRowsOf rows.new defs (insert states key.now new.now)) }
     ensures broken { IfErr result (λ refusal. refusal ≡ Broken) }
     ensures differing { WithinUpdates (differing old.now new.now * updates_each (definitions_of rows.old)) meter.old meter.new }
+    ensures looks { Within (differing old.now new.now * updates_each (definitions_of rows.old)) (differing old.now new.now * looks_each (definitions_of rows.old)) meter.old meter.new }
     ensures most { WithinUpdates ((len old.now.siblings + len new.now.siblings) * updates_each (definitions_of rows.old)) meter.old meter.new }
 {
     match rows.replace(key, old.siblings(), new.siblings(), meter) {
@@ -66,8 +67,7 @@ pub fn find(
         term: term.copy(rows.alloc)?,
         spot: spot_of(after),
     };
-    let (places, more) = index.page(rows.alloc, &start, term, meter)?;
-    Ok((places, more))
+    index.page(rows.alloc, &start, term, meter)
 }
 
 /// `Rows::range`, by no update and at most 1,100 looks.
@@ -90,8 +90,7 @@ pub fn range(
         return Err(Refusal::NoIndex);
     };
     let start = start_of(rows.alloc, from, after)?;
-    let (places, more) = index.page(rows.alloc, &start, to, meter)?;
-    Ok((places, more))
+    index.page(rows.alloc, &start, to, meter)
 }
 
 /// `Rows::row`, by no update and at most 64 looks.
@@ -129,6 +128,5 @@ pub fn rows(
     let Some(view) = rows.view_of(name) else {
         return Err(Refusal::NoView);
     };
-    let (page, more) = view.page(rows.alloc, &after, meter)?;
-    Ok((page, more))
+    view.page(rows.alloc, &after, meter)
 }

@@ -117,10 +117,11 @@ impl Defs {
         ensures refused { IfErr result (λ refusal. refusal ≢ Refusal.Memory → with_view self.old (record { name = name; group = group; sum = sum }) ≡ Err refusal) }
         ensures unchanged { OnErr result (self.new ≡ self.old) }
     {
-        if has_view(&self.views, &name) || self.views.len() >= MOST {
+        let view = ViewDef { name, group, sum };
+        if has_view(&self.views, &view.name) || self.views.len() >= MOST {
             return Err(Refusal::BadDefs);
         }
-        self.views.push(ViewDef { name, group, sum })?;
+        self.views.push(view)?;
         Ok(())
     }
 

@@ -11,13 +11,16 @@ ghost use Rattle.std.specs.Ordering.{is_gt};
 ghost use Rattle.std.specs.BTreeMap as tree;
 ghost use Rattle.std.specs.FinMap as map;
 ghost use Rattle.mvd_dots.specs.declared.refusals.Refusal.TheVariants.{Memory};
+ghost use Rattle.mvd_rows.specs.Changes.{before, moved};
 ghost use Rattle.mvd_rows.specs.Counted.{Within};
 ghost use Rattle.mvd_rows.specs.Stands.{IsIndexOf};
 ghost use Rattle.mvd_rows.specs.Visible.{Visible};
 
+use crate::PAGE;
 use crate::kept::Kept;
 use crate::marks::{Mark, Spot};
 use crate::meters::Meter;
+use crate::moves::Way;
 use mvd_docs::{Document, Field, Term};
 use mvd_dots::Refusal;
 use mvd_keys::Place;
@@ -31,9 +34,30 @@ pub struct Index {
 }
 
 impl Index {
+    /// A sibling comes or goes.
+    pub(crate) fn change(
+        &mut self,
+        alloc: Global,
+        way: Way,
+        spot: &Spot,
+        document: &Document,
+        meter: &mut Meter,
+    ) -> Result<(), Refusal>
+        ensures places { OnOk result ((visible : Visible) → IsIndexOf self.old visible → map.get visible spot.now ≡ before way document.now →
+            IsIndexOf self.new (moved way visible spot.now document.now)) }
+        ensures field { self.new.field ≡ self.old.field }
+        ensures memory { IfErr result (λ refusal. refusal ≡ Memory) }
+        ensures counts { Within 1 0 meter.old meter.new }
+    {
+        match way {
+            Way::Comes => self.add(alloc, spot, document, meter),
+            Way::Goes => self.remove(alloc, spot, document, meter),
+        }
+    }
+
     /// A sibling comes.
     #[tactic(auto, using(crate::proofs::Places::place_comes, crate::proofs::Places::nothing_comes))]
-    pub(crate) fn add(
+    fn add(
         &mut self,
         alloc: Global,
         spot: &Spot,
@@ -58,7 +82,7 @@ impl Index {
 
     /// A sibling goes.
     #[tactic(auto, using(crate::proofs::Places::place_goes, crate::proofs::Places::nothing_goes))]
-    pub(crate) fn remove(
+    fn remove(
         &mut self,
         alloc: Global,
         spot: &Spot,
@@ -96,7 +120,7 @@ impl Index {
     {
         let mut marks = Vec::new(alloc);
         let mut walk = self.places.after(start, meter);
-        for _taken in 0..1000usize {
+        for _taken in 0..PAGE {
             let Some((mark, _)) = walk.next(meter) else {
                 return Ok((marks, false));
             };

@@ -11,12 +11,14 @@ pub mod laws;
 mod loops;
 mod marks;
 mod meters;
+mod moves;
 mod questions;
 mod siblings;
 mod tallies;
-#[cfg(test)]
-mod tests;
 mod views;
+
+/// How many places, or rows, a page has at most.
+pub(crate) const PAGE: usize = 1000;
 
 pub use changes::Rows;
 pub use definitions::{Defs, ViewDef};

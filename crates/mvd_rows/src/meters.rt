@@ -4,10 +4,10 @@ ghost use Rattle.mvd_rows.specs.Counted.{CountsUpdate, CountsLook};
 
 /// How many entries of the kept rows were put in, taken out or altered, and how many were looked at: looked up by key,
 /// or taken from a walk. A count that is full, at `2^64 - 1`, stays there.
-#[derive(Clone, Copy, Debug)]
+#[derive(Clone, Copy)]
 pub struct Meter {
-    pub updates: u64,
-    pub looks: u64,
+    updates: u64,
+    looks: u64,
 }
 
 impl Meter {
@@ -19,6 +19,20 @@ impl Meter {
             updates: 0,
             looks: 0,
         }
+    }
+
+    /// How many entries were put in, taken out or altered.
+    pub fn updates(&self) -> u64
+        ensures { result ≡ self.now.updates }
+    {
+        self.updates
+    }
+
+    /// How many looks were made.
+    pub fn looks(&self) -> u64
+        ensures { result ≡ self.now.looks }
+    {
+        self.looks
     }
 
     pub(crate) fn count_update(&mut self)

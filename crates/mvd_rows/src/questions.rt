@@ -10,7 +10,7 @@ ghost use Rattle.mvd_keys.specs.declared.places.Place.{Place as PlaceValue};
 ghost use Rattle.mvd_rows.specs.Answers.{find_answer, is_after_place, range_answer, row_answer, rows_answer, view_named};
 ghost use Rattle.mvd_rows.specs.Changes.{IsRoomy, state_in};
 ghost use Rattle.mvd_rows.specs.Defs.{Definitions, has_index};
-ghost use Rattle.mvd_rows.specs.Pages.{is_past, spot_at};
+ghost use Rattle.mvd_rows.specs.Pages.{is_past, mark_of, spot_at};
 ghost use Rattle.mvd_rows.specs.Stands.{AreRowsOf, IsIndexOf, IsRowsOf, IsViewOf, definition_of, definitions_of};
 ghost use Rattle.mvd_rows.specs.Visible.{Visible, visible_in};
 
@@ -35,28 +35,40 @@ pub(crate) fn spot_of(after: Option<(Key, Dot)>) -> Option<Spot>
     }
 }
 
+/// The mark before all places of a term.
+fn first_of(alloc: Global, term: &Term) -> Result<Mark, Refusal>
+    ensures mark { IfOk result (λ mark. mark ≡ record { term = term.now; spot = None }) }
+    ensures memory { IfErr result (λ refusal. refusal ≡ Memory) }
+{
+    let term = term.copy(alloc)?;
+    Ok(Mark { term, spot: None })
+}
+
+/// The mark of a place.
+fn mark_of(place: Place) -> Mark
+    ensures { result ≡ mark_of place }
+{
+    let Place { term, key, dot } = place;
+    Mark {
+        term,
+        spot: Some(Spot { key, dot }),
+    }
+}
+
 /// The mark after which the places from a term on, and after a place, stand.
 pub(crate) fn start_of(alloc: Global, from: &Term, after: Option<Place>) -> Result<Mark, Refusal>
     ensures start { IfOk result (λ start. (p : PlaceValue) → (not (is_gt (term_cmp from.now p.term)) && is_after_place after p) ≡ is_past start p) }
     ensures memory { IfErr result (λ refusal. refusal ≡ Memory) }
 {
-    let Some(place) = after else {
-        return Ok(Mark {
-            term: from.copy(alloc)?,
-            spot: None,
-        });
-    };
-    if place.term.cmp(from).is_lt() {
-        return Ok(Mark {
-            term: from.copy(alloc)?,
-            spot: None,
-        });
+    match after {
+        None => first_of(alloc, from),
+        Some(place) => {
+            if place.term.cmp(from).is_lt() {
+                return first_of(alloc, from);
+            }
+            Ok(mark_of(place))
+        }
     }
-    let Place { term, key, dot } = place;
-    Ok(Mark {
-        term,
-        spot: Some(Spot { key, dot }),
-    })
 }
 
 impl Rows {

@@ -5,27 +5,30 @@ ghost use Rattle.std.specs.FinMap as map;
 ghost use Rattle.std.specs.BTreeMap.Range.{entries_between};
 ghost use Rattle.std.specs.declared.ops.Bound.TheVariants.{Unbounded};
 ghost use Rattle.mvd_docs.specs.declared.term.Term.{Term as TermValue};
-ghost use Rattle.mvd_rows.specs.Answers.{is_after_term, page_of, view_in};
+ghost use Rattle.mvd_rows.specs.Answers.{is_after_term, page_of, shown, view_in};
 ghost use Rattle.mvd_rows.specs.Pages.{IsPageOf, shown_entry, start_of};
 ghost use Rattle.mvd_dots.specs.declared.refusals.Refusal.TheVariants.{Memory};
 ghost use Rattle.mvd_rows.specs.declared.marks.Spot.{Spot};
 ghost use Rattle.mvd_docs.specs.Term.{term_cmp};
 ghost use Rattle.mvd_rows.specs.Becomes.{Becomes};
+ghost use Rattle.mvd_rows.specs.Changes.{before, moved};
 ghost use Rattle.mvd_rows.specs.Counted.{Within};
 ghost use Rattle.mvd_rows.specs.Stands.{IsViewOf, IsSmall, HasSameFields, definition_of, unless_none};
 ghost use Rattle.mvd_rows.specs.Views.{widened, no_row, row_of};
 ghost use Rattle.mvd_rows.specs.Visible.{Visible};
 
-use crate::kept::Kept;
+use crate::PAGE;
+use crate::kept::{Kept, Walk};
 use crate::marks::Tally;
 use crate::meters::Meter;
+use crate::moves::Way;
 use crate::tallies::Tallies;
 use mvd_docs::{Document, Field, Term, ViewName};
 use mvd_dots::Refusal;
 use std::alloc::{AllocError, Global};
 
 /// How many siblings a group has, the sum of what its sum field gives, and the least and the greatest of it.
-#[derive(Clone, Copy, Debug, PartialEq, Eq)]
+#[derive(Clone, Copy)]
 pub struct Row {
     pub count: u64,
     pub sum: i128,
@@ -64,6 +67,14 @@ fn widened(whole: i64, ends: Option<(i64, i64)>) -> (i64, i64)
     }
 }
 
+/// A group with its row.
+fn shown(alloc: Global, term: &Term, row: &Row) -> Result<ShownRow, Refusal>
+    ensures shown { IfOk result (λ entry. entry ≡ shown term.now row.now) }
+    ensures memory { IfErr result (λ refusal. refusal ≡ Memory) }
+{
+    Ok((term.copy(alloc)?, row.count, row.sum, row.ends))
+}
+
 impl View {
     /// The row of a group, or one of which nothing is a member. It takes no memory.
     #[tactic(auto, using(crate::proofs::Grouped::row_is))]
@@ -78,14 +89,30 @@ impl View {
         }
     }
 
-    /// A sibling comes.
-    #[tactic(auto, using(crate::proofs::Grouped::none_come, crate::proofs::Grouped::plain_comes, crate::proofs::Grouped::whole_comes))]
-    pub(crate) fn add(
+    /// A sibling comes or goes.
+    pub(crate) fn change(
         &mut self,
         alloc: Global,
+        way: Way,
         document: &Document,
         meter: &mut Meter,
     ) -> Result<(), Refusal>
+        requires { (visible : Visible) × (spot : Spot) × (IsViewOf self.old visible × (IsSmall visible × (map.get visible spot ≡ before way document.now))) }
+        ensures rows { OnOk result ((visible : Visible) (spot : Spot) → IsViewOf self.old visible → map.get visible spot ≡ before way document.now →
+            IsViewOf self.new (moved way visible spot document.now)) }
+        ensures fields { HasSameFields self.old self.new }
+        ensures memory { IfErr result (λ refusal. refusal ≡ Memory) }
+        ensures counts { Within 2 4 meter.old meter.new }
+    {
+        match way {
+            Way::Comes => self.add(alloc, document, meter),
+            Way::Goes => self.remove(alloc, document, meter),
+        }
+    }
+
+    /// A sibling comes.
+    #[tactic(auto, using(crate::proofs::Grouped::none_come, crate::proofs::Grouped::plain_comes, crate::proofs::Grouped::whole_comes))]
+    fn add(&mut self, alloc: Global, document: &Document, meter: &mut Meter) -> Result<(), Refusal>
         requires { (visible : Visible) × (IsViewOf self.old visible × IsSmall visible) }
         ensures rows { OnOk result ((visible : Visible) (spot : Spot) → IsViewOf self.old visible → map.get visible spot ≡ None →
             IsViewOf self.new (map.insert visible spot document.now)) }
@@ -121,7 +148,7 @@ impl View {
 
     /// A sibling goes.
     #[tactic(auto, using(crate::proofs::Going::none_go))]
-    pub(crate) fn remove(
+    fn remove(
         &mut self,
         alloc: Global,
         document: &Document,
@@ -160,6 +187,18 @@ impl View {
         Ok(())
     }
 
+    /// The rows after a term, or all.
+    fn walk_after(&self, after: &Option<Term>, meter: &mut Meter) -> Walk<'_, Term, Row>
+        ensures rest { result.rest ≡ entries_between term_cmp (start_of after.now) Unbounded self.now.rows.map.entries }
+        ensures ordered { tree.IsOrdered term_cmp self.now.rows.map }
+        ensures counts { Within 0 1 meter.old meter.new }
+    {
+        match after {
+            Some(term) => self.rows.after(term, meter),
+            None => self.rows.all(meter),
+        }
+    }
+
     /// The first thousand rows after a term, and whether more are left.
     fn some_rows(
         &self,
@@ -173,15 +212,12 @@ impl View {
         ensures counts { Within 0 1002 meter.old meter.new }
     {
         let mut rows = Vec::new(alloc);
-        let mut walk = match after {
-            Some(term) => self.rows.after(term, meter),
-            None => self.rows.all(meter),
-        };
-        for _taken in 0..1000usize {
+        let mut walk = self.walk_after(after, meter);
+        for _taken in 0..PAGE {
             let Some((term, row)) = walk.next(meter) else {
                 return Ok((rows, false));
             };
-            rows.push((term.copy(alloc)?, row.count, row.sum, row.ends))?;
+            rows.push(shown(alloc, term, row)?)?;
         }
         let more = walk.next(meter).is_some();
         Ok((rows, more))
@@ -199,8 +235,7 @@ impl View {
         ensures memory { IfErr result (λ refusal. refusal ≡ Memory) }
         ensures counts { Within 0 1002 meter.old meter.new }
     {
-        let (rows, more) = self.some_rows(alloc, after, meter)?;
-        Ok((rows, more))
+        self.some_rows(alloc, after, meter)
     }
 
     /// Keeps a row, unless nothing is a member of it.

@@ -1,5 +1,5 @@
 -- The digests that a site keeps are those of its keys, and what it tells of them is not too long.
-use Rattle.std.proofs.Common.{◌≡◌, ℕ, zero, suc, ◌<◌, ◌≤◌, ◌-◌, Bool, true, false, cond, nat_eq, nat_lt, if◌then◌else◌, ◌&&◌, List, [], ◌∷◌, ◌++◌, drop, take, length, map, Option, Some, None, IfSome, refl, sym, ap, ◌∙◌, subst, arith, length-append}
+use Rattle.std.proofs.Common.{◌≡◌, ℕ, zero, suc, ◌<◌, ◌≤◌, ◌-◌, Bool, true, false, cond, nat_eq, nat_lt, if◌then◌else◌, ◌&&◌, List, [], ◌∷◌, ◌++◌, drop, take, length, map, Option, Some, None, IfSome, Result, Ok, Err, true≢false, refl, sym, ap, ◌∙◌, subst, arith, length-append}
 use Rattle.std.specs.Prelude.{option_map}
 use Rattle.std.proofs.Math.Seq.{drop-append_seam}
 use Rattle.std.proofs.lemmas.Bool.{ltb-false, ltb-true}
@@ -8,6 +8,8 @@ use Rattle.std.specs.List.{AllByRecursion}
 use Rattle.std.specs.FinMap.{entries, get, insert, len, len-empty, empty, from_entries, get-retain_keys}
 use Rattle.sha2.specs.Sha256.{sha256}
 use Rattle.sha2.proofs.Facts256.{length-sha256}
+use Rattle.mvd_dots.specs.declared.refusals.Refusal.{Refusal}
+use Rattle.mvd_dots.specs.declared.refusals.Refusal.TheVariants.{Broken}
 use Rattle.mvd_keys.specs.Key.{key_cmp}
 use Rattle.mvd_keys.specs.State.{State}
 use Rattle.mvd_keys.specs.Writes.{Key}
@@ -28,7 +30,8 @@ use Rattle.mvd_wire.proofs.SentPages.{IsEntry, digests_can_be_sent}
 use Rattle.mvd_site.specs.Answer.{digests, node_digests, spelled}
 use Rattle.mvd_site.specs.Change.{SpellsChange}
 use Rattle.mvd_site.specs.Config.{ConfigValue}
-use Rattle.mvd_site.specs.Held.{AreHeld, States, key_digests}
+use Rattle.mvd_site.specs.FromStates.{unless_broken}
+use Rattle.mvd_site.specs.Held.{AreHeld, IsSpelled, States, key_digests}
 use Rattle.mvd_site.specs.Sites.{KeepsKeys, has_no_room}
 use Rattle.mvd_site.proofs.HeldMaps.{room_left}
 
@@ -38,12 +41,13 @@ unfolding key_digest
 digest_is key s bytes is = ap sha256 is
 
 -- a key and its state, one behind the other
-pub behind : (key : Key) (s : State) (first second whole : List ℕ) → first ≡ spelled_key.spell key → second ≡ spell_state s → whole ≡ first ++ second → SpellsChange key s (length first) whole
+pub behind : (key : Key) (s : State) (first second whole : List ℕ) → first ≡ spelled_key.spell key → second ≡ spell_state s → whole ≡ first ++ second → IsSpelled s → SpellsChange key s (length first) whole
 unfolding spelled
-behind key s first second whole one two all = record {
+behind key s first second whole one two all form = record {
   whole = all ∙ ap (λ l. l ++ second) one ∙ ap (λ l. spelled_key.spell key ++ l) two;
   state = ap (drop (length first)) all ∙ drop-append_seam first second ∙ two;
   within = grind (arith, length-append, all);
+  spelled = form;
 }
 
 -- ---- what a site keeps
@@ -107,6 +111,12 @@ told_node held path own children is inner bucket =
       | false ↦ λ high. bucket (ltb-false (length path) 3 high)
     ] refl in
     λ i. record { own = is i; children = are i }
+
+-- what a site that is not broken tells of a node
+pub node_told : (broken : Bool) (held : KeyDigests) (path : List ℕ) (told : Digests) → broken ≡ false →
+    ◌≡◌ {A = Result Digests Refusal} (Ok told) (unless_broken broken (Err Broken) (Ok (node_digests held path))) → told ≡ node_digests held path
+node_told true held path told whole is = absurd (true≢false whole)
+node_told false held path told whole is = cc
 
 -- the digests of a node and of its children can be sent
 pub node_can_be_sent : (held : KeyDigests) (path : List ℕ) → CanBeSent (Told (node_digests held path))

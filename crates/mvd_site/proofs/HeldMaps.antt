@@ -14,7 +14,7 @@ use Rattle.mvd_keys.specs.Key.{is_key, key_cmp}
 use Rattle.mvd_keys.specs.State.{State, IsValid}
 use Rattle.mvd_keys.specs.Writes.{Key}
 use Rattle.mvd_site.specs.Config.{ConfigValue}
-use Rattle.mvd_site.specs.Held.{AreHeld, IsHeldState, States}
+use Rattle.mvd_site.specs.Held.{AreHeld, IsHeldState, IsSpelled, States}
 use Rattle.mvd_site.specs.Sites.{has_no_room}
 use Rattle.mvd_keys.proofs.KeyOrder.{key_total, key_antisymmetric, same_where_tied}
 
@@ -71,6 +71,7 @@ held_none es none = record {
   held = λ key s found. absurd (nothing key s found);
   valid = λ key s found. absurd (nothing key s found);
   key = λ key s found. absurd (nothing key s found);
+  spelled = λ key s found. absurd (nothing key s found);
 }
   where
     not_some : (s : State) → ◌≡◌ {A = Option State} None (Some s) → ⊥
@@ -80,11 +81,12 @@ held_none es none = record {
     nothing key s found = not_some s (sym (get-empty key_cmp key) ∙ ap (λ l. get (from_entries {R = key_cmp} l) key) (sym none) ∙ found)
 
 -- a state that may be held, put in
-pub kept_inserted : (m : States) (key : Key) (s : State) → AreHeld m → IsHeldState s → IsValid s → is_key key ≡ true → AreHeld (insert m key s)
-kept_inserted m key s kept here valid is = record {
+pub kept_inserted : (m : States) (key : Key) (s : State) → AreHeld m → IsHeldState s → IsValid s → is_key key ≡ true → IsSpelled s → AreHeld (insert m key s)
+kept_inserted m key s kept here valid is spelled = record {
   held = held_inserted IsHeldState m key s kept.held here;
   valid = held_inserted IsValid m key s kept.valid valid;
   key = key_inserted m key s kept.key is;
+  spelled = held_inserted IsSpelled m key s kept.spelled spelled;
 }
 
 -- a key that may come in leaves no more keys than may be held

@@ -1,7 +1,14 @@
 -- How long states are, and which are too long.
-use Rattle.std.proofs.Common.{◌≡◌, ℕ, ◌<◌, ◌≤◌, ◌-◌, ◌^◌, true, false, min, nat_lt, nat_le, if◌then◌else◌, Ok, Err, length, ap, le-ltb, lt-ltb, arith}
-use Rattle.mvd_keys.specs.State.{State, empty_state}
-use Rattle.mvd_keys.proofs.Lists.{IsValid-empty}
+use Rattle.std.proofs.Common.{◌≡◌, ◌==◌, ℕ, ◌<◌, ◌≤◌, ◌-◌, ◌^◌, true, false, min, nat_lt, nat_le, if◌then◌else◌, List, [], Ok, Err, length, refl, sym, ap, ◌∙◌, le-ltb, lt-ltb, arith}
+use Rattle.std.proofs.lemmas.List.{nil_from_length}
+use Rattle.std.specs.FinSet.{empty, len-empty}
+use Rattle.mvd_dots.specs.Dot.{dot_cmp}
+use Rattle.mvd_dots.specs.Entry.{EntryValue}
+use Rattle.mvd_dots.specs.Context.{AreEntriesOf, DotSet, entries_of, set_of}
+use Rattle.mvd_dots.proofs.Canonical.{entries_are}
+use Rattle.mvd_keys.specs.State.{IsValid, State, empty_state}
+use Rattle.mvd_keys.specs.Writes.{is_empty}
+use Rattle.mvd_keys.proofs.Lists.{IsValid-empty, state_of_empty}
 use Rattle.std.proofs.lemmas.Bool.Decides.{nat_tests}
 use Rattle.mvd_dots.specs.declared.refusals.Refusal.TheVariants.{StateTooLarge}
 use Rattle.mvd_wire.specs.Kind.{spelled_within}
@@ -34,3 +41,22 @@ le-true n limit low = grind (arith, nat_tests)
 pub spelled : (s : State) → length (spell_state s) ≤ state_limit → spelled_within StateTooLarge state_limit (state layout2) s ≡ Ok (spell_state s)
 unfolding spell_state
 spelled s low = ap (λ b. if b then Ok (spell_state s) else Err StateTooLarge) (le-true (length (spell_state s)) state_limit low)
+
+-- ---- which states may be held
+
+no_entries : entries_of empty ≡ []
+unfolding set_of
+no_entries = sym (entries_are empty [] (record { form = tt; same = refl }))
+
+-- a context with no entry has no dot
+pub nothing_seen : (dots : DotSet) (es : List EntryValue) → AreEntriesOf dots es → length es ≡ 0 → is_empty dots ≡ true
+unfolding set_of
+nothing_seen dots es are none = ap is_empty (sym are.same ∙ ap set_of (nil_from_length es none)) ∙ ap (λ n. n == 0) (len-empty dot_cmp)
+
+-- and one with an entry has
+pub something_seen : (s : State) (es : List EntryValue) → IsValid s → AreEntriesOf s.context es → (length es ≡ 0 → ⊥) → is_empty s.context ≡ false
+something_seen s es valid are some =
+    elim (is_empty s.context) as (λ b. is_empty s.context ≡ b → b ≡ false) [
+      | true ↦ λ none. absurd (some (ap length (entries_are s.context es are ∙ ap entries_of (ap (λ (t : State). t.context) (state_of_empty s none valid)) ∙ no_entries)))
+      | false ↦ λ _. refl
+    ] refl

@@ -1,3 +1,5 @@
+pub mod Answered
+pub mod Clashes
 pub mod Digested
 pub mod HeldMaps
 pub mod KnownKeys
@@ -8,4 +10,6 @@ pub mod Outcomes
 pub mod Prepare
 pub mod Room
 pub mod Runs
+pub mod Pushes
 pub mod Steps
+pub mod Texts

@@ -19,7 +19,7 @@ use Rattle.mvd_docs.specs.declared.term.Term.TheVariants.{Whole, Text}
 use Rattle.mvd_docs.proofs.TermOrder.{term_cmp_total, term_cmp-IsAntisymmetric}
 use Rattle.mvd_dots.specs.Dot.{DotValue}
 use Rattle.mvd_dots.specs.declared.refusals.Refusal.{Refusal}
-use Rattle.mvd_dots.specs.declared.refusals.Refusal.TheVariants.{Broken, Memory, NoIndex}
+use Rattle.mvd_dots.specs.declared.refusals.Refusal.TheVariants.{Broken, Memory, NoIndex, NoView}
 use Rattle.mvd_keys.specs.Key.{is_key}
 use Rattle.mvd_keys.specs.State.{State, Text as Document}
 use Rattle.mvd_keys.specs.Writes.{Key}
@@ -221,32 +221,32 @@ rows_page defs visible name after page more is =
 
 -- ---- refusals
 
-pub find_refuses : (defs : Definitions) (visible : Visible) (field : List ℕ) (term : Term) (after : Option (Key × DotValue)) → find_answer defs visible field term after ≢ Err Broken
-find_refuses defs visible field term after is =
-    elim (has_index defs.indexes field) as (λ b. (if b then Ok (page_of (filter (λ p. eq_by_cmp term_cmp term p.term && is_after after p) (places_in field visible))) else Err NoIndex) ≡ Err Broken → ⊥) [
+pub find_refuses : (defs : Definitions) (visible : Visible) (field : List ℕ) (term : Term) (after : Option (Key × DotValue)) (refusal : Refusal) → refusal ≢ NoIndex → find_answer defs visible field term after ≢ Err refusal
+find_refuses defs visible field term after refusal other is =
+    elim (has_index defs.indexes field) as (λ b. (if b then Ok (page_of (filter (λ p. eq_by_cmp term_cmp term p.term && is_after after p) (places_in field visible))) else Err NoIndex) ≡ Err refusal → ⊥) [
       | true ↦ λ e. cc
-      | false ↦ λ e. cc
+      | false ↦ λ e. other (cc)
     ] is
 
-pub range_refuses : (defs : Definitions) (visible : Visible) (field : List ℕ) (from to : Term) (after : Option Place) → range_answer defs visible field from to after ≢ Err Broken
-range_refuses defs visible field from to after is =
-    elim (has_index defs.indexes field) as (λ b. (if b then Ok (page_of (filter (λ p. is_between from to p.term && is_after_place after p) (places_in field visible))) else Err NoIndex) ≡ Err Broken → ⊥) [
+pub range_refuses : (defs : Definitions) (visible : Visible) (field : List ℕ) (from to : Term) (after : Option Place) (refusal : Refusal) → refusal ≢ NoIndex → range_answer defs visible field from to after ≢ Err refusal
+range_refuses defs visible field from to after refusal other is =
+    elim (has_index defs.indexes field) as (λ b. (if b then Ok (page_of (filter (λ p. is_between from to p.term && is_after_place after p) (places_in field visible))) else Err NoIndex) ≡ Err refusal → ⊥) [
       | true ↦ λ e. cc
-      | false ↦ λ e. cc
+      | false ↦ λ e. other (cc)
     ] is
 
-pub row_refuses : (defs : Definitions) (visible : Visible) (name : List ℕ) (term : Term) → row_answer defs visible name term ≢ Err Broken
-row_refuses defs visible name term is =
-    elim (view_named defs.views name) as (λ v. row_of_view visible term v ≡ Err Broken → ⊥) [
+pub row_refuses : (defs : Definitions) (visible : Visible) (name : List ℕ) (term : Term) (refusal : Refusal) → refusal ≢ NoView → row_answer defs visible name term ≢ Err refusal
+row_refuses defs visible name term refusal other is =
+    elim (view_named defs.views name) as (λ v. row_of_view visible term v ≡ Err refusal → ⊥) [
       | Some v ↦ λ e. cc
-      | None ↦ λ e. cc
+      | None ↦ λ e. other (cc)
     ] is
 
-pub rows_refuses : (defs : Definitions) (visible : Visible) (name : List ℕ) (after : Option Term) → rows_answer defs visible name after ≢ Err Broken
-rows_refuses defs visible name after is =
-    elim (view_named defs.views name) as (λ v. rows_of_view visible after v ≡ Err Broken → ⊥) [
+pub rows_refuses : (defs : Definitions) (visible : Visible) (name : List ℕ) (after : Option Term) (refusal : Refusal) → refusal ≢ NoView → rows_answer defs visible name after ≢ Err refusal
+rows_refuses defs visible name after refusal other is =
+    elim (view_named defs.views name) as (λ v. rows_of_view visible after v ≡ Err refusal → ⊥) [
       | Some v ↦ λ e. cc
-      | None ↦ λ e. cc
+      | None ↦ λ e. other (cc)
     ] is
 
 -- what may be refused for memory, or for what is not broken, is not broken

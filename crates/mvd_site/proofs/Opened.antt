@@ -7,7 +7,7 @@ use Rattle.std.specs.declared.cmp.Ordering.{Ordering}
 use Rattle.std.specs.declared.cmp.Ordering.TheVariants.{Less, Equal, Greater}
 use Rattle.std.specs.Ordering.{eq_by_cmp, is_eq, is_lt}
 use Rattle.std.specs.Cmp.{eq_by_cmp_equiv}
-use Rattle.std.specs.FinMap.{get, find, from_entries, from_entries_push, get-from_entries, get-insert, insert, is_sorted, len, len-empty, len-insert}
+use Rattle.std.specs.FinMap.{entries, entries_sorted, get, get-entries, find, from_entries, from_entries_push, get-from_entries, get-insert, insert, is_sorted, len, len-empty, len-insert, same_map}
 use Rattle.std.specs.FinMap.Entries.{below_all}
 use Rattle.mvd_keys.specs.Key.{key_cmp}
 use Rattle.mvd_keys.specs.State.{State, empty_state, join}
@@ -82,6 +82,7 @@ kept_rest e es rises kept = record {
   held = λ q s found. kept.held q s (later_found e es rises q s found);
   valid = λ q s found. kept.valid q s (later_found e es rises q s found);
   key = λ q s found. kept.key q s (later_found e es rises q s found);
+  spelled = λ q s found. kept.spelled q s (later_found e es rises q s found);
 }
 
 -- the map of rising entries that may be held stands for a set of writes: those of each state
@@ -94,6 +95,13 @@ stands_for (e ∷ es) rises kept =
     let none : state e.0 rest.0 ≡ empty_state = sym (state_at-stands m rest.0 e.0 rest.1) ∙ ap (λ o. unwrap_or o empty_state) (missing e es rises) in
     let is : state e.0 (rest.0 ++ writes_for e.0 e.1) ≡ e.1 = alone rest.0 (writes_for e.0 e.1) e.0 none ∙ state-writes_for e.0 e.1 (kept.valid e.0 e.1 found) in
     (rest.0 ++ writes_for e.0 e.1, Stands-insert m rest.0 (writes_for e.0 e.1) e.0 e.1 rest.1 (AreOf-writes_for e.0 e.1) is (kept.held e.0 e.1 found).seen)
+
+-- and so does any map of states that may be held
+pub stands_held : (m : States) → AreHeld m → (known : List Write) × Stands m known
+stands_held m kept =
+    let same : from_entries {R = key_cmp} (entries m) ≡ m = same_map key_total key_antisymmetric _ _ (λ q. get-from_entries key_total (entries m) q ∙ sym (get-entries m q)) in
+    let stood : (known : List Write) × Stands (from_entries {R = key_cmp} (entries m)) known = stands_for (entries m) (entries_sorted m) (subst AreHeld (sym same) kept) in
+    (stood.0, subst (λ (n : States). Stands n stood.0) same stood.1)
 
 -- ---- one entry after the other
 
@@ -131,3 +139,12 @@ pub each_at : (P : Entry → Type 0) (es : List Entry) (i : ℕ) (e : Entry) →
 each_at P [] i e all low is = absurd (omega (arith, low))
 each_at P (x ∷ es) zero e all low is = subst P (sym is) all.0
 each_at P (x ∷ es) (suc i) e all low is = each_at P es i e all.1 (omega (arith, low)) is
+
+each_pushed : (P : Entry → Type 0) (es : List Entry) (e : Entry) → AllByRecursion P es → P e → AllByRecursion P (es ++ e ∷ [])
+each_pushed P [] e all here = (here, tt)
+each_pushed P (x ∷ es) e all here = (all.0, each_pushed P es e all.1 here)
+
+-- and what holds of each so far and of the next, holds of each then
+pub each_more : (P : Entry → Type 0) (es : List Entry) (i : ℕ) (e : Entry) → AllByRecursion P (take i es) → i < length es → e ≡ get_or es i e → P e → AllByRecursion P (take (i + 1) es)
+each_more P es i e all low is here =
+    subst (AllByRecursion P) (sym (take_more es i e low ∙ ap (λ x. take i es ++ x ∷ []) (sym is))) (each_pushed P (take i es) e all here)

@@ -3,8 +3,8 @@ use Rattle.std.proofs.Common.{◌≡◌, Bool, false, List, [], ◌∷◌, ◌++
 use Rattle.std.proofs.lemmas.List.{map-append}
 use Rattle.std.proofs.lemmas.Grind.{flat_map-append}
 use Rattle.std.specs.List.{AllByRecursion}
-use Rattle.mvd_keys.specs.Writes.{Write, Wrote, Deleted, Agree, writes_for}
-use Rattle.mvd_keys.proofs.Sets.{Agree-left, AreOf-writes_for, state-writes_for}
+use Rattle.mvd_keys.specs.Writes.{Write, Wrote, Deleted, writes_for}
+use Rattle.mvd_keys.proofs.Sets.{AreOf-writes_for, state-writes_for}
 use Rattle.mvd_wire.specs.declared.request.Request.{Request}
 use Rattle.mvd_wire.specs.declared.request.Request.TheVariants.{Put, Delete, Push}
 use Rattle.mvd_wire.specs.declared.reply.Reply.{Reply}
@@ -75,20 +75,18 @@ AllReplied-push config known first middle after (e ∷ es) last so_far here = (
 
 pub AnswersAll-push : (config : ConfigValue) (old new : SiteValue) (requests : List Request) (request : Request) (replies : List Reply) (reply : Reply) →
     old.config ≡ config → AnswersAll config old requests replies → AnswersOne old new request reply → AnswersAll config new (requests ++ request ∷ []) (replies ++ reply ∷ [])
-AnswersAll-push config old new requests request replies reply same so_far one events tells agree =
+AnswersAll-push config old new requests request replies reply same so_far one events tells =
     let p = parted events requests request replies reply tells in
     let grown : known_after events ≡ known_after p.before ++ p.last.added = ap known_after p.all ∙ known_after-push p.before p.last in
-    let agreed : Agree (known_after p.before ++ p.last.added) = subst Agree grown agree in
-    let past : AllReplied config [] false p.before old.broken × SiteStands old (known_after p.before) = so_far p.before p.tells (Agree-left (known_after p.before) p.last.added agreed) in
+    let past : AllReplied config [] false p.before old.broken × SiteStands old (known_after p.before) = so_far p.before p.tells in
     let adds : Adds request reply p.last.added = subst₂ (λ q r. Adds q r p.last.added) p.asked p.told p.adds in
-    let now : MayReply old.config (known_after p.before) old.broken request reply new.broken × SiteStands new (known_after p.before ++ p.last.added) = one (known_after p.before) p.last.added past.1 adds agreed in
     let here : MayReply config (known_after p.before) old.broken p.last.request p.last.reply new.broken =
-    subst₂ (λ q r. MayReply config (known_after p.before) old.broken q r new.broken) (sym p.asked) (sym p.told) (subst (λ c. MayReply c (known_after p.before) old.broken request reply new.broken) same now.0) in
-    (subst (λ es. AllReplied config [] false es new.broken) (sym p.all) (AllReplied-push config [] false old.broken new.broken p.before p.last past.0 here), subst (SiteStands new) (sym grown) now.1)
+    subst₂ (λ q r. MayReply config (known_after p.before) old.broken q r new.broken) (sym p.asked) (sym p.told) (subst (λ c. MayReply c (known_after p.before) old.broken request reply new.broken) same (one.replies (known_after p.before) past.1)) in
+    (subst (λ es. AllReplied config [] false es new.broken) (sym p.all) (AllReplied-push config [] false old.broken new.broken p.before p.last past.0 here), subst (SiteStands new) (sym grown) (one.stands (known_after p.before) p.last.added past.1 adds))
 
 pub AnswersAll-none : (config : ConfigValue) (site : SiteValue) → site.broken ≡ false → SiteStands site [] → AnswersAll config site [] []
-AnswersAll-none config site whole stands [] tells agree = (sym whole, stands)
-AnswersAll-none config site whole stands (e ∷ es) tells agree = cc (tells.asked)
+AnswersAll-none config site whole stands [] tells = (sym whole, stands)
+AnswersAll-none config site whole stands (e ∷ es) tells = cc (tells.asked)
 
 -- ---- a choice that fits
 

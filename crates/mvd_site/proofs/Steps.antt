@@ -17,11 +17,12 @@ use Rattle.mvd_wire.specs.declared.request.Request.{Request}
 use Rattle.mvd_wire.specs.declared.request.Request.TheVariants.{Put, Delete, Push}
 use Rattle.mvd_wire.specs.declared.reply.Reply.{Reply}
 use Rattle.mvd_wire.specs.declared.reply.Reply.TheVariants.{Written, Done, Refused}
-use Rattle.mvd_site.specs.Answer.{change_of, is_too_large, within_limits}
+use Rattle.mvd_site.specs.Answer.{change_of, is_too_large, limited, within_limits}
 use Rattle.mvd_site.specs.Config.{ConfigValue}
 use Rattle.mvd_site.specs.Held.{States, state_at}
 use Rattle.mvd_site.specs.Known.{Adds}
-use Rattle.mvd_site.specs.Sites.{within, has_no_room}
+use Rattle.mvd_site.specs.FromStates.{within}
+use Rattle.mvd_site.specs.Sites.{has_no_room}
 
 pub state_at-stands : (m : States) (W : List Write) (key : Key) → Stands m W → state_at m key ≡ state key W
 state_at-stands m W key stands =
@@ -37,7 +38,7 @@ state_at-stands m W key stands =
 pub within-stands : (config : ConfigValue) (m : States) (W : List Write) (key : Key) (after : State) (reply : Reply) → Stands m W →
     within config m key after reply ≡ within_limits config W key after reply
 within-stands config m W key after reply stands =
-    ap₂ (λ a b. if is_too_large after then Refused StateTooLarge else if not a && (b == config.max_keys) && not (is_empty after.context) then Refused Full else reply)
+    ap₂ (λ a b. limited config a b after reply)
     (ap is_some (stands.at key) ∙ is_some-held W key ∙ sym (contains-keys W key))
     (len-stands m W stands)
 

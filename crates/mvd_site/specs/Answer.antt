@@ -32,16 +32,20 @@ use Rattle.mvd_site.specs.Config.{ConfigValue}
 abbrev pub is_too_large : State → Bool
 is_too_large s = nat_lt state_limit (length (spell_state s))
 
--- with this state afterwards, the key would be one too many
-abbrev pub is_one_too_many : ConfigValue → List Write → Key → State → Bool
-is_one_too_many config known key after = not (contains (keys known) key) && (len (keys known) == config.max_keys) && not (is_empty after.context)
+-- as many keys are held as may be, and this is none of them
+abbrev pub is_full : ConfigValue → Bool → ℕ → Bool
+is_full config is_held count = not is_held && (count == config.max_keys)
 
--- the reply, where the key may have this state afterwards
-abbrev pub within_limits : ConfigValue → List Write → Key → State → Reply → Reply
-within_limits config known key after reply =
+-- The limits: the reply, where a key may have this state afterwards; whether it is held, and how many keys are, is told
+abbrev pub limited : ConfigValue → Bool → ℕ → State → Reply → Reply
+limited config is_held count after reply =
     if is_too_large after then Refused StateTooLarge
-    else if is_one_too_many config known key after then Refused Full
+    else if is_full config is_held count && not (is_empty after.context) then Refused Full
     else reply
+
+-- the limits, from the writes known
+abbrev pub within_limits : ConfigValue → List Write → Key → State → Reply → Reply
+within_limits config known key after reply = limited config (contains (keys known) key) (len (keys known)) after reply
 
 -- a put, with the dot that is minted for it
 abbrev pub put_answer : ConfigValue → List Write → Key → DotSet → Text → Option DotValue → Reply

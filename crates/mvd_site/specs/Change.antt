@@ -8,6 +8,7 @@ use Rattle.mvd_wire.specs.Kinds.{spell_state}
 use Rattle.mvd_wire.specs.declared.reply.Reply.{Reply}
 use Rattle.mvd_wire.specs.declared.reply.Reply.TheVariants.{Written, Done}
 use Rattle.mvd_site.specs.Answer.{spelled}
+use Rattle.mvd_site.specs.Held.{IsSpelled}
 
 -- the key, the state that it is to have, and the dot of the put that gives it that, if it is one
 pub record ChangeValue : Type 0 where
@@ -24,6 +25,7 @@ pub record SpellsChange (key : Key) (s : State) (start : ℕ) (bytes : List ℕ)
   pub whole : bytes ≡ spelled key s
   pub state : drop start bytes ≡ spell_state s
   pub within : start ≤ length bytes
+  pub spelled : IsSpelled s
 
 -- a put is answered with its dot, and a delete or a push is done
 abbrev pub reply_of : Option DotValue → Reply

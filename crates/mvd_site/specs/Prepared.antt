@@ -1,10 +1,11 @@
 -- What a request comes to before anything is changed.
 use Rattle.std.specs.Prelude.{◌≡◌, ◌≢◌, ◌⊎◌, Bool, List, Option, Some, Result, Ok, Err, false, true, IfSome}
+use Rattle.std.specs.FinMap.{insert}
 use Rattle.mvd_dots.specs.Dot.{DotValue}
 use Rattle.mvd_dots.specs.declared.refusals.Refusal.{Refusal}
 use Rattle.mvd_dots.specs.declared.refusals.Refusal.TheVariants.{Memory}
 use Rattle.mvd_keys.specs.State.{State}
-use Rattle.mvd_keys.specs.Writes.{Key, Stands, Write, state}
+use Rattle.mvd_keys.specs.Writes.{Key, Stands, Write, is_empty, state}
 use Rattle.mvd_wire.specs.Replies.{CanBeSent}
 use Rattle.mvd_wire.specs.declared.request.Request.{Request}
 use Rattle.mvd_wire.specs.declared.request.Request.TheVariants.{Get, Put, Delete, Push}
@@ -12,8 +13,9 @@ use Rattle.mvd_wire.specs.declared.reply.Reply.{Reply}
 use Rattle.mvd_wire.specs.declared.reply.Reply.TheVariants.{Refused}
 use Rattle.mvd_site.specs.Answer.{answer, change_of}
 use Rattle.mvd_site.specs.Config.{ConfigValue}
-use Rattle.mvd_site.specs.Held.{IsHeldState, state_at}
-use Rattle.mvd_site.specs.Sites.{SiteValue, has_no_room, within}
+use Rattle.mvd_site.specs.Held.{IsHeldState, States, state_at}
+use Rattle.mvd_site.specs.FromStates.{after_from, answer_from, change_from, within}
+use Rattle.mvd_site.specs.Sites.{SiteValue, has_no_room}
 use Rattle.mvd_site.specs.Change.{ChangeValue, reply_of}
 use Rattle.mvd_site.specs.declared.changes.Prepared.{Prepared}
 use Rattle.mvd_site.specs.declared.changes.Prepared.TheVariants.{Answer, Change}
@@ -38,6 +40,29 @@ Prepares config known request (Ok (Change change)) = PreparesChange config known
 -- what a site that is not broken prepares, whatever the writes are that its states stand for
 abbrev pub PreparesAt : SiteValue → Request → Result Prepared Refusal → Type 0
 PreparesAt site request prepared = site.broken ≡ false → (known : List Write) → Stands site.states known → Prepares site.config known request prepared
+
+-- the same from the states: an answer with nothing to change
+pub record PreparesAnswerFrom (config : ConfigValue) (states : States) (request : Request) (reply : Reply) : Type 0 where
+  pub answers : reply ≡ answer_from config states request
+  pub still : IfSome (change_from states request (answer_from config states request)) (λ change. change.1 ≡ state_at states change.0)
+  pub after : after_from config states request ≡ states
+
+-- and a change
+pub record PreparesChangeFrom (config : ConfigValue) (states : States) (request : Request) (change : ChangeValue) : Type 0 where
+  pub answers : reply_of change.dot ≡ answer_from config states request
+  pub leaves : change_from states request (answer_from config states request) ≡ Some (change.key, change.state)
+  pub differs : change.state ≢ state_at states change.key
+  pub after : after_from config states request ≡ insert states change.key change.state
+
+-- what is prepared is the answer from the states, or memory was refused
+abbrev pub PreparesFrom : ConfigValue → States → Request → Result Prepared Refusal → Type 0
+PreparesFrom config states request (Err refusal) = (Refused refusal ≡ answer_from config states request) ⊎ (refusal ≡ Memory)
+PreparesFrom config states request (Ok (Answer reply)) = PreparesAnswerFrom config states request reply
+PreparesFrom config states request (Ok (Change change)) = PreparesChangeFrom config states request change
+
+-- what a site that is not broken prepares, from its states alone
+abbrev pub PreparesFromStates : SiteValue → Request → Result Prepared Refusal → Type 0
+PreparesFromStates site request prepared = site.broken ≡ false → PreparesFrom site.config site.states request prepared
 
 abbrev pub is_refusal : Reply → Bool
 is_refusal (Refused refusal) = true
@@ -73,4 +98,4 @@ LimitsTo site key after dot (Err refusal) = (within site.config site.states key 
 LimitsTo site key after dot (Ok (Answer reply)) =
     (within site.config site.states key after (reply_of dot) ≡ reply) × (reply ≡ reply_of dot) × (after ≡ state_at site.states key)
 LimitsTo site key after dot (Ok (Change change)) =
-    (within site.config site.states key after (reply_of dot) ≡ reply_of dot) × (change ≡ record { key = key; state = after; dot = dot }) × (after ≢ state_at site.states key)
+    (within site.config site.states key after (reply_of dot) ≡ reply_of dot) × (change ≡ record { key = key; state = after; dot = dot }) × (after ≢ state_at site.states key) × (is_empty after.context ≡ false)

@@ -1,18 +1,17 @@
 -- What a site is seen as, and what it does with a request.
-use Rattle.std.specs.Prelude.{◌≡◌, ◌≤◌, Bool, false, refl, nat_lt, List, [], ◌++◌, length, Result, Ok, Err, if◌then◌else◌, not, ◌&&◌, ◌==◌, is_some}
+use Rattle.std.specs.Prelude.{◌≡◌, ◌≤◌, Bool, false, refl, nat_lt, List, [], ◌++◌, length, Result, Ok, Err, if◌then◌else◌, is_some}
 use Rattle.std.specs.Coded.{Coded, code_by, coded×, coded_ℕ, coded_bool, coded_list}
 use Rattle.std.specs.FinMap.{code, from_entries, get, len as map_len}
 use Rattle.mvd_dots.specs.declared.refusals.Refusal.{Refusal}
-use Rattle.mvd_dots.specs.declared.refusals.Refusal.TheVariants.{StateTooLarge, Full}
+use Rattle.mvd_dots.specs.declared.refusals.Refusal.TheVariants.{Full}
 use Rattle.mvd_keys.specs.State.{State, state_code}
-use Rattle.mvd_keys.specs.Writes.{Agree, Key, Stands, Write, is_empty}
+use Rattle.mvd_keys.specs.Writes.{Key, Stands, Write}
 use Rattle.mvd_wire.specs.declared.request.Request.{Request}
 use Rattle.mvd_wire.specs.declared.reply.Reply.{Reply}
-use Rattle.mvd_wire.specs.declared.reply.Reply.TheVariants.{Refused}
 use Rattle.mvd_rows.specs.Stands.{IsRowsOf}
 use Rattle.mvd_rows.specs.declared.changes.Rows.{Rows}
 use Rattle.mvd_tree.specs.HashTree.{KeyDigests}
-use Rattle.mvd_site.specs.Answer.{digests, is_too_large}
+use Rattle.mvd_site.specs.Answer.{digests, is_full}
 use Rattle.mvd_site.specs.Config.{ConfigValue, config_code}
 use Rattle.mvd_site.specs.Held.{States}
 use Rattle.mvd_site.specs.Known.{Adds, AllReplied, Event, MayReply, Tells, known_after}
@@ -38,28 +37,21 @@ pub record KeepsKeys (config : ConfigValue) (states : States) (tree : KeyDigests
 abbrev pub SiteStands : SiteValue → List Write → Type 0
 SiteStands site known = site.broken ≡ false → Stands site.states known
 
--- What a site does with one request: from any writes that its states stood for, and any that the request
--- adds, where all agree, the reply is one that it may give, and the states afterwards stand for all of them
-abbrev pub AnswersOne : SiteValue → SiteValue → Request → Reply → Type 0
-AnswersOne old new request reply = (known added : List Write) → SiteStands old known → Adds request reply added → Agree (known ++ added) →
-    MayReply old.config known old.broken request reply new.broken × SiteStands new (known ++ added)
+-- What a site does with one request, from any writes that its states stood for: the reply is one that it may
+-- give, and whatever the request then adds, the states afterwards stand for that too
+pub record AnswersOne (old new : SiteValue) (request : Request) (reply : Reply) : Type 0 where
+  pub replies : (known : List Write) → SiteStands old known → MayReply old.config known old.broken request reply new.broken
+  pub stands : (known added : List Write) → SiteStands old known → Adds request reply added → SiteStands new (known ++ added)
 
--- What a site that began with no key has done with requests: for every choice of what they added, where all
--- of that agrees, each reply is one that it may give from the writes known before it, and the states stand for all
+-- What a site that began with no key has done with requests: for every choice of what they added, each reply
+-- is one that it may give from the writes known before it, and the states stand for all that was added
 abbrev pub AnswersAll : ConfigValue → SiteValue → List Request → List Reply → Type 0
-AnswersAll config site requests replies = (events : List Event) → Tells events requests replies → Agree (known_after events) →
+AnswersAll config site requests replies = (events : List Event) → Tells events requests replies →
     AllReplied config [] false events site.broken × SiteStands site (known_after events)
 
 -- the map has as many keys as it may have, and this is none of them
 abbrev pub has_no_room : ConfigValue → States → Key → Bool
-has_no_room config states key = not (is_some (get states key)) && (map_len states == config.max_keys)
-
--- the limits, from the map of states
-abbrev pub within : ConfigValue → States → Key → State → Reply → Reply
-within config states key after reply =
-    if is_too_large after then Refused StateTooLarge
-    else if has_no_room config states key && not (is_empty after.context) then Refused Full
-    else reply
+has_no_room config states key = is_full config (is_some (get states key)) (map_len states)
 
 -- the site that holds just these states, where they are not too many
 abbrev pub opened : ConfigValue → List (Key × State) → Result SiteValue Refusal

@@ -2,6 +2,7 @@
 ghost use Rattle.std.specs.Prelude.{◌≡◌, ◌≤◌, IfErr, IfOk, length};
 ghost use Rattle.mvd_wire.specs.Kinds.{spell_state, state_limit};
 ghost use Rattle.mvd_site.specs.Change.{SpellsChange, reply_of};
+ghost use Rattle.mvd_site.specs.Held.{IsSpelled};
 
 use mvd_dots::{Dot, Refusal};
 use mvd_keys::{Key, KeyState};
@@ -38,6 +39,7 @@ impl Change {
     ghost use Rattle.mvd_tree.specs.States.{key_digest};
     ghost use Rattle.mvd_wire.specs.Kinds.{spell_state, state_limit};
     ghost use Rattle.mvd_site.specs.Answer.{spelled};
+    ghost use Rattle.mvd_site.specs.Held.{IsSpelled};
 
     /// The change that gives the key this state, by a put of this dot if it is one.
     pub(crate) fn new(
@@ -98,6 +100,7 @@ impl Change {
     pub(crate) fn into_parts(self) -> (Key, KeyState)
         ensures key { result.0 ≡ self.key }
         ensures state { result.1 ≡ self.state }
+        ensures spelled { IsSpelled self.state }
     {
         (self.key, self.state)
     }

@@ -5,6 +5,7 @@ pub mod changes;
 pub mod config;
 pub mod counted;
 mod held;
+pub mod laws;
 mod listing;
 mod opening;
 mod questions;
@@ -12,4 +13,5 @@ pub mod sites;
 
 pub use changes::{Change, Prepared};
 pub use config::Config;
+pub use opening::may_be_held;
 pub use sites::Site;

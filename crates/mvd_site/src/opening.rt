@@ -1,5 +1,5 @@
 //! What a site is opened with.
-ghost use Rattle.std.specs.Prelude.{◌≡◌, ◌≤◌, IfErr, IfOk, IsTrue, length};
+ghost use Rattle.std.specs.Prelude.{◌≡◌, ◌≤◌, ◌↔◌, IfErr, IfOk, IsTrue, length};
 ghost use Rattle.std.specs.List.{AllByRecursion};
 ghost use Rattle.std.specs.FinMap.{from_entries, is_sorted};
 ghost use Rattle.mvd_dots.specs.declared.refusals.Refusal.TheVariants.{Memory};
@@ -7,19 +7,35 @@ ghost use Rattle.mvd_keys.specs.Key.{key_cmp};
 ghost use Rattle.mvd_tree.specs.States.{key_digest};
 ghost use Rattle.mvd_wire.specs.Kinds.{spell_state, state_limit};
 ghost use Rattle.mvd_site.specs.Answer.{spelled};
-ghost use Rattle.mvd_site.specs.Held.{AreHeld, IsHeldState, key_digests};
+ghost use Rattle.mvd_site.specs.Held.{AreHeld, IsHeldState, IsSpelled, key_digests};
 
 use crate::changes::spelled_key_state;
 use crate::held::Held;
+use crate::sites::STATE_MAX;
 use mvd_dots::Refusal;
 use mvd_keys::{Key, KeyState};
 use mvd_tree::key_digest;
+use mvd_wire::state_length;
 use std::alloc::Global;
+
+/// Whether a site may hold the state: it has seen a dot, and is spelled in at most 1,150,000 bytes.
+pub fn may_be_held(state: &KeyState) -> bool
+    ensures { IsTrue result ↔ IsHeldState state.now }
+{
+    if state_length(state) > STATE_MAX {
+        return false;
+    }
+    if state.context().entries().is_empty() {
+        return false;
+    }
+    true
+}
 
 /// The map of just these states.
 pub fn held_of(alloc: Global, states: Vec<(Key, KeyState)>) -> Result<Held, Refusal>
     requires rising { IsTrue (is_sorted key_cmp states.items) }
     requires held { AllByRecursion (λ entry. IsHeldState entry.1) states.items }
+    requires spelled { AllByRecursion (λ entry. IsSpelled entry.1) states.items }
     ensures held { IfOk result (λ held. held ≡ from_entries states.items) }
     ensures kept { IfOk result AreHeld }
     ensures only { IfErr result (λ refusal. refusal ≡ Memory) }
@@ -38,6 +54,7 @@ pub fn digests_of(
 ) -> Result<Vec<(Key, [u8; 32])>, Refusal>
     requires { AllByRecursion (λ entry. IsHeldState entry.1) states.now }
     ensures digests { IfOk result (λ digests. digests.items ≡ key_digests states.now) }
+    ensures spelled { IfOk result (λ _. AllByRecursion (λ entry. IsSpelled entry.1) states.now) }
     ensures only { IfErr result (λ refusal. refusal ≡ Memory) }
 {
     let mut digests = Vec::new(alloc);
@@ -51,6 +68,7 @@ pub fn digests_of(
 fn digest_of(alloc: Global, key: &Key, state: &KeyState) -> Result<[u8; 32], Refusal>
     requires { length (spell_state state.now) ≤ state_limit }
     ensures digest { IfOk result (λ digest. digest ≡ key_digest spelled key.now state.now) }
+    ensures spelled { IfOk result (λ _. IsSpelled state.now) }
     ensures only { IfErr result (λ refusal. refusal ≡ Memory) }
 {
     let (_, bytes) = spelled_key_state(alloc, key, state)?;

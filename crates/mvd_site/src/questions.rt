@@ -1,13 +1,15 @@
 //! Questions to the hash tree, the indexes and the views: they change nothing, and make no look at the held states.
-ghost use Rattle.std.specs.Prelude.{◌≡◌, ◌≢◌, false, IfErr, IfOk, Ok};
+ghost use Rattle.std.specs.Prelude.{◌≡◌, ◌≢◌, false, length, IfErr, IfOk, Ok, Err};
 ghost use Rattle.std.specs.Option.{option_copied};
 ghost use Rattle.mvd_dots.specs.Answer.{IsAnswer};
 ghost use Rattle.mvd_dots.specs.declared.refusals.Refusal.TheVariants.{Broken};
 ghost use Rattle.mvd_rows.specs.Answers.{find_answer, range_answer, row_answer, rows_answer};
 ghost use Rattle.mvd_rows.specs.Visible.{visible_in};
+ghost use Rattle.mvd_tree.specs.Page.{is_more_after_page, page_of};
 ghost use Rattle.mvd_wire.specs.declared.reply.Reply.TheVariants.{Digests as Told};
 ghost use Rattle.mvd_site.specs.Answer.{bucket_answer, digests, node_digests, places_reply, row_reply, rows_reply};
-ghost use Rattle.mvd_site.specs.Prepared.{IsPlain, IsReady, PreparesReply};
+ghost use Rattle.mvd_site.specs.FromStates.{bucket_refusal, unless_broken};
+ghost use Rattle.mvd_site.specs.Prepared.{IsReady, PreparesReply};
 
 use crate::changes::Prepared;
 use crate::sites::Site;
@@ -18,18 +20,50 @@ use mvd_wire::{Digests, Items, Reply, RowValue};
 use std::alloc::Global;
 
 impl Site {
-    /// The digests of a node and of its children.
-    pub(crate) fn node(&self, path: &Path) -> Reply
-        ensures answer { self.now.broken ≡ false → result ≡ Told (node_digests (digests self.now.states) path.now) }
-        ensures plain { IsPlain result }
+    /// The digests of a node and, above the buckets, of its children. It looks at no held state and takes no memory;
+    /// a broken site refuses it.
+    pub fn node(&self, path: &Path) -> Result<Digests, Refusal>
+        ensures { result ≡ unless_broken self.now.broken (Err Broken) (Ok (node_digests (digests self.now.states) path.now)) }
     {
-        Reply::Digests(Digests {
-            own: self.tree.node(path),
-            children: self.tree.children(path),
-        })
+        if self.is_broken() {
+            Err(Refusal::Broken)
+        } else {
+            Ok(Digests {
+                own: self.tree.node(path),
+                children: self.tree.children(path),
+            })
+        }
     }
 
-    /// A page of a bucket.
+    /// A page of at most 1,000 of a bucket's keys with their digests, those after a key if one is given, and whether more
+    /// follow. It looks at no held state. `BadPath` where the path has not three digits; a broken site refuses it.
+    pub fn bucket(
+        &self,
+        path: &Path,
+        after: Option<&Key>,
+    ) -> Result<(Vec<(Key, [u8; 32])>, bool), Refusal>
+        ensures whole { IfOk result (λ _. self.now.broken ≡ false) }
+        ensures path { IfOk result (λ _. length path.now ≡ 3) }
+        ensures keys { IfOk result (λ page. page.0.items ≡ page_of (digests self.now.states) path.now (option_copied after.entry)) }
+        ensures more { IfOk result (λ page. page.1 ≡ is_more_after_page (digests self.now.states) path.now (option_copied after.entry)) }
+        ensures refused { IfErr result (λ refusal. refusal ≡ bucket_refusal self.now.broken path.now) }
+    {
+        if self.is_broken() {
+            return Err(Refusal::Broken);
+        }
+        self.tree.bucket(path, after)
+    }
+
+    pub(crate) fn prepare_node(&self, path: &Path) -> Result<Prepared, Refusal>
+        requires { self.now.broken ≡ false }
+        ensures answer { PreparesReply (Told (node_digests (digests self.now.states) path.now)) result }
+        ensures ready { IfOk result (IsReady self.now) }
+        ensures whole { IfErr result (λ refusal. refusal ≢ Broken) }
+    {
+        let digests = self.node(path)?;
+        Ok(Prepared::Answer(Reply::Digests(digests)))
+    }
+
     pub(crate) fn prepare_bucket(
         &self,
         path: &Path,
@@ -42,7 +76,7 @@ impl Site {
     {
         // Here it is known that what is held are keys.
         let _held = self.states.len();
-        let (keys, is_more) = self.tree.bucket(path, after)?;
+        let (keys, is_more) = self.bucket(path, after)?;
         Ok(Prepared::Answer(Reply::Keys(Items::new(keys), is_more)))
     }
 

@@ -5,23 +5,26 @@ ghost use Rattle.std.specs.FinMap as map;
 ghost use Rattle.mvd_dots.specs.Answer.{IsAnswer};
 ghost use Rattle.mvd_dots.specs.Dot.{DotValue};
 ghost use Rattle.mvd_dots.specs.declared.refusals.Refusal.{Refusal};
-ghost use Rattle.mvd_dots.specs.declared.refusals.Refusal.TheVariants.{Broken, Memory};
+ghost use Rattle.mvd_dots.specs.declared.refusals.Refusal.TheVariants.{Broken, DotClash, Memory};
 ghost use Rattle.mvd_keys.specs.Key.{key_cmp};
-ghost use Rattle.mvd_keys.specs.State.{IsValid, empty_state};
+ghost use Rattle.mvd_keys.specs.State.{IsValid, clashes, empty_state, join};
 ghost use Rattle.mvd_keys.specs.Writes.{Write, Stands, is_empty};
 ghost use Rattle.mvd_wire.specs.declared.request.Request.TheVariants.{Get, Put, Delete, Push};
-ghost use Rattle.mvd_wire.specs.declared.reply.Reply.TheVariants.{Refused};
+ghost use Rattle.mvd_wire.specs.declared.reply.Reply.TheVariants.{State as Shown, Refused};
 ghost use Rattle.mvd_wire.specs.Replies.{CanBeSent};
-ghost use Rattle.mvd_site.specs.Held.{IsHeldState, IsKept, state_at};
+ghost use Rattle.mvd_site.specs.FromStates.{AnswersFrom, push_reply, unless_broken, with_state};
+ghost use Rattle.mvd_site.specs.Held.{AreHeld, IsHeldState, IsKept, state_at};
 ghost use Rattle.mvd_site.specs.Known.{Adds, Event, IsValidRequest, Tells};
 ghost use Rattle.mvd_rows.specs.Changes.{IsRoomy};
-ghost use Rattle.mvd_site.specs.Prepared.{IsReady, LimitsTo, Prepares, PreparesAt, is_of_state};
+ghost use Rattle.mvd_site.specs.Prepared.{IsReady, LimitsTo, PreparesAt, PreparesFrom, PreparesFromStates, PreparesReply, is_of_state};
 ghost use Rattle.mvd_site.specs.Sites.{AnswersAll, AnswersOne, SiteValue, has_no_room, opened};
 
 use crate::changes::{Change, Prepared, reply_of};
 use crate::config::Config;
+use crate::counted;
+use crate::counted::Looks;
 use crate::held::Held;
-use crate::listing::{change_rows, rows_of};
+use crate::listing::rows_of;
 use crate::opening::{digests_of, held_of};
 use mvd_docs::Document;
 use mvd_dots::{Context, Dot, Refusal};
@@ -33,7 +36,7 @@ use std::alloc::Global;
 use std::marker::Model;
 
 /// The most bytes that a spelled state may have.
-const STATE_MAX: u64 = 1_150_000;
+pub(crate) const STATE_MAX: u64 = 1_150_000;
 
 /// The states of the keys that one site holds, and the answers to requests from them.
 #[derive(Drop)]
@@ -113,6 +116,8 @@ impl Site {
     pub fn key_count(&self) -> u32
         ensures count { result ≡ map.len self.now.states }
         ensures room { result ≤ self.now.config.max_keys }
+        // Each key that is held is one, and each state has seen a dot and has a spelling within the limit.
+        ensures held { AreHeld self.now.states }
     {
         let most = self.config.max_keys();
         let count = self.states.len();
@@ -130,23 +135,24 @@ impl Site {
     /// What a request comes to. Nothing is changed yet, and several changes may be prepared side by side.
     pub fn prepare(&self, request: &Request) -> Result<Prepared, Refusal>
         ensures answer { PreparesAt self.now request.now result }
+        ensures states { PreparesFromStates self.now request.now result }
         ensures ready { IfOk result (IsReady self.now) }
         ensures valid { IfOk result (λ _. IsValidRequest request.now) }
         ensures broken { self.now.broken ≡ true → result ≡ Err Broken }
         ensures whole { IfErr result (λ refusal. refusal ≡ Broken → self.now.broken ≡ true) }
     {
         let mut looks = 0;
-        self.prepare_counted(request, &mut looks)
+        counted::prepare(self, request, &mut looks)
     }
 
     /// What a request comes to, with at most one look at a held key state.
     pub(crate) fn prepare_counted(
         &self,
         request: &Request,
-        looks: &mut u64,
+        looks: &mut Looks,
     ) -> Result<Prepared, Refusal>
         requires { looks.old ≤ 2 ^ 63 }
-        ensures answer { PreparesAt self.now request.now result }
+        ensures states { PreparesFromStates self.now request.now result }
         ensures ready { IfOk result (IsReady self.now) }
         ensures valid { IfOk result (λ _. IsValidRequest request.now) }
         ensures broken { self.now.broken ≡ true → result ≡ Err Broken }
@@ -167,23 +173,43 @@ impl Site {
             Request::Range(field, from, to, after) => self.prepare_range(field, from, to, after),
             Request::Row(view, term) => self.prepare_row(view, term),
             Request::Rows(view, after) => self.prepare_rows(view, after),
-            Request::Node(path) => Ok(Prepared::Answer(self.node(path))),
+            Request::Node(path) => self.prepare_node(path),
             Request::Bucket(path, after) => self.prepare_bucket(path, after.as_ref()),
             Request::Bye => Ok(Prepared::Answer(Reply::Done)),
         }
     }
 
-    fn prepare_get(&self, key: &Key, looks: &mut u64) -> Result<Prepared, Refusal>
+    fn prepare_get(&self, key: &Key, looks: &mut Looks) -> Result<Prepared, Refusal>
         requires { looks.old ≤ 2 ^ 63 }
-        ensures answer { (known : List Write) → Stands self.now.states known → Prepares self.now.config known (Get key.now) result }
+        ensures answer { PreparesReply (Shown (state_at self.now.states key.now)) result }
         ensures ready { IfOk result (IsReady self.now) }
         ensures whole { IfErr result (λ refusal. refusal ≢ Broken) }
         ensures looked { looks.new ≡ looks.old + 1 }
     {
+        let state = self.get_counted(key, looks)?;
+        Ok(Prepared::Answer(Reply::State(state)))
+    }
+
+    /// The state of a key, empty where the key is not held. A broken site refuses it.
+    pub fn get(&self, key: &Key) -> Result<KeyState, Refusal>
+        ensures whole { IfOk result (λ _. self.now.broken ≡ false) }
+        ensures state { IfOk result (λ state. state ≡ state_at self.now.states key.now) }
+        ensures refused { IfErr result (λ refusal. refusal ≡ unless_broken self.now.broken Broken Memory) }
+    {
+        let mut looks = 0;
+        counted::get(self, key, &mut looks)
+    }
+
+    pub(crate) fn get_counted(&self, key: &Key, looks: &mut Looks) -> Result<KeyState, Refusal>
+        requires { looks.old ≤ 2 ^ 63 }
+        ensures state { IfOk result (λ state. state ≡ state_at self.now.states key.now) }
+        ensures kept { IfOk result IsKept }
+        ensures only { IfErr result (λ refusal. refusal ≡ Memory) }
+        ensures looked { looks.new ≡ looks.old + 1 }
+    {
         let empty = KeyState::empty(self.alloc);
         let (_, old) = self.look(key, &empty, looks);
-        let state = old.copy(self.alloc)?;
-        Ok(Prepared::Answer(Reply::State(state)))
+        old.copy(self.alloc)
     }
 
     fn prepare_put(
@@ -191,10 +217,10 @@ impl Site {
         key: &Key,
         seen: &Context,
         document: &Document,
-        looks: &mut u64,
+        looks: &mut Looks,
     ) -> Result<Prepared, Refusal>
         requires { looks.old ≤ 2 ^ 63 }
-        ensures answer { (known : List Write) → Stands self.now.states known → Prepares self.now.config known (Put key.now seen.now document.now) result }
+        ensures answer { PreparesFrom self.now.config self.now.states (Put key.now seen.now document.now) result }
         ensures ready { IfOk result (IsReady self.now) }
         ensures whole { IfErr result (λ refusal. refusal ≢ Broken) }
         ensures looked { looks.new ≡ looks.old + 1 }
@@ -212,10 +238,10 @@ impl Site {
         &self,
         key: &Key,
         seen: &Context,
-        looks: &mut u64,
+        looks: &mut Looks,
     ) -> Result<Prepared, Refusal>
         requires { looks.old ≤ 2 ^ 63 }
-        ensures answer { (known : List Write) → Stands self.now.states known → Prepares self.now.config known (Delete key.now seen.now) result }
+        ensures answer { PreparesFrom self.now.config self.now.states (Delete key.now seen.now) result }
         ensures ready { IfOk result (IsReady self.now) }
         ensures whole { IfErr result (λ refusal. refusal ≢ Broken) }
         ensures looked { looks.new ≡ looks.old + 1 }
@@ -228,14 +254,14 @@ impl Site {
         }
     }
 
-    fn prepare_push(
+    pub(crate) fn prepare_push(
         &self,
         key: &Key,
         pushed: &KeyState,
-        looks: &mut u64,
+        looks: &mut Looks,
     ) -> Result<Prepared, Refusal>
         requires { looks.old ≤ 2 ^ 63 }
-        ensures answer { (known : List Write) → Stands self.now.states known → Prepares self.now.config known (Push key.now pushed.now) result }
+        ensures answer { PreparesFrom self.now.config self.now.states (Push key.now pushed.now) result }
         ensures ready { IfOk result (IsReady self.now) }
         ensures valid { IfOk result (λ _. IsValid pushed.now) }
         ensures whole { IfErr result (λ refusal. refusal ≢ Broken) }
@@ -254,7 +280,7 @@ impl Site {
     }
 
     /// Whether the key is held, and its state or the empty one. This is one look.
-    fn look<'a>(&'a self, key: &Key, empty: &'a KeyState, looks: &mut u64) -> (bool, &'a KeyState)
+    fn look<'a>(&'a self, key: &Key, empty: &'a KeyState, looks: &mut Looks) -> (bool, &'a KeyState)
         requires few { looks.old ≤ 2 ^ 63 }
         requires empty { empty.now ≡ empty_state }
         ensures is_held { result.0 ≡ is_some (map.get self.now.states key.now) }
@@ -319,13 +345,11 @@ impl Site {
         let digest = change.digest();
         let (key, state) = change.into_parts();
         let digested = self.tree.change(&key, Some(digest)).is_ok();
-        if !digested
-            || change_rows(self.alloc, &mut self.rows, &self.states, &key, &state).is_err()
-        {
+        if !digested {
             self.broken = true;
             return Err(Refusal::Broken);
         }
-        match self.states.insert(key, state) {
+        match self.states.replace(self.alloc, &mut self.rows, key, state) {
             Ok(()) => Ok(()),
             Err(_) => {
                 self.broken = true;
@@ -334,9 +358,33 @@ impl Site {
         }
     }
 
+    /// Joins a state to that of a key, as a request to push it does, without a request: done; or the first refusal that
+    /// applies, after which the site is as it was, unless it is broken.
+    pub fn push(&mut self, key: &Key, pushed: &KeyState) -> Result<(), Refusal>
+        ensures answer { AnswersFrom self.old self.new (Push key.now pushed.now) (push_reply result) }
+        ensures joined { OnOk result (self.new ≡ record { config = self.old.config; states = with_state self.old.states key.now (join (state_at self.old.states key.now) pushed.now); broken = false }) }
+        ensures agreed { OnOk result (clashes (state_at self.old.states key.now) pushed.now ≡ false) }
+        ensures clash { IfErr result (λ refusal. refusal ≡ DotClash → clashes (state_at self.old.states key.now) pushed.now ≡ true) }
+        ensures unchanged { IfErr result (λ refusal. refusal ≢ Broken → self.new ≡ self.old) }
+        // Whether it is broken, and for good.
+        ensures told { IfErr result (λ refusal. refusal ≡ Broken → self.new ≡ record { config = self.old.config; states = self.old.states; broken = true }) }
+        ensures stays { self.old.broken ≡ true → result ≡ Err Broken }
+    {
+        if self.broken {
+            return Err(Refusal::Broken);
+        }
+        let mut looks = 0;
+        match counted::prepare_push(self, key, pushed, &mut looks) {
+            Err(refusal) => Err(refusal),
+            Ok(Prepared::Answer(_)) => Ok(()),
+            Ok(Prepared::Change(change)) => self.install(change),
+        }
+    }
+
     /// Answers one request. A refusal other than `Broken` leaves the site as it was.
     pub fn answer(&mut self, request: &Request) -> Reply
         ensures answer { AnswersOne self.old self.new request.now result }
+        ensures states { AnswersFrom self.old self.new request.now result }
         // There is a set of writes that it adds.
         ensures choice { (added : List Write) × Adds request.now result added }
         ensures config { self.new.config ≡ self.old.config }
@@ -355,7 +403,7 @@ impl Site {
                 let reply = change.reply();
                 match self.install(change) {
                     Ok(()) => reply,
-                    Err(refusal) => Reply::Refused(refusal),
+                    Err(broken) => Reply::Refused(broken),
                 }
             }
         }
@@ -371,6 +419,7 @@ impl Site {
         // There is such a choice.
         ensures choice { IfOk result (λ done. (events : List Event) × Tells events requests.now done.1.items) }
         ensures count { IfOk result (λ done. length done.1.items ≡ length requests.now) }
+        ensures config { IfOk result (λ done. done.0.config ≡ config.now) }
         ensures only { IfErr result (λ refusal. refusal ≡ Memory) }
     {
         let mut site = Site::new(alloc, config.copy()?)?;

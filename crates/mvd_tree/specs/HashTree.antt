@@ -1,4 +1,5 @@
--- The hash tree of depth 3 over the digests of the keys that are held. SHA-256 is that of FIPS 180-4.
+-- The hash tree of depth 3 over the digests of the keys that are held, after Merkle's, as replicas compare what they
+-- hold by it (DeCandia et al., Dynamo: Amazon's Highly Available Key-value Store, 2007, section 4.7). SHA-256 is that of FIPS 180-4.
 use Rattle.std.specs.Prelude.{ℕ, zero, suc, ◌-◌, ◌/◌, ◌%◌, Bool, true, false, cond, ◌&&◌, ◌==◌, List, [], ◌∷◌, ◌++◌, length, flat_map, replicate, slice_index, nat_eq}
 use Rattle.std.specs.FinMap.{FinMap, entries, len, retain_keys}
 use Rattle.sha2.specs.Sha256.{sha256}

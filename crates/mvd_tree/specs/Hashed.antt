@@ -1,5 +1,6 @@
--- What equal digests mean where SHA-256 tells the texts of two trees apart.
-use Rattle.std.specs.Prelude.{◌≡◌, ◌≢◌, ◌⊎◌, ℕ, ◌+◌, ◌≤◌, List, length, IsTrue, false, Option, Some}
+-- What equal digests mean where SHA-256 tells the texts of two trees apart: the ground of anti-entropy by hash trees
+-- (DeCandia et al., Dynamo, 2007, section 4.7).
+use Rattle.std.specs.Prelude.{◌≡◌, ◌≢◌, ◌⊎◌, ℕ, ◌+◌, ◌≤◌, List, [], length, IsTrue, false, Option, Some}
 use Rattle.std.specs.FinMap.{FinMap, get, len}
 use Rattle.sha2.specs.Sha256.{sha256}
 use Rattle.mvd_keys.specs.Key.{key_cmp}
@@ -77,3 +78,9 @@ EqualNodesHoldEqualStates {S} spelled =
     (a b : FinMap key_cmp S) → HashesTellApart spelled a b → HaveOneText spelled a b
     → (path : List ℕ) → length path ≤ 3
     → node_digest (digests_of spelled a) path ≡ node_digest (digests_of spelled b) path → SameUnder path a b
+
+-- two maps whose roots have one digest are one map
+abbrev pub EqualRootsAreOfEqualMaps : {S : Type 0} → (List ℕ → S → List ℕ) → Type 0
+EqualRootsAreOfEqualMaps {S} spelled =
+    (a b : FinMap key_cmp S) → HashesTellApart spelled a b → HaveOneText spelled a b
+    → node_digest (digests_of spelled a) [] ≡ node_digest (digests_of spelled b) [] → a ≡ b

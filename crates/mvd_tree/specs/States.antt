@@ -1,4 +1,4 @@
--- The digests of keys in their states, where a key in a state is spelled somehow.
+-- The digests of keys in their states, by SHA-256 (FIPS 180-4), where a key in a state is spelled somehow.
 use Rattle.std.specs.Prelude.{ℕ, List, map}
 use Rattle.std.specs.FinMap.{FinMap, entries, from_entries}
 use Rattle.sha2.specs.Sha256.{sha256}

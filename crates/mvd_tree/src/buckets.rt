@@ -69,6 +69,7 @@ pub(crate) fn filled(
     requires room { count.old + length entries.items < 2 ^ 64 }
     ensures holds { IfOk result (λ buckets. HoldApart buckets.items (from_entries entries.items)) }
     ensures counted { count.new ≤ count.old + length entries.items }
+    ensures at_least { count.old ≤ count.new }
 {
     let mut buckets = empty_buckets(alloc, 4096)?;
     for (key, digest) in entries {

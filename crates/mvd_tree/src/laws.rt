@@ -1,6 +1,6 @@
 //! What holds of the digests of nodes, each law as the contract of an empty function.
 ghost use Rattle.std.specs.Prelude.{ℕ, List};
-ghost use Rattle.mvd_tree.specs.Hashed.{ChangeLeavesOtherNodes, EqualNodesHoldEqualKeys, EqualNodesHoldEqualStates, NodesDependOnKeysUnder};
+ghost use Rattle.mvd_tree.specs.Hashed.{ChangeLeavesOtherNodes, EqualNodesHoldEqualKeys, EqualNodesHoldEqualStates, EqualRootsAreOfEqualMaps, NodesDependOnKeysUnder};
 
 /// A node's digest depends on the keys under it alone.
 pub fn nodes_depend_on_keys_under()
@@ -22,4 +22,9 @@ pub fn equal_nodes_hold_equal_keys()
 /// same states.
 pub fn equal_nodes_hold_equal_states<S>()
     ensures { (spelled : List ℕ → S → List ℕ) → EqualNodesHoldEqualStates spelled }
+{}
+
+/// And two maps whose roots have one digest are one map.
+pub fn equal_roots_are_of_equal_maps<S>()
+    ensures { (spelled : List ℕ → S → List ℕ) → EqualRootsAreOfEqualMaps spelled }
 {}

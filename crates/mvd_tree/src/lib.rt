@@ -7,8 +7,6 @@ pub mod counted;
 mod digest;
 pub mod laws;
 mod nodes;
-#[cfg(test)]
-mod tests;
 mod tree;
 
 ghost use Rattle.std.specs.Prelude.{◌≡◌, Ok};
@@ -29,8 +27,7 @@ pub fn place(alloc: Global, key: &Key) -> Result<Path, Refusal>
     ensures { IsAnswer result (Ok (place_of key.now)) }
 {
     let mut count = 0;
-    let digest = digest::text_digest(key.text().as_bytes(), &mut count);
-    Path::new(alloc, &[digest[0] / 16, digest[0] % 16, digest[1] / 16])
+    counted::place(alloc, key, &mut count)
 }
 
 /// The digest of a key, from the bytes of the key and of its state as they are spelled.
@@ -38,7 +35,7 @@ pub fn key_digest(spelled: &[u8]) -> [u8; 32]
     ensures { result ≡ sha256 spelled.now }
 {
     let mut count = 0;
-    digest::text_digest(spelled, &mut count)
+    counted::key_digest(spelled, &mut count)
 }
 
 /// Whether the keys of these entries rise, as `Tree::open` asks.

@@ -19,6 +19,7 @@ pub(crate) fn node_over(
     requires room { count.old + 1 < 2 ^ 64 }
     ensures digest { result ≡ kept_inner (slice_range nodes.now (number * 16) (number * 16 + 16)) }
     ensures counted { count.new ≤ count.old + 1 }
+    ensures at_least { count.old ≤ count.new }
 {
     inner_digest(&nodes[number * 16..number * 16 + 16], count)
 }
@@ -32,6 +33,7 @@ pub(crate) fn bucket_nodes(
     requires { count.old + length buckets.now < 2 ^ 64 }
     ensures nodes { IfOk result (λ nodes. nodes.items ≡ map (λ bucket. kept_bucket (entries bucket)) buckets.now) }
     ensures counted { count.new ≤ count.old + length buckets.now }
+    ensures at_least { count.old ≤ count.new }
 {
     let mut nodes = Vec::with_capacity(alloc, buckets.len())?;
     for bucket in buckets {
@@ -51,6 +53,7 @@ pub(crate) fn nodes_over(
     requires room { count.old + number < 2 ^ 64 }
     ensures nodes { IfOk result (λ above. AreOver nodes.now number above.items) }
     ensures counted { count.new ≤ count.old + number }
+    ensures at_least { count.old ≤ count.new }
 {
     let mut above = Vec::with_capacity(alloc, number)?;
     for n in 0..number {

@@ -88,6 +88,7 @@ impl Tree {
         requires room { count.old + length entries.items ≤ 2 ^ 63 }
         ensures ok { IfOk result (λ tree. tree ≡ from_entries entries.items) }
         ensures counted { count.new ≤ count.old + length entries.items + 4369 }
+        ensures at_least { count.old ≤ count.new }
     {
         let buckets = filled(alloc, entries, count)?;
         let lowest = bucket_nodes(alloc, &buckets, count)?;
@@ -117,6 +118,7 @@ impl Tree {
         ensures err { IfErr result (λ refusal. refusal ≡ Refusal.Broken) }
         ensures unchanged { OnErr result (self.new ≡ self.old) }
         ensures counted { count.new ≤ count.old + 5 }
+        ensures at_least { count.old ≤ count.new }
     {
         let lowest = bucket_number(key, count);
         let middle = lowest / 16;
@@ -139,7 +141,7 @@ impl Tree {
         ensures unchanged { OnErr result (self.new ≡ self.old) }
     {
         let mut count = 0;
-        self.change_counted(key, digest, &mut count)
+        counted::change(self, key, digest, &mut count)
     }
 
     /// What is kept of a node.
@@ -162,8 +164,18 @@ impl Tree {
         counted::node(self, path, &mut count)
     }
 
-    /// The digests of a node's sixteen children, or `None` for a bucket. It takes no memory.
+    /// The digests of a node's sixteen children, or `None` for a bucket. It takes no memory and makes
+    /// no SHA-256 computation.
     pub fn children(&self, path: &Path) -> Option<[[u8; 32]; 16]>
+        ensures inner { length path.now < 3 → result ≡ Some (children_digests self.now path.now) }
+        ensures bucket { 3 ≤ length path.now → result ≡ None }
+    {
+        let mut count = 0;
+        counted::children(self, path, &mut count)
+    }
+
+    /// What is kept of a node's sixteen children.
+    pub(crate) fn kept_children(&self, path: &Path) -> Option<[[u8; 32]; 16]>
         ensures inner { length path.now < 3 → result ≡ Some (children_digests self.now path.now) }
         ensures bucket { 3 ≤ length path.now → result ≡ None }
     {
@@ -192,8 +204,25 @@ impl Tree {
     }
 
     /// The first thousand keys of a bucket after a key, or of all its keys, with their digests, and
-    /// whether more are left. A path without just three digits is `BadPath`.
+    /// whether more are left. A path without just three digits is `BadPath`. It makes no SHA-256
+    /// computation.
     pub fn bucket(
+        &self,
+        path: &Path,
+        after: Option<&Key>,
+    ) -> Result<(Vec<(Key, [u8; 32])>, bool), Refusal>
+        ensures path { IfOk result (λ _. length path.now ≡ 3) }
+        ensures page { IfOk result (λ page. page.0.items ≡ page_of self.now path.now (option_copied after.entry)) }
+        ensures more { IfOk result (λ page. page.1 ≡ is_more_after_page self.now path.now (option_copied after.entry)) }
+        ensures bad_path { length path.now ≢ 3 → result ≡ Err Refusal.BadPath }
+        ensures err { length path.now ≡ 3 → IfErr result (λ refusal. refusal ≡ Refusal.Memory) }
+    {
+        let mut count = 0;
+        counted::bucket(self, path, after, &mut count)
+    }
+
+    /// The first thousand entries of a bucket after a key, and whether more are left.
+    pub(crate) fn kept_page(
         &self,
         path: &Path,
         after: Option<&Key>,

@@ -75,7 +75,7 @@ two_of_read : (found : Option Data) (text : Text) → document_of_read found ≡
 two_of_read None text e = absurd cc
 two_of_read (Some d) text e = two_of_data d text e
 
-own_of_same : (text : Text) (r : Result Text Refusal) → same_text text r ≡ Ok text → r ≡ Ok text
+pub own_of_same : (text : Text) (r : Result Text Refusal) → same_text text r ≡ Ok text → r ≡ Ok text
 own_of_same text (Ok other) e = own (bytes_eq other text) other text e
   where
     own : (b : Bool) (x y : Text) → cond b (Ok x) (Err NotCanonical) ≡ Ok y → ◌≡◌ {A = Result Text Refusal} (Ok x) (Ok y)
@@ -83,7 +83,7 @@ own_of_same text (Ok other) e = own (bytes_eq other text) other text e
     own false x y e = absurd cc
 own_of_same text (Err f) e = absurd cc
 
-if_text : (b : Bool) (r : Result Text Refusal) (y : Text) → cond b r (Err BadDocument) ≡ Ok y → r ≡ Ok y
+pub if_text : (b : Bool) (r : Result Text Refusal) (y : Text) → cond b r (Err BadDocument) ≡ Ok y → r ≡ Ok y
 if_text true r y e = e
 if_text false r y e = absurd cc
 

@@ -1,5 +1,6 @@
 pub mod Entries
 pub mod Fits
+pub mod Forms
 pub mod FrameLemmas
 pub mod FramesRead
 pub mod KindLaws
@@ -15,5 +16,7 @@ pub mod SentFrames
 pub mod SentPages
 pub mod Siblings
 pub mod Spellings
+pub mod StateTexts
 pub mod Tagged
 pub mod Texts
+pub mod Versions

@@ -1,10 +1,11 @@
--- Frames on a stream.
+-- Frames on a stream: this project's own format (docs/FORMATS.md, Frames).
 use Rattle.std.specs.Prelude.{◌≡◌, ◌≢◌, ◌⊎◌, ℕ, ◌+◌, ◌-◌, ◌&&◌, nat_lt, nat_le, ◌==◌, if◌then◌else◌, List, [], ◌∷◌, ◌++◌, length, take, drop, slice_index, Option, Some, None, Result, Ok, Err, MatchResult}
 use Rattle.std.specs.Int.{w32, from_be_bytes}
 use Rattle.std.specs.Io.KnownBytes.{Appends}
 use Rattle.mvd_dots.specs.declared.refusals.Refusal.{Refusal}
 use Rattle.mvd_dots.specs.declared.refusals.Refusal.TheVariants.{Memory, ReadFailed, Truncated, FrameTooLong}
 use Rattle.mvd_wire.specs.declared.frame.Frame.{Frame}
+use Rattle.mvd_wire.specs.declared.limits.TheConstants.{FRAME_LIMIT}
 use Rattle.mvd_wire.specs.Kind.{◌>>=◌, number}
 
 -- the known bytes grew by a front of the frame
@@ -35,7 +36,7 @@ abbrev pub spell_frame : FrameValue → List ℕ
 spell_frame f = (number w32).spell (length f.payload + 1) ++ f.kind ∷ f.payload
 
 abbrev pub frame_limit : ℕ
-frame_limit = 1200000
+frame_limit = FRAME_LIMIT
 
 -- the length of a frame, or nothing where the bytes end before its first
 unfoldable pub length_at : List ℕ → Result (Option ℕ × List ℕ) Refusal

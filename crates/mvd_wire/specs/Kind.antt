@@ -1,4 +1,4 @@
--- Kinds of values: how a value is spelled, which values have a spelling, and what is read at the front of a
+-- Kinds of values, of which this project's own format (docs/FORMATS.md) is made: how a value is spelled, which values have a spelling, and what is read at the front of a
 -- list of bytes, with the refusal that the first fault from the left has.
 use Rattle.std.specs.Prelude.{◌≡◌, ◌≢◌, ℕ, zero, suc, ◌*◌, ◌^◌, ◌<◌, Bool, IsTrue, nat_lt, nat_le, ◌==◌, if◌then◌else◌, List, [], ◌∷◌, ◌++◌, length, take, drop, Option, Some, None, IfSome, Result, Ok, Err, MatchResult}
 use Rattle.std.specs.Int.{Width, byte_len, from_be_bytes, to_be_bytes}

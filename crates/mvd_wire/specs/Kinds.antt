@@ -1,10 +1,11 @@
--- The spelled values, in either version of the format.
-use Rattle.std.specs.Prelude.{ℕ, ◌+◌, Bool, true, ◌&&◌, nat_lt, nat_le, if◌then◌else◌, List, ◌++◌, length, Option, Some, None, Result, Ok, Err}
+-- The spelled values, in either version of this project's own format (docs/FORMATS.md, Spelled values). A document is
+-- the text of a JSON object (RFC 8259), and texts are UTF-8 (RFC 3629).
+use Rattle.std.specs.Prelude.{◌≡◌, ℕ, ◌≤◌, ◌+◌, Bool, true, ◌&&◌, nat_lt, nat_le, if◌then◌else◌, List, ◌++◌, length, Option, Some, None, Result, Ok, Err}
 use Rattle.std.specs.List.{flat_map}
 use Rattle.std.specs.Int.{Width, w16, w32, w64}
 use Rattle.std.specs.Str.{is_utf8}
 use Rattle.std.specs.Ordering.{is_lt}
-use Rattle.std.specs.FinMap.{entries as pairs, from_entries}
+use Rattle.std.specs.FinMap.{entries as pairs, from_entries, get}
 use Rattle.std.specs.FinSet.{contains}
 use Rattle.mvd_dots.specs.declared.refusals.Refusal.{Refusal}
 use Rattle.mvd_dots.specs.declared.refusals.Refusal.TheVariants.{BadKey, BadContext, BadDocument, DocumentTooLong, StateTooLarge, BadPath, BadBody}
@@ -12,17 +13,18 @@ use Rattle.mvd_dots.specs.declared.dots.TheConstants.{COUNTER_MAX}
 use Rattle.mvd_dots.specs.Dot.{DotValue, dot_cmp}
 use Rattle.mvd_dots.specs.Entry.{EntryValue}
 use Rattle.mvd_dots.specs.Context.{DotSet, AreInRange, entries_of, set_of}
-use Rattle.mvd_docs.specs.Document.{canonical_document_of}
+use Rattle.mvd_docs.specs.Document.{IsDocument, canonical_document_of}
 use Rattle.mvd_keys.specs.Key.{key_of_text}
 use Rattle.mvd_keys.specs.Path.{path_of}
-use Rattle.mvd_keys.specs.State.{State, Text}
+use Rattle.mvd_keys.specs.State.{State, Text, IsValid}
+use Rattle.mvd_wire.specs.declared.limits.TheConstants.{DOCUMENT_LIMIT, OLD_STATE_LIMIT, STATE_LIMIT}
 use Rattle.mvd_wire.specs.declared.version.Version.{Version}
 use Rattle.mvd_wire.specs.declared.version.Version.TheVariants.{First, Second}
 use Rattle.mvd_wire.specs.Kind.{Kind, ◌>>=◌, byte, number, raw, followed, checked, accepted, named, counted}
 
 -- the greatest length of a spelled state
 abbrev pub state_limit : ℕ
-state_limit = 1150000
+state_limit = STATE_LIMIT
 
 -- what differs between the versions of the format
 pub record Layout : Type 0 where
@@ -31,7 +33,7 @@ pub record Layout : Type 0 where
   pub limit : ℕ
 
 abbrev pub layout1 : Layout
-layout1 = record { site = w16; entries = w16; limit = 1000000 }
+layout1 = record { site = w16; entries = w16; limit = OLD_STATE_LIMIT }
 
 abbrev pub layout2 : Layout
 layout2 = record { site = w32; entries = w32; limit = state_limit }
@@ -92,7 +94,7 @@ document_of_bytes bytes = if is_utf8 bytes then canonical_document_of bytes else
 
 unfoldable pub document : Kind Text
 document = named (λ d. (length d, d)) (λ p. p.1) (followed
-    (checked DocumentTooLong (λ n. nat_le n 65536) (number w32)) (λ n.
+    (checked DocumentTooLong (λ n. nat_le n DOCUMENT_LIMIT) (number w32)) (λ n.
     accepted document_of_bytes (raw n)))
 
 unfoldable pub path : Kind (List ℕ)
@@ -128,6 +130,14 @@ state v = checked StateTooLarge (λ s. nat_le (length ((unlimited_state v).spell
 -- the spelling of a key's state
 unfoldable pub spell_state : State → List ℕ
 spell_state = (state layout2).spell
+
+-- what a state with a spelling is: each sibling's dot was seen, all dots are within the limits, each document is
+-- the text of its own value, and the spelling is not too long
+pub record IsInForm (s : State) : Type 0 where
+  pub valid : IsValid s
+  pub in_range : AreInRange s.context
+  pub documents : (d : DotValue) (text : Text) → get s.siblings d ≡ Some text → IsDocument text × (length text ≤ DOCUMENT_LIMIT)
+  pub short : length (spell_state s) ≤ state_limit
 
 -- ---- the spelling alone, which does not depend on what came before
 

@@ -1,4 +1,4 @@
--- Replies: their kind bytes and their payloads.
+-- Replies: their kind bytes and their payloads, by this project's own format (docs/FORMATS.md, Frames).
 use Rattle.std.specs.Prelude.{◌≡◌, ℕ, ◌==◌, nat_le, if◌then◌else◌, length, Bool, true, false, List, [], ◌∷◌, Option, ok_or, Result, Ok, Err}
 use Rattle.std.specs.List.{find}
 use Rattle.mvd_dots.specs.declared.refusals.Refusal.{Refusal}

@@ -1,4 +1,4 @@
--- Requests: their kind bytes and their payloads.
+-- Requests: their kind bytes and their payloads, by this project's own format (docs/FORMATS.md, Frames).
 use Rattle.std.specs.Prelude.{◌≡◌, ℕ, ◌+◌, nat_le, if◌then◌else◌, List, [], ◌∷◌, length, Option, Result, Ok, Err}
 use Rattle.mvd_dots.specs.declared.refusals.Refusal.{Refusal}
 use Rattle.mvd_dots.specs.declared.refusals.Refusal.TheVariants.{BadKind, FrameTooLong, StateTooLarge}

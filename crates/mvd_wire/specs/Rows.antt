@@ -1,4 +1,5 @@
--- The spelled values of questions about indexes, views and the hash tree.
+-- The spelled values of questions about indexes, views and the hash tree: this project's own format (docs/FORMATS.md,
+-- Spelled values). Texts are UTF-8 (RFC 3629), and digests have the 32 bytes of a SHA-256 (FIPS 180-4).
 use Rattle.std.specs.Prelude.{◌≡◌, ⊤, ℕ, ℤ, FitsSigned, ◌+◌, ◌*◌, ◌/◌, ◌%◌, ◌^◌, Bool, ◌||◌, nat_le, ◌==◌, if◌then◌else◌, List, [], ◌∷◌, length, Option, Some, None, MatchOption, Result, Ok, Err}
 use Rattle.std.specs.Int.{w16, w64, w128, cast_unsigned, cast_signed}
 use Rattle.std.specs.Str.{is_utf8}
@@ -10,6 +11,7 @@ use Rattle.mvd_docs.specs.declared.term.Term.TheVariants.{Null, False, True, Who
 use Rattle.mvd_docs.specs.Name.{is_field, is_view_name}
 use Rattle.mvd_docs.specs.TermText.{term_text_of}
 use Rattle.mvd_keys.specs.declared.places.Place.{Place}
+use Rattle.mvd_wire.specs.declared.limits.TheConstants.{PAGE_LIMIT}
 use Rattle.mvd_wire.specs.declared.reply.RowValue.{RowValue}
 use Rattle.mvd_wire.specs.declared.reply.Digests.{Digests}
 use Rattle.mvd_wire.specs.Kind.{Kind, ◌>>=◌, byte, number, raw, followed, checked, accepted, named, named_where, counted, nothing, optional, variant}
@@ -134,7 +136,7 @@ abbrev pub flag : Kind Bool
 flag = named (λ b. if b then 1 else 0) (λ n. n == 1) (checked BadBody (λ n. nat_le n 1) byte)
 
 abbrev pub page_limit : ℕ
-page_limit = 1000
+page_limit = PAGE_LIMIT
 
 abbrev pub item_count : Kind ℕ
 item_count = checked BadBody (λ n. nat_le n page_limit) (number w16)

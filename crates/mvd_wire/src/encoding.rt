@@ -4,6 +4,7 @@ ghost use Rattle.mvd_wire.specs.Kind.{Gives, Kind, Spells, spelled_within};
 ghost use Rattle.mvd_wire.specs.Kinds.{layout2, key, state, state_limit};
 
 use crate::lengths::state_length;
+use crate::limits::STATE_LIMIT;
 use crate::writing::{put_key, put_state};
 use mvd_dots::Refusal;
 use mvd_keys::{Key, KeyState};
@@ -25,7 +26,7 @@ pub fn encode_state(alloc: Global, value: &KeyState) -> Result<Vec<u8>, Refusal>
     ensures exact { Gives (λ v. v.items) result (spelled_within Refusal.StateTooLarge state_limit (state layout2) value.now) }
     ensures spells { IfOk result (λ v. Spells (state layout2) value.now v.items) }
 {
-    if state_length(value) > 1_150_000 {
+    if state_length(value) > STATE_LIMIT {
         return Err(Refusal::StateTooLarge);
     }
     let mut out = Vec::new(alloc);

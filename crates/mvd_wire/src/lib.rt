@@ -6,7 +6,9 @@ mod encoding;
 pub mod frame;
 pub mod items;
 mod lengths;
+mod limits;
 mod lists;
+mod many;
 mod numbers;
 mod replies;
 pub mod reply;
@@ -16,6 +18,7 @@ mod row_writing;
 mod rows;
 mod sending;
 pub mod short;
+mod spelled;
 mod states;
 mod transport;
 mod unique;
@@ -27,6 +30,7 @@ pub use encoding::{encode_key, encode_state};
 pub use frame::Frame;
 pub use items::Items;
 pub use lengths::{empty_state_length, state_length};
+pub use limits::{DOCUMENT_LIMIT, FRAME_LIMIT, OLD_STATE_LIMIT, PAGE_LIMIT, STATE_LIMIT};
 pub use replies::decode_reply;
 pub use reply::{Digests, Reply, RowValue};
 pub use request::Request;
@@ -38,7 +42,6 @@ pub use sending::{
 pub use short::{Short, short_reply};
 pub use states::{decode_old_state, decode_state};
 pub use transport::{read_frame, write_frame};
-pub use unique::{can_be_sent, decoded_again, one_spelling};
-
-#[cfg(test)]
-mod tests;
+pub use unique::{
+    can_be_sent, decoded_again, old_states_are_short, one_spelling, one_text, spelled_states,
+};

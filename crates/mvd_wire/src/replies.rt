@@ -7,7 +7,8 @@ ghost use Rattle.mvd_wire.specs.Rows.{digests, key_entry, page, place, row, view
 ghost use Rattle.mvd_wire.specs.Replies.{SpellsReply, numbered, refusal, reply_of};
 
 use crate::items::Items;
-use crate::lists::{digests_at, key_entry_page_at, place_page_at, view_row_page_at};
+use crate::lists::digests_at;
+use crate::many::page_at;
 use crate::numbers::byte_at;
 use crate::reply::{Digests, Reply, RowValue};
 use crate::requests::nothing_of;
@@ -78,7 +79,7 @@ fn digests_of(payload: &[u8]) -> Result<Digests, Refusal>
 fn places_of(alloc: Global, payload: &[u8]) -> Result<(Items<Place>, bool), Refusal>
     ensures { IsAnswer result (whole (page place) payload.now) }
 {
-    let (items, more, rest) = place_page_at(alloc, payload)?;
+    let (items, more, rest) = page_at(alloc, payload)?;
     if !rest.is_empty() {
         return Err(Refusal::BadBody);
     }
@@ -91,7 +92,7 @@ fn rows_of(
 ) -> Result<(Items<(Term, u64, i128, Option<(i64, i64)>)>, bool), Refusal>
     ensures { IsAnswer result (whole (page view_row) payload.now) }
 {
-    let (items, more, rest) = view_row_page_at(alloc, payload)?;
+    let (items, more, rest) = page_at(alloc, payload)?;
     if !rest.is_empty() {
         return Err(Refusal::BadBody);
     }
@@ -101,7 +102,7 @@ fn rows_of(
 fn keys_of(alloc: Global, payload: &[u8]) -> Result<(Items<(Key, [u8; 32])>, bool), Refusal>
     ensures { IsAnswer result (whole (page key_entry) payload.now) }
 {
-    let (items, more, rest) = key_entry_page_at(alloc, payload)?;
+    let (items, more, rest) = page_at(alloc, payload)?;
     if !rest.is_empty() {
         return Err(Refusal::BadBody);
     }

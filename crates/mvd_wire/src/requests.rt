@@ -6,11 +6,9 @@ ghost use Rattle.mvd_wire.specs.Kinds.{key, path};
 ghost use Rattle.mvd_wire.specs.Requests.{SpellsRequest, request_of, put, delete, find, row_of_view, rows_of_view, bucket, push, range};
 
 use crate::contexts::context_at;
+use crate::many::optional_at;
 use crate::request::Request;
-use crate::rows::{
-    field_at, optional_key_at, optional_place_at, optional_spot_at, optional_term_at, path_at,
-    term_at, view_name_at,
-};
+use crate::rows::{field_at, path_at, term_at, view_name_at};
 use crate::states::state_at;
 use crate::values::{document_at, key_at};
 use crate::version::Version;
@@ -72,7 +70,7 @@ fn find_of(alloc: Global, payload: &[u8]) -> Result<(Field, Term, Option<(Key, D
 {
     let (field, rest) = field_at(alloc, payload)?;
     let (term, rest) = term_at(alloc, rest)?;
-    let (after, rest) = optional_spot_at(alloc, rest)?;
+    let (after, rest) = optional_at(alloc, rest)?;
     if !rest.is_empty() {
         return Err(Refusal::BadBody);
     }
@@ -96,7 +94,7 @@ fn rows_of(alloc: Global, payload: &[u8]) -> Result<(ViewName, Option<Term>), Re
     ensures { IsAnswer result (whole rows_of_view payload.now) }
 {
     let (name, rest) = view_name_at(alloc, payload)?;
-    let (after, rest) = optional_term_at(alloc, rest)?;
+    let (after, rest) = optional_at(alloc, rest)?;
     if !rest.is_empty() {
         return Err(Refusal::BadBody);
     }
@@ -118,7 +116,7 @@ fn bucket_of(alloc: Global, payload: &[u8]) -> Result<(Path, Option<Key>), Refus
     ensures { IsAnswer result (whole bucket payload.now) }
 {
     let (path, rest) = path_at(alloc, payload)?;
-    let (after, rest) = optional_key_at(alloc, rest)?;
+    let (after, rest) = optional_at(alloc, rest)?;
     if !rest.is_empty() {
         return Err(Refusal::BadBody);
     }
@@ -132,7 +130,7 @@ fn range_of(alloc: Global, payload: &[u8]) -> Result<(Field, Term, Term, Option<
     let (field, rest) = field_at(alloc, payload)?;
     let (from, rest) = term_at(alloc, rest)?;
     let (to, rest) = term_at(alloc, rest)?;
-    let (after, rest) = optional_place_at(alloc, rest)?;
+    let (after, rest) = optional_at(alloc, rest)?;
     if !rest.is_empty() {
         return Err(Refusal::BadBody);
     }

@@ -1,12 +1,11 @@
 //! Names, terms, places, rows and digests, put at the end of what was written.
 ghost use Rattle.std.specs.Prelude.{◌≡◌, ◌++◌, ◌∷◌, [], true, length, OnOk, IfSome};
-ghost use Rattle.std.specs.Int.{w16};
 ghost use Rattle.std.specs.List.{All, flat_map};
 ghost use Rattle.mvd_docs.specs.Name.{is_field, is_view_name};
 ghost use Rattle.mvd_keys.specs.Path.{is_path};
-ghost use Rattle.mvd_wire.specs.Kind.{Kind, number, optional};
-ghost use Rattle.mvd_wire.specs.Kinds.{key, path};
-ghost use Rattle.mvd_wire.specs.Rows.{children, digests, ends, field, flag, key_entry, place, row, spot, sum, term, term_text, view_name, view_row, whole_number};
+ghost use Rattle.mvd_wire.specs.Kind.{Kind};
+ghost use Rattle.mvd_wire.specs.Kinds.{path};
+ghost use Rattle.mvd_wire.specs.Rows.{children, digests, ends, field, key_entry, place, row, spot, sum, term, term_text, view_name, view_row, whole_number};
 
 use crate::reply::{Digests, RowValue};
 use crate::writing::{put_dot, put_key, put_len16, put_u64};
@@ -90,7 +89,7 @@ pub fn put_term(out: &mut Vec<u8>, value: &Term) -> Result<(), AllocError>
 }
 
 #[tactic(auto, unfolding(crate::specs::Rows::spot))]
-fn put_spot(out: &mut Vec<u8>, key: &Key, dot: Dot) -> Result<(), AllocError>
+pub fn put_spot(out: &mut Vec<u8>, key: &Key, dot: Dot) -> Result<(), AllocError>
     ensures bytes { OnOk result (out.new.items ≡ out.old.items ++ spot.spell (key.now, dot)) }
     ensures fits { OnOk result (spot.Fits (key.now, dot)) }
 {
@@ -106,62 +105,6 @@ pub fn put_place(out: &mut Vec<u8>, value: &Place) -> Result<(), AllocError>
 {
     put_term(out, &value.term)?;
     put_spot(out, &value.key, value.dot)?;
-    Ok(())
-}
-
-pub fn put_optional_spot(out: &mut Vec<u8>, value: &Option<(Key, Dot)>) -> Result<(), AllocError>
-    ensures bytes { OnOk result (out.new.items ≡ out.old.items ++ (optional spot).spell value.now) }
-    ensures fits { OnOk result ((optional spot).Fits value.now) }
-{
-    match value {
-        None => out.push(0)?,
-        Some((key, dot)) => {
-            out.push(1)?;
-            put_spot(out, key, *dot)?;
-        }
-    }
-    Ok(())
-}
-
-pub fn put_optional_term(out: &mut Vec<u8>, value: &Option<Term>) -> Result<(), AllocError>
-    ensures bytes { OnOk result (out.new.items ≡ out.old.items ++ (optional term).spell value.now) }
-    ensures fits { OnOk result ((optional term).Fits value.now) }
-{
-    match value {
-        None => out.push(0)?,
-        Some(term) => {
-            out.push(1)?;
-            put_term(out, term)?;
-        }
-    }
-    Ok(())
-}
-
-pub fn put_optional_key(out: &mut Vec<u8>, value: &Option<Key>) -> Result<(), AllocError>
-    ensures bytes { OnOk result (out.new.items ≡ out.old.items ++ (optional key).spell value.now) }
-    ensures fits { OnOk result ((optional key).Fits value.now) }
-{
-    match value {
-        None => out.push(0)?,
-        Some(key) => {
-            out.push(1)?;
-            put_key(out, key)?;
-        }
-    }
-    Ok(())
-}
-
-pub fn put_optional_place(out: &mut Vec<u8>, value: &Option<Place>) -> Result<(), AllocError>
-    ensures bytes { OnOk result (out.new.items ≡ out.old.items ++ (optional place).spell value.now) }
-    ensures fits { OnOk result ((optional place).Fits value.now) }
-{
-    match value {
-        None => out.push(0)?,
-        Some(place) => {
-            out.push(1)?;
-            put_place(out, place)?;
-        }
-    }
     Ok(())
 }
 
@@ -210,7 +153,7 @@ pub fn put_row(
 }
 
 #[tactic(auto, unfolding(crate::specs::Rows::view_row))]
-fn put_view_row(
+pub fn put_view_row(
     out: &mut Vec<u8>,
     value: &(Term, u64, i128, Option<(i64, i64)>),
 ) -> Result<(), AllocError>
@@ -223,7 +166,7 @@ fn put_view_row(
 }
 
 #[tactic(auto, unfolding(crate::specs::Rows::key_entry, crate::specs::Rows::digest, crate::specs::Kind::raw))]
-fn put_key_entry(out: &mut Vec<u8>, value: &(Key, [u8; 32])) -> Result<(), AllocError>
+pub fn put_key_entry(out: &mut Vec<u8>, value: &(Key, [u8; 32])) -> Result<(), AllocError>
     ensures bytes { OnOk result (out.new.items ≡ out.old.items ++ key_entry.spell value.now) }
     ensures fits { OnOk result (key_entry.Fits value.now) }
 {
@@ -275,47 +218,5 @@ pub fn put_digests(out: &mut Vec<u8>, value: &Digests) -> Result<(), AllocError>
 {
     out.extend_from_slice(&value.own)?;
     put_children(out, &value.children)?;
-    Ok(())
-}
-
-/// Whether more items follow, and how many are here.
-pub fn put_page_head(out: &mut Vec<u8>, more: bool, len: usize) -> Result<(), AllocError>
-    ensures { OnOk result (out.new.items ≡ out.old.items ++ (flag.spell more ++ (number w16).spell len)) }
-{
-    out.push(u8::from(more))?;
-    put_len16(out, len)?;
-    Ok(())
-}
-
-pub fn put_places(out: &mut Vec<u8>, items: &[Place]) -> Result<(), AllocError>
-    ensures bytes { OnOk result (out.new.items ≡ out.old.items ++ flat_map place.spell items.now) }
-    ensures fit { OnOk result (All place.Fits items.now) }
-{
-    for item in items {
-        put_place(out, item)?;
-    }
-    Ok(())
-}
-
-pub fn put_view_rows(
-    out: &mut Vec<u8>,
-    items: &[(Term, u64, i128, Option<(i64, i64)>)],
-) -> Result<(), AllocError>
-    ensures bytes { OnOk result (out.new.items ≡ out.old.items ++ flat_map view_row.spell items.now) }
-    ensures fit { OnOk result (All view_row.Fits items.now) }
-{
-    for item in items {
-        put_view_row(out, item)?;
-    }
-    Ok(())
-}
-
-pub fn put_key_entries(out: &mut Vec<u8>, items: &[(Key, [u8; 32])]) -> Result<(), AllocError>
-    ensures bytes { OnOk result (out.new.items ≡ out.old.items ++ flat_map key_entry.spell items.now) }
-    ensures fit { OnOk result (All key_entry.Fits items.now) }
-{
-    for item in items {
-        put_key_entry(out, item)?;
-    }
     Ok(())
 }

@@ -1,8 +1,8 @@
 //! Names, terms, places, rows and digests, read at the front of a payload.
 ghost use Rattle.std.specs.Prelude.{◌≡◌};
 ghost use Rattle.mvd_dots.specs.Answer.{IsAnswer};
-ghost use Rattle.mvd_wire.specs.Kind.{Gives, Kind, each, optional};
-ghost use Rattle.mvd_wire.specs.Kinds.{key, path};
+ghost use Rattle.mvd_wire.specs.Kind.{Gives, Kind};
+ghost use Rattle.mvd_wire.specs.Kinds.{path};
 ghost use Rattle.mvd_wire.specs.Rows.{field_of_bytes, field, view_name_of_bytes, view_name, whole_number, text_of_bytes, term_text, term, term_behind, spot, place, sum, ends, row};
 
 use crate::numbers::{byte_at, raw_at, u16_at, u64_at};
@@ -133,7 +133,7 @@ pub fn path_at(alloc: Global, bytes: &[u8]) -> Result<(Path, &[u8]), Refusal>
 
 /// A key and a dot.
 #[tactic(auto, unfolding(crate::specs::Rows::spot))]
-fn spot_at(alloc: Global, bytes: &[u8]) -> Result<((Key, Dot), &[u8]), Refusal>
+pub fn spot_at(alloc: Global, bytes: &[u8]) -> Result<((Key, Dot), &[u8]), Refusal>
     ensures { Gives (λ x. (x.0, x.1.now)) result (spot.read bytes.now) }
 {
     let (key, rest) = key_at(alloc, bytes)?;
@@ -150,66 +150,6 @@ pub fn place_at(alloc: Global, bytes: &[u8]) -> Result<(Place, &[u8]), Refusal>
     let (term, rest) = term_at(alloc, bytes)?;
     let ((key, dot), rest) = spot_at(alloc, rest)?;
     Ok((Place { term, key, dot }, rest))
-}
-
-#[tactic(auto, unfolding(crate::specs::Kind::read_optional))]
-pub fn optional_spot_at(alloc: Global, bytes: &[u8]) -> Result<(Option<(Key, Dot)>, &[u8]), Refusal>
-    ensures { Gives (λ x. (x.0, x.1.now)) result ((optional spot).read bytes.now) }
-{
-    match bytes {
-        [] => Err(Refusal::BadBody),
-        [0, rest @ ..] => Ok((None, rest)),
-        [1, rest @ ..] => {
-            let (spot, rest) = spot_at(alloc, rest)?;
-            Ok((Some(spot), rest))
-        }
-        [_, ..] => Err(Refusal::BadBody),
-    }
-}
-
-#[tactic(auto, unfolding(crate::specs::Kind::read_optional))]
-pub fn optional_term_at(alloc: Global, bytes: &[u8]) -> Result<(Option<Term>, &[u8]), Refusal>
-    ensures { Gives (λ x. (x.0, x.1.now)) result ((optional term).read bytes.now) }
-{
-    match bytes {
-        [] => Err(Refusal::BadBody),
-        [0, rest @ ..] => Ok((None, rest)),
-        [1, rest @ ..] => {
-            let (term, rest) = term_at(alloc, rest)?;
-            Ok((Some(term), rest))
-        }
-        [_, ..] => Err(Refusal::BadBody),
-    }
-}
-
-#[tactic(auto, unfolding(crate::specs::Kind::read_optional))]
-pub fn optional_key_at(alloc: Global, bytes: &[u8]) -> Result<(Option<Key>, &[u8]), Refusal>
-    ensures { Gives (λ x. (x.0, x.1.now)) result ((optional key).read bytes.now) }
-{
-    match bytes {
-        [] => Err(Refusal::BadBody),
-        [0, rest @ ..] => Ok((None, rest)),
-        [1, rest @ ..] => {
-            let (key, rest) = key_at(alloc, rest)?;
-            Ok((Some(key), rest))
-        }
-        [_, ..] => Err(Refusal::BadBody),
-    }
-}
-
-#[tactic(auto, unfolding(crate::specs::Kind::read_optional))]
-pub fn optional_place_at(alloc: Global, bytes: &[u8]) -> Result<(Option<Place>, &[u8]), Refusal>
-    ensures { Gives (λ x. (x.0, x.1.now)) result ((optional place).read bytes.now) }
-{
-    match bytes {
-        [] => Err(Refusal::BadBody),
-        [0, rest @ ..] => Ok((None, rest)),
-        [1, rest @ ..] => {
-            let (place, rest) = place_at(alloc, rest)?;
-            Ok((Some(place), rest))
-        }
-        [_, ..] => Err(Refusal::BadBody),
-    }
 }
 
 #[tactic(auto, unfolding(crate::specs::Rows::ends, crate::specs::Kind::read_optional))]

@@ -6,18 +6,17 @@ ghost use Rattle.mvd_wire.specs.Kinds.{layout2, key, spell_state, state_limit, s
 ghost use Rattle.mvd_wire.specs.Frames.{frame_limit};
 ghost use Rattle.mvd_wire.specs.Requests.{framed, unmeasured, within_limit, put, delete, find, row_of_view, rows_of_view, bucket, push, range, IsRequest, request_bytes, request_frame};
 ghost use Rattle.mvd_wire.specs.Replies.{IsReply, reply_frame, within_page};
-ghost use Rattle.mvd_wire.specs.Rows.{digests, key_entry, page, page_limit, place, row, view_row};
+ghost use Rattle.mvd_wire.specs.Rows.{digests, page, row};
 ghost use Rattle.mvd_wire.specs.declared.request.Request.TheVariants as asked;
 
 use crate::lengths::state_length;
+use crate::limits::{FRAME_LIMIT, PAGE_LIMIT, STATE_LIMIT};
+use crate::many::{put_optional, put_page};
 use crate::reply::{Digests, Reply, RowValue};
 use crate::request::Request;
-use crate::row_writing::{
-    put_digests, put_field, put_key_entries, put_optional_key, put_optional_place,
-    put_optional_spot, put_optional_term, put_page_head, put_path, put_places, put_row, put_term,
-    put_view_name, put_view_rows,
-};
+use crate::row_writing::{put_digests, put_field, put_path, put_row, put_term, put_view_name};
 use crate::short::Short;
+use crate::spelled::Spelled;
 use crate::writing::{put_context, put_document, put_key, put_state};
 use mvd_docs::{Document, Field, Term, ViewName};
 use mvd_dots::{Context, Dot, Refusal};
@@ -47,7 +46,7 @@ fn measured(frame: Vec<u8>) -> Result<Vec<u8>, Refusal>
     ensures bound { IfOk result (λ _. length frame.items ≤ frame_limit + 4) }
 {
     let length = frame.len() - 4;
-    if length > 1_200_000 {
+    if length > FRAME_LIMIT {
         return Err(Refusal::FrameTooLong);
     }
     let [a, b, c, d] = (length as u32).to_be_bytes();
@@ -138,7 +137,7 @@ pub fn encode_push(alloc: Global, key: &Key, state: &KeyState) -> Result<Vec<u8>
     ensures short { length (spell_state state.now) ≤ state_limit → request_frame (asked.Push key.now state.now) ≡ Ok (request_bytes (asked.Push key.now state.now)) }
 {
     let length = state_length(state);
-    if length > 1_150_000 {
+    if length > STATE_LIMIT {
         return Err(Refusal::StateTooLarge);
     }
     let room = key.text().len() + 1 + length as usize;
@@ -159,7 +158,7 @@ fn put_find(
 {
     put_field(out, field)?;
     put_term(out, term)?;
-    put_optional_spot(out, after)?;
+    put_optional(out, after)?;
     Ok(())
 }
 
@@ -208,7 +207,7 @@ fn put_rows_asked(
     ensures fits { OnOk result (rows_of_view.Fits (name.now, after.now)) }
 {
     put_view_name(out, name)?;
-    put_optional_term(out, after)?;
+    put_optional(out, after)?;
     Ok(())
 }
 
@@ -228,7 +227,7 @@ fn put_bucket(out: &mut Vec<u8>, path: &Path, after: &Option<Key>) -> Result<(),
     ensures fits { OnOk result (bucket.Fits (path.now, after.now)) }
 {
     put_path(out, path)?;
-    put_optional_key(out, after)?;
+    put_optional(out, after)?;
     Ok(())
 }
 
@@ -256,7 +255,7 @@ fn put_range(
     put_field(out, field)?;
     put_term(out, from)?;
     put_term(out, to)?;
-    put_optional_place(out, after)?;
+    put_optional(out, after)?;
     Ok(())
 }
 
@@ -320,7 +319,7 @@ fn encode_state_reply(alloc: Global, state: &KeyState) -> Result<Vec<u8>, Refusa
     ensures fits { IfOk result (λ _. (spelled layout2).Fits state.now) }
 {
     let length = state_length(state);
-    if length > 1_150_000 {
+    if length > STATE_LIMIT {
         return Err(Refusal::StateTooLarge);
     }
     let mut frame = head_with_room(alloc, 0xA1, length as usize)?;
@@ -348,80 +347,21 @@ fn encode_digests(alloc: Global, value: &Digests) -> Result<Vec<u8>, Refusal>
     measured(frame)
 }
 
-#[tactic(auto, unfolding(crate::specs::Rows::page, crate::specs::Rows::items))]
-fn put_places_page(out: &mut Vec<u8>, items: &[Place], more: bool) -> Result<(), AllocError>
-    ensures bytes { OnOk result (out.new.items ≡ out.old.items ++ (page place).spell (items.now, more)) }
-    ensures fits { OnOk result (length items.now ≤ page_limit → (page place).Fits (items.now, more)) }
-{
-    put_page_head(out, more, items.len())?;
-    put_places(out, items)?;
-    Ok(())
-}
-
-/// The whole frame of a list of places.
-fn encode_places(alloc: Global, items: &[Place], more: bool) -> Result<Vec<u8>, Refusal>
-    ensures exact { Gives (λ v. v.items) result (within_page items.now (framed 0xA4 ((page place).spell (items.now, more)))) }
-    ensures fits { IfOk result (λ _. (page place).Fits (items.now, more)) }
-{
-    if items.len() > 1000 {
-        return Err(Refusal::BadBody);
-    }
-    let mut frame = head_of(alloc, 0xA4)?;
-    put_places_page(&mut frame, items, more)?;
-    measured(frame)
-}
-
-#[tactic(auto, unfolding(crate::specs::Rows::page, crate::specs::Rows::items))]
-fn put_view_rows_page(
-    out: &mut Vec<u8>,
-    items: &[(Term, u64, i128, Option<(i64, i64)>)],
-    more: bool,
-) -> Result<(), AllocError>
-    ensures bytes { OnOk result (out.new.items ≡ out.old.items ++ (page view_row).spell (items.now, more)) }
-    ensures fits { OnOk result (length items.now ≤ page_limit → (page view_row).Fits (items.now, more)) }
-{
-    put_page_head(out, more, items.len())?;
-    put_view_rows(out, items)?;
-    Ok(())
-}
-
-/// The whole frame of a list of rows of a view.
-fn encode_view_rows(
+/// The whole frame of a list.
+fn encode_page<T: Spelled>(
     alloc: Global,
-    items: &[(Term, u64, i128, Option<(i64, i64)>)],
+    kind: u8,
+    items: &[T],
     more: bool,
 ) -> Result<Vec<u8>, Refusal>
-    ensures exact { Gives (λ v. v.items) result (within_page items.now (framed 0xA6 ((page view_row).spell (items.now, more)))) }
-    ensures fits { IfOk result (λ _. (page view_row).Fits (items.now, more)) }
+    ensures exact { Gives (λ v. v.items) result (within_page items.now (framed kind ((page T.kind).spell (items.now, more)))) }
+    ensures fits { IfOk result (λ _. (page T.kind).Fits (items.now, more)) }
 {
-    if items.len() > 1000 {
+    if items.len() > PAGE_LIMIT {
         return Err(Refusal::BadBody);
     }
-    let mut frame = head_of(alloc, 0xA6)?;
-    put_view_rows_page(&mut frame, items, more)?;
-    measured(frame)
-}
-
-#[tactic(auto, unfolding(crate::specs::Rows::page, crate::specs::Rows::items))]
-fn put_keys_page(out: &mut Vec<u8>, items: &[(Key, [u8; 32])], more: bool) -> Result<(), AllocError>
-    ensures bytes { OnOk result (out.new.items ≡ out.old.items ++ (page key_entry).spell (items.now, more)) }
-    ensures fits { OnOk result (length items.now ≤ page_limit → (page key_entry).Fits (items.now, more)) }
-{
-    put_page_head(out, more, items.len())?;
-    put_key_entries(out, items)?;
-    Ok(())
-}
-
-/// The whole frame of a list of keys with their digests.
-fn encode_keys(alloc: Global, items: &[(Key, [u8; 32])], more: bool) -> Result<Vec<u8>, Refusal>
-    ensures exact { Gives (λ v. v.items) result (within_page items.now (framed 0xA8 ((page key_entry).spell (items.now, more)))) }
-    ensures fits { IfOk result (λ _. (page key_entry).Fits (items.now, more)) }
-{
-    if items.len() > 1000 {
-        return Err(Refusal::BadBody);
-    }
-    let mut frame = head_of(alloc, 0xA8)?;
-    put_keys_page(&mut frame, items, more)?;
+    let mut frame = head_of(alloc, kind)?;
+    put_page(&mut frame, items, more)?;
     measured(frame)
 }
 
@@ -440,11 +380,11 @@ pub fn encode_reply(alloc: Global, reply: &Reply) -> Result<Vec<u8>, Refusal>
     match reply {
         Reply::State(state) => encode_state_reply(alloc, state),
         Reply::Written(dot) => encode_short(alloc, &Short::written(*dot)),
-        Reply::Places(places, more) => encode_places(alloc, places.as_slice(), *more),
+        Reply::Places(places, more) => encode_page(alloc, 0xA4, places.as_slice(), *more),
         Reply::Row(row) => encode_row_reply(alloc, row),
-        Reply::Rows(rows, more) => encode_view_rows(alloc, rows.as_slice(), *more),
+        Reply::Rows(rows, more) => encode_page(alloc, 0xA6, rows.as_slice(), *more),
         Reply::Digests(digests) => encode_digests(alloc, digests),
-        Reply::Keys(keys, more) => encode_keys(alloc, keys.as_slice(), *more),
+        Reply::Keys(keys, more) => encode_page(alloc, 0xA8, keys.as_slice(), *more),
         Reply::Done => encode_short(alloc, &Short::done()),
         Reply::Refused(refusal) => encode_short(alloc, &Short::refused(*refusal)),
     }

@@ -1,11 +1,12 @@
 //! The states of keys, read.
-ghost use Rattle.std.specs.Prelude.{◌≡◌, ◌+◌, length, IfOk, Some, None, Ok};
+ghost use Rattle.std.specs.Prelude.{◌≡◌, ◌≤◌, ◌+◌, length, IfOk, Some, None, Ok};
 ghost use Rattle.mvd_dots.specs.Answer.{IsAnswer};
 ghost use Rattle.mvd_keys.specs.State.{AreParts, State, pair_of, pairs_of};
 ghost use Rattle.mvd_wire.specs.Kind.{Gives, Kind, each, whole, Spells};
-ghost use Rattle.mvd_wire.specs.Kinds.{comes_after, sibling, siblings, unlimited_state, state, layout_of, layout1, layout2, Layout};
+ghost use Rattle.mvd_wire.specs.Kinds.{comes_after, sibling, siblings, unlimited_state, state, layout_of, layout1, layout2, Layout, spell_state, state_limit};
 
 use crate::contexts::context_at;
+use crate::limits::{OLD_STATE_LIMIT, STATE_LIMIT};
 use crate::numbers::u16_at;
 use crate::values::{document_at, dot_at};
 use crate::version::Version;
@@ -118,12 +119,12 @@ fn unlimited_state_at(
 }
 
 /// The greatest length of a spelled state.
-fn limit_of(version: Version) -> usize
+fn limit_of(version: Version) -> u64
     ensures { result ≡ (layout_of version).limit }
 {
     match version {
-        Version::First => 1_000_000,
-        Version::Second => 1_150_000,
+        Version::First => OLD_STATE_LIMIT,
+        Version::Second => STATE_LIMIT,
     }
 }
 
@@ -132,7 +133,7 @@ pub fn state_at(alloc: Global, version: Version, bytes: &[u8]) -> Result<(KeySta
     ensures { Gives (λ x. (x.0, x.1.now)) result ((state (layout_of version)).read bytes.now) }
 {
     let (state, rest) = unlimited_state_at(alloc, version, bytes)?;
-    if bytes.len() - rest.len() > limit_of(version) {
+    if (bytes.len() - rest.len()) as u64 > limit_of(version) {
         return Err(Refusal::StateTooLarge);
     }
     Ok((state, rest))
@@ -166,6 +167,9 @@ pub fn decode_old_state(alloc: Global, bytes: &[u8]) -> Result<KeyState, Refusal
     ensures found { IfOk result (λ s. Spells (state layout1) s bytes.now) }
     ensures only { (s : State) → Spells (state layout1) s bytes.now → IsAnswer result (Ok s) }
     ensures exact { IsAnswer result (whole (state layout1) bytes.now) }
+    // What is decoded has a spelling in the second version too, which is not too long.
+    ensures spelled { IfOk result (λ s. (state layout2).Fits s) }
+    ensures short { IfOk result (λ s. length (spell_state s) ≤ state_limit) }
 {
     decode(alloc, Version::First, bytes)
 }

@@ -6,6 +6,7 @@ ghost use Rattle.mvd_wire.specs.Frames.{AppendsFront, EndsReading, Reads, frame_
 ghost use Rattle.mvd_wire.specs.Kind.{Kind, number};
 
 use crate::frame::Frame;
+use crate::limits::FRAME_LIMIT;
 use mvd_dots::Refusal;
 use std::alloc::Global;
 use std::io::{Read, Write};
@@ -92,7 +93,7 @@ fn read_length<R: Read>(reader: &mut R) -> Result<Option<u32>, Refusal>
         return Err(Refusal::Truncated);
     }
     let length = number_of(&head);
-    if length == 0 || length > 1_200_000 {
+    if length == 0 || length as usize > FRAME_LIMIT {
         return Err(Refusal::FrameTooLong);
     }
     Ok(Some(length))

@@ -8,7 +8,7 @@ ghost use Rattle.mvd_keys.specs.Path.{is_path};
 ghost use Rattle.mvd_keys.specs.State.{State, Text};
 ghost use Rattle.mvd_wire.specs.Frames.{FrameValue, frame_limit, frame_at, spell_frame};
 ghost use Rattle.mvd_wire.specs.Kind.{Kind, IsPrefixFree, optional};
-ghost use Rattle.mvd_wire.specs.Kinds.{layout1, layout2, dot, entry, context, sibling, key, document, path, state, spell_state, state_limit};
+ghost use Rattle.mvd_wire.specs.Kinds.{layout1, layout2, dot, entry, context, sibling, key, document, path, state, spell_state, state_limit, IsInForm};
 ghost use Rattle.mvd_wire.specs.Rows.{digests, ends, field, key_entry, page, place, row, spot, sum, term, view_name, view_row};
 ghost use Rattle.mvd_wire.specs.Requests.{SpellsRequest, IsRequest, request_of, kind_of as request_kind, payload_of as request_payload, request_bytes, request_frame};
 ghost use Rattle.mvd_wire.specs.Replies.{CanBeSent, IsReply, reply_of, kind_of as reply_kind, payload_of as reply_payload, is_short, reply_bytes};
@@ -56,6 +56,22 @@ pub fn one_spelling()
     ensures frames_read { (bytes : List ℕ) (f : FrameValue) (rest : List ℕ) → All (λ b. b < 256) bytes → frame_at bytes ≡ Ok (Some f, rest) → (bytes ≡ spell_frame f ++ rest) × (length f.payload + 1 ≤ frame_limit) }
     // Where no frame is read, there is no byte.
     ensures no_frame { (bytes : List ℕ) (rest : List ℕ) → frame_at bytes ≡ Ok (None, rest) → (bytes ≡ []) × (rest ≡ []) }
+{}
+
+/// A key and then a state, as both are hashed for the tree: equal texts are one key in one state.
+pub fn one_text()
+    ensures { (k l : Text) (s t : State) → is_key k ≡ true → is_key l ≡ true → (state layout2).Fits s → (state layout2).Fits t → key.spell k ++ spell_state s ≡ key.spell l ++ spell_state t → (k ≡ l) × (s ≡ t) }
+{}
+
+/// Which states have a spelling, so also what a decoded state is.
+pub fn spelled_states()
+    ensures in_form { (s : State) → (state layout2).Fits s → IsInForm s }
+    ensures spelled { (s : State) → IsInForm s → (state layout2).Fits s }
+{}
+
+/// What the first version of the format spells in 1,000,000 bytes the second spells in 1,150,000.
+pub fn old_states_are_short()
+    ensures { (s : State) → (state layout1).Fits s → (state layout2).Fits s × (length (spell_state s) ≤ state_limit) }
 {}
 
 /// What has a spelling is decoded from it.

@@ -5,6 +5,7 @@ ghost use Rattle.mvd_keys.specs.Key.{key_of_text};
 ghost use Rattle.mvd_wire.specs.Kind.{Gives, Kind, number};
 ghost use Rattle.mvd_wire.specs.Kinds.{dot, key, document, document_of_bytes, layout_of};
 
+use crate::limits::DOCUMENT_LIMIT;
 use crate::numbers::{byte_at, raw_at, u16_at, u32_at, u64_at};
 use crate::version::Version;
 use mvd_docs::Document;
@@ -80,7 +81,7 @@ pub fn document_at(alloc: Global, bytes: &[u8]) -> Result<(Document, &[u8]), Ref
     ensures { Gives (λ x. (x.0, x.1.now)) result (document.read bytes.now) }
 {
     let (count, rest) = u32_at(bytes)?;
-    if count > 65536 {
+    if count > DOCUMENT_LIMIT {
         return Err(Refusal::DocumentTooLong);
     }
     let (text, rest) = raw_at(count as usize, rest)?;

@@ -59,6 +59,7 @@ pub fn put_dot(out: &mut Vec<u8>, value: Dot) -> Result<(), AllocError>
 pub fn put_key(out: &mut Vec<u8>, value: &Key) -> Result<(), AllocError>
     ensures bytes { OnOk result (out.new.items ≡ out.old.items ++ key.spell value.now) }
     ensures key { is_key value.now ≡ true }
+    ensures fits { key.Fits value.now }
 {
     let text = value.text().as_bytes();
     out.push(text.len() as u8)?;

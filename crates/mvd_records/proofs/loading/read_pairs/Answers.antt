@@ -1,19 +1,32 @@
-use Rattle.std.proofs.Common.{◌≡◌, ◌++◌, ◌∷◌, ℕ, List, [], map, Option, Some, None, refl, sym, ap, subst, ◌∙◌, rules, arith}
-use Rattle.sqlite.specs.Order.{Row}
-use Rattle.sqlite.specs.Effect.{Database}
+use Rattle.std.proofs.Common.{◌≡◌, inl, IsTrue, ◌++◌, ◌∷◌, [], Some, None, refl, sym, ap, subst, ◌∙◌, rules, arith}
 use Rattle.sqlite.specs.Listing.{understood}
-use Rattle.sqlite.specs.State.{State, HasCleanDisk, IsUnchanged, Survives, Shown, Begins, CommitsShowing, FailsToQuery}
-use Rattle.sqlite.specs.Held.{state}
-use Rattle.sqlite.proofs.StateLemmas.{survives_weaker}
-use Rattle.sqlite.proofs.Callers.{IsPlain, given_begin, begun_plain, never_commits}
+use Rattle.sqlite.specs.State.{HasCleanDisk, KeepsCommit, Survives, Shown, CommitsShowing, FailsToQuery}
+use Rattle.sqlite.specs.Held.{Held, state}
+use Rattle.sqlite.proofs.Callers.{IsPlain, given_begin, begun_plain}
 use Rattle.std.specs.Prelude.{option_copied}
 use Rattle.sqlite.specs.Given.{Advances, row_if}
 use Rattle.sqlite.proofs.StateLemmas.{survives_then}
 use Rattle.sqlite.proofs.Callers.{unchanged_then}
+use Rattle.sqlite.proofs.InsideLemmas.{unchanged_keeps, keeps_then}
+use Rattle.mvd_records.specs.Records.{IsSound}
 use Rattle.mvd_records.specs.States.{shown_entry}
 use Rattle.mvd_records.proofs.Calls.{not_shown, sound_before}
-use Rattle.mvd_records.proofs.Streams.{begun_open, shown_since, begins_since, not_pairs, one_more, all_form}
+use Rattle.mvd_records.proofs.Streams.{fault_keeps, begun_open, shown_since, begins_since, not_pairs, one_more, all_form}
+use Rattle.mvd_records.proofs.loading.read_pairs.Given.{Over}
 use Rattle.mvd_records.proofs.loading.read_pairs.Goals as goal
+
+-- the connection goes back as the rows leave it
+same_advance : (g : Over) (c : goal.After-drop-pairs-in-Err-advance g) → c.advance.new.self.conn.now ≡ c.conn-in-Err-advance-1.given.0
+same_advance g c = search rules
+
+same_pushed : (g : Over) (c : goal.After-drop-pairs-in-Err-push_row g) → c.advance.new.self.conn.now ≡ c.conn-in-Err-push_row-1.given.0
+same_pushed g c = search rules
+
+same_ended : (g : Over) (c : goal.After-conn-in-None-1 g) → c.advance.new.self.conn.now ≡ c.conn-in-None-1.given.0
+same_ended g c = search rules
+
+same_last : (g : Over) (c : goal.After-drop-pairs-2 g) → c.rows.rows.conn.now ≡ c.conn-2-1.given.0
+same_last g c = search rules
 
 pub returns-in-Err-clause-kept : goal.returns-in-Err-clause-kept
 returns-in-Err-clause-kept g c clean plain =
@@ -56,19 +69,19 @@ returns-in-None-clause-shown g c clean plain =
     let old = state g.S.Store c.args.conn.now in
     let before = c.rows.rows.conn.now in
     let now = c.advance.new.self.conn.now in
-    let late : HasCleanDisk (state g.S.Store now) = search rules in
+    let late = subst (λ (h : Held _). HasCleanDisk (state g.S.Store h)) (sym (same_ended g c)) clean in
     let was = c.rows.invariant.given plain (omega (arith, c.in-Ok-advance.ensures.survives.clean)) in
     let none : row_if c.advance.new.self.has_row now ≡ None = sym c.get.ensures ∙ ap option_copied c.in-None.is in
     let shown = subst (Advances g.S.Store before now) none (c.in-Ok-advance.ensures.ok late) c.args.sql.now [] was.0 was.1 in
     let all : Shown c.args.sql.now [] old (state g.S.Store now) was.0 = shown_since c.args.sql.now [] old (state g.S.Store before) (state g.S.Store now) was.0 plain was.2 shown in
-    (was.0, search rules, was.3)
+    (was.0, subst (λ (h : Held _). Shown c.args.sql.now [] old (state g.S.Store h) was.0) (same_ended g c) all, was.3)
 
 pub returns-in-Err-push_row-clause-damaged : goal.returns-in-Err-push_row-clause-damaged
 returns-in-Err-push_row-clause-damaged g c clean plain is =
     let old = state g.S.Store c.args.conn.now in
     let before = c.rows.rows.conn.now in
     let now = c.advance.new.self.conn.now in
-    let late : HasCleanDisk (state g.S.Store now) = search rules in
+    let late = subst (λ (h : Held _). HasCleanDisk (state g.S.Store h)) (sym (same_pushed g c)) clean in
     let was = c.rows.invariant.given plain (omega (arith, c.in-Ok-advance.ensures.survives.clean)) in
     let some : row_if c.advance.new.self.has_row now ≡ Some c.in-Some.row.now = sym c.get.ensures ∙ ap option_copied c.in-Some.is in
     let given = subst (Advances g.S.Store before now) some (c.in-Ok-advance.ensures.ok late) c.args.sql.now [] was.0 was.1 in
@@ -95,3 +108,55 @@ rows-preserved g c =
       form = rw pushed.pushed (all_form _ (shown_entry c.in-Some.row.now) c.rows.invariant.form pushed.form);
       rising = pushed.rising c.rows.invariant.rising;
     }
+
+pub returns-in-Err-advance-clause-before : goal.returns-in-Err-advance-clause-before
+returns-in-Err-advance-clause-before g c =
+    subst (λ (h : Held _). IsSound (state g.S.Store h) → IsSound (state g.S.Store c.args.conn.now)) (same_advance g c) (λ it. c.rows.invariant.before (sound_before (state g.S.Store c.rows.rows.conn.now) (state g.S.Store c.advance.new.self.conn.now) c.in-Err-advance.ensures.survives.clean (λ clean. fault_keeps (state g.S.Store c.rows.rows.conn.now) (state g.S.Store c.advance.new.self.conn.now) c.in-Err-advance.field-0 (c.in-Err-advance.ensures.kept clean)) it))
+
+pub returns-in-Err-advance-clause-kept : goal.returns-in-Err-advance-clause-kept
+returns-in-Err-advance-clause-kept g c =
+    subst (λ (h : Held _). HasCleanDisk (state g.S.Store h) → IsPlain (understood (state g.S.Store c.args.conn.now).now.schema c.args.sql.now) → KeepsCommit (state g.S.Store c.args.conn.now) (state g.S.Store h)) (same_advance g c) (λ late plain. keeps_then (state g.S.Store c.args.conn.now) (state g.S.Store c.rows.rows.conn.now) (state g.S.Store c.advance.new.self.conn.now) (unchanged_keeps (state g.S.Store c.args.conn.now) (state g.S.Store c.rows.rows.conn.now) (inl (c.rows.invariant.given plain (omega (arith, c.in-Err-advance.ensures.survives.clean, late))).2)) (fault_keeps (state g.S.Store c.rows.rows.conn.now) (state g.S.Store c.advance.new.self.conn.now) c.in-Err-advance.field-0 (c.in-Err-advance.ensures.kept late)))
+
+pub returns-in-Err-advance-clause-survives : goal.returns-in-Err-advance-clause-survives
+returns-in-Err-advance-clause-survives g c =
+    subst (λ (h : Held _). Survives (state g.S.Store c.args.conn.now) (state g.S.Store h) (CommitsShowing c.args.sql.now [] (state g.S.Store c.args.conn.now))) (same_advance g c) (survives_then (state g.S.Store c.args.conn.now) (state g.S.Store c.rows.rows.conn.now) (state g.S.Store c.advance.new.self.conn.now) _ _ (CommitsShowing c.args.sql.now [] (state g.S.Store c.args.conn.now)) (λ _ db it. it) (λ _ db none. absurd none) c.rows.invariant.survives c.in-Err-advance.ensures.survives)
+
+pub returns-in-Err-push_row-clause-before : goal.returns-in-Err-push_row-clause-before
+returns-in-Err-push_row-clause-before g c =
+    subst (λ (h : Held _). IsSound (state g.S.Store h) → IsSound (state g.S.Store c.args.conn.now)) (same_pushed g c) (λ it. c.rows.invariant.before (record { clean = omega (arith, c.in-Ok-advance.ensures.survives.clean, it.clean); is_open = (c.in-Ok-advance.ensures.same it.clean).0.was_open }))
+
+pub returns-in-Err-push_row-clause-kept : goal.returns-in-Err-push_row-clause-kept
+returns-in-Err-push_row-clause-kept g c =
+    subst (λ (h : Held _). HasCleanDisk (state g.S.Store h) → IsPlain (understood (state g.S.Store c.args.conn.now).now.schema c.args.sql.now) → KeepsCommit (state g.S.Store c.args.conn.now) (state g.S.Store h)) (same_pushed g c) (λ late plain. unchanged_keeps (state g.S.Store c.args.conn.now) (state g.S.Store c.advance.new.self.conn.now) (inl (unchanged_then (state g.S.Store c.args.conn.now) (state g.S.Store c.rows.rows.conn.now) (state g.S.Store c.advance.new.self.conn.now) (c.rows.invariant.given plain (omega (arith, c.in-Ok-advance.ensures.survives.clean, late))).2 (c.in-Ok-advance.ensures.same late))))
+
+pub returns-in-Err-push_row-clause-survives : goal.returns-in-Err-push_row-clause-survives
+returns-in-Err-push_row-clause-survives g c =
+    subst (λ (h : Held _). Survives (state g.S.Store c.args.conn.now) (state g.S.Store h) (CommitsShowing c.args.sql.now [] (state g.S.Store c.args.conn.now))) (same_pushed g c) (survives_then (state g.S.Store c.args.conn.now) (state g.S.Store c.rows.rows.conn.now) (state g.S.Store c.advance.new.self.conn.now) _ _ (CommitsShowing c.args.sql.now [] (state g.S.Store c.args.conn.now)) (λ _ db it. it) (λ _ db none. absurd none) c.rows.invariant.survives c.in-Ok-advance.ensures.survives)
+
+pub returns-in-None-clause-before : goal.returns-in-None-clause-before
+returns-in-None-clause-before g c =
+    subst (λ (h : Held _). IsSound (state g.S.Store h) → IsSound (state g.S.Store c.args.conn.now)) (same_ended g c) (λ it. c.rows.invariant.before (record { clean = omega (arith, c.in-Ok-advance.ensures.survives.clean, it.clean); is_open = (c.in-Ok-advance.ensures.same it.clean).0.was_open }))
+
+pub returns-in-None-clause-kept : goal.returns-in-None-clause-kept
+returns-in-None-clause-kept g c =
+    subst (λ (h : Held _). HasCleanDisk (state g.S.Store h) → IsPlain (understood (state g.S.Store c.args.conn.now).now.schema c.args.sql.now) → KeepsCommit (state g.S.Store c.args.conn.now) (state g.S.Store h)) (same_ended g c) (λ late plain. unchanged_keeps (state g.S.Store c.args.conn.now) (state g.S.Store c.advance.new.self.conn.now) (inl (unchanged_then (state g.S.Store c.args.conn.now) (state g.S.Store c.rows.rows.conn.now) (state g.S.Store c.advance.new.self.conn.now) (c.rows.invariant.given plain (omega (arith, c.in-Ok-advance.ensures.survives.clean, late))).2 (c.in-Ok-advance.ensures.same late))))
+
+pub returns-in-None-clause-survives : goal.returns-in-None-clause-survives
+returns-in-None-clause-survives g c =
+    subst (λ (h : Held _). Survives (state g.S.Store c.args.conn.now) (state g.S.Store h) (CommitsShowing c.args.sql.now [] (state g.S.Store c.args.conn.now))) (same_ended g c) (survives_then (state g.S.Store c.args.conn.now) (state g.S.Store c.rows.rows.conn.now) (state g.S.Store c.advance.new.self.conn.now) _ _ (CommitsShowing c.args.sql.now [] (state g.S.Store c.args.conn.now)) (λ _ db it. it) (λ _ db none. absurd none) c.rows.invariant.survives c.in-Ok-advance.ensures.survives)
+
+pub returns-in-None-clause-open : goal.returns-in-None-clause-open
+returns-in-None-clause-open g c =
+    subst (λ (h : Held _). HasCleanDisk (state g.S.Store h) → IsTrue (state g.S.Store h).is_open) (same_ended g c) (λ late. (c.in-Ok-advance.ensures.same late).0.is_open)
+
+pub returns-clause-before : goal.returns-clause-before
+returns-clause-before g c =
+    subst (λ (h : Held _). IsSound (state g.S.Store h) → IsSound (state g.S.Store c.args.conn.now)) (same_last g c) (c.rows.invariant.before)
+
+pub returns-clause-kept : goal.returns-clause-kept
+returns-clause-kept g c =
+    subst (λ (h : Held _). HasCleanDisk (state g.S.Store h) → IsPlain (understood (state g.S.Store c.args.conn.now).now.schema c.args.sql.now) → KeepsCommit (state g.S.Store c.args.conn.now) (state g.S.Store h)) (same_last g c) (λ late plain. unchanged_keeps (state g.S.Store c.args.conn.now) (state g.S.Store c.rows.rows.conn.now) (inl (c.rows.invariant.given plain late).2))
+
+pub returns-clause-survives : goal.returns-clause-survives
+returns-clause-survives g c =
+    subst (λ (h : Held _). Survives (state g.S.Store c.args.conn.now) (state g.S.Store h) (CommitsShowing c.args.sql.now [] (state g.S.Store c.args.conn.now))) (same_last g c) (c.rows.invariant.survives)

@@ -1,13 +1,8 @@
-use Rattle.std.proofs.Common.{◌≡◌, ℕ, Ok, Err, Result, OnOk, IsTrue}
-use Rattle.sqlite.specs.Held.{state}
-use Rattle.sqlite.specs.State.{State, HasCleanDisk}
-use Rattle.mvd_records.specs.Tables.{all_tables}
-use Rattle.mvd_records.specs.Records.{StaysInside, Ran, IsOurs, HasTables, KeepsRows}
+use Rattle.mvd_records.specs.Records.{Ran}
 use Rattle.mvd_records.proofs.Checked.{on_then}
 use Rattle.mvd_records.proofs.Inside.{stays_then, early}
 use Rattle.mvd_records.proofs.Made.{all_made}
 use Rattle.mvd_records.proofs.OpenTexts.{states2_text}
-use Rattle.mvd_records.proofs.open.make_tables.Given.{Over}
 use Rattle.mvd_records.proofs.open.make_tables.Goals as goal
 
 pub returns-in-Err-run-clause-stays : goal.returns-in-Err-run-clause-stays

@@ -1,4 +1,3 @@
-use Rattle.std.proofs.Common.{◌≡◌, ℕ, arith}
 use Rattle.mvd_records.proofs.Marked.{two_rows, found, two_long}
 use Rattle.mvd_records.proofs.open.marks_in.Goals as goal
 

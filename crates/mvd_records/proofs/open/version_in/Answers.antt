@@ -1,7 +1,5 @@
-use Rattle.std.proofs.Common.{◌≡◌, ◌≢◌, ◌≤◌, ℕ, [], rules, arith}
+use Rattle.std.proofs.Common.{◌≢◌, ◌≤◌, [], rules, arith}
 use Rattle.mvd_records.proofs.Marked.{version_low, marks_same, map_some}
-use Rattle.mvd_records.proofs.Marking.{told_marks}
-use Rattle.mvd_records.proofs.Inside.{shown_inside}
 use Rattle.mvd_records.proofs.open.version_in.Goals as goal
 
 pub returns-then-version-lt1-clause-told : goal.returns-then-version-lt1-clause-told

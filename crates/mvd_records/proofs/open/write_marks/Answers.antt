@@ -1,7 +1,7 @@
-use Rattle.std.proofs.Common.{◌≡◌, ℕ, pos, List, [], ◌∷◌, Ok, Err, IsTrue}
+use Rattle.std.proofs.Common.{pos, [], ◌∷◌, Ok, Err, IsTrue}
 use Rattle.sqlite.specs.declared.types.Value.TheVariants.{Int}
 use Rattle.sqlite.specs.Held.{state}
-use Rattle.sqlite.specs.State.{HasCleanDisk, Executes}
+use Rattle.sqlite.specs.State.{HasCleanDisk}
 use Rattle.mvd_records.specs.Records.{Ran}
 use Rattle.mvd_records.proofs.Inside.{execute_stays, ran_inside}
 use Rattle.mvd_records.proofs.Marking.{marked}
@@ -20,10 +20,7 @@ pub returns-in-Ok-clause-inside : goal.returns-in-Ok-clause-inside
 returns-in-Ok-clause-inside g c clean inside = (ran g c clean inside).inside
 
 pub returns-in-Ok-clause-marked : goal.returns-in-Ok-clause-marked
-returns-in-Ok-clause-marked g c clean inside has none = (let it = ran g c clean inside in marked _ _ c.args.site it.count has none it.did).0
-
-pub returns-in-Ok-clause-states : goal.returns-in-Ok-clause-states
-returns-in-Ok-clause-states g c clean inside has none = (let it = ran g c clean inside in marked _ _ c.args.site it.count has none it.did).1
+returns-in-Ok-clause-marked g c clean inside has none = (let it = ran g c clean inside in marked _ _ c.args.site it.count has none it.did)
 
 pub returns-in-Err-clause-stays : goal.returns-in-Err-clause-stays
 returns-in-Err-clause-stays g c = execute_stays _ _ _ _ (Err c.in-Err.field-0) c.in-Err.ensures.runs c.in-Err.ensures.survives

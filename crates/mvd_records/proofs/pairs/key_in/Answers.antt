@@ -4,7 +4,6 @@ use Rattle.sqlite.specs.Order.{Row, column}
 use Rattle.sqlite.specs.Value.{owned}
 use Rattle.sqlite.specs.declared.types.Value.{Value}
 use Rattle.sqlite.specs.declared.types.Value.TheVariants.{Text}
-use Rattle.mvd_records.specs.Pairs.{IsPair}
 use Rattle.mvd_records.proofs.KeyTexts.{key_utf8}
 use Rattle.mvd_records.proofs.pairs.key_in.Goals as goal
 

@@ -1,9 +1,4 @@
-use Rattle.mvd_records.proofs.Taking.{takes}
-use Rattle.mvd_records.proofs.Finishing.{finishes}
-use Rattle.mvd_records.proofs.Loaded.{loaded_new, loaded_old, keys_new, keys_old, bad_new, bad_old}
-use Rattle.std.proofs.Common.{◌≡◌, ℕ, subst, rules, arith}
-use Rattle.std.specs.Bool.{MatchBool}
-use Rattle.mvd_records.specs.Records.{HasNone, AreDisjoint}
+use Rattle.std.proofs.Common.{◌≡◌, rules}
 use Rattle.mvd_records.proofs.statements.check.Goals as goal
 
 pub returns-in-Ok-true-clause-damaged : goal.returns-in-Ok-true-clause-damaged

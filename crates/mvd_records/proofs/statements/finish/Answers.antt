@@ -1,10 +1,9 @@
-use Rattle.std.proofs.Common.{◌≡◌, ◌∙◌, ℕ, OnOk, OnErr, IsTrue, subst, sym, rules, arith}
-use Rattle.sqlite.specs.Effect.{Database}
+use Rattle.std.proofs.Common.{◌≡◌, ◌∙◌, ℕ, subst, sym}
 use Rattle.sqlite.specs.Held.{state}
-use Rattle.sqlite.specs.State.{State, HasCleanDisk}
-use Rattle.mvd_records.specs.Records.{IsSound, HoldsRecords, KeepsStates}
-use Rattle.mvd_records.proofs.Checked.{always, on_err, reads_leave}
-use Rattle.mvd_records.proofs.Finished.{asked_then}
+use Rattle.sqlite.specs.State.{State}
+use Rattle.mvd_records.specs.Records.{IsSound, HoldsRecords}
+use Rattle.mvd_records.proofs.Checked.{on_then, on_err, reads_leave}
+use Rattle.mvd_records.proofs.Finished.{asked_then, ended}
 use Rattle.mvd_records.proofs.statements.finish.Given.{Over}
 use Rattle.mvd_records.proofs.statements.finish.Goals as goal
 
@@ -33,19 +32,14 @@ returns-in-Ok-true-clause-survives g c = reads_leave _ _ _ c.has_old.ensures.rea
 pub returns-in-Err-clause-survives : goal.returns-in-Err-clause-survives
 returns-in-Err-clause-survives g c = reads_leave _ _ _ c.has_old.ensures.reads
 
-pub returns-clause-marked : goal.returns-clause-marked
-returns-clause-marked g c version site it holds = c.set_version.ensures.marked version site it (held g c version site it holds)
-
-pub returns-clause-states : goal.returns-clause-states
-returns-clause-states g c version site it holds =
-    subst (λ (d : Database). OnOk c.set_version.result (KeepsStates d (new g c).committed)) (same g c version site it holds) (c.set_version.ensures.states version site it (held g c version site it holds))
-
-pub returns-clause-moved : goal.returns-clause-moved
-returns-clause-moved g c version site it holds =
-    always c.set_version.result _ (rw c.in-Ok-false.field-0-test at (c.in-Ok-false.ensures.any version site (c.set_version.ensures.before it) holds))
+pub returns-clause-finished : goal.returns-clause-finished
+returns-clause-finished g c version site it holds =
+    let none = rw c.in-Ok-false.field-0-test at (c.in-Ok-false.ensures.any version site (c.set_version.ensures.before it) holds) in
+    on_then c.set_version.result _ _ (ended site _ _ _ (same g c version site it holds) none) (c.set_version.ensures.marked version site it (held g c version site it holds))
 
 pub returns-clause-unchanged : goal.returns-clause-unchanged
 returns-clause-unchanged g c version site it holds = on_err c.set_version.result _ _ (λ kept. kept ∙ same g c version site it holds) (c.set_version.ensures.unchanged it)
 
 pub returns-clause-survives : goal.returns-clause-survives
-returns-clause-survives g c = asked_then _ _ _ c.has_old.ensures.reads (λ clean. c.in-Ok-false.ensures.open clean) c.set_version.ensures.survives
+returns-clause-survives g c =
+    asked_then _ _ _ c.has_old.ensures.reads (λ clean. c.in-Ok-false.ensures.open clean) (λ version site it holds. rw c.in-Ok-false.field-0-test at (c.in-Ok-false.ensures.any version site it holds)) c.set_version.ensures.survives

@@ -1,14 +1,12 @@
-use Rattle.std.proofs.Common.{◌≡◌, List, ℕ, ◌∷◌, [], Bool, Ok, Err, Result, IfOk, IsTrue, arith, rules}
 use Rattle.sqlite.specs.Held.{state}
-use Rattle.sqlite.specs.State.{HasCleanDisk}
-use Rattle.mvd_records.specs.Records.{IsSettled, HoldsRecords, IsSound}
+use Rattle.mvd_records.specs.Records.{IsSettled}
 use Rattle.mvd_records.proofs.Texts.{any_both_text, any_both_plain}
 use Rattle.mvd_records.proofs.Checked.{only_reads, reads_nothing, tells_both, if_ok}
 use Rattle.mvd_records.proofs.statements.has_both.Given.{Over}
 use Rattle.mvd_records.proofs.statements.has_both.Goals as goal
 
 settled : (g : Over) (c : goal.After-shows_any g) → IsSettled (state g.S.Store c.args.conn.now)
-settled g c = let yes : IsTrue c.is_settled.result = search rules in c.is_settled.ensures yes
+settled g c = c.is_settled.ensures c.if-not-is_settled.false
 
 pub returns-clause-reads : goal.returns-clause-reads
 returns-clause-reads g c = only_reads any_both_text _ _ any_both_plain (settled g c) c.shows_any.ensures.before c.shows_any.ensures.kept c.shows_any.ensures.survives

@@ -1,5 +1,4 @@
-use Rattle.std.proofs.Common.{◌≡◌, List, ℕ, ◌∷◌, [], Ok, IsTrue, arith, rules}
-use Rattle.sqlite.specs.Held.{state}
+use Rattle.std.proofs.Common.{arith}
 use Rattle.mvd_records.proofs.Calls.{sound_before, not_shown, shown_open, shown_on, shown_keeps}
 use Rattle.mvd_records.proofs.statements.shows_any.Goals as goal
 

@@ -6,7 +6,7 @@ use Rattle.mvd_rows.specs.Changes.{updates_each}
 use Rattle.mvd_rows.specs.Stands.{definitions_of}
 use Rattle.mvd_rows.specs.Visible.{visible_in}
 use Rattle.mvd_rows.proofs.ByKey.{few_visible}
-use Rattle.mvd_rows.proofs.Standing.{counted_differ, has_siblings, most_updates, stands_after}
+use Rattle.mvd_rows.proofs.Standing.{differ_updates, differ_within, has_siblings, most_updates, stands_after}
 use Rattle.mvd_rows.proofs.counted.change.Goals as goal
 
 pub replace-requires-clause-room : goal.replace-requires-clause-room
@@ -23,18 +23,24 @@ pub returns-in-Ok-clause-stands : goal.returns-in-Ok-clause-stands
 returns-in-Ok-clause-stands c = λ defs states stands is.
     stands_after _ _ defs states c.args.key.now c.args.old.now c.args.new.now _ _ c.siblings.ensures.entries c.siblings-2.ensures.entries stands is c.in-Ok.ensures.defs c.in-Ok.ensures.rows
 
+pub returns-in-Ok-clause-differing : goal.returns-in-Ok-clause-differing
+returns-in-Ok-clause-differing c = differ_updates c.args.old.now c.args.new.now _ _ _ _
+    (differ_within c.args.old.now c.args.new.now _ _ c.args.rows.now _ _ c.siblings.ensures.entries c.siblings-2.ensures.entries c.replace.ensures.counts)
+
+pub returns-in-Ok-clause-looks : goal.returns-in-Ok-clause-looks
+returns-in-Ok-clause-looks c = differ_within c.args.old.now c.args.new.now _ _ c.args.rows.now _ _ c.siblings.ensures.entries c.siblings-2.ensures.entries c.replace.ensures.counts
+
 pub returns-in-Ok-clause-most : goal.returns-in-Ok-clause-most
-returns-in-Ok-clause-most c = record {
-  updates = most_updates c.args.old.now c.args.new.now (updates_each (definitions_of c.args.rows.now)) _ _
-      (counted_differ c.args.old.now c.args.new.now _ _ c.args.rows.now _ _ c.siblings.ensures.entries c.siblings-2.ensures.entries c.replace.ensures.counts.updates);
-  least_updates = c.replace.ensures.counts.least_updates;
-  least_looks = c.replace.ensures.counts.least_looks;
-}
+returns-in-Ok-clause-most c = most_updates c.args.old.now c.args.new.now (updates_each (definitions_of c.args.rows.now)) _ _ _
+    (differ_within c.args.old.now c.args.new.now _ _ c.args.rows.now _ _ c.siblings.ensures.entries c.siblings-2.ensures.entries c.replace.ensures.counts)
+
+pub returns-in-Err-clause-differing : goal.returns-in-Err-clause-differing
+returns-in-Err-clause-differing c = differ_updates c.args.old.now c.args.new.now _ _ _ _
+    (differ_within c.args.old.now c.args.new.now _ _ c.args.rows.now _ _ c.siblings.ensures.entries c.siblings-2.ensures.entries c.replace.ensures.counts)
+
+pub returns-in-Err-clause-looks : goal.returns-in-Err-clause-looks
+returns-in-Err-clause-looks c = differ_within c.args.old.now c.args.new.now _ _ c.args.rows.now _ _ c.siblings.ensures.entries c.siblings-2.ensures.entries c.replace.ensures.counts
 
 pub returns-in-Err-clause-most : goal.returns-in-Err-clause-most
-returns-in-Err-clause-most c = record {
-  updates = most_updates c.args.old.now c.args.new.now (updates_each (definitions_of c.args.rows.now)) _ _
-      (counted_differ c.args.old.now c.args.new.now _ _ c.args.rows.now _ _ c.siblings.ensures.entries c.siblings-2.ensures.entries c.replace.ensures.counts.updates);
-  least_updates = c.replace.ensures.counts.least_updates;
-  least_looks = c.replace.ensures.counts.least_looks;
-}
+returns-in-Err-clause-most c = most_updates c.args.old.now c.args.new.now (updates_each (definitions_of c.args.rows.now)) _ _ _
+    (differ_within c.args.old.now c.args.new.now _ _ c.args.rows.now _ _ c.siblings.ensures.entries c.siblings-2.ensures.entries c.replace.ensures.counts)

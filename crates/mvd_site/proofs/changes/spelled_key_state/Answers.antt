@@ -22,4 +22,5 @@ returns-clause-spells c =
     let sized : c.len-key_length.result ≡ length c.in_ok-bytes.bytes.items = search rules in
     subst (λ n. SpellsChange key state n c.extend_from_slice.new.self.items) (sym sized)
     (behind key state c.in_ok-bytes.bytes.items c.in_ok-state.state.items c.extend_from_slice.new.self.items c.in_ok-bytes.ensures.spells.1 (sym is)
-    (c.in_ok-extend_from_slice.ensures.items ∙ ap (λ l. c.in_ok-bytes.bytes.items ++ l) c.deref.ensures.value))
+    (c.in_ok-extend_from_slice.ensures.items ∙ ap (λ l. c.in_ok-bytes.bytes.items ++ l) c.deref.ensures.value)
+    (record { fits = c.in_ok-state.ensures.spells.0 }))

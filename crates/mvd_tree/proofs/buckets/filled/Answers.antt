@@ -6,7 +6,7 @@ use Rattle.mvd_tree.proofs.Opened.{hold_none, hold_more}
 use Rattle.mvd_tree.proofs.buckets.filled.Goals as goal
 
 pub loop-key-init : goal.loop-key-init
-loop-key-init c = (tt, tt, c.into_iter-key-iterator.ensures.into_iter_gives.0, hold_none c.in_ok-buckets.buckets.items c.in_ok-buckets.ensures.0 c.in_ok-buckets.ensures.1, omega arith)
+loop-key-init c = (tt, tt, c.into_iter-key-iterator.ensures.into_iter_gives.0, hold_none c.in_ok-buckets.buckets.items c.in_ok-buckets.ensures.0 c.in_ok-buckets.ensures.1, omega arith, omega arith)
 
 pub loop-key-preserved : goal.loop-key-preserved
 loop-key-preserved c =
@@ -20,4 +20,5 @@ loop-key-preserved c =
       hold_more c.loop-key.buckets.items c.put_in.new.buckets.items c.loop-key.yielded rest entry c.bucket_number-number.result c.loop-key.invariant.3
           (subst (λ es. T (is_sorted key_cmp es)) (sym all) c.requires.rising) c.bucket_number-number.ensures.number c.in_ok-put_in.ensures,
       omega (arith, longer, c.loop-key.invariant.4, c.bucket_number-number.ensures.counted),
+      omega (arith, c.loop-key.invariant.5, c.bucket_number-number.ensures.counted),
     )

@@ -11,3 +11,4 @@ invariant-loop-key l =
     × (l.yielded ++ into_iter_items l.key-iterator ≡ l.fn.entries.items)
     × HoldApart l.buckets.items (from_entries l.yielded)
     × (l.count ≤ l.fn.count + length l.yielded)
+    × (l.fn.count ≤ l.count)

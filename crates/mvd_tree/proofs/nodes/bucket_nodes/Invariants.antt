@@ -7,3 +7,4 @@ abbrev pub invariant-loop-bucket : goal.invariant-loop-bucket
 invariant-loop-bucket l =
     (l.nodes.items ≡ map (λ bucket. kept_bucket (entries bucket)) (take l.bucket-index l.buckets))
     × (l.count ≤ l.fn.count + l.bucket-index)
+    × (l.fn.count ≤ l.count)

@@ -12,4 +12,4 @@ unfolding refusal
 returns-in-Refused-clause-fits c = rw c.in-Refused.is (always c.encode_short-in-Refused.result (Unit {0}) tt)
 
 pub returns-in-Rows-clause-exact : goal.returns-in-Rows-clause-exact
-returns-in-Rows-clause-exact c = rw (c.in-Rows.is, ← c.as_slice-in-Rows.ensures) c.encode_view_rows.ensures.exact
+returns-in-Rows-clause-exact c = rw (c.in-Rows.is, ← c.as_slice-in-Rows.ensures) c.encode_page-in-Rows.ensures.exact

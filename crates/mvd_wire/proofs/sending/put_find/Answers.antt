@@ -4,4 +4,4 @@ use Rattle.mvd_wire.proofs.sending.put_find.Goals as goal
 
 pub returns-clause-fits : goal.returns-clause-fits
 unfolding find
-returns-clause-fits c = (field_fits c.args.field.now c.put_field.ensures.field, (c.in_ok-put_term.ensures.fits, c.in_ok-put_optional_spot.ensures.fits))
+returns-clause-fits c = (field_fits c.args.field.now c.put_field.ensures.field, (c.in_ok-put_term.ensures.fits, c.in_ok-put_optional.ensures.fits))

@@ -1,11 +1,11 @@
-use Rattle.std.proofs.Common.{◌≡◌, true, false, Ok, refl, sym, subst}
-use Rattle.mvd_site.specs.Prepared.{IsReady, Prepares}
-use Rattle.mvd_site.specs.Sites.{AnswersOne}
+use Rattle.std.proofs.Common.{◌≡◌, true, false, Ok, refl, sym, ap, subst}
+use Rattle.mvd_site.specs.Prepared.{IsReady, Prepares, PreparesFrom}
+use Rattle.mvd_site.specs.Sites.{AnswersOne, SiteValue}
 use Rattle.mvd_dots.specs.declared.refusals.Refusal.TheVariants.{Broken}
 use Rattle.mvd_wire.specs.declared.reply.Reply.TheVariants.{Refused}
 use Rattle.mvd_wire.specs.Replies.{CanBeSent}
 use Rattle.mvd_site.proofs.Outcomes.{change_plain, err_is, refused_fits, whole_where_ok}
-use Rattle.mvd_site.proofs.Prepare.{answers_broken, answers_by_answer, answers_by_change, answers_by_refusal}
+use Rattle.mvd_site.proofs.Prepare.{answers_broken, answers_by_answer, answers_by_breaking, answers_by_change, answers_by_refusal, answers_from_answer, answers_from_breaking, answers_from_change, answers_from_refusal}
 use Rattle.mvd_site.proofs.Runs.{fitting}
 use Rattle.mvd_site.proofs.sites.Site.answer.Goals as goal
 
@@ -33,6 +33,32 @@ returns-in-Ok-clause-answer c =
     c.in-Ok.ensures.ok.1 ready.1.seen c.reply-reply.ensures
     (λ known stands. subst (λ p. Prepares c.args.self.now.config known c.args.request.now (Ok p)) c.in-Ok-Change.field-0-is (c.in-Ok-Change.ensures.answer whole known stands))
 
+pub returns-in-Err-install-clause-answer : goal.returns-in-Err-install-clause-answer
+returns-in-Err-install-clause-answer c =
+    let old = c.args.self.now in
+    let whole : old.broken ≡ false = whole_where_ok old.broken c.in-Ok-Change.field-0 c.in-Ok-Change.ensures.broken in
+    subst (λ r. AnswersOne old c.install.new.self c.args.request.now (Refused r)) (sym c.in-Err-install.ensures.err.0)
+    (answers_by_breaking old c.install.new.self c.args.request.now c.in-Ok-Change.change whole (ap (λ (s : SiteValue). s.broken) c.in-Err-install.ensures.err.1)
+    (λ known stands. subst (λ p. Prepares old.config known c.args.request.now (Ok p)) c.in-Ok-Change.field-0-is (c.in-Ok-Change.ensures.answer whole known stands)))
+
+pub returns-in-Err-clause-states : goal.returns-in-Err-clause-states
+returns-in-Err-clause-states c = answers_from_refusal c.args.self.now c.args.request.now c.in-Err.refusal (λ whole. c.in-Err.ensures.states whole)
+
+pub returns-in-Ok-Answer-clause-states : goal.returns-in-Ok-Answer-clause-states
+returns-in-Ok-Answer-clause-states c =
+    answers_from_answer c.args.self.now c.args.request.now c.in-Ok-Answer.reply
+    (λ whole. subst (λ p. PreparesFrom c.args.self.now.config c.args.self.now.states c.args.request.now (Ok p)) c.in-Ok-Answer.field-0-is (c.in-Ok-Answer.ensures.states whole))
+
+pub returns-in-Ok-clause-states : goal.returns-in-Ok-clause-states
+returns-in-Ok-clause-states c =
+    answers_from_change c.args.self.now c.install.new.self c.args.request.now c.in-Ok-Change.change c.reply-reply.result c.in-Ok.ensures.ok.1 c.reply-reply.ensures
+    (λ whole. subst (λ p. PreparesFrom c.args.self.now.config c.args.self.now.states c.args.request.now (Ok p)) c.in-Ok-Change.field-0-is (c.in-Ok-Change.ensures.states whole))
+
+pub returns-in-Err-install-clause-states : goal.returns-in-Err-install-clause-states
+returns-in-Err-install-clause-states c =
+    answers_from_breaking c.args.self.now c.install.new.self c.args.request.now c.in-Ok-Change.change c.in-Err-install.broken c.in-Err-install.ensures.err.0 c.in-Err-install.ensures.err.1
+    (λ whole. subst (λ p. PreparesFrom c.args.self.now.config c.args.self.now.states c.args.request.now (Ok p)) c.in-Ok-Change.field-0-is (c.in-Ok-Change.ensures.states whole))
+
 pub returns-in-Ok-Answer-clause-choice : goal.returns-in-Ok-Answer-clause-choice
 returns-in-Ok-Answer-clause-choice c = fitting c.args.request.now c.in-Ok-Answer.reply c.in-Ok-Answer.ensures.valid
 
@@ -49,4 +75,4 @@ pub returns-in-Ok-clause-fits : goal.returns-in-Ok-clause-fits
 returns-in-Ok-clause-fits c = subst CanBeSent (sym c.reply-reply.ensures) (change_plain c.in-Ok-Change.change.dot).fits
 
 pub returns-in-Err-install-clause-fits : goal.returns-in-Err-install-clause-fits
-returns-in-Err-install-clause-fits c = refused_fits c.in-Err-install.refusal
+returns-in-Err-install-clause-fits c = refused_fits c.in-Err-install.broken

@@ -14,12 +14,12 @@ invariant_of-self-in-Ok c =
     let key = c.args.change.key in
     let states = c.self.inside.states in
     let room : has_no_room c.self.inside.config states key ≡ false = ap (λ (s : SiteValue). has_no_room s.config s.states key) c.self.view_is ∙ c.requires.room in
-    let is : c.insert.new.self ≡ insert states key c.args.change.state =
+    let is : c.replace.new.self ≡ insert states key c.args.change.state =
     c.in-Ok.ensures.ok ∙ (λ i. insert states (c.into_parts-key.ensures.key i) (c.into_parts-key.ensures.state i)) in
     let config = c.self.inside.config in
     let digested : c.change-2.new.self ≡ changed c.self.inside.tree key (Some (key_digest spelled key c.args.change.state)) =
     where_ok c.change-2.result _ c.change-2.ensures.ok (sym c.if-not-digested.ensures.negation) ∙ (λ i. changed c.self.inside.tree (c.into_parts-key.ensures.key i) (Some (c.digest-digest.ensures i))) in
-    let listed : IsRowsOf c.self.inside.rows config.defs states → IsRowsOf c.change_rows.new.rows config.defs (insert states key c.args.change.state) =
-    λ rows. subst₂ (λ k s. IsRowsOf c.change_rows.new.rows config.defs (insert states k s)) c.into_parts-key.ensures.key c.into_parts-key.ensures.state
-    (where_ok c.change_rows.result _ c.change_rows.ensures.stand c.if-is_err.ensures.value config.defs rows) in
-    keeps_inserted config states c.insert.new.self c.self.inside.tree c.change-2.new.self c.self.inside.rows c.change_rows.new.rows c.self.inside.broken key c.args.change.state c.self.invariant room is digested listed
+    let listed : IsRowsOf c.self.inside.rows config.defs states → IsRowsOf c.replace.new.rows config.defs (insert states key c.args.change.state) =
+    λ rows. subst₂ (λ k s. IsRowsOf c.replace.new.rows config.defs (insert states k s)) c.into_parts-key.ensures.key c.into_parts-key.ensures.state
+    (c.in-Ok.ensures.stand config.defs rows) in
+    keeps_inserted config states c.replace.new.self c.self.inside.tree c.change-2.new.self c.self.inside.rows c.replace.new.rows c.self.inside.broken key c.args.change.state c.self.invariant room is digested listed

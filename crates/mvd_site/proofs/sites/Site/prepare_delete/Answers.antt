@@ -12,8 +12,8 @@ limited-requires-clause-grows c =
     λ none. sym done ∙ after_delete-empty old c.args.seen.now c.look-is_held.ensures.kept.valid (ap (λ (s : State). is_empty s.context) done ∙ none)
 
 pub returns-in-Ok-clause-answer : goal.returns-in-Ok-clause-answer
-returns-in-Ok-clause-answer c = λ known stands.
+returns-in-Ok-clause-answer c =
     let old = c.look-is_held.result.1.now in
     let done : after_delete old c.args.seen.now ≡ c.in-Ok.state = cc (c.in-Ok.ensures) in
-    limited_delete c.args.self.now known c.args.key.now c.args.seen.now c.in-Ok.state c.limited.result stands
+    limited_delete c.args.self.now c.args.key.now c.args.seen.now c.in-Ok.state c.limited.result
     (sym done ∙ ap (λ s. after_delete s c.args.seen.now) c.look-is_held.ensures.state) c.limited.ensures.limits

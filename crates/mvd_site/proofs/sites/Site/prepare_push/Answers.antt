@@ -10,14 +10,14 @@ use Rattle.mvd_site.proofs.Prepare.{limited_push, pushed_clash}
 use Rattle.mvd_site.proofs.sites.Site.prepare_push.Goals as goal
 
 pub returns-in-Err-clause-answer : goal.returns-in-Err-clause-answer
-returns-in-Err-clause-answer c = λ known stands.
+returns-in-Err-clause-answer c =
     let old = c.look-is_held.result.1.now in
     let pushed = c.args.pushed.now in
     let small : is_too_large pushed ≡ false = is_short pushed c.state_length.result c.state_length.ensures.length c.if-state_length-gt-STATE_MAX.false in
     ⊎_elim (λ memory. inr memory)
     (λ other.
     let clash = join_err old pushed c.in-Err.refusal (c.in-Err.ensures.answer other) in
-    inl (ap Refused clash.1 ∙ pushed_clash c.args.self.now known c.args.key.now pushed stands small (ap (λ s. clashes s pushed) (sym c.look-is_held.ensures.state) ∙ clash.0)))
+    inl (ap Refused clash.1 ∙ pushed_clash c.args.self.now c.args.key.now pushed small (ap (λ s. clashes s pushed) (sym c.look-is_held.ensures.state) ∙ clash.0)))
     (memory_or_not c.in-Err.refusal)
 
 pub limited-requires-clause-grows : goal.limited-requires-clause-grows
@@ -27,10 +27,10 @@ limited-requires-clause-grows c =
     λ none. done.1 ∙ join-empty old c.args.pushed.now c.look-is_held.ensures.kept.valid c.in-Ok.ensures.valid (ap (λ (s : State). is_empty s.context) (sym done.1) ∙ none)
 
 pub returns-in-Ok-clause-answer : goal.returns-in-Ok-clause-answer
-returns-in-Ok-clause-answer c = λ known stands.
+returns-in-Ok-clause-answer c =
     let old = c.look-is_held.result.1.now in
     let pushed = c.args.pushed.now in
     let small : is_too_large pushed ≡ false = is_short pushed c.state_length.result c.state_length.ensures.length c.if-state_length-gt-STATE_MAX.false in
     let done = join_ok old pushed c.in-Ok.state c.in-Ok.ensures.answer in
-    limited_push c.args.self.now known c.args.key.now pushed c.in-Ok.state c.limited.result stands small
+    limited_push c.args.self.now c.args.key.now pushed c.in-Ok.state c.limited.result small
     (ap (λ s. clashes s pushed) (sym c.look-is_held.ensures.state) ∙ done.0) (done.1 ∙ ap (λ s. join s pushed) c.look-is_held.ensures.state) c.limited.ensures.limits

@@ -16,7 +16,7 @@ returns-in_err-places-clause-whole c =
     let unbroken : c.self.inside.broken ≡ false = ap (λ (s : SiteValue). s.broken) c.self.view_is ∙ c.requires in
     let p = err_from_is_err_and c.from_residual-in_err-places.result c.from_residual-in_err-places.ensures.1 in
     subst (λ r. IfErr r (λ refusal. refusal ≢ Broken)) (sym p.1)
-    (never_broken p.0 _ (range_refuses defs (visible_in states) c.args.field.now c.args.from.now c.args.to.now c.in_ok-after.after)
+    (never_broken p.0 _ (range_refuses defs (visible_in states) c.args.field.now c.args.from.now c.args.to.now c.in_ok-after.after Broken (λ e. cc))
     (λ other. c.in_err-places.ensures.refused (λ e. other (p.2 ∙ e)) defs states (c.self.invariant.listed unbroken) ∙ ap Err (sym p.2)))
 
 pub returns-clause-ready : goal.returns-clause-ready

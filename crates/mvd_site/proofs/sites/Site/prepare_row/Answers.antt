@@ -14,7 +14,7 @@ returns-in_err-count-clause-whole c =
     let unbroken : c.self.inside.broken ≡ false = ap (λ (s : SiteValue). s.broken) c.self.view_is ∙ c.requires in
     let p = err_from_is_err_and c.from_residual.result c.from_residual.ensures.1 in
     subst (λ r. IfErr r (λ refusal. refusal ≢ Broken)) (sym p.1)
-    (λ broken. row_refuses defs (visible_in states) c.args.view.now c.args.term.now
+    (λ broken. row_refuses defs (visible_in states) c.args.view.now c.args.term.now Broken (λ e. cc)
     (sym (c.row.ensures defs states (c.self.invariant.listed unbroken)) ∙ c.in_err-count.was ∙ ap Err (sym p.2 ∙ broken)))
 
 pub returns-clause-ready : goal.returns-clause-ready

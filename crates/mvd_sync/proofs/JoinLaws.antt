@@ -1,0 +1,67 @@
+-- Joins of the states of a key that two sides hold.
+use Rattle.std.proofs.Common.{◌≡◌, ℕ, not, true≢false, Bool, true, false, cond, ◌&&◌, ◌==◌, List, refl, sym, ap, ◌∙◌, Some, None, Option}
+use Rattle.std.specs.Prelude.{unwrap_or, bytes_eq}
+use Rattle.std.proofs.lemmas.Slice.Eq.{bytes_eq-Decides}
+use Rattle.std.specs.Cmp.{unsigned_Decides}
+use Rattle.std.specs.FinMap.{get, empty_of_len, len, len-empty}
+use Rattle.std.specs.FinSet.{contains}
+use Rattle.std.specs.FinSet as set
+use Rattle.mvd_dots.specs.Dot.{dot_cmp}
+use Rattle.mvd_keys.specs.State.{State, IsValid, Text, clashes, differ, empty_state, join}
+use Rattle.mvd_keys.specs.Writes.{is_empty}
+use Rattle.mvd_keys.proofs.Joins.{apart_at, join_commutes, join_groups, join_repeats}
+use Rattle.mvd_keys.proofs.Lists.{IsValid-empty}
+use Rattle.mvd_keys.proofs.Sets.{never, same_document}
+use Rattle.mvd_keys.proofs.StatesOfWrites.{get-join, join_at}
+use Rattle.mvd_site.specs.Held.{AreHeld, States, state_at}
+use Rattle.mvd_sync.specs.Session.{is_nothing}
+
+both_true : (a b : Bool) → (a && b) ≡ true → (a ≡ true) × (b ≡ true)
+both_true true true e = (refl, refl)
+both_true true false e = absurd (cc)
+both_true false b e = absurd (cc)
+
+-- there is one state that nobody has written
+pub nothing_is : (s : State) → is_nothing s ≡ true → s ≡ empty_state
+nothing_is s h =
+    let parts = both_true (len s.siblings == 0) (is_empty s.context) h in
+    let siblings = empty_of_len s.siblings ((unsigned_Decides (len s.siblings) 0).0 parts.0) in
+    let context = set.empty_of_len s.context ((unsigned_Decides (set.len s.context) 0).0 parts.1) in
+    λ i. record { siblings = siblings i; context = context i }
+
+-- each state of a side in form is valid, the empty one too
+pub valid_at : (m : States) → AreHeld m → (key : List ℕ) → IsValid (state_at m key)
+valid_at m form key =
+    elim (get m key) as (λ o. get m key ≡ o → IsValid (unwrap_or o empty_state)) [
+      | None ↦ λ _. IsValid-empty
+      | Some s ↦ λ e. form.valid key s e
+    ] refl
+
+-- what was joined, joined again, changes nothing
+pub join_absorbs : (s t : State) → IsValid s → IsValid t → clashes s t ≡ false → join t (join s t) ≡ join s t
+join_absorbs s t p q apart =
+    let turned = join_commutes s t p q apart in
+    sym (join_groups t s t q p q) ∙ ap (λ u. join u t) (sym turned) ∙ join_groups s t t p q q ∙ ap (join s) (join_repeats t q)
+
+documents_same : (x y : Text) → differ (Some x) (Some y) ≡ false → x ≡ y
+documents_same x y h =
+    elim (bytes_eq x y) as (λ b. bytes_eq x y ≡ b → not b ≡ false → x ≡ y) [
+      | true ↦ λ e _. (bytes_eq-Decides x y).0 e
+      | false ↦ λ _ no. absurd (true≢false no)
+    ] refl h
+
+apart_again : (f g : Option Text) (c e : Bool) → differ f g ≡ false → differ g (join_at f c g e) ≡ false
+apart_again f None c e h = refl
+apart_again None (Some y) true e h = refl
+apart_again None (Some y) false e h = same_document y y refl
+apart_again (Some x) (Some y) c e h = same_document y x (sym (documents_same x y h))
+
+-- and does not clash
+pub no_clash_again : (s t : State) → clashes s t ≡ false → clashes t (join s t) ≡ false
+unfolding clashes
+no_clash_again s t apart =
+    never _ _ (λ q. ap (differ (get t.siblings q)) (get-join s t q) ∙ apart_again (get s.siblings q) (get t.siblings q) (contains s.context q) (contains t.context q) (apart_at s t apart q))
+
+-- nothing is written in the empty state
+pub nothing_empty : is_nothing empty_state ≡ true
+nothing_empty = λ i. (len-empty dot_cmp Text i == 0) && (set.len-empty dot_cmp i == 0)

@@ -1,0 +1,10 @@
+pub mod Linking
+pub mod JoinLaws
+pub mod Steps
+pub mod Together
+pub mod Below
+pub mod Pages
+pub mod Rest
+pub mod Bucket
+pub mod Ends
+pub mod SiteSides

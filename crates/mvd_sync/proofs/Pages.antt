@@ -1,0 +1,57 @@
+-- Pages of a bucket, and which key comes next.
+use Rattle.std.proofs.Common.{◌≡◌, ◌≢◌, ◌⊎◌, ◌↔◌, inl, inr, ℕ, zero, suc, ◌+◌, ◌-◌, ◌<◌, ◌≤◌, Bool, true, false, cond, not, ◌&&◌, ◌==◌, List, [], ◌∷◌, ◌++◌, length, take, drop, refl, sym, ap, subst, ◌∙◌, arith, Some, None, Option, length-append, length-drop}
+use Rattle.std.specs.Prelude.{IsTrue, nat_lt, T}
+use Rattle.std.specs.declared.cmp.Ordering.{Ordering}
+use Rattle.std.specs.declared.cmp.Ordering.TheVariants.{Less, Equal, Greater}
+use Rattle.std.specs.Ordering.{nat_cmp, eq_by_cmp, is_eq, is_lt, ordering_reverse}
+use Rattle.std.specs.Cmp.{Equal-is, tied_itself}
+use Rattle.std.specs.Cmp.Lexicographic.{slice_cmp, nat_list_cmp_total}
+use Rattle.std.specs.FinMap.{get, entries, entries_sorted, get-entries, get-retain_keys, find, is_sorted, from_sorted, entries-from_sorted, get-from_sorted, same_map}
+use Rattle.std.proofs.lemmas.Bool.Decides.{nat_tests}
+use Rattle.std.specs.FinMap.Entries.{below_all}
+use Rattle.std.proofs.lemmas.List.{take-append-drop}
+use Rattle.mvd_tree.specs.HashTree.{KeyDigests, is_under}
+use Rattle.mvd_tree.proofs.Under.{keys_same}
+use Rattle.mvd_tree.specs.Page.{is_after, rest_of, page_of, is_more_after_page}
+use Rattle.mvd_sync.specs.Answers.{Entry, IsListing, StartsAfter, TakesNext, of_first, of_second, of_both, order_of_first}
+
+-- ---- a page that was fetched
+
+no_entries : {A : Type 0} (xs : List A) → length xs ≡ 0 → xs ≡ []
+no_entries [] e = refl
+no_entries (x ∷ xs) e = absurd (omega arith)
+
+pub fresh_listing : (held : KeyDigests) (path : List ℕ) (after : Option (List ℕ)) (page : List Entry) (more : Bool) → page ≡ page_of held path after → more ≡ is_more_after_page held path after → IsListing held path after page more
+fresh_listing held path after page more p m = record {
+  later = drop 1000 (entries (rest_of held path after));
+  is = sym (take-append-drop 1000 (entries (rest_of held path after))) ∙ ap (λ xs. xs ++ drop 1000 (entries (rest_of held path after))) (sym p);
+  ended = λ e.
+      let n = length-drop 1000 (entries (rest_of held path after)) in
+      let few : nat_lt 1000 (length (entries (rest_of held path after))) ≡ false = sym m ∙ e in
+      let small : length (entries (rest_of held path after)) ≤ 1000 = grind (arith, nat_tests) in
+      no_entries _ (omega (arith, n, small));
+}
+
+-- ---- which key comes next
+
+pub next_less : (xs ys xs' : List Entry) (e : Entry) → xs ≡ e ∷ xs' → order_of_first xs ys ≡ Some Less → TakesNext xs ys e.0 true xs' ys
+next_less xs [] xs' e p o = of_first e p refl refl refl tt
+next_less xs (f ∷ fs) xs' e p o =
+    let q : Some (slice_cmp nat_cmp e.0 f.0) ≡ Some Less = ap (λ zs. order_of_first zs (f ∷ fs)) (sym p) ∙ o in
+    of_first e p refl refl refl (cc)
+
+pub next_greater : (xs ys ys' : List Entry) (f : Entry) → ys ≡ f ∷ ys' → order_of_first xs ys ≡ Some Greater → TakesNext xs ys f.0 true xs ys'
+next_greater [] ys ys' f p o = of_second f refl p refl refl tt
+next_greater (e ∷ es) ys ys' f p o =
+    let q : Some (slice_cmp nat_cmp e.0 f.0) ≡ Some Greater = ap (order_of_first (e ∷ es)) (sym p) ∙ o in
+    let g : slice_cmp nat_cmp e.0 f.0 ≡ Greater = cc in
+    of_second f refl p refl refl (nat_list_cmp_total.antisymm f.0 e.0 ∙ ap ordering_reverse g)
+
+not_is : (b : Bool) (P : Type 0) → (IsTrue b ↔ P) → IsTrue (not b) ↔ (P → ⊥)
+not_is true P h = (λ no. absurd (cc), λ no. absurd (no (h.0 refl)))
+not_is false P h = (λ _ p. let t = h.1 p in absurd (cc), λ _. refl)
+
+pub next_both : (xs ys xs' ys' : List Entry) (e f : Entry) (same : Bool) → xs ≡ e ∷ xs' → ys ≡ f ∷ ys' → order_of_first xs ys ≡ Some Equal → (IsTrue same ↔ (e.1 ≡ f.1)) → TakesNext xs ys e.0 (not same) xs' ys'
+next_both xs ys xs' ys' e f same p q o h =
+    let r : Some (slice_cmp nat_cmp e.0 f.0) ≡ Some Equal = (λ i. order_of_first (sym p i) (sym q i)) ∙ o in
+    of_both e f p q refl (keys_same e.0 f.0 (cc)) (not_is same (e.1 ≡ f.1) h)

@@ -1,0 +1,19 @@
+use Rattle.std.proofs.Common.{◌≡◌, ◌≤◌, ◌+◌, ◌-◌, length}
+use Rattle.mvd_sync.specs.Session.{ComesByPushes}
+use Rattle.mvd_sync.specs.Walk.{DigestsTell, Walked, IsBelowBefore}
+use Rattle.mvd_sync.proofs.walk.+walk.Given as goal
+
+abbrev pub decreases-walk : goal.decreases-walk
+decreases-walk g l = 3 - length l.path.now
+
+abbrev pub invariant-children : goal.invariant-children
+invariant-children g l =
+    let L = g.L.Peer in
+    let P = g.P.Peer in
+    let a = L.states l.fn.local in
+    let b = P.states l.fn.peer in
+    record {
+      pushes : L.is_true l.fn.local → L.is_true l.local × ComesByPushes P.can_give a (L.states l.local);
+      session : L.is_true l.fn.local → P.is_true l.fn.peer → P.is_true l.peer × Walked (DigestsTell l.path a b) (IsBelowBefore l.path l.digit) a b (L.states l.local) (P.states l.peer) l.keys;
+      keys : l.keys + l.left.peer ≤ l.fn.left.peer;
+    }

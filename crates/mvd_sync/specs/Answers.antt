@@ -1,0 +1,37 @@
+-- What a session has of a side's pages.
+use Rattle.std.specs.declared.cmp.Ordering.{Ordering}
+use Rattle.std.specs.declared.cmp.Ordering.TheVariants.{Less, Greater}
+use Rattle.std.specs.Prelude.{IsTrue, ◌↔◌, ◌≢◌, ◌≡◌, ℕ, Bool, true, false, List, [], ◌∷◌, ◌++◌, Option, Some, None}
+use Rattle.std.specs.FinMap.{entries}
+use Rattle.mvd_keys.specs.Key.{key_cmp}
+use Rattle.mvd_keys.specs.Writes.{Key}
+use Rattle.mvd_tree.specs.HashTree.{KeyDigests}
+use Rattle.mvd_tree.specs.Page.{rest_of}
+
+-- an entry of a bucket: a key and its digest
+abbrev pub Entry : Type 0
+Entry = List ℕ × List ℕ
+
+-- these are the first entries of a bucket after a key, and unless there is more all of them
+pub record IsListing (held : KeyDigests) (path : List ℕ) (after : Option (List ℕ)) (page : List Entry) (more : Bool) : Type 0 where
+  pub later : List Entry
+  pub is : entries (rest_of held path after) ≡ page ++ later
+  pub ended : more ≡ false → later ≡ []
+
+-- the first entry of a list comes after a key
+abbrev pub StartsAfter : List ℕ → List Entry → Type 0
+StartsAfter key [] = Unit {0}
+StartsAfter key (e ∷ es) = key_cmp key e.0 ≡ Less
+
+-- of two lists the lesser first key was taken, and from both where both begin with it
+pub data TakesNext (xs ys : List Entry) (key : List ℕ) (differs : Bool) (xs' ys' : List Entry) : Type 0 where
+  of_first : (e : Entry) → xs ≡ e ∷ xs' → ys ≡ ys' → key ≡ e.0 → differs ≡ true → StartsAfter key ys → TakesNext xs ys key differs xs' ys'
+  of_second : (f : Entry) → xs ≡ xs' → ys ≡ f ∷ ys' → key ≡ f.0 → differs ≡ true → StartsAfter key xs → TakesNext xs ys key differs xs' ys'
+  of_both : (e f : Entry) → xs ≡ e ∷ xs' → ys ≡ f ∷ ys' → key ≡ e.0 → key ≡ f.0 → (IsTrue differs ↔ (e.1 ≢ f.1)) → TakesNext xs ys key differs xs' ys'
+
+-- the order of the first keys of two lists, where one has a key
+abbrev pub order_of_first : List Entry → List Entry → Option Ordering
+order_of_first [] [] = None
+order_of_first (e ∷ es) [] = Some Less
+order_of_first [] (f ∷ fs) = Some Greater
+order_of_first (e ∷ es) (f ∷ fs) = Some (key_cmp e.0 f.0)

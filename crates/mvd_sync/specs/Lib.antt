@@ -1,0 +1,4 @@
+pub mod Links
+pub mod Session
+pub mod Answers
+pub mod Walk

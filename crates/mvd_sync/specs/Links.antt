@@ -1,0 +1,80 @@
+-- Questions over a connection: a frame goes out, and a frame comes in.
+use Rattle.std.specs.Prelude.{◌≡◌, ◌≢◌, ◌⊎◌, ◌<◌, ◌≤◌, ℕ, List, Option, Some, None, Result, Ok, Err}
+use Rattle.std.specs.Io.KnownBytes.{Appends}
+use Rattle.mvd_dots.specs.Refusal.{number_of}
+use Rattle.mvd_dots.specs.declared.refusals.Refusal.{Refusal}
+use Rattle.mvd_dots.specs.declared.refusals.Refusal.TheVariants.{Memory}
+use Rattle.mvd_wire.specs.declared.request.Request.{Request}
+use Rattle.mvd_wire.specs.declared.request.Request.TheVariants.{Get, Put, Delete, Find, Row, Rows, Node, Bucket, Push, Range, Bye}
+use Rattle.mvd_wire.specs.declared.reply.Reply.{Reply}
+use Rattle.mvd_wire.specs.declared.reply.Reply.TheVariants.{Refused}
+use Rattle.mvd_wire.specs.Frames.{AppendsFront, FrameValue, frame_at}
+use Rattle.mvd_wire.specs.Requests.{request_frame}
+use Rattle.mvd_wire.specs.Replies.{reply_of}
+
+-- what the reader has left, what the writer took, and the refusal of the link itself, if there was one
+pub record Link : Type 0 where
+  pub input : Option (List ℕ)
+  pub output : Option (List ℕ)
+  pub refused : Option Refusal
+
+-- the kind byte of the replies that accept a request
+abbrev pub answered_by : Request → ℕ
+answered_by (Get k) = 0xA1
+answered_by (Put k c d) = 0xA2
+answered_by (Delete k c) = 0xA3
+answered_by (Find f t after) = 0xA4
+answered_by (Row v t) = 0xA5
+answered_by (Rows v after) = 0xA6
+answered_by (Node p) = 0xA7
+answered_by (Bucket p after) = 0xA8
+answered_by (Push k s) = 0xA3
+answered_by (Range f from to after) = 0xA4
+answered_by Bye = 0xA3
+
+-- just this frame went out, and just one frame came in, of which this holds; the link goes on
+pub record Exchanged (old new : Link) (sent : List ℕ) (Came : FrameValue → Type 0) : Type 0 where
+  pub wrote : Appends old.output new.output sent
+  pub read : (bytes : List ℕ) → old.input ≡ Some bytes →
+      (frame : FrameValue) × (rest : List ℕ) × (frame_at bytes ≡ Ok (Some frame, rest)) × (new.input ≡ Some rest) × Came frame
+  pub goes_on : new.refused ≡ None
+
+-- the frame spells the reply, which is of the kind that was asked for, or a refusal
+abbrev pub Tells : ℕ → Reply → FrameValue → Type 0
+Tells kind reply frame = ((frame.kind ≡ kind) ⊎ (frame.kind ≡ 0xEE)) × (reply_of frame.kind frame.payload ≡ Ok reply)
+
+-- the frame spells no reply, for this reason, unless memory was refused
+abbrev pub TellsNone : Refusal → FrameValue → Type 0
+TellsNone refusal frame = refusal ≢ Memory → reply_of frame.kind frame.payload ≡ Err refusal
+
+-- the refusals of a link itself: those from 30 on, and want of memory while a frame is read
+abbrev pub IsOwn : Refusal → Type 0
+IsOwn refusal = (30 ≤ number_of refusal) ⊎ (refusal ≡ Memory)
+
+-- the link itself refuses, from now on; a front of the frame went out
+pub record Breaks (old new : Link) (sent : List ℕ) (refusal : Refusal) : Type 0 where
+  pub front : AppendsFront old.output new.output sent
+  pub own : IsOwn refusal
+  pub kept : new.refused ≡ Some refusal
+
+-- how the sending of a frame over a link that goes on ends, where a reply of this kind is asked for
+abbrev pub Sends : Link → Link → List ℕ → ℕ → Result Reply Refusal → Type 0
+Sends old new sent kind (Ok reply) = Exchanged old new sent (Tells kind reply)
+Sends old new sent kind (Err refusal) = Breaks old new sent refusal ⊎ (Exchanged old new sent (TellsNone refusal) × (number_of refusal < 30))
+
+-- nothing was sent: the link had refused before, or the request has no frame, or memory was refused for it
+abbrev pub SendsNothing : Link → Link → Request → Refusal → Type 0
+SendsNothing old new request refusal = (new ≡ old) × ((old.refused ≡ Some refusal) ⊎ (refusal ≢ Memory → request_frame request ≡ Err refusal))
+
+-- the frame of the request was sent
+abbrev pub SendsFrame : Link → Link → Request → Result Reply Refusal → Type 0
+SendsFrame old new request told = (frame : List ℕ) × (request_frame request ≡ Ok frame) × Sends old new frame (answered_by request) told
+
+-- what a question gives
+abbrev pub Asks : Link → Link → Request → Result Reply Refusal → Type 0
+Asks old new request (Ok reply) = SendsFrame old new request (Ok reply)
+Asks old new request (Err refusal) = SendsNothing old new request refusal ⊎ SendsFrame old new request (Err refusal)
+
+-- a refusal of a question: the link gave it, or the peer told it
+abbrev pub Refuses : Link → Link → Request → Refusal → Type 0
+Refuses old new request refusal = Asks old new request (Err refusal) ⊎ SendsFrame old new request (Ok (Refused refusal))

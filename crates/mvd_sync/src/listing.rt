@@ -1,0 +1,133 @@
+//! What a session has left of a side's page of a bucket.
+ghost use Rattle.std.specs.Prelude.{◌≡◌, ◌≢◌, ◌+◌, ◌*◌, ◌≤◌, [], ◌∷◌, length, IfOk, IfErr, IfSome, IfNone, OnSome, ◌<◌, ◌^◌, OnOk, MatchOption, option_copied, false};
+ghost use Rattle.mvd_site.specs.Answer.{digests};
+ghost use Rattle.mvd_sync.specs.Answers.{IsListing, TakesNext, order_of_first};
+
+use crate::peer::Peer;
+use crate::walk::{ask, is_same};
+use mvd_dots::Refusal;
+use mvd_keys::{Key, Path};
+use std::cmp::Ordering;
+use std::marker::Model;
+
+/// What is left of a page, and whether the bucket goes on after it.
+#[derive(Drop)]
+pub struct Listing {
+    // The next entry stands last.
+    page: Vec<(Key, [u8; 32])>,
+    more: bool,
+}
+
+impl Model for Listing {
+    ghost use Rattle.std.specs.Prelude.{List, ℕ, Bool, reverse};
+
+    ghost Value = { List (List ℕ × List ℕ) × Bool };
+
+    ghost view = { λ a. (reverse a.page.items, a.more) };
+}
+
+/// Whether the keys of a page strictly rise from a key on.
+fn rises(after: Option<&Key>, page: &[(Key, [u8; 32])]) -> bool {
+    let mut last = after;
+    for (key, _) in page {
+        if let Some(last) = last
+            && last.cmp(key).is_ge()
+        {
+            return false;
+        }
+        last = Some(key);
+    }
+    true
+}
+
+impl Listing {
+    /// The page of a bucket that comes after a key. Keys that do not rise, or more without a key, are 33.
+    pub fn fetch<P: Peer>(
+        side: &mut P,
+        left: &mut u64,
+        path: &Path,
+        after: Option<&Key>,
+    ) -> Result<Self, Refusal>
+        ensures kept { P.is_true side.old → P.is_true side.new × (P.states side.new ≡ P.states side.old) }
+        ensures page { P.is_true side.old → IfOk result (λ page. IsListing (digests (P.states side.old)) path.now (option_copied after.entry) page.0 page.1) }
+        ensures no_clash { P.is_true side.old → IfErr result (λ refusal. refusal ≢ Refusal.DotClash) }
+        ensures more { IfOk result (λ page. page.0 ≡ [] → page.1 ≡ false) }
+        ensures left { OnOk result (left.new + 1 ≡ left.old) }
+        ensures least { left.new ≤ left.old }
+        ensures length { IfOk result (λ page. length page.0 < 2 ^ 64) }
+    {
+        ask(left)?;
+        let (mut page, more) = side.bucket(path, after)?;
+        let count = page.len();
+        if !rises(after, page.as_slice()) || (more && count == 0) {
+            return Err(Refusal::BadBody);
+        }
+        page.reverse();
+        Ok(Listing { page, more })
+    }
+
+    /// Makes sure that an entry is there, unless none is left.
+    pub fn fill<P: Peer>(
+        &mut self,
+        side: &mut P,
+        left: &mut u64,
+        path: &Path,
+        after: Option<&Key>,
+    ) -> Result<(), Refusal>
+        ensures kept { P.is_true side.old → P.is_true side.new × (P.states side.new ≡ P.states side.old) }
+        ensures page { P.is_true side.old → IsListing (digests (P.states side.old)) path.now (option_copied after.entry) self.old.0 self.old.1 → OnOk result (IsListing (digests (P.states side.old)) path.now (option_copied after.entry) self.new.0 self.new.1) }
+        ensures no_clash { P.is_true side.old → IfErr result (λ refusal. refusal ≢ Refusal.DotClash) }
+        ensures more { OnOk result (self.new.0 ≡ [] → self.new.1 ≡ false) }
+        ensures measure { OnOk result (2 ^ 64 * left.new + length self.new.0 ≤ 2 ^ 64 * left.old + length self.old.0) }
+        ensures least { left.new ≤ left.old }
+    {
+        if self.page.is_empty() && self.more {
+            *self = Listing::fetch(side, left, path, after)?;
+        }
+        Ok(())
+    }
+
+    /// The first entry, which is taken out.
+    pub fn take(&mut self) -> Option<(Key, [u8; 32])>
+        ensures { MatchOption result ((self.old.0 ≡ []) × (self.new ≡ self.old)) (λ e. (self.old.0 ≡ e ∷ self.new.0) × (self.new.1 ≡ self.old.1)) }
+    {
+        self.page.pop()
+    }
+
+    /// Which of two listings has the lesser first key.
+    pub fn order(&self, other: &Listing) -> Option<Ordering>
+        ensures { result ≡ order_of_first self.now.0 other.now.0 }
+    {
+        match (self.page.last(), other.page.last()) {
+            (None, None) => None,
+            (Some(_), None) => Some(Ordering::Less),
+            (None, Some(_)) => Some(Ordering::Greater),
+            (Some(first), Some(second)) => Some(first.0.cmp(&second.0)),
+        }
+    }
+}
+
+/// Takes the lesser first key of two listings, from both where both begin with it, and says
+/// whether its digests differ.
+pub fn next(mine: &mut Listing, theirs: &mut Listing) -> Option<(Key, bool)>
+    ensures none { IfNone result ((mine.old.0 ≡ []) × (theirs.old.0 ≡ [])) }
+    ensures next { IfSome result (λ r. TakesNext mine.old.0 theirs.old.0 r.0 r.1 mine.new.0 theirs.new.0) }
+    ensures fewer { OnSome result (length mine.new.0 + length theirs.new.0 < length mine.old.0 + length theirs.old.0) }
+    ensures more { (mine.new.1 ≡ mine.old.1) × (theirs.new.1 ≡ theirs.old.1) }
+{
+    match mine.order(theirs)? {
+        Ordering::Less => {
+            let (key, _) = mine.take()?;
+            Some((key, true))
+        }
+        Ordering::Greater => {
+            let (key, _) = theirs.take()?;
+            Some((key, true))
+        }
+        Ordering::Equal => {
+            let (key, first) = mine.take()?;
+            let (_, second) = theirs.take()?;
+            Some((key, !is_same(&first, &second)))
+        }
+    }
+}

@@ -1,0 +1,281 @@
+//! A site at the other end of a connection.
+ghost use Rattle.std.specs.Prelude.{◌≡◌, ◌⊎◌, MatchResult, None, Some, Ok, Err};
+ghost use Rattle.mvd_dots.specs.declared.refusals.Refusal.{Refusal};
+ghost use Rattle.mvd_wire.specs.declared.request.Request.TheVariants.{Get, Node, Bucket, Push, Bye};
+ghost use Rattle.mvd_wire.specs.declared.reply.Reply.TheVariants.{State as Shown, Done, Digests as Told, Keys, Refused};
+ghost use Rattle.mvd_sync.specs.Links.{Asks, Refuses, SendsFrame, Sends, answered_by};
+ghost use Rattle.mvd_wire.specs.Kind.{Gives};
+ghost use Rattle.mvd_wire.specs.Requests.{request_frame};
+ghost use Rattle.std.specs.FinMap.{empty};
+ghost use Rattle.std.specs.Option.{option_copied};
+
+use crate::peer::Peer;
+use mvd_dots::Refusal;
+use mvd_keys::{Key, KeyState, Path};
+use mvd_wire::{
+    Digests, Reply, Request, decode_reply, encode_bucket, encode_bye, encode_get, encode_node,
+    encode_push, encode_request, read_frame, write_frame,
+};
+use std::alloc::Global;
+use std::io::{Read, Write};
+
+/// A site that is asked over a reader and a writer. Nothing is known of what it holds.
+#[derive(Drop)]
+pub struct Remote<R: Read + Drop, W: Write + Drop> {
+    alloc: Global,
+    reader: R,
+    writer: W,
+    refused: Option<Refusal>,
+}
+
+/// The kind byte of the replies that accept a request.
+fn answered_by(request: &Request) -> u8
+    ensures { result ≡ answered_by request.now }
+{
+    match request {
+        Request::Get(_) => 0xA1,
+        Request::Put(_, _, _) => 0xA2,
+        Request::Find(_, _, _) | Request::Range(_, _, _, _) => 0xA4,
+        Request::Row(_, _) => 0xA5,
+        Request::Rows(_, _) => 0xA6,
+        Request::Node(_) => 0xA7,
+        Request::Bucket(_, _) => 0xA8,
+        Request::Delete(_, _) | Request::Push(_, _) | Request::Bye => 0xA3,
+    }
+}
+
+impl<R: Read + Drop, W: Write + Drop> Remote<R, W> {
+    pub fn new(alloc: Global, reader: R, writer: W) -> Self
+        ensures reader { result.reader ≡ reader }
+        ensures writer { result.writer ≡ writer }
+        ensures goes_on { result.refused ≡ None }
+    {
+        Remote {
+            alloc,
+            reader,
+            writer,
+            refused: None,
+        }
+    }
+
+    /// The reader and the writer.
+    pub fn into_parts(self) -> (R, W)
+        ensures reader { result.0 ≡ self.reader }
+        ensures writer { result.1 ≡ self.writer }
+    {
+        let Remote {
+            alloc: _,
+            reader,
+            writer,
+            refused: _,
+        } = self;
+        (reader, writer)
+    }
+
+    /// Sends a frame, and reads the reply, which is of this kind or a refusal.
+    #[tactic(auto, using(crate::proofs::Linking::breaks, crate::proofs::Linking::own_from))]
+    fn send(&mut self, frame: &[u8], kind: u8) -> Result<Reply, Refusal>
+        requires { self.old.refused ≡ None }
+        ensures { Sends (record { input = R.remaining self.old.reader; output = W.contents self.old.writer; refused = self.old.refused }) (record { input = R.remaining self.new.reader; output = W.contents self.new.writer; refused = self.new.refused }) frame.now kind result }
+    {
+        if let Err(refusal) = write_frame(&mut self.writer, frame) {
+            self.refused = Some(refusal);
+            return Err(refusal);
+        }
+        let came = match read_frame(self.alloc, &mut self.reader) {
+            Ok(Some(came)) => came,
+            Ok(None) => {
+                self.refused = Some(Refusal::Truncated);
+                return Err(Refusal::Truncated);
+            }
+            Err(refusal) => {
+                self.refused = Some(refusal);
+                return Err(refusal);
+            }
+        };
+        if came.kind != kind && came.kind != 0xEE {
+            self.refused = Some(Refusal::BadKind);
+            return Err(Refusal::BadKind);
+        }
+        match decode_reply(self.alloc, came.kind, &came.payload) {
+            Ok(reply) => return Ok(reply),
+            Err(refusal) => {
+                if refusal.number() < 30 {
+                    return Err(refusal);
+                }
+                self.refused = Some(refusal);
+                return Err(refusal);
+            }
+        }
+    }
+
+    /// Asks one question: writes just the frame of the request, and reads just one frame, which spells the reply. After a
+    /// refusal of the link itself, 30 to 35, or 20 while a frame is read, every later question is refused so.
+    pub fn ask(&mut self, request: &Request) -> Result<Reply, Refusal>
+        ensures asked { Asks (record { input = R.remaining self.old.reader; output = W.contents self.old.writer; refused = self.old.refused }) (record { input = R.remaining self.new.reader; output = W.contents self.new.writer; refused = self.new.refused }) request.now result }
+        ensures stays { (refusal : Refusal) → self.old.refused ≡ Some refusal → (result ≡ Err refusal) × (self.new ≡ self.old) }
+    {
+        if let Some(refusal) = self.refused {
+            return Err(refusal);
+        }
+        match encode_request(self.alloc, request) {
+            Ok(frame) => self.send(&frame, answered_by(request)),
+            Err(refusal) => Err(refusal),
+        }
+    }
+
+    /// The refusal that a reply tells. Any other reply here would be of another kind than was asked for, which ends the link.
+    fn refusal_of(&mut self, reply: &Reply) -> Refusal
+        ensures reader { self.new.reader ≡ self.old.reader }
+        ensures writer { self.new.writer ≡ self.old.writer }
+        ensures told { (self.new ≡ self.old) × (reply.now ≡ Refused result) ⊎ (self.new.refused ≡ Some Refusal.BadKind) × (result ≡ Refusal.BadKind) }
+    {
+        match reply {
+            Reply::Refused(refusal) => *refusal,
+            _ => {
+                self.refused = Some(Refusal::BadKind);
+                Refusal::BadKind
+            }
+        }
+    }
+
+    /// The digest of a node, and those of its children.
+    pub fn node(&mut self, path: &Path) -> Result<Digests, Refusal>
+        ensures asked { MatchResult result (λ digests. SendsFrame (record { input = R.remaining self.old.reader; output = W.contents self.old.writer; refused = self.old.refused }) (record { input = R.remaining self.new.reader; output = W.contents self.new.writer; refused = self.new.refused }) (Node path.now) (Ok (Told digests))) (λ refusal. Refuses (record { input = R.remaining self.old.reader; output = W.contents self.old.writer; refused = self.old.refused }) (record { input = R.remaining self.new.reader; output = W.contents self.new.writer; refused = self.new.refused }) (Node path.now) refusal) }
+        ensures stays { (refusal : Refusal) → self.old.refused ≡ Some refusal → (result ≡ Err refusal) × (self.new ≡ self.old) }
+    {
+        if let Some(refusal) = self.refused {
+            return Err(refusal);
+        }
+        let frame = match encode_node(self.alloc, path) {
+            Ok(frame) => frame,
+            Err(refusal) => return Err(refusal),
+        };
+        match self.send(&frame, 0xA7) {
+            Ok(Reply::Digests(digests)) => Ok(digests),
+            Ok(reply) => Err(self.refusal_of(&reply)),
+            Err(refusal) => Err(refusal),
+        }
+    }
+
+    fn bucket_frame(&self, path: &Path, after: Option<&Key>) -> Result<Vec<u8>, Refusal>
+        ensures { Gives (λ v. v.items) result (request_frame (Bucket path.now (option_copied after.entry))) }
+    {
+        let after = match after {
+            Some(key) => Some(key.copy(self.alloc)?),
+            None => None,
+        };
+        encode_bucket(self.alloc, path, &after)
+    }
+
+    /// A page of a bucket after a key, and whether more are left.
+    pub fn bucket(
+        &mut self,
+        path: &Path,
+        after: Option<&Key>,
+    ) -> Result<(Vec<(Key, [u8; 32])>, bool), Refusal>
+        ensures asked { MatchResult result (λ page. SendsFrame (record { input = R.remaining self.old.reader; output = W.contents self.old.writer; refused = self.old.refused }) (record { input = R.remaining self.new.reader; output = W.contents self.new.writer; refused = self.new.refused }) (Bucket path.now (option_copied after.entry)) (Ok (Keys page.0.items page.1))) (λ refusal. Refuses (record { input = R.remaining self.old.reader; output = W.contents self.old.writer; refused = self.old.refused }) (record { input = R.remaining self.new.reader; output = W.contents self.new.writer; refused = self.new.refused }) (Bucket path.now (option_copied after.entry)) refusal) }
+        ensures stays { (refusal : Refusal) → self.old.refused ≡ Some refusal → (result ≡ Err refusal) × (self.new ≡ self.old) }
+    {
+        if let Some(refusal) = self.refused {
+            return Err(refusal);
+        }
+        let frame = match self.bucket_frame(path, after) {
+            Ok(frame) => frame,
+            Err(refusal) => return Err(refusal),
+        };
+        match self.send(&frame, 0xA8) {
+            Ok(Reply::Keys(keys, more)) => Ok((keys.into_vec(), more)),
+            Ok(reply) => Err(self.refusal_of(&reply)),
+            Err(refusal) => Err(refusal),
+        }
+    }
+
+    /// The state that the site has of a key.
+    pub fn get(&mut self, key: &Key) -> Result<KeyState, Refusal>
+        ensures asked { MatchResult result (λ state. SendsFrame (record { input = R.remaining self.old.reader; output = W.contents self.old.writer; refused = self.old.refused }) (record { input = R.remaining self.new.reader; output = W.contents self.new.writer; refused = self.new.refused }) (Get key.now) (Ok (Shown state))) (λ refusal. Refuses (record { input = R.remaining self.old.reader; output = W.contents self.old.writer; refused = self.old.refused }) (record { input = R.remaining self.new.reader; output = W.contents self.new.writer; refused = self.new.refused }) (Get key.now) refusal) }
+        ensures stays { (refusal : Refusal) → self.old.refused ≡ Some refusal → (result ≡ Err refusal) × (self.new ≡ self.old) }
+    {
+        if let Some(refusal) = self.refused {
+            return Err(refusal);
+        }
+        let frame = match encode_get(self.alloc, key) {
+            Ok(frame) => frame,
+            Err(refusal) => return Err(refusal),
+        };
+        match self.send(&frame, 0xA1) {
+            Ok(Reply::State(state)) => Ok(state),
+            Ok(reply) => Err(self.refusal_of(&reply)),
+            Err(refusal) => Err(refusal),
+        }
+    }
+
+    /// Joins a state to the one that the site has of a key.
+    pub fn push(&mut self, key: &Key, state: &KeyState) -> Result<(), Refusal>
+        ensures asked { MatchResult result (λ _. SendsFrame (record { input = R.remaining self.old.reader; output = W.contents self.old.writer; refused = self.old.refused }) (record { input = R.remaining self.new.reader; output = W.contents self.new.writer; refused = self.new.refused }) (Push key.now state.now) (Ok (Done))) (λ refusal. Refuses (record { input = R.remaining self.old.reader; output = W.contents self.old.writer; refused = self.old.refused }) (record { input = R.remaining self.new.reader; output = W.contents self.new.writer; refused = self.new.refused }) (Push key.now state.now) refusal) }
+        ensures stays { (refusal : Refusal) → self.old.refused ≡ Some refusal → (result ≡ Err refusal) × (self.new ≡ self.old) }
+    {
+        if let Some(refusal) = self.refused {
+            return Err(refusal);
+        }
+        let frame = match encode_push(self.alloc, key, state) {
+            Ok(frame) => frame,
+            Err(refusal) => return Err(refusal),
+        };
+        match self.send(&frame, 0xA3) {
+            Ok(Reply::Done) => Ok(()),
+            Ok(reply) => Err(self.refusal_of(&reply)),
+            Err(refusal) => Err(refusal),
+        }
+    }
+
+    /// Ends the connection.
+    pub fn bye(&mut self) -> Result<(), Refusal>
+        ensures asked { MatchResult result (λ _. SendsFrame (record { input = R.remaining self.old.reader; output = W.contents self.old.writer; refused = self.old.refused }) (record { input = R.remaining self.new.reader; output = W.contents self.new.writer; refused = self.new.refused }) (Bye) (Ok (Done))) (λ refusal. Refuses (record { input = R.remaining self.old.reader; output = W.contents self.old.writer; refused = self.old.refused }) (record { input = R.remaining self.new.reader; output = W.contents self.new.writer; refused = self.new.refused }) (Bye) refusal) }
+        ensures stays { (refusal : Refusal) → self.old.refused ≡ Some refusal → (result ≡ Err refusal) × (self.new ≡ self.old) }
+    {
+        if let Some(refusal) = self.refused {
+            return Err(refusal);
+        }
+        let frame = match encode_bye(self.alloc) {
+            Ok(frame) => frame,
+            Err(refusal) => return Err(refusal),
+        };
+        match self.send(&frame, 0xA3) {
+            Ok(Reply::Done) => Ok(()),
+            Ok(reply) => Err(self.refusal_of(&reply)),
+            Err(refusal) => Err(refusal),
+        }
+    }
+}
+
+impl<R: Read + Drop, W: Write + Drop> Peer for Remote<R, W> {
+    ghost states = { λ _. empty };
+
+    // No truth is claimed of what is told over a connection.
+    ghost is_true = { λ _. ⊥ };
+
+    ghost can_give = { λ _ _. Unit {0} };
+
+    ghost in_form = { λ _ never. absurd never };
+
+    fn node(&mut self, path: &Path) -> Result<Digests, Refusal> {
+        Remote::node(self, path)
+    }
+
+    fn bucket(
+        &mut self,
+        path: &Path,
+        after: Option<&Key>,
+    ) -> Result<(Vec<(Key, [u8; 32])>, bool), Refusal> {
+        Remote::bucket(self, path, after)
+    }
+
+    fn get(&mut self, key: &Key) -> Result<KeyState, Refusal> {
+        Remote::get(self, key)
+    }
+
+    fn push(&mut self, key: &Key, state: &KeyState) -> Result<(), Refusal> {
+        Remote::push(self, key, state)
+    }
+}

@@ -1,0 +1,47 @@
+//! A site as a side of a session.
+ghost use Rattle.std.specs.Prelude.{◌≡◌, false};
+ghost use Rattle.mvd_site.specs.Held.{AreHeld};
+
+use crate::peer::Peer;
+use mvd_dots::Refusal;
+use mvd_keys::{Key, KeyState, Path};
+use mvd_site::Site;
+use mvd_wire::Digests;
+
+/// A site is true to the states of its keys as long as it is not broken; that they are in form holds of any site
+/// (`Site::key_count`). A question to its hash tree looks at no state.
+impl Peer for Site {
+    ghost states = { λ site. site.states };
+
+    ghost is_true = { λ site. (site.broken ≡ false) × AreHeld site.states };
+
+    ghost can_give = { λ _ _. Unit {0} };
+
+    ghost in_form = { λ _ whole. whole.1 };
+
+    #[tactic(auto, using(crate::proofs::SiteSides::node_own, crate::proofs::SiteSides::node_inner, crate::proofs::SiteSides::node_bucket, crate::proofs::SiteSides::node_apart))]
+    fn node(&mut self, path: &Path) -> Result<Digests, Refusal> {
+        Site::node(self, path)
+    }
+
+    fn bucket(
+        &mut self,
+        path: &Path,
+        after: Option<&Key>,
+    ) -> Result<(Vec<(Key, [u8; 32])>, bool), Refusal> {
+        Site::bucket(self, path, after)
+    }
+
+    fn get(&mut self, key: &Key) -> Result<KeyState, Refusal> {
+        Site::get(self, key)
+    }
+
+    #[tactic(auto, using(crate::proofs::SiteSides::push_ok, crate::proofs::SiteSides::push_refused, crate::proofs::SiteSides::push_unbroken))]
+    fn push(&mut self, key: &Key, state: &KeyState) -> Result<(), Refusal> {
+        // Here it is known that the pushed state's siblings have been seen, and then what holds of any site.
+        let _seen = state.context();
+        let pushed = Site::push(self, key, state);
+        let _held = self.key_count();
+        pushed
+    }
+}

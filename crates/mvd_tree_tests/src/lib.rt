@@ -1,0 +1,5 @@
+//! Tests of the hash tree.
+#![tactic(auto)]
+
+#[cfg(test)]
+mod trees;

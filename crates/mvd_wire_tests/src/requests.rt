@@ -1,0 +1,112 @@
+//! Requests.
+use mvd_dots::Refusal;
+use mvd_wire::{decode_request, encode_request, read_frame, write_frame};
+use std::alloc::Global;
+use std::test::Fail;
+
+/// The number with which a request is refused, or 0.
+fn fault(alloc: Global, kind: u8, payload: &[u8]) -> u8 {
+    match decode_request(alloc, kind, payload) {
+        Ok(_) => 0,
+        Err(refusal) => refusal.number(),
+    }
+}
+
+#[test]
+fn contexts_are_refused(rt: HostRuntime) {
+    let base_and_next =
+        b"\x01k\0\0\0\x01\0\0\0\x01\0\0\0\0\0\0\0\x01\0\0\0\x01\0\0\0\0\0\0\0\x02\0\0\0\x07{\"a\":1}";
+    let many_loose = b"\x01k\0\0\0\x01\0\0\0\x01\0\0\0\0\0\0\0\0\xFF\xFF\xFF\xFF";
+    let no_dot = b"\x01k\0\0\0\x01\0\0\0\x01\0\0\0\0\0\0\0\0\0\0\0\0";
+    assert_eq!(rt; fault(rt.alloc(), 0x22, base_and_next), 2);
+    assert_eq!(rt; fault(rt.alloc(), 0x22, many_loose), 33);
+    assert_eq!(rt; fault(rt.alloc(), 0x22, no_dot), 2);
+    assert_eq!(rt; fault(rt.alloc(), 0x29, b"\x01k\0\0\0\0\xFF\xFF"), 33);
+}
+
+#[test]
+fn keys_are_refused(rt: HostRuntime) {
+    assert_eq!(rt; fault(rt.alloc(), 0x21, b"\0"), 1);
+    assert_eq!(rt; fault(rt.alloc(), 0x21, b"\x02k"), 33);
+    assert_eq!(rt; fault(rt.alloc(), 0x21, b"\x01k"), 0);
+}
+
+#[test]
+fn kinds_are_refused(rt: HostRuntime) {
+    assert_eq!(rt; fault(rt.alloc(), 0x01, b"\x01k"), 32);
+    assert_eq!(rt; fault(rt.alloc(), 0x70, b""), 32);
+    assert_eq!(rt; fault(rt.alloc(), 0x2F, b""), 0);
+    assert_eq!(rt; fault(rt.alloc(), 0x2F, b"\0"), 33);
+}
+
+#[test]
+fn paths_and_names_are_refused(rt: HostRuntime) {
+    assert_eq!(rt; fault(rt.alloc(), 0x27, b"\x04"), 14);
+    assert_eq!(rt; fault(rt.alloc(), 0x27, b"\x01\x10"), 14);
+    assert_eq!(rt; fault(rt.alloc(), 0x24, b"\x00\x02a.\x00\x00"), 33);
+}
+
+#[test]
+fn terms_are_refused(rt: HostRuntime) {
+    assert_eq!(rt; fault(rt.alloc(), 0x25, b"\x00\x01v\x05"), 15);
+    assert_eq!(rt; fault(rt.alloc(), 0x25, b"\x00\x01v\x04\x02\x01"), 15);
+    assert_eq!(rt; fault(rt.alloc(), 0x25, b"\x00\x01v\x04\x00\x01\xFF"), 15);
+}
+
+/// Whether these bytes are the frame of a request, which is written so again.
+fn comes_back(alloc: Global, bytes: &[u8]) -> Result<bool, Refusal> {
+    let mut input = bytes;
+    let Some(frame) = read_frame(alloc, &mut input)? else {
+        return Ok(false);
+    };
+    let request = decode_request(alloc, frame.kind, &frame.payload)?;
+    let mut out = Vec::new(alloc);
+    write_frame(&mut out, &encode_request(alloc, &request)?)?;
+    Ok(input.is_empty() && out.as_slice() == bytes)
+}
+
+#[test]
+fn gets_and_writes_come_back(rt: HostRuntime) -> Result<(), Fail> {
+    let put = b"\0\0\0\x12\x22\x01k\0\0\0\0\0\0\0\x07{\"a\":1}";
+    assert!(rt; comes_back(rt.alloc(), b"\0\0\0\x03\x21\x01k")?);
+    assert!(rt; comes_back(rt.alloc(), put)?);
+    assert!(rt; comes_back(rt.alloc(), b"\0\0\0\x07\x23\x01k\0\0\0\0")?);
+    Ok(())
+}
+
+#[test]
+fn pushes_and_the_end_come_back(rt: HostRuntime) -> Result<(), Fail> {
+    let push =
+        b"\0\0\0\x30\x29\x01k\0\0\0\x01\0\0\0\x01\0\0\0\0\0\0\0\x01\0\0\0\0\0\x01\0\0\0\x01\0\0\0\0\0\0\0\x01\0\0\0\x07{\"a\":2}";
+    assert!(rt; comes_back(rt.alloc(), push)?);
+    assert!(rt; comes_back(rt.alloc(), b"\0\0\0\x01\x2F")?);
+    Ok(())
+}
+
+#[test]
+fn finds_come_back(rt: HostRuntime) -> Result<(), Fail> {
+    let first = b"\0\0\0\x0F\x24\0\x04city\x04\0\x04Oslo\0";
+    let next = b"\0\0\0\x14\x24\0\x01n\x02\x01\x01k\0\0\0\x01\0\0\0\0\0\0\0\x02";
+    let range = b"\0\0\0\x0F\x2A\0\x01n\x00\x03\0\0\0\0\0\0\0\x0A\x00";
+    assert!(rt; comes_back(rt.alloc(), first)?);
+    assert!(rt; comes_back(rt.alloc(), next)?);
+    assert!(rt; comes_back(rt.alloc(), range)?);
+    Ok(())
+}
+
+#[test]
+fn questions_to_views_come_back(rt: HostRuntime) -> Result<(), Fail> {
+    let row = b"\0\0\0\x0F\x25\0\x05spend\x04\0\x04Oslo";
+    let rows = b"\0\0\0\x12\x26\0\x05spend\x01\x03\xFF\xFF\xFF\xFF\xFF\xFF\xFF\xFF";
+    assert!(rt; comes_back(rt.alloc(), row)?);
+    assert!(rt; comes_back(rt.alloc(), rows)?);
+    Ok(())
+}
+
+#[test]
+fn questions_to_the_tree_come_back(rt: HostRuntime) -> Result<(), Fail> {
+    assert!(rt; comes_back(rt.alloc(), b"\0\0\0\x02\x27\0")?);
+    assert!(rt; comes_back(rt.alloc(), b"\0\0\0\x05\x27\x03\0\x0F\x08")?);
+    assert!(rt; comes_back(rt.alloc(), b"\0\0\0\x06\x28\x01\x02\x01\x01k")?);
+    Ok(())
+}

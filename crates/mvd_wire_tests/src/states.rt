@@ -1,0 +1,129 @@
+//! States, keys and contexts.
+use mvd_dots::{Context, Refusal};
+use mvd_keys::{Key, KeyState};
+use mvd_wire::{
+    Reply, decode_old_state, decode_state, encode_delete, encode_key, encode_reply, encode_state,
+    state_length,
+};
+use std::alloc::Global;
+use std::test::Fail;
+
+/// Site 1, base 1, no loose counter; one sibling 1:1 with {"a":1}.
+const STATE: [u8; 45] = [
+    0, 0, 0, 1, 0, 0, 0, 1, 0, 0, 0, 0, 0, 0, 0, 1, 0, 0, 0, 0, 0, 1, 0, 0, 0, 1, 0, 0, 0, 0, 0, 0,
+    0, 1, 0, 0, 0, 7, 0x7B, 0x22, 0x61, 0x22, 0x3A, 0x31, 0x7D,
+];
+
+/// The same in the first version of the format.
+const OLD_STATE: [u8; 39] = [
+    0, 1, 0, 1, 0, 0, 0, 0, 0, 0, 0, 1, 0, 0, 0, 0, 0, 1, 0, 1, 0, 0, 0, 0, 0, 0, 0, 1, 0, 0, 0, 7,
+    0x7B, 0x22, 0x61, 0x22, 0x3A, 0x31, 0x7D,
+];
+
+/// Whether the state that the bytes spell is spelled so, and has that length.
+fn comes_back(alloc: Global, bytes: &[u8]) -> Result<bool, Refusal> {
+    let state = decode_state(alloc, bytes)?;
+    let spelled = encode_state(alloc, &state)?;
+    Ok(spelled.as_slice() == bytes && state_length(&state) == bytes.len() as u64)
+}
+
+#[test]
+fn states_come_back(rt: HostRuntime) -> Result<(), Fail> {
+    let other =
+        b"\0\0\0\x01\0\0\0\x01\0\0\0\0\0\0\0\x01\0\0\0\0\0\x01\0\0\0\x01\0\0\0\0\0\0\0\x01\0\0\0\x02{}";
+    assert!(rt; comes_back(rt.alloc(), &STATE)?);
+    assert!(rt; comes_back(rt.alloc(), other)?);
+    Ok(())
+}
+
+#[test]
+fn the_empty_state_has_six_bytes(rt: HostRuntime) -> Result<(), Fail> {
+    let empty = KeyState::empty(rt.alloc());
+    assert_eq!(rt;
+        encode_state(rt.alloc(), &empty)?.as_slice(),
+        [0u8; 6].as_slice()
+    );
+    Ok(())
+}
+
+#[test]
+fn old_states_are_spelled_anew(rt: HostRuntime) -> Result<(), Fail> {
+    let old = decode_old_state(rt.alloc(), &OLD_STATE)?;
+    assert_eq!(rt;
+        encode_state(rt.alloc(), &old)?.as_slice(),
+        STATE.as_slice()
+    );
+    Ok(())
+}
+
+#[test]
+fn states_are_framed(rt: HostRuntime) -> Result<(), Fail> {
+    let state = decode_state(rt.alloc(), &STATE)?;
+    let reply = encode_reply(rt.alloc(), &Reply::State(state))?;
+    assert!(rt; reply.as_slice().starts_with(b"\0\0\0\x2E\xA1"));
+    assert!(rt; reply.as_slice().ends_with(&STATE));
+    assert_eq!(rt; reply.len(), 50);
+    Ok(())
+}
+
+/// The number with which a state is refused, or 0.
+fn fault(alloc: Global, bytes: &[u8]) -> u8 {
+    match decode_state(alloc, bytes) {
+        Ok(_) => 0,
+        Err(refusal) => refusal.number(),
+    }
+}
+
+/// The number with which the state with another byte at this place is refused, or 0.
+fn fault_with(alloc: Global, at: usize, byte: u8) -> u8 {
+    let mut bytes = STATE;
+    if at < 45 {
+        bytes[at] = byte;
+    }
+    fault(alloc, &bytes)
+}
+
+#[test]
+fn states_are_refused(rt: HostRuntime) {
+    let alloc = rt.alloc();
+    assert_eq!(rt; fault(alloc, &[0; 6]), 0);
+    assert_eq!(rt; fault(alloc, &[0; 7]), 33);
+    assert_eq!(rt; fault(alloc, &STATE[..44]), 33);
+    assert_eq!(rt; fault(alloc, &OLD_STATE), 2);
+}
+
+#[test]
+fn states_with_another_byte_are_refused(rt: HostRuntime) {
+    // a sibling that the context has not, and a document in another text than its own
+    assert_eq!(rt; fault_with(rt.alloc(), 33, 2), 33);
+    assert_eq!(rt; fault_with(rt.alloc(), 38, 0x20), 3);
+}
+
+#[test]
+fn keys_are_spelled(rt: HostRuntime) -> Result<(), Fail> {
+    let key = Key::read(rt.alloc(), "abc")?;
+    assert_eq!(rt;
+        encode_key(rt.alloc(), &key)?.as_slice(),
+        b"\x03abc".as_slice()
+    );
+    Ok(())
+}
+
+/// Whether the context of this text is spelled so.
+fn context_is(alloc: Global, text: &str, spelled: &[u8]) -> Result<bool, Refusal> {
+    let key = Key::read(alloc, "k")?;
+    let context = Context::read(alloc, text)?;
+    let frame = encode_delete(alloc, &key, &context)?;
+    Ok(frame.len() == spelled.len() + 7 && frame.as_slice().ends_with(spelled))
+}
+
+#[test]
+fn contexts_are_spelled(rt: HostRuntime) -> Result<(), Fail> {
+    let alloc = rt.alloc();
+    let with_base = b"\0\0\0\x01\0\0\0\x01\0\0\0\0\0\0\0\x01\0\0\0\0";
+    let with_loose = b"\0\0\0\x01\0\0\0\x02\0\0\0\0\0\0\0\0\0\0\0\x01\0\0\0\0\0\0\0\x03";
+    assert!(rt; context_is(alloc, "-", b"\0\0\0\0")?);
+    assert!(rt; context_is(alloc, "1:1", with_base)?);
+    assert!(rt; context_is(alloc, "2:0+3", with_loose)?);
+    Ok(())
+}

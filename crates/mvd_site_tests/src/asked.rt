@@ -4,12 +4,11 @@ ghost use Rattle.mvd_site.specs.Config.{IsConfig};
 
 use mvd_docs::Document;
 use mvd_dots::{Context, Dot, Refusal};
-use mvd_keys::Key;
+use mvd_keys::{Key, KeyState};
 use mvd_rows::Defs;
 use mvd_site::{Config, Prepared, Site, counted};
 use mvd_wire::{Reply, Request};
 use std::alloc::Global;
-use std::test::Fail;
 
 /// A site of this number that may hold this many keys, with no index and no view.
 pub fn site(alloc: Global, number: u32, max_keys: u32) -> Result<Site, Refusal>
@@ -26,40 +25,91 @@ pub fn put(alloc: Global, key: &str, seen: &str, document: &str) -> Result<Reque
     ))
 }
 
-pub fn get(alloc: Global, key: &str) -> Result<Request, Refusal> {
-    Ok(Request::Get(Key::read(alloc, key)?))
-}
-
 /// What the site answers. Nothing is claimed of it, so that a test's proof carries no answer's meaning.
 pub fn answered(site: &mut Site, request: &Request) -> Reply {
     site.answer(request)
 }
 
 /// What the request comes to, in the same way. Each look at a held state adds one to the count.
-pub fn prepared(site: &Site, request: &Request, looks: &mut u64) -> Result<Prepared, Refusal>
+fn prepared(site: &Site, request: &Request, looks: &mut u64) -> Result<Prepared, Refusal>
     requires { looks.old ≤ 2 ^ 63 }
 {
     counted::prepare(site, request, looks)
 }
 
-/// Whether the reply shows a state of this context and so many siblings.
-pub fn shows(reply: &Reply, context: &str, siblings: usize) -> Result<bool, Refusal> {
-    match reply {
-        Reply::State(state) => Ok(
-            state.context().print()?.as_str() == context && state.siblings().len() == siblings,
-        ),
-        _ => Ok(false),
+/// What a request comes to, in a word.
+fn kind(prepared: &Prepared) -> &'static str {
+    match prepared {
+        Prepared::Change(_) => "a change",
+        Prepared::Answer(Reply::Done) => "done",
+        Prepared::Answer(Reply::Digests(_)) => "digests",
+        Prepared::Answer(Reply::Keys(_, false)) => "keys",
+        Prepared::Answer(Reply::Rows(_, false)) => "rows",
+        Prepared::Answer(_) => "another answer",
     }
 }
 
-pub fn is_written(reply: &Reply, dot: Option<Dot>) -> bool {
+/// Whether the request comes to this, with at most so many looks at held states.
+pub fn comes_to(site: &Site, request: &Request, wanted: &str, most: u64) -> Result<bool, Refusal> {
+    let mut looks = 0;
+    let prepared = prepared(site, request, &mut looks)?;
+    Ok(looks <= most && kind(&prepared) == wanted)
+}
+
+/// The dot of the write that the reply tells.
+pub fn dot_of(reply: &Reply) -> Option<Dot> {
     match reply {
-        Reply::Written(written) => Some(*written) == dot,
-        _ => false,
+        Reply::Written(dot) => Some(*dot),
+        _ => None,
     }
 }
 
-/// Fails where this is not so.
-pub fn expect(is_so: bool, what: &str) -> Result<(), Fail> {
-    if is_so { Ok(()) } else { Err(Fail::new(what)) }
+/// The dot of the write that the site's answer tells.
+fn dot_by(site: &mut Site, request: &Request) -> Option<Dot> {
+    let reply = answered(site, request);
+    dot_of(&reply)
+}
+
+/// Puts a document at a key by a client that has seen nothing, and gives the dot of the write.
+pub fn write(
+    alloc: Global,
+    site: &mut Site,
+    key: &str,
+    document: &str,
+) -> Result<Option<Dot>, Refusal> {
+    let request = put(alloc, key, "-", document)?;
+    Ok(dot_by(site, &request))
+}
+
+/// A site of this number that may hold one key, and holds `{}` at `a`.
+pub fn written(alloc: Global, number: u32) -> Result<Site, Refusal>
+    requires { IsConfig number 1 }
+{
+    let mut site = site(alloc, number, 1)?;
+    write(alloc, &mut site, "a", "{}")?;
+    Ok(site)
+}
+
+/// The state that the site holds at a key. Nothing is claimed of it, as with an answer.
+pub fn state_at(alloc: Global, site: &Site, key: &str) -> Result<KeyState, Refusal> {
+    let key = Key::read(alloc, key)?;
+    site.get(&key)
+}
+
+/// Whether the state has this context and so many siblings.
+pub fn has(state: &KeyState, context: &str, siblings: usize) -> Result<bool, Refusal> {
+    let text = state.context().print()?;
+    Ok(text.as_str() == context && state.siblings().len() == siblings)
+}
+
+/// Whether the site holds, at a key, a state of this context and so many siblings.
+pub fn holds(
+    alloc: Global,
+    site: &Site,
+    key: &str,
+    context: &str,
+    siblings: usize,
+) -> Result<bool, Refusal> {
+    let state = state_at(alloc, site, key)?;
+    has(&state, context, siblings)
 }

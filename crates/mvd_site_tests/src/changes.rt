@@ -1,44 +1,40 @@
 //! Changes that are prepared, and installed or not.
-use crate::asked::{answered, expect, get, is_written, prepared, put, shows, site};
+use crate::asked::{answered, comes_to, dot_of, has, holds, put, site, state_at, write, written};
 use mvd_dots::{Context, Dot, Refusal};
-use mvd_keys::{Key, Path};
+use mvd_keys::{Key, KeyState};
 use mvd_rows::Defs;
 use mvd_site::{Change, Config, Prepared, Site, counted};
 use mvd_wire::{Reply, Request, encode_state};
 use std::alloc::Global;
 use std::test::Fail;
 
-/// Fails where the change does not tell what it was made of.
-fn expect_change(alloc: Global, change: &Change) -> Result<(), Fail> {
-    expect(is_written(&change.reply(), Dot::new(7, 1)), "its reply")?;
-    expect(change.key().text() == "k", "its key")?;
+/// Whether the change tells what it was made of.
+fn is_told(alloc: Global, change: &Change) -> Result<bool, Refusal> {
     let bytes = encode_state(alloc, change.state())?;
-    expect(change.bytes() == bytes.as_slice(), "its bytes")
+    Ok(
+        change.bytes() == bytes.as_slice()
+            && change.key().text() == "k"
+            && dot_of(&change.reply()) == Dot::new(7, 1),
+    )
 }
 
-/// Prepares a request and installs the change that it comes to, and gives how many looks that took.
-fn in_two_steps(alloc: Global, site: &mut Site, request: &Request) -> Result<u64, Fail> {
+/// Prepares a request and installs the change that it comes to: whether that took one look, and it tells what it was made
+/// of.
+fn is_installed(alloc: Global, site: &mut Site, request: &Request) -> Result<bool, Refusal> {
     let mut looks = 0;
     match counted::prepare(site, request, &mut looks)? {
-        Prepared::Answer(_) => Err(Fail::new("it changes nothing")),
+        Prepared::Answer(_) => Ok(false),
         Prepared::Change(change) => {
-            expect_change(alloc, &change)?;
+            let is_told = is_told(alloc, &change)?;
             site.install(change)?;
-            Ok(looks)
+            Ok(is_told && looks == 1)
         }
     }
 }
 
-fn put_in_two_steps(alloc: Global, site: &mut Site) -> Result<u64, Fail> {
+fn puts_in_two_steps(alloc: Global, site: &mut Site) -> Result<bool, Refusal> {
     let request = put(alloc, "k", "-", "{\"a\":1}")?;
-    in_two_steps(alloc, site, &request)
-}
-
-/// Whether the site shows one sibling at `k`, by its first write.
-fn shows_first(alloc: Global, site: &mut Site) -> Result<bool, Refusal> {
-    let request = get(alloc, "k")?;
-    let reply = answered(site, &request);
-    shows(&reply, "7:1", 1)
+    is_installed(alloc, site, &request)
 }
 
 /// Whether it is the site of number 7, whole, with one key.
@@ -46,56 +42,70 @@ fn has_one_key(site: &Site) -> bool {
     site.key_count() == 1 && site.config().site() == 7 && !site.is_broken()
 }
 
+fn is_put_in_two_steps(alloc: Global) -> Result<bool, Refusal> {
+    let mut site = site(alloc, 7, 2)?;
+    let is_put = puts_in_two_steps(alloc, &mut site)?;
+    Ok(is_put && has_one_key(&site) && holds(alloc, &site, "k", "7:1", 1)?)
+}
+
 #[test]
 fn a_change_is_prepared_and_installed(rt: HostRuntime) -> Result<(), Fail> {
-    let alloc = rt.alloc();
-    let mut site = site(alloc, 7, 2)?;
-    let looks = put_in_two_steps(alloc, &mut site)?;
-    expect(looks == 1, "looks")?;
-    expect(has_one_key(&site), "its parts")?;
-    expect(shows_first(alloc, &mut site)?, "its state")
+    assert!(rt; is_put_in_two_steps(rt.alloc())?);
+    Ok(())
 }
 
-fn is_done(prepared: &Prepared) -> bool {
-    matches!(prepared, Prepared::Answer(Reply::Done))
+/// A push of the state that the site holds at `a`.
+fn push_back(alloc: Global, site: &Site) -> Result<Request, Refusal> {
+    let state = state_at(alloc, site, "a")?;
+    Ok(Request::Push(Key::read(alloc, "a")?, state))
 }
 
-/// A push of the state that the reply shows.
-fn push_of(alloc: Global, reply: &Reply) -> Result<Request, Refusal> {
-    match reply {
-        Reply::State(state) => Ok(Request::Push(Key::read(alloc, "k")?, state.copy(alloc)?)),
-        _ => Err(Refusal::BadKind),
-    }
-}
-
-/// Puts `{}` at `k`.
-fn put_first(alloc: Global, site: &mut Site) -> Result<(), Fail> {
-    let request = put(alloc, "k", "-", "{}")?;
-    let reply = answered(site, &request);
-    expect(is_written(&reply, Dot::new(1, 1)), "its dot")
-}
-
-/// A push of the state that the site shows at `k`.
-fn push_back(alloc: Global, site: &mut Site) -> Result<Request, Refusal> {
-    let request = get(alloc, "k")?;
-    let reply = answered(site, &request);
-    push_of(alloc, &reply)
-}
-
-/// Whether the site has nothing to change for the request.
-fn changes_nothing(site: &Site, request: &Request) -> Result<bool, Refusal> {
-    let mut looks = 0;
-    let prepared = prepared(site, request, &mut looks)?;
-    Ok(is_done(&prepared))
+fn ignores_its_own(alloc: Global) -> Result<bool, Refusal> {
+    let site = written(alloc, 1)?;
+    let again = push_back(alloc, &site)?;
+    comes_to(&site, &again, "done", 1)
 }
 
 #[test]
 fn a_push_of_what_is_held_changes_nothing(rt: HostRuntime) -> Result<(), Fail> {
-    let alloc = rt.alloc();
-    let mut site = site(alloc, 1, 1)?;
-    put_first(alloc, &mut site)?;
-    let again = push_back(alloc, &mut site)?;
-    expect(changes_nothing(&site, &again)?, "the push")
+    assert!(rt; ignores_its_own(rt.alloc())?);
+    Ok(())
+}
+
+/// Whether a site with no key takes this state at `a`, and shows its one sibling.
+fn takes(alloc: Global, state: &KeyState) -> Result<bool, Refusal> {
+    let mut site = site(alloc, 2, 1)?;
+    site.push(&Key::read(alloc, "a")?, state)?;
+    holds(alloc, &site, "a", "1:1", 1)
+}
+
+fn takes_from_another(alloc: Global) -> Result<bool, Refusal> {
+    let site = written(alloc, 1)?;
+    takes(alloc, &state_at(alloc, &site, "a")?)
+}
+
+#[test]
+fn a_state_is_pushed_to_another_site(rt: HostRuntime) -> Result<(), Fail> {
+    assert!(rt; takes_from_another(rt.alloc())?);
+    Ok(())
+}
+
+/// Whether one look gives the state at `a`.
+fn gives_by_one_look(alloc: Global, site: &Site) -> Result<bool, Refusal> {
+    let mut looks = 0;
+    let state = counted::get(site, &Key::read(alloc, "a")?, &mut looks)?;
+    Ok(looks == 1 && has(&state, "1:1", 1)?)
+}
+
+fn is_given_by_one_look(alloc: Global) -> Result<bool, Refusal> {
+    let site = written(alloc, 1)?;
+    gives_by_one_look(alloc, &site)
+}
+
+#[test]
+fn a_state_costs_one_look(rt: HostRuntime) -> Result<(), Fail> {
+    assert!(rt; is_given_by_one_look(rt.alloc())?);
+    Ok(())
 }
 
 /// A delete that saw nothing.
@@ -103,50 +113,43 @@ fn delete_unseen(alloc: Global, key: &str) -> Result<Request, Refusal> {
     Ok(Request::Delete(Key::read(alloc, key)?, Context::new(alloc)))
 }
 
-/// Whether a delete that saw nothing changes nothing.
-fn ignores_unseen(alloc: Global, site: &Site) -> Result<bool, Refusal> {
-    let seen = delete_unseen(alloc, "other")?;
-    changes_nothing(site, &seen)
-}
-
-fn is_goodbye(site: &mut Site) -> bool {
-    let reply = answered(site, &Request::Bye);
-    matches!(&reply, Reply::Done)
+fn ignores_unseen(alloc: Global) -> Result<bool, Refusal> {
+    let site = written(alloc, 1)?;
+    let unseen = delete_unseen(alloc, "other")?;
+    comes_to(&site, &unseen, "done", 1)
 }
 
 #[test]
 fn a_delete_that_saw_nothing_changes_nothing(rt: HostRuntime) -> Result<(), Fail> {
-    let mut site = site(rt.alloc(), 1, 1)?;
-    put_first(rt.alloc(), &mut site)?;
-    expect(ignores_unseen(rt.alloc(), &site)?, "the delete")?;
-    expect(is_goodbye(&mut site), "a goodbye")
-}
-
-/// Adds a put at the key `a`.
-fn push_put(alloc: Global, requests: &mut Vec<Request>, document: &str) -> Result<(), Refusal> {
-    let request = put(alloc, "a", "-", document)?;
-    requests.push(request)?;
+    assert!(rt; ignores_unseen(rt.alloc())?);
     Ok(())
 }
 
-/// Two puts, what is there, and a goodbye.
+/// Two puts at `a`, what is there, and a goodbye.
 fn talk(alloc: Global) -> Result<Vec<Request>, Refusal> {
     let mut requests = Vec::new(alloc);
-    push_put(alloc, &mut requests, "{\"n\":1}")?;
-    push_put(alloc, &mut requests, "{\"n\":2}")?;
-    requests.push(get(alloc, "a")?)?;
+    requests.push(put(alloc, "a", "-", "{\"n\":1}")?)?;
+    requests.push(put(alloc, "a", "-", "{\"n\":2}")?)?;
+    requests.push(Request::Get(Key::read(alloc, "a")?))?;
     requests.push(Request::Bye)?;
     Ok(requests)
 }
 
-/// Fails where these are not the replies to that.
-fn expect_replies(replies: &[Reply]) -> Result<(), Fail> {
+/// Whether the reply shows both siblings.
+fn shows_both(reply: &Reply) -> Result<bool, Refusal> {
+    match reply {
+        Reply::State(state) => has(state, "3:2", 2),
+        _ => Ok(false),
+    }
+}
+
+/// Whether these are the replies to that.
+fn are_told(replies: &[Reply]) -> Result<bool, Refusal> {
     match replies {
-        [_, second, third, _] => {
-            expect(is_written(second, Dot::new(3, 2)), "the second put")?;
-            expect(shows(third, "3:2", 2)?, "both siblings")
+        [_, second, third, Reply::Done] => {
+            Ok(dot_of(second) == Dot::new(3, 2) && shows_both(third)?)
         }
-        _ => Err(Fail::new("not four replies")),
+        _ => Ok(false),
     }
 }
 
@@ -161,44 +164,24 @@ fn replies_to(alloc: Global, requests: &[Request]) -> Result<Vec<Reply>, Refusal
 fn a_site_is_run(rt: HostRuntime) -> Result<(), Fail> {
     let requests = talk(rt.alloc())?;
     let replies = replies_to(rt.alloc(), &requests)?;
-    expect_replies(&replies)
+    assert!(rt; are_told(&replies)?);
+    Ok(())
 }
 
-fn node(alloc: Global) -> Result<Request, Refusal> {
-    Ok(Request::Node(Path::new(alloc, &[])?))
+fn is_goodbye(site: &mut Site) -> bool {
+    let reply = answered(site, &Request::Bye);
+    matches!(&reply, Reply::Done)
 }
 
-fn bucket(alloc: Global) -> Result<Request, Refusal> {
-    Ok(Request::Bucket(Path::new(alloc, &[1, 2, 3])?, None))
-}
-
-/// Fails where the hash tree's root is not told, or not without a look.
-fn expect_node(alloc: Global, site: &Site) -> Result<(), Fail> {
-    let request = node(alloc)?;
-    let mut looks = 0;
-    let node = prepared(site, &request, &mut looks)?;
-    expect(looks == 0 && tells_digests(&node), "digests, and no look")
-}
-
-fn tells_digests(prepared: &Prepared) -> bool {
-    matches!(prepared, Prepared::Answer(Reply::Digests(_)))
-}
-
-/// Fails where the keys of a bucket are not told, or not without a look.
-fn expect_bucket(alloc: Global, site: &Site) -> Result<(), Fail> {
-    let request = bucket(alloc)?;
-    let mut looks = 0;
-    let keys = prepared(site, &request, &mut looks)?;
-    expect(looks == 0 && tells_keys(&keys), "keys, and no look")
-}
-
-fn tells_keys(prepared: &Prepared) -> bool {
-    matches!(prepared, Prepared::Answer(Reply::Keys(_, false)))
+/// Whether a put is told by its dot, and a goodbye is answered.
+fn talks(alloc: Global) -> Result<bool, Refusal> {
+    let mut site = site(alloc, 1, 1)?;
+    let dot = write(alloc, &mut site, "k", "{}")?;
+    Ok(dot == Dot::new(1, 1) && is_goodbye(&mut site))
 }
 
 #[test]
-fn a_node_costs_no_look(rt: HostRuntime) -> Result<(), Fail> {
-    let site = site(rt.alloc(), 3, 9)?;
-    expect_node(rt.alloc(), &site)?;
-    expect_bucket(rt.alloc(), &site)
+fn a_site_answers(rt: HostRuntime) -> Result<(), Fail> {
+    assert!(rt; talks(rt.alloc())?);
+    Ok(())
 }

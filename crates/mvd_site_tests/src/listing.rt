@@ -1,9 +1,9 @@
 //! The bytes of answers from an index and a view.
-use crate::asked::{answered, expect, prepared, put};
+use crate::asked::{answered, comes_to, write};
 use mvd_docs::{Field, Term, ViewName};
 use mvd_dots::Refusal;
 use mvd_rows::Defs;
-use mvd_site::{Config, Prepared, Site};
+use mvd_site::{Config, Site};
 use mvd_wire::{Reply, Request, encode_reply};
 use std::alloc::Global;
 use std::test::Fail;
@@ -24,23 +24,23 @@ fn by_city(alloc: Global) -> Result<Defs, Refusal> {
     Ok(defs)
 }
 
-fn push(alloc: Global, site: &mut Site, key: &str, document: &str) -> Result<(), Refusal> {
-    let request = put(alloc, key, "-", document)?;
-    answered(site, &request);
-    Ok(())
-}
-
 fn by_city_site(alloc: Global) -> Result<Site, Refusal> {
     let defs = by_city(alloc)?;
     Site::new(alloc, Config::new(1, 9, defs))
 }
 
-/// A site with these, and three documents there.
+/// Puts three documents.
+fn spend(alloc: Global, site: &mut Site) -> Result<(), Refusal> {
+    write(alloc, site, "a", "{\"amount\":5,\"city\":\"Oslo\"}")?;
+    write(alloc, site, "a", "{\"amount\":-7,\"city\":\"Oslo\"}")?;
+    write(alloc, site, "b", "{\"city\":\"Oslo\"}")?;
+    Ok(())
+}
+
+/// A site with these.
 fn spending(alloc: Global) -> Result<Site, Refusal> {
     let mut site = by_city_site(alloc)?;
-    push(alloc, &mut site, "a", "{\"amount\":5,\"city\":\"Oslo\"}")?;
-    push(alloc, &mut site, "a", "{\"amount\":-7,\"city\":\"Oslo\"}")?;
-    push(alloc, &mut site, "b", "{\"city\":\"Oslo\"}")?;
+    spend(alloc, &mut site)?;
     Ok(site)
 }
 
@@ -54,11 +54,16 @@ fn frame_of(alloc: Global, reply: &Reply) -> Result<String, Refusal> {
     Ok(hex::encode(alloc, bytes)?)
 }
 
+/// The frame of the site's answer.
+fn frame_by(alloc: Global, site: &mut Site, request: &Request) -> Result<String, Refusal> {
+    let reply = answered(site, request);
+    frame_of(alloc, &reply)
+}
+
 /// The frame of that site's answer.
 fn frame(alloc: Global, request: &Request) -> Result<String, Refusal> {
     let mut site = spending(alloc)?;
-    let reply = answered(&mut site, request);
-    frame_of(alloc, &reply)
+    frame_by(alloc, &mut site, request)
 }
 
 fn row(alloc: Global) -> Result<Request, Refusal> {
@@ -75,42 +80,48 @@ fn rows(alloc: Global) -> Result<Request, Refusal> {
     Ok(Request::Rows(ViewName::read(alloc, "spend")?, None))
 }
 
+fn is_row(frame: &str) -> bool {
+    frame
+        == "0000002aa50000000000000003fffffffffffffffffffffffffffffffe01fffffffffffffff90000000000000005"
+}
+
+fn is_row_told(alloc: Global) -> Result<bool, Refusal> {
+    let request = row(alloc)?;
+    let frame = frame(alloc, &request)?;
+    Ok(is_row(frame.as_str()))
+}
+
 #[test]
 fn a_row_has_its_bytes(rt: HostRuntime) -> Result<(), Fail> {
-    let alloc = rt.alloc();
-    let request = row(alloc)?;
-    let row = frame(alloc, &request)?;
-    expect(
-        row.as_str()
-            == "0000002aa50000000000000003fffffffffffffffffffffffffffffffe01fffffffffffffff90000000000000005",
-        "the frame",
-    )
+    assert!(rt; is_row_told(rt.alloc())?);
+    Ok(())
+}
+
+/// Whether a frame of places has its start and its length.
+fn is_of_places(frame: &str) -> bool {
+    frame.len() == 142 && frame.starts_with("00000043a40000030400044f736c6f0161")
+}
+
+fn are_places_told(alloc: Global) -> Result<bool, Refusal> {
+    let request = places(alloc)?;
+    let frame = frame(alloc, &request)?;
+    Ok(is_of_places(frame.as_str()))
 }
 
 #[test]
 fn places_have_their_bytes(rt: HostRuntime) -> Result<(), Fail> {
-    let alloc = rt.alloc();
-    let request = places(alloc)?;
-    let places = frame(alloc, &request)?;
-    let start = "00000043a40000030400044f736c6f0161";
-    expect(places.as_str().starts_with(start), "its start")?;
-    expect(places.len() == 142, "its length")
+    assert!(rt; are_places_told(rt.alloc())?);
+    Ok(())
 }
 
-/// Fails where the rows of the view are not told, or not without a look.
-fn expect_rows(alloc: Global, site: &Site) -> Result<(), Fail> {
+fn rows_cost_no_look(alloc: Global) -> Result<bool, Refusal> {
+    let site = spending(alloc)?;
     let request = rows(alloc)?;
-    let mut looks = 0;
-    let rows = prepared(site, &request, &mut looks)?;
-    expect(looks == 0 && tells_rows(&rows), "rows, and no look")
-}
-
-fn tells_rows(prepared: &Prepared) -> bool {
-    matches!(prepared, Prepared::Answer(Reply::Rows(_, false)))
+    comes_to(&site, &request, "rows", 0)
 }
 
 #[test]
 fn questions_cost_no_look(rt: HostRuntime) -> Result<(), Fail> {
-    let site = spending(rt.alloc())?;
-    expect_rows(rt.alloc(), &site)
+    assert!(rt; rows_cost_no_look(rt.alloc())?);
+    Ok(())
 }

@@ -2,40 +2,32 @@
 ghost use Rattle.std.specs.Prelude.{IfOk};
 ghost use Rattle.mvd_site.specs.Held.{IsHeldState};
 
-use crate::asked::{answered, expect, put, site};
+use crate::asked::{comes_to, site, state_at, written};
 use mvd_dots::Refusal;
 use mvd_keys::{Key, KeyState, Path};
 use mvd_rows::Defs;
-use mvd_site::{Change, Config, Prepared, Site};
-use mvd_wire::{Reply, Request};
+use mvd_site::{Config, Site, may_be_held};
+use mvd_wire::Request;
 use std::alloc::Global;
 use std::test::Fail;
 
-/// The change that the request comes to.
-fn change_by(site: &Site, request: &Request) -> Result<Change, Refusal>
-    ensures { IfOk result (λ change. IsHeldState change.state) }
-{
-    match site.prepare(request)? {
-        Prepared::Change(change) => Ok(change),
-        Prepared::Answer(_) => Err(Refusal::BadKind),
-    }
-}
-
-/// The change by a put of `{}` at `a` on site 3.
-fn change(alloc: Global) -> Result<Change, Refusal>
-    ensures { IfOk result (λ change. IsHeldState change.state) }
-{
-    let site = site(alloc, 3, 9)?;
-    let request = put(alloc, "a", "-", "{}")?;
-    change_by(&site, &request)
-}
-
-/// The state after it.
+/// The state by a put of `{}` at `a` on site 3.
 fn held_state(alloc: Global) -> Result<KeyState, Refusal>
     ensures { IfOk result IsHeldState }
 {
-    let change = change(alloc)?;
-    change.state().copy(alloc)
+    let site = written(alloc, 3)?;
+    let state = state_at(alloc, &site, "a")?;
+    if may_be_held(&state) {
+        Ok(state)
+    } else {
+        Err(Refusal::StateTooLarge)
+    }
+}
+
+#[test]
+fn no_empty_state_is_held(rt: HostRuntime) -> Result<(), Fail> {
+    assert!(rt; !may_be_held(&KeyState::empty(rt.alloc())));
+    Ok(())
 }
 
 /// A site that is opened with that state at the key `a`.
@@ -45,92 +37,105 @@ fn opened(alloc: Global) -> Result<Site, Refusal> {
     Site::open(alloc, Config::new(4, 1, Defs::new(alloc)), states)
 }
 
-/// The question for the node at a path.
-fn node(alloc: Global, path: &[u8]) -> Result<Request, Refusal> {
-    Ok(Request::Node(Path::new(alloc, path)?))
-}
-
-/// The node's own digest, as a reply tells it.
-fn own_of(reply: &Reply) -> Result<[u8; 32], Refusal> {
-    match reply {
-        Reply::Digests(digests) => Ok(digests.own),
-        _ => Err(Refusal::BadKind),
-    }
-}
-
-/// The digest of the root.
-fn root(alloc: Global, site: &mut Site) -> Result<[u8; 32], Refusal> {
-    let request = node(alloc, &[])?;
-    let reply = answered(site, &request);
-    own_of(&reply)
+/// How many keys a site has that is opened with none.
+fn keys_of_none(alloc: Global) -> Result<u32, Refusal> {
+    let config = Config::new(3, 1, Defs::new(alloc));
+    let opened = Site::open(alloc, config, Vec::new(alloc))?;
+    Ok(opened.key_count())
 }
 
 #[test]
 fn a_site_is_opened_with_no_key(rt: HostRuntime) -> Result<(), Fail> {
-    let alloc = rt.alloc();
-    let config = Config::new(3, 1, Defs::new(alloc));
-    let opened = Site::open(alloc, config, Vec::new(alloc))?;
-    expect(opened.key_count() == 0, "keys")
+    assert!(rt; keys_of_none(rt.alloc())? == 0);
+    Ok(())
+}
+
+/// The digest of the root.
+fn root(alloc: Global, site: &Site) -> Result<[u8; 32], Refusal> {
+    let path = Path::new(alloc, &[])?;
+    let digests = site.node(&path)?;
+    Ok(digests.own)
+}
+
+fn opened_root(alloc: Global) -> Result<[u8; 32], Refusal> {
+    let site = opened(alloc)?;
+    root(alloc, &site)
+}
+
+fn written_root(alloc: Global) -> Result<[u8; 32], Refusal> {
+    let site = written(alloc, 3)?;
+    root(alloc, &site)
 }
 
 #[test]
 fn a_site_that_is_opened_has_the_same_digests(rt: HostRuntime) -> Result<(), Fail> {
-    let alloc = rt.alloc();
-    let mut site = site(alloc, 3, 9)?;
-    site.answer(&put(alloc, "a", "-", "{}")?);
-    let mut opened = opened(alloc)?;
-    expect(
-        root(alloc, &mut opened)? == root(alloc, &mut site)?,
-        "the roots",
-    )
+    assert!(rt; opened_root(rt.alloc())? == written_root(rt.alloc())?);
+    Ok(())
 }
 
 /// How many keys a page of a bucket tells, and whether more follow.
-fn told(reply: &Reply) -> Result<(usize, bool), Refusal> {
-    match reply {
-        Reply::Keys(keys, is_more) => Ok((keys.as_slice().len(), *is_more)),
-        Reply::Refused(refusal) => Err(*refusal),
-        _ => Err(Refusal::BadKind),
-    }
-}
-
-/// The question for the page after a key, or for the first page.
-fn bucket(alloc: Global, path: &[u8], after: Option<Key>) -> Result<Request, Refusal> {
-    Ok(Request::Bucket(Path::new(alloc, path)?, after))
-}
-
-/// What the site tells of that page.
 fn page(
     alloc: Global,
-    site: &mut Site,
+    site: &Site,
     path: &[u8],
-    after: Option<Key>,
+    after: Option<&Key>,
 ) -> Result<(usize, bool), Refusal> {
-    let request = bucket(alloc, path, after)?;
-    let reply = answered(site, &request);
-    told(&reply)
+    let path = Path::new(alloc, path)?;
+    let (keys, is_more) = site.bucket(&path, after)?;
+    Ok((keys.len(), is_more))
 }
 
-fn expect_whole(alloc: Global, site: &mut Site) -> Result<(), Fail> {
-    let whole = page(alloc, site, &[12, 10, 9], None)?;
-    expect(whole == (1, false), "the bucket")
-}
-
-fn expect_rest(alloc: Global, site: &mut Site) -> Result<(), Fail> {
-    let after = Key::read(alloc, "a")?;
-    let rest = page(alloc, site, &[12, 10, 9], Some(after))?;
-    expect(rest == (0, false), "what comes after its key")
-}
-
-fn expect_no_page(alloc: Global, site: &mut Site) -> Result<(), Fail> {
-    let inner = page(alloc, site, &[12, 10], None);
-    expect(matches!(&inner, Err(Refusal::BadPath)), "an inner node")
+/// The page that is opened with, and the one after its key.
+fn pages(alloc: Global) -> Result<((usize, bool), (usize, bool)), Refusal> {
+    let site = opened(alloc)?;
+    let key = Key::read(alloc, "a")?;
+    Ok((
+        page(alloc, &site, &[12, 10, 9], None)?,
+        page(alloc, &site, &[12, 10, 9], Some(&key))?,
+    ))
 }
 
 #[test]
 fn buckets_are_told_in_pages(rt: HostRuntime) -> Result<(), Fail> {
-    let mut site = opened(rt.alloc())?;
-    expect_whole(rt.alloc(), &mut site)?;
-    expect_rest(rt.alloc(), &mut site)?;
-    expect_no_page(rt.alloc(), &mut site)
+    assert!(rt; pages(rt.alloc())? == ((1, false), (0, false)));
+    Ok(())
+}
+
+fn page_of_no_bucket(alloc: Global) -> Result<(usize, bool), Refusal> {
+    let site = opened(alloc)?;
+    page(alloc, &site, &[12, 10], None)
+}
+
+#[test]
+fn an_inner_node_has_no_page(rt: HostRuntime) -> Result<(), Fail> {
+    assert!(rt; matches!(&page_of_no_bucket(rt.alloc()), Err(Refusal::BadPath)));
+    Ok(())
+}
+
+fn node(alloc: Global) -> Result<Request, Refusal> {
+    Ok(Request::Node(Path::new(alloc, &[])?))
+}
+
+fn bucket(alloc: Global) -> Result<Request, Refusal> {
+    Ok(Request::Bucket(Path::new(alloc, &[1, 2, 3])?, None))
+}
+
+/// Whether the request comes to this at a site with no key, with no look.
+fn costs_no_look(alloc: Global, request: &Request, wanted: &str) -> Result<bool, Refusal> {
+    let site = site(alloc, 3, 9)?;
+    comes_to(&site, request, wanted, 0)
+}
+
+#[test]
+fn a_node_costs_no_look(rt: HostRuntime) -> Result<(), Fail> {
+    let node = node(rt.alloc())?;
+    assert!(rt; costs_no_look(rt.alloc(), &node, "digests")?);
+    Ok(())
+}
+
+#[test]
+fn a_bucket_costs_no_look(rt: HostRuntime) -> Result<(), Fail> {
+    let bucket = bucket(rt.alloc())?;
+    assert!(rt; costs_no_look(rt.alloc(), &bucket, "keys")?);
+    Ok(())
 }

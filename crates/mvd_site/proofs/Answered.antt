@@ -1,13 +1,12 @@
 -- The answers from the states, and the states afterwards, are those from the writes that the states stand for.
-use Rattle.std.proofs.Common.{◌≡◌, ◌≢◌, ◌⊎◌, ℕ, Bool, true, false, ◌||◌, ◌&&◌, not, ◌==◌, cond, if◌then◌else◌, List, [], ◌∷◌, ◌++◌, Option, Some, None, IfSome, Result, Ok, Err, refl, sym, ap, ◌∙◌, subst, true≢false, inl, inr, ⊎_elim, unwrap_or}
+use Rattle.std.proofs.Common.{◌≡◌, ◌≢◌, ℕ, Bool, true, false, ◌||◌, ◌&&◌, not, ◌==◌, cond, if◌then◌else◌, List, [], ◌∷◌, ◌++◌, Option, Some, None, refl, sym, ap, ◌∙◌, subst, true≢false, unwrap_or}
 use Rattle.std.specs.Ordering.{eq_by_cmp}
 use Rattle.std.specs.FinMap.{get, get-insert, insert, same_map}
 use Rattle.std.specs.FinSet.{contains, union, contains-union, len-empty}
 use Rattle.mvd_dots.specs.Dot.{DotValue, dot_cmp}
 use Rattle.mvd_dots.specs.Context.{DotSet}
 use Rattle.mvd_dots.proofs.Sets.{dot_total}
-use Rattle.mvd_dots.specs.declared.refusals.Refusal.{Refusal}
-use Rattle.mvd_dots.specs.declared.refusals.Refusal.TheVariants.{DotClash, Full, Memory, StateTooLarge}
+use Rattle.mvd_dots.specs.declared.refusals.Refusal.TheVariants.{DotClash, Full, StateTooLarge}
 use Rattle.mvd_keys.specs.Key.{key_cmp}
 use Rattle.mvd_keys.specs.Minting.{mint}
 use Rattle.mvd_keys.specs.State.{State, Text, after_delete, after_put, clashes, empty_state, join}
@@ -22,7 +21,7 @@ use Rattle.mvd_wire.specs.declared.request.Request.{Request}
 use Rattle.mvd_wire.specs.declared.request.Request.TheVariants.{Get, Put, Delete, Find, Row, Rows, Node, Bucket, Push, Range, Bye}
 use Rattle.mvd_wire.specs.declared.reply.Reply.{Reply}
 use Rattle.mvd_wire.specs.declared.reply.Reply.TheVariants.{State as Shown, Written, Done, Digests as Told, Refused}
-use Rattle.mvd_site.specs.Answer.{answer, bucket_answer, change_of, digests, is_full, is_too_large, limited, node_digests, places_reply, put_answer, row_reply, rows_reply, within_limits}
+use Rattle.mvd_site.specs.Answer.{answer, bucket_answer, change_of, digests, is_full, is_too_large, limited, node_digests, places_reply, put_answer, row_reply, rows_reply}
 use Rattle.mvd_site.specs.Config.{ConfigValue}
 use Rattle.mvd_site.specs.FromStates.{after_from, answer_from, change_from, push_from, put_from, with_change, with_state, within}
 use Rattle.mvd_site.specs.Held.{States, state_at}

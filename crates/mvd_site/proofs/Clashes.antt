@@ -7,7 +7,7 @@ use Rattle.mvd_dots.specs.Context.{DotSet}
 use Rattle.mvd_dots.specs.declared.refusals.Refusal.{Refusal}
 use Rattle.mvd_dots.specs.declared.refusals.Refusal.TheVariants.{BadPath, DotClash}
 use Rattle.mvd_keys.specs.Minting.{mint}
-use Rattle.mvd_keys.specs.State.{State, Text, after_delete, after_put, clashes}
+use Rattle.mvd_keys.specs.State.{Text, after_delete, after_put, clashes}
 use Rattle.mvd_keys.specs.Writes.{Key}
 use Rattle.mvd_keys.specs.declared.places.Place.{Place}
 use Rattle.mvd_rows.specs.Answers.{find_answer, range_answer, row_answer, rows_answer}

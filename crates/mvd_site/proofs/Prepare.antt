@@ -1,5 +1,5 @@
 -- What is prepared is the answer, and what is installed follows the writes known.
-use Rattle.std.proofs.Common.{◌≡◌, ◌≢◌, ◌⊎◌, Bool, true, false, if◌then◌else◌, List, [], ◌∷◌, ◌++◌, Option, Some, None, IfSome, IsSomeAnd, Result, Ok, Err, refl, sym, ap, ap₂, ◌∙◌, subst, true≢false, inl, inr, ⊎_elim}
+use Rattle.std.proofs.Common.{◌≡◌, ◌≢◌, ◌⊎◌, Bool, true, false, if◌then◌else◌, List, [], ◌++◌, Option, Some, None, IfSome, IsSomeAnd, Result, Ok, Err, refl, sym, ap, ap₂, ◌∙◌, subst, true≢false, inl, inr, ⊎_elim}
 use Rattle.std.specs.FinMap.{get, get-empty, empty as empty_map, insert as insert_at}
 use Rattle.std.specs.FinSet.{union}
 use Rattle.mvd_dots.specs.Dot.{DotValue}

@@ -12,7 +12,7 @@ use Rattle.mvd_wire.specs.declared.reply.Reply.TheVariants.{Done, Refused}
 use Rattle.mvd_site.specs.Answer.{is_too_large}
 use Rattle.mvd_site.specs.Change.{ChangeValue}
 use Rattle.mvd_site.specs.Config.{ConfigValue}
-use Rattle.mvd_site.specs.FromStates.{Answered, AnswersFrom, Broke, change_from, push_from, push_reply, with_change, with_state, within}
+use Rattle.mvd_site.specs.FromStates.{Answered, AnswersFrom, Broke, change_from, push_reply, with_change, with_state, within}
 use Rattle.mvd_site.specs.Held.{States, state_at}
 use Rattle.mvd_site.specs.Prepared.{PreparesAnswerFrom, PreparesChangeFrom, is_refusal}
 use Rattle.mvd_site.specs.Sites.{SiteValue}

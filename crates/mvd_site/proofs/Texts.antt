@@ -1,8 +1,5 @@
 -- Of keys and states that may be held, each has a text of its own.
-use Rattle.std.proofs.Common.{◌≡◌, ℕ, ◌≤◌, List, [], ◌++◌, length, Some, sym, ◌∙◌, append-nil, arith}
-use Rattle.std.specs.FinMap.{get}
-use Rattle.mvd_keys.specs.State.{State}
-use Rattle.mvd_keys.specs.Writes.{Key}
+use Rattle.std.proofs.Common.{◌≡◌, ℕ, ◌≤◌, List, [], length, sym, ◌∙◌, append-nil, arith}
 use Rattle.mvd_tree.specs.Hashed.{HashesTellApart, HaveOneText, SameUnder}
 use Rattle.mvd_tree.specs.HashTree.{node_digest}
 use Rattle.mvd_tree.proofs.Apart.{same_states_under}

@@ -1,4 +1,6 @@
 //! Changes that are prepared, and installed or not.
+ghost use Rattle.std.specs.Prelude.{◌≤◌, ◌^◌};
+
 use crate::asked::{answered, comes_to, dot_of, has, holds, put, site, state_at, write, written};
 use mvd_dots::{Context, Dot, Refusal};
 use mvd_keys::{Key, KeyState};
@@ -42,10 +44,18 @@ fn has_one_key(site: &Site) -> bool {
     site.key_count() == 1 && site.config().site() == 7 && !site.is_broken()
 }
 
+/// Whether it is, and holds what was put.
+fn has_put(alloc: Global, site: &Site) -> Result<bool, Refusal> {
+    Ok(has_one_key(site) && holds(alloc, site, "k", "7:1", 1)?)
+}
+
+fn puts_and_has(alloc: Global, site: &mut Site) -> Result<bool, Refusal> {
+    Ok(puts_in_two_steps(alloc, site)? && has_put(alloc, site)?)
+}
+
 fn is_put_in_two_steps(alloc: Global) -> Result<bool, Refusal> {
     let mut site = site(alloc, 7, 2)?;
-    let is_put = puts_in_two_steps(alloc, &mut site)?;
-    Ok(is_put && has_one_key(&site) && holds(alloc, &site, "k", "7:1", 1)?)
+    puts_and_has(alloc, &mut site)
 }
 
 #[test]
@@ -60,28 +70,45 @@ fn push_back(alloc: Global, site: &Site) -> Result<Request, Refusal> {
     Ok(Request::Push(Key::read(alloc, "a")?, state))
 }
 
-fn ignores_its_own(alloc: Global) -> Result<bool, Refusal> {
+/// Whether the push changes nothing.
+fn ignores_its_own(alloc: Global, site: &Site) -> Result<bool, Refusal> {
+    let again = push_back(alloc, site)?;
+    comes_to(site, &again, "done", 1)
+}
+
+fn is_push_ignored(alloc: Global) -> Result<bool, Refusal> {
     let site = written(alloc, 1)?;
-    let again = push_back(alloc, &site)?;
-    comes_to(&site, &again, "done", 1)
+    ignores_its_own(alloc, &site)
 }
 
 #[test]
 fn a_push_of_what_is_held_changes_nothing(rt: HostRuntime) -> Result<(), Fail> {
-    assert!(rt; ignores_its_own(rt.alloc())?);
+    assert!(rt; is_push_ignored(rt.alloc())?);
     Ok(())
 }
 
 /// Whether a site with no key takes this state at `a`, and shows its one sibling.
 fn takes(alloc: Global, state: &KeyState) -> Result<bool, Refusal> {
     let mut site = site(alloc, 2, 1)?;
-    site.push(&Key::read(alloc, "a")?, state)?;
+    push_to(alloc, &mut site, state)?;
     holds(alloc, &site, "a", "1:1", 1)
 }
 
-fn takes_from_another(alloc: Global) -> Result<bool, Refusal> {
+/// Pushes this state to `a`.
+fn push_to(alloc: Global, site: &mut Site, state: &KeyState) -> Result<(), Refusal> {
+    let key = Key::read(alloc, "a")?;
+    site.push(&key, state)
+}
+
+/// The state of another site.
+fn pushed(alloc: Global) -> Result<KeyState, Refusal> {
     let site = written(alloc, 1)?;
-    takes(alloc, &state_at(alloc, &site, "a")?)
+    state_at(alloc, &site, "a")
+}
+
+fn takes_from_another(alloc: Global) -> Result<bool, Refusal> {
+    let state = pushed(alloc)?;
+    takes(alloc, &state)
 }
 
 #[test]
@@ -92,9 +119,17 @@ fn a_state_is_pushed_to_another_site(rt: HostRuntime) -> Result<(), Fail> {
 
 /// Whether one look gives the state at `a`.
 fn gives_by_one_look(alloc: Global, site: &Site) -> Result<bool, Refusal> {
+    let key = Key::read(alloc, "a")?;
     let mut looks = 0;
-    let state = counted::get(site, &Key::read(alloc, "a")?, &mut looks)?;
+    let state = got(site, &key, &mut looks)?;
     Ok(looks == 1 && has(&state, "1:1", 1)?)
+}
+
+/// The state of a key. Nothing is claimed of it, as with an answer.
+fn got(site: &Site, key: &Key, looks: &mut u64) -> Result<KeyState, Refusal>
+    requires { looks.old ≤ 2 ^ 63 }
+{
+    counted::get(site, key, looks)
 }
 
 fn is_given_by_one_look(alloc: Global) -> Result<bool, Refusal> {
@@ -113,15 +148,20 @@ fn delete_unseen(alloc: Global, key: &str) -> Result<Request, Refusal> {
     Ok(Request::Delete(Key::read(alloc, key)?, Context::new(alloc)))
 }
 
-fn ignores_unseen(alloc: Global) -> Result<bool, Refusal> {
-    let site = written(alloc, 1)?;
+/// Whether that delete changes nothing.
+fn ignores_unseen(alloc: Global, site: &Site) -> Result<bool, Refusal> {
     let unseen = delete_unseen(alloc, "other")?;
-    comes_to(&site, &unseen, "done", 1)
+    comes_to(site, &unseen, "done", 1)
+}
+
+fn is_delete_ignored(alloc: Global) -> Result<bool, Refusal> {
+    let site = written(alloc, 1)?;
+    ignores_unseen(alloc, &site)
 }
 
 #[test]
 fn a_delete_that_saw_nothing_changes_nothing(rt: HostRuntime) -> Result<(), Fail> {
-    assert!(rt; ignores_unseen(rt.alloc())?);
+    assert!(rt; is_delete_ignored(rt.alloc())?);
     Ok(())
 }
 

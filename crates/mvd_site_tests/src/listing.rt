@@ -114,10 +114,14 @@ fn places_have_their_bytes(rt: HostRuntime) -> Result<(), Fail> {
     Ok(())
 }
 
+fn tells_rows(alloc: Global, site: &Site) -> Result<bool, Refusal> {
+    let request = rows(alloc)?;
+    comes_to(site, &request, "rows", 0)
+}
+
 fn rows_cost_no_look(alloc: Global) -> Result<bool, Refusal> {
     let site = spending(alloc)?;
-    let request = rows(alloc)?;
-    comes_to(&site, &request, "rows", 0)
+    tells_rows(alloc, &site)
 }
 
 #[test]

@@ -85,19 +85,31 @@ fn page(
     Ok((keys.len(), is_more))
 }
 
-/// The page that is opened with, and the one after its key.
-fn pages(alloc: Global) -> Result<((usize, bool), (usize, bool)), Refusal> {
+fn whole_page(alloc: Global) -> Result<(usize, bool), Refusal> {
     let site = opened(alloc)?;
-    let key = Key::read(alloc, "a")?;
-    Ok((
-        page(alloc, &site, &[12, 10, 9], None)?,
-        page(alloc, &site, &[12, 10, 9], Some(&key))?,
-    ))
+    page(alloc, &site, &[12, 10, 9], None)
 }
 
 #[test]
-fn buckets_are_told_in_pages(rt: HostRuntime) -> Result<(), Fail> {
-    assert!(rt; pages(rt.alloc())? == ((1, false), (0, false)));
+fn a_bucket_is_told(rt: HostRuntime) -> Result<(), Fail> {
+    assert!(rt; whole_page(rt.alloc())? == (1, false));
+    Ok(())
+}
+
+/// The page that comes after the key `a`.
+fn page_after(alloc: Global, site: &Site) -> Result<(usize, bool), Refusal> {
+    let key = Key::read(alloc, "a")?;
+    page(alloc, site, &[12, 10, 9], Some(&key))
+}
+
+fn next_page(alloc: Global) -> Result<(usize, bool), Refusal> {
+    let site = opened(alloc)?;
+    page_after(alloc, &site)
+}
+
+#[test]
+fn the_next_page_comes_after_a_key(rt: HostRuntime) -> Result<(), Fail> {
+    assert!(rt; next_page(rt.alloc())? == (0, false));
     Ok(())
 }
 

@@ -50,9 +50,9 @@ fn kind(prepared: &Prepared) -> &'static str {
 }
 
 /// Whether the request comes to this, with at most so many looks at held states.
-pub fn comes_to(site: &Site, request: &Request, wanted: &str, most: u64) -> Result<bool, Refusal> {
+pub fn comes_to(site: &Site, request: Request, wanted: &str, most: u64) -> Result<bool, Refusal> {
     let mut looks = 0;
-    let prepared = prepared(site, request, &mut looks)?;
+    let prepared = prepared(site, &request, &mut looks)?;
     Ok(looks <= most && kind(&prepared) == wanted)
 }
 

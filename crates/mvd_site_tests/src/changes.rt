@@ -73,7 +73,7 @@ fn push_back(alloc: Global, site: &Site) -> Result<Request, Refusal> {
 /// Whether the push changes nothing.
 fn ignores_its_own(alloc: Global, site: &Site) -> Result<bool, Refusal> {
     let again = push_back(alloc, site)?;
-    comes_to(site, &again, "done", 1)
+    comes_to(site, again, "done", 1)
 }
 
 fn is_push_ignored(alloc: Global) -> Result<bool, Refusal> {
@@ -151,7 +151,7 @@ fn delete_unseen(alloc: Global, key: &str) -> Result<Request, Refusal> {
 /// Whether that delete changes nothing.
 fn ignores_unseen(alloc: Global, site: &Site) -> Result<bool, Refusal> {
     let unseen = delete_unseen(alloc, "other")?;
-    comes_to(site, &unseen, "done", 1)
+    comes_to(site, unseen, "done", 1)
 }
 
 fn is_delete_ignored(alloc: Global) -> Result<bool, Refusal> {

@@ -116,7 +116,7 @@ fn places_have_their_bytes(rt: HostRuntime) -> Result<(), Fail> {
 
 fn tells_rows(alloc: Global, site: &Site) -> Result<bool, Refusal> {
     let request = rows(alloc)?;
-    comes_to(site, &request, "rows", 0)
+    comes_to(site, request, "rows", 0)
 }
 
 fn rows_cost_no_look(alloc: Global) -> Result<bool, Refusal> {

@@ -132,22 +132,36 @@ fn bucket(alloc: Global) -> Result<Request, Refusal> {
     Ok(Request::Bucket(Path::new(alloc, &[1, 2, 3])?, None))
 }
 
-/// Whether the request comes to this at a site with no key, with no look.
-fn costs_no_look(alloc: Global, request: &Request, wanted: &str) -> Result<bool, Refusal> {
+/// Whether the root is told, with no look.
+fn tells_node(alloc: Global, site: &Site) -> Result<bool, Refusal> {
+    let request = node(alloc)?;
+    comes_to(site, request, "digests", 0)
+}
+
+fn node_costs_no_look(alloc: Global) -> Result<bool, Refusal> {
     let site = site(alloc, 3, 9)?;
-    comes_to(&site, request, wanted, 0)
+    tells_node(alloc, &site)
 }
 
 #[test]
 fn a_node_costs_no_look(rt: HostRuntime) -> Result<(), Fail> {
-    let node = node(rt.alloc())?;
-    assert!(rt; costs_no_look(rt.alloc(), &node, "digests")?);
+    assert!(rt; node_costs_no_look(rt.alloc())?);
     Ok(())
+}
+
+/// Whether a bucket is told, with no look.
+fn tells_bucket(alloc: Global, site: &Site) -> Result<bool, Refusal> {
+    let request = bucket(alloc)?;
+    comes_to(site, request, "keys", 0)
+}
+
+fn bucket_costs_no_look(alloc: Global) -> Result<bool, Refusal> {
+    let site = site(alloc, 3, 9)?;
+    tells_bucket(alloc, &site)
 }
 
 #[test]
 fn a_bucket_costs_no_look(rt: HostRuntime) -> Result<(), Fail> {
-    let bucket = bucket(rt.alloc())?;
-    assert!(rt; costs_no_look(rt.alloc(), &bucket, "keys")?);
+    assert!(rt; bucket_costs_no_look(rt.alloc())?);
     Ok(())
 }

@@ -1,12 +1,13 @@
 //! Scripts that end early, readers that fail, and writers that do.
 use mvd_app::{Fault, sim};
 use mvd_dots::Refusal;
+use std::alloc::Global;
 use std::io;
 use std::io::{Read, Write};
 use std::test::Fail;
 
 /// Scripts that end at a line that is no command, what they print before, and that line's number.
-const BAD_LINES: [(&str, &str, u64); 31] = [
+const BAD_LINES: &[(&str, &str, u64)] = &[
     ("get 1 k\n", "", 1),
     ("sites 0\n", "", 1),
     ("sites 17\n", "", 1),
@@ -40,29 +41,34 @@ const BAD_LINES: [(&str, &str, u64); 31] = [
     ("sites 1\nrow 1 v\n", "", 2),
 ];
 
-#[test]
-fn lines_that_are_no_commands(rt: HostRuntime) -> Result<(), Fail> {
-    for (script, wanted, number) in BAD_LINES {
-        let mut reader = script.as_bytes();
-        let mut out = Vec::new(rt.alloc());
-        let ended = sim(rt.alloc(), &mut reader, &mut out);
-        assert!(rt;
-            matches!(&ended, Err(Fault::Line(line)) if *line == number),
-            "{script}"
-        );
-        assert_eq!(rt; out.as_slice(), wanted.as_bytes(), "{script}");
+/// Fails where the bytes do not end as a script at the line of this number, or print something else before.
+fn ends_at(alloc: Global, mut script: &[u8], wanted: &str, number: u64) -> Result<(), Fail> {
+    let mut out = Vec::new(alloc);
+    let ended = sim(alloc, &mut script, &mut out);
+    let is_there = matches!(&ended, Err(Fault::Line(line)) if *line == number);
+    if is_there && out.as_slice() == wanted.as_bytes() {
+        Ok(())
+    } else {
+        Err(Fail::new(format_args!("not at {number}, after {wanted}")))
+    }
+}
+
+fn all_end(alloc: Global, cases: &[(&str, &str, u64)]) -> Result<(), Fail> {
+    for (script, wanted, number) in cases {
+        ends_at(alloc, script.as_bytes(), wanted, *number)?;
     }
     Ok(())
 }
 
 #[test]
+fn lines_that_are_no_commands(rt: HostRuntime) -> Result<(), Fail> {
+    all_end(rt.alloc(), BAD_LINES)
+}
+
+#[test]
 fn bytes_that_are_no_text(rt: HostRuntime) -> Result<(), Fail> {
-    let mut reader = b"sites 1\nget 1 k\nget 1 \xff\n".as_slice();
-    let mut out = Vec::new(rt.alloc());
-    let ended = sim(rt.alloc(), &mut reader, &mut out);
-    assert!(rt; matches!(&ended, Err(Fault::Line(line)) if *line == 3));
-    assert_eq!(rt; out.as_slice(), b"context -\n".as_slice());
-    Ok(())
+    let script = b"sites 1\nget 1 k\nget 1 \xff\n";
+    ends_at(rt.alloc(), script, "context -\n", 3)
 }
 
 /// A reader of empty lines without end.
@@ -102,16 +108,41 @@ impl Write for NoWriter {
     }
 }
 
+/// Fails where this is not the end for this reason.
+fn expect_stop(ended: Result<(), Fault>, wanted: Refusal) -> Result<(), Fail> {
+    match ended {
+        Err(Fault::Stopped(refusal)) if refusal == wanted => Ok(()),
+        _ => Err(Fail::new(format_args!("not stopped by {wanted}"))),
+    }
+}
+
 #[test]
-fn readers_and_writers_that_fail(rt: HostRuntime) -> Result<(), Fail> {
+fn a_script_that_does_not_end(rt: HostRuntime) -> Result<(), Fail> {
     let mut out = Vec::new(rt.alloc());
     let ended = sim(rt.alloc(), &mut Endless, &mut out);
-    assert!(rt; matches!(&ended, Err(Fault::Stopped(Refusal::FrameTooLong))));
+    expect_stop(ended, Refusal::FrameTooLong)?;
+    if out.is_empty() {
+        Ok(())
+    } else {
+        Err(Fail::new("printed"))
+    }
+}
+
+#[test]
+fn a_reader_that_fails(rt: HostRuntime) -> Result<(), Fail> {
+    let mut out = Vec::new(rt.alloc());
     let ended = sim(rt.alloc(), &mut NoReader, &mut out);
-    assert!(rt; matches!(&ended, Err(Fault::Stopped(Refusal::ReadFailed))));
-    assert!(rt; out.is_empty());
+    expect_stop(ended, Refusal::ReadFailed)?;
+    if out.is_empty() {
+        Ok(())
+    } else {
+        Err(Fail::new("printed"))
+    }
+}
+
+#[test]
+fn a_writer_that_fails(rt: HostRuntime) -> Result<(), Fail> {
     let mut reader = b"sites 1\nget 1 k\n".as_slice();
     let ended = sim(rt.alloc(), &mut reader, &mut NoWriter);
-    assert!(rt; matches!(&ended, Err(Fault::Stopped(Refusal::WriteFailed))));
-    Ok(())
+    expect_stop(ended, Refusal::WriteFailed)
 }

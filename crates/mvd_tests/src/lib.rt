@@ -1,4 +1,4 @@
-//! Tests that cross crates: whole scripts, and calls that a script does not make.
+//! Tests that cross crates: whole scripts.
 #![tactic(auto)]
 
 #[cfg(test)]
@@ -9,5 +9,3 @@ mod listing;
 mod long;
 #[cfg(test)]
 mod scripts;
-#[cfg(test)]
-mod sites;

@@ -1,15 +1,9 @@
-//! Indexes and views: scripts, pages, and the bytes of their answers.
-use crate::scripts::{Case, printed};
-use mvd_docs::{Document, Field, Term, ViewName};
-use mvd_dots::{Context, Refusal};
-use mvd_keys::Key;
-use mvd_rows::Defs;
-use mvd_site::{Config, Prepared, Site, counted};
-use mvd_wire::{Reply, Request, encode_reply};
+//! Indexes and views: scripts, and pages.
+use crate::scripts::{Case, all_print, prints_lines};
 use std::alloc::{AllocError, Global};
 use std::test::Fail;
 
-const INDEXES: [Case; 3] = [
+const INDEXES: &[Case] = &[
     (
         "terms are found and ranged over in their order",
         "sites 1\nindex n\nput 1 a - {\"n\":null}\nput 1 b - {\"n\":true}\nput 1 c - {\"n\":-1}\nput 1 d - {\"n\":10}\nput 1 e - {\"n\":\"10\"}\nput 1 f - {\"n\":[1]}\nput 1 g - {}\nfind 1 n 10\nfind 1 n false\nrange 1 n [null,10]\nrange 1 n [10,null]\nfind 1 m 1\nfind 1 n x\n",
@@ -27,7 +21,7 @@ const INDEXES: [Case; 3] = [
     ),
 ];
 
-const VIEWS: [Case; 3] = [
+const VIEWS: &[Case] = &[
     (
         "all siblings of a key count, and a row that is left by all goes",
         "sites 1\nview spend city amount\nput 1 a - {\"amount\":5,\"city\":\"Oslo\"}\nput 1 a - {\"amount\":-7,\"city\":\"Oslo\"}\nput 1 b - {\"city\":\"Oslo\"}\nrows 1 spend\nput 1 a @ {\"city\":\"Rome\"}\nput 1 b @ {\"city\":\"Rome\"}\nrows 1 spend\nrow 1 spend \"Oslo\"\nrow 1 other \"Oslo\"\n",
@@ -47,20 +41,12 @@ const VIEWS: [Case; 3] = [
 
 #[test]
 fn indexes_follow_the_writes(rt: HostRuntime) -> Result<(), Fail> {
-    for (name, script, wanted) in INDEXES {
-        let out = printed(rt.alloc(), script)?;
-        assert_eq!(rt; out.as_str(), wanted, "{name}");
-    }
-    Ok(())
+    all_print(rt.alloc(), INDEXES)
 }
 
 #[test]
 fn views_follow_the_writes(rt: HostRuntime) -> Result<(), Fail> {
-    for (name, script, wanted) in VIEWS {
-        let out = printed(rt.alloc(), script)?;
-        assert_eq!(rt; out.as_str(), wanted, "{name}");
-    }
-    Ok(())
+    all_print(rt.alloc(), VIEWS)
 }
 
 /// A script that puts this many keys, each in a group of its own, under one term of an index.
@@ -76,76 +62,13 @@ fn many(alloc: Global, keys: u32) -> Result<String, AllocError> {
 fn lists_of_more_than_a_page(rt: HostRuntime) -> Result<(), Fail> {
     let mut script = many(rt.alloc(), 1_001)?;
     script.push_str("find 1 n 1\nrows 1 v\nrange 1 n [1,1]\n")?;
-    let out = printed(rt.alloc(), script.as_str())?;
-    assert_eq!(rt; out.as_str().lines().count(), 4_004);
-    assert!(rt; out.as_str().ends_with("1 k999 1:1\n"));
-    Ok(())
+    prints_lines(rt.alloc(), script.as_str(), 4_004, "1 k999 1:1\n")
 }
 
 #[test]
 fn a_hundred_thousand_places(rt: HostRuntime) -> Result<(), Fail> {
     let mut script = many(rt.alloc(), 100_000)?;
     script.push_str("find 1 n 1\nrows 1 v\nrow 1 v 7\n")?;
-    let out = printed(rt.alloc(), script.as_str())?;
-    assert_eq!(rt; out.as_str().lines().count(), 300_001);
-    assert!(rt; out.as_str().ends_with("\n99999 1 1 1 1\n1 1 1 1\n"));
-    Ok(())
-}
-
-/// A site with an index on `city`, a view by it, and three documents there.
-fn spending(alloc: Global) -> Result<Site, Refusal> {
-    let mut defs = Defs::new(alloc);
-    defs.index(Field::read(alloc, "city")?)?;
-    let group = Field::read(alloc, "city")?;
-    let sum = Field::read(alloc, "amount")?;
-    defs.view(ViewName::read(alloc, "spend")?, group, sum)?;
-    let mut site = Site::new(alloc, Config::new(1, 9, defs))?;
-    let documents = [
-        ("a", "{\"amount\":5,\"city\":\"Oslo\"}"),
-        ("a", "{\"amount\":-7,\"city\":\"Oslo\"}"),
-        ("b", "{\"city\":\"Oslo\"}"),
-    ];
-    for (key, document) in documents {
-        let key = Key::read(alloc, key)?;
-        let document = Document::read(alloc, document)?;
-        site.answer(&Request::Put(key, Context::new(alloc), document));
-    }
-    Ok(site)
-}
-
-fn oslo(alloc: Global) -> Result<Term, Refusal> {
-    Term::read(alloc, "\"Oslo\"")
-}
-
-#[test]
-fn answers_have_their_bytes(rt: HostRuntime) -> Result<(), Fail> {
-    let alloc = rt.alloc();
-    let mut site = spending(alloc)?;
-    let row = site.answer(&Request::Row(ViewName::read(alloc, "spend")?, oslo(alloc)?));
-    let row = hex::encode(alloc, encode_reply(alloc, &row)?)?;
-    assert_eq!(rt;
-        row.as_str(),
-        "0000002aa50000000000000003fffffffffffffffffffffffffffffffe01fffffffffffffff90000000000000005"
-    );
-    let places = site.answer(&Request::Find(Field::read(alloc, "city")?, oslo(alloc)?, None));
-    let places = hex::encode(alloc, encode_reply(alloc, &places)?)?;
-    assert!(rt;
-        places
-            .as_str()
-            .starts_with("00000043a40000030400044f736c6f0161")
-    );
-    assert_eq!(rt; places.len(), 142);
-    Ok(())
-}
-
-#[test]
-fn questions_cost_no_look(rt: HostRuntime) -> Result<(), Fail> {
-    let alloc = rt.alloc();
-    let site = spending(alloc)?;
-    let mut looks = 0;
-    let view = ViewName::read(alloc, "spend")?;
-    let rows = counted::prepare(&site, &Request::Rows(view, None), &mut looks)?;
-    assert!(rt; matches!(&rows, Prepared::Answer(Reply::Rows(_, false))));
-    assert_eq!(rt; looks, 0);
-    Ok(())
+    let last = "\n99999 1 1 1 1\n1 1 1 1\n";
+    prints_lines(rt.alloc(), script.as_str(), 300_001, last)
 }

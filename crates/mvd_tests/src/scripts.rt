@@ -4,7 +4,7 @@ use std::alloc::Global;
 use std::test::Fail;
 
 /// What a script prints.
-pub fn printed(alloc: Global, script: &str) -> Result<String, Fault> {
+fn printed(alloc: Global, script: &str) -> Result<String, Fault> {
     let mut reader = script.as_bytes();
     let mut bytes = Vec::new(alloc);
     sim(alloc, &mut reader, &mut bytes)?;
@@ -14,10 +14,39 @@ pub fn printed(alloc: Global, script: &str) -> Result<String, Fault> {
     }
 }
 
+/// Fails where a script does not print this.
+pub fn prints(alloc: Global, name: &str, script: &str, wanted: &str) -> Result<(), Fail> {
+    let out = printed(alloc, script)?;
+    if out.as_str() == wanted {
+        Ok(())
+    } else {
+        Err(Fail::new(format_args!("{name}: {out}")))
+    }
+}
+
+/// Fails where a script does not print so many lines, the last of which are these.
+pub fn prints_lines(alloc: Global, script: &str, count: usize, last: &str) -> Result<(), Fail> {
+    let out = printed(alloc, script)?;
+    let lines = out.as_str().lines().count();
+    if lines == count && out.as_str().ends_with(last) {
+        Ok(())
+    } else {
+        Err(Fail::new(format_args!("{lines} lines")))
+    }
+}
+
+/// Fails where a script does not print what its case says.
+pub fn all_print(alloc: Global, cases: &[Case]) -> Result<(), Fail> {
+    for (name, script, wanted) in cases {
+        prints(alloc, name, script, wanted)?;
+    }
+    Ok(())
+}
+
 /// A name, a script, and what it prints.
 pub type Case = (&'static str, &'static str, &'static str);
 
-const BASICS: [Case; 8] = [
+const BASICS: &[Case] = &[
     ("nothing is held", "sites 1\nget 1 k\n", "context -\n"),
     (
         "a put is shown",
@@ -56,7 +85,7 @@ const BASICS: [Case; 8] = [
     ),
 ];
 
-const LIMITS: [Case; 9] = [
+const LIMITS: &[Case] = &[
     (
         "counters are used up",
         "sites 1\nput 1 k 1:0+281474976710655 {\"a\":1}\nget 1 k\n",
@@ -104,7 +133,7 @@ const LIMITS: [Case; 9] = [
     ),
 ];
 
-const NODES: [Case; 2] = [
+const NODES: &[Case] = &[
     (
         "nodes of the hash tree, as SHA-256 gives them",
         "sites 1\nput 1 abc - {}\nnode 1 ba8\nnode 1 ba7\nnode 1 ba\nnode 1 -\n",
@@ -117,7 +146,7 @@ const NODES: [Case; 2] = [
     ),
 ];
 
-const FORMS: [Case; 6] = [
+const FORMS: &[Case] = &[
     ("an empty script", "", ""),
     (
         "comments and empty lines are skipped",
@@ -148,36 +177,20 @@ const FORMS: [Case; 6] = [
 
 #[test]
 fn writes_meet(rt: HostRuntime) -> Result<(), Fail> {
-    for (name, script, wanted) in BASICS {
-        let out = printed(rt.alloc(), script)?;
-        assert_eq!(rt; out.as_str(), wanted, "{name}");
-    }
-    Ok(())
+    all_print(rt.alloc(), BASICS)
 }
 
 #[test]
 fn limits_are_kept(rt: HostRuntime) -> Result<(), Fail> {
-    for (name, script, wanted) in LIMITS {
-        let out = printed(rt.alloc(), script)?;
-        assert_eq!(rt; out.as_str(), wanted, "{name}");
-    }
-    Ok(())
+    all_print(rt.alloc(), LIMITS)
 }
 
 #[test]
 fn nodes_are_told(rt: HostRuntime) -> Result<(), Fail> {
-    for (name, script, wanted) in NODES {
-        let out = printed(rt.alloc(), script)?;
-        assert_eq!(rt; out.as_str(), wanted, "{name}");
-    }
-    Ok(())
+    all_print(rt.alloc(), NODES)
 }
 
 #[test]
 fn lines_have_their_forms(rt: HostRuntime) -> Result<(), Fail> {
-    for (name, script, wanted) in FORMS {
-        let out = printed(rt.alloc(), script)?;
-        assert_eq!(rt; out.as_str(), wanted, "{name}");
-    }
-    Ok(())
+    all_print(rt.alloc(), FORMS)
 }

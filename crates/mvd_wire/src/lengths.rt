@@ -2,7 +2,7 @@
 ghost use Rattle.std.specs.Prelude.{◌≡◌, ◌≤◌, ◌-◌, ◌^◌, min, length};
 ghost use Rattle.std.specs.List.{All, flat_map};
 ghost use Rattle.mvd_dots.specs.Context.{AreInRange};
-ghost use Rattle.mvd_keys.specs.State.{empty_state, pair_of, pairs_of};
+ghost use Rattle.mvd_keys.specs.State.{pair_of, pairs_of};
 ghost use Rattle.mvd_wire.specs.Kind.{Kind};
 ghost use Rattle.mvd_wire.specs.Kinds.{layout2, context, document, spell_entry, spell_sibling, spell_state, state as spelled, state_limit};
 
@@ -63,8 +63,3 @@ pub fn state_length(state: &KeyState) -> u64
         .saturating_add(2)
         .saturating_add(siblings_length(state.siblings()))
 }
-
-/// The empty state is spelled in six bytes.
-pub fn empty_state_length()
-    ensures { length (spell_state empty_state) ≡ 6 }
-{}

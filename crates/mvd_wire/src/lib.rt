@@ -29,7 +29,7 @@ mod writing;
 pub use encoding::{encode_key, encode_state};
 pub use frame::Frame;
 pub use items::Items;
-pub use lengths::{empty_state_length, state_length};
+pub use lengths::state_length;
 pub use limits::{DOCUMENT_LIMIT, FRAME_LIMIT, OLD_STATE_LIMIT, PAGE_LIMIT, STATE_LIMIT};
 pub use replies::decode_reply;
 pub use reply::{Digests, Reply, RowValue};

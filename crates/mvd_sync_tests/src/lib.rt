@@ -1,0 +1,11 @@
+//! Tests of sessions, with sites, with peers that lie, and over connections in memory.
+#![tactic(auto)]
+
+#[cfg(test)]
+mod liars;
+#[cfg(test)]
+mod peers;
+#[cfg(test)]
+mod remotes;
+#[cfg(test)]
+mod sessions;

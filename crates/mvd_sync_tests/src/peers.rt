@@ -1,0 +1,129 @@
+//! A site that counts the questions that it is asked.
+ghost use Rattle.std.specs.FinMap.{empty};
+
+use mvd_docs::Document;
+use mvd_dots::{Context, Refusal};
+use mvd_keys::{Key, KeyState, Path};
+use mvd_rows::Defs;
+use mvd_site::{Config, Site};
+use mvd_sync::Peer;
+use mvd_wire::{Digests, Reply, Request};
+use std::alloc::Global;
+
+/// How often each question was asked.
+#[derive(Clone, Copy, Debug, PartialEq, Eq, Drop)]
+pub struct Asked {
+    pub nodes: u64,
+    pub pages: u64,
+    pub gets: u64,
+    pub pushes: u64,
+}
+
+impl Asked {
+    /// The same, and one node more.
+    pub fn with_node(self) -> Asked {
+        Asked {
+            nodes: self.nodes.saturating_add(1),
+            ..self
+        }
+    }
+}
+
+/// A site, and how often it was asked. Nothing is claimed of it.
+#[derive(Drop)]
+pub struct Counting {
+    pub alloc: Global,
+    pub site: Site,
+    pub asked: Asked,
+}
+
+impl Counting {
+    /// A site of this number with no key.
+    pub fn new(alloc: Global, site: u32, max_keys: u32) -> Result<Counting, Refusal> {
+        let config = if site == 0 || max_keys == 0 || max_keys > 1_000_000 {
+            return Err(Refusal::Full);
+        } else {
+            Config::new(site, max_keys, Defs::new(alloc))
+        };
+        Ok(Counting {
+            alloc,
+            site: Site::new(alloc, config)?,
+            asked: Asked {
+                nodes: 0,
+                pages: 0,
+                gets: 0,
+                pushes: 0,
+            },
+        })
+    }
+
+    /// Puts a document at a key, with this context.
+    pub fn put(&mut self, key: &str, seen: &str, document: &str) -> Result<bool, Refusal> {
+        let request = Request::Put(
+            Key::read(self.alloc, key)?,
+            Context::read(self.alloc, seen)?,
+            Document::read(self.alloc, document)?,
+        );
+        Ok(matches!(&self.site.answer(&request), Reply::Written(_)))
+    }
+
+    /// Deletes what the context has seen at a key.
+    pub fn delete(&mut self, key: &str, seen: &str) -> Result<bool, Refusal> {
+        let request = Request::Delete(
+            Key::read(self.alloc, key)?,
+            Context::read(self.alloc, seen)?,
+        );
+        Ok(matches!(&self.site.answer(&request), Reply::Done))
+    }
+
+    /// The root's digest.
+    pub fn root(&self) -> Result<[u8; 32], Refusal> {
+        let digests = self.site.node(&Path::new(self.alloc, &[])?)?;
+        Ok(digests.own)
+    }
+
+    /// Whether a key has this context and so many siblings.
+    pub fn shows(&self, key: &str, context: &str, siblings: usize) -> Result<bool, Refusal> {
+        let state = self.site.get(&Key::read(self.alloc, key)?)?;
+        is_so(&state, context, siblings)
+    }
+}
+
+/// Whether a state has this context and so many siblings.
+fn is_so(state: &KeyState, context: &str, siblings: usize) -> Result<bool, Refusal> {
+    Ok(state.siblings().len() == siblings && state.context().print()?.as_str() == context)
+}
+
+impl Peer for Counting {
+    ghost states = { λ _. empty };
+
+    ghost is_true = { λ _. ⊥ };
+
+    ghost can_give = { λ _ _. Unit {0} };
+
+    ghost in_form = { λ _ never. absurd never };
+
+    fn node(&mut self, path: &Path) -> Result<Digests, Refusal> {
+        self.asked.nodes = self.asked.nodes.saturating_add(1);
+        self.site.node(path)
+    }
+
+    fn bucket(
+        &mut self,
+        path: &Path,
+        after: Option<&Key>,
+    ) -> Result<(Vec<(Key, [u8; 32])>, bool), Refusal> {
+        self.asked.pages = self.asked.pages.saturating_add(1);
+        self.site.bucket(path, after)
+    }
+
+    fn get(&mut self, key: &Key) -> Result<KeyState, Refusal> {
+        self.asked.gets = self.asked.gets.saturating_add(1);
+        self.site.get(key)
+    }
+
+    fn push(&mut self, key: &Key, state: &KeyState) -> Result<(), Refusal> {
+        self.asked.pushes = self.asked.pushes.saturating_add(1);
+        self.site.push(key, state)
+    }
+}

@@ -12,14 +12,14 @@ ghost use Rattle.mvd_site.specs.FromStates.{bucket_refusal, unless_broken};
 ghost use Rattle.mvd_site.specs.Prepared.{IsReady, PreparesReply};
 
 use crate::changes::Prepared;
-use crate::sites::Site;
+use crate::kept::Kept;
 use mvd_docs::{Field, Term, ViewName};
 use mvd_dots::{Dot, Refusal};
 use mvd_keys::{Key, Path, Place};
 use mvd_wire::{Digests, Items, Reply, RowValue};
 use std::alloc::Global;
 
-impl Site {
+impl Kept {
     /// The digests of a node and, above the buckets, of its children. It looks at no held state and takes no memory;
     /// a broken site refuses it.
     pub fn node(&self, path: &Path) -> Result<Digests, Refusal>

@@ -1,4 +1,4 @@
-//! What a site keeps, and the answers to requests from it.
+//! What a site keeps, and the answers to requests from that, for a count of looks that is handed in.
 ghost use Rattle.std.specs.Prelude.{◌≡◌, ◌≢◌, ◌≤◌, ◌+◌, ◌^◌, false, true, None, Some, Err, Ok, is_some, IfOk, IfErr, OnOk};
 ghost use Rattle.std.specs.FinMap as map;
 ghost use Rattle.mvd_dots.specs.declared.refusals.Refusal.TheVariants.{Broken, Memory};
@@ -7,9 +7,9 @@ ghost use Rattle.mvd_keys.specs.Writes.{is_empty};
 ghost use Rattle.mvd_rows.specs.Changes.{IsRoomy};
 ghost use Rattle.mvd_wire.specs.declared.request.Request.TheVariants.{Get, Put, Delete, Push};
 ghost use Rattle.mvd_wire.specs.declared.reply.Reply.TheVariants.{State as Shown};
-ghost use Rattle.mvd_site.specs.Held.{AreHeld, IsHeldState, IsKept, state_at};
+ghost use Rattle.mvd_site.specs.Held.{IsHeldState, IsKept, state_at};
 ghost use Rattle.mvd_site.specs.Known.{IsValidRequest};
-ghost use Rattle.mvd_site.specs.Prepared.{IsChangeNow, IsReady, LimitsTo, PreparesFrom, PreparesFromStates, PreparesReply, is_of_state};
+ghost use Rattle.mvd_site.specs.Prepared.{IsReady, LimitsTo, PreparesFrom, PreparesFromStates, PreparesReply, is_of_state};
 ghost use Rattle.mvd_site.specs.Sites.{SiteValue, has_no_room};
 
 use crate::changes::{Change, Prepared, reply_of};
@@ -25,8 +25,8 @@ use mvd_wire::{Reply, Request, STATE_LIMIT, state_length};
 use std::alloc::Global;
 use std::marker::Model;
 
-/// The states of the keys that one site holds, with what is kept of them, and the answers to requests from them. Whoever
-/// answers has this and a count that was handed in, and nothing of which another count is made.
+/// The states of the keys that one site holds, with what is kept of them, and the answers to requests from them. What
+/// answers has this and a count that is handed in, and nothing to make another count for.
 #[derive(Drop)]
 pub struct Kept {
     pub(crate) alloc: Global,
@@ -50,32 +50,6 @@ impl Model for Kept {
 }
 
 impl Kept {
-    pub fn config(&self) -> &Config
-        ensures { result.now ≡ self.now.config }
-    {
-        &self.config
-    }
-
-    /// The number of keys that are held.
-    pub fn key_count(&self) -> u32
-        ensures count { result ≡ map.len self.now.states }
-        ensures room { result ≤ self.now.config.max_keys }
-        // Each key that is held is one, and each state has seen a dot and has a spelling within the limit.
-        ensures held { AreHeld self.now.states }
-    {
-        let most = self.config.max_keys();
-        let count = self.states.len();
-        prove!(count <= most as usize);
-        count as u32
-    }
-
-    /// Whether an install was refused memory: the site then answers `Broken` to everything.
-    pub fn is_broken(&self) -> bool
-        ensures { result ≡ self.now.broken }
-    {
-        self.broken
-    }
-
     /// What a request comes to, with at most one look at a held key state.
     pub fn prepare(&self, request: &Request, looks: &mut Looks) -> Result<Prepared, Refusal>
         requires { looks.old ≤ 2 ^ 63 }
@@ -117,6 +91,7 @@ impl Kept {
         Ok(Prepared::Answer(Reply::State(state)))
     }
 
+    /// The state of a key, empty where the key is not held. This is one look.
     pub fn get(&self, key: &Key, looks: &mut Looks) -> Result<KeyState, Refusal>
         requires { looks.old ≤ 2 ^ 63 }
         ensures state { IfOk result (λ state. state ≡ state_at self.now.states key.now) }
@@ -171,6 +146,7 @@ impl Kept {
         }
     }
 
+    /// What a push of this state to this key comes to, with at most one look at a held key state.
     pub fn prepare_push(
         &self,
         key: &Key,
@@ -248,13 +224,11 @@ impl Kept {
         let _held = self.states.len();
     }
 
-    /// Puts in the change of one key, and changes no other. Where memory is refused the site is broken from then on. The
-    /// key's state is to be still the one that the change was prepared from: what came between would be undone.
+    /// Puts in the change of one key, and changes no other: its state, its digest and its rows. Where memory is refused, what
+    /// is kept is broken from then on.
     pub fn install(&mut self, change: Change) -> Result<(), Refusal>
         requires room { has_no_room self.old.config self.old.states change.key ≡ false }
         requires held { IsHeldState change.state }
-        // The key's state is still the one that the change was prepared from.
-        requires fresh { IsChangeNow self.old change }
         ensures ok { OnOk result ((self.old.broken ≡ false) × (self.new ≡ record { config = self.old.config; states = map.insert self.old.states change.key change.state; broken = false })) }
         ensures err { IfErr result (λ refusal. (refusal ≡ Broken) × (self.new ≡ record { config = self.old.config; states = self.old.states; broken = true })) }
     {

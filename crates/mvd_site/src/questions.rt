@@ -25,7 +25,7 @@ impl Kept {
     pub fn node(&self, path: &Path) -> Result<Digests, Refusal>
         ensures { result ≡ unless_broken self.now.broken (Err Broken) (Ok (node_digests (digests self.now.states) path.now)) }
     {
-        if self.is_broken() {
+        if self.broken {
             Err(Refusal::Broken)
         } else {
             Ok(Digests {
@@ -48,7 +48,7 @@ impl Kept {
         ensures more { IfOk result (λ page. page.1 ≡ is_more_after_page (digests self.now.states) path.now (option_copied after.entry)) }
         ensures refused { IfErr result (λ refusal. refusal ≡ bucket_refusal self.now.broken path.now) }
     {
-        if self.is_broken() {
+        if self.broken {
             return Err(Refusal::Broken);
         }
         self.tree.bucket(path, after)

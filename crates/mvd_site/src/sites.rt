@@ -99,7 +99,8 @@ impl Site {
     pub fn config(&self) -> &Config
         ensures { result.now ≡ self.now.config }
     {
-        self.kept.config()
+        let kept = &self.kept;
+        &kept.config
     }
 
     /// The number of keys that are held.
@@ -109,14 +110,19 @@ impl Site {
         // Each key that is held is one, and each state has seen a dot and has a spelling within the limit.
         ensures held { AreHeld self.now.states }
     {
-        self.kept.key_count()
+        let kept = &self.kept;
+        let most = kept.config.max_keys();
+        let count = kept.states.len();
+        prove!(count <= most as usize);
+        count as u32
     }
 
     /// Whether an install was refused memory: the site then answers `Broken` to everything.
     pub fn is_broken(&self) -> bool
         ensures { result ≡ self.now.broken }
     {
-        self.kept.is_broken()
+        let kept = &self.kept;
+        kept.broken
     }
 
     /// The digests of a node and, above the buckets, of its children. It looks at no held state and takes no memory;

@@ -21,7 +21,7 @@ use Rattle.mvd_site.specs.Config.{ConfigValue}
 use Rattle.mvd_site.specs.FromStates.{AnswersFrom, answer_from, change_from, put_from, with_change, within}
 use Rattle.mvd_site.specs.Held.{States, state_at}
 use Rattle.mvd_site.specs.Known.{Adds, Changes, MayReply}
-use Rattle.mvd_site.specs.Prepared.{LimitsTo, Prepares, PreparesAnswer, PreparesAnswerFrom, PreparesChange, PreparesChangeFrom, PreparesFrom, PreparesReply}
+use Rattle.mvd_site.specs.Prepared.{LimitsTo, Prepares, PreparesAnswer, PreparesAnswerFrom, PreparesChange, PreparesChangeFrom, PreparesFrom, PreparesFromStates, PreparesReply}
 use Rattle.mvd_site.specs.Sites.{AnswersOne, SiteValue}
 use Rattle.mvd_site.specs.declared.changes.Prepared.{Prepared}
 use Rattle.mvd_site.specs.declared.changes.Prepared.TheVariants.{Answer, Change}
@@ -96,13 +96,19 @@ pub pushed_clash : (site : SiteValue) (key : Key) (pushed : State) → is_too_la
 pushed_clash site key pushed small clash = sym (ap₂ (push_with site key pushed) small clash)
 
 -- a question changes nothing
-pub prepares_reply : (config : ConfigValue) (states : States) (request : Request) (result : Result Prepared Refusal) → ((reply : Reply) → change_from states request reply ≡ None) →
+prepares_reply : (config : ConfigValue) (states : States) (request : Request) (result : Result Prepared Refusal) → ((reply : Reply) → change_from states request reply ≡ None) →
     PreparesReply (answer_from config states request) result → PreparesFrom config states request result
 prepares_reply config states request (Err refusal) nothing gives = gives
 prepares_reply config states request (Ok (Answer reply)) nothing gives =
     let none : change_from states request (answer_from config states request) ≡ None = nothing (answer_from config states request) in
     record { answers = gives; still = subst (λ o. IfSome o (λ c. c.1 ≡ state_at states c.0)) (sym none) tt; after = ap (with_change states) none }
 prepares_reply config states request (Ok (Change change)) nothing gives = absurd gives
+
+-- and so what is prepared is the answer, where the request is this question
+pub asked : (site : SiteValue) (request question : Request) (result : Result Prepared Refusal) → request ≡ question → ((reply : Reply) → change_from site.states question reply ≡ None) →
+    PreparesReply (answer_from site.config site.states question) result → PreparesFromStates site request result
+asked site request question result is nothing gives whole =
+    subst (λ r. PreparesFrom site.config site.states r result) (sym is) (prepares_reply site.config site.states question result nothing gives)
 
 -- ---- the same, from the writes known
 

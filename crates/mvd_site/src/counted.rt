@@ -1,11 +1,11 @@
-//! Calls that count their work.
-ghost use Rattle.std.specs.Prelude.{◌≡◌, ◌<◌, ◌≤◌, ◌+◌, ◌-◌, ◌^◌, ◌≢◌, true, false, IfOk, IfErr, Err};
-ghost use Rattle.mvd_dots.specs.declared.refusals.Refusal.TheVariants.{Broken, Memory};
-ghost use Rattle.mvd_site.specs.FromStates.{unless_broken};
+//! The calls that make a count of looks at held states. The rest of the crate has none but those that are handed in here.
+ghost use Rattle.std.specs.Prelude.{◌≡◌, ◌<◌, ◌≤◌, ◌+◌, ◌-◌, ◌^◌, ◌≢◌, true, false, IfOk, IfErr, OnOk, Err};
+ghost use Rattle.mvd_dots.specs.declared.refusals.Refusal.TheVariants.{Broken, DotClash, Memory};
+ghost use Rattle.mvd_site.specs.FromStates.{AnswersFrom, push_reply, unless_broken, with_state};
 ghost use Rattle.mvd_site.specs.Held.{state_at};
 ghost use Rattle.mvd_site.specs.Known.{IsValidRequest};
-ghost use Rattle.mvd_site.specs.Prepared.{IsReady, PreparesAt, PreparesFrom, PreparesFromStates, is_of_state};
-ghost use Rattle.mvd_keys.specs.State.{IsValid};
+ghost use Rattle.mvd_site.specs.Prepared.{IsReady, PreparesAt, PreparesFromStates, is_of_state};
+ghost use Rattle.mvd_keys.specs.State.{IsValid, clashes, join};
 ghost use Rattle.mvd_wire.specs.declared.request.Request.TheVariants.{Push};
 
 use crate::changes::Prepared;
@@ -15,8 +15,8 @@ use mvd_keys::{Key, KeyState};
 use mvd_wire::Request;
 use std::marker::Model;
 
-/// How many looks at held states were made. It is made of a number in this module alone: what is counted is handed one, and
-/// can make none.
+/// How many looks at held states were made. It is made of a number in this module alone: what is counted is handed one with
+/// what the site keeps, and can make none.
 #[derive(Drop)]
 pub(crate) struct Looks {
     made: u64,
@@ -70,7 +70,7 @@ pub fn prepare(site: &Site, request: &Request, looks: &mut u64) -> Result<Prepar
     ensures to { looks.new ≤ looks.old + 1 }
 {
     let mut count = Looks::of(*looks);
-    let prepared = site.prepare_counted(request, &mut count);
+    let prepared = site.kept.prepare(request, &mut count);
     *looks = count.made();
     prepared
 }
@@ -88,28 +88,34 @@ pub fn get(site: &Site, key: &Key, looks: &mut u64) -> Result<KeyState, Refusal>
         return Err(Refusal::Broken);
     }
     let mut count = Looks::of(*looks);
-    let state = site.get_counted(key, &mut count);
+    let state = site.kept.get(key, &mut count);
     *looks = count.made();
     state
 }
 
-/// What a push of this state to this key comes to, with at most one look at a held key state.
-pub(crate) fn prepare_push(
-    site: &Site,
-    key: &Key,
-    pushed: &KeyState,
-    looks: &mut u64,
-) -> Result<Prepared, Refusal>
-    requires { looks.old ≤ 2 ^ 63 }
-    ensures answer { PreparesFrom site.now.config site.now.states (Push key.now pushed.now) result }
-    ensures ready { IfOk result (IsReady site.now) }
-    ensures valid { IfOk result (λ _. IsValid pushed.now) }
-    ensures whole { IfErr result (λ refusal. refusal ≢ Broken) }
-    ensures from { looks.old ≤ looks.new }
-    ensures to { looks.new ≤ looks.old + 1 }
-{
-    let mut count = Looks::of(*looks);
-    let prepared = site.prepare_push(key, pushed, &mut count);
-    *looks = count.made();
-    prepared
+impl Site {
+    /// Joins a state to that of a key, as a request to push it does, without a request: done; or the first refusal that
+    /// applies, after which the site is as it was, unless it is broken.
+    pub fn push(&mut self, key: &Key, pushed: &KeyState) -> Result<(), Refusal>
+        ensures answer { AnswersFrom self.old self.new (Push key.now pushed.now) (push_reply result) }
+        ensures joined { OnOk result (self.new ≡ record { config = self.old.config; states = with_state self.old.states key.now (join (state_at self.old.states key.now) pushed.now); broken = false }) }
+        ensures agreed { OnOk result (clashes (state_at self.old.states key.now) pushed.now ≡ false) }
+        ensures clash { IfErr result (λ refusal. refusal ≡ DotClash → clashes (state_at self.old.states key.now) pushed.now ≡ true) }
+        ensures unchanged { IfErr result (λ refusal. refusal ≢ Broken → self.new ≡ self.old) }
+        // Whether it is broken, and for good.
+        ensures told { IfErr result (λ refusal. refusal ≡ Broken → self.new ≡ record { config = self.old.config; states = self.old.states; broken = true }) }
+        ensures stays { self.old.broken ≡ true → result ≡ Err Broken }
+        // A state that was joined is that of some set of writes.
+        ensures valid { OnOk result (IsValid pushed.now) }
+    {
+        if self.is_broken() {
+            return Err(Refusal::Broken);
+        }
+        let mut count = Looks::of(0);
+        match self.kept.prepare_push(key, pushed, &mut count) {
+            Err(refusal) => Err(refusal),
+            Ok(Prepared::Answer(_)) => Ok(()),
+            Ok(Prepared::Change(change)) => self.install(change),
+        }
+    }
 }

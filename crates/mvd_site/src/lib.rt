@@ -5,6 +5,7 @@ pub mod changes;
 pub mod config;
 pub mod counted;
 mod held;
+mod kept;
 pub mod laws;
 mod listing;
 mod opening;

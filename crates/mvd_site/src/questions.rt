@@ -12,20 +12,20 @@ ghost use Rattle.mvd_site.specs.FromStates.{bucket_refusal, unless_broken};
 ghost use Rattle.mvd_site.specs.Prepared.{IsReady, PreparesReply};
 
 use crate::changes::Prepared;
-use crate::sites::Site;
+use crate::kept::Kept;
 use mvd_docs::{Field, Term, ViewName};
 use mvd_dots::{Dot, Refusal};
 use mvd_keys::{Key, Path, Place};
 use mvd_wire::{Digests, Items, Reply, RowValue};
 use std::alloc::Global;
 
-impl Site {
+impl Kept {
     /// The digests of a node and, above the buckets, of its children. It looks at no held state and takes no memory;
     /// a broken site refuses it.
     pub fn node(&self, path: &Path) -> Result<Digests, Refusal>
         ensures { result ≡ unless_broken self.now.broken (Err Broken) (Ok (node_digests (digests self.now.states) path.now)) }
     {
-        if self.is_broken() {
+        if self.broken {
             Err(Refusal::Broken)
         } else {
             Ok(Digests {
@@ -48,7 +48,7 @@ impl Site {
         ensures more { IfOk result (λ page. page.1 ≡ is_more_after_page (digests self.now.states) path.now (option_copied after.entry)) }
         ensures refused { IfErr result (λ refusal. refusal ≡ bucket_refusal self.now.broken path.now) }
     {
-        if self.is_broken() {
+        if self.broken {
             return Err(Refusal::Broken);
         }
         self.tree.bucket(path, after)

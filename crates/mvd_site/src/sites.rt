@@ -1,60 +1,52 @@
 //! One site.
-ghost use Rattle.std.specs.Prelude.{◌≡◌, ◌≢◌, ◌≤◌, ◌+◌, ◌^◌, List, false, true, None, Some, Err, Ok, is_some, length, IfOk, IfErr, OnOk, IsTrue};
+ghost use Rattle.std.specs.Prelude.{◌≡◌, ◌≢◌, ◌≤◌, List, true, false, Some, Err, Ok, length, IfOk, IfErr, OnOk, IsTrue};
 ghost use Rattle.std.specs.List.{AllByRecursion};
+ghost use Rattle.std.specs.Option.{option_copied};
 ghost use Rattle.std.specs.FinMap as map;
 ghost use Rattle.mvd_dots.specs.Answer.{IsAnswer};
 ghost use Rattle.mvd_dots.specs.declared.refusals.Refusal.{Refusal};
-ghost use Rattle.mvd_dots.specs.declared.refusals.Refusal.TheVariants.{Broken, DotClash, Memory};
+ghost use Rattle.mvd_dots.specs.declared.refusals.Refusal.TheVariants.{Broken, Memory};
 ghost use Rattle.mvd_keys.specs.Key.{key_cmp};
-ghost use Rattle.mvd_keys.specs.State.{IsValid, clashes, empty_state, join};
-ghost use Rattle.mvd_keys.specs.Writes.{Write, Stands, is_empty};
-ghost use Rattle.mvd_wire.specs.declared.request.Request.TheVariants.{Get, Put, Delete, Push};
-ghost use Rattle.mvd_wire.specs.declared.reply.Reply.TheVariants.{State as Shown, Refused};
+ghost use Rattle.mvd_keys.specs.Writes.{Write, Stands};
+ghost use Rattle.mvd_tree.specs.Page.{is_more_after_page, page_of};
+ghost use Rattle.mvd_wire.specs.declared.reply.Reply.TheVariants.{Refused};
 ghost use Rattle.mvd_wire.specs.Replies.{CanBeSent};
-ghost use Rattle.mvd_site.specs.FromStates.{AnswersFrom, push_reply, unless_broken, with_state};
-ghost use Rattle.mvd_site.specs.Held.{AreHeld, IsHeldState, IsKept, state_at};
+ghost use Rattle.mvd_site.specs.Answer.{digests, node_digests};
+ghost use Rattle.mvd_site.specs.FromStates.{AnswersFrom, bucket_refusal, unless_broken};
+ghost use Rattle.mvd_site.specs.Held.{AreHeld, IsHeldState, state_at};
 ghost use Rattle.mvd_site.specs.Known.{Adds, Event, IsValidRequest, Tells};
-ghost use Rattle.mvd_rows.specs.Changes.{IsRoomy};
-ghost use Rattle.mvd_site.specs.Prepared.{IsChangeNow, IsReady, LimitsTo, PreparesAt, PreparesFrom, PreparesFromStates, PreparesReply, is_of_state};
+ghost use Rattle.mvd_site.specs.Prepared.{IsChangeNow, IsReady, PreparesAt, PreparesFromStates};
 ghost use Rattle.mvd_site.specs.Sites.{AnswersAll, AnswersOne, SiteValue, has_no_room, opened};
 
-use crate::changes::{Change, Prepared, reply_of};
+use crate::changes::{Change, Prepared};
 use crate::config::Config;
 use crate::counted;
-use crate::counted::Looks;
 use crate::held::Held;
+use crate::kept::Kept;
 use crate::listing::rows_of;
 use crate::opening::{digests_of, held_of};
-use mvd_docs::Document;
-use mvd_dots::{Context, Dot, Refusal};
-use mvd_keys::{Key, KeyState};
+use mvd_dots::Refusal;
+use mvd_keys::{Key, KeyState, Path};
 use mvd_rows::Rows;
 use mvd_tree::Tree;
-use mvd_wire::{Reply, Request, STATE_LIMIT, state_length};
+use mvd_wire::{Digests, Reply, Request};
 use std::alloc::Global;
 use std::marker::Model;
 
 /// The states of the keys that one site holds, and the answers to requests from them.
 #[derive(Drop)]
 pub struct Site {
-    pub(crate) alloc: Global,
-    config: Config,
-    pub(crate) states: Held,
-    pub(crate) tree: Tree,
-    pub(crate) rows: Rows,
-    broken: bool,
+    pub(crate) kept: Kept,
 }
 
 impl Model for Site {
-    ghost use Rattle.mvd_site.specs.Sites.{KeepsKeys, SiteValue, site_code};
+    ghost use Rattle.mvd_site.specs.Sites.{SiteValue, site_code};
 
     ghost Value = { SiteValue };
 
     ghost coded = { site_code };
 
-    ghost view = { λ s. record { config = s.config; states = s.states; broken = s.broken } };
-
-    ghost invariant = { λ s. KeepsKeys s.config s.states s.tree s.rows s.broken };
+    ghost view = { λ s. s.kept };
 }
 
 impl Site {
@@ -64,14 +56,15 @@ impl Site {
     {
         let tree = Tree::new(alloc)?;
         let rows = Rows::new(alloc, config.defs().copy()?)?;
-        Ok(Site {
+        let kept = Kept {
             alloc,
             config,
             states: Held::new(alloc),
             tree,
             rows,
             broken: false,
-        })
+        };
+        Ok(Site { kept })
     }
 
     /// A site that holds just these states, whose keys rise.
@@ -92,20 +85,22 @@ impl Site {
         let tree = Tree::open(alloc, digests_of(alloc, &states)?)?;
         let rows = rows_of(alloc, config.defs(), &states)?;
         let held = held_of(alloc, states)?;
-        Ok(Site {
+        let kept = Kept {
             alloc,
             config,
             states: held,
             tree,
             rows,
             broken: false,
-        })
+        };
+        Ok(Site { kept })
     }
 
     pub fn config(&self) -> &Config
         ensures { result.now ≡ self.now.config }
     {
-        &self.config
+        let kept = &self.kept;
+        &kept.config
     }
 
     /// The number of keys that are held.
@@ -115,8 +110,9 @@ impl Site {
         // Each key that is held is one, and each state has seen a dot and has a spelling within the limit.
         ensures held { AreHeld self.now.states }
     {
-        let most = self.config.max_keys();
-        let count = self.states.len();
+        let kept = &self.kept;
+        let most = kept.config.max_keys();
+        let count = kept.states.len();
         prove!(count <= most as usize);
         count as u32
     }
@@ -125,7 +121,32 @@ impl Site {
     pub fn is_broken(&self) -> bool
         ensures { result ≡ self.now.broken }
     {
-        self.broken
+        let kept = &self.kept;
+        kept.broken
+    }
+
+    /// The digests of a node and, above the buckets, of its children. It looks at no held state and takes no memory;
+    /// a broken site refuses it.
+    pub fn node(&self, path: &Path) -> Result<Digests, Refusal>
+        ensures { result ≡ unless_broken self.now.broken (Err Broken) (Ok (node_digests (digests self.now.states) path.now)) }
+    {
+        self.kept.node(path)
+    }
+
+    /// A page of at most 1,000 of a bucket's keys with their digests, those after a key if one is given, and whether more
+    /// follow. It looks at no held state. `BadPath` where the path has not three digits; a broken site refuses it.
+    pub fn bucket(
+        &self,
+        path: &Path,
+        after: Option<&Key>,
+    ) -> Result<(Vec<(Key, [u8; 32])>, bool), Refusal>
+        ensures whole { IfOk result (λ _. self.now.broken ≡ false) }
+        ensures path { IfOk result (λ _. length path.now ≡ 3) }
+        ensures keys { IfOk result (λ page. page.0.items ≡ page_of (digests self.now.states) path.now (option_copied after.entry)) }
+        ensures more { IfOk result (λ page. page.1 ≡ is_more_after_page (digests self.now.states) path.now (option_copied after.entry)) }
+        ensures refused { IfErr result (λ refusal. refusal ≡ bucket_refusal self.now.broken path.now) }
+    {
+        self.kept.bucket(path, after)
     }
 
     /// What a request comes to. Nothing is changed yet, and several changes may be prepared side by side.
@@ -141,51 +162,6 @@ impl Site {
         counted::prepare(self, request, &mut looks)
     }
 
-    /// What a request comes to, with at most one look at a held key state.
-    pub(crate) fn prepare_counted(
-        &self,
-        request: &Request,
-        looks: &mut Looks,
-    ) -> Result<Prepared, Refusal>
-        requires { looks.old ≤ 2 ^ 63 }
-        ensures states { PreparesFromStates self.now request.now result }
-        ensures ready { IfOk result (IsReady self.now) }
-        ensures valid { IfOk result (λ _. IsValidRequest request.now) }
-        ensures broken { self.now.broken ≡ true → result ≡ Err Broken }
-        ensures whole { IfErr result (λ refusal. refusal ≡ Broken → self.now.broken ≡ true) }
-        ensures none { is_of_state request.now ≡ false → looks.new ≡ looks.old }
-        ensures from { looks.old ≤ looks.new }
-        ensures to { looks.new ≤ looks.old + 1 }
-    {
-        if self.broken {
-            return Err(Refusal::Broken);
-        }
-        match request {
-            Request::Get(key) => self.prepare_get(key, looks),
-            Request::Put(key, seen, document) => self.prepare_put(key, seen, document, looks),
-            Request::Delete(key, seen) => self.prepare_delete(key, seen, looks),
-            Request::Push(key, pushed) => self.prepare_push(key, pushed, looks),
-            Request::Find(field, term, after) => self.prepare_find(field, term, after),
-            Request::Range(field, from, to, after) => self.prepare_range(field, from, to, after),
-            Request::Row(view, term) => self.prepare_row(view, term),
-            Request::Rows(view, after) => self.prepare_rows(view, after),
-            Request::Node(path) => self.prepare_node(path),
-            Request::Bucket(path, after) => self.prepare_bucket(path, after.as_ref()),
-            Request::Bye => Ok(Prepared::Answer(Reply::Done)),
-        }
-    }
-
-    fn prepare_get(&self, key: &Key, looks: &mut Looks) -> Result<Prepared, Refusal>
-        requires { looks.old ≤ 2 ^ 63 }
-        ensures answer { PreparesReply (Shown (state_at self.now.states key.now)) result }
-        ensures ready { IfOk result (IsReady self.now) }
-        ensures whole { IfErr result (λ refusal. refusal ≢ Broken) }
-        ensures looked { looks.new ≡ looks.old + 1 }
-    {
-        let state = self.get_counted(key, looks)?;
-        Ok(Prepared::Answer(Reply::State(state)))
-    }
-
     /// The state of a key, empty where the key is not held. A broken site refuses it.
     pub fn get(&self, key: &Key) -> Result<KeyState, Refusal>
         ensures whole { IfOk result (λ _. self.now.broken ≡ false) }
@@ -194,137 +170,6 @@ impl Site {
     {
         let mut looks = 0;
         counted::get(self, key, &mut looks)
-    }
-
-    pub(crate) fn get_counted(&self, key: &Key, looks: &mut Looks) -> Result<KeyState, Refusal>
-        requires { looks.old ≤ 2 ^ 63 }
-        ensures state { IfOk result (λ state. state ≡ state_at self.now.states key.now) }
-        ensures kept { IfOk result IsKept }
-        ensures only { IfErr result (λ refusal. refusal ≡ Memory) }
-        ensures looked { looks.new ≡ looks.old + 1 }
-    {
-        let empty = KeyState::empty(self.alloc);
-        let (_, old) = self.look(key, &empty, looks);
-        old.copy(self.alloc)
-    }
-
-    fn prepare_put(
-        &self,
-        key: &Key,
-        seen: &Context,
-        document: &Document,
-        looks: &mut Looks,
-    ) -> Result<Prepared, Refusal>
-        requires { looks.old ≤ 2 ^ 63 }
-        ensures answer { PreparesFrom self.now.config self.now.states (Put key.now seen.now document.now) result }
-        ensures ready { IfOk result (IsReady self.now) }
-        ensures whole { IfErr result (λ refusal. refusal ≢ Broken) }
-        ensures looked { looks.new ≡ looks.old + 1 }
-    {
-        let empty = KeyState::empty(self.alloc);
-        let (is_held, old) = self.look(key, &empty, looks);
-        let document = document.copy()?;
-        match old.put(self.alloc, self.config.site(), seen, document) {
-            Err(refusal) => return Err(refusal),
-            Ok((state, dot)) => return self.limited(key, is_held, old, state, Some(dot)),
-        }
-    }
-
-    fn prepare_delete(
-        &self,
-        key: &Key,
-        seen: &Context,
-        looks: &mut Looks,
-    ) -> Result<Prepared, Refusal>
-        requires { looks.old ≤ 2 ^ 63 }
-        ensures answer { PreparesFrom self.now.config self.now.states (Delete key.now seen.now) result }
-        ensures ready { IfOk result (IsReady self.now) }
-        ensures whole { IfErr result (λ refusal. refusal ≢ Broken) }
-        ensures looked { looks.new ≡ looks.old + 1 }
-    {
-        let empty = KeyState::empty(self.alloc);
-        let (is_held, old) = self.look(key, &empty, looks);
-        match old.delete(self.alloc, seen) {
-            Err(refusal) => return Err(refusal),
-            Ok(state) => return self.limited(key, is_held, old, state, None),
-        }
-    }
-
-    pub(crate) fn prepare_push(
-        &self,
-        key: &Key,
-        pushed: &KeyState,
-        looks: &mut Looks,
-    ) -> Result<Prepared, Refusal>
-        requires { looks.old ≤ 2 ^ 63 }
-        ensures answer { PreparesFrom self.now.config self.now.states (Push key.now pushed.now) result }
-        ensures ready { IfOk result (IsReady self.now) }
-        ensures valid { IfOk result (λ _. IsValid pushed.now) }
-        ensures whole { IfErr result (λ refusal. refusal ≢ Broken) }
-        ensures from { looks.old ≤ looks.new }
-        ensures to { looks.new ≤ looks.old + 1 }
-    {
-        if state_length(pushed) > STATE_LIMIT {
-            return Err(Refusal::StateTooLarge);
-        }
-        let empty = KeyState::empty(self.alloc);
-        let (is_held, old) = self.look(key, &empty, looks);
-        match old.join(self.alloc, pushed) {
-            Err(refusal) => return Err(refusal),
-            Ok(state) => return self.limited(key, is_held, old, state, None),
-        }
-    }
-
-    /// Whether the key is held, and its state or the empty one. This is one look.
-    fn look<'a>(&'a self, key: &Key, empty: &'a KeyState, looks: &mut Looks) -> (bool, &'a KeyState)
-        requires few { looks.old ≤ 2 ^ 63 }
-        requires empty { empty.now ≡ empty_state }
-        ensures is_held { result.0 ≡ is_some (map.get self.now.states key.now) }
-        ensures state { result.1.now ≡ state_at self.now.states key.now }
-        ensures kept { IsKept result.1.now }
-        ensures looked { looks.new ≡ looks.old + 1 }
-    {
-        match self.states.get(key, looks) {
-            Some(state) => (true, state),
-            None => (false, empty),
-        }
-    }
-
-    /// What giving the key this state comes to, by the limits; `dot` is that of a put.
-    fn limited(
-        &self,
-        key: &Key,
-        is_held: bool,
-        old: &KeyState,
-        after: KeyState,
-        dot: Option<Dot>,
-    ) -> Result<Prepared, Refusal>
-        requires is_held { is_held ≡ is_some (map.get self.now.states key.now) }
-        requires old { old.now ≡ state_at self.now.states key.now }
-        requires grows { is_empty after.context ≡ true → after ≡ old.now }
-        ensures limits { LimitsTo self.now key.now after dot result }
-        ensures ready { IfOk result (IsReady self.now) }
-        ensures whole { IfErr result (λ refusal. refusal ≢ Broken) }
-    {
-        if state_length(&after) > STATE_LIMIT {
-            return Err(Refusal::StateTooLarge);
-        }
-        if old.same(&after) {
-            return Ok(Prepared::Answer(reply_of(dot)));
-        }
-        if !is_held && self.states.len() == self.config.max_keys() as usize {
-            return Err(Refusal::Full);
-        }
-        let change = Change::new(self.alloc, key, after, dot)?;
-        Ok(Prepared::Change(change))
-    }
-
-    /// Here it is known that there are few keys, and few siblings of each.
-    fn few(&self)
-        ensures { IsRoomy self.now.states }
-    {
-        let _most = self.config.max_keys();
-        let _held = self.states.len();
     }
 
     /// Puts in the change of one key, and changes no other. Where memory is refused the site is broken from then on. The
@@ -337,49 +182,7 @@ impl Site {
         ensures ok { OnOk result ((self.old.broken ≡ false) × (self.new ≡ record { config = self.old.config; states = map.insert self.old.states change.key change.state; broken = false })) }
         ensures err { IfErr result (λ refusal. (refusal ≡ Broken) × (self.new ≡ record { config = self.old.config; states = self.old.states; broken = true })) }
     {
-        if self.broken {
-            return Err(Refusal::Broken);
-        }
-        self.few();
-        let digest = change.digest();
-        let (key, state) = change.into_parts();
-        let digested = self.tree.change(&key, Some(digest)).is_ok();
-        if !digested {
-            self.broken = true;
-            return Err(Refusal::Broken);
-        }
-        match self.states.replace(self.alloc, &mut self.rows, key, state) {
-            Ok(()) => Ok(()),
-            Err(_) => {
-                self.broken = true;
-                Err(Refusal::Broken)
-            }
-        }
-    }
-
-    /// Joins a state to that of a key, as a request to push it does, without a request: done; or the first refusal that
-    /// applies, after which the site is as it was, unless it is broken.
-    pub fn push(&mut self, key: &Key, pushed: &KeyState) -> Result<(), Refusal>
-        ensures answer { AnswersFrom self.old self.new (Push key.now pushed.now) (push_reply result) }
-        ensures joined { OnOk result (self.new ≡ record { config = self.old.config; states = with_state self.old.states key.now (join (state_at self.old.states key.now) pushed.now); broken = false }) }
-        ensures agreed { OnOk result (clashes (state_at self.old.states key.now) pushed.now ≡ false) }
-        ensures clash { IfErr result (λ refusal. refusal ≡ DotClash → clashes (state_at self.old.states key.now) pushed.now ≡ true) }
-        ensures unchanged { IfErr result (λ refusal. refusal ≢ Broken → self.new ≡ self.old) }
-        // Whether it is broken, and for good.
-        ensures told { IfErr result (λ refusal. refusal ≡ Broken → self.new ≡ record { config = self.old.config; states = self.old.states; broken = true }) }
-        ensures stays { self.old.broken ≡ true → result ≡ Err Broken }
-        // A state that was joined is that of some set of writes.
-        ensures valid { OnOk result (IsValid pushed.now) }
-    {
-        if self.broken {
-            return Err(Refusal::Broken);
-        }
-        let mut looks = 0;
-        match counted::prepare_push(self, key, pushed, &mut looks) {
-            Err(refusal) => Err(refusal),
-            Ok(Prepared::Answer(_)) => Ok(()),
-            Ok(Prepared::Change(change)) => self.install(change),
-        }
+        self.kept.install(change)
     }
 
     /// Answers one request. A refusal other than `Broken` leaves the site as it was.

@@ -16,8 +16,8 @@ open-requires c =
     let are : c.in_ok-digests_of.field-0.items ≡ key_digests entries = c.in_ok-digests_of.ensures.digests ∙ ap key_digests c.deref.ensures.value in
     subst (λ l. T (is_sorted key_cmp l)) (sym are) (digests_rise spelled entries (holds _ c.requires.rising))
 
-pub invariant_of-result : goal.invariant_of-result
-invariant_of-result c =
+pub invariant_of-kept : goal.invariant_of-kept
+invariant_of-kept c =
     let entries = c.args.states.items in
     let size : len c.in_ok-held.held ≡ length entries = ap len c.in_ok-held.ensures.held ∙ rising_len entries (holds _ c.requires.rising) in
     let digested : c.in_ok-tree.tree ≡ from_entries (key_digests entries) =

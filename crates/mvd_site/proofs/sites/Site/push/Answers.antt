@@ -1,4 +1,4 @@
-use Rattle.std.proofs.Common.{◌≡◌, false, Result, Ok, Err, subst, sym, ap, ◌∙◌}
+use Rattle.std.proofs.Common.{◌≡◌, false, Result, Ok, Err, subst, subst₂, sym}
 use Rattle.mvd_dots.specs.declared.refusals.Refusal.{Refusal}
 use Rattle.mvd_wire.specs.declared.request.Request.TheVariants.{Push}
 use Rattle.mvd_site.specs.FromStates.{AnswersFrom, push_reply}
@@ -14,8 +14,8 @@ returns-in-Err c =
     let key = c.args.key.now in
     let pushed = c.args.pushed.now in
     let result : Result (Unit {0}) Refusal = Err c.in-Err.refusal in
-    let whole : old.broken ≡ false = ap (λ (s : SiteValue). s.broken) (sym c.self.view_is) ∙ c.if-self.false in
-    let answers : AnswersFrom old old (Push key pushed) (push_reply result) = answers_from_refusal old (Push key pushed) c.in-Err.refusal (λ _. c.in-Err.ensures.answer) in
+    let whole : old.broken ≡ false = sym c.if-is_broken.ensures in
+    let answers : AnswersFrom old old (Push key pushed) (push_reply result) = answers_from_refusal old (Push key pushed) c.in-Err.refusal (λ _. subst (λ (s : SiteValue). PreparesFrom s.config s.states (Push key pushed) (Err c.in-Err.refusal)) c.self.view_is c.in-Err.ensures.answer) in
     let facts : PushFacts old old key pushed result = push_facts old old key pushed result whole answers in
     record { answer = answers; joined = facts.joined; agreed = facts.agreed; clash = facts.clash; unchanged = facts.unchanged; told = facts.told; stays = λ broken. absurd (not_broken old.broken whole broken); valid = tt }
 
@@ -25,10 +25,10 @@ returns-in-Ok-Answer c =
     let key = c.args.key.now in
     let pushed = c.args.pushed.now in
     let result : Result (Unit {0}) Refusal = Ok tt in
-    let whole : old.broken ≡ false = ap (λ (s : SiteValue). s.broken) (sym c.self.view_is) ∙ c.if-self.false in
-    let ready = subst (λ p. IsReady old p) c.in-Ok-Answer.field-0-is c.in-Ok-Answer.ensures.ready in
+    let whole : old.broken ≡ false = sym c.if-is_broken.ensures in
+    let ready = subst (IsReady c.self.inside.kept) c.in-Ok-Answer.field-0-is c.in-Ok-Answer.ensures.ready in
     let answers : AnswersFrom old old (Push key pushed) (push_reply result) =
-    pushed_still old key pushed c.in-Ok-Answer.field-0-0 (tt {0}) ready.accepts (λ _. subst (λ p. PreparesFrom old.config old.states (Push key pushed) (Ok p)) c.in-Ok-Answer.field-0-is c.in-Ok-Answer.ensures.answer) in
+    pushed_still old key pushed c.in-Ok-Answer.field-0-0 (tt {0}) ready.accepts (λ _. subst₂ (λ (s : SiteValue) p. PreparesFrom s.config s.states (Push key pushed) (Ok p)) c.self.view_is c.in-Ok-Answer.field-0-is c.in-Ok-Answer.ensures.answer) in
     let facts : PushFacts old old key pushed result = push_facts old old key pushed result whole answers in
     record { answer = answers; joined = facts.joined; agreed = facts.agreed; clash = facts.clash; unchanged = facts.unchanged; told = facts.told; stays = λ broken. absurd (not_broken old.broken whole broken); valid = c.in-Ok-Answer.ensures.valid }
 
@@ -39,9 +39,9 @@ returns c =
     let key = c.args.key.now in
     let pushed = c.args.pushed.now in
     let result = c.install.result in
-    let whole : old.broken ≡ false = ap (λ (s : SiteValue). s.broken) (sym c.self.view_is) ∙ c.if-self.false in
+    let whole : old.broken ≡ false = sym c.if-is_broken.ensures in
     let answers : AnswersFrom old new (Push key pushed) (push_reply result) =
     pushed_by_install old new key pushed c.in-Ok-Change.change result c.install.ensures.ok c.install.ensures.err
-    (λ _. subst (λ p. PreparesFrom old.config old.states (Push key pushed) (Ok p)) c.in-Ok-Change.field-0-is c.in-Ok-Change.ensures.answer) in
+    (λ _. subst₂ (λ (s : SiteValue) p. PreparesFrom s.config s.states (Push key pushed) (Ok p)) c.self.view_is c.in-Ok-Change.field-0-is c.in-Ok-Change.ensures.answer) in
     let facts = push_facts old new key pushed result whole answers in
     record { answer = answers; joined = facts.joined; agreed = facts.agreed; clash = facts.clash; unchanged = facts.unchanged; told = facts.told; stays = λ broken. absurd (not_broken old.broken whole broken); valid = on_ok result c.in-Ok-Change.ensures.valid }

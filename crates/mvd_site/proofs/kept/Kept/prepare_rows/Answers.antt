@@ -7,7 +7,7 @@ use Rattle.mvd_site.proofs.Listed.{never_broken, rows_page, rows_refuses}
 use Rattle.mvd_rows.specs.Visible.{visible_in}
 use Rattle.mvd_wire.specs.Replies.{CanBeSent}
 use Rattle.mvd_site.specs.Sites.{SiteValue}
-use Rattle.mvd_site.proofs.sites.Site.prepare_rows.Goals as goal
+use Rattle.mvd_site.proofs.kept.Kept.prepare_rows.Goals as goal
 
 pub returns-in_err-rows-clause-whole : goal.returns-in_err-rows-clause-whole
 returns-in_err-rows-clause-whole c =

@@ -2,7 +2,7 @@ use Rattle.std.proofs.Common.{ap, subst}
 use Rattle.mvd_rows.specs.Changes.{IsRoomy}
 use Rattle.mvd_site.specs.Sites.{SiteValue}
 use Rattle.mvd_site.proofs.Room.{is_roomy}
-use Rattle.mvd_site.proofs.sites.Site.few.Goals as goal
+use Rattle.mvd_site.proofs.kept.Kept.few.Goals as goal
 
 pub returns : goal.returns
 returns c =

@@ -7,7 +7,7 @@ use Rattle.mvd_site.specs.Answer.{digests}
 use Rattle.mvd_site.specs.Held.{AreHeld}
 use Rattle.mvd_site.specs.Sites.{SiteValue}
 use Rattle.mvd_site.proofs.Digested.{page_entries, short_page}
-use Rattle.mvd_site.proofs.sites.Site.prepare_bucket.Goals as goal
+use Rattle.mvd_site.proofs.kept.Kept.prepare_bucket.Goals as goal
 
 pub returns-clause-ready : goal.returns-clause-ready
 returns-clause-ready c =

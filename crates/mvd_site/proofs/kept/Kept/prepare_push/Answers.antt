@@ -7,7 +7,7 @@ use Rattle.mvd_site.specs.Answer.{is_too_large}
 use Rattle.mvd_site.proofs.Lengths.{is_short}
 use Rattle.mvd_site.proofs.Outcomes.{join_err, join_ok, memory_or_not}
 use Rattle.mvd_site.proofs.Prepare.{limited_push, pushed_clash}
-use Rattle.mvd_site.proofs.sites.Site.prepare_push.Goals as goal
+use Rattle.mvd_site.proofs.kept.Kept.prepare_push.Goals as goal
 
 pub returns-in-Err-clause-answer : goal.returns-in-Err-clause-answer
 returns-in-Err-clause-answer c =

@@ -3,7 +3,7 @@ use Rattle.mvd_wire.specs.Replies.{CanBeSent}
 use Rattle.mvd_wire.specs.declared.reply.Reply.TheVariants.{Digests as Told}
 use Rattle.mvd_site.specs.Answer.{digests}
 use Rattle.mvd_site.proofs.Digested.{node_can_be_sent, node_told}
-use Rattle.mvd_site.proofs.sites.Site.prepare_node.Goals as goal
+use Rattle.mvd_site.proofs.kept.Kept.prepare_node.Goals as goal
 
 pub returns-clause-ready : goal.returns-clause-ready
 returns-clause-ready c =

@@ -7,7 +7,7 @@ use Rattle.mvd_site.specs.Answer.{spelled}
 use Rattle.mvd_site.specs.Sites.{SiteValue, has_no_room}
 use Rattle.mvd_site.proofs.Digested.{keeps_inserted}
 use Rattle.mvd_site.proofs.Outcomes.{where_ok}
-use Rattle.mvd_site.proofs.sites.Site.install.Goals as goal
+use Rattle.mvd_site.proofs.kept.Kept.install.Goals as goal
 
 pub invariant_of-self-in-Ok : goal.invariant_of-self-in-Ok
 invariant_of-self-in-Ok c =

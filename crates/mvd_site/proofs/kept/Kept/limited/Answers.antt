@@ -6,7 +6,7 @@ use Rattle.mvd_site.proofs.Lengths.{is_short}
 use Rattle.mvd_site.proofs.Outcomes.{change_plain}
 use Rattle.mvd_site.specs.Prepared.{IsPlain}
 use Rattle.mvd_site.proofs.Steps.{within-still}
-use Rattle.mvd_site.proofs.sites.Site.limited.Goals as goal
+use Rattle.mvd_site.proofs.kept.Kept.limited.Goals as goal
 
 pub returns-then-same-clause-limits : goal.returns-then-same-clause-limits
 returns-then-same-clause-limits c =

@@ -3,7 +3,7 @@ use Rattle.mvd_keys.specs.State.{State, after_delete}
 use Rattle.mvd_keys.specs.Writes.{is_empty}
 use Rattle.mvd_keys.proofs.Lists.{after_delete-empty}
 use Rattle.mvd_site.proofs.Prepare.{limited_delete}
-use Rattle.mvd_site.proofs.sites.Site.prepare_delete.Goals as goal
+use Rattle.mvd_site.proofs.kept.Kept.prepare_delete.Goals as goal
 
 pub limited-requires-clause-grows : goal.limited-requires-clause-grows
 limited-requires-clause-grows c =

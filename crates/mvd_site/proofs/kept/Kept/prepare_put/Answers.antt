@@ -9,7 +9,7 @@ use Rattle.mvd_site.specs.Held.{state_at}
 use Rattle.mvd_site.specs.Sites.{SiteValue}
 use Rattle.mvd_site.proofs.Outcomes.{memory_or_not, put_err, put_ok}
 use Rattle.mvd_site.proofs.Prepare.{exhausted, limited_put}
-use Rattle.mvd_site.proofs.sites.Site.prepare_put.Goals as goal
+use Rattle.mvd_site.proofs.kept.Kept.prepare_put.Goals as goal
 
 pub returns-in-Err-clause-answer : goal.returns-in-Err-clause-answer
 returns-in-Err-clause-answer c =

@@ -5,7 +5,7 @@ use Rattle.mvd_rows.specs.Visible.{visible_in}
 use Rattle.mvd_wire.proofs.SentPages.{row_can_be_sent}
 use Rattle.mvd_site.specs.Sites.{SiteValue}
 use Rattle.mvd_site.proofs.Listed.{row_refuses}
-use Rattle.mvd_site.proofs.sites.Site.prepare_row.Goals as goal
+use Rattle.mvd_site.proofs.kept.Kept.prepare_row.Goals as goal
 
 pub returns-in_err-count-clause-whole : goal.returns-in_err-count-clause-whole
 returns-in_err-count-clause-whole c =

@@ -7,7 +7,7 @@ use Rattle.mvd_site.proofs.Listed.{find_refuses, found_page, never_broken}
 use Rattle.mvd_rows.specs.Visible.{visible_in}
 use Rattle.mvd_wire.specs.Replies.{CanBeSent}
 use Rattle.mvd_site.specs.Sites.{SiteValue}
-use Rattle.mvd_site.proofs.sites.Site.prepare_find.Goals as goal
+use Rattle.mvd_site.proofs.kept.Kept.prepare_find.Goals as goal
 
 pub returns-in_err-places-clause-whole : goal.returns-in_err-places-clause-whole
 returns-in_err-places-clause-whole c =

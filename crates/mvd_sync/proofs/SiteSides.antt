@@ -20,6 +20,7 @@ use Rattle.mvd_site.specs.FromStates.{unless_broken, with_state}
 use Rattle.mvd_site.specs.Held.{AreHeld, States, state_at}
 use Rattle.mvd_site.specs.Sites.{SiteValue}
 use Rattle.mvd_sync.specs.Session.{is_nothing, put_state, pushed}
+use Rattle.mvd_sync.specs.Sides.{SiteFollows}
 use Rattle.mvd_sync.proofs.JoinLaws.{nothing_empty, valid_at}
 
 -- ---- the digests of a node
@@ -99,3 +100,12 @@ module _ (old new : SiteValue) (key : List ℕ) (s : State) (whole : (old.broken
   pub push_unbroken : (r : Result (Unit {0}) Refusal) → IfErr r (λ refusal. refusal ≢ Broken → new ≡ old) → IfErr r (λ refusal. refusal ≢ Broken → (new.broken ≡ false) × AreHeld new.states)
   push_unbroken (Ok done) same = tt
   push_unbroken (Err refusal) same = λ other. (ap (λ (v : SiteValue). v.broken) (same other) ∙ whole.0, held)
+
+-- what a push does not change
+pub push_follows : (old new : SiteValue) (after : States) (r : Result (Unit {0}) Refusal) → OnOk r (new ≡ record { config = old.config; states = after; broken = false }) → IfErr r (λ refusal. refusal ≢ Broken → new ≡ old)
+    → IfErr r (λ refusal. refusal ≡ Broken → new ≡ record { config = old.config; states = old.states; broken = true }) → (old.broken ≡ true → r ≡ Err Broken) → SiteFollows old new
+push_follows old new after (Ok done) is same told stays = (ap (λ (v : SiteValue). v.config) is, λ broken. let never = stays broken in absurd (cc))
+push_follows old new after (Err refusal) is same told stays = elim (is_broken refusal) [
+  | inl e ↦ (ap (λ (v : SiteValue). v.config) (told e), λ broken. told e ∙ (λ i. record { config = old.config; states = old.states; broken = sym broken i }))
+  | inr other ↦ (ap (λ (v : SiteValue). v.config) (same other), λ _. same other)
+]

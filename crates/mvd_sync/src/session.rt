@@ -42,6 +42,9 @@ pub fn sync_within<L: Peer, P: Peer>(
     // Whatever the peer is, the local side changes by pushes of states that the peer may give, and by nothing else.
     ensures pushes { L.is_true local.old → L.is_true local.new → ComesByPushes P.can_give (L.states local.old) (L.states local.new) }
 
+    // Of neither side a call changes more than its calls may, true or not.
+    ensures follows { L.follows local.old local.new × P.follows peer.old peer.new }
+
     // It stays true, unless it says that it is broken.
     ensures local_unbroken { L.is_true local.old → MatchResult result (λ _. L.is_true local.new) (λ fault. fault ≢ SyncFault.Local Refusal.Broken → L.is_true local.new) }
 
@@ -74,6 +77,7 @@ pub fn sync<L: Peer, P: Peer>(
     peer: &mut P,
 ) -> Result<Report, SyncFault>
     ensures pushes { L.is_true local.old → L.is_true local.new → ComesByPushes P.can_give (L.states local.old) (L.states local.new) }
+    ensures follows { L.follows local.old local.new × P.follows peer.old peer.new }
     ensures local_unbroken { L.is_true local.old → MatchResult result (λ _. L.is_true local.new) (λ fault. fault ≢ SyncFault.Local Refusal.Broken → L.is_true local.new) }
     ensures session { L.is_true local.old → P.is_true peer.old → SessionEnds (λ report. report.keys) (L.is_true local.new) (P.is_true peer.new) (L.states local.old) (P.states peer.old) (L.states local.new) (P.states peer.new) result }
     ensures peer_unbroken { L.is_true local.old → P.is_true peer.old → MatchResult result (λ _. P.is_true peer.new) (λ fault. fault ≢ SyncFault.Peer Refusal.Broken → P.is_true peer.new) }

@@ -1,6 +1,7 @@
 //! A site as a side of a session.
 ghost use Rattle.std.specs.Prelude.{◌≡◌, false};
 ghost use Rattle.mvd_site.specs.Held.{AreHeld};
+ghost use Rattle.mvd_sync.specs.Sides.{SiteFollows, site_follows_on, site_follows_self};
 
 use crate::peer::Peer;
 use mvd_dots::Refusal;
@@ -17,7 +18,13 @@ impl Peer for Site {
 
     ghost can_give = { λ _ _. Unit {0} };
 
+    ghost follows = { SiteFollows };
+
     ghost in_form = { λ _ whole. whole.1 };
+
+    ghost follows_self = { site_follows_self };
+
+    ghost follows_on = { site_follows_on };
 
     #[tactic(auto, using(crate::proofs::SiteSides::node_own, crate::proofs::SiteSides::node_inner, crate::proofs::SiteSides::node_bucket, crate::proofs::SiteSides::node_apart))]
     fn node(&mut self, path: &Path) -> Result<Digests, Refusal> {

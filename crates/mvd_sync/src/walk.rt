@@ -58,6 +58,7 @@ fn ask_node<P: Peer>(side: &mut P, left: &mut u64, path: &Path) -> Result<Node, 
     ensures children { P.is_true side.old → IfOk result (λ n. n.children ≡ children_digests (digests (P.states side.old)) path.now) }
     ensures no_clash { P.is_true side.old → IfErr result (λ refusal. refusal ≢ Refusal.DotClash) }
     ensures left { left.new ≤ left.old }
+    ensures follows { P.follows side.old side.new }
 {
     ask(left)?;
     let digests = side.node(path)?;
@@ -76,6 +77,7 @@ fn ask_get<P: Peer>(side: &mut P, left: &mut u64, key: &Key) -> Result<KeyState,
     ensures no_clash { P.is_true side.old → IfErr result (λ refusal. refusal ≢ Refusal.DotClash) }
     ensures left { OnOk result (left.new + 1 ≡ left.old) }
     ensures least { left.new ≤ left.old }
+    ensures follows { P.follows side.old side.new }
 {
     ask(left)?;
     side.get(key)
@@ -94,6 +96,7 @@ fn ask_push<P: Peer>(
     ensures unbroken { P.is_true side.old → IfErr result (λ refusal. refusal ≢ Refusal.Broken → P.is_true side.new) }
     ensures clash { P.is_true side.old → IfErr result (λ refusal. refusal ≡ Refusal.DotClash → clashes (state_at (P.states side.old) key.now) state.now ≡ true) }
     ensures left { left.new ≤ left.old }
+    ensures follows { P.follows side.old side.new }
 {
     ask(left)?;
     side.push(key, state)
@@ -112,6 +115,7 @@ fn pull<L: Peer, P: Peer>(
     ensures asked { OnOk result (left.new.peer + 1 ≡ left.old.peer) }
     ensures left_peer { left.new.peer ≤ left.old.peer }
     ensures left_local { left.new.local ≤ left.old.local }
+    ensures follows { L.follows local.old local.new × P.follows peer.old peer.new }
 {
     let state = match ask_get(peer, &mut left.peer, key) {
         Ok(state) => state,
@@ -135,6 +139,7 @@ fn give<L: Peer, P: Peer>(
     ensures peer { P.is_true peer.old → CarryEnds SyncFault.Peer L.can_give (L.is_true local.old) (L.states local.old) (P.states peer.old) key.now (P.is_true peer.new) (P.states peer.new) result }
     ensures left_peer { left.new.peer ≤ left.old.peer }
     ensures left_local { left.new.local ≤ left.old.local }
+    ensures follows { L.follows local.old local.new × P.follows peer.old peer.new }
 {
     let state = match ask_get(local, &mut left.local, key) {
         Ok(state) => state,
@@ -158,6 +163,7 @@ fn exchange<L: Peer, P: Peer>(
     ensures left_local { left.new.local ≤ left.old.local }
     ensures left { left.new.peer ≤ left.old.peer }
     ensures keys { IfOk result (λ n. n + left.new.peer ≤ left.old.peer) }
+    ensures follows { L.follows local.old local.new × P.follows peer.old peer.new }
 {
     match pull(local, peer, left, key) {
         Ok(()) => {}
@@ -182,6 +188,7 @@ fn settle<L: Peer, P: Peer>(
     ensures left_local { left.new.local ≤ left.old.local }
     ensures left { left.new.peer ≤ left.old.peer }
     ensures keys { IfOk result (λ n. n + left.new.peer ≤ left.old.peer) }
+    ensures follows { L.follows local.old local.new × P.follows peer.old peer.new }
 {
     if differs {
         exchange(local, peer, left, key)
@@ -202,6 +209,7 @@ fn walk_bucket<L: Peer, P: Peer>(
     ensures session { L.is_true local.old → P.is_true peer.old → WalkEnds (DigestsTell path.now (L.states local.old) (P.states peer.old)) (IsBelow path.now) (L.is_true local.new) (P.is_true peer.new) (L.states local.old) (P.states peer.old) (L.states local.new) (P.states peer.new) result }
     ensures left { left.new.peer ≤ left.old.peer }
     ensures keys { IfOk result (λ n. n + left.new.peer ≤ left.old.peer) }
+    ensures follows { L.follows local.old local.new × P.follows peer.old peer.new }
 {
     let mut mine = match Listing::fetch(local, &mut left.local, path, None) {
         Ok(page) => page,
@@ -269,6 +277,7 @@ pub fn walk<L: Peer, P: Peer>(
     ensures session { L.is_true local.old → P.is_true peer.old → WalkEnds (DigestsTell path.now (L.states local.old) (P.states peer.old)) (IsBelow path.now) (L.is_true local.new) (P.is_true peer.new) (L.states local.old) (P.states peer.old) (L.states local.new) (P.states peer.new) result }
     ensures left { left.new.peer ≤ left.old.peer }
     ensures keys { IfOk result (λ n. n + left.new.peer ≤ left.old.peer) }
+    ensures follows { L.follows local.old local.new × P.follows peer.old peer.new }
 {
     if depth(path) == 3 {
         return walk_bucket(local, peer, left, path);

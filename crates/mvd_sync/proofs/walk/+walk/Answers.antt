@@ -39,6 +39,7 @@ pub children-init : goal.children-init
 children-init g t c =
     let left = c.ask_node-2.ensures.left in
     record {
+      follows = (c.ask_node.ensures.follows, c.ask_node-2.ensures.follows);
       pushes = λ u. let first = c.ask_node.ensures.kept u in (first.0, no_pushes _ _ _ first.1);
       session = λ u v.
           let first = c.ask_node.ensures.kept u in
@@ -55,6 +56,7 @@ children-preserved-then-is_same-2 g t c =
     let small : d < 16 = c.children-test.true in
     let short : length path < 3 = omega arith in
     record {
+      follows = c.children.invariant.follows;
       pushes = c.children.invariant.pushes;
       session = λ u v.
           let old = c.children.invariant.session u v in
@@ -101,7 +103,10 @@ children-preserved g t c =
     let short : length path < 3 = omega arith in
     let fewer = c.in-Ok-walk.ensures.keys in
     let before = c.children.invariant.keys in
+    let old = c.children.invariant.follows in
+    let new = c.walk.ensures.follows in
     record {
+      follows = (g.met.L.Peer.follows_on _ _ _ old.0 new.0, g.met.P.Peer.follows_on _ _ _ old.1 new.1);
       pushes = λ u.
           let old = c.children.invariant.pushes u in
           let new = c.in-Ok-walk.ensures.pushes old.0 in
@@ -129,3 +134,13 @@ returns-clause-session g t c u v =
     let path = c.args.path.now in
     let all : 16 ≤ c.children.digit = c.children-test.false in
     (local.0, old.0, walk_skips _ (IsBelowBefore path c.children.digit) (IsBelow path) _ _ _ _ _ (λ k p. p.0) (λ k p. inl (all_before path c.children.digit all k p)) old.1)
+
+-- what no call changes
+pub returns-in-Err-clause-follows : goal.returns-in-Err-clause-follows
+returns-in-Err-clause-follows g t c = (c.ask_node.ensures.follows, g.met.P.Peer.follows_self _)
+
+pub returns-in-Err-walk-clause-follows : goal.returns-in-Err-walk-clause-follows
+returns-in-Err-walk-clause-follows g t c =
+    let old = c.children.invariant.follows in
+    let new = c.walk.ensures.follows in
+    (g.met.L.Peer.follows_on _ _ _ old.0 new.0, g.met.P.Peer.follows_on _ _ _ old.1 new.1)

@@ -52,3 +52,10 @@ returns-in-Ok-give-clause-session g c t u differ =
           (carries_kept _ _ _ _ _ _ _ second.1 first.1)
           (carries_from _ _ _ _ _ _ _ _ second.1 asked.1 given.1),
     )
+
+-- what no call changes
+pub returns-in-Err-give-clause-follows : goal.returns-in-Err-give-clause-follows
+returns-in-Err-give-clause-follows g c = (g.met.L.Peer.follows_on _ _ _ c.pull.ensures.follows.0 c.give.ensures.follows.0, g.met.P.Peer.follows_on _ _ _ c.pull.ensures.follows.1 c.give.ensures.follows.1)
+
+pub returns-in-Ok-give-clause-follows : goal.returns-in-Ok-give-clause-follows
+returns-in-Ok-give-clause-follows g c = (g.met.L.Peer.follows_on _ _ _ c.pull.ensures.follows.0 c.give.ensures.follows.0, g.met.P.Peer.follows_on _ _ _ c.pull.ensures.follows.1 c.give.ensures.follows.1)

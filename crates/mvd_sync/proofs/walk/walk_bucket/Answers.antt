@@ -25,6 +25,7 @@ pub entries-init : goal.entries-init
 entries-init g c =
     let left = c.fetch-2.ensures.least in
     record {
+      follows = (c.fetch.ensures.follows, c.fetch-2.ensures.follows);
       pushes = λ u. let first = c.fetch.ensures.kept u in (first.0, no_pushes _ _ _ first.1);
       session = λ u v.
           let first = c.fetch.ensures.kept u in
@@ -107,7 +108,12 @@ entries-preserved g c =
     let fewer = c.in-Ok-settle.ensures.keys in
     let before = c.entries.invariant.keys in
     let asked = c.fill-in-Some.ensures.least in
+    let on = g.met.L.Peer.follows_on in
+    let on' = g.met.P.Peer.follows_on in
+    let old = c.entries.invariant.follows in
+    let new = c.settle.ensures.follows in
     record {
+      follows = (on _ _ _ old.0 (on _ _ _ new.0 c.fill.ensures.follows), on' _ _ _ old.1 (on' _ _ _ new.1 c.fill-in-Some.ensures.follows));
       pushes = λ u.
           let old = c.entries.invariant.pushes u in
           let new = c.in-Ok-settle.ensures.pushes old.0 in
@@ -146,3 +152,28 @@ returns-clause-session g c u v =
     let old = c.entries.invariant.session u v in
     let none : (c.entries.mine.0 ≡ []) × (c.entries.theirs.0 ≡ []) = c.in_default.ensures.none in
     (local.0, old.0, all_done _ _ _ _ _ _ _ _ old.1 c.entries.invariant.mine_more c.entries.invariant.theirs_more none.0 none.1)
+
+-- what no call changes
+pub returns-in-Err-clause-follows : goal.returns-in-Err-clause-follows
+returns-in-Err-clause-follows g c = (c.fetch.ensures.follows, g.met.P.Peer.follows_self _)
+
+pub returns-in-Err-settle-clause-follows : goal.returns-in-Err-settle-clause-follows
+returns-in-Err-settle-clause-follows g c =
+    let old = c.entries.invariant.follows in
+    let new = c.settle.ensures.follows in
+    (g.met.L.Peer.follows_on _ _ _ old.0 new.0, g.met.P.Peer.follows_on _ _ _ old.1 new.1)
+
+pub returns-in-Err-fill-clause-follows : goal.returns-in-Err-fill-clause-follows
+returns-in-Err-fill-clause-follows g c =
+    let on = g.met.L.Peer.follows_on in
+    let old = c.entries.invariant.follows in
+    let new = c.settle.ensures.follows in
+    (on _ _ _ old.0 (on _ _ _ new.0 c.fill.ensures.follows), g.met.P.Peer.follows_on _ _ _ old.1 new.1)
+
+pub returns-in-Err-fill-2-clause-follows : goal.returns-in-Err-fill-2-clause-follows
+returns-in-Err-fill-2-clause-follows g c =
+    let on = g.met.L.Peer.follows_on in
+    let on' = g.met.P.Peer.follows_on in
+    let old = c.entries.invariant.follows in
+    let new = c.settle.ensures.follows in
+    (on _ _ _ old.0 (on _ _ _ new.0 c.fill.ensures.follows), on' _ _ _ old.1 (on' _ _ _ new.1 c.fill-in-Some.ensures.follows))

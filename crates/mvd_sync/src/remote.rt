@@ -261,6 +261,11 @@ impl<R: Read + Drop, W: Write + Drop> Peer for Remote<R, W> {
     // A link that refuses stays as it is.
     ghost follows = { Stays (λ remote. (refusal : Refusal) × (remote.refused ≡ Some refusal)) };
 
+    // Where the link itself refuses, it refuses so.
+    ghost can_refuse = { λ remote refusal. (own : Refusal) → remote.refused ≡ Some own → refusal ≡ own };
+
+    ghost can_answer = { λ remote. remote.refused ≡ None };
+
     ghost in_form = { λ _ never. absurd never };
 
     ghost follows_self = { λ _ _. refl };

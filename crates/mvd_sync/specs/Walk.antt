@@ -3,7 +3,7 @@ use Rattle.std.specs.Prelude.{◌≡◌, ◌≢◌, ℕ, ◌≤◌, Bool, true, 
 use Rattle.std.specs.FinMap.{get}
 use Rattle.mvd_dots.specs.declared.refusals.Refusal.{Refusal}
 use Rattle.mvd_dots.specs.declared.refusals.Refusal.TheVariants.{Broken, DotClash}
-use Rattle.mvd_keys.specs.State.{State, clashes}
+use Rattle.mvd_keys.specs.State.{IsValid, State, clashes}
 use Rattle.mvd_keys.specs.Writes.{Key}
 use Rattle.mvd_tree.specs.HashTree.{place_of, is_under, begins, node_digest}
 use Rattle.mvd_tree.specs.Hashed.{SameUnder}
@@ -84,6 +84,7 @@ PushesAlone taker can_give is_true a a' (Err fault) = (fault ≢ taker Broken �
 pub record Carries (can_give : Key → State → Type 0) (from_true : Type 0) (from into : States) (key : Key) (into' : States) : Type 0 where
   pub state : State
   pub given : can_give key state
+  pub valid : IsValid state
   pub answer : from_true → state ≡ state_at from key
   pub is : into' ≡ pushed into key state
   pub apart : clashes (state_at into key) state ≡ false

@@ -1,7 +1,7 @@
 //! The walk of a session over both sides.
 ghost use Rattle.std.specs.Prelude.{◌≡◌, ◌≢◌, ◌+◌, ◌++◌, ◌∷◌, [], ◌<◌, ◌≤◌, length, IfOk, IfErr, OnOk, OnErr, IsTrue, ◌↔◌, true, false};
 ghost use Rattle.std.specs.FinMap.{get};
-ghost use Rattle.mvd_keys.specs.State.{clashes};
+ghost use Rattle.mvd_keys.specs.State.{IsValid, clashes};
 ghost use Rattle.mvd_tree.specs.HashTree.{node_digest};
 ghost use Rattle.mvd_tree.specs.Page.{children_digests};
 ghost use Rattle.mvd_site.specs.Held.{state_at};
@@ -100,11 +100,14 @@ fn ask_push<P: Peer>(
     ensures refused { P.is_true side.old → P.is_true side.new → OnErr result (P.states side.new ≡ P.states side.old) }
     ensures unbroken { P.is_true side.old → IfErr result (λ refusal. refusal ≢ Refusal.Broken → P.is_true side.new) }
     ensures clash { P.is_true side.old → IfErr result (λ refusal. refusal ≡ Refusal.DotClash → clashes (state_at (P.states side.old) key.now) state.now ≡ true) }
+    ensures valid { IsValid state.now }
     ensures left { left.new ≤ left.old }
     ensures follows { P.follows side.old side.new }
     ensures refuses { IfErr result (Blames (P.can_refuse side.new)) }
     ensures answers { OnOk result (P.can_answer side.new) }
 {
+    // Here it is known that the state's siblings have been seen.
+    let _seen = state.context();
     ask(left)?;
     side.push(key, state)
 }

@@ -6,7 +6,7 @@ use Rattle.mvd_sync.proofs.walk.pull.Goals as goal
 pub returns-in-Ok-ask_push-clause-local : goal.returns-in-Ok-ask_push-clause-local
 returns-in-Ok-ask_push-clause-local g c t =
     let push = c.in-Ok-ask_push.ensures.ok t in
-    (push.0, record { state = c.in-Ok.state; given = c.in-Ok.ensures.given; answer = c.in-Ok.ensures.answer; is = push.1; apart = c.in-Ok-ask_push.ensures.apart t })
+    (push.0, record { state = c.in-Ok.state; given = c.in-Ok.ensures.given; valid = c.in-Ok-ask_push.ensures.valid; answer = c.in-Ok.ensures.answer; is = push.1; apart = c.in-Ok-ask_push.ensures.apart t })
 
 -- the taker refused
 pub returns-clause-local : goal.returns-clause-local

@@ -1,5 +1,5 @@
 -- A site as a side of a session.
-use Rattle.std.proofs.Common.{◌≡◌, ◌≢◌, ◌⊎◌, inl, inr, ℕ, ◌<◌, ◌≤◌, Bool, true, false, cond, ◌&&◌, ◌==◌, List, length, refl, sym, ap, subst, ◌∙◌, arith, Some, None, Option, true≢false}
+use Rattle.std.proofs.Common.{◌≡◌, ◌≢◌, ◌⊎◌, inl, inr, ℕ, ◌<◌, ◌≤◌, Bool, true, false, cond, ◌&&◌, ◌==◌, List, length, refl, sym, ap, subst, ◌∙◌, arith, Some, None, true≢false}
 use Rattle.std.specs.Prelude.{IfOk, IfErr, OnOk, Result, Ok, Err, nat_lt, if◌then◌else◌, unwrap_or, is_some, not}
 use Rattle.std.proofs.lemmas.Bool.Decides.{nat_tests}
 use Rattle.std.specs.Ordering.{nat_cmp, eq_by_cmp}
@@ -11,7 +11,7 @@ use Rattle.mvd_dots.specs.declared.refusals.Refusal.TheVariants.{BadPath, Broken
 use Rattle.mvd_keys.specs.State.{State, IsValid, clashes, empty_state, join}
 use Rattle.mvd_keys.specs.Writes.{is_empty}
 use Rattle.mvd_keys.proofs.Lists.{IsValid-join, join-empty, state_of_empty}
-use Rattle.mvd_tree.specs.HashTree.{KeyDigests, node_digest}
+use Rattle.mvd_tree.specs.HashTree.{node_digest}
 use Rattle.mvd_tree.specs.Page.{children_digests}
 use Rattle.mvd_tree.proofs.Under.{keys_same}
 use Rattle.mvd_wire.specs.declared.reply.Digests.{Digests}

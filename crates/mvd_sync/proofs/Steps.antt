@@ -1,19 +1,19 @@
 -- How the steps of a session go together.
-use Rattle.std.proofs.Common.{◌≡◌, ◌≢◌, ◌⊎◌, inl, inr, ℕ, zero, suc, ◌+◌, Bool, true, false, cond, ◌||◌, List, [], ◌∷◌, ◌++◌, length, refl, sym, ap, subst, ◌∙◌, arith, Some, None, Option, length-append}
-use Rattle.std.specs.Prelude.{IsTrue, Result, Ok, Err, MatchResult, OnOk, unwrap_or}
+use Rattle.std.proofs.Common.{◌≡◌, ◌≢◌, inl, inr, ℕ, Bool, true, false, cond, ◌||◌, List, [], ◌∷◌, ◌++◌, refl, sym, ap, subst, ◌∙◌, Some, None}
+use Rattle.std.specs.Prelude.{IsTrue, unwrap_or}
 use Rattle.std.specs.Ordering.{nat_cmp, eq_by_cmp, is_eq}
 use Rattle.std.specs.Cmp.{tied_itself, Equal-is}
 use Rattle.std.specs.Cmp.Lexicographic.{slice_cmp, nat_list_cmp_total}
 use Rattle.std.specs.FinMap.{get, insert, remove, get-insert, get-remove}
 use Rattle.mvd_keys.specs.State.{IsValid, State, clashes, empty_state, join}
-use Rattle.mvd_sync.specs.Session.{is_nothing, put_state, pushed, pushed_all, Each, ComesByPushes, is_member, AreDistinct, IsClash}
+use Rattle.mvd_sync.specs.Session.{is_nothing, put_state, pushed, pushed_all, Each, ComesByPushes, is_member, IsClash}
 use Rattle.mvd_site.specs.Held.{States, state_at}
 use Rattle.mvd_sync.proofs.JoinLaws.{nothing_is, no_clash_again}
 use Rattle.mvd_tree.proofs.Under.{keys_same}
-use Rattle.mvd_sync.specs.Walk.{exchanged, exchanged_all, stopped, with_last, CanMeet, ClashesIn, Walked, Stopped, CarryFails, Carries}
+use Rattle.mvd_sync.specs.Walk.{CanMeet, ClashesIn, Walked, Stopped, CarryFails, Carries}
 use Rattle.mvd_sync.specs.declared.session.SyncFault.{SyncFault}
 use Rattle.mvd_sync.specs.declared.session.SyncFault.TheVariants.{Local, Peer}
-use Rattle.mvd_dots.specs.declared.refusals.Refusal.TheVariants.{Broken, DotClash, Memory}
+use Rattle.mvd_dots.specs.declared.refusals.Refusal.TheVariants.{DotClash, Memory}
 use Rattle.mvd_dots.specs.declared.refusals.Refusal.{Refusal}
 
 -- ---- pushes into one side

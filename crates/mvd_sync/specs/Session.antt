@@ -1,5 +1,5 @@
 -- What a session does to the key states of its two sides.
-use Rattle.std.specs.Prelude.{◌≡◌, ◌≢◌, ℕ, ◌==◌, Bool, true, false, cond, ◌&&◌, ◌||◌, List, [], ◌∷◌, ◌++◌, length, IsTrue, if◌then◌else◌, Result, Ok, Err, IfOk, MatchResult, ◌⊎◌, ◌↔◌}
+use Rattle.std.specs.Prelude.{◌≡◌, ◌≢◌, ℕ, ◌==◌, Bool, true, false, cond, ◌&&◌, ◌||◌, List, [], ◌∷◌, ◌++◌, length, IsTrue, if◌then◌else◌, Result, Ok, Err, IfOk, ◌⊎◌, ◌↔◌}
 use Rattle.std.specs.Ordering.{eq_by_cmp}
 use Rattle.std.specs.FinMap.{get, insert, len, remove}
 use Rattle.mvd_dots.specs.declared.refusals.Refusal.TheVariants.{DotClash}

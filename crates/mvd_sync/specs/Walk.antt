@@ -1,5 +1,5 @@
 -- What a walk over a part of the keys does to the two sides.
-use Rattle.std.specs.Prelude.{◌≡◌, ◌≢◌, ℕ, ◌≤◌, Bool, true, false, List, [], ◌∷◌, ◌++◌, length, Option, Some, None, IsTrue, Result, Ok, Err, MatchResult, slice_index, ◌<◌}
+use Rattle.std.specs.Prelude.{◌≡◌, ◌≢◌, ℕ, ◌≤◌, true, false, List, [], ◌∷◌, ◌++◌, length, Option, Some, None, IsTrue, Result, Ok, Err, slice_index, ◌<◌}
 use Rattle.std.specs.FinMap.{get}
 use Rattle.mvd_dots.specs.declared.refusals.Refusal.{Refusal}
 use Rattle.mvd_dots.specs.declared.refusals.Refusal.TheVariants.{Broken, DotClash}
@@ -9,9 +9,8 @@ use Rattle.mvd_tree.specs.HashTree.{place_of, is_under, begins, node_digest}
 use Rattle.mvd_tree.specs.Hashed.{SameUnder}
 use Rattle.mvd_site.specs.Held.{States, state_at}
 use Rattle.mvd_site.specs.Answer.{digests}
-use Rattle.mvd_sync.specs.Session.{pushed, Each, is_member, AreDistinct, ComesByPushes, HaveClash, IsClash}
+use Rattle.mvd_sync.specs.Session.{pushed, Each, is_member, AreDistinct, ComesByPushes, IsClash}
 use Rattle.mvd_sync.specs.declared.session.SyncFault.{SyncFault}
-use Rattle.mvd_sync.specs.declared.session.SyncFault.TheVariants.{Local, Peer}
 
 -- both sides after the peer's state of a key was pushed into the local side, and the local state
 -- after that to the peer

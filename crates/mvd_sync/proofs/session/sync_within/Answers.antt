@@ -1,5 +1,4 @@
-use Rattle.mvd_sync.proofs.Ends.{ends_ok, ends_err, ends_at_once, clash_of, completes_from}
-use Rattle.mvd_sync.proofs.Steps.{no_pushes, memory_question}
+use Rattle.mvd_sync.proofs.Ends.{ends_ok, ends_err, ends_at_once, completes_from}
 use Rattle.mvd_sync.proofs.session.sync_within.Goals as goal
 
 pub returns-in-Ok-walk-clause-session : goal.returns-in-Ok-walk-clause-session

@@ -1,7 +1,7 @@
-use Rattle.std.proofs.Common.{◌≡◌, ◌<◌, ◌≤◌, ◌+◌, ◌++◌, ◌∷◌, [], length, get_or, refl, sym, ap, subst, ◌∙◌, arith, inl, inr}
+use Rattle.std.proofs.Common.{◌≡◌, ◌<◌, ◌≤◌, ◌+◌, ◌++◌, ◌∷◌, [], length, refl, sym, subst, ◌∙◌, arith, inl, inr}
 use Rattle.std.specs.Prelude.{IsTrue}
 use Rattle.mvd_tree.specs.HashTree.{begins}
-use Rattle.mvd_sync.specs.Walk.{DigestsTell, IsBelow, IsBelowBefore}
+use Rattle.mvd_sync.specs.Walk.{IsBelow, IsBelowBefore}
 use Rattle.mvd_sync.proofs.Steps.{no_pushes, more_pushes, nothing_done, local_question, peer_question, memory_question}
 use Rattle.mvd_sync.proofs.Together.{no_walk, walk_skips, walk_leaves, walk_more, walk_stops, walk_was_all}
 use Rattle.mvd_sync.proofs.Below.{begins-itself, begins-child, tell_below, before_apart, child_below, child_before, before_more, before_split, all_before, same_child, told_at}

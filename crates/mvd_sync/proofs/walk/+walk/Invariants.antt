@@ -1,4 +1,4 @@
-use Rattle.std.proofs.Common.{◌≡◌, ◌≤◌, ◌+◌, ◌-◌, length}
+use Rattle.std.proofs.Common.{◌≤◌, ◌+◌, ◌-◌, length}
 use Rattle.mvd_sync.specs.Session.{ComesByPushes}
 use Rattle.mvd_sync.specs.Walk.{DigestsTell, Walked, IsBelowBefore}
 use Rattle.mvd_sync.proofs.walk.+walk.Given as goal

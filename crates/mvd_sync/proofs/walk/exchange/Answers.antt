@@ -1,4 +1,4 @@
-use Rattle.std.proofs.Common.{refl, sym, ap, ◌∙◌}
+use Rattle.std.proofs.Common.{refl, ◌∙◌}
 use Rattle.mvd_sync.proofs.Steps.{carries_kept, carries_from, no_pushes, one_push, more_pushes, nothing_done, only_pulled, one_key, pull_clashes, give_clashes}
 use Rattle.mvd_sync.proofs.walk.exchange.Goals as goal
 

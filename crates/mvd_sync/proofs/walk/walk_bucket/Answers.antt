@@ -1,7 +1,7 @@
-use Rattle.std.proofs.Common.{◌≡◌, ◌≢◌, ◌+◌, ◌≤◌, refl, sym, ap, subst, ◌∙◌, arith, [], Some, None, true, false}
+use Rattle.std.proofs.Common.{◌≡◌, refl, arith, [], Some, None, true, false}
 use Rattle.mvd_sync.proofs.Steps.{no_pushes, more_pushes, nothing_done, local_question, peer_question}
 use Rattle.mvd_sync.proofs.Together.{no_walk, walk_was_all, walk_kept}
-use Rattle.mvd_sync.proofs.Bucket.{AtKey, listing_kept, key_differs, key_stops, key_settled, first_left, second_left, all_done}
+use Rattle.mvd_sync.proofs.Bucket.{listing_kept, key_differs, key_stops, key_settled, first_left, second_left, all_done}
 use Rattle.mvd_sync.proofs.walk.walk_bucket.Goals as goal
 
 pub returns-in-Err-clause-pushes : goal.returns-in-Err-clause-pushes

@@ -1,7 +1,7 @@
 -- One key after the other of a bucket.
-use Rattle.std.proofs.Common.{◌≡◌, ◌≢◌, ◌⊎◌, inl, inr, ℕ, ◌+◌, Bool, true, false, cond, ◌&&◌, List, [], ◌∷◌, ◌++◌, refl, sym, ap, subst, ◌∙◌, arith, Some, None, Option}
+use Rattle.std.proofs.Common.{◌≡◌, ◌≢◌, ◌⊎◌, inl, inr, ℕ, ◌+◌, Bool, true, false, cond, ◌&&◌, List, [], ◌++◌, refl, sym, ap, subst, ◌∙◌, Some, None, Option}
 use Rattle.std.specs.Prelude.{IsTrue, option_map}
-use Rattle.std.specs.declared.cmp.Ordering.TheVariants.{Less, Equal, Greater}
+use Rattle.std.specs.declared.cmp.Ordering.TheVariants.{Less, Equal}
 use Rattle.std.specs.Ordering.{nat_cmp, eq_by_cmp, is_lt}
 use Rattle.std.specs.Cmp.{Equal-is, tied_itself}
 use Rattle.std.specs.Cmp.Lexicographic.{slice_cmp, nat_list_cmp_total}
@@ -16,8 +16,8 @@ use Rattle.mvd_tree.specs.Page.{is_after, rest_of}
 use Rattle.mvd_sync.specs.Answers.{Entry, IsListing, TakesNext}
 use Rattle.mvd_sync.specs.Walk.{DigestsTell, IsBelow, Walked, Stopped}
 use Rattle.mvd_sync.specs.declared.session.SyncFault.{SyncFault}
-use Rattle.mvd_sync.proofs.Together.{no_walk, walk_skips, walk_more, walk_leaves, walk_stops}
-use Rattle.mvd_sync.proofs.Rest.{get-rest, Heads, gap, at_head, left_after, heads, after_trans, not_tied, lt-true}
+use Rattle.mvd_sync.proofs.Together.{walk_skips, walk_more, walk_leaves, walk_stops}
+use Rattle.mvd_sync.proofs.Rest.{get-rest, Heads, gap, at_head, left_after, heads, after_trans, lt-true}
 use Rattle.mvd_sync.proofs.Steps.{tied}
 
 -- the key stands under the path, and not after this one

@@ -1,24 +1,24 @@
 -- What keys exchanged one after the other come to, key by key.
-use Rattle.std.proofs.Common.{◌≡◌, ◌≢◌, ◌⊎◌, ◌↔◌, inl, inr, ℕ, ◌+◌, ◌-◌, ◌≤◌, Bool, true, false, cond, ◌||◌, List, [], ◌∷◌, ◌++◌, length, refl, sym, ap, subst, ◌∙◌, arith, Some, None, Option, length-append}
-use Rattle.std.specs.Prelude.{IsTrue, unwrap_or, if◌then◌else◌}
+use Rattle.std.proofs.Common.{◌≡◌, ◌⊎◌, inl, inr, ℕ, ◌-◌, Bool, true, false, cond, ◌||◌, List, [], ◌∷◌, ◌++◌, length, refl, sym, ap, subst, ◌∙◌, arith, Some, None, Option}
+use Rattle.std.specs.Prelude.{unwrap_or}
 use Rattle.std.specs.Ordering.{nat_cmp, eq_by_cmp}
 use Rattle.std.specs.Prelude.{Ok, Err}
 use Rattle.std.specs.Cmp.{Equal-is, eq_by_cmp_equiv}
 use Rattle.std.specs.Cmp.Lexicographic.{slice_cmp, nat_list_cmp_total}
-use Rattle.std.specs.FinMap.{get, insert, remove, get-insert, get-remove}
+use Rattle.std.specs.FinMap.{get}
 use Rattle.mvd_keys.specs.State.{State, IsValid, empty_state, join}
-use Rattle.mvd_sync.specs.Session.{is_nothing, put_state, pushed, is_member, AreDistinct, Pulls, Gives, SessionEnds, SessionCompletes, HaveClash, IsClash}
+use Rattle.mvd_sync.specs.Session.{pushed, is_member, AreDistinct, Pulls, Gives, SessionEnds, SessionCompletes, HaveClash, IsClash}
 use Rattle.mvd_sync.proofs.JoinLaws.{join_absorbs, valid_at}
 use Rattle.mvd_site.proofs.Texts.{one_text}
 use Rattle.mvd_keys.proofs.Joins.{join_repeats}
 use Rattle.mvd_site.specs.Held.{AreHeld, States, state_at}
-use Rattle.mvd_site.specs.Answer.{digests, spelled}
+use Rattle.mvd_site.specs.Answer.{spelled}
 use Rattle.mvd_tree.specs.Hashed.{HashesTellApart}
 use Rattle.mvd_tree.proofs.Under.{keys_same}
 use Rattle.mvd_tree.proofs.Apart.{same_state, same_states_under}
-use Rattle.mvd_sync.specs.Walk.{exchanged, exchanged_all, stopped, with_last, DigestsTell, Walked, Stopped, IsBelow}
+use Rattle.mvd_sync.specs.Walk.{exchanged_all, stopped, with_last, DigestsTell, Walked, Stopped, IsBelow}
 use Rattle.mvd_sync.specs.declared.session.SyncFault.{SyncFault}
-use Rattle.mvd_sync.proofs.Steps.{state-pushed, tied}
+use Rattle.mvd_sync.proofs.Steps.{state-pushed}
 use Rattle.mvd_sync.proofs.Together.{untouched, get-pushed_other, is_member-append, or_left, or_right}
 
 state_other : (m : States) (key : List ℕ) (s : State) (k : List ℕ) → eq_by_cmp (slice_cmp nat_cmp) k key ≡ false → state_at (pushed m key s) k ≡ state_at m k

@@ -1,5 +1,5 @@
 -- Joins of the states of a key that two sides hold.
-use Rattle.std.proofs.Common.{◌≡◌, ℕ, not, true≢false, Bool, true, false, cond, ◌&&◌, ◌==◌, List, refl, sym, ap, ◌∙◌, Some, None, Option}
+use Rattle.std.proofs.Common.{◌≡◌, ℕ, not, true≢false, Bool, true, false, ◌&&◌, ◌==◌, List, refl, sym, ap, ◌∙◌, Some, None, Option}
 use Rattle.std.specs.Prelude.{unwrap_or, bytes_eq}
 use Rattle.std.proofs.lemmas.Slice.Eq.{bytes_eq-Decides}
 use Rattle.std.specs.Cmp.{unsigned_Decides}

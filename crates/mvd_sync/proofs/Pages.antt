@@ -1,19 +1,16 @@
 -- Pages of a bucket, and which key comes next.
-use Rattle.std.proofs.Common.{◌≡◌, ◌≢◌, ◌⊎◌, ◌↔◌, inl, inr, ℕ, zero, suc, ◌+◌, ◌-◌, ◌<◌, ◌≤◌, Bool, true, false, cond, not, ◌&&◌, ◌==◌, List, [], ◌∷◌, ◌++◌, length, take, drop, refl, sym, ap, subst, ◌∙◌, arith, Some, None, Option, length-append, length-drop}
-use Rattle.std.specs.Prelude.{IsTrue, nat_lt, T}
-use Rattle.std.specs.declared.cmp.Ordering.{Ordering}
+use Rattle.std.proofs.Common.{◌≡◌, ◌↔◌, ℕ, ◌≤◌, Bool, true, false, not, List, [], ◌∷◌, ◌++◌, length, drop, refl, sym, ap, ◌∙◌, arith, Some, Option, length-drop}
+use Rattle.std.specs.Prelude.{IsTrue, nat_lt}
 use Rattle.std.specs.declared.cmp.Ordering.TheVariants.{Less, Equal, Greater}
-use Rattle.std.specs.Ordering.{nat_cmp, eq_by_cmp, is_eq, is_lt, ordering_reverse}
-use Rattle.std.specs.Cmp.{Equal-is, tied_itself}
+use Rattle.std.specs.Ordering.{nat_cmp, ordering_reverse}
 use Rattle.std.specs.Cmp.Lexicographic.{slice_cmp, nat_list_cmp_total}
-use Rattle.std.specs.FinMap.{get, entries, entries_sorted, get-entries, get-retain_keys, find, is_sorted, from_sorted, entries-from_sorted, get-from_sorted, same_map}
+use Rattle.std.specs.FinMap.{entries}
 use Rattle.std.proofs.lemmas.Bool.Decides.{nat_tests}
-use Rattle.std.specs.FinMap.Entries.{below_all}
 use Rattle.std.proofs.lemmas.List.{take-append-drop}
-use Rattle.mvd_tree.specs.HashTree.{KeyDigests, is_under}
+use Rattle.mvd_tree.specs.HashTree.{KeyDigests}
 use Rattle.mvd_tree.proofs.Under.{keys_same}
-use Rattle.mvd_tree.specs.Page.{is_after, rest_of, page_of, is_more_after_page}
-use Rattle.mvd_sync.specs.Answers.{Entry, IsListing, StartsAfter, TakesNext, of_first, of_second, of_both, order_of_first}
+use Rattle.mvd_tree.specs.Page.{rest_of, page_of, is_more_after_page}
+use Rattle.mvd_sync.specs.Answers.{Entry, IsListing, TakesNext, of_first, of_second, of_both, order_of_first}
 
 -- ---- a page that was fetched
 

@@ -2,8 +2,8 @@
 use Rattle.std.specs.Cmp.Lexicographic.{pointwise}
 use Rattle.std.specs.Prelude.{nat_eq}
 use Rattle.std.proofs.lemmas.Slice.Eq.{bytes_eq-Decides}
-use Rattle.std.proofs.Common.{◌≡◌, ◌≢◌, ◌⊎◌, ◌↔◌, inl, inr, ℕ, zero, suc, ◌+◌, Bool, true, false, cond, not, ◌&&◌, List, [], ◌∷◌, ◌++◌, length, refl, sym, ap, subst, ◌∙◌, arith, Some, None, Option, append_assoc}
-use Rattle.std.specs.Prelude.{IsTrue, T, option_map}
+use Rattle.std.proofs.Common.{◌≡◌, ◌≢◌, ℕ, Bool, true, false, cond, ◌&&◌, List, [], ◌∷◌, ◌++◌, refl, sym, ap, subst, ◌∙◌, Some, None, Option}
+use Rattle.std.specs.Prelude.{IsTrue, T}
 use Rattle.std.specs.declared.cmp.Ordering.{Ordering}
 use Rattle.std.specs.declared.cmp.Ordering.TheVariants.{Less, Equal, Greater}
 use Rattle.std.specs.Ordering.{nat_cmp, eq_by_cmp, is_eq, is_lt, ordering_reverse}
@@ -12,15 +12,9 @@ use Rattle.std.specs.Cmp.Lexicographic.{slice_cmp, nat_list_cmp_total}
 use Rattle.std.specs.FinMap.{get, entries, entries_sorted, get-entries, get-retain_keys, find, is_sorted, from_sorted, entries-from_sorted, get-from_sorted, same_map}
 use Rattle.std.specs.FinMap.Entries.{below_all}
 use Rattle.mvd_tree.specs.HashTree.{KeyDigests, is_under}
-use Rattle.mvd_site.specs.Held.{States}
-use Rattle.mvd_site.specs.Answer.{digests, spelled}
-use Rattle.mvd_tree.specs.States.{key_digest}
 use Rattle.mvd_tree.proofs.Under.{keys_same}
-use Rattle.mvd_tree.proofs.KeyDigests.{get-digests_of}
 use Rattle.mvd_tree.specs.Page.{is_after, rest_of}
 use Rattle.mvd_sync.specs.Answers.{Entry, IsListing, StartsAfter, TakesNext, of_first, of_second, of_both}
-use Rattle.mvd_sync.specs.Walk.{DigestsTell, IsBelow, Walked, Stopped}
-use Rattle.mvd_sync.proofs.Together.{walk_skips, walk_more, walk_leaves, walk_stops}
 
 -- ---- the order of keys
 

@@ -1,5 +1,4 @@
-use Rattle.mvd_sync.proofs.Ends.{ends_ok, ends_err, ends_at_once, clash_of, completes_from}
-use Rattle.mvd_sync.proofs.Steps.{no_pushes, memory_question}
+use Rattle.mvd_sync.proofs.Ends.{ends_ok, ends_err, ends_at_once, completes_from}
 use Rattle.mvd_sync.proofs.session.sync_within.Goals as goal
 
 pub returns-in-Ok-walk-clause-session : goal.returns-in-Ok-walk-clause-session
@@ -17,3 +16,6 @@ returns-in-Err-clause-session g c u v = ends_at_once _ _ _ _ _ _
 
 pub returns-clause-session : goal.returns-clause-session
 returns-clause-session g c u v = ends_err _ _ _ _ _ _ _ _ _ (c.in-Err-walk.ensures.session u v)
+
+pub returns-in-Err-clause-follows : goal.returns-in-Err-clause-follows
+returns-in-Err-clause-follows g c = (g.met.L.Peer.follows_self _, g.met.P.Peer.follows_self _)

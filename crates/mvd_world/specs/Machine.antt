@@ -1,6 +1,6 @@
 -- Sites that write, are asked, send each other states of keys and hold sessions, as a machine over sets of writes: what is
 -- lost, repeated or comes out of order is a matter of which steps are taken, and no state of a key stands in it.
-use Rattle.std.specs.Prelude.{◌≡◌, ◌⊎◌, ℕ, Bool, true, false, not, ◌&&◌, ◌==◌, nat_lt, nat_le, ◌-◌, if◌then◌else◌, List, [], ◌∷◌, ◌++◌, length, filter, Contains, MatchBool, Option, Some, Result, Ok, Err}
+use Rattle.std.specs.Prelude.{◌≡◌, ◌⊎◌, ℕ, Bool, true, false, not, ◌&&◌, ◌||◌, ◌==◌, nat_lt, nat_le, ◌-◌, if◌then◌else◌, List, [], ◌∷◌, ◌++◌, length, filter, Contains, MatchBool, Option, Some, Result, Ok, Err}
 use Rattle.std.specs.List.{slice_get}
 use Rattle.mvd_dots.specs.Dot.{DotValue}
 use Rattle.mvd_dots.specs.Context.{DotSet}
@@ -71,6 +71,10 @@ abbrev pub is_write : Request → Bool
 is_write (Put key seen document) = true
 is_write (Delete key seen) = true
 is_write request = false
+
+-- the request is no delivery
+abbrev pub IsOwn : Request → Type 0
+IsOwn request = (is_write request || is_question request) ≡ true
 
 -- the step names sites and a message that there are, two sites where it names two, and a request of its sort
 abbrev pub may_be : ℕ → ℕ → Step → Bool

@@ -1,11 +1,12 @@
 //! A world of several sites, and the messages that they sent.
-ghost use Rattle.std.specs.Prelude.{◌≡◌, ◌≤◌, ◌<◌, ◌-◌, true, length, IfErr, IfOk, IfSome};
+ghost use Rattle.std.specs.Prelude.{◌≡◌, ◌≢◌, ◌≤◌, ◌<◌, ◌-◌, true, length, IfErr, IfOk, IfSome, MatchResult, Some};
 ghost use Rattle.std.specs.List.{slice_get};
 ghost use Rattle.mvd_wire.specs.declared.reply.Reply.TheVariants.{Refused};
 ghost use Rattle.mvd_dots.specs.declared.refusals.Refusal.TheVariants.{Memory};
+ghost use Rattle.mvd_site.specs.Answer.{is_question};
 ghost use Rattle.mvd_world.specs.declared.steps.Step.TheVariants.{Send as Send_step};
-ghost use Rattle.mvd_world.specs.Machine.{Answers, Meets, Receives, Takes, is_numbered, is_write, may_be, nothing_yet};
-ghost use Rattle.mvd_world.specs.Worlds.{IsWorld, Leads, Steps};
+ghost use Rattle.mvd_world.specs.Machine.{Answers, IsOwn, Meets, Receives, Takes, is_numbered, is_write, may_be, nothing_yet};
+ghost use Rattle.mvd_world.specs.Worlds.{IsWorld, Keeps, KeepsNot, Leads, Steps};
 
 use crate::sessions::sync_at;
 use crate::steps::{Outcome, Step};
@@ -56,7 +57,7 @@ impl World {
 
     /// The site of this number, if there is one.
     pub fn site(&self, number: u32) -> Option<&Site>
-        ensures { IfSome result (λ site. slice_get self.now.sites.items (number - 1) ≡ site.now) }
+        ensures { IfSome result (λ site. slice_get self.now.sites.items (number - 1) ≡ Some site.now) }
     {
         let index = number.checked_sub(1)?;
         self.sites.get(index as usize)
@@ -105,7 +106,9 @@ impl World {
 
     /// The site's reply to a request.
     fn answer(&mut self, site: u32, request: &Request) -> Reply
-        requires { is_numbered (length self.old.sites.items) site ≡ true }
+        requires some { 1 ≤ site }
+        requires within { site ≤ length self.old.sites.items }
+        requires own { IsOwn request.now }
         ensures { Leads self.old self.new (λ setting before after. Answers setting before site request.now result after) }
     {
         let site = &mut self.sites[site as usize - 1];
@@ -114,7 +117,8 @@ impl World {
 
     /// The site's state of a key becomes the next message, whose number is told.
     fn send(&mut self, site: u32, key: &Key) -> Outcome
-        requires { is_numbered (length self.old.sites.items) site ≡ true }
+        requires some { 1 ≤ site }
+        requires within { site ≤ length self.old.sites.items }
         ensures { Leads self.old self.new (λ setting before after. Takes setting before (Send_step site key.now) result after) }
     {
         match self.keep(site, key) {
@@ -124,7 +128,9 @@ impl World {
     }
 
     fn keep(&mut self, site: u32, key: &Key) -> Result<(), Refusal>
-        requires { is_numbered (length self.old.sites.items) site ≡ true }
+        requires some { 1 ≤ site }
+        requires within { site ≤ length self.old.sites.items }
+        ensures { MatchResult result (λ _. Keeps self.old self.new site key.now) (λ refusal. KeepsNot self.old self.new site refusal) }
     {
         let state = self.sites[site as usize - 1].get(key)?;
         let key = key.copy(self.alloc)?;
@@ -134,8 +140,10 @@ impl World {
 
     /// A message comes to a site.
     fn receive(&mut self, site: u32, message: u64) -> Reply
-        requires site { is_numbered (length self.old.sites.items) site ≡ true }
-        requires message { is_numbered (length self.old.messages.items) message ≡ true }
+        requires some { 1 ≤ site }
+        requires within { site ≤ length self.old.sites.items }
+        requires some_message { 1 ≤ message }
+        requires within_messages { message ≤ length self.old.messages.items }
         ensures { Leads self.old self.new (λ setting before after. Receives setting before site message result after) }
     {
         let message = &self.messages[message as usize - 1];
@@ -148,9 +156,11 @@ impl World {
 
     /// A session of two sites.
     fn meet(&mut self, local: u32, peer: u32) -> Result<Report, SyncFault>
-        requires local { is_numbered (length self.old.sites.items) local ≡ true }
-        requires peer { is_numbered (length self.old.sites.items) peer ≡ true }
-        requires two { local ≡ peer → ⊥ }
+        requires some_local { 1 ≤ local }
+        requires within_local { local ≤ length self.old.sites.items }
+        requires some_peer { 1 ≤ peer }
+        requires within_peer { peer ≤ length self.old.sites.items }
+        requires two { local ≢ peer }
         ensures { Leads self.old self.new (λ setting before after. Meets before local peer result after) }
     {
         sync_at(

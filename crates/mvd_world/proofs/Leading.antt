@@ -1,7 +1,10 @@
 -- What each step leads to.
-use Rattle.std.proofs.Common.{◌≡◌, ◌≢◌, ◌⊎◌, inl, inr, ℕ, ◌+◌, ◌-◌, Bool, true, false, true≢false, zero, suc, List, [], ◌∷◌, ◌++◌, map, length, Option, Some, None, IsSomeAnd, refl, sym, ap, ap₂, ◌∙◌, subst, subst₂, ⊎_elim, arith, Result, Ok, Err, length-append}
-use Rattle.std.specs.Prelude.{slice_set}
+use Rattle.std.proofs.Common.{◌≡◌, ◌≢◌, ◌⊎◌, inl, inr, ℕ, ◌≤◌, ◌+◌, ◌-◌, Bool, true, false, true≢false, zero, suc, List, [], ◌∷◌, ◌++◌, map, length, take, drop, Option, Some, None, IsSomeAnd, refl, sym, ap, ap₂, ◌∙◌, subst, subst₂, ⊎_elim, arith, Result, Ok, Err, length-append}
+use Rattle.std.specs.Prelude.{slice_index_or, slice_set}
 use Rattle.std.specs.List.{slice_get}
+use Rattle.std.specs.FinMap.{empty}
+use Rattle.std.proofs.Math.Seq.{take-append_seam}
+use Rattle.std.proofs.lemmas.Option.{slice_get_read}
 use Rattle.std.proofs.lemmas.List.{length-set, length-map, map-append}
 use Rattle.mvd_dots.specs.declared.refusals.Refusal.TheVariants.{Broken, Memory}
 use Rattle.mvd_dots.specs.declared.refusals.Refusal.{Refusal}
@@ -14,21 +17,21 @@ use Rattle.mvd_wire.specs.declared.reply.Reply.{Reply}
 use Rattle.mvd_wire.specs.declared.reply.Reply.TheVariants.{Done, Refused}
 use Rattle.mvd_site.specs.Answer.{answer, change_of}
 use Rattle.mvd_site.specs.Config.{ConfigValue}
-use Rattle.mvd_site.specs.FromStates.{Answered, AnswersFrom, Broke, after_from, answer_from, change_from, with_change}
+use Rattle.mvd_site.specs.FromStates.{Answered, AnswersFrom, Broke, after_from, answer_from, change_from, unless_broken, with_change}
 use Rattle.mvd_site.specs.Held.{States, state_at}
 use Rattle.mvd_site.specs.Known.{Adds, Changes, MayReply}
 use Rattle.mvd_site.specs.Sites.{AnswersOne, SiteStands, SiteValue}
 use Rattle.mvd_site.proofs.Answered.{after_stands, answered, changed_alike, with_state-same}
-use Rattle.mvd_site.proofs.Prepare.{refuses_all}
+use Rattle.mvd_site.proofs.Prepare.{Stands-none, refuses_all}
 use Rattle.mvd_site.proofs.Steps.{Adds-Refused, Stands-nothing, state_at-stands}
 use Rattle.mvd_sync.specs.declared.session.Report.{Report}
 use Rattle.mvd_sync.specs.declared.session.SyncFault.{SyncFault}
 use Rattle.mvd_sync.specs.declared.session.SyncFault.TheVariants.{Local, Peer}
 use Rattle.mvd_world.specs.declared.worlds.Message.{Message}
 use Rattle.mvd_world.specs.declared.worlds.World.{World}
-use Rattle.mvd_world.specs.Machine.{Answers, BreaksBy, IsOwn, IsSound, Knowledge, Meets, Receives, Sending, Sends, SendsNot, Setting, becomes, config_of, learns, met, received, writes_in}
+use Rattle.mvd_world.specs.Machine.{Answers, BreaksBy, IsOwn, IsSound, Knowledge, Meets, Receives, Sending, Sends, SendsNot, Setting, becomes, config_of, learns, met, nothing_yet, received, writes_in}
 use Rattle.mvd_world.specs.Worlds.{AreSites, IsSiteOf, IsWorld, Leads, SitesMeet, TwoMeet, message_of}
-use Rattle.mvd_world.proofs.Changed.{learns_here, learns_other, set_other, sites_changed}
+use Rattle.mvd_world.proofs.Changed.{get_push, learns_here, learns_other, set_other, sites_changed}
 use Rattle.mvd_world.proofs.Sound.{found as found_in, sound_answers, sound_meets, sound_receives, sound_sends}
 
 -- the site of a number
@@ -238,3 +241,59 @@ meets_lead old new local peer i j result at at' two both same_messages setting b
       messages = same_messages ∙ world.messages;
       sound = sound_meets before local peer result after world.sound told;
     }))
+
+-- ---- how the code tells of one site that changed
+
+pub changes_at : (old new : World) (number : ℕ) (s s' : SiteValue) → 1 ≤ number → number ≤ length old.sites.items → s ≡ slice_index_or old.sites.items (number - 1) s → new.sites.items ≡ slice_set old.sites.items (number - 1) s' → new.messages.items ≡ old.messages.items → s'.config ≡ s.config →
+    SiteChanges old new number s s'
+changes_at old new number s s' some within read sites messages config = record {
+  index = number - 1;
+  at = omega (arith, some);
+  here = slice_get_read old.sites.items (length old.sites.items) (number - 1) s refl (omega (arith, some, within)) read;
+  sites = sites;
+  messages = messages;
+  config = config;
+}
+
+pub why_refused : (broken : Bool) (refusal : Refusal) → refusal ≡ unless_broken broken Broken Memory → (refusal ≡ Memory) ⊎ ((refusal ≡ Broken) × (broken ≡ true))
+why_refused true refusal is = inr (is, refl)
+why_refused false refusal is = inl is
+
+-- ---- at first
+
+pub one_more_site : (setting : Setting) (sites more : List SiteValue) (s : SiteValue) (number : ℕ) → AreSites setting nothing_yet sites → more ≡ sites ++ s ∷ [] → length sites ≡ number → s ≡ record { config = config_of setting (number + 1); states = empty; broken = false } →
+    AreSites setting nothing_yet more
+one_more_site setting sites more s number so_far grown count is i x found = ⊎_elim
+    (λ old. so_far i x old)
+    (λ new. subst (IsSiteOf setting nothing_yet (i + 1)) new.1 (record {
+      config = ap (λ (v : SiteValue). v.config) is ∙ ap (λ n. config_of setting (n + 1)) (sym (new.0 ∙ count));
+      broken = ap (λ (v : SiteValue). v.broken) is;
+      stands = λ _. Stands-none s.states (ap (λ (v : SiteValue). v.states) is);
+    }))
+    (get_push sites s i x (subst (λ l. slice_get l i ≡ Some x) grown found))
+
+-- ---- how the code tells of a push
+
+pub never_ok : (done : Unit {0}) (refusal : Refusal) → ◌≡◌ {A = Result (Unit {0}) Refusal} (Ok done) (Err refusal) → ⊥
+never_ok done refusal e = cc
+
+is_broken : (refusal : Refusal) → (refusal ≡ Broken) ⊎ (refusal ≢ Broken)
+is_broken Broken = inl refl
+is_broken refusal = inr (λ e. absurd (cc))
+
+pub refused_so : (s s' : SiteValue) (refusal : Refusal) → ◌≡◌ {A = Result (Unit {0}) Refusal} (Err refusal) (Err Broken) → (refusal ≡ Broken → s' ≡ record { config = s.config; states = s.states; broken = true }) →
+    (Refused refusal ≡ Refused Broken) × (s'.broken ≡ true)
+refused_so s s' refusal e told = let is : refusal ≡ Broken = cc in (ap Refused is, ap (λ (v : SiteValue). v.broken) (told is))
+
+pub same_config : (s s' : SiteValue) (refusal : Refusal) → (refusal ≢ Broken → s' ≡ s) → (refusal ≡ Broken → s' ≡ record { config = s.config; states = s.states; broken = true }) → s'.config ≡ s.config
+same_config s s' refusal unchanged told = ⊎_elim (λ is. ap (λ (v : SiteValue). v.config) (told is)) (λ other. ap (λ (v : SiteValue). v.config) (unchanged other)) (is_broken refusal)
+
+-- a list written over whole
+pub refilled : (n : ℕ) (items old new : List SiteValue) (local peer : ℕ) (result : Result Report SyncFault) → n ≡ length items → old ≡ items → TwoMeet old new local peer result → take n (new ++ drop (length new) items) ≡ new
+refilled n items old new local peer result long same both =
+    let kept : length new ≡ length old = ap length both.new_is ∙ length-set (slice_set old local both.first') peer both.second' ∙ length-set old local both.first' in
+    let full : n ≡ length new = long ∙ ap length (sym same) ∙ sym kept in
+    ap (λ k. take k (new ++ drop (length new) items)) full ∙ take-append_seam new (drop (length new) items)
+
+pub no_sites : (setting : Setting) → AreSites setting nothing_yet []
+no_sites setting i x found = cc

@@ -36,3 +36,8 @@ numbered count number h =
 
 pub two_numbers : (a b : ℕ) → not (a == b) ≡ true → a ≢ b
 two_numbers a b h same = true≢false (sym h ∙ ap not (eq-eqb a b same))
+
+-- the same, of a step that is known to be this one
+pub step_as : (old new : World) (step is : Step) (outcome : Outcome) → step ≡ is → may_be (length old.sites.items) (length old.messages.items) step ≡ true → Leads old new (λ setting before after. Takes setting before is outcome after) → Steps old new step outcome
+step_as old new step is outcome same may leads =
+    subst (λ x. Steps old new x outcome) (sym same) (step_takes old new is outcome (ap (may_be (length old.sites.items) (length old.messages.items)) (sym same) ∙ may) leads)

@@ -151,8 +151,8 @@ impl World {
         ensures { Leads self.old self.new (λ setting before after. Receives setting before site message result after) }
     {
         let message = &self.messages[message as usize - 1];
-        let site = &mut self.sites[site as usize - 1];
-        match site.push(&message.key, &message.state) {
+        let taker = &mut self.sites[site as usize - 1];
+        match taker.push(&message.key, &message.state) {
             Ok(()) => Reply::Done,
             Err(refusal) => Reply::Refused(refusal),
         }
@@ -195,27 +195,4 @@ fn is_question(request: &Request) -> bool
         request,
         Request::Put(..) | Request::Delete(..) | Request::Push(..) | Request::Bye
     )
-}
-
-/// Takes steps in order, beginning with a world where nothing is known.
-pub fn run_world(
-    alloc: Global,
-    count: u32,
-    max_keys: u32,
-    defs: Defs,
-    steps: &[Step],
-) -> Result<(World, Vec<Outcome>), Refusal>
-    requires some { 1 ≤ count }
-    requires few { count ≤ 16 }
-    requires low { 0 < max_keys }
-    requires high { max_keys ≤ 1000000 }
-    ensures only { IfErr result (λ refusal. refusal ≡ Memory) }
-{
-    let mut world = World::new(alloc, count, max_keys, defs)?;
-    let mut outcomes = Vec::new(alloc);
-    for step in steps {
-        let outcome = world.step(step);
-        outcomes.push(outcome)?;
-    }
-    Ok((world, outcomes))
 }

@@ -30,6 +30,9 @@ pub record Setting : Type 0 where
   pub max_keys : ℕ
   pub defs : Definitions
 
+abbrev pub setting_of : ℕ → ℕ → Definitions → Setting
+setting_of count max_keys defs = record { count = count; max_keys = max_keys; defs = defs }
+
 abbrev pub config_of : Setting → ℕ → ConfigValue
 config_of setting site = record { site = site; max_keys = setting.max_keys; defs = setting.defs }
 

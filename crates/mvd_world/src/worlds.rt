@@ -5,7 +5,7 @@ ghost use Rattle.mvd_wire.specs.declared.reply.Reply.TheVariants.{Refused};
 ghost use Rattle.mvd_dots.specs.declared.refusals.Refusal.TheVariants.{Memory};
 ghost use Rattle.mvd_site.specs.Answer.{is_question};
 ghost use Rattle.mvd_world.specs.declared.steps.Step.TheVariants.{Send as Send_step};
-ghost use Rattle.mvd_world.specs.Machine.{Answers, IsOwn, Meets, Receives, Takes, is_numbered, is_write, may_be, nothing_yet};
+ghost use Rattle.mvd_world.specs.Machine.{Answers, IsOwn, Meets, Receives, Takes, is_numbered, is_write, may_be, nothing_yet, setting_of};
 ghost use Rattle.mvd_world.specs.Worlds.{IsWorld, Leads, Steps};
 
 use crate::sessions::sync_at;
@@ -40,7 +40,7 @@ impl World {
         requires few { count ≤ 16 }
         requires low { 0 < max_keys }
         requires high { max_keys ≤ 1000000 }
-        ensures world { IfOk result (λ world. IsWorld (record { count = count; max_keys = max_keys; defs = defs }) world nothing_yet) }
+        ensures world { IfOk result (λ world. IsWorld (setting_of count max_keys defs) world nothing_yet) }
         ensures only { IfErr result (λ refusal. refusal ≡ Memory) }
     {
         let mut sites = Vec::new(alloc);

@@ -8,4 +8,6 @@ mod listing;
 #[cfg(test)]
 mod long;
 #[cfg(test)]
+mod random;
+#[cfg(test)]
 mod scripts;

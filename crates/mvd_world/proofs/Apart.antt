@@ -1,0 +1,133 @@
+-- In a sound world no two states clash.
+use Rattle.std.proofs.Common.{◌≡◌, ◌≢◌, ◌⊎◌, ℕ, Bool, true, false, not, ◌||◌, cond, MatchBool, List, [], ◌∷◌, ◌++◌, map, length, Contains, Some, None, Ok, Err, refl, sym, ap, ◌∙◌, subst, ⊎_elim, true≢false}
+use Rattle.std.specs.List.{list_any, slice_get}
+use Rattle.std.specs.Ordering.{eq_by_cmp}
+use Rattle.std.specs.FinMap.{find, get-from_entries}
+use Rattle.std.specs.FinSet.{items, contains-items}
+use Rattle.std.proofs.lemmas.List.Elements.{Contains-append_cases}
+use Rattle.mvd_dots.specs.declared.refusals.Refusal.TheVariants.{Broken, DotClash, Memory}
+use Rattle.mvd_keys.specs.Key.{key_cmp}
+use Rattle.mvd_keys.specs.State.{State, clashes}
+use Rattle.mvd_keys.specs.Writes.{Key, Agree, Stands, Write, context, is_empty, keys, state}
+use Rattle.mvd_keys.proofs.Held.{contains-keys}
+use Rattle.mvd_keys.proofs.KeyOrder.{key_total, same_where_tied}
+use Rattle.mvd_keys.proofs.Sets.{Agree-part, clashes-state}
+use Rattle.mvd_wire.specs.declared.request.Request.{Request}
+use Rattle.mvd_wire.specs.declared.request.Request.TheVariants.{Push}
+use Rattle.mvd_wire.specs.declared.reply.Reply.{Reply}
+use Rattle.mvd_wire.specs.declared.reply.Reply.TheVariants.{Refused}
+use Rattle.mvd_site.specs.Answer.{answer, states_of}
+use Rattle.mvd_site.specs.Config.{ConfigValue}
+use Rattle.mvd_site.specs.FromStates.{IsClash as PushesClash}
+use Rattle.mvd_site.specs.Held.{States, state_at}
+use Rattle.mvd_site.specs.Known.{MayReply}
+use Rattle.mvd_site.proofs.Answered.{answered}
+use Rattle.mvd_site.proofs.Clashes.{clash_alone}
+use Rattle.mvd_site.proofs.Steps.{state_at-stands}
+use Rattle.mvd_sync.specs.Session.{IsClash}
+use Rattle.mvd_sync.specs.declared.session.SyncFault.{SyncFault}
+use Rattle.mvd_world.specs.declared.steps.Step.{Step}
+use Rattle.mvd_world.specs.declared.steps.Step.TheVariants.{Write as Write_at, Ask, Send, Receive, Session}
+use Rattle.mvd_world.specs.declared.steps.Outcome.{Outcome}
+use Rattle.mvd_world.specs.declared.steps.Outcome.TheVariants.{Replied, Sent as Sent_as, Met, Failed, NoSuch}
+use Rattle.mvd_world.specs.Machine.{Answers, IsNoClash, IsOwn, IsSound, Knowledge, MayStep, Meets, Receives, Setting, StatesClash, Takes, config_of, may_be}
+use Rattle.mvd_world.proofs.Sound.{asked_step, found, own_step}
+
+-- ---- the states that follow from writes stand for them
+
+find_states : (W : List Write) (ks : List Key) (q : Key) → find key_cmp q (map (λ k. (k, state k W)) ks) ≡ cond (list_any (eq_by_cmp key_cmp q) ks) (Some (state q W)) None
+find_states W [] q = refl
+find_states W (k ∷ ks) q =
+    elim (eq_by_cmp key_cmp q k) as (λ b. eq_by_cmp key_cmp q k ≡ b → cond b (Some (state k W)) (find key_cmp q (map (λ k. (k, state k W)) ks)) ≡ cond (b || list_any (eq_by_cmp key_cmp q) ks) (Some (state q W)) None) [
+      | true ↦ λ tied. ap (λ x. Some (state x W)) (sym (same_where_tied q k tied))
+      | false ↦ λ _. find_states W ks q
+    ] refl
+
+turned : (b : Bool) (s : State) → cond (not b) (Some s) None ≡ cond b None (Some s)
+turned true s = refl
+turned false s = refl
+
+pub states_of-stands : (W : List Write) → Stands (states_of W) W
+unfolding states_of
+states_of-stands W = record { at = λ q.
+    get-from_entries key_total (map (λ k. (k, state k W)) (items (keys W))) q ∙ find_states W (items (keys W)) q
+    ∙ ap (λ b. cond b (Some (state q W)) None) (sym (contains-items (keys W) q) ∙ contains-keys W q)
+    ∙ turned (is_empty (context q W)) (state q W) }
+
+-- ---- what was made agrees
+
+pub agree_made : (world : Knowledge) → IsSound world → Agree world.made
+agree_made world sound key dot seen also_seen document other here there = (sound.one_put key dot seen also_seen document other here there).1
+
+abbrev pub WasMade : Knowledge → List Write → Type 0
+WasMade world V = (w : Write) → Contains V w → Contains world.made w
+
+pub agree_within : (world : Knowledge) (V : List Write) → IsSound world → WasMade world V → Agree V
+agree_within world V sound part = Agree-part V world.made part (agree_made world sound)
+
+pub apart_within : (world : Knowledge) (V W : List Write) (key : Key) → IsSound world → WasMade world V → WasMade world W → clashes (state key V) (state key W) ≡ false
+apart_within world V W key sound first second =
+    clashes-state key V W (agree_within world (V ++ W) sound (λ w here. ⊎_elim (first w) (second w) (Contains-append_cases V W w here)))
+
+-- ---- so no reply tells a clash
+
+pub reply_clash : (config : ConfigValue) (W : List Write) (was : Bool) (request : Request) (reply : Reply) (is : Bool) → MayReply config W was request reply is → reply ≡ Refused DotClash → PushesClash (states_of W) request
+reply_clash config W false request reply false may e = ⊎_elim
+    (λ same. clash_alone config (states_of W) request (answered config (states_of W) W request (states_of-stands W) ∙ sym same ∙ e))
+    (λ memory. absurd (let f : Refused Memory ≡ Refused DotClash = sym memory ∙ e in cc))
+    may
+reply_clash config W false request reply true may e = absurd (let f : Refused Broken ≡ Refused DotClash = sym may.0 ∙ e in cc)
+reply_clash config W true request reply false may e = absurd may
+reply_clash config W true request reply true may e = absurd (let f : Refused Broken ≡ Refused DotClash = sym may ∙ e in cc)
+
+own_apart : (m : States) (request : Request) → IsOwn request → PushesClash m request → ⊥
+own_apart m (Push key pushed) own clash = cc
+own_apart m request own clash = clash
+
+replied_is : (r s : Reply) → Replied r ≡ Replied s → r ≡ s
+replied_is r s e = cc
+
+failed_is : (f g : SyncFault) → Failed f ≡ Failed g → f ≡ g
+failed_is f g e = cc
+
+reply_apart : (reply : Reply) → reply ≢ Refused DotClash → IsNoClash (Replied reply)
+reply_apart reply other = (λ e. other (replied_is reply (Refused DotClash) e), λ fault e is. cc)
+
+answers_apart : (setting : Setting) (before : Knowledge) (site : ℕ) (request : Request) (reply : Reply) (after : Knowledge) → IsOwn request → Answers setting before site request reply after → IsNoClash (Replied reply)
+answers_apart setting before site request reply after own told = reply_apart reply (λ e. own_apart (states_of (before.known site)) request own
+    (reply_clash (config_of setting site) (before.known site) (before.broken site) request reply told.broken told.replies e))
+
+receives_apart : (setting : Setting) (before : Knowledge) (site message : ℕ) (reply : Reply) (after : Knowledge) → IsSound before → Receives setting before site message reply after → IsNoClash (Replied reply)
+receives_apart setting before site message reply after sound told = reply_apart reply (λ e.
+    let key = told.sending.key in
+    let W = before.known site in
+    let clash : clashes (state_at (states_of W) key) (state key told.sending.writes) ≡ true = reply_clash (config_of setting site) W (before.broken site) (Push key (state key told.sending.writes)) reply told.broken told.replies e in
+    let apart : clashes (state key W) (state key told.sending.writes) ≡ false =
+    apart_within before W told.sending.writes key sound (sound.known site) (λ w here. sound.sent told.sending w (found before.messages _ told.sending told.sent) here) in
+    true≢false (sym clash ∙ ap (λ s. clashes s (state key told.sending.writes)) (state_at-stands (states_of W) W key (states_of-stands W)) ∙ apart))
+
+pub no_states_clash : (before : Knowledge) (local peer : ℕ) → IsSound before → StatesClash (before.known local) (before.known peer) → ⊥
+no_states_clash before local peer sound found =
+    true≢false (sym found.clash ∙ apart_within before (before.known local) (before.known peer) found.key sound (sound.known local) (sound.known peer))
+
+takes_apart : (setting : Setting) (before : Knowledge) (step : Step) (outcome : Outcome) (after : Knowledge) → IsSound before → may_be setting.count (length before.messages) step ≡ true → Takes setting before step outcome after → IsNoClash outcome
+takes_apart setting before (Write_at site request) (Replied reply) after sound may told = answers_apart setting before site request reply after (own_step _ request may) told
+takes_apart setting before (Ask site request) (Replied reply) after sound may told = answers_apart setting before site request reply after (asked_step _ request may) told
+takes_apart setting before (Send site key) (Sent_as number) after sound may told = (λ e. cc, λ fault e is. cc)
+takes_apart setting before (Send site key) (Replied reply) after sound may told = reply_apart reply (λ e. ⊎_elim
+    (λ memory. let f : Refused Memory ≡ Refused DotClash = sym memory ∙ e in cc)
+    (λ broken. let f : Refused Broken ≡ Refused DotClash = sym broken.0 ∙ e in cc)
+    told.refused)
+takes_apart setting before (Receive site message) (Replied reply) after sound may told = receives_apart setting before site message reply after sound told
+takes_apart setting before (Session local peer) (Met report) after sound may told = (λ e. cc, λ fault e is. cc)
+takes_apart setting before (Session local peer) (Failed fault) after sound may told =
+    (λ e. cc, λ other e is. no_states_clash before local peer sound (told.clash fault refl (subst IsClash (sym (failed_is fault other e)) is)))
+takes_apart setting before step outcome after sound may told = absurd told
+
+-- no step is answered that two documents of one dot clash
+pub step_apart : (setting : Setting) (before : Knowledge) (step : Step) (outcome : Outcome) (after : Knowledge) → IsSound before → MayStep setting before step outcome after → IsNoClash outcome
+step_apart setting before step outcome after sound =
+    elim (may_be setting.count (length before.messages) step) as (λ b. may_be setting.count (length before.messages) step ≡ b → MatchBool b (Takes setting before step outcome after) ((outcome ≡ NoSuch) × (after ≡ before)) → IsNoClash outcome) [
+      | true ↦ λ may told. takes_apart setting before step outcome after sound may told
+      | false ↦ λ _ same. subst IsNoClash (sym same.0) (λ e. cc, λ fault e is. cc)
+    ] refl

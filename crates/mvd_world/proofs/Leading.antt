@@ -1,0 +1,240 @@
+-- What each step leads to.
+use Rattle.std.proofs.Common.{◌≡◌, ◌≢◌, ◌⊎◌, inl, inr, ℕ, ◌+◌, ◌-◌, Bool, true, false, true≢false, zero, suc, List, [], ◌∷◌, ◌++◌, map, length, Option, Some, None, IsSomeAnd, refl, sym, ap, ap₂, ◌∙◌, subst, subst₂, ⊎_elim, arith, Result, Ok, Err, length-append}
+use Rattle.std.specs.Prelude.{slice_set}
+use Rattle.std.specs.List.{slice_get}
+use Rattle.std.proofs.lemmas.List.{length-set, length-map, map-append}
+use Rattle.mvd_dots.specs.declared.refusals.Refusal.TheVariants.{Broken, Memory}
+use Rattle.mvd_dots.specs.declared.refusals.Refusal.{Refusal}
+use Rattle.mvd_keys.specs.State.{State}
+use Rattle.mvd_keys.specs.Writes.{AreOf, Key, Stands, Write, state, writes_of}
+use Rattle.mvd_keys.proofs.Standing.{state-own}
+use Rattle.mvd_wire.specs.declared.request.Request.{Request}
+use Rattle.mvd_wire.specs.declared.request.Request.TheVariants.{Push}
+use Rattle.mvd_wire.specs.declared.reply.Reply.{Reply}
+use Rattle.mvd_wire.specs.declared.reply.Reply.TheVariants.{Done, Refused}
+use Rattle.mvd_site.specs.Answer.{answer, change_of}
+use Rattle.mvd_site.specs.Config.{ConfigValue}
+use Rattle.mvd_site.specs.FromStates.{Answered, AnswersFrom, Broke, after_from, answer_from, change_from, with_change}
+use Rattle.mvd_site.specs.Held.{States, state_at}
+use Rattle.mvd_site.specs.Known.{Adds, Changes, MayReply}
+use Rattle.mvd_site.specs.Sites.{AnswersOne, SiteStands, SiteValue}
+use Rattle.mvd_site.proofs.Answered.{after_stands, answered, changed_alike, with_state-same}
+use Rattle.mvd_site.proofs.Prepare.{refuses_all}
+use Rattle.mvd_site.proofs.Steps.{Adds-Refused, Stands-nothing, state_at-stands}
+use Rattle.mvd_sync.specs.declared.session.Report.{Report}
+use Rattle.mvd_sync.specs.declared.session.SyncFault.{SyncFault}
+use Rattle.mvd_sync.specs.declared.session.SyncFault.TheVariants.{Local, Peer}
+use Rattle.mvd_world.specs.declared.worlds.Message.{Message}
+use Rattle.mvd_world.specs.declared.worlds.World.{World}
+use Rattle.mvd_world.specs.Machine.{Answers, BreaksBy, IsOwn, IsSound, Knowledge, Meets, Receives, Sending, Sends, SendsNot, Setting, becomes, config_of, learns, met, received, writes_in}
+use Rattle.mvd_world.specs.Worlds.{AreSites, IsSiteOf, IsWorld, Leads, SitesMeet, TwoMeet, message_of}
+use Rattle.mvd_world.proofs.Changed.{learns_here, learns_other, set_other, sites_changed}
+use Rattle.mvd_world.proofs.Sound.{found as found_in, sound_answers, sound_meets, sound_receives, sound_sends}
+
+-- the site of a number
+site_of : (setting : Setting) (before : Knowledge) (sites : List SiteValue) (index number : ℕ) (s : SiteValue) → AreSites setting before sites → index + 1 ≡ number → slice_get sites index ≡ Some s → IsSiteOf setting before number s
+site_of setting before sites index number s are at here = subst (λ n. IsSiteOf setting before n s) at (are index s here)
+
+-- nothing changed
+pub same_world : (setting : Setting) (old new : World) (before : Knowledge) → new.sites.items ≡ old.sites.items → new.messages.items ≡ old.messages.items → IsWorld setting old before → IsWorld setting new before
+same_world setting old new before same_sites same_messages world = record {
+  count = ap length same_sites ∙ world.count;
+  sites = subst (AreSites setting before) (sym same_sites) world.sites;
+  messages = same_messages ∙ world.messages;
+  sound = world.sound;
+}
+
+-- one site changed, and the messages are as they were
+pub record SiteChanges (old new : World) (number : ℕ) (s s' : SiteValue) : Type 0 where
+  pub index : ℕ
+  pub at : index + 1 ≡ number
+  pub here : slice_get old.sites.items index ≡ Some s
+  pub sites : new.sites.items ≡ slice_set old.sites.items index s'
+  pub messages : new.messages.items ≡ old.messages.items
+  pub config : s'.config ≡ s.config
+
+-- the world after it, where the sets are sound
+world_changed : (setting : Setting) (old new : World) (before : Knowledge) (number : ℕ) (s s' : SiteValue) (added made : List Write) → IsWorld setting old before → SiteChanges old new number s s' →
+    SiteStands s' (before.known number ++ added) →
+    (after : Knowledge) → after ≡ record { known = learns before.known number added; broken = becomes before.broken number s'.broken; messages = before.messages; made = made } → IsSound after → IsWorld setting new after
+world_changed setting old new before number s s' added made world change stands after is sound = record {
+  count = ap length change.sites ∙ length-set old.sites.items change.index s' ∙ world.count;
+  sites = subst₂ (AreSites setting) (sym is) (sym change.sites)
+      (sites_changed setting old.sites.items before change.index number s s' added before.messages made world.sites change.at change.here change.config stands);
+  messages = change.messages ∙ world.messages ∙ ap (λ (w : Knowledge). map message_of w.messages) (sym is);
+  sound = sound;
+}
+
+-- ---- a site's reply to a request of its own
+
+pub answers_lead : (old new : World) (number : ℕ) (s s' : SiteValue) (request : Request) (reply : Reply) → SiteChanges old new number s s' → IsOwn request → AnswersOne s s' request reply → (added : List Write) × Adds request reply added →
+    Leads old new (λ setting before after. Answers setting before number request reply after)
+answers_lead old new number s s' request reply change own one choice setting before world =
+    let site = site_of setting before old.sites.items change.index number s world.sites change.at change.here in
+    let after : Knowledge = record { known = learns before.known number choice.0; broken = becomes before.broken number s'.broken; messages = before.messages; made = before.made ++ choice.0 } in
+    let told : Answers setting before number request reply after = record {
+      broken = s'.broken;
+      added = choice.0;
+      replies = subst₂ (λ c b. MayReply c (before.known number) b request reply s'.broken) site.config site.broken (one.replies (before.known number) site.stands);
+      adds = choice.1;
+      is = refl;
+    } in
+    (after, (told, world_changed setting old new before number s s' choice.0 (before.made ++ choice.0) world change (one.stands (before.known number) choice.0 site.stands choice.1) after refl
+        (sound_answers setting before number request reply after world.sound own told)))
+
+-- ---- a message that comes
+
+-- what a site does with one request from its states, as from the writes known
+changes_known : (config : ConfigValue) (m : States) (W : List Write) (request : Request) → Stands m W → after_from config m request ≢ m → Changes config W request
+changes_known config m W request stands differs =
+    elim (change_of W request (answer config W request)) as (λ o. change_from m request (answer_from config m request) ≡ o → IsSomeAnd o (λ change. change.1 ≢ state change.0 W)) [
+      | None ↦ λ e. absurd (differs (ap (with_change m) e))
+      | Some change ↦ λ e same. differs (ap (with_change m) e ∙ with_state-same m change.0 change.1 (same ∙ sym (state_at-stands m W change.0 stands)))
+    ] (changed_alike config m W request stands)
+
+refused_adds : (m : States) (W : List Write) (request : Request) (refusal : Refusal) (added : List Write) → Stands m W → Adds request (Refused refusal) added → Stands m (W ++ added)
+refused_adds m W request refusal added stands adds = Stands-nothing m W added stands (Adds-Refused request (Refused refusal) added (refuses_all request refusal) adds)
+
+record Replied_from (s s' : SiteValue) (W : List Write) (request : Request) (reply : Reply) : Type 0 where
+  replies : MayReply s.config W s.broken request reply s'.broken
+  stands : (added : List Write) → Adds request reply added → SiteStands s' (W ++ added)
+
+replied_whole : (s s' : SiteValue) (W : List Write) (request : Request) (reply : Reply) → s.broken ≡ false → Stands s.states W → AnswersFrom s s' request reply → Replied_from s s' W request reply
+replied_whole s s' W request reply whole stands answers = ⊎_elim
+    (λ (here : Answered s s' request reply).
+        let still : s'.broken ≡ false = ap (λ (v : SiteValue). v.broken) here.site in
+        let is : reply ≡ answer s.config W request = here.answers ∙ answered s.config s.states W request stands in
+        record {
+          replies = subst₂ (λ a b. MayReply s.config W a request reply b) (sym whole) (sym still) (inl is);
+          stands = λ added adds _. subst (λ m. Stands m (W ++ added)) (sym (ap (λ (v : SiteValue). v.states) here.site))
+              (after_stands s.config s.states W request added stands (subst (λ r. Adds request r added) is adds));
+        })
+    (λ rest. ⊎_elim
+        (λ memory.
+            let still : s'.broken ≡ false = ap (λ (v : SiteValue). v.broken) memory.1 ∙ whole in
+            record {
+              replies = subst₂ (λ a b. MayReply s.config W a request reply b) (sym whole) (sym still) (inr memory.0);
+              stands = λ added adds _. subst (λ (v : SiteValue). Stands v.states (W ++ added)) (sym memory.1) (refused_adds s.states W request Memory added stands (subst (λ r. Adds request r added) memory.0 adds));
+            })
+        (λ broke.
+            let breaks : s'.broken ≡ true = ap (λ (v : SiteValue). v.broken) broke.1.site in
+            record {
+              replies = subst₂ (λ a b. MayReply s.config W a request reply b) (sym whole) (sym breaks) (broke.0, changes_known s.config s.states W request stands broke.1.changes);
+              stands = λ added adds still. absurd (true≢false (sym breaks ∙ still));
+            })
+        rest)
+    (answers whole)
+
+replied_broken : (s s' : SiteValue) (W : List Write) (request : Request) (reply : Reply) → s.broken ≡ true → (reply ≡ Refused Broken) × (s'.broken ≡ true) → Replied_from s s' W request reply
+replied_broken s s' W request reply broken told = record {
+  replies = subst₂ (λ a b. MayReply s.config W a request reply b) (sym broken) (sym told.1) told.0;
+  stands = λ added adds still. absurd (true≢false (sym told.1 ∙ still));
+}
+
+replied_from : (s s' : SiteValue) (W : List Write) (request : Request) (reply : Reply) → SiteStands s W → AnswersFrom s s' request reply → (s.broken ≡ true → (reply ≡ Refused Broken) × (s'.broken ≡ true)) → Replied_from s s' W request reply
+replied_from s s' W request reply stands answers stays =
+    elim s.broken as (λ b. s.broken ≡ b → Replied_from s s' W request reply) [
+      | true ↦ λ broken. replied_broken s s' W request reply broken (stays broken)
+      | false ↦ λ whole. replied_whole s s' W request reply whole (stands whole) answers
+    ] refl
+
+received_adds : (key : Key) (writes : List Write) (reply : Reply) → AreOf key writes → Adds (Push key (state key writes)) reply (received reply writes)
+received_adds key writes Done of = (of, refl)
+received_adds key writes reply of = refl
+
+-- a message of the world stands for one that was sent
+message_at : (ms : List Sending) (i : ℕ) (m : Message) → slice_get (map message_of ms) i ≡ Some m → (sending : Sending) × (slice_get ms i ≡ Some sending) × (m ≡ message_of sending)
+message_at [] i m h = cc
+message_at (sending ∷ ms) zero m h = (sending, refl, cc)
+message_at (sending ∷ ms) (suc i) m h = message_at ms i m h
+
+pub receives_lead : (old new : World) (number message index : ℕ) (m : Message) (s s' : SiteValue) (reply : Reply) → SiteChanges old new number s s' → slice_get old.messages.items index ≡ Some m → message - 1 ≡ index →
+    AnswersFrom s s' (Push m.key m.state) reply → (s.broken ≡ true → (reply ≡ Refused Broken) × (s'.broken ≡ true)) →
+    Leads old new (λ setting before after. Receives setting before number message reply after)
+receives_lead old new number message index m s s' reply change here at answers stays setting before world =
+    let site = site_of setting before old.sites.items change.index number s world.sites change.at change.here in
+    let found = message_at before.messages index m (subst (λ ms. slice_get ms index ≡ Some m) world.messages here) in
+    let sending = found.0 in
+    let there : slice_get before.messages (message - 1) ≡ Some sending = ap (slice_get before.messages) at ∙ found.1 in
+    let push : Request = Push sending.key (state sending.key sending.writes) in
+    let does : Replied_from s s' (before.known number) push reply = replied_from s s' (before.known number) push reply site.stands (subst (λ (x : Message). AnswersFrom s s' (Push x.key x.state) reply) found.2 answers) stays in
+    let added = received reply sending.writes in
+    let after : Knowledge = record { known = learns before.known number added; broken = becomes before.broken number s'.broken; messages = before.messages; made = before.made } in
+    let told : Receives setting before number message reply after = record {
+      broken = s'.broken;
+      sending = sending;
+      sent = there;
+      replies = subst₂ (λ c b. MayReply c (before.known number) b push reply s'.broken) site.config site.broken does.replies;
+      is = refl;
+    } in
+    let of = world.sound.of_key sending (found_in before.messages (message - 1) sending there) in
+    (after, (told, world_changed setting old new before number s s' added before.made world change (does.stands added (received_adds sending.key sending.writes reply of)) after refl
+        (sound_receives setting before number message reply after world.sound told)))
+
+-- ---- a message that is sent
+
+pub sends_lead : (old new : World) (number index : ℕ) (s : SiteValue) (key : Key) (m : Message) (count : ℕ) → index + 1 ≡ number → slice_get old.sites.items index ≡ Some s → s.broken ≡ false → m ≡ record { key = key; state = state_at s.states key } →
+    new.sites.items ≡ old.sites.items → new.messages.items ≡ old.messages.items ++ m ∷ [] → count ≡ length new.messages.items → Leads old new (λ setting before after. Sends before number key count after)
+sends_lead old new number index s key m count at here whole is same_sites grown counted setting before world =
+    let site = site_of setting before old.sites.items index number s world.sites at here in
+    let W = before.known number in
+    let sending : Sending = record { key = key; writes = writes_of key W } in
+    let after : Knowledge = record { known = before.known; broken = before.broken; messages = before.messages ++ sending ∷ []; made = before.made } in
+    let stands_for : m ≡ message_of sending = is ∙ ap (λ s. record { key = key; state = s }) (state_at-stands s.states W key (site.stands whole) ∙ state-own key W) in
+    let messages : new.messages.items ≡ map message_of after.messages = grown ∙ ap₂ (λ ms x. ms ++ x ∷ []) world.messages stands_for ∙ sym (map-append message_of before.messages (sending ∷ [])) in
+    let told : Sends before number key count after = record { whole = sym site.broken ∙ whole; numbered = counted ∙ ap length messages ∙ length-map after.messages message_of; is = refl } in
+    (after, (told, record {
+      count = ap length same_sites ∙ world.count;
+      sites = λ i x found. let was = world.sites i x (subst (λ l. slice_get l i ≡ Some x) same_sites found) in record { config = was.config; broken = was.broken; stands = was.stands };
+      messages = messages;
+      sound = sound_sends before number key count after world.sound told;
+    }))
+
+pub sends_not_lead : (old new : World) (number index : ℕ) (s : SiteValue) (refusal : Refusal) → index + 1 ≡ number → slice_get old.sites.items index ≡ Some s → ((refusal ≡ Memory) ⊎ ((refusal ≡ Broken) × (s.broken ≡ true))) →
+    new.sites.items ≡ old.sites.items → new.messages.items ≡ old.messages.items → Leads old new (λ setting before after. SendsNot before number (Refused refusal) after)
+sends_not_lead old new number index s refusal at here why same_sites same_messages setting before world =
+    let site = site_of setting before old.sites.items index number s world.sites at here in
+    (before, (record { refused = ⊎_elim (λ memory. inl (ap Refused memory)) (λ broken. inr (ap Refused broken.0, sym site.broken ∙ broken.1)) why; is = refl }, same_world setting old new before same_sites same_messages world))
+
+-- ---- a session
+
+first_other : (i j : ℕ) (local peer : ℕ) → i + 1 ≡ local → j + 1 ≡ peer → local ≢ peer → j ≢ i
+first_other i j local peer at at' two same = two (omega (arith, at, at', same))
+
+pub meets_lead : (old new : World) (local peer i j : ℕ) (result : Result Report SyncFault) → i + 1 ≡ local → j + 1 ≡ peer → local ≢ peer → TwoMeet old.sites.items new.sites.items i j result → new.messages.items ≡ old.messages.items →
+    Leads old new (λ setting before after. Meets before local peer result after)
+meets_lead old new local peer i j result at at' two both same_messages setting before world =
+    let mine = site_of setting before old.sites.items i local both.first world.sites at both.first_is in
+    let theirs = site_of setting before old.sites.items j peer both.second world.sites at' both.second_is in
+    let V = before.known local in
+    let W = before.known peer in
+    let does = both.exchange V W mine.stands theirs.stands in
+    let more = writes_in does.pulled W in
+    let first : Knowledge = record { known = learns before.known local more; broken = becomes before.broken local both.first'.broken; messages = before.messages; made = before.made } in
+    let here : first.known local ≡ V ++ more = learns_here before.known local more in
+    let there : first.known peer ≡ W = learns_other before.known local more peer (λ e. two (sym e)) in
+    let back = writes_in does.given (first.known local) in
+    let after : Knowledge = record { known = learns first.known peer back; broken = becomes first.broken peer both.second'.broken; messages = before.messages; made = before.made } in
+    let told : Meets before local peer result after = record {
+      pulled = does.pulled;
+      given = does.given;
+      distinct = does.distinct;
+      local_broken = both.first'.broken;
+      peer_broken = both.second'.broken;
+      ends = does.ends;
+      local_breaks = subst (λ b. BreaksBy b both.first'.broken (Local Broken) result) mine.broken does.local_breaks;
+      peer_breaks = subst (λ b. BreaksBy b both.second'.broken (Peer Broken) result) theirs.broken does.peer_breaks;
+      clash = does.clash;
+      is = refl;
+    } in
+    let sites_first : AreSites setting first (slice_set old.sites.items i both.first') =
+    sites_changed setting old.sites.items before i local both.first both.first' more before.messages before.made world.sites at both.first_is both.first_config does.local_stands in
+    let still : slice_get (slice_set old.sites.items i both.first') j ≡ Some both.second = set_other old.sites.items i both.first' j (first_other i j local peer at at' two) ∙ both.second_is in
+    let stands : SiteStands both.second' (first.known peer ++ back) = subst₂ (λ X Y. SiteStands both.second' (X ++ writes_in does.given Y)) (sym there) (sym here) does.peer_stands in
+    (after, (told, record {
+      count = ap length both.new_is ∙ length-set (slice_set old.sites.items i both.first') j both.second' ∙ length-set old.sites.items i both.first' ∙ world.count;
+      sites = subst (AreSites setting after) (sym both.new_is)
+          (sites_changed setting (slice_set old.sites.items i both.first') first j peer both.second both.second' back before.messages before.made sites_first at' still both.second_config stands);
+      messages = same_messages ∙ world.messages;
+      sound = sound_meets before local peer result after world.sound told;
+    }))

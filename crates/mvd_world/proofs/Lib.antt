@@ -1,0 +1,6 @@
+pub mod Sound
+pub mod Apart
+pub mod Changed
+pub mod Gained
+pub mod Leading
+pub mod Taking

@@ -1,0 +1,38 @@
+-- A step of the world, from what its kind leads to.
+use Rattle.std.proofs.Common.{◌≡◌, ◌≢◌, ℕ, ◌≤◌, ◌-◌, ◌+◌, Bool, true, false, not, ◌&&◌, ◌==◌, nat_lt, nat_le, List, map, length, MatchBool, refl, sym, ap, ap₂, ◌∙◌, subst, arith, true≢false, eq-eqb, ltb-true}
+use Rattle.std.proofs.lemmas.Bool.Decides.{nat_tests}
+use Rattle.std.proofs.lemmas.List.{length-map}
+use Rattle.mvd_world.specs.declared.steps.Step.{Step}
+use Rattle.mvd_world.specs.declared.steps.Outcome.{Outcome}
+use Rattle.mvd_world.specs.declared.steps.Outcome.TheVariants.{NoSuch}
+use Rattle.mvd_world.specs.declared.worlds.World.{World}
+use Rattle.mvd_world.specs.Machine.{Knowledge, MayStep, Setting, Takes, is_numbered, may_be}
+use Rattle.mvd_world.specs.Worlds.{IsWorld, Leads, Steps, message_of}
+
+may_be_same : (setting : Setting) (old : World) (before : Knowledge) (step : Step) → IsWorld setting old before →
+    may_be (length old.sites.items) (length old.messages.items) step ≡ may_be setting.count (length before.messages) step
+may_be_same setting old before step world = ap₂ (λ a b. may_be a b step) world.count (ap length world.messages ∙ length-map before.messages message_of)
+
+pub step_takes : (old new : World) (step : Step) (outcome : Outcome) → may_be (length old.sites.items) (length old.messages.items) step ≡ true → Leads old new (λ setting before after. Takes setting before step outcome after) → Steps old new step outcome
+step_takes old new step outcome may leads setting before world =
+    let end = leads setting before world in
+    (end.0, (subst (λ b. MatchBool b (Takes setting before step outcome end.0) ((outcome ≡ NoSuch) × (end.0 ≡ before))) (sym (sym (may_be_same setting old before step world) ∙ may)) end.1.0, end.1.1))
+
+pub step_none : (old : World) (step : Step) → may_be (length old.sites.items) (length old.messages.items) step ≡ false → Steps old old step NoSuch
+step_none old step none setting before world =
+    (before, (subst (λ b. MatchBool b (Takes setting before step NoSuch before) ((NoSuch ≡ NoSuch) × (before ≡ before))) (sym (sym (may_be_same setting old before step world) ∙ none)) (refl, refl), world))
+
+pub and_both : (a b : Bool) → (a && b) ≡ true → (a ≡ true) × (b ≡ true)
+and_both true true h = (refl, refl)
+and_both true false h = absurd (cc)
+and_both false b h = absurd (cc)
+
+pub numbered : (count number : ℕ) → is_numbered count number ≡ true → (1 ≤ number) × (number ≤ count)
+numbered count number h =
+    let both = and_both (nat_lt 0 number) (nat_le number count) h in
+    let low : 1 ≤ number = let e = both.0 in grind (arith, nat_tests) in
+    let high : number ≤ count = let e = both.1 in grind (arith, nat_tests) in
+    (low, high)
+
+pub two_numbers : (a b : ℕ) → not (a == b) ≡ true → a ≢ b
+two_numbers a b h same = true≢false (sym h ∙ ap not (eq-eqb a b same))

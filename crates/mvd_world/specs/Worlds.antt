@@ -1,0 +1,119 @@
+-- What a world stands for: sets of writes, by which its sites and messages are what the machine says.
+use Rattle.std.specs.Prelude.{◌≡◌, ◌⊎◌, ◌+◌, ◌-◌, ℕ, true, false, List, [], ◌∷◌, ◌++◌, map, length, Some, Result, Err, slice_set}
+use Rattle.std.specs.List.{slice_get, Contains}
+use Rattle.mvd_keys.specs.Writes.{Key, SameWrites, Stands, Write, state}
+use Rattle.mvd_wire.specs.declared.request.Request.{Request}
+use Rattle.mvd_site.specs.Answer.{is_question}
+use Rattle.mvd_site.specs.FromStates.{answer_from}
+use Rattle.mvd_site.specs.Held.{state_at}
+use Rattle.mvd_site.specs.Sites.{SiteStands, SiteValue}
+use Rattle.mvd_sync.specs.Session.{AreDistinct, IsClash}
+use Rattle.mvd_sync.specs.declared.session.Report.{Report}
+use Rattle.mvd_sync.specs.declared.session.SyncFault.{SyncFault}
+use Rattle.mvd_sync.specs.declared.session.SyncFault.TheVariants.{Local, Peer}
+use Rattle.mvd_dots.specs.declared.refusals.Refusal.TheVariants.{Broken, Memory}
+use Rattle.mvd_dots.specs.declared.refusals.Refusal.{Refusal}
+use Rattle.mvd_world.specs.declared.steps.Step.{Step}
+use Rattle.mvd_world.specs.declared.steps.Outcome.{Outcome}
+use Rattle.mvd_world.specs.declared.worlds.Message.{Message}
+use Rattle.mvd_world.specs.declared.worlds.World.{World}
+use Rattle.mvd_world.specs.Machine.{BreaksBy, EndsWith, IsSound, Knowledge, MayStep, OnePutPerDot, Runs, Sending, Setting, StatesClash, config_of, nothing_yet, writes_in}
+
+-- the site of this number, with what it was set up with, and the writes that its states stand for unless it is broken
+pub record IsSiteOf (setting : Setting) (knowledge : Knowledge) (number : ℕ) (site : SiteValue) : Type 0 where
+  pub config : site.config ≡ config_of setting number
+  pub broken : site.broken ≡ knowledge.broken number
+  pub stands : SiteStands site (knowledge.known number)
+
+-- a message as it is kept
+abbrev pub message_of : Sending → Message
+message_of sending = record { key = sending.key; state = state sending.key sending.writes }
+
+-- sites numbered from 1
+abbrev pub AreSites : Setting → Knowledge → List SiteValue → Type 0
+AreSites setting knowledge sites = (index : ℕ) (site : SiteValue) → slice_get sites index ≡ Some site → IsSiteOf setting knowledge (index + 1) site
+
+-- the world is of this setting, and its sites and messages stand for these sets, which are sound
+pub record IsWorld (setting : Setting) (world : World) (knowledge : Knowledge) : Type 0 where
+  pub count : length world.sites.items ≡ setting.count
+  pub sites : AreSites setting knowledge world.sites.items
+  pub messages : world.messages.items ≡ map message_of knowledge.messages
+  pub sound : IsSound knowledge
+
+-- from whatever sets the world stood for, it comes to stand for sets of which this holds
+abbrev pub Leads : World → World → (Setting → Knowledge → Knowledge → Type 0) → Type 0
+Leads old new Tells = (setting : Setting) (before : Knowledge) → IsWorld setting old before → (after : Knowledge) × (Tells setting before after × IsWorld setting new after)
+
+-- a step of the world is one of the machine
+abbrev pub Steps : World → World → Step → Outcome → Type 0
+Steps old new step outcome = Leads old new (λ setting before after. MayStep setting before step outcome after)
+
+-- ---- a message that is sent
+
+-- the site's state of the key became the last message
+pub record Keeps (old new : World) (site : ℕ) (key : Key) : Type 0 where
+  pub from : SiteValue
+  pub here : slice_get old.sites.items (site - 1) ≡ Some from
+  pub whole : from.broken ≡ false
+  pub sites : new.sites.items ≡ old.sites.items
+  pub messages : new.messages.items ≡ old.messages.items ++ record { key = key; state = state_at from.states key } ∷ []
+
+-- it did not: memory was refused, or the site is broken
+pub record KeepsNot (old new : World) (site : ℕ) (refusal : Refusal) : Type 0 where
+  pub from : SiteValue
+  pub here : slice_get old.sites.items (site - 1) ≡ Some from
+  pub why : (refusal ≡ Memory) ⊎ ((refusal ≡ Broken) × (from.broken ≡ true))
+  pub sites : new.sites.items ≡ old.sites.items
+  pub messages : new.messages.items ≡ old.messages.items
+
+-- ---- a session of two sites
+
+-- what a session does to two sites, from writes that each stood for
+pub record SitesMeet (V W : List Write) (local peer local' peer' : SiteValue) (result : Result Report SyncFault) : Type 0 where
+  pub pulled : List Key
+  pub given : List Key
+  pub distinct : AreDistinct pulled
+  pub ends : EndsWith pulled given local'.broken peer'.broken result
+  pub local_breaks : BreaksBy local.broken local'.broken (Local Broken) result
+  pub peer_breaks : BreaksBy peer.broken peer'.broken (Peer Broken) result
+  pub clash : (fault : SyncFault) → result ≡ Err fault → IsClash fault → StatesClash V W
+  pub local_stands : SiteStands local' (V ++ writes_in pulled W)
+  pub peer_stands : SiteStands peer' (W ++ writes_in given (V ++ writes_in pulled W))
+
+-- the same, whatever they stood for
+abbrev pub Exchange : SiteValue → SiteValue → SiteValue → SiteValue → Result Report SyncFault → Type 0
+Exchange local peer local' peer' result = (V W : List Write) → SiteStands local V → SiteStands peer W → SitesMeet V W local peer local' peer' result
+
+-- two sites of a list meet, and the others are as they were
+pub record TwoMeet (old new : List SiteValue) (local peer : ℕ) (result : Result Report SyncFault) : Type 0 where
+  pub first : SiteValue
+  pub second : SiteValue
+  pub first' : SiteValue
+  pub second' : SiteValue
+  pub first_is : slice_get old local ≡ Some first
+  pub second_is : slice_get old peer ≡ Some second
+  pub new_is : new ≡ slice_set (slice_set old local first') peer second'
+  pub first_config : first'.config ≡ first.config
+  pub second_config : second'.config ≡ second.config
+  pub exchange : Exchange first second first' second' result
+
+-- ---- a run
+
+-- two sites give equal answers to each question
+pub record AreAlike (a b : SiteValue) : Type 0 where
+  pub states : a.states ≡ b.states
+  pub answers : (request : Request) → is_question request ≡ true → answer_from a.config a.states request ≡ answer_from b.config b.states request
+
+-- these steps with these outcomes, from nothing known, lead to sets of which this holds
+abbrev pub Leads_to : Setting → List Step → List Outcome → (Knowledge → Type 0) → Type 0
+Leads_to setting steps outcomes Holds = (end : Knowledge) × (Runs setting nothing_yet steps outcomes end × Holds end)
+
+-- each site that is not broken stands for what it knows, which is a part of what was made
+abbrev pub StandForKnown : World → Knowledge → Type 0
+StandForKnown world end = (index : ℕ) (site : SiteValue) → slice_get world.sites.items index ≡ Some site → site.broken ≡ false →
+    Stands site.states (end.known (index + 1)) × ((write : Write) → Contains (end.known (index + 1)) write → Contains end.made write)
+
+-- two sites that are not broken, and know the same writes, are alike
+abbrev pub AlikeWhereSame : World → Knowledge → Type 0
+AlikeWhereSame world end = (i j : ℕ) (a b : SiteValue) → slice_get world.sites.items i ≡ Some a → slice_get world.sites.items j ≡ Some b → a.broken ≡ false → b.broken ≡ false →
+    SameWrites (end.known (i + 1)) (end.known (j + 1)) → AreAlike a b

@@ -1,0 +1,217 @@
+//! A world of several sites, and the messages that they sent.
+ghost use Rattle.std.specs.Prelude.{◌≡◌, ◌≢◌, ◌≤◌, ◌<◌, ◌-◌, true, length, IfErr, IfOk, IfSome, MatchResult, Some};
+ghost use Rattle.std.specs.List.{slice_get};
+ghost use Rattle.mvd_wire.specs.declared.reply.Reply.TheVariants.{Refused};
+ghost use Rattle.mvd_dots.specs.declared.refusals.Refusal.TheVariants.{Memory};
+ghost use Rattle.mvd_site.specs.Answer.{is_question};
+ghost use Rattle.mvd_world.specs.declared.steps.Step.TheVariants.{Send as Send_step};
+ghost use Rattle.mvd_world.specs.Machine.{Answers, IsOwn, Meets, Receives, Takes, is_numbered, is_write, may_be, nothing_yet};
+ghost use Rattle.mvd_world.specs.Worlds.{IsWorld, Keeps, KeepsNot, Leads, Steps};
+
+use crate::sessions::sync_at;
+use crate::steps::{Outcome, Step};
+use mvd_dots::Refusal;
+use mvd_keys::{Key, KeyState};
+use mvd_rows::Defs;
+use mvd_site::{Config, Site};
+use mvd_sync::{Report, SyncFault};
+use mvd_wire::{Reply, Request};
+use std::alloc::Global;
+
+/// A key's state on its way to other sites. It shares its documents with the state that the site holds.
+#[derive(Drop)]
+pub struct Message {
+    key: Key,
+    state: KeyState,
+}
+
+/// Sites numbered from 1, and the messages sent, numbered from 1.
+#[derive(Drop)]
+pub struct World {
+    alloc: Global,
+    sites: Vec<Site>,
+    messages: Vec<Message>,
+}
+
+impl World {
+    /// This many sites with no key, each of which may hold `max_keys` keys and has these indexes and views.
+    pub fn new(alloc: Global, count: u32, max_keys: u32, defs: Defs) -> Result<World, Refusal>
+        requires some { 1 ≤ count }
+        requires few { count ≤ 16 }
+        requires low { 0 < max_keys }
+        requires high { max_keys ≤ 1000000 }
+        ensures world { IfOk result (λ world. IsWorld (record { count = count; max_keys = max_keys; defs = defs }) world nothing_yet) }
+        ensures only { IfErr result (λ refusal. refusal ≡ Memory) }
+    {
+        let mut sites = Vec::new(alloc);
+        for site in 0..count {
+            let config = Config::new(site + 1, max_keys, defs.copy()?);
+            sites.push(Site::new(alloc, config)?)?;
+        }
+        Ok(World {
+            alloc,
+            sites,
+            messages: Vec::new(alloc),
+        })
+    }
+
+    /// The site of this number, if there is one.
+    pub fn site(&self, number: u32) -> Option<&Site>
+        ensures { IfSome result (λ site. slice_get self.now.sites.items (number - 1) ≡ Some site.now) }
+    {
+        let index = number.checked_sub(1)?;
+        self.sites.get(index as usize)
+    }
+
+    /// Takes one step. Where there is no such step, nothing is changed.
+    pub fn step(&mut self, step: &Step) -> Outcome
+        ensures { Steps self.old self.new step.now result }
+    {
+        if !self.may_be(step) {
+            return Outcome::NoSuch;
+        }
+        match step {
+            Step::Write { site, request } => Outcome::Replied(self.answer(*site, request)),
+            Step::Ask { site, request } => Outcome::Replied(self.answer(*site, request)),
+            Step::Send { site, key } => self.send(*site, key),
+            Step::Receive { site, message } => Outcome::Replied(self.receive(*site, *message)),
+            Step::Session { local, peer } => match self.meet(*local, *peer) {
+                Ok(report) => Outcome::Met(report),
+                Err(fault) => Outcome::Failed(fault),
+            },
+        }
+    }
+
+    /// Whether there are the sites and the message that the step names, and its request is of its sort.
+    fn may_be(&self, step: &Step) -> bool
+        ensures { result ≡ may_be (length self.now.sites.items) (length self.now.messages.items) step.now }
+    {
+        let sites = self.sites.len();
+        match step {
+            Step::Write { site, request } => is_numbered(sites, u64::from(*site))
+                && is_write(request),
+            Step::Ask { site, request } => is_numbered(sites, u64::from(*site))
+                && is_question(request),
+            Step::Send { site, .. } => is_numbered(sites, u64::from(*site)),
+            Step::Receive { site, message } => {
+                is_numbered(sites, u64::from(*site)) && is_numbered(self.messages.len(), *message)
+            }
+            Step::Session { local, peer } => {
+                is_numbered(sites, u64::from(*local))
+                    && is_numbered(sites, u64::from(*peer))
+                    && local != peer
+            }
+        }
+    }
+
+    /// The site's reply to a request.
+    fn answer(&mut self, site: u32, request: &Request) -> Reply
+        requires some { 1 ≤ site }
+        requires within { site ≤ length self.old.sites.items }
+        requires own { IsOwn request.now }
+        ensures { Leads self.old self.new (λ setting before after. Answers setting before site request.now result after) }
+    {
+        let site = &mut self.sites[site as usize - 1];
+        site.answer(request)
+    }
+
+    /// The site's state of a key becomes the next message, whose number is told.
+    fn send(&mut self, site: u32, key: &Key) -> Outcome
+        requires some { 1 ≤ site }
+        requires within { site ≤ length self.old.sites.items }
+        ensures { Leads self.old self.new (λ setting before after. Takes setting before (Send_step site key.now) result after) }
+    {
+        match self.keep(site, key) {
+            Ok(()) => Outcome::Sent(self.messages.len() as u64),
+            Err(refusal) => Outcome::Replied(Reply::Refused(refusal)),
+        }
+    }
+
+    fn keep(&mut self, site: u32, key: &Key) -> Result<(), Refusal>
+        requires some { 1 ≤ site }
+        requires within { site ≤ length self.old.sites.items }
+        ensures { MatchResult result (λ _. Keeps self.old self.new site key.now) (λ refusal. KeepsNot self.old self.new site refusal) }
+    {
+        let state = self.sites[site as usize - 1].get(key)?;
+        let key = key.copy(self.alloc)?;
+        self.messages.push(Message { key, state })?;
+        Ok(())
+    }
+
+    /// A message comes to a site.
+    fn receive(&mut self, site: u32, message: u64) -> Reply
+        requires some { 1 ≤ site }
+        requires within { site ≤ length self.old.sites.items }
+        requires some_message { 1 ≤ message }
+        requires within_messages { message ≤ length self.old.messages.items }
+        ensures { Leads self.old self.new (λ setting before after. Receives setting before site message result after) }
+    {
+        let message = &self.messages[message as usize - 1];
+        let site = &mut self.sites[site as usize - 1];
+        match site.push(&message.key, &message.state) {
+            Ok(()) => Reply::Done,
+            Err(refusal) => Reply::Refused(refusal),
+        }
+    }
+
+    /// A session of two sites.
+    fn meet(&mut self, local: u32, peer: u32) -> Result<Report, SyncFault>
+        requires some_local { 1 ≤ local }
+        requires within_local { local ≤ length self.old.sites.items }
+        requires some_peer { 1 ≤ peer }
+        requires within_peer { peer ≤ length self.old.sites.items }
+        requires two { local ≢ peer }
+        ensures { Leads self.old self.new (λ setting before after. Meets before local peer result after) }
+    {
+        sync_at(
+            self.alloc,
+            &mut self.sites,
+            local as usize - 1,
+            peer as usize - 1,
+        )
+    }
+}
+
+fn is_numbered(count: usize, number: u64) -> bool
+    ensures { result ≡ is_numbered count number }
+{
+    0 < number && number <= count as u64
+}
+
+fn is_write(request: &Request) -> bool
+    ensures { result ≡ is_write request.now }
+{
+    matches!(request, Request::Put(..) | Request::Delete(..))
+}
+
+fn is_question(request: &Request) -> bool
+    ensures { result ≡ is_question request.now }
+{
+    !matches!(
+        request,
+        Request::Put(..) | Request::Delete(..) | Request::Push(..) | Request::Bye
+    )
+}
+
+/// Takes steps in order, beginning with a world where nothing is known.
+pub fn run_world(
+    alloc: Global,
+    count: u32,
+    max_keys: u32,
+    defs: Defs,
+    steps: &[Step],
+) -> Result<(World, Vec<Outcome>), Refusal>
+    requires some { 1 ≤ count }
+    requires few { count ≤ 16 }
+    requires low { 0 < max_keys }
+    requires high { max_keys ≤ 1000000 }
+    ensures only { IfErr result (λ refusal. refusal ≡ Memory) }
+{
+    let mut world = World::new(alloc, count, max_keys, defs)?;
+    let mut outcomes = Vec::new(alloc);
+    for step in steps {
+        let outcome = world.step(step);
+        outcomes.push(outcome)?;
+    }
+    Ok((world, outcomes))
+}

@@ -32,6 +32,8 @@ pub enum Command<'a> {
     Send { key: &'a str },
     /// `recv S M`
     Receive { message: u64 },
+    /// `sync S T`
+    Sync { peer: u64 },
 }
 
 /// What is written.
@@ -103,6 +105,9 @@ fn command_of<'a>(name: &str, rest: &'a str) -> Option<Command<'a>> {
         "send" => Some(Command::Send { key: last(rest)? }),
         "recv" => Some(Command::Receive {
             message: number_of(rest)?,
+        }),
+        "sync" => Some(Command::Sync {
+            peer: number_of(rest)?,
         }),
         _ => Some(Command::Ask(ask_of(name, rest)?)),
     }

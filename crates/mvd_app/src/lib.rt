@@ -10,7 +10,6 @@ mod play;
 mod printing;
 mod script;
 mod steps;
-mod world;
 
 pub use fault::Fault;
 pub use order::{Order, OrderFault, order_of};

@@ -1,9 +1,9 @@
 //! Lists, asked for page after page.
-use crate::world::{Outcome, Step};
 use mvd_docs::{Field, Term, ViewName};
 use mvd_dots::Refusal;
 use mvd_keys::Place;
 use mvd_wire::{Reply, Request};
+use mvd_world::{Outcome, Step};
 use std::alloc::Global;
 
 /// The step that asks for what comes after the page that an outcome tells, where more is left.

@@ -4,9 +4,9 @@ ghost use Rattle.std.specs.Prelude.{◌≡◌, IfErr};
 use crate::command::Command;
 use crate::pages::next_page;
 use crate::printing::{print_none_such, print_outcome, print_refusal};
-use crate::steps::{step_of, taken};
-use crate::world::{Step, World};
+use crate::steps::{site_of, step_of, taken};
 use mvd_dots::Refusal;
+use mvd_world::{Step, World};
 use std::alloc::Global;
 
 /// Runs a command on a site, and prints what it says, or only how it is refused.
@@ -19,7 +19,7 @@ pub fn run(
 ) -> Result<(), Refusal>
     ensures { IfErr result (λ refusal. refusal ≡ Refusal.Memory) }
 {
-    let site = number_of(site);
+    let site = site_of(site);
     if world.site(site).is_none() {
         print_none_such(out)?;
         return Ok(());
@@ -33,11 +33,6 @@ pub fn run(
             Ok(())
         }
     }
-}
-
-/// The number of a site, or 0, which is none.
-fn number_of(site: u64) -> u32 {
-    u32::try_from(site).unwrap_or(0)
 }
 
 fn say(

@@ -1,9 +1,10 @@
 //! What the commands of a script print.
-use crate::world::{Outcome, Step};
 use mvd_docs::Term;
 use mvd_dots::{Dot, Refusal};
 use mvd_keys::{KeyState, Place};
+use mvd_sync::SyncFault;
 use mvd_wire::{Digests, Reply, Request};
+use mvd_world::{Outcome, Step};
 use std::alloc::{AllocError, Global};
 use std::fmt::Write;
 
@@ -26,6 +27,12 @@ pub fn print_outcome(
             writeln!(out, "message {number}")?;
             Ok(())
         }
+        Outcome::Met(report) => {
+            let keys = report.keys;
+            writeln!(out, "keys {keys}")?;
+            Ok(())
+        }
+        Outcome::Failed(SyncFault::Local(refusal) | SyncFault::Peer(refusal)) => Err(*refusal),
         Outcome::NoSuch => Ok(print_none_such(out)?),
     }
 }

@@ -7,10 +7,10 @@ use crate::command::{Command, Line, View, line_of};
 use crate::fault::Fault;
 use crate::input::read_input;
 use crate::play::run;
-use crate::world::World;
 use mvd_docs::{Field, ViewName};
 use mvd_dots::Refusal;
 use mvd_rows::Defs;
+use mvd_world::World;
 use std::alloc::Global;
 use std::io::{Read, Write};
 

@@ -1,10 +1,10 @@
 //! The steps that the texts of a script are.
 use crate::command::{Ask, Command, Write};
-use crate::world::{Outcome, Step, World};
 use mvd_docs::{Document, Field, Term, ViewName};
 use mvd_dots::{Context, Refusal};
 use mvd_keys::{Key, Path};
 use mvd_wire::{Reply, Request};
+use mvd_world::{Outcome, Step, World};
 use std::alloc::Global;
 
 /// The step that a command at a site is. Its texts are read from left to right.
@@ -28,7 +28,16 @@ pub fn step_of(
             Ok(Step::Send { site, key })
         }
         Command::Receive { message } => Ok(Step::Receive { site, message }),
+        Command::Sync { peer } => Ok(Step::Session {
+            local: site,
+            peer: site_of(peer),
+        }),
     }
+}
+
+/// The site of this number, or 0, which is none.
+pub fn site_of(number: u64) -> u32 {
+    u32::try_from(number).unwrap_or(0)
 }
 
 fn write_of(

@@ -11,3 +11,5 @@ mod long;
 mod random;
 #[cfg(test)]
 mod scripts;
+#[cfg(test)]
+mod sessions;

@@ -6,11 +6,13 @@ use std::alloc::{AllocError, Global};
 use std::test::Fail;
 
 /// How many scripts are drawn, and how many steps each takes before all is sent.
-const SCRIPTS: u64 = 40;
-const STEPS: u64 = 200;
+const SCRIPTS: u64 = 12;
+
+const STEPS: u64 = 120;
 
 /// How many sites and keys a script has.
 const SITES: u64 = 3;
+
 const KEYS: u64 = 5;
 
 /// A script that is drawn line by line.
@@ -44,7 +46,7 @@ impl Draft {
     fn push_step(&mut self, step: u64) -> Result<(), AllocError> {
         let site = self.below(SITES) + 1;
         let key = self.below(KEYS);
-        match self.below(6) {
+        match self.below(8) {
             0 | 1 => {
                 write!(&mut self.text, "put {site} k{key} ")?;
                 self.push_context()?;
@@ -55,8 +57,9 @@ impl Draft {
                 self.push_context()?;
                 self.text.push_str("\n")
             }
-            3 => self.push_send(site, key),
-            _ => self.push_receive(site),
+            3 | 4 => self.push_send(site, key),
+            5 | 6 => self.push_receive(site),
+            _ => self.push_session(site),
         }
     }
 
@@ -85,6 +88,12 @@ impl Draft {
         }
         let message = self.below(sent) + 1;
         writeln!(&mut self.text, "recv {site} {message}")
+    }
+
+    /// A session with the next site.
+    fn push_session(&mut self, site: u64) -> Result<(), AllocError> {
+        let peer = site % SITES + 1;
+        writeln!(&mut self.text, "sync {site} {peer}")
     }
 
     /// Every key of every site goes to every site, and each tells its digest.
@@ -121,7 +130,7 @@ fn drawn(alloc: Global, seed: u64) -> Result<String, AllocError> {
 }
 
 /// Fails where a line was refused, or the last lines, of which each site told one, are not alike.
-fn ends_alike(out: &str) -> Result<(), Fail> {
+pub fn ends_alike(out: &str) -> Result<(), Fail> {
     let is_refused = |line: &str| line.starts_with("refused") || line.starts_with("none such");
     let mut last = out.lines().rev();
     let three = (last.next(), last.next(), last.next());

@@ -26,17 +26,19 @@ pub struct View<'a> {
 /// What is to be done at a site. Texts are not read yet.
 #[derive(Clone, Copy)]
 pub enum Command<'a> {
+    Write(Write<'a>),
     Ask(Ask<'a>),
-    List(List<'a>),
     /// `send S K`
     Send { key: &'a str },
     /// `recv S M`
     Receive { message: u64 },
+    /// `sync S T`
+    Sync { peer: u64 },
 }
 
-/// What the site itself is asked.
+/// What is written.
 #[derive(Clone, Copy)]
-pub enum Ask<'a> {
+pub enum Write<'a> {
     /// `put S K CTX DOC`
     Put {
         key: &'a str,
@@ -48,24 +50,17 @@ pub enum Ask<'a> {
         key: &'a str,
         context: &'a str,
     },
-    /// `get S K`
-    Get {
-        key: &'a str,
-    },
-    /// `row S V TERM`
-    Row {
-        view: &'a str,
-        term: &'a str,
-    },
-    /// `node S PATH`, and `root S`, whose path is `-`
-    Node {
-        path: &'a str,
-    },
 }
 
-/// What the site is asked page after page.
+/// What is asked, a list page after page.
 #[derive(Clone, Copy)]
-pub enum List<'a> {
+pub enum Ask<'a> {
+    /// `get S K`
+    Get { key: &'a str },
+    /// `row S V TERM`
+    Row { view: &'a str, term: &'a str },
+    /// `node S PATH`, and `root S`, whose path is `-`
+    Node { path: &'a str },
     /// `find S F TERM`
     Find { field: &'a str, term: &'a str },
     /// `range S F PAIR`
@@ -105,69 +100,65 @@ fn view_of(rest: &str) -> Option<View<'_>> {
 /// The command of a name, with what stands behind the site.
 fn command_of<'a>(name: &str, rest: &'a str) -> Option<Command<'a>> {
     match name {
+        "put" => Some(Command::Write(put_of(rest)?)),
+        "del" => Some(Command::Write(delete_of(rest)?)),
         "send" => Some(Command::Send { key: last(rest)? }),
         "recv" => Some(Command::Receive {
             message: number_of(rest)?,
         }),
-        "rows" | "find" | "range" => Some(Command::List(list_of(name, rest)?)),
+        "sync" => Some(Command::Sync {
+            peer: number_of(rest)?,
+        }),
         _ => Some(Command::Ask(ask_of(name, rest)?)),
     }
 }
 
 fn ask_of<'a>(name: &str, rest: &'a str) -> Option<Ask<'a>> {
     match name {
-        "put" => put_of(rest),
-        "del" => delete_of(rest),
         "get" => Some(Ask::Get { key: last(rest)? }),
         "node" => Some(Ask::Node { path: last(rest)? }),
-        "row" => row_of(rest),
-        _ => None,
+        "rows" => Some(Ask::Rows { view: last(rest)? }),
+        _ => two_of(name, rest),
     }
 }
 
-fn list_of<'a>(name: &str, rest: &'a str) -> Option<List<'a>> {
+/// A question of a word and the rest of the line.
+fn two_of<'a>(name: &str, rest: &'a str) -> Option<Ask<'a>> {
+    let (word, rest) = rest.split_once(' ')?;
     match name {
-        "rows" => Some(List::Rows { view: last(rest)? }),
-        "find" => find_of(rest),
-        "range" => range_of(rest),
+        "row" => Some(Ask::Row {
+            view: word,
+            term: rest,
+        }),
+        "find" => Some(Ask::Find {
+            field: word,
+            term: rest,
+        }),
+        "range" => Some(Ask::Range {
+            field: word,
+            terms: rest,
+        }),
         _ => None,
     }
 }
 
 /// A put, whose document is the rest of the line.
-fn put_of(rest: &str) -> Option<Ask<'_>> {
+fn put_of(rest: &str) -> Option<Write<'_>> {
     let (key, rest) = rest.split_once(' ')?;
     let (context, document) = rest.split_once(' ')?;
-    Some(Ask::Put {
+    Some(Write::Put {
         key,
         context,
         document,
     })
 }
 
-fn delete_of(rest: &str) -> Option<Ask<'_>> {
+fn delete_of(rest: &str) -> Option<Write<'_>> {
     let (key, context) = rest.split_once(' ')?;
-    Some(Ask::Delete {
+    Some(Write::Delete {
         key,
         context: last(context)?,
     })
-}
-
-/// A row, whose term is the rest of the line.
-fn row_of(rest: &str) -> Option<Ask<'_>> {
-    let (view, term) = rest.split_once(' ')?;
-    Some(Ask::Row { view, term })
-}
-
-fn find_of(rest: &str) -> Option<List<'_>> {
-    let (field, term) = rest.split_once(' ')?;
-    Some(List::Find { field, term })
-}
-
-/// A range, whose terms are the rest of the line.
-fn range_of(rest: &str) -> Option<List<'_>> {
-    let (field, terms) = rest.split_once(' ')?;
-    Some(List::Range { field, terms })
 }
 
 /// The last word of a line.

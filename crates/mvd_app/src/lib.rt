@@ -4,12 +4,12 @@
 mod command;
 mod fault;
 mod input;
-mod lists;
 mod order;
+mod pages;
 mod play;
 mod printing;
-mod requests;
 mod script;
+mod steps;
 
 pub use fault::Fault;
 pub use order::{Order, OrderFault, order_of};

@@ -1,15 +1,16 @@
 //! Scripts: a line is a command on one of several sites.
-ghost use Rattle.std.specs.Prelude.{◌<◌, ◌≤◌, IfErr};
+ghost use Rattle.std.specs.Prelude.{◌≡◌, ◌<◌, ◌≤◌, IfErr};
 ghost use Rattle.std.specs.Option.{ForSome};
 ghost use Rattle.mvd_app.specs.Ends.{EndsEarly};
 
 use crate::command::{Command, Line, View, line_of};
 use crate::fault::Fault;
 use crate::input::read_input;
-use crate::play::Play;
+use crate::play::run;
 use mvd_docs::{Field, ViewName};
 use mvd_dots::Refusal;
 use mvd_rows::Defs;
+use mvd_world::World;
 use std::alloc::Global;
 use std::io::{Read, Write};
 
@@ -30,6 +31,7 @@ const KEYS_MAX: u32 = 1_000_000;
 struct Head {
     sites: u32,
     max_keys: Option<u32>,
+    ghost some: { 0 < sites },
     ghost few: { sites ≤ 16 },
     ghost in_range: { ForSome max_keys (λ n. (0 < n) × (n ≤ 1000000)) },
 }
@@ -40,7 +42,7 @@ struct Script {
     alloc: Global,
     head: Option<Head>,
     defs: Defs,
-    play: Option<Play>,
+    world: Option<World>,
 }
 
 impl Script {
@@ -49,7 +51,7 @@ impl Script {
             alloc,
             head: None,
             defs: Defs::new(alloc),
-            play: None,
+            world: None,
         }
     }
 
@@ -96,7 +98,7 @@ impl Script {
         let Some(head) = self.head else {
             return false;
         };
-        let is_late = head.max_keys.is_some() || self.play.is_some();
+        let is_late = head.max_keys.is_some() || self.world.is_some();
         if is_late || count == 0 || count > u64::from(KEYS_MAX) {
             return false;
         }
@@ -109,7 +111,7 @@ impl Script {
 
     /// Whether indexes and views may be set: between the number of sites and the first command.
     fn is_in_head(&self) -> bool {
-        self.head.is_some() && self.play.is_none()
+        self.head.is_some() && self.world.is_none()
     }
 
     /// Whether this may be one more index.
@@ -136,20 +138,27 @@ impl Script {
     fn command(&mut self, site: u64, command: Command<'_>, out: &mut String) -> Result<bool, Fault>
         ensures { IfErr result EndsEarly }
     {
-        if self.play.is_none() {
+        if self.world.is_none() {
             let Some(head) = self.head else {
                 return Ok(false);
             };
-            let max_keys = head.max_keys.unwrap_or(KEYS_MAX);
-            self.play = Some(Play::new(self.alloc, head.sites, max_keys, &self.defs)?);
+            self.world = Some(self.begun(head)?);
         }
-        match &mut self.play {
-            Some(play) => {
-                play.run(site, command, out)?;
+        match &mut self.world {
+            Some(world) => {
+                run(self.alloc, world, site, command, out)?;
                 Ok(true)
             }
             None => Ok(false),
         }
+    }
+
+    /// The sites of the head lines, with no key.
+    fn begun(&self, head: Head) -> Result<World, Refusal>
+        ensures { IfErr result (λ refusal. refusal ≡ Refusal.Memory) }
+    {
+        let max_keys = head.max_keys.unwrap_or(KEYS_MAX);
+        World::new(self.alloc, head.sites, max_keys, self.defs.copy()?)
     }
 }
 

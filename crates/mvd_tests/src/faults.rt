@@ -39,6 +39,10 @@ const BAD_LINES: &[(&str, &str, u64)] = &[
     ("sites 1\nnode 1\n", "", 2),
     ("sites 1\nfind 1 f\n", "", 2),
     ("sites 1\nrow 1 v\n", "", 2),
+    ("sync 1 2\n", "", 1),
+    ("sites 2\nsync 1\n", "", 2),
+    ("sites 2\nsync 1 2 \n", "", 2),
+    ("sites 2\nsync 1 x\n", "", 2),
 ];
 
 /// Fails where the bytes do not end as a script at the line of this number, or print something else before.

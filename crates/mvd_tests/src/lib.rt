@@ -8,4 +8,8 @@ mod listing;
 #[cfg(test)]
 mod long;
 #[cfg(test)]
+mod random;
+#[cfg(test)]
 mod scripts;
+#[cfg(test)]
+mod sessions;

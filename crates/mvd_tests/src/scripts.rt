@@ -4,7 +4,7 @@ use std::alloc::Global;
 use std::test::Fail;
 
 /// What a script prints.
-fn printed(alloc: Global, script: &str) -> Result<String, Fault> {
+pub fn printed(alloc: Global, script: &str) -> Result<String, Fault> {
     let mut reader = script.as_bytes();
     let mut bytes = Vec::new(alloc);
     sim(alloc, &mut reader, &mut bytes)?;

@@ -26,7 +26,7 @@ use std::alloc::Global;
 use std::marker::Model;
 
 /// The states of the keys that one site holds, with what is kept of them, and the answers to requests from them. What
-/// answers has this and a count that is handed in, and nothing to make another count for.
+/// answers has this and a count that is handed in, and no way to make another.
 #[derive(Drop)]
 pub struct Kept {
     pub(crate) alloc: Global,

@@ -2,6 +2,8 @@
 #![tactic(auto)]
 
 #[cfg(test)]
+mod bucket;
+#[cfg(test)]
 mod faults;
 #[cfg(test)]
 mod listing;

@@ -56,3 +56,7 @@ Blames can_refuse refusal = can_refuse refusal ⊎ ((refusal ≡ TooManyRequests
 abbrev pub IsFaultOf : (Refusal → Type 0) → (Refusal → Type 0) → SyncFault → Type 0
 IsFaultOf local peer (Local refusal) = Blames local refusal ⊎ (refusal ≡ Memory)
 IsFaultOf local peer (Peer refusal) = Blames peer refusal
+
+-- a side that answers nothing, and by no call comes to answer
+abbrev pub IsSilent : {S : Type 0} → (S → S → Type 0) → (S → Type 0) → S → Type 0
+IsSilent {S} follows can_answer side = (after : S) → follows side after → can_answer after → ⊥

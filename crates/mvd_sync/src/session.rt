@@ -2,7 +2,7 @@
 ghost use Rattle.std.specs.Prelude.{◌≡◌, ◌≢◌, ◌≤◌, IfOk, IfErr, OnOk, MatchResult};
 ghost use Rattle.mvd_tree.specs.Hashed.{HashesTellApart};
 ghost use Rattle.mvd_site.specs.Answer.{spelled};
-ghost use Rattle.mvd_sync.specs.Sides.{IsFaultOf};
+ghost use Rattle.mvd_sync.specs.Sides.{IsFaultOf, IsSilent};
 ghost use Rattle.mvd_sync.specs.Session.{ComesByPushes, HaveClash, IsClash, SessionCompletes, SessionEnds};
 
 use crate::peer::Peer;
@@ -51,6 +51,10 @@ pub fn sync_within<L: Peer, P: Peer>(
     ensures blames { IfErr result (IsFaultOf (L.can_refuse local.new) (P.can_refuse peer.new)) }
     ensures answers { OnOk result (L.can_answer local.new × P.can_answer peer.new) }
 
+    // Beside a side that answers nothing the other keeps its states.
+    ensures silent_local { IsSilent L.follows L.can_answer local.old → P.is_true peer.old → P.is_true peer.new × (P.states peer.new ≡ P.states peer.old) }
+    ensures silent_peer { IsSilent P.follows P.can_answer peer.old → L.is_true local.old → L.is_true local.new × (L.states local.new ≡ L.states local.old) }
+
     // It stays true, unless it says that it is broken.
     ensures local_unbroken { L.is_true local.old → MatchResult result (λ _. L.is_true local.new) (λ fault. fault ≢ SyncFault.Local Refusal.Broken → L.is_true local.new) }
     ensures peer_unbroken { P.is_true peer.old → MatchResult result (λ _. P.is_true peer.new) (λ fault. fault ≢ SyncFault.Peer Refusal.Broken → P.is_true peer.new) }
@@ -87,6 +91,8 @@ pub fn sync<L: Peer, P: Peer>(
     ensures follows { L.follows local.old local.new × P.follows peer.old peer.new }
     ensures blames { IfErr result (IsFaultOf (L.can_refuse local.new) (P.can_refuse peer.new)) }
     ensures answers { OnOk result (L.can_answer local.new × P.can_answer peer.new) }
+    ensures silent_local { IsSilent L.follows L.can_answer local.old → P.is_true peer.old → P.is_true peer.new × (P.states peer.new ≡ P.states peer.old) }
+    ensures silent_peer { IsSilent P.follows P.can_answer peer.old → L.is_true local.old → L.is_true local.new × (L.states local.new ≡ L.states local.old) }
     ensures local_unbroken { L.is_true local.old → MatchResult result (λ _. L.is_true local.new) (λ fault. fault ≢ SyncFault.Local Refusal.Broken → L.is_true local.new) }
     ensures peer_unbroken { P.is_true peer.old → MatchResult result (λ _. P.is_true peer.new) (λ fault. fault ≢ SyncFault.Peer Refusal.Broken → P.is_true peer.new) }
     ensures session { L.is_true local.old → P.is_true peer.old → SessionEnds (λ report. report.keys) (L.is_true local.new) (P.is_true peer.new) (L.states local.old) (P.states peer.old) (L.states local.new) (P.states peer.new) result }

@@ -7,7 +7,7 @@ ghost use Rattle.mvd_tree.specs.Page.{children_digests};
 ghost use Rattle.mvd_site.specs.Held.{state_at};
 ghost use Rattle.mvd_site.specs.Answer.{digests};
 ghost use Rattle.mvd_sync.specs.Session.{pushed};
-ghost use Rattle.mvd_sync.specs.Sides.{Blames, IsFaultOf};
+ghost use Rattle.mvd_sync.specs.Sides.{Blames, IsFaultOf, IsSilent};
 ghost use Rattle.mvd_sync.specs.Walk.{CarryEnds, DigestsTell, IsBelow, PushesAlone, WalkEnds};
 
 use crate::listing::{self, Listing};
@@ -233,6 +233,8 @@ fn walk_bucket<L: Peer, P: Peer>(
     ensures follows { L.follows local.old local.new × P.follows peer.old peer.new }
     ensures blames { IfErr result (IsFaultOf (L.can_refuse local.new) (P.can_refuse peer.new)) }
     ensures answers { OnOk result (L.can_answer local.new × P.can_answer peer.new) }
+    ensures silent_local { IsSilent L.follows L.can_answer local.old → P.is_true peer.old → P.is_true peer.new × (P.states peer.new ≡ P.states peer.old) }
+    ensures silent_peer { IsSilent P.follows P.can_answer peer.old → L.is_true local.old → L.is_true local.new × (L.states local.new ≡ L.states local.old) }
 {
     let mut mine = match Listing::fetch(local, &mut left.local, path, None) {
         Ok(page) => page,
@@ -304,6 +306,8 @@ pub fn walk<L: Peer, P: Peer>(
     ensures follows { L.follows local.old local.new × P.follows peer.old peer.new }
     ensures blames { IfErr result (IsFaultOf (L.can_refuse local.new) (P.can_refuse peer.new)) }
     ensures answers { OnOk result (L.can_answer local.new × P.can_answer peer.new) }
+    ensures silent_local { IsSilent L.follows L.can_answer local.old → P.is_true peer.old → P.is_true peer.new × (P.states peer.new ≡ P.states peer.old) }
+    ensures silent_peer { IsSilent P.follows P.can_answer peer.old → L.is_true local.old → L.is_true local.new × (L.states local.new ≡ L.states local.old) }
 {
     if depth(path) == 3 {
         return walk_bucket(local, peer, left, path);

@@ -175,3 +175,22 @@ returns-in-Err-walk-clause-peer_pushes g t c v =
 
 pub returns-clause-peer_pushes : goal.returns-clause-peer_pushes
 returns-clause-peer_pushes g t c v = c.children.invariant.peer_pushes v
+
+-- beside a side that answers nothing
+pub returns-in-Err-child-clause-silent_local : goal.returns-in-Err-child-clause-silent_local
+returns-in-Err-child-clause-silent_local g t c silent u = absurd (silent _ c.ask_node.ensures.follows c.in-Ok.ensures.answers)
+
+pub returns-in-Err-child-clause-silent_peer : goal.returns-in-Err-child-clause-silent_peer
+returns-in-Err-child-clause-silent_peer g t c silent u = absurd (silent _ c.ask_node-2.ensures.follows c.in-Ok-ask_node.ensures.answers)
+
+pub returns-in-Err-walk-clause-silent_local : goal.returns-in-Err-walk-clause-silent_local
+returns-in-Err-walk-clause-silent_local g t c silent u = absurd (silent _ c.ask_node.ensures.follows c.in-Ok.ensures.answers)
+
+pub returns-in-Err-walk-clause-silent_peer : goal.returns-in-Err-walk-clause-silent_peer
+returns-in-Err-walk-clause-silent_peer g t c silent u = absurd (silent _ c.ask_node-2.ensures.follows c.in-Ok-ask_node.ensures.answers)
+
+pub returns-clause-silent_local : goal.returns-clause-silent_local
+returns-clause-silent_local g t c silent u = absurd (silent _ c.ask_node.ensures.follows c.in-Ok.ensures.answers)
+
+pub returns-clause-silent_peer : goal.returns-clause-silent_peer
+returns-clause-silent_peer g t c silent u = absurd (silent _ c.ask_node-2.ensures.follows c.in-Ok-ask_node.ensures.answers)

@@ -215,3 +215,28 @@ returns-in-Err-fill-2-clause-peer_pushes g c v =
 
 pub returns-clause-peer_pushes : goal.returns-clause-peer_pushes
 returns-clause-peer_pushes g c v = c.entries.invariant.peer_pushes v
+
+-- beside a side that answers nothing
+pub returns-in-Err-settle-clause-silent_local : goal.returns-in-Err-settle-clause-silent_local
+returns-in-Err-settle-clause-silent_local g c silent u = absurd (silent _ c.fetch.ensures.follows c.in-Ok.ensures.answers)
+
+pub returns-in-Err-settle-clause-silent_peer : goal.returns-in-Err-settle-clause-silent_peer
+returns-in-Err-settle-clause-silent_peer g c silent u = absurd (silent _ c.fetch-2.ensures.follows c.in-Ok-fetch.ensures.answers)
+
+pub returns-in-Err-fill-clause-silent_local : goal.returns-in-Err-fill-clause-silent_local
+returns-in-Err-fill-clause-silent_local g c silent u = absurd (silent _ c.fetch.ensures.follows c.in-Ok.ensures.answers)
+
+pub returns-in-Err-fill-clause-silent_peer : goal.returns-in-Err-fill-clause-silent_peer
+returns-in-Err-fill-clause-silent_peer g c silent u = absurd (silent _ c.fetch-2.ensures.follows c.in-Ok-fetch.ensures.answers)
+
+pub returns-in-Err-fill-2-clause-silent_local : goal.returns-in-Err-fill-2-clause-silent_local
+returns-in-Err-fill-2-clause-silent_local g c silent u = absurd (silent _ c.fetch.ensures.follows c.in-Ok.ensures.answers)
+
+pub returns-in-Err-fill-2-clause-silent_peer : goal.returns-in-Err-fill-2-clause-silent_peer
+returns-in-Err-fill-2-clause-silent_peer g c silent u = absurd (silent _ c.fetch-2.ensures.follows c.in-Ok-fetch.ensures.answers)
+
+pub returns-clause-silent_local : goal.returns-clause-silent_local
+returns-clause-silent_local g c silent u = absurd (silent _ c.fetch.ensures.follows c.in-Ok.ensures.answers)
+
+pub returns-clause-silent_peer : goal.returns-clause-silent_peer
+returns-clause-silent_peer g c silent u = absurd (silent _ c.fetch-2.ensures.follows c.in-Ok-fetch.ensures.answers)

@@ -1,17 +1,15 @@
 -- A world after many steps.
-use Rattle.std.proofs.Common.{◌≡◌, ℕ, ◌+◌, Bool, true, false, List, [], ◌∷◌, ◌++◌, Some, refl, sym, ap, ◌∙◌, subst}
+use Rattle.std.proofs.Common.{◌≡◌, ◌+◌, List, [], ◌∷◌, ◌++◌, refl, sym, ap, ◌∙◌, subst}
 use Rattle.std.specs.List.{AllByRecursion}
-use Rattle.mvd_keys.specs.Writes.{SameWrites, Stands, Write}
 use Rattle.mvd_keys.proofs.Standing.{Stands-SameWrites, Stands-one}
 use Rattle.mvd_site.specs.Config.{ConfigValue}
 use Rattle.mvd_site.specs.FromStates.{answer_from}
-use Rattle.mvd_site.specs.Sites.{SiteValue}
 use Rattle.mvd_site.proofs.Alike.{from_states}
 use Rattle.mvd_world.specs.declared.steps.Step.{Step}
 use Rattle.mvd_world.specs.declared.steps.Outcome.{Outcome}
 use Rattle.mvd_world.specs.declared.worlds.World.{World}
-use Rattle.mvd_world.specs.Machine.{IsNoClash, IsSound, Knowledge, MayStep, OnePutPerDot, Runs, Setting, nothing_yet}
-use Rattle.mvd_world.specs.Worlds.{AlikeWhereSame, AreAlike, IsWorld, Leads_to, StandForKnown, Steps}
+use Rattle.mvd_world.specs.Machine.{IsNoClash, Knowledge, MayStep, OnePutPerDot, Runs, Setting, nothing_yet}
+use Rattle.mvd_world.specs.Worlds.{AlikeWhereSame, IsWorld, Leads_to, StandForKnown, Steps}
 use Rattle.mvd_world.proofs.Apart.{agree_within, step_apart}
 
 runs_push : (setting : Setting) (before middle after : Knowledge) (steps : List Step) (step : Step) (outcomes : List Outcome) (outcome : Outcome) → Runs setting before steps outcomes middle → MayStep setting middle step outcome after →
@@ -60,8 +58,8 @@ alike_at setting world end is i j a b at at' whole whole' same =
     let theirs = is.sites j b at' in
     let V = end.known (i + 1) in
     let states : a.states ≡ b.states = Stands-one a.states b.states (end.known (j + 1))
-        (Stands-SameWrites a.states V (end.known (j + 1)) (mine.stands whole) same (agree_within end V is.sound (is.sound.known (i + 1))))
-        (theirs.stands whole') in
+    (Stands-SameWrites a.states V (end.known (j + 1)) (mine.stands whole) same (agree_within end V is.sound (is.sound.known (i + 1))))
+    (theirs.stands whole') in
     record {
       states = states;
       answers = λ request asks. ap (λ m. answer_from a.config m request) states

@@ -1,5 +1,5 @@
 -- What a world stands for after one of its sites changed.
-use Rattle.std.proofs.Common.{◌≡◌, ◌≢◌, ◌⊎◌, inl, inr, ℕ, zero, suc, ◌+◌, Bool, true, false, ◌==◌, if◌then◌else◌, List, [], ◌∷◌, ◌++◌, length, Option, Some, None, Result, refl, sym, ap, ap₂, ◌∙◌, subst, ⊎_elim, arith, eq-eqb}
+use Rattle.std.proofs.Common.{◌≡◌, ◌≢◌, ◌⊎◌, inl, inr, ℕ, zero, suc, ◌+◌, Bool, if◌then◌else◌, List, [], ◌∷◌, ◌++◌, length, Some, Result, refl, sym, ap, ap₂, ◌∙◌, subst, ⊎_elim, arith, eq-eqb}
 use Rattle.std.specs.Prelude.{slice_set}
 use Rattle.std.specs.List.{slice_get}
 use Rattle.std.proofs.lemmas.Bool.Decides.{eqb_tells}
@@ -8,7 +8,7 @@ use Rattle.mvd_site.specs.Sites.{SiteStands, SiteValue}
 use Rattle.std.proofs.lemmas.List.{length-set}
 use Rattle.mvd_sync.specs.declared.session.Report.{Report}
 use Rattle.mvd_sync.specs.declared.session.SyncFault.{SyncFault}
-use Rattle.mvd_world.specs.Machine.{IsSound, Knowledge, Sending, Setting, becomes, config_of, learns}
+use Rattle.mvd_world.specs.Machine.{Knowledge, Sending, Setting, becomes, config_of, learns}
 use Rattle.mvd_world.specs.Worlds.{AreSites, Exchange, IsSiteOf, TwoMeet}
 
 -- an element of a list in which one was replaced
@@ -56,13 +56,13 @@ sites_changed setting sites before index number s s' added messages made are at 
     ⊎_elim
     (λ same. subst (IsSiteOf setting after (i + 1)) same.1 (subst (λ n. IsSiteOf setting after n s') (sym at ∙ ap (λ n. n + 1) (sym same.0)) changed))
     (λ other.
-        let was = are i x other.1 in
-        let apart : i + 1 ≢ number = λ e. other.0 (omega (arith, e, at)) in
-        record {
-          config = was.config;
-          broken = was.broken ∙ sym (becomes_other before.broken number s'.broken (i + 1) apart);
-          stands = λ whole. subst (Stands x.states) (sym (learns_other before.known number added (i + 1) apart)) (was.stands whole);
-        })
+    let was = are i x other.1 in
+    let apart : i + 1 ≢ number = λ e. other.0 (omega (arith, e, at)) in
+    record {
+      config = was.config;
+      broken = was.broken ∙ sym (becomes_other before.broken number s'.broken (i + 1) apart);
+      stands = λ whole. subst (Stands x.states) (sym (learns_other before.known number added (i + 1) apart)) (was.stands whole);
+    })
     (set_cases sites index s' i x found)
 
 -- ---- a list in two parts

@@ -15,7 +15,7 @@ use Rattle.mvd_world.specs.declared.steps.Step.{Step}
 use Rattle.mvd_world.specs.declared.steps.Outcome.{Outcome}
 use Rattle.mvd_world.specs.declared.worlds.Message.{Message}
 use Rattle.mvd_world.specs.declared.worlds.World.{World}
-use Rattle.mvd_world.specs.Machine.{BreaksBy, EndsWith, IsSound, Knowledge, MayStep, OnePutPerDot, Runs, Sending, Setting, StatesClash, config_of, nothing_yet, writes_in}
+use Rattle.mvd_world.specs.Machine.{BreaksBy, EndsWith, IsSound, Knowledge, MayStep, Runs, Sending, Setting, StatesClash, config_of, nothing_yet, writes_in}
 
 -- the site of this number, with what it was set up with, and the writes that its states stand for unless it is broken
 pub record IsSiteOf (setting : Setting) (knowledge : Knowledge) (number : ℕ) (site : SiteValue) : Type 0 where

@@ -1,4 +1,4 @@
-use Rattle.std.proofs.Common.{◌≡◌, List, [], ◌∷◌, ◌++◌, take, sym, ap, ◌∙◌, subst, subst₂}
+use Rattle.std.proofs.Common.{[], ◌∷◌, ◌++◌, take, sym, ap, ◌∙◌, subst, subst₂}
 use Rattle.std.proofs.lemmas.List.{take_all, take_more}
 use Rattle.mvd_world.specs.Machine.{Setting}
 use Rattle.mvd_world.proofs.Chained.{SoFar, alike, at_first, one_more, one_put, stand}

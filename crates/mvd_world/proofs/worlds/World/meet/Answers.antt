@@ -1,4 +1,4 @@
-use Rattle.std.proofs.Common.{◌≡◌, ◌-◌, length, take, drop, ◌++◌, refl, sym, ap, ◌∙◌, subst₂, arith}
+use Rattle.std.proofs.Common.{◌≡◌, ◌-◌, refl, sym, subst₂, arith}
 use Rattle.std.specs.Vec.{with_items}
 use Rattle.mvd_world.specs.declared.worlds.World.{World}
 use Rattle.mvd_world.specs.Worlds.{TwoMeet}

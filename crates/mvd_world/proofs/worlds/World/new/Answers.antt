@@ -1,6 +1,5 @@
-use Rattle.std.proofs.Common.{◌≡◌, ◌+◌, List, [], ◌∷◌, false, length, map, refl, sym, ap, ◌∙◌, subst, arith, length-append}
+use Rattle.std.proofs.Common.{◌≡◌, ◌+◌, [], ◌∷◌, false, length, sym, ap, ◌∙◌, subst, arith, length-append}
 use Rattle.std.specs.FinMap.{empty}
-use Rattle.mvd_site.specs.Sites.{SiteValue}
 use Rattle.mvd_world.specs.Machine.{Setting, config_of, nothing_yet}
 use Rattle.mvd_world.specs.Worlds.{AreSites}
 use Rattle.mvd_world.proofs.Leading.{no_sites, one_more_site}

@@ -1,8 +1,6 @@
-use Rattle.std.proofs.Common.{◌≡◌, ◌-◌, ◌+◌, length, true, false, refl, sym, ap, ◌∙◌, arith, Some, Err}
-use Rattle.std.specs.List.{slice_get}
+use Rattle.std.proofs.Common.{◌-◌, length, refl, ap, arith}
 use Rattle.std.specs.Vec.{with_item}
 use Rattle.std.proofs.lemmas.Option.{slice_get_read}
-use Rattle.mvd_dots.specs.declared.refusals.Refusal.TheVariants.{Broken}
 use Rattle.mvd_wire.specs.declared.reply.Reply.TheVariants.{Done, Refused}
 use Rattle.mvd_site.specs.Sites.{SiteValue}
 use Rattle.mvd_world.specs.declared.worlds.World.{World}

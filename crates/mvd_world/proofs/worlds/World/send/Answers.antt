@@ -1,9 +1,7 @@
-use Rattle.std.proofs.Common.{◌≡◌, ◌-◌, ◌+◌, length, refl, sym, ◌∙◌, arith, inl, Some}
-use Rattle.std.specs.List.{slice_get}
+use Rattle.std.proofs.Common.{◌≡◌, ◌-◌, length, refl, ◌∙◌, arith, inl}
 use Rattle.std.proofs.lemmas.Option.{slice_get_read}
 use Rattle.mvd_site.specs.Held.{state_at}
 use Rattle.mvd_world.specs.declared.worlds.Message.{Message}
-use Rattle.mvd_world.specs.declared.worlds.World.{World}
 use Rattle.mvd_world.proofs.Leading.{sends_lead, sends_not_lead, why_refused}
 use Rattle.mvd_world.proofs.worlds.World.send.Goals as goal
 

@@ -1,7 +1,6 @@
-use Rattle.std.proofs.Common.{◌≡◌, length, true, refl, sym, ap, ◌∙◌, subst}
+use Rattle.std.proofs.Common.{sym, ◌∙◌}
 use Rattle.mvd_world.specs.declared.steps.Step.TheVariants.{Write, Ask, Send, Receive, Session}
 use Rattle.mvd_world.specs.declared.steps.Outcome.TheVariants.{Replied, Met, Failed}
-use Rattle.mvd_world.specs.Worlds.{Steps}
 use Rattle.mvd_world.proofs.Taking.{step_as}
 use Rattle.mvd_world.proofs.worlds.World.step.Goals as goal
 

@@ -5,7 +5,7 @@ use crate::command::Command;
 use crate::pages::next_page;
 use crate::printing::{print_none_such, print_outcome, print_refusal};
 use crate::steps::{step_of, taken};
-use crate::world::{Step, World};
+use crate::world::{Outcome, Step, World};
 use mvd_dots::Refusal;
 use std::alloc::Global;
 
@@ -47,12 +47,12 @@ fn say(
     command: Command<'_>,
     out: &mut String,
 ) -> Result<(), Refusal> {
-    let mut step = Some(step_of(alloc, world, site, command)?);
+    let mut step = step_of(alloc, world, site, command)?;
     for _ in 0..u64::MAX {
-        let Some(now) = &step else {
-            break;
-        };
-        step = take(alloc, world, now, out)?;
+        match take(alloc, world, step, out)? {
+            Some(next) => step = next,
+            None => return Ok(()),
+        }
     }
     Ok(())
 }
@@ -61,12 +61,20 @@ fn say(
 fn take(
     alloc: Global,
     world: &mut World,
-    step: &Step,
+    step: Step,
     out: &mut String,
 ) -> Result<Option<Step>, Refusal> {
-    let outcome = taken(world, step);
-    print_outcome(alloc, step, &outcome, out)?;
-    next_page(alloc, step, &outcome)
+    tell(alloc, &step, &taken(world, &step), out)
+}
+
+fn tell(
+    alloc: Global,
+    step: &Step,
+    outcome: &Outcome,
+    out: &mut String,
+) -> Result<Option<Step>, Refusal> {
+    print_outcome(alloc, step, outcome, out)?;
+    next_page(alloc, step, outcome)
 }
 
 /// Takes back what was printed from a place on, where that is no middle of a character.

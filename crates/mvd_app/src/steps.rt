@@ -83,7 +83,11 @@ fn context_of(
         return Context::read(alloc, text);
     }
     let request = Request::Get(key.copy(alloc)?);
-    shown(&taken(world, &Step::Ask { site, request }))
+    shown(asked(world, site, request))
+}
+
+fn asked(world: &mut World, site: u32, request: Request) -> Outcome {
+    taken(world, &Step::Ask { site, request })
 }
 
 /// What a step comes to. What that means is the world's promise, and nothing here rests on it.
@@ -92,8 +96,8 @@ pub fn taken(world: &mut World, step: &Step) -> Outcome {
 }
 
 /// The context of the state that is told.
-fn shown(outcome: &Outcome) -> Result<Context, Refusal> {
-    match outcome {
+fn shown(outcome: Outcome) -> Result<Context, Refusal> {
+    match &outcome {
         Outcome::Replied(Reply::State(state)) => state.context().copy(),
         Outcome::Replied(Reply::Refused(refusal)) => Err(*refusal),
         _ => Err(Refusal::BadKind),

@@ -6,8 +6,8 @@ use std::alloc::{AllocError, Global};
 use std::test::Fail;
 
 /// How many scripts are drawn, and how many steps each takes before all is sent.
-const SCRIPTS: u64 = 40;
-const STEPS: u64 = 200;
+const SCRIPTS: u64 = 12;
+const STEPS: u64 = 120;
 
 /// How many sites and keys a script has.
 const SITES: u64 = 3;

@@ -54,6 +54,7 @@ fn say(
             None => return Ok(()),
         }
     }
+    drop(step);
     Ok(())
 }
 
@@ -64,7 +65,11 @@ fn take(
     step: Step,
     out: &mut String,
 ) -> Result<Option<Step>, Refusal> {
-    tell(alloc, &step, &taken(world, &step), out)
+    let outcome = taken(world, &step);
+    let told = tell(alloc, &step, &outcome, out);
+    drop(outcome);
+    drop(step);
+    told
 }
 
 fn tell(

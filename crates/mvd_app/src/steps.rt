@@ -87,7 +87,10 @@ fn context_of(
 }
 
 fn asked(world: &mut World, site: u32, request: Request) -> Outcome {
-    taken(world, &Step::Ask { site, request })
+    let step = Step::Ask { site, request };
+    let outcome = taken(world, &step);
+    drop(step);
+    outcome
 }
 
 /// What a step comes to. What that means is the world's promise, and nothing here rests on it.
@@ -97,7 +100,13 @@ pub fn taken(world: &mut World, step: &Step) -> Outcome {
 
 /// The context of the state that is told.
 fn shown(outcome: Outcome) -> Result<Context, Refusal> {
-    match &outcome {
+    let context = context_in(&outcome);
+    drop(outcome);
+    context
+}
+
+fn context_in(outcome: &Outcome) -> Result<Context, Refusal> {
+    match outcome {
         Outcome::Replied(Reply::State(state)) => state.context().copy(),
         Outcome::Replied(Reply::Refused(refusal)) => Err(*refusal),
         _ => Err(Refusal::BadKind),

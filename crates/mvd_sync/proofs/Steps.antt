@@ -62,18 +62,17 @@ or-false false = refl
 pub only : (k q : List ℕ) → IsTrue (is_member (k ∷ []) q) → q ≡ k
 only k q h = keys_same q k ((Equal-is _).0 (sym (or-false _) ∙ h))
 
-pub nothing_done : (part : List ℕ → Type 0) (T U : Type 0) (a b a' b' : States) (fault : SyncFault) → (T → a' ≡ a) → (U → b' ≡ b) → U → (IsClash fault → ClashesIn part a b) → Stopped part T U a b a' b' fault
-nothing_done part T U a b a' b' fault p q u clash = record { keys = []; last = None; within = tt; distinct = tt; local = p; peer = q; peer_unbroken = λ _. u; clash = clash }
+pub nothing_done : (part : List ℕ → Type 0) (T U : Type 0) (a b a' b' : States) (fault : SyncFault) → (T → a' ≡ a) → (U → b' ≡ b) → (IsClash fault → ClashesIn part a b) → Stopped part T U a b a' b' fault
+nothing_done part T U a b a' b' fault p q clash = record { keys = []; last = None; within = tt; distinct = tt; local = p; peer = q; clash = clash }
 
-pub only_pulled : (can_give : List ℕ → State → Type 0) (part : List ℕ → Type 0) (T U V : Type 0) (a b a' b' : States) (fault : SyncFault) (key : List ℕ) → part key → V → Carries can_give V b a key a' → (U → b' ≡ b) → (fault ≢ Peer Broken → U) → (IsClash fault → ⊥) → Stopped part T U a b a' b' fault
-only_pulled can_give part T U V a b a' b' fault key p v c q unbroken never = record {
+pub only_pulled : (can_give : List ℕ → State → Type 0) (part : List ℕ → Type 0) (T U V : Type 0) (a b a' b' : States) (fault : SyncFault) (key : List ℕ) → part key → V → Carries can_give V b a key a' → (U → b' ≡ b) → (IsClash fault → ⊥) → Stopped part T U a b a' b' fault
+only_pulled can_give part T U V a b a' b' fault key p v c q never = record {
   keys = [];
   last = Some key;
   within = (p, tt);
   distinct = (refl, tt);
   local = λ _. c.is ∙ ap (pushed a key) (c.answer v);
   peer = q;
-  peer_unbroken = unbroken;
   clash = λ is. absurd (never is);
 }
 

@@ -1,9 +1,10 @@
 //! A site at the other end of a connection.
-ghost use Rattle.std.specs.Prelude.{◌≡◌, ◌⊎◌, MatchResult, None, Some, Ok, Err};
+ghost use Rattle.std.specs.Prelude.{◌≡◌, ◌⊎◌, MatchResult, None, Some, Ok, Err, refl};
 ghost use Rattle.mvd_dots.specs.declared.refusals.Refusal.{Refusal};
 ghost use Rattle.mvd_wire.specs.declared.request.Request.TheVariants.{Get, Node, Bucket, Push, Bye};
 ghost use Rattle.mvd_wire.specs.declared.reply.Reply.TheVariants.{State as Shown, Done, Digests as Told, Keys, Refused};
 ghost use Rattle.mvd_sync.specs.Links.{Asks, Refuses, SendsFrame, Sends, answered_by};
+ghost use Rattle.mvd_sync.specs.Sides.{Stays, stays_on};
 ghost use Rattle.mvd_wire.specs.Kind.{Gives};
 ghost use Rattle.mvd_wire.specs.Requests.{request_frame};
 ghost use Rattle.std.specs.FinMap.{empty};
@@ -257,7 +258,19 @@ impl<R: Read + Drop, W: Write + Drop> Peer for Remote<R, W> {
 
     ghost can_give = { λ _ _. Unit {0} };
 
+    // A link that refuses stays as it is.
+    ghost follows = { Stays (λ remote. (refusal : Refusal) × (remote.refused ≡ Some refusal)) };
+
+    // Where the link itself refuses, it refuses so.
+    ghost can_refuse = { λ remote refusal. (own : Refusal) → remote.refused ≡ Some own → refusal ≡ own };
+
+    ghost can_answer = { λ remote. remote.refused ≡ None };
+
     ghost in_form = { λ _ never. absurd never };
+
+    ghost follows_self = { λ _ _. refl };
+
+    ghost follows_on = { stays_on _ };
 
     fn node(&mut self, path: &Path) -> Result<Digests, Refusal>
         ensures asked { MatchResult result (λ digests. SendsFrame (record { input = R.remaining self.old.reader; output = W.contents self.old.writer; refused = self.old.refused }) (record { input = R.remaining self.new.reader; output = W.contents self.new.writer; refused = self.new.refused }) (Node path.now) (Ok (Told digests))) (λ refusal. Refuses (record { input = R.remaining self.old.reader; output = W.contents self.old.writer; refused = self.old.refused }) (record { input = R.remaining self.new.reader; output = W.contents self.new.writer; refused = self.new.refused }) (Node path.now) refusal) }

@@ -1,6 +1,6 @@
 -- In a sound world no two states clash.
-use Rattle.std.proofs.Common.{◌≡◌, ◌≢◌, ◌⊎◌, ℕ, Bool, true, false, not, ◌||◌, cond, MatchBool, List, [], ◌∷◌, ◌++◌, map, length, Contains, Some, None, Ok, Err, refl, sym, ap, ◌∙◌, subst, ⊎_elim, true≢false}
-use Rattle.std.specs.List.{list_any, slice_get}
+use Rattle.std.proofs.Common.{◌≡◌, ◌≢◌, ℕ, Bool, true, false, not, ◌||◌, cond, MatchBool, List, [], ◌∷◌, ◌++◌, map, length, Contains, Some, None, refl, sym, ap, ◌∙◌, subst, ⊎_elim, true≢false}
+use Rattle.std.specs.List.{list_any}
 use Rattle.std.specs.Ordering.{eq_by_cmp}
 use Rattle.std.specs.FinMap.{find, get-from_entries}
 use Rattle.std.specs.FinSet.{items, contains-items}
@@ -16,7 +16,7 @@ use Rattle.mvd_wire.specs.declared.request.Request.{Request}
 use Rattle.mvd_wire.specs.declared.request.Request.TheVariants.{Push}
 use Rattle.mvd_wire.specs.declared.reply.Reply.{Reply}
 use Rattle.mvd_wire.specs.declared.reply.Reply.TheVariants.{Refused}
-use Rattle.mvd_site.specs.Answer.{answer, states_of}
+use Rattle.mvd_site.specs.Answer.{states_of}
 use Rattle.mvd_site.specs.Config.{ConfigValue}
 use Rattle.mvd_site.specs.FromStates.{IsClash as PushesClash}
 use Rattle.mvd_site.specs.Held.{States, state_at}
@@ -30,7 +30,7 @@ use Rattle.mvd_world.specs.declared.steps.Step.{Step}
 use Rattle.mvd_world.specs.declared.steps.Step.TheVariants.{Write as Write_at, Ask, Send, Receive, Session}
 use Rattle.mvd_world.specs.declared.steps.Outcome.{Outcome}
 use Rattle.mvd_world.specs.declared.steps.Outcome.TheVariants.{Replied, Sent as Sent_as, Met, Failed, NoSuch}
-use Rattle.mvd_world.specs.Machine.{Answers, IsNoClash, IsOwn, IsSound, Knowledge, MayStep, Meets, Receives, Setting, StatesClash, Takes, config_of, may_be}
+use Rattle.mvd_world.specs.Machine.{Answers, IsNoClash, IsOwn, IsSound, Knowledge, MayStep, Receives, Setting, StatesClash, Takes, config_of, may_be}
 use Rattle.mvd_world.proofs.Sound.{asked_step, found, own_step}
 
 -- ---- the states that follow from writes stand for them
@@ -49,10 +49,12 @@ turned false s = refl
 
 pub states_of-stands : (W : List Write) → Stands (states_of W) W
 unfolding states_of
-states_of-stands W = record { at = λ q.
-    get-from_entries key_total (map (λ k. (k, state k W)) (items (keys W))) q ∙ find_states W (items (keys W)) q
-    ∙ ap (λ b. cond b (Some (state q W)) None) (sym (contains-items (keys W) q) ∙ contains-keys W q)
-    ∙ turned (is_empty (context q W)) (state q W) }
+states_of-stands W = record {
+  at = λ q.
+      get-from_entries key_total (map (λ k. (k, state k W)) (items (keys W))) q ∙ find_states W (items (keys W)) q
+      ∙ ap (λ b. cond b (Some (state q W)) None) (sym (contains-items (keys W) q) ∙ contains-keys W q)
+      ∙ turned (is_empty (context q W)) (state q W);
+}
 
 -- ---- what was made agrees
 

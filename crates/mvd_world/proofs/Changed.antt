@@ -1,12 +1,15 @@
 -- What a world stands for after one of its sites changed.
-use Rattle.std.proofs.Common.{◌≡◌, ◌≢◌, ◌⊎◌, inl, inr, ℕ, zero, suc, ◌+◌, Bool, true, false, ◌==◌, if◌then◌else◌, List, [], ◌∷◌, ◌++◌, length, Option, Some, None, refl, sym, ap, ◌∙◌, subst, ⊎_elim, arith, eq-eqb}
+use Rattle.std.proofs.Common.{◌≡◌, ◌≢◌, ◌⊎◌, inl, inr, ℕ, zero, suc, ◌+◌, Bool, if◌then◌else◌, List, [], ◌∷◌, ◌++◌, length, Some, Result, refl, sym, ap, ap₂, ◌∙◌, subst, ⊎_elim, arith, eq-eqb}
 use Rattle.std.specs.Prelude.{slice_set}
 use Rattle.std.specs.List.{slice_get}
 use Rattle.std.proofs.lemmas.Bool.Decides.{eqb_tells}
 use Rattle.mvd_keys.specs.Writes.{Stands, Write}
 use Rattle.mvd_site.specs.Sites.{SiteStands, SiteValue}
-use Rattle.mvd_world.specs.Machine.{IsSound, Knowledge, Sending, Setting, becomes, config_of, learns}
-use Rattle.mvd_world.specs.Worlds.{AreSites, IsSiteOf}
+use Rattle.std.proofs.lemmas.List.{length-set}
+use Rattle.mvd_sync.specs.declared.session.Report.{Report}
+use Rattle.mvd_sync.specs.declared.session.SyncFault.{SyncFault}
+use Rattle.mvd_world.specs.Machine.{Knowledge, Sending, Setting, becomes, config_of, learns}
+use Rattle.mvd_world.specs.Worlds.{AreSites, Exchange, IsSiteOf, TwoMeet}
 
 -- an element of a list in which one was replaced
 pub set_cases : {X : Type 0} (xs : List X) (i : ℕ) (y : X) (j : ℕ) (x : X) → slice_get (slice_set xs i y) j ≡ Some x → ((j ≡ i) × (y ≡ x)) ⊎ ((j ≢ i) × (slice_get xs j ≡ Some x))
@@ -53,11 +56,72 @@ sites_changed setting sites before index number s s' added messages made are at 
     ⊎_elim
     (λ same. subst (IsSiteOf setting after (i + 1)) same.1 (subst (λ n. IsSiteOf setting after n s') (sym at ∙ ap (λ n. n + 1) (sym same.0)) changed))
     (λ other.
-        let was = are i x other.1 in
-        let apart : i + 1 ≢ number = λ e. other.0 (omega (arith, e, at)) in
-        record {
-          config = was.config;
-          broken = was.broken ∙ sym (becomes_other before.broken number s'.broken (i + 1) apart);
-          stands = λ whole. subst (Stands x.states) (sym (learns_other before.known number added (i + 1) apart)) (was.stands whole);
-        })
+    let was = are i x other.1 in
+    let apart : i + 1 ≢ number = λ e. other.0 (omega (arith, e, at)) in
+    record {
+      config = was.config;
+      broken = was.broken ∙ sym (becomes_other before.broken number s'.broken (i + 1) apart);
+      stands = λ whole. subst (Stands x.states) (sym (learns_other before.known number added (i + 1) apart)) (was.stands whole);
+    })
     (set_cases sites index s' i x found)
+
+-- ---- a list in two parts
+
+pub get_left : {X : Type 0} (xs ys : List X) (i : ℕ) (x : X) → slice_get xs i ≡ Some x → slice_get (xs ++ ys) i ≡ Some x
+get_left [] ys i x h = cc
+get_left (y ∷ xs) ys zero x h = h
+get_left (y ∷ xs) ys (suc i) x h = get_left xs ys i x h
+
+pub get_right : {X : Type 0} (xs ys : List X) → slice_get (xs ++ ys) (length xs) ≡ slice_get ys 0
+get_right [] ys = refl
+get_right (x ∷ xs) ys = get_right xs ys
+
+pub set_left : {X : Type 0} (xs ys : List X) (i : ℕ) (x y : X) → slice_get xs i ≡ Some y → slice_set (xs ++ ys) i x ≡ slice_set xs i x ++ ys
+set_left [] ys i x y h = cc
+set_left (z ∷ xs) ys zero x y h = refl
+set_left (z ∷ xs) ys (suc i) x y h = ap (λ l. z ∷ l) (set_left xs ys i x y h)
+
+pub set_right : {X : Type 0} (xs ys : List X) (x : X) → slice_set (xs ++ ys) (length xs) x ≡ xs ++ slice_set ys 0 x
+set_right [] ys x = refl
+set_right (z ∷ xs) ys x = ap (λ l. z ∷ l) (set_right xs ys x)
+
+pub get_push : {X : Type 0} (xs : List X) (y : X) (i : ℕ) (x : X) → slice_get (xs ++ y ∷ []) i ≡ Some x → (slice_get xs i ≡ Some x) ⊎ ((i ≡ length xs) × (y ≡ x))
+get_push [] y zero x h = inr (refl, cc)
+get_push [] y (suc i) x h = cc
+get_push (z ∷ xs) y zero x h = inl h
+get_push (z ∷ xs) y (suc i) x h = ⊎_elim (λ old. inl old) (λ new. inr (ap suc new.0, new.1)) (get_push xs y i x h)
+
+-- two sites of a list met, each in its part
+pub met_front : (sites front back : List SiteValue) (a b a' b' : SiteValue) (local peer : ℕ) (result : Result Report SyncFault) → sites ≡ front ++ back → length front ≡ peer → slice_get front local ≡ Some a → slice_get back 0 ≡ Some b →
+    a'.config ≡ a.config → b'.config ≡ b.config → Exchange a b a' b' result → TwoMeet sites (slice_set front local a' ++ slice_set back 0 b') local peer result
+met_front sites front back a b a' b' local peer result parts at first second config config' exchange =
+    let long : length (slice_set front local a') ≡ peer = length-set front local a' ∙ at in
+    record {
+      first = a;
+      second = b;
+      first' = a';
+      second' = b';
+      first_is = ap (λ l. slice_get l local) parts ∙ get_left front back local a first;
+      second_is = ap₂ slice_get parts (sym at) ∙ get_right front back ∙ second;
+      new_is = sym (ap (λ l. slice_set (slice_set l local a') peer b') parts ∙ ap (λ l. slice_set l peer b') (set_left front back local a' a first)
+          ∙ ap (λ n. slice_set (slice_set front local a' ++ back) n b') (sym long) ∙ set_right (slice_set front local a') back b');
+      first_config = config;
+      second_config = config';
+      exchange = exchange;
+    }
+
+pub met_back : (sites front back : List SiteValue) (a b a' b' : SiteValue) (local peer : ℕ) (result : Result Report SyncFault) → sites ≡ front ++ back → length front ≡ local → slice_get back 0 ≡ Some a → slice_get front peer ≡ Some b →
+    a'.config ≡ a.config → b'.config ≡ b.config → Exchange a b a' b' result → TwoMeet sites (slice_set front peer b' ++ slice_set back 0 a') local peer result
+met_back sites front back a b a' b' local peer result parts at first second config config' exchange =
+    record {
+      first = a;
+      second = b;
+      first' = a';
+      second' = b';
+      first_is = ap₂ slice_get parts (sym at) ∙ get_right front back ∙ first;
+      second_is = ap (λ l. slice_get l peer) parts ∙ get_left front back peer b second;
+      new_is = sym (ap₂ (λ l n. slice_set (slice_set l n a') peer b') parts (sym at) ∙ ap (λ l. slice_set l peer b') (set_right front back a') ∙ set_left front (slice_set back 0 a') peer b' b second);
+      first_config = config;
+      second_config = config';
+      exchange = exchange;
+    }

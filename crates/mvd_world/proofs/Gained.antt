@@ -1,13 +1,13 @@
 -- What a session adds, from the states of two sites to the writes that they know.
-use Rattle.std.proofs.Common.{◌≡◌, ◌≢◌, ◌⊎◌, inl, inr, ℕ, Bool, true, false, ◌||◌, ◌==◌, cond, List, [], ◌∷◌, ◌++◌, length, Option, Some, None, Result, Ok, Err, refl, sym, ap, ap₂, ◌∙◌, subst, ⊎_elim, true≢false, unwrap_or, append-nil, MatchResult, IfErr}
+use Rattle.std.proofs.Common.{◌≡◌, ◌≢◌, ◌⊎◌, inl, inr, Bool, true, false, ◌||◌, ◌==◌, cond, List, [], ◌∷◌, ◌++◌, Some, None, Result, Ok, Err, refl, sym, ap, ap₂, ◌∙◌, subst, ⊎_elim, true≢false, unwrap_or, append-nil, MatchResult, IfErr}
 use Rattle.std.specs.Ordering.{eq_by_cmp}
 use Rattle.std.specs.FinMap.{get}
 use Rattle.std.specs.FinSet.{len-empty}
 use Rattle.mvd_dots.specs.Dot.{dot_cmp}
-use Rattle.mvd_dots.specs.declared.refusals.Refusal.TheVariants.{Broken, DotClash}
+use Rattle.mvd_dots.specs.declared.refusals.Refusal.TheVariants.{Broken}
 use Rattle.mvd_keys.specs.Key.{key_cmp}
 use Rattle.mvd_keys.specs.State.{State, empty_state, join, clashes}
-use Rattle.mvd_keys.specs.Writes.{Key, Stands, Write, context, held, is_empty, key_of, state, writes_of}
+use Rattle.mvd_keys.specs.Writes.{Key, Stands, Write, held, is_empty, key_of, state, writes_of}
 use Rattle.mvd_keys.proofs.Held.{no_writes}
 use Rattle.mvd_keys.proofs.Joins.{join_empty_right}
 use Rattle.mvd_keys.proofs.KeyOrder.{same_where_tied}
@@ -18,13 +18,13 @@ use Rattle.mvd_keys.proofs.StatesOfWrites.{join-state}
 use Rattle.mvd_site.specs.Held.{AreHeld, States, state_at}
 use Rattle.mvd_site.specs.Sites.{SiteStands, SiteValue}
 use Rattle.mvd_site.proofs.Steps.{state_at-stands}
-use Rattle.mvd_sync.specs.Session.{AreDistinct, Gives, HaveClash, IsClash, IsEnd, Pulls, SessionEnds, is_member}
+use Rattle.mvd_sync.specs.Session.{Gives, HaveClash, IsClash, IsEnd, Pulls, SessionEnds, is_member}
 use Rattle.mvd_sync.specs.declared.session.Report.{Report}
 use Rattle.mvd_sync.specs.declared.session.SyncFault.{SyncFault}
 use Rattle.mvd_sync.specs.declared.session.SyncFault.TheVariants.{Local, Peer}
 use Rattle.mvd_sync.proofs.Together.{is_member-append}
 use Rattle.mvd_world.specs.Machine.{BreaksBy, EndsWith, StatesClash, writes_in}
-use Rattle.mvd_world.specs.Worlds.{Exchange, SitesMeet}
+use Rattle.mvd_world.specs.Worlds.{Exchange}
 
 -- ---- the writes of several keys
 
@@ -79,11 +79,13 @@ held_at : (key : Key) (W : List Write) (s : State) → state key W ≡ s → hel
 held_at key W s is = ap (λ (t : State). cond (is_empty t.context) None (Some t)) is
 
 pub stands_from : (m : States) (W : List Write) → AreHeld m → ((key : Key) → state_at m key ≡ state key W) → Stands m W
-stands_from m W form same = record { at = λ key.
-    elim (get m key) as (λ o. get m key ≡ o → o ≡ held key W) [
-      | None ↦ λ none. sym (held_at key W empty_state (sym (same key) ∙ ap (λ o. unwrap_or o empty_state) none) ∙ ap (λ b. cond b None (Some empty_state)) none_seen)
-      | Some s ↦ λ found. sym (held_at key W s (sym (same key) ∙ ap (λ o. unwrap_or o empty_state) found) ∙ ap (λ b. cond b None (Some s)) (form.held key s found).seen)
-    ] refl }
+stands_from m W form same = record {
+  at = λ key.
+      elim (get m key) as (λ o. get m key ≡ o → o ≡ held key W) [
+        | None ↦ λ none. sym (held_at key W empty_state (sym (same key) ∙ ap (λ o. unwrap_or o empty_state) none) ∙ ap (λ b. cond b None (Some empty_state)) none_seen)
+        | Some s ↦ λ found. sym (held_at key W s (sym (same key) ∙ ap (λ o. unwrap_or o empty_state) found) ∙ ap (λ b. cond b None (Some s)) (form.held key s found).seen)
+      ] refl;
+}
 
 -- ---- the two sides
 

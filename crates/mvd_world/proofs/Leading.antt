@@ -1,11 +1,13 @@
 -- What each step leads to.
-use Rattle.std.proofs.Common.{◌≡◌, ◌≢◌, ◌⊎◌, inl, inr, ℕ, ◌+◌, ◌-◌, Bool, true, false, true≢false, zero, suc, List, [], ◌∷◌, ◌++◌, map, length, Option, Some, None, IsSomeAnd, refl, sym, ap, ap₂, ◌∙◌, subst, subst₂, ⊎_elim, arith, Result, Ok, Err, length-append}
-use Rattle.std.specs.Prelude.{slice_set}
+use Rattle.std.proofs.Common.{◌≡◌, ◌≢◌, ◌⊎◌, inl, inr, ℕ, ◌≤◌, ◌+◌, ◌-◌, Bool, true, false, true≢false, zero, suc, List, [], ◌∷◌, ◌++◌, map, length, take, drop, Some, None, IsSomeAnd, refl, sym, ap, ap₂, ◌∙◌, subst, subst₂, ⊎_elim, arith, Result, Ok, Err}
+use Rattle.std.specs.Prelude.{slice_index_or, slice_set}
 use Rattle.std.specs.List.{slice_get}
+use Rattle.std.specs.FinMap.{empty}
+use Rattle.std.proofs.Math.Seq.{take-append_seam}
+use Rattle.std.proofs.lemmas.Option.{slice_get_read}
 use Rattle.std.proofs.lemmas.List.{length-set, length-map, map-append}
 use Rattle.mvd_dots.specs.declared.refusals.Refusal.TheVariants.{Broken, Memory}
 use Rattle.mvd_dots.specs.declared.refusals.Refusal.{Refusal}
-use Rattle.mvd_keys.specs.State.{State}
 use Rattle.mvd_keys.specs.Writes.{AreOf, Key, Stands, Write, state, writes_of}
 use Rattle.mvd_keys.proofs.Standing.{state-own}
 use Rattle.mvd_wire.specs.declared.request.Request.{Request}
@@ -14,21 +16,21 @@ use Rattle.mvd_wire.specs.declared.reply.Reply.{Reply}
 use Rattle.mvd_wire.specs.declared.reply.Reply.TheVariants.{Done, Refused}
 use Rattle.mvd_site.specs.Answer.{answer, change_of}
 use Rattle.mvd_site.specs.Config.{ConfigValue}
-use Rattle.mvd_site.specs.FromStates.{Answered, AnswersFrom, Broke, after_from, answer_from, change_from, with_change}
+use Rattle.mvd_site.specs.FromStates.{Answered, AnswersFrom, after_from, answer_from, change_from, unless_broken, with_change}
 use Rattle.mvd_site.specs.Held.{States, state_at}
 use Rattle.mvd_site.specs.Known.{Adds, Changes, MayReply}
 use Rattle.mvd_site.specs.Sites.{AnswersOne, SiteStands, SiteValue}
 use Rattle.mvd_site.proofs.Answered.{after_stands, answered, changed_alike, with_state-same}
-use Rattle.mvd_site.proofs.Prepare.{refuses_all}
+use Rattle.mvd_site.proofs.Prepare.{Stands-none, refuses_all}
 use Rattle.mvd_site.proofs.Steps.{Adds-Refused, Stands-nothing, state_at-stands}
 use Rattle.mvd_sync.specs.declared.session.Report.{Report}
 use Rattle.mvd_sync.specs.declared.session.SyncFault.{SyncFault}
 use Rattle.mvd_sync.specs.declared.session.SyncFault.TheVariants.{Local, Peer}
 use Rattle.mvd_world.specs.declared.worlds.Message.{Message}
 use Rattle.mvd_world.specs.declared.worlds.World.{World}
-use Rattle.mvd_world.specs.Machine.{Answers, BreaksBy, IsOwn, IsSound, Knowledge, Meets, Receives, Sending, Sends, SendsNot, Setting, becomes, config_of, learns, met, received, writes_in}
-use Rattle.mvd_world.specs.Worlds.{AreSites, IsSiteOf, IsWorld, Leads, SitesMeet, TwoMeet, message_of}
-use Rattle.mvd_world.proofs.Changed.{learns_here, learns_other, set_other, sites_changed}
+use Rattle.mvd_world.specs.Machine.{Answers, BreaksBy, IsOwn, IsSound, Knowledge, Meets, Receives, Sending, Sends, SendsNot, Setting, becomes, config_of, learns, nothing_yet, received, writes_in}
+use Rattle.mvd_world.specs.Worlds.{AreSites, IsSiteOf, IsWorld, Leads, TwoMeet, message_of}
+use Rattle.mvd_world.proofs.Changed.{get_push, learns_here, learns_other, set_other, sites_changed}
 use Rattle.mvd_world.proofs.Sound.{found as found_in, sound_answers, sound_meets, sound_receives, sound_sends}
 
 -- the site of a number
@@ -78,9 +80,14 @@ answers_lead old new number s s' request reply change own one choice setting bef
       replies = subst₂ (λ c b. MayReply c (before.known number) b request reply s'.broken) site.config site.broken (one.replies (before.known number) site.stands);
       adds = choice.1;
       is = refl;
-    } in
-    (after, (told, world_changed setting old new before number s s' choice.0 (before.made ++ choice.0) world change (one.stands (before.known number) choice.0 site.stands choice.1) after refl
-        (sound_answers setting before number request reply after world.sound own told)))
+    } in (
+      after,
+      (
+        told,
+        world_changed setting old new before number s s' choice.0 (before.made ++ choice.0) world change (one.stands (before.known number) choice.0 site.stands choice.1) after refl
+            (sound_answers setting before number request reply after world.sound own told),
+      ),
+    )
 
 -- ---- a message that comes
 
@@ -102,27 +109,27 @@ record Replied_from (s s' : SiteValue) (W : List Write) (request : Request) (rep
 replied_whole : (s s' : SiteValue) (W : List Write) (request : Request) (reply : Reply) → s.broken ≡ false → Stands s.states W → AnswersFrom s s' request reply → Replied_from s s' W request reply
 replied_whole s s' W request reply whole stands answers = ⊎_elim
     (λ (here : Answered s s' request reply).
-        let still : s'.broken ≡ false = ap (λ (v : SiteValue). v.broken) here.site in
-        let is : reply ≡ answer s.config W request = here.answers ∙ answered s.config s.states W request stands in
-        record {
-          replies = subst₂ (λ a b. MayReply s.config W a request reply b) (sym whole) (sym still) (inl is);
-          stands = λ added adds _. subst (λ m. Stands m (W ++ added)) (sym (ap (λ (v : SiteValue). v.states) here.site))
-              (after_stands s.config s.states W request added stands (subst (λ r. Adds request r added) is adds));
-        })
+    let still : s'.broken ≡ false = ap (λ (v : SiteValue). v.broken) here.site in
+    let is : reply ≡ answer s.config W request = here.answers ∙ answered s.config s.states W request stands in
+    record {
+      replies = subst₂ (λ a b. MayReply s.config W a request reply b) (sym whole) (sym still) (inl is);
+      stands = λ added adds _. subst (λ m. Stands m (W ++ added)) (sym (ap (λ (v : SiteValue). v.states) here.site))
+          (after_stands s.config s.states W request added stands (subst (λ r. Adds request r added) is adds));
+    })
     (λ rest. ⊎_elim
-        (λ memory.
-            let still : s'.broken ≡ false = ap (λ (v : SiteValue). v.broken) memory.1 ∙ whole in
-            record {
-              replies = subst₂ (λ a b. MayReply s.config W a request reply b) (sym whole) (sym still) (inr memory.0);
-              stands = λ added adds _. subst (λ (v : SiteValue). Stands v.states (W ++ added)) (sym memory.1) (refused_adds s.states W request Memory added stands (subst (λ r. Adds request r added) memory.0 adds));
-            })
-        (λ broke.
-            let breaks : s'.broken ≡ true = ap (λ (v : SiteValue). v.broken) broke.1.site in
-            record {
-              replies = subst₂ (λ a b. MayReply s.config W a request reply b) (sym whole) (sym breaks) (broke.0, changes_known s.config s.states W request stands broke.1.changes);
-              stands = λ added adds still. absurd (true≢false (sym breaks ∙ still));
-            })
-        rest)
+    (λ memory.
+    let still : s'.broken ≡ false = ap (λ (v : SiteValue). v.broken) memory.1 ∙ whole in
+    record {
+      replies = subst₂ (λ a b. MayReply s.config W a request reply b) (sym whole) (sym still) (inr memory.0);
+      stands = λ added adds _. subst (λ (v : SiteValue). Stands v.states (W ++ added)) (sym memory.1) (refused_adds s.states W request Memory added stands (subst (λ r. Adds request r added) memory.0 adds));
+    })
+    (λ broke.
+    let breaks : s'.broken ≡ true = ap (λ (v : SiteValue). v.broken) broke.1.site in
+    record {
+      replies = subst₂ (λ a b. MayReply s.config W a request reply b) (sym whole) (sym breaks) (broke.0, changes_known s.config s.states W request stands broke.1.changes);
+      stands = λ added adds still. absurd (true≢false (sym breaks ∙ still));
+    })
+    rest)
     (answers whole)
 
 replied_broken : (s s' : SiteValue) (W : List Write) (request : Request) (reply : Reply) → s.broken ≡ true → (reply ≡ Refused Broken) × (s'.broken ≡ true) → Replied_from s s' W request reply
@@ -167,9 +174,14 @@ receives_lead old new number message index m s s' reply change here at answers s
       replies = subst₂ (λ c b. MayReply c (before.known number) b push reply s'.broken) site.config site.broken does.replies;
       is = refl;
     } in
-    let of = world.sound.of_key sending (found_in before.messages (message - 1) sending there) in
-    (after, (told, world_changed setting old new before number s s' added before.made world change (does.stands added (received_adds sending.key sending.writes reply of)) after refl
-        (sound_receives setting before number message reply after world.sound told)))
+    let of = world.sound.of_key sending (found_in before.messages (message - 1) sending there) in (
+      after,
+      (
+        told,
+        world_changed setting old new before number s s' added before.made world change (does.stands added (received_adds sending.key sending.writes reply of)) after refl
+            (sound_receives setting before number message reply after world.sound told),
+      ),
+    )
 
 -- ---- a message that is sent
 
@@ -182,13 +194,18 @@ sends_lead old new number index s key m count at here whole is same_sites grown 
     let after : Knowledge = record { known = before.known; broken = before.broken; messages = before.messages ++ sending ∷ []; made = before.made } in
     let stands_for : m ≡ message_of sending = is ∙ ap (λ s. record { key = key; state = s }) (state_at-stands s.states W key (site.stands whole) ∙ state-own key W) in
     let messages : new.messages.items ≡ map message_of after.messages = grown ∙ ap₂ (λ ms x. ms ++ x ∷ []) world.messages stands_for ∙ sym (map-append message_of before.messages (sending ∷ [])) in
-    let told : Sends before number key count after = record { whole = sym site.broken ∙ whole; numbered = counted ∙ ap length messages ∙ length-map after.messages message_of; is = refl } in
-    (after, (told, record {
-      count = ap length same_sites ∙ world.count;
-      sites = λ i x found. let was = world.sites i x (subst (λ l. slice_get l i ≡ Some x) same_sites found) in record { config = was.config; broken = was.broken; stands = was.stands };
-      messages = messages;
-      sound = sound_sends before number key count after world.sound told;
-    }))
+    let told : Sends before number key count after = record { whole = sym site.broken ∙ whole; numbered = counted ∙ ap length messages ∙ length-map after.messages message_of; is = refl } in (
+      after,
+      (
+        told,
+        record {
+          count = ap length same_sites ∙ world.count;
+          sites = λ i x found. let was = world.sites i x (subst (λ l. slice_get l i ≡ Some x) same_sites found) in record { config = was.config; broken = was.broken; stands = was.stands };
+          messages = messages;
+          sound = sound_sends before number key count after world.sound told;
+        },
+      ),
+    )
 
 pub sends_not_lead : (old new : World) (number index : ℕ) (s : SiteValue) (refusal : Refusal) → index + 1 ≡ number → slice_get old.sites.items index ≡ Some s → ((refusal ≡ Memory) ⊎ ((refusal ≡ Broken) × (s.broken ≡ true))) →
     new.sites.items ≡ old.sites.items → new.messages.items ≡ old.messages.items → Leads old new (λ setting before after. SendsNot before number (Refused refusal) after)
@@ -230,11 +247,72 @@ meets_lead old new local peer i j result at at' two both same_messages setting b
     let sites_first : AreSites setting first (slice_set old.sites.items i both.first') =
     sites_changed setting old.sites.items before i local both.first both.first' more before.messages before.made world.sites at both.first_is both.first_config does.local_stands in
     let still : slice_get (slice_set old.sites.items i both.first') j ≡ Some both.second = set_other old.sites.items i both.first' j (first_other i j local peer at at' two) ∙ both.second_is in
-    let stands : SiteStands both.second' (first.known peer ++ back) = subst₂ (λ X Y. SiteStands both.second' (X ++ writes_in does.given Y)) (sym there) (sym here) does.peer_stands in
-    (after, (told, record {
-      count = ap length both.new_is ∙ length-set (slice_set old.sites.items i both.first') j both.second' ∙ length-set old.sites.items i both.first' ∙ world.count;
-      sites = subst (AreSites setting after) (sym both.new_is)
-          (sites_changed setting (slice_set old.sites.items i both.first') first j peer both.second both.second' back before.messages before.made sites_first at' still both.second_config stands);
-      messages = same_messages ∙ world.messages;
-      sound = sound_meets before local peer result after world.sound told;
+    let stands : SiteStands both.second' (first.known peer ++ back) = subst₂ (λ X Y. SiteStands both.second' (X ++ writes_in does.given Y)) (sym there) (sym here) does.peer_stands in (
+      after,
+      (
+        told,
+        record {
+          count = ap length both.new_is ∙ length-set (slice_set old.sites.items i both.first') j both.second' ∙ length-set old.sites.items i both.first' ∙ world.count;
+          sites = subst (AreSites setting after) (sym both.new_is)
+              (sites_changed setting (slice_set old.sites.items i both.first') first j peer both.second both.second' back before.messages before.made sites_first at' still both.second_config stands);
+          messages = same_messages ∙ world.messages;
+          sound = sound_meets before local peer result after world.sound told;
+        },
+      ),
+    )
+
+-- ---- how the code tells of one site that changed
+
+pub changes_at : (old new : World) (number : ℕ) (s s' : SiteValue) → 1 ≤ number → number ≤ length old.sites.items → s ≡ slice_index_or old.sites.items (number - 1) s → new.sites.items ≡ slice_set old.sites.items (number - 1) s' → new.messages.items ≡ old.messages.items → s'.config ≡ s.config →
+    SiteChanges old new number s s'
+changes_at old new number s s' some within read sites messages config = record {
+  index = number - 1;
+  at = omega (arith, some);
+  here = slice_get_read old.sites.items (length old.sites.items) (number - 1) s refl (omega (arith, some, within)) read;
+  sites = sites;
+  messages = messages;
+  config = config;
+}
+
+pub why_refused : (broken : Bool) (refusal : Refusal) → refusal ≡ unless_broken broken Broken Memory → (refusal ≡ Memory) ⊎ ((refusal ≡ Broken) × (broken ≡ true))
+why_refused true refusal is = inr (is, refl)
+why_refused false refusal is = inl is
+
+-- ---- at first
+
+pub one_more_site : (setting : Setting) (sites more : List SiteValue) (s : SiteValue) (number : ℕ) → AreSites setting nothing_yet sites → more ≡ sites ++ s ∷ [] → length sites ≡ number → s ≡ record { config = config_of setting (number + 1); states = empty; broken = false } →
+    AreSites setting nothing_yet more
+one_more_site setting sites more s number so_far grown count is i x found = ⊎_elim
+    (λ old. so_far i x old)
+    (λ new. subst (IsSiteOf setting nothing_yet (i + 1)) new.1 (record {
+      config = ap (λ (v : SiteValue). v.config) is ∙ ap (λ n. config_of setting (n + 1)) (sym (new.0 ∙ count));
+      broken = ap (λ (v : SiteValue). v.broken) is;
+      stands = λ _. Stands-none s.states (ap (λ (v : SiteValue). v.states) is);
     }))
+    (get_push sites s i x (subst (λ l. slice_get l i ≡ Some x) grown found))
+
+-- ---- how the code tells of a push
+
+pub never_ok : (done : Unit {0}) (refusal : Refusal) → ◌≡◌ {A = Result (Unit {0}) Refusal} (Ok done) (Err refusal) → ⊥
+never_ok done refusal e = cc
+
+is_broken : (refusal : Refusal) → (refusal ≡ Broken) ⊎ (refusal ≢ Broken)
+is_broken Broken = inl refl
+is_broken refusal = inr (λ e. absurd (cc))
+
+pub refused_so : (s s' : SiteValue) (refusal : Refusal) → ◌≡◌ {A = Result (Unit {0}) Refusal} (Err refusal) (Err Broken) → (refusal ≡ Broken → s' ≡ record { config = s.config; states = s.states; broken = true }) →
+    (Refused refusal ≡ Refused Broken) × (s'.broken ≡ true)
+refused_so s s' refusal e told = let is : refusal ≡ Broken = cc in (ap Refused is, ap (λ (v : SiteValue). v.broken) (told is))
+
+pub same_config : (s s' : SiteValue) (refusal : Refusal) → (refusal ≢ Broken → s' ≡ s) → (refusal ≡ Broken → s' ≡ record { config = s.config; states = s.states; broken = true }) → s'.config ≡ s.config
+same_config s s' refusal unchanged told = ⊎_elim (λ is. ap (λ (v : SiteValue). v.config) (told is)) (λ other. ap (λ (v : SiteValue). v.config) (unchanged other)) (is_broken refusal)
+
+-- a list written over whole
+pub refilled : (n : ℕ) (items old new : List SiteValue) (local peer : ℕ) (result : Result Report SyncFault) → n ≡ length items → old ≡ items → TwoMeet old new local peer result → take n (new ++ drop (length new) items) ≡ new
+refilled n items old new local peer result long same both =
+    let kept : length new ≡ length old = ap length both.new_is ∙ length-set (slice_set old local both.first') peer both.second' ∙ length-set old local both.first' in
+    let full : n ≡ length new = long ∙ ap length (sym same) ∙ sym kept in
+    ap (λ k. take k (new ++ drop (length new) items)) full ∙ take-append_seam new (drop (length new) items)
+
+pub no_sites : (setting : Setting) → AreSites setting nothing_yet []
+no_sites setting i x found = cc

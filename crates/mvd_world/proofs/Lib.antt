@@ -4,3 +4,4 @@ pub mod Changed
 pub mod Gained
 pub mod Leading
 pub mod Taking
+pub mod Chained

@@ -1,15 +1,15 @@
 -- Every step of the machine keeps it sound.
-use Rattle.std.proofs.Common.{◌≡◌, ◌⊎◌, ℕ, ◌+◌, ◌-◌, Bool, true, false, ◌||◌, ◌&&◌, zero, suc, ◌==◌, cond, if◌then◌else◌, MatchBool, List, [], ◌∷◌, ◌++◌, filter, length, Contains, Option, Some, None, Result, Ok, Err, refl, sym, ap, ◌∙◌, subst, inl, inr, ⊎_elim, arith, eq-eqb}
+use Rattle.std.proofs.Common.{◌≡◌, ◌⊎◌, ℕ, ◌-◌, Bool, true, false, ◌||◌, ◌&&◌, zero, suc, ◌==◌, cond, if◌then◌else◌, MatchBool, List, [], ◌∷◌, ◌++◌, filter, length, Contains, Option, Some, None, Result, Ok, Err, refl, sym, ap, ◌∙◌, subst, inl, ⊎_elim, arith, eq-eqb}
 use Rattle.std.specs.List.{slice_get}
 use Rattle.std.specs.FinSet.{union}
 use Rattle.std.proofs.lemmas.Bool.Decides.{eqb_tells}
 use Rattle.std.proofs.lemmas.List.Elements.{Contains-append_left, Contains-append_right, Contains-append_cases, Contains-push_cases}
 use Rattle.mvd_dots.specs.Dot.{DotValue}
 use Rattle.mvd_dots.specs.Context.{DotSet}
-use Rattle.mvd_dots.specs.declared.refusals.Refusal.TheVariants.{Broken, StateTooLarge, Full}
+use Rattle.mvd_dots.specs.declared.refusals.Refusal.TheVariants.{Broken}
 use Rattle.mvd_keys.specs.Minting.{mint}
 use Rattle.mvd_keys.specs.State.{Text}
-use Rattle.mvd_keys.specs.Writes.{AreOf, Key, Write, Wrote, Deleted, context, writes_of}
+use Rattle.mvd_keys.specs.Writes.{AreOf, Key, Write, Wrote, Deleted, context}
 use Rattle.mvd_keys.proofs.Minted.{minted_next, minted_unwritten}
 use Rattle.mvd_keys.proofs.Sets.{Contains-either, Contains-head, Contains-later, none_empty}
 use Rattle.mvd_keys.proofs.Standing.{AreOf-writes_of}

@@ -1,12 +1,12 @@
 -- A step of the world, from what its kind leads to.
-use Rattle.std.proofs.Common.{◌≡◌, ◌≢◌, ℕ, ◌≤◌, ◌-◌, ◌+◌, Bool, true, false, not, ◌&&◌, ◌==◌, nat_lt, nat_le, List, map, length, MatchBool, refl, sym, ap, ap₂, ◌∙◌, subst, arith, true≢false, eq-eqb, ltb-true}
+use Rattle.std.proofs.Common.{◌≡◌, ◌≢◌, ℕ, ◌≤◌, Bool, true, false, not, ◌&&◌, ◌==◌, nat_lt, nat_le, length, MatchBool, refl, sym, ap, ap₂, ◌∙◌, subst, arith, true≢false, eq-eqb}
 use Rattle.std.proofs.lemmas.Bool.Decides.{nat_tests}
 use Rattle.std.proofs.lemmas.List.{length-map}
 use Rattle.mvd_world.specs.declared.steps.Step.{Step}
 use Rattle.mvd_world.specs.declared.steps.Outcome.{Outcome}
 use Rattle.mvd_world.specs.declared.steps.Outcome.TheVariants.{NoSuch}
 use Rattle.mvd_world.specs.declared.worlds.World.{World}
-use Rattle.mvd_world.specs.Machine.{Knowledge, MayStep, Setting, Takes, is_numbered, may_be}
+use Rattle.mvd_world.specs.Machine.{Knowledge, Setting, Takes, is_numbered, may_be}
 use Rattle.mvd_world.specs.Worlds.{IsWorld, Leads, Steps, message_of}
 
 may_be_same : (setting : Setting) (old : World) (before : Knowledge) (step : Step) → IsWorld setting old before →
@@ -36,3 +36,8 @@ numbered count number h =
 
 pub two_numbers : (a b : ℕ) → not (a == b) ≡ true → a ≢ b
 two_numbers a b h same = true≢false (sym h ∙ ap not (eq-eqb a b same))
+
+-- the same, of a step that is known to be this one
+pub step_as : (old new : World) (step is : Step) (outcome : Outcome) → step ≡ is → may_be (length old.sites.items) (length old.messages.items) step ≡ true → Leads old new (λ setting before after. Takes setting before is outcome after) → Steps old new step outcome
+step_as old new step is outcome same may leads =
+    subst (λ x. Steps old new x outcome) (sym same) (step_takes old new is outcome (ap (may_be (length old.sites.items) (length old.messages.items)) (sym same) ∙ may) leads)

@@ -1,6 +1,6 @@
 -- Sites that write, are asked, send each other states of keys and hold sessions, as a machine over sets of writes: what is
 -- lost, repeated or comes out of order is a matter of which steps are taken, and no state of a key stands in it.
-use Rattle.std.specs.Prelude.{◌≡◌, ◌⊎◌, ℕ, Bool, true, false, not, ◌&&◌, ◌||◌, ◌==◌, nat_lt, nat_le, ◌-◌, if◌then◌else◌, List, [], ◌∷◌, ◌++◌, length, filter, Contains, MatchBool, Option, Some, Result, Ok, Err}
+use Rattle.std.specs.Prelude.{◌≡◌, ◌⊎◌, ℕ, Bool, true, false, not, ◌&&◌, ◌||◌, ◌==◌, nat_lt, nat_le, ◌-◌, if◌then◌else◌, List, [], ◌∷◌, ◌++◌, length, filter, Contains, MatchBool, Some, Result, Ok, Err}
 use Rattle.std.specs.List.{slice_get}
 use Rattle.mvd_dots.specs.Dot.{DotValue}
 use Rattle.mvd_dots.specs.Context.{DotSet}
@@ -29,6 +29,9 @@ pub record Setting : Type 0 where
   pub count : ℕ
   pub max_keys : ℕ
   pub defs : Definitions
+
+abbrev pub setting_of : ℕ → ℕ → Definitions → Setting
+setting_of count max_keys defs = record { count = count; max_keys = max_keys; defs = defs }
 
 abbrev pub config_of : Setting → ℕ → ConfigValue
 config_of setting site = record { site = site; max_keys = setting.max_keys; defs = setting.defs }

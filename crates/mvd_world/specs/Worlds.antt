@@ -1,23 +1,21 @@
 -- What a world stands for: sets of writes, by which its sites and messages are what the machine says.
-use Rattle.std.specs.Prelude.{◌≡◌, ◌⊎◌, ◌+◌, ◌-◌, ℕ, true, false, List, [], ◌∷◌, ◌++◌, map, length, Some, Result, Err, slice_set}
+use Rattle.std.specs.Prelude.{◌≡◌, ◌+◌, ℕ, true, false, List, ◌++◌, map, length, Some, Result, Err, slice_set}
 use Rattle.std.specs.List.{slice_get, Contains}
 use Rattle.mvd_keys.specs.Writes.{Key, SameWrites, Stands, Write, state}
 use Rattle.mvd_wire.specs.declared.request.Request.{Request}
 use Rattle.mvd_site.specs.Answer.{is_question}
 use Rattle.mvd_site.specs.FromStates.{answer_from}
-use Rattle.mvd_site.specs.Held.{state_at}
 use Rattle.mvd_site.specs.Sites.{SiteStands, SiteValue}
 use Rattle.mvd_sync.specs.Session.{AreDistinct, IsClash}
 use Rattle.mvd_sync.specs.declared.session.Report.{Report}
 use Rattle.mvd_sync.specs.declared.session.SyncFault.{SyncFault}
 use Rattle.mvd_sync.specs.declared.session.SyncFault.TheVariants.{Local, Peer}
-use Rattle.mvd_dots.specs.declared.refusals.Refusal.TheVariants.{Broken, Memory}
-use Rattle.mvd_dots.specs.declared.refusals.Refusal.{Refusal}
+use Rattle.mvd_dots.specs.declared.refusals.Refusal.TheVariants.{Broken}
 use Rattle.mvd_world.specs.declared.steps.Step.{Step}
 use Rattle.mvd_world.specs.declared.steps.Outcome.{Outcome}
 use Rattle.mvd_world.specs.declared.worlds.Message.{Message}
 use Rattle.mvd_world.specs.declared.worlds.World.{World}
-use Rattle.mvd_world.specs.Machine.{BreaksBy, EndsWith, IsSound, Knowledge, MayStep, OnePutPerDot, Runs, Sending, Setting, StatesClash, config_of, nothing_yet, writes_in}
+use Rattle.mvd_world.specs.Machine.{BreaksBy, EndsWith, IsSound, Knowledge, MayStep, Runs, Sending, Setting, StatesClash, config_of, nothing_yet, writes_in}
 
 -- the site of this number, with what it was set up with, and the writes that its states stand for unless it is broken
 pub record IsSiteOf (setting : Setting) (knowledge : Knowledge) (number : ℕ) (site : SiteValue) : Type 0 where
@@ -47,24 +45,6 @@ Leads old new Tells = (setting : Setting) (before : Knowledge) → IsWorld setti
 -- a step of the world is one of the machine
 abbrev pub Steps : World → World → Step → Outcome → Type 0
 Steps old new step outcome = Leads old new (λ setting before after. MayStep setting before step outcome after)
-
--- ---- a message that is sent
-
--- the site's state of the key became the last message
-pub record Keeps (old new : World) (site : ℕ) (key : Key) : Type 0 where
-  pub from : SiteValue
-  pub here : slice_get old.sites.items (site - 1) ≡ Some from
-  pub whole : from.broken ≡ false
-  pub sites : new.sites.items ≡ old.sites.items
-  pub messages : new.messages.items ≡ old.messages.items ++ record { key = key; state = state_at from.states key } ∷ []
-
--- it did not: memory was refused, or the site is broken
-pub record KeepsNot (old new : World) (site : ℕ) (refusal : Refusal) : Type 0 where
-  pub from : SiteValue
-  pub here : slice_get old.sites.items (site - 1) ≡ Some from
-  pub why : (refusal ≡ Memory) ⊎ ((refusal ≡ Broken) × (from.broken ≡ true))
-  pub sites : new.sites.items ≡ old.sites.items
-  pub messages : new.messages.items ≡ old.messages.items
 
 -- ---- a session of two sites
 

@@ -1,12 +1,12 @@
 //! A world of several sites, and the messages that they sent.
-ghost use Rattle.std.specs.Prelude.{◌≡◌, ◌≢◌, ◌≤◌, ◌<◌, ◌-◌, true, length, IfErr, IfOk, IfSome, MatchResult, Some};
+ghost use Rattle.std.specs.Prelude.{◌≡◌, ◌≢◌, ◌≤◌, ◌<◌, ◌-◌, true, length, IfErr, IfOk, IfSome, OnOk, OnErr, Some, [], ◌∷◌, ◌++◌};
 ghost use Rattle.std.specs.List.{slice_get};
 ghost use Rattle.mvd_wire.specs.declared.reply.Reply.TheVariants.{Refused};
 ghost use Rattle.mvd_dots.specs.declared.refusals.Refusal.TheVariants.{Memory};
 ghost use Rattle.mvd_site.specs.Answer.{is_question};
 ghost use Rattle.mvd_world.specs.declared.steps.Step.TheVariants.{Send as Send_step};
-ghost use Rattle.mvd_world.specs.Machine.{Answers, IsOwn, Meets, Receives, Takes, is_numbered, is_write, may_be, nothing_yet};
-ghost use Rattle.mvd_world.specs.Worlds.{IsWorld, Keeps, KeepsNot, Leads, Steps};
+ghost use Rattle.mvd_world.specs.Machine.{Answers, IsOwn, Meets, Receives, Takes, is_numbered, is_write, may_be, nothing_yet, setting_of};
+ghost use Rattle.mvd_world.specs.Worlds.{IsWorld, Leads, Steps};
 
 use crate::sessions::sync_at;
 use crate::steps::{Outcome, Step};
@@ -40,7 +40,7 @@ impl World {
         requires few { count ≤ 16 }
         requires low { 0 < max_keys }
         requires high { max_keys ≤ 1000000 }
-        ensures world { IfOk result (λ world. IsWorld (record { count = count; max_keys = max_keys; defs = defs }) world nothing_yet) }
+        ensures world { IfOk result (λ world. IsWorld (setting_of count max_keys defs) world nothing_yet) }
         ensures only { IfErr result (λ refusal. refusal ≡ Memory) }
     {
         let mut sites = Vec::new(alloc);
@@ -121,18 +121,22 @@ impl World {
         requires within { site ≤ length self.old.sites.items }
         ensures { Leads self.old self.new (λ setting before after. Takes setting before (Send_step site key.now) result after) }
     {
-        match self.keep(site, key) {
-            Ok(()) => Outcome::Sent(self.messages.len() as u64),
+        match self.sites[site as usize - 1].get(key) {
             Err(refusal) => Outcome::Replied(Reply::Refused(refusal)),
+            Ok(state) => match self.append(key, state) {
+                Err(refusal) => Outcome::Replied(Reply::Refused(refusal)),
+                Ok(()) => Outcome::Sent(self.messages.len() as u64),
+            },
         }
     }
 
-    fn keep(&mut self, site: u32, key: &Key) -> Result<(), Refusal>
-        requires some { 1 ≤ site }
-        requires within { site ≤ length self.old.sites.items }
-        ensures { MatchResult result (λ _. Keeps self.old self.new site key.now) (λ refusal. KeepsNot self.old self.new site refusal) }
+    /// The state of the key becomes the last message.
+    fn append(&mut self, key: &Key, state: KeyState) -> Result<(), Refusal>
+        ensures sites { self.new.sites.items ≡ self.old.sites.items }
+        ensures ok { OnOk result (self.new.messages.items ≡ self.old.messages.items ++ record { key = key.now; state = state } ∷ []) }
+        ensures memory { IfErr result (λ refusal. refusal ≡ Memory) }
+        ensures err { OnErr result (self.new.messages.items ≡ self.old.messages.items) }
     {
-        let state = self.sites[site as usize - 1].get(key)?;
         let key = key.copy(self.alloc)?;
         self.messages.push(Message { key, state })?;
         Ok(())
@@ -147,8 +151,8 @@ impl World {
         ensures { Leads self.old self.new (λ setting before after. Receives setting before site message result after) }
     {
         let message = &self.messages[message as usize - 1];
-        let site = &mut self.sites[site as usize - 1];
-        match site.push(&message.key, &message.state) {
+        let taker = &mut self.sites[site as usize - 1];
+        match taker.push(&message.key, &message.state) {
             Ok(()) => Reply::Done,
             Err(refusal) => Reply::Refused(refusal),
         }
@@ -191,27 +195,4 @@ fn is_question(request: &Request) -> bool
         request,
         Request::Put(..) | Request::Delete(..) | Request::Push(..) | Request::Bye
     )
-}
-
-/// Takes steps in order, beginning with a world where nothing is known.
-pub fn run_world(
-    alloc: Global,
-    count: u32,
-    max_keys: u32,
-    defs: Defs,
-    steps: &[Step],
-) -> Result<(World, Vec<Outcome>), Refusal>
-    requires some { 1 ≤ count }
-    requires few { count ≤ 16 }
-    requires low { 0 < max_keys }
-    requires high { max_keys ≤ 1000000 }
-    ensures only { IfErr result (λ refusal. refusal ≡ Memory) }
-{
-    let mut world = World::new(alloc, count, max_keys, defs)?;
-    let mut outcomes = Vec::new(alloc);
-    for step in steps {
-        let outcome = world.step(step);
-        outcomes.push(outcome)?;
-    }
-    Ok((world, outcomes))
 }

@@ -15,3 +15,7 @@ returns-clause-peer g c t = record {
   kept = λ still. c.in-Err-ask_push.ensures.refused t still;
   clash = λ is. (c.in-Ok.state, c.in-Ok.ensures.answer, c.in-Err-ask_push.ensures.clash t (same_peer _ _ is));
 }
+
+-- what no call changes
+pub returns-in-Err-clause-follows : goal.returns-in-Err-clause-follows
+returns-in-Err-clause-follows g c = (c.ask_get.ensures.follows, g.met.P.Peer.follows_self _)

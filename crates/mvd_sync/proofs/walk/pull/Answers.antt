@@ -15,3 +15,7 @@ returns-clause-local g c t = record {
   kept = λ still. c.in-Err-ask_push.ensures.refused t still;
   clash = λ is. (c.in-Ok.state, c.in-Ok.ensures.answer, c.in-Err-ask_push.ensures.clash t (same_local _ _ is));
 }
+
+-- what no call changes
+pub returns-in-Err-clause-follows : goal.returns-in-Err-clause-follows
+returns-in-Err-clause-follows g c = (g.met.L.Peer.follows_self _, c.ask_get.ensures.follows)

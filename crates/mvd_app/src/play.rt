@@ -6,7 +6,7 @@ use crate::pages::next_page;
 use crate::printing::{print_none_such, print_outcome, print_refusal};
 use crate::steps::{site_of, step_of, taken};
 use mvd_dots::Refusal;
-use mvd_world::{Step, World};
+use mvd_world::{Outcome, Step, World};
 use std::alloc::Global;
 
 /// Runs a command on a site, and prints what it says, or only how it is refused.
@@ -42,13 +42,14 @@ fn say(
     command: Command<'_>,
     out: &mut String,
 ) -> Result<(), Refusal> {
-    let mut step = Some(step_of(alloc, world, site, command)?);
+    let mut step = step_of(alloc, world, site, command)?;
     for _ in 0..u64::MAX {
-        let Some(now) = &step else {
-            break;
-        };
-        step = take(alloc, world, now, out)?;
+        match take(alloc, world, step, out)? {
+            Some(next) => step = next,
+            None => return Ok(()),
+        }
     }
+    drop(step);
     Ok(())
 }
 
@@ -56,12 +57,24 @@ fn say(
 fn take(
     alloc: Global,
     world: &mut World,
-    step: &Step,
+    step: Step,
     out: &mut String,
 ) -> Result<Option<Step>, Refusal> {
-    let outcome = taken(world, step);
-    print_outcome(alloc, step, &outcome, out)?;
-    next_page(alloc, step, &outcome)
+    let outcome = taken(world, &step);
+    let told = tell(alloc, &step, &outcome, out);
+    drop(outcome);
+    drop(step);
+    told
+}
+
+fn tell(
+    alloc: Global,
+    step: &Step,
+    outcome: &Outcome,
+    out: &mut String,
+) -> Result<Option<Step>, Refusal> {
+    print_outcome(alloc, step, outcome, out)?;
+    next_page(alloc, step, outcome)
 }
 
 /// Takes back what was printed from a place on, where that is no middle of a character.

@@ -92,7 +92,14 @@ fn context_of(
         return Context::read(alloc, text);
     }
     let request = Request::Get(key.copy(alloc)?);
-    shown(&taken(world, &Step::Ask { site, request }))
+    shown(asked(world, site, request))
+}
+
+fn asked(world: &mut World, site: u32, request: Request) -> Outcome {
+    let step = Step::Ask { site, request };
+    let outcome = taken(world, &step);
+    drop(step);
+    outcome
 }
 
 /// What a step comes to. What that means is the world's promise, and nothing here rests on it.
@@ -101,7 +108,13 @@ pub fn taken(world: &mut World, step: &Step) -> Outcome {
 }
 
 /// The context of the state that is told.
-fn shown(outcome: &Outcome) -> Result<Context, Refusal> {
+fn shown(outcome: Outcome) -> Result<Context, Refusal> {
+    let context = context_in(&outcome);
+    drop(outcome);
+    context
+}
+
+fn context_in(outcome: &Outcome) -> Result<Context, Refusal> {
     match outcome {
         Outcome::Replied(Reply::State(state)) => state.context().copy(),
         Outcome::Replied(Reply::Refused(refusal)) => Err(*refusal),

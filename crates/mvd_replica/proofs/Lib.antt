@@ -1,0 +1,5 @@
+pub mod Storing
+pub mod Answering
+pub mod Replying
+pub mod Whole
+pub mod Ending

@@ -1,0 +1,4 @@
+pub mod Kept
+pub mod Turns
+pub mod Served
+pub mod Steps

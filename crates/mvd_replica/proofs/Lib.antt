@@ -3,3 +3,4 @@ pub mod Answering
 pub mod Replying
 pub mod Whole
 pub mod Ending
+pub mod Loading

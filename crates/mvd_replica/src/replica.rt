@@ -1,12 +1,12 @@
 //! A site whose states are stored before a reply says so.
-ghost use Rattle.std.specs.Prelude.{◌≡◌, ◌≢◌, List, Err, false, true};
+ghost use Rattle.std.specs.Prelude.{◌≡◌, ◌≢◌, ◌⊎◌, List, Err, IfErr, IfOk, MatchResult, false, true};
 ghost use Rattle.std.specs.FinMap as map;
 ghost use Rattle.mvd_dots.specs.declared.refusals.Refusal.{Refusal};
 ghost use Rattle.mvd_dots.specs.declared.refusals.Refusal.TheVariants.{Broken};
-ghost use Rattle.mvd_keys.specs.Writes.{Write};
+ghost use Rattle.mvd_keys.specs.Writes.{Stands, Write};
 ghost use Rattle.mvd_wire.specs.declared.reply.Reply.TheVariants.{Refused};
 ghost use Rattle.mvd_wire.specs.Replies.{CanBeSent};
-ghost use Rattle.mvd_records.specs.Records.{IsSound, HoldsRecords};
+ghost use Rattle.mvd_records.specs.Records.{IsSound, IsOurs, IsOpenRefusal, HoldsRecords};
 ghost use Rattle.mvd_site.specs.FromStates.{after_from};
 ghost use Rattle.mvd_site.specs.Held.{IsHeldState};
 ghost use Rattle.mvd_site.specs.Known.{Adds};
@@ -14,11 +14,13 @@ ghost use Rattle.mvd_site.specs.Prepared.{IsChangeNow};
 ghost use Rattle.mvd_site.specs.Sites.{has_no_room};
 ghost use Rattle.sqlite.specs.Held.{state};
 
+use crate::opening::site_in;
 use mvd_dots::Refusal;
 use mvd_records::Records;
 use mvd_site::{Change, Config, Prepared, Site};
 use mvd_wire::{Reply, Request};
 use sqlite::{Alter, Connection};
+use std::alloc::Global;
 
 /// A site, and its records: unless the site is broken, they hold its states.
 #[derive(Drop)]
@@ -31,6 +33,30 @@ pub struct Replica<S: Alter> {
 impl<S: Alter> Replica<S> {
     ghost use Rattle.mvd_replica.specs.Kept.{HoldsSite, HoldsStates, PutsIn, Stores};
     ghost use Rattle.mvd_replica.specs.Turns.{AnswersStored};
+
+    /// The replica of a site, with the states that its records hold. Records of version 1 are moved to version 2 first, key by
+    /// key. A refusal gives the connection back.
+    pub fn open(
+        alloc: Global,
+        conn: Connection<S>,
+        config: Config,
+    ) -> Result<Replica<S>, (Refusal, Connection<S>)>
+        ensures config { IfOk result (λ replica. (replica.site.config ≡ config) × (replica.site.broken ≡ false)) }
+        // There is a set of writes that it stands for.
+        ensures stands { IfOk result (λ replica. (known : List Write) × Stands replica.site.states known) }
+        ensures before { MatchResult result (λ replica. IsSound (state S.Store replica.records.conn) → IsSound (state S.Store conn)) (λ e. IsSound (state S.Store e.1) → IsSound (state S.Store conn)) }
+        ensures opened { IfOk result (λ replica. IsSound (state S.Store replica.records.conn) → IsOurs (state S.Store conn).committed → HoldsSite replica.site (state S.Store replica.records.conn).committed) }
+        ensures refusal { IfErr result (λ e. IsOpenRefusal e.0 ⊎ ((e.0 ≡ Refusal.Full) ⊎ (e.0 ≡ Refusal.Memory))) }
+    {
+        let mut records = match Records::open(alloc, conn, config.site()) {
+            Ok(records) => records,
+            Err(refused) => return Err(refused),
+        };
+        match site_in(alloc, &mut records, config) {
+            Ok(site) => Ok(Replica { site, records }),
+            Err(refusal) => Err((refusal, records.into_connection())),
+        }
+    }
 
     pub fn config(&self) -> &Config
         ensures { result.now ≡ self.now.site.config }

@@ -4,3 +4,4 @@ pub mod Replying
 pub mod Whole
 pub mod Ending
 pub mod Loading
+pub mod Moving

@@ -1,14 +1,14 @@
 //! What a replica is opened with: the states that its records spell.
-ghost use Rattle.std.specs.Prelude.{◌≡◌, ◌≢◌, ◌⊎◌, ◌<◌, List, Err, false, IfErr, IfOk, IsTrue, MatchResult};
+ghost use Rattle.std.specs.Prelude.{◌≡◌, ◌≢◌, ◌⊎◌, ◌<◌, List, Err, false, IfErr, IfOk, IsTrue, MatchResult, OnOk};
 ghost use Rattle.std.specs.List.{AllByRecursion};
 ghost use Rattle.std.specs.FinMap.{is_sorted, len};
 ghost use Rattle.mvd_keys.specs.Key.{key_cmp};
 ghost use Rattle.mvd_keys.specs.Writes.{Stands, Write};
 ghost use Rattle.mvd_wire.specs.Kinds.{spell_state};
 ghost use Rattle.mvd_records.specs.Pairs.{entries_of};
-ghost use Rattle.mvd_records.specs.Records.{IsSound, HoldsRecords, new_states};
+ghost use Rattle.mvd_records.specs.Records.{IsSound, HasNone, HoldsRecords, new_states, old_states};
 ghost use Rattle.mvd_site.specs.Held.{IsHeldState};
-ghost use Rattle.mvd_replica.specs.Stored.{IsStored, Respells, spelled_entries};
+ghost use Rattle.mvd_replica.specs.Stored.{IsStored, Respells, SameStates, spelled_entries};
 ghost use Rattle.mvd_replica.specs.Kept.{SpellStates};
 ghost use Rattle.sqlite.specs.Held.{state};
 
@@ -81,6 +81,8 @@ fn load<S: Alter>(
     ensures unchanged { (version number : _) → IsSound (state S.Store records.new.conn) → HoldsRecords version number (state S.Store records.old.conn).committed → (state S.Store records.new.conn).committed ≡ (state S.Store records.old.conn).committed }
     ensures spelled { (version number : _) → IsSound (state S.Store records.new.conn) → HoldsRecords version number (state S.Store records.old.conn).committed → IfOk result (λ site. SpellStates (new_states (state S.Store records.old.conn).committed) site.states) }
     ensures full { (version number : _) → IsSound (state S.Store records.new.conn) → HoldsRecords version number (state S.Store records.old.conn).committed → IfErr result (λ e. e ≡ Refusal.Full → config.max_keys < len (new_states (state S.Store records.old.conn).committed)) }
+    // In version 2 no old key is left.
+    ensures alone { (version number : _) → IsSound (state S.Store records.new.conn) → HoldsRecords version number (state S.Store records.old.conn).committed → records.old.version ≡ 2 → IfOk result (λ _. HasNone (old_states (state S.Store records.old.conn).committed)) }
     ensures refusal { IfErr result (λ e. (e ≡ Refusal.Damaged) ⊎ ((e ≡ Refusal.Full) ⊎ ((e ≡ Refusal.Memory) ⊎ (e ≡ Refusal.Store)))) }
     ensures version { records.new.version ≡ records.old.version }
 {
@@ -117,6 +119,9 @@ fn respelled(alloc: Global, bytes: &[u8]) -> Result<Vec<u8>, Refusal>
 fn migrate<S: Alter>(alloc: Global, records: &mut Records<S>) -> Result<(), Refusal>
     ensures before { IsSound (state S.Store records.new.conn) → IsSound (state S.Store records.old.conn) }
     ensures moved { (number : _) → IsSound (state S.Store records.new.conn) → HoldsRecords records.old.version number (state S.Store records.old.conn).committed → MatchResult result (λ _. HoldsRecords 2 number (state S.Store records.new.conn).committed) (λ _. HoldsRecords records.old.version number (state S.Store records.new.conn).committed) }
+    // The key states that the two maps spell are the same, also after a refusal.
+    ensures states { (number : _) → IsSound (state S.Store records.new.conn) → HoldsRecords records.old.version number (state S.Store records.old.conn).committed → SameStates (state S.Store records.old.conn).committed (state S.Store records.new.conn).committed }
+    ensures alone { (number : _) → IsSound (state S.Store records.new.conn) → HoldsRecords records.old.version number (state S.Store records.old.conn).committed → OnOk result (HasNone (old_states (state S.Store records.new.conn).committed)) }
     ensures refusal { IfErr result (λ e. (e ≡ Refusal.Damaged) ⊎ ((e ≡ Refusal.Memory) ⊎ (e ≡ Refusal.Store))) }
     ensures version { IfOk result (λ _. records.new.version ≡ 2) }
 {
@@ -147,6 +152,8 @@ pub fn site_in<S: Alter>(
     ensures stands { IfOk result (λ site. (known : List Write) × Stands site.states known) }
     ensures before { IsSound (state S.Store records.new.conn) → IsSound (state S.Store records.old.conn) }
     ensures holds { (number : _) → IsSound (state S.Store records.new.conn) → HoldsRecords records.old.version number (state S.Store records.old.conn).committed → IfOk result (λ site. HoldsRecords 2 number (state S.Store records.new.conn).committed × SpellStates (new_states (state S.Store records.new.conn).committed) site.states) }
+    ensures states { (number : _) → IsSound (state S.Store records.new.conn) → HoldsRecords records.old.version number (state S.Store records.old.conn).committed → SameStates (state S.Store records.old.conn).committed (state S.Store records.new.conn).committed }
+    ensures alone { (number : _) → IsSound (state S.Store records.new.conn) → HoldsRecords records.old.version number (state S.Store records.old.conn).committed → IfOk result (λ _. HasNone (old_states (state S.Store records.new.conn).committed)) }
     ensures refusal { IfErr result (λ e. (e ≡ Refusal.Damaged) ⊎ ((e ≡ Refusal.Full) ⊎ ((e ≡ Refusal.Memory) ⊎ (e ≡ Refusal.Store)))) }
     ensures version { IfOk result (λ _. records.new.version ≡ 2) }
 {

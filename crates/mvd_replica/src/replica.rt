@@ -6,7 +6,7 @@ ghost use Rattle.mvd_dots.specs.declared.refusals.Refusal.TheVariants.{Broken};
 ghost use Rattle.mvd_keys.specs.Writes.{Stands, Write};
 ghost use Rattle.mvd_wire.specs.declared.reply.Reply.TheVariants.{Refused};
 ghost use Rattle.mvd_wire.specs.Replies.{CanBeSent};
-ghost use Rattle.mvd_records.specs.Records.{IsSound, IsOurs, IsOpenRefusal, HoldsRecords};
+ghost use Rattle.mvd_records.specs.Records.{IsSound, IsOurs, IsOpenRefusal, HasNone, HoldsRecords, old_states};
 ghost use Rattle.mvd_site.specs.FromStates.{after_from};
 ghost use Rattle.mvd_site.specs.Held.{IsHeldState};
 ghost use Rattle.mvd_site.specs.Known.{Adds};
@@ -32,6 +32,7 @@ pub struct Replica<S: Alter> {
 
 impl<S: Alter> Replica<S> {
     ghost use Rattle.mvd_replica.specs.Kept.{HoldsSite, HoldsStates, PutsIn, Stores};
+    ghost use Rattle.mvd_replica.specs.Stored.{SameStates};
     ghost use Rattle.mvd_replica.specs.Turns.{AnswersStored};
 
     /// The replica of a site, with the states that its records hold. Records of version 1 are moved to version 2 first, key by
@@ -46,6 +47,9 @@ impl<S: Alter> Replica<S> {
         ensures stands { IfOk result (λ replica. (known : List Write) × Stands replica.site.states known) }
         ensures before { MatchResult result (λ replica. IsSound (state S.Store replica.records.conn) → IsSound (state S.Store conn)) (λ e. IsSound (state S.Store e.1) → IsSound (state S.Store conn)) }
         ensures opened { IfOk result (λ replica. IsSound (state S.Store replica.records.conn) → IsOurs (state S.Store conn).committed → HoldsSite replica.site (state S.Store replica.records.conn).committed) }
+        // The key states that the two maps of the records spell are the same, also after a refusal, and then no old key is left.
+        ensures states { MatchResult result (λ replica. IsSound (state S.Store replica.records.conn) → IsOurs (state S.Store conn).committed → SameStates (state S.Store conn).committed (state S.Store replica.records.conn).committed) (λ e. IsSound (state S.Store e.1) → IsOurs (state S.Store conn).committed → SameStates (state S.Store conn).committed (state S.Store e.1).committed) }
+        ensures alone { IfOk result (λ replica. IsSound (state S.Store replica.records.conn) → IsOurs (state S.Store conn).committed → HasNone (old_states (state S.Store replica.records.conn).committed)) }
         ensures refusal { IfErr result (λ e. IsOpenRefusal e.0 ⊎ ((e.0 ≡ Refusal.Full) ⊎ (e.0 ≡ Refusal.Memory))) }
     {
         let mut records = match Records::open(alloc, conn, config.site()) {

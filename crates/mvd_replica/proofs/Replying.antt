@@ -55,8 +55,7 @@ Replies-append old mid new first second same one other known events stands tells
     let grown : known_after events ≡ known_after p.before ++ known_after p.after = ap known_after p.all ∙ flat_map-append (λ (e : Event). e.added) p.before p.after in
     let regrouped : known ++ known_after events ≡ (known ++ known_after p.before) ++ known_after p.after = ap (λ l. known ++ l) grown ∙ sym (append_assoc known (known_after p.before) (known_after p.after)) in
     let past : AllTold old.config known old.broken p.before mid.broken × SiteStands mid (known ++ known_after p.before) = one known p.before stands p.one in
-    let now : AllTold mid.config (known ++ known_after p.before) mid.broken p.after new.broken × SiteStands new ((known ++ known_after p.before) ++ known_after p.after) = other (known ++ known_after p.before) p.after past.1 p.other in
-    (
+    let now : AllTold mid.config (known ++ known_after p.before) mid.broken p.after new.broken × SiteStands new ((known ++ known_after p.before) ++ known_after p.after) = other (known ++ known_after p.before) p.after past.1 p.other in (
       subst (λ es. AllTold old.config known old.broken es new.broken) (sym p.all)
           (AllTold-append old.config known old.broken mid.broken new.broken p.before p.after past.0 (subst (λ c. AllTold c (known ++ known_after p.before) mid.broken p.after new.broken) same now.0)),
       subst (SiteStands new) (sym regrouped) now.1,
@@ -72,8 +71,7 @@ Replies-one old new turn one known (e ∷ []) stands tells =
     let all : ◌≡◌ {A = List Turn} (e.turn ∷ []) (turn ∷ []) = tells.told in
     let same : e.turn ≡ turn = cc in
     let same_added : known ++ known_after (e ∷ []) ≡ known ++ e.added = ap (λ l. known ++ l) (append-nil e.added) in
-    let adds : AddsAt turn.asked turn.reply e.added = subst (λ (t : Turn). AddsAt t.asked t.reply e.added) same tells.fits.0 in
-    (
+    let adds : AddsAt turn.asked turn.reply e.added = subst (λ (t : Turn). AddsAt t.asked t.reply e.added) same tells.fits.0 in (
       (new.broken, subst (λ (t : Turn). MayTell old.config known old.broken t.asked t.reply new.broken) (sym same) (one.replies known stands), refl),
       subst (SiteStands new) (sym same_added) (one.stands known e.added stands adds),
     )

@@ -50,10 +50,7 @@ fn state_of(alloc: Global, bytes: &[u8]) -> Result<KeyState, Refusal>
 }
 
 /// The keys with the states that are stored, one row after the other.
-fn states_of(
-    alloc: Global,
-    pairs: Vec<(Key, Vec<u8>)>,
-) -> Result<Vec<(Key, KeyState)>, Refusal>
+fn states_of(alloc: Global, pairs: Vec<(Key, Vec<u8>)>) -> Result<Vec<(Key, KeyState)>, Refusal>
     ensures spelled { IfOk result (λ states. spelled_entries states.items ≡ entries_of pairs.items) }
     ensures held { IfOk result (λ states. AllByRecursion (λ entry. IsHeldState entry.1) states.items) }
     ensures refusal { IfErr result (λ e. (e ≡ Refusal.Damaged) ⊎ (e ≡ Refusal.Memory)) }
@@ -70,11 +67,7 @@ fn states_of(
 }
 
 /// The site that records of version 2 hold.
-fn load<S: Alter>(
-    alloc: Global,
-    records: &mut Records<S>,
-    config: Config,
-) -> Result<Site, Refusal>
+fn load<S: Alter>(alloc: Global, records: &mut Records<S>, config: Config) -> Result<Site, Refusal>
     ensures config { IfOk result (λ site. (site.config ≡ config) × (site.broken ≡ false)) }
     ensures stands { IfOk result (λ site. (known : List Write) × Stands site.states known) }
     ensures before { IsSound (state S.Store records.new.conn) → IsSound (state S.Store records.old.conn) }

@@ -10,14 +10,18 @@ use std::alloc::Global;
 
 /// A put of `{"a":1}` at `k`, and its reply.
 pub const PUT: &str = "0000001222016b00000000000000077b2261223a317d";
+
 pub const WRITTEN: &str = "0000000da2000000010000000000000001";
 
 /// A question for the state of `k`, and its reply after the put.
 pub const GET: &str = "0000000321016b";
-pub const STATE: &str = "0000002ea100000001000000010000000000000001000000000001000000010000000000000001000000077b2261223a317d";
+
+pub const STATE: &str =
+    "0000002ea100000001000000010000000000000001000000000001000000010000000000000001000000077b2261223a317d";
 
 /// A Bye, and its reply.
 pub const BYE: &str = "000000012f";
+
 pub const DONE: &str = "00000001a3";
 
 // These have no clause, so that the proof of a test does not carry the state of each call.
@@ -68,8 +72,8 @@ pub fn again<S: Alter + Drop>(
     opened(alloc, replica.into_connection(), number, max_keys)
 }
 
-fn ended(result: Result<Ended, Fault>) -> &'static str {
-    match result {
+fn ended(how: Result<Ended, Fault>) -> &'static str {
+    match how {
         Ok(Ended::Bye) => " bye",
         Ok(Ended::End) => " end",
         Err(Fault::Stopped(refusal)) => refusal.name(),
@@ -92,9 +96,9 @@ pub fn served<S: Alter + Drop>(
     }
     let mut reader = bytes.as_slice();
     let mut writer = Vec::new(alloc);
-    let result = serve(alloc, &mut reader, &mut writer, replica);
+    let how = serve(alloc, &mut reader, &mut writer, replica);
     let mut text = hex::encode(alloc, writer)?;
-    text.push_str(ended(result))?;
+    text.push_str(ended(how))?;
     Ok(text)
 }
 

@@ -7,15 +7,26 @@ use std::test::Fail;
 fn a_replica_is_opened_again(rt: HostRuntime) -> Result<(), Fail> {
     let mut replica = first(rt.alloc())?;
     let text = served(rt.alloc(), &mut replica, &[PUT])?;
-    assert_eq!(rt; text.as_str(), joined(rt.alloc(), &[WRITTEN, " end"])?.as_str());
+    assert_eq!(rt;
+        text.as_str(),
+        joined(rt.alloc(), &[WRITTEN, " end"])?.as_str()
+    );
     let mut replica = again(rt.alloc(), replica, 1, 1)?;
     assert_eq!(rt; replica.key_count(), 1);
     let text = served(rt.alloc(), &mut replica, &[GET])?;
-    assert_eq!(rt; text.as_str(), joined(rt.alloc(), &[STATE, " end"])?.as_str());
+    assert_eq!(rt;
+        text.as_str(),
+        joined(rt.alloc(), &[STATE, " end"])?.as_str()
+    );
     let other = "0000000d22016c00000000000000027b7d";
     let text = served(rt.alloc(), &mut replica, &[other])?;
     assert_eq!(rt; text.as_str(), "00000002ee0a end");
-    assert!(rt; matches!(again(rt.alloc(), replica, 2, 10), Err(Refusal::SiteMismatch)));
+    assert!(rt;
+        matches!(
+            again(rt.alloc(), replica, 2, 10),
+            Err(Refusal::SiteMismatch)
+        )
+    );
     Ok(())
 }
 
@@ -24,7 +35,10 @@ fn too_many_keys_are_not_opened(rt: HostRuntime) -> Result<(), Fail> {
     let mut replica = first(rt.alloc())?;
     let other = "0000000d22016c00000000000000027b7d";
     let text = served(rt.alloc(), &mut replica, &[PUT, other])?;
-    assert_eq!(rt; text.as_str(), joined(rt.alloc(), &[WRITTEN, WRITTEN, " end"])?.as_str());
+    assert_eq!(rt;
+        text.as_str(),
+        joined(rt.alloc(), &[WRITTEN, WRITTEN, " end"])?.as_str()
+    );
     assert!(rt; matches!(again(rt.alloc(), replica, 1, 1), Err(Refusal::Full)));
     Ok(())
 }
@@ -42,7 +56,10 @@ fn records_of_version_1_are_moved(rt: HostRuntime) -> Result<(), Fail> {
     }
     let mut replica = opened(rt.alloc(), conn, 1, 10)?;
     let text = served(rt.alloc(), &mut replica, &[GET])?;
-    assert_eq!(rt; text.as_str(), joined(rt.alloc(), &[STATE, " end"])?.as_str());
+    assert_eq!(rt;
+        text.as_str(),
+        joined(rt.alloc(), &[STATE, " end"])?.as_str()
+    );
     let replica = again(rt.alloc(), replica, 1, 10)?;
     assert_eq!(rt; replica.key_count(), 1);
     Ok(())

@@ -31,19 +31,19 @@ pub loop-key-preserved : goal.loop-key-preserved
 loop-key-preserved g c =
     let road = YieldsList-from_vec {s = c.into_iter-key-iterator.result} c.in-Ok.pairs.items (search rules) (search rules) in
     let turn = YieldsList-turn road c.loop-key.yielded c.loop-key.key-iterator c.loop-key.yielded_by c.next.result c.next.new.self (c.in-Some.key, c.in-Some.bytes) c.in-Some.is c.next.ensures.steps in record {
-  before = λ sound. c.loop-key.invariant.before (c.in-Ok-move_key.ensures.before sound);
-  kept = λ version number sound holds. c.in-Ok-move_key.ensures.kept version number sound (c.loop-key.invariant.kept version number (c.in-Ok-move_key.ensures.before sound) holds);
-  since = λ sound. c.loop-key.invariant.since (c.in-Ok-move_key.ensures.before sound);
-  moving = λ number sound holds.
-      let version = c.args.records.now.version in
-      let before = c.in-Ok-move_key.ensures.before sound in
-      let now = c.loop-key.invariant.kept version number before holds in
-      moving_more _ _ _ c.in-Some.key c.in-Some.bytes.items c.deref.result.now c.in-Ok-respelled.spelled.items c.deref-in-loop-key.result.now
-      (c.loop-key.invariant.moving number before holds) (c.in-Ok-move_key.ensures.moved version number sound now)
-      (found_at _ c.in-Ok.pairs.items (length c.loop-key.yielded) (c.in-Some.key, c.in-Some.bytes) (c.in-Ok.ensures.entries version number (c.loop-key.invariant.since before) holds) turn.0 turn.1)
-      c.in-Ok-respelled.ensures.spelled c.deref-in-loop-key.ensures.value c.deref.ensures.value;
-  version = c.in-Ok-move_key.ensures.version ∙ c.loop-key.invariant.version;
-}
+      before = λ sound. c.loop-key.invariant.before (c.in-Ok-move_key.ensures.before sound);
+      kept = λ version number sound holds. c.in-Ok-move_key.ensures.kept version number sound (c.loop-key.invariant.kept version number (c.in-Ok-move_key.ensures.before sound) holds);
+      since = λ sound. c.loop-key.invariant.since (c.in-Ok-move_key.ensures.before sound);
+      moving = λ number sound holds.
+          let version = c.args.records.now.version in
+          let before = c.in-Ok-move_key.ensures.before sound in
+          let now = c.loop-key.invariant.kept version number before holds in
+          moving_more _ _ _ c.in-Some.key c.in-Some.bytes.items c.deref.result.now c.in-Ok-respelled.spelled.items c.deref-in-loop-key.result.now
+          (c.loop-key.invariant.moving number before holds) (c.in-Ok-move_key.ensures.moved version number sound now)
+          (found_at _ c.in-Ok.pairs.items (length c.loop-key.yielded) (c.in-Some.key, c.in-Some.bytes) (c.in-Ok.ensures.entries version number (c.loop-key.invariant.since before) holds) turn.0 turn.1)
+          c.in-Ok-respelled.ensures.spelled c.deref-in-loop-key.ensures.value c.deref.ensures.value;
+      version = c.in-Ok-move_key.ensures.version ∙ c.loop-key.invariant.version;
+    }
 
 pub returns-clause-moved : goal.returns-clause-moved
 returns-clause-moved g c number sound holds =

@@ -8,8 +8,7 @@ use Rattle.mvd_replica.proofs.turns.send.Goals as goal
 
 pub returns-in-Err : goal.returns-in-Err
 returns-in-Err g c =
-    let memory : c.in-Err.refusal ≡ Memory = must_be_memory c.in-Err.refusal (reply_bytes c.args.reply.now) (reply_frame c.args.reply.now) c.requires c.in-Err.ensures.exact in
-    (
+    let memory : c.in-Err.refusal ≡ Memory = must_be_memory c.in-Err.refusal (reply_bytes c.args.reply.now) (reply_frame c.args.reply.now) c.requires c.in-Err.ensures.exact in (
       Refused Memory,
       inr (c.in_default.ensures, refl),
       goes_out _ _ c.bytes-in-Err.result.now (reply_bytes (Refused Memory)) c.write_frame-in-Err.result

@@ -1,0 +1,100 @@
+-- One request to a replica.
+use Rattle.std.proofs.Common.{◌≡◌, ◌≢◌, ◌⊎◌, ◌∙◌, Bool, true, false, List, [], ◌++◌, Option, Some, Result, Ok, Err, IsSomeAnd, refl, sym, ap, subst, inl, inr, true≢false}
+use Rattle.mvd_dots.specs.declared.refusals.Refusal.{Refusal}
+use Rattle.mvd_dots.specs.declared.refusals.Refusal.TheVariants.{Broken, Memory, Store}
+use Rattle.mvd_keys.specs.Writes.{Stands, Write, state}
+use Rattle.mvd_wire.specs.declared.request.Request.{Request}
+use Rattle.mvd_wire.specs.declared.request.Request.TheVariants.{Bye}
+use Rattle.mvd_wire.specs.declared.reply.Reply.{Reply}
+use Rattle.mvd_wire.specs.declared.reply.Reply.TheVariants.{Refused}
+use Rattle.mvd_wire.specs.Replies.{CanBeSent, is_short}
+use Rattle.mvd_site.specs.Config.{ConfigValue}
+use Rattle.mvd_site.specs.Change.{ChangeValue}
+use Rattle.mvd_site.specs.Known.{Adds, Changes}
+use Rattle.mvd_site.specs.Answer.{change_of}
+use Rattle.mvd_site.specs.Prepared.{PreparesChange}
+use Rattle.mvd_site.specs.Sites.{AnswersOne, SiteStands, SiteValue}
+use Rattle.mvd_site.proofs.Outcomes.{memory_or_not, refused_fits}
+use Rattle.mvd_site.proofs.Prepare.{answers_by_breaking, refuses_all}
+use Rattle.mvd_site.proofs.Steps.{Adds-nothing, Stands-nothing}
+use Rattle.mvd_replica.specs.Kept.{PutsIn, broken_site}
+use Rattle.mvd_replica.specs.Turns.{AnswersStored, MayTell, StoreRefused}
+use Rattle.mvd_replica.specs.Steps.{RepliesTo}
+use Rattle.mvd_replica.proofs.Replying.{AddsAt-Refused, AddsAt-Refused-none, MayTell-memory}
+
+-- what a site does with a request that stores nothing
+pub answers_unstored : (old new : SiteValue) (request : Request) (reply : Reply) → AnswersOne old new request reply → AnswersStored old new request reply
+answers_unstored old new request reply one = record { replies = λ known stands. inl (one.replies known stands); stands = one.stands }
+
+-- a change that the store refused
+pub answers_by_store : (old : SiteValue) (request : Request) (change : ChangeValue) → old.broken ≡ false →
+    ((known : List Write) → Stands old.states known → PreparesChange old.config known request change) → AnswersStored old old request (Refused Store)
+answers_by_store old request change whole prepared = record {
+  replies = λ known stands.
+      let here : PreparesChange old.config known request change = prepared known (stands whole) in
+      let changes : Changes old.config known request =
+      subst (λ o. IsSomeAnd o (λ c. c.1 ≢ state c.0 known)) (sym (ap (λ r. change_of known request r) (sym here.answers) ∙ here.leaves)) here.differs in
+      inr (record { told = refl; changes = changes; whole = whole; still = whole });
+  stands = λ known added stands adds unbroken.
+      Stands-nothing old.states known added (stands unbroken) (Adds-nothing [] request (Refused Store) added adds (refuses_all request Store []));
+}
+
+-- a change that was not put in
+pub answers_refused : (old new : SiteValue) (request : Request) (change : ChangeValue) (refusal : Refusal) → old.broken ≡ false → PutsIn {A = Unit {0}} old new change (Err refusal) →
+    ((known : List Write) → Stands old.states known → PreparesChange old.config known request change) → AnswersStored old new request (Refused refusal)
+answers_refused old new request change refusal whole (inl store) prepared =
+    subst (λ r. AnswersStored old new request (Refused r)) (sym store.0) (subst (λ s. AnswersStored old s request (Refused Store)) (sym store.1) (answers_by_store old request change whole prepared))
+answers_refused old new request change refusal whole (inr broke) prepared =
+    subst (λ r. AnswersStored old new request (Refused r)) (sym broke.0)
+    (answers_unstored old new request (Refused Broken) (answers_by_breaking old new request change whole (ap (λ (s : SiteValue). s.broken) broke.1) prepared))
+
+-- what is told as 22 is not 21
+pub not_store : (refusal : Refusal) → Refused refusal ≡ Refused Broken → refusal ≢ Store
+not_store refusal is store = let bad : Refused Store ≡ Refused Broken = ap (λ r. Refused r) (sym store) ∙ is in absurd cc
+
+-- ---- a frame
+
+stays : (site : SiteValue) (known added : List Write) → SiteStands site known → added ≡ [] → SiteStands site (known ++ added)
+stays site known added stands none whole = Stands-nothing site.states known added (stands whole) none
+
+may_refuse : (config : ConfigValue) (known : List Write) (broken : Bool) (asked : Result Request Refusal) (refusal : Refusal) → (refusal ≢ Memory → asked ≡ Err refusal) → (refusal ≡ Memory) ⊎ (refusal ≢ Memory) →
+    MayTell config known broken asked (Refused refusal) broken
+may_refuse config known broken asked refusal exact (inl memory) = subst (λ r. MayTell config known broken asked (Refused r) broken) (sym memory) (MayTell-memory config known broken broken asked refl)
+may_refuse config known broken asked refusal exact (inr other) =
+    let fault : asked ≡ Err refusal = exact other in
+    subst (λ a. MayTell config known broken a (Refused refusal) broken) (sym fault) (inl (refl, refl))
+
+-- one that does not decode
+pub refused_frame : (site : SiteValue) (asked : Result Request Refusal) (refusal : Refusal) → (refusal ≢ Memory → asked ≡ Err refusal) → (asked ≡ Ok Bye → ◌≡◌ {A = Result Request Refusal} (Err refusal) (Ok Bye)) →
+    RepliesTo asked site site (Refused refusal)
+refused_frame site asked refusal exact bye = record {
+  one = record {
+    replies = λ known stands. may_refuse site.config known site.broken asked refusal exact (memory_or_not refusal);
+    stands = λ known added stands adds. stays site known added stands (AddsAt-Refused asked refusal added adds);
+  };
+  fits = refused_fits refusal;
+  goes_on = λ is. (let no : ◌≡◌ {A = Result Request Refusal} (Err refusal) (Ok Bye) = bye is in absurd cc);
+  choice = ([], AddsAt-Refused-none asked refusal);
+  config = refl;
+  long = λ _. refl;
+}
+
+-- a reply that takes memory is told by a site that is not broken, and was not
+long_is_whole : (old new : SiteValue) (reply : Reply) (before after : Bool) → old.broken ≡ before → new.broken ≡ after → (new.broken ≡ true → reply ≡ Refused Broken) → (old.broken ≡ true → new ≡ old) → is_short reply ≡ false → new.broken ≡ old.broken
+long_is_whole old new reply before true was is told stays long =
+    let broken : reply ≡ Refused Broken = told is in absurd (true≢false (ap is_short (sym broken) ∙ long))
+long_is_whole old new reply true false was is told stays long = ap (λ (s : SiteValue). s.broken) (stays was)
+long_is_whole old new reply false false was is told stays long = is ∙ sym was
+
+-- and one that does
+pub replied : (old new : SiteValue) (asked : Result Request Refusal) (request : Request) (reply : Reply) → asked ≡ Ok request → AnswersStored old new request reply → CanBeSent reply → (request ≡ Bye → ⊥) →
+    ((added : List Write) × Adds request reply added) → new.config ≡ old.config → (new.broken ≡ true → reply ≡ Refused Broken) → (old.broken ≡ true → new ≡ old) → RepliesTo asked old new reply
+replied old new asked request reply is one fits no_bye some config told stays =
+    subst (λ a. RepliesTo a old new reply) (sym is) (record {
+      one = record { replies = λ known stands. inl (one.replies known stands); stands = one.stands };
+      fits = fits;
+      goes_on = λ bye. no_bye cc;
+      choice = some;
+      config = config;
+      long = long_is_whole old new reply old.broken new.broken refl refl told stays;
+    })

@@ -1,0 +1,115 @@
+-- Turns, and what ends them.
+use Rattle.std.proofs.Common.{◌≡◌, ℕ, ◌+◌, ◌<◌, ◌≤◌, List, [], ◌∷◌, ◌++◌, length, flat_map, take, suc, Option, Some, None, Result, Ok, Err, inl, inr, ◌⊎◌, refl, sym, ap, ◌∙◌, subst, append_assoc, append-nil, arith}
+use Rattle.std.proofs.lemmas.Grind.{flat_map-append}
+use Rattle.std.proofs.lemmas.List.{length-append}
+use Rattle.std.proofs.KnownBytes.{Appends-trans, Appends-nil}
+use Rattle.std.specs.Io.KnownBytes.{Appends}
+use Rattle.std.proofs.Math.Seq.{take-add}
+use Rattle.mvd_dots.specs.declared.refusals.Refusal.{Refusal}
+use Rattle.mvd_dots.specs.declared.refusals.Refusal.TheVariants.{WriteFailed, TooManyRequests}
+use Rattle.mvd_wire.specs.declared.reply.Reply.TheVariants.{Refused}
+use Rattle.mvd_site.specs.Sites.{SiteValue}
+use Rattle.mvd_wire.specs.Frames.{AppendsFront}
+use Rattle.mvd_wire.specs.Replies.{reply_bytes}
+use Rattle.mvd_replica.specs.declared.serving.Ended.{Ended}
+use Rattle.mvd_replica.specs.declared.serving.Fault.{Fault}
+use Rattle.mvd_replica.specs.declared.serving.Fault.TheVariants.{Stopped}
+use Rattle.mvd_replica.specs.declared.serving.TheConstants.{FRAMES_MAX}
+use Rattle.mvd_replica.specs.Turns.{Turn, Replies, AreFrames, GoesOn}
+use Rattle.mvd_replica.specs.Served.{Side, Ending, AtBye, AtEnd, AtRefusal, AtWriter, Stops, GoesOut, IsCount, Served, Went, replies_bytes, last_bytes, result_of}
+use Rattle.mvd_replica.specs.Steps.{Ends, IsLastCount, TakesTurn}
+use Rattle.mvd_replica.proofs.Replying.{Replies-append, Replies-none, AreFrames-append, GoesOn-append, HasChoice-none, HasChoice-append}
+
+replies_bytes-append : (first second : List Turn) → replies_bytes (first ++ second) ≡ replies_bytes first ++ replies_bytes second
+replies_bytes-append first second = flat_map-append (λ (t : Turn). reply_bytes t.reply) first second
+
+-- no turn at all
+pub Went-none : (side : Side) → Went [] side side
+Went-none side = record {
+  replies = Replies-none side.site;
+  config = refl;
+  choice = HasChoice-none;
+  goes_on = tt;
+  read = λ bytes known. (bytes, known, refl);
+  wrote = Appends-nil side.output;
+}
+
+pub Went-append : (first second : List Turn) (a b c : Side) → Went first a b → Went second b c → Went (first ++ second) a c
+Went-append first second a b c one other = record {
+  replies = Replies-append a.site b.site c.site first second one.config one.replies other.replies;
+  config = other.config ∙ one.config;
+  choice = HasChoice-append first second one.choice other.choice;
+  goes_on = GoesOn-append first second one.goes_on other.goes_on;
+  read = λ bytes known.
+      let p : (rest : List ℕ) × (b.input ≡ Some rest) × AreFrames first bytes rest = one.read bytes known in
+      let q : (rest : List ℕ) × (c.input ≡ Some rest) × AreFrames second p.0 rest = other.read p.0 p.1 in
+      (q.0, q.1, AreFrames-append first second bytes p.0 q.0 p.2 q.2);
+  wrote = subst (Appends a.output c.output) (sym (replies_bytes-append first second)) (Appends-trans _ _ _ _ _ one.wrote other.wrote);
+}
+
+take-past : (front bytes : List ℕ) (n : ℕ) → (m : ℕ) × (front ++ take n bytes ≡ take m (front ++ bytes))
+take-past [] bytes n = (n, refl)
+take-past (x ∷ front) bytes n = let later : (m : ℕ) × (front ++ take n bytes ≡ take m (front ++ bytes)) = take-past front bytes n in (suc later.0, ap (λ (l : List ℕ). x ∷ l) later.1)
+
+GoesOut-after : {X : Type 0} (a b c : Option (List ℕ)) (front bytes : List ℕ) (failed result wanted : X) → Appends a b front → GoesOut b c bytes failed result wanted → GoesOut a c (front ++ bytes) failed result wanted
+GoesOut-after a b c front bytes failed result wanted one (inl other) = inl (other.0, Appends-trans _ _ _ _ _ one other.1)
+GoesOut-after a b c front bytes failed result wanted one (inr other) =
+    let m : (m : ℕ) × (front ++ take other.1.0 bytes ≡ take m (front ++ bytes)) = take-past front bytes other.1.0 in
+    inr (other.0, (m.0, subst (Appends a c) m.1 (Appends-trans _ _ _ _ _ one other.1.1)))
+
+counted : (n count : ℕ) (ending : Ending) → n < FRAMES_MAX → IsLastCount count ending → IsCount (n + count) ending
+counted n count AtBye room last = omega arith
+counted n count AtEnd room last = omega arith
+counted n count (AtRefusal refusal) room last = inl (omega (arith, last.0), last.1)
+counted n count AtWriter room last = omega arith
+
+pub Served-after : (turns : List Turn) (a b c : Side) (result : Result Ended Fault) → Went turns a b → length turns < FRAMES_MAX → Ends b c result → Served a c result
+Served-after turns a b c result one room last = record {
+  turns = turns ++ last.turns;
+  ending = last.ending;
+  replies = Replies-append a.site b.site c.site turns last.turns one.config one.replies last.replies;
+  choice = HasChoice-append turns last.turns one.choice last.choice;
+  goes_on = GoesOn-append turns last.turns one.goes_on last.goes_on;
+  count = subst (λ n. IsCount n last.ending) (sym (length-append turns last.turns)) (counted (length turns) (length last.turns) last.ending room last.count);
+  read = λ bytes known.
+      let p : (rest : List ℕ) × (b.input ≡ Some rest) × AreFrames turns bytes rest = one.read bytes known in
+      let q : (rest : List ℕ) × AreFrames last.turns p.0 rest × Stops rest c.input last.ending = last.read p.0 p.1 in
+      (q.0, AreFrames-append turns last.turns bytes p.0 q.0 p.2 q.1, q.2);
+  wrote = subst (λ l. GoesOut a.output c.output l (Err (Stopped WriteFailed)) result (result_of last.ending))
+      (sym (append_assoc (replies_bytes turns) (replies_bytes last.turns) (last_bytes c.site.broken last.ending)) ∙ ap (λ l. l ++ last_bytes c.site.broken last.ending) (sym (replies_bytes-append turns last.turns)))
+      (GoesOut-after a.output b.output c.output (replies_bytes turns) (replies_bytes last.turns ++ last_bytes c.site.broken last.ending) (Err (Stopped WriteFailed)) result (result_of last.ending) one.wrote last.wrote);
+}
+
+pub GoesOut-err : (a b : Option (List ℕ)) (bytes : List ℕ) (failed fault wanted : Fault) → GoesOut a b bytes failed fault wanted → GoesOut {X = Result Ended Fault} a b bytes (Err failed) (Err fault) (Err wanted)
+GoesOut-err a b bytes failed fault wanted (inl h) = inl (ap (λ (f : Fault). Err f) h.0, h.1)
+GoesOut-err a b bytes failed fault wanted (inr h) = inr (ap (λ (f : Fault). Err f) h.0, h.1)
+
+-- as many turns as there may be
+pub Served-full : (turns : List Turn) (a b : Side) (output : Option (List ℕ)) (fault : Fault) → Went turns a b → length turns ≡ FRAMES_MAX →
+    GoesOut b.output output (reply_bytes (Refused TooManyRequests)) (Stopped WriteFailed) fault (Stopped TooManyRequests) →
+    Served a (record { site = b.site; input = b.input; output = output }) (Err fault)
+Served-full turns a b output fault one full told = record {
+  turns = turns;
+  ending = AtRefusal TooManyRequests;
+  replies = one.replies;
+  choice = one.choice;
+  goes_on = one.goes_on;
+  count = inr (full, refl);
+  read = λ bytes known.
+      let p : (rest : List ℕ) × (b.input ≡ Some rest) × AreFrames turns bytes rest = one.read bytes known in
+      (p.0, p.2, inr (inr (inl (refl, p.1))));
+  wrote = GoesOut-after a.output b.output output (replies_bytes turns) (reply_bytes (Refused TooManyRequests)) (Err (Stopped WriteFailed)) (Err fault) (Err (Stopped TooManyRequests)) one.wrote
+      (GoesOut-err b.output output (reply_bytes (Refused TooManyRequests)) (Stopped WriteFailed) fault (Stopped TooManyRequests) told);
+}
+
+-- ---- as the code has them
+
+pub Served-some : (turns : List Turn) (a b c : Side) (found : Option Ended) (ended : Ended) → Went turns a b → length turns < FRAMES_MAX → found ≡ Some ended → TakesTurn b c (Ok found) → Served a c (Ok ended)
+Served-some turns a b c found ended one room same taken =
+    Served-after turns a b c (Ok ended) one room (subst (λ o. TakesTurn b c (Ok o)) same taken)
+
+pub Went-more : (turns : List Turn) (a b c : Side) (found : Option Ended) (n : ℕ) → length turns ≡ n → Went turns a b → found ≡ None → TakesTurn b c (Ok found) →
+    (all : List Turn) × (length all ≡ n + 1) × Went all a c
+Went-more turns a b c found n count one same taken =
+    let next : (turn : Turn) × Went (turn ∷ []) b c = subst (λ o. TakesTurn b c (Ok o)) same taken in
+    (turns ++ next.0 ∷ [], length-append turns (next.0 ∷ []) ∙ ap (λ k. k + 1) count, Went-append turns (next.0 ∷ []) a b c one next.1)

@@ -1,0 +1,7 @@
+use Rattle.std.proofs.Common.{sym}
+use Rattle.mvd_wire.specs.Kinds.{spell_state}
+use Rattle.mvd_replica.proofs.opening.state_of.Goals as goal
+
+pub returns-then-may_be_held-clause-spelled : goal.returns-then-may_be_held-clause-spelled
+unfolding spell_state
+returns-then-may_be_held-clause-spelled c = sym c.in-Ok.ensures.found.1

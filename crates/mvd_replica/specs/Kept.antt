@@ -1,0 +1,45 @@
+-- What the records of a site hold: this project's own format (docs/FORMATS.md, "Records").
+use Rattle.std.specs.Prelude.{◌≡◌, ◌≢◌, ◌⊎◌, false, true, List, ℕ, Result, Ok, Err, option_map}
+use Rattle.std.specs.FinMap.{get, insert}
+use Rattle.mvd_dots.specs.declared.refusals.Refusal.{Refusal}
+use Rattle.mvd_dots.specs.declared.refusals.Refusal.TheVariants.{Broken, Store}
+use Rattle.mvd_keys.specs.Writes.{Key}
+use Rattle.mvd_wire.specs.Kinds.{spell_state}
+use Rattle.mvd_records.specs.States.{States as Stored}
+use Rattle.mvd_records.specs.Records.{HoldsRecords, SavesState, new_states}
+use Rattle.mvd_site.specs.Change.{ChangeValue}
+use Rattle.mvd_site.specs.Held.{States}
+use Rattle.mvd_site.specs.Sites.{SiteValue}
+use Rattle.sqlite.specs.Effect.{Database}
+
+-- just these states are stored, each as it is spelled
+abbrev pub SpellStates : Stored → States → Type 0
+SpellStates stored states = (key : Key) → get stored key ≡ option_map spell_state (get states key)
+
+-- the database holds the records of a site of this number, which are these states
+pub record HoldsStates (site : ℕ) (states : States) (db : Database) : Type 0 where
+  pub records : HoldsRecords 2 site db
+  pub spelled : SpellStates (new_states db) states
+
+-- the site and the records agree, unless the site is broken
+pub record HoldsSite (site : SiteValue) (db : Database) : Type 0 where
+  pub records : HoldsRecords 2 site.config.site db
+  pub spelled : site.broken ≡ false → SpellStates (new_states db) site.states
+
+-- the site with a change put in
+abbrev pub with_change : SiteValue → ChangeValue → SiteValue
+with_change site change = record { config = site.config; states = insert site.states change.key change.state; broken = false }
+
+-- the site, broken
+abbrev pub broken_site : SiteValue → SiteValue
+broken_site site = record { config = site.config; states = site.states; broken = true }
+
+-- what putting a change in comes to: it is in; or the store refused, and the site is as it was; or the site is broken
+abbrev pub PutsIn : {A : Type 0} → SiteValue → SiteValue → ChangeValue → Result A Refusal → Type 0
+PutsIn old new change (Ok done) = new ≡ with_change old change
+PutsIn old new change (Err refusal) = ((refusal ≡ Store) × (new ≡ old)) ⊎ ((refusal ≡ Broken) × (new ≡ broken_site old))
+
+-- what is then stored: the change, unless the store refused it
+abbrev pub Stores : {A : Type 0} → Database → Database → ChangeValue → Result A Refusal → Type 0
+Stores old new change (Ok done) = SavesState old new change.key (spell_state change.state)
+Stores old new change (Err refusal) = refusal ≢ Store → SavesState old new change.key (spell_state change.state)

@@ -1,0 +1,5 @@
+pub mod Kept
+pub mod Stored
+pub mod Turns
+pub mod Served
+pub mod Steps

@@ -1,0 +1,88 @@
+-- A whole connection: from the bytes that came to the bytes that went out.
+use Rattle.std.specs.Prelude.{◌≡◌, ◌≢◌, ◌⊎◌, ℕ, ◌<◌, ◌≤◌, Bool, if◌then◌else◌, List, [], ◌++◌, length, flat_map, Option, Some, Result, Ok, Err, ⊤}
+use Rattle.std.specs.List.{AllByRecursion}
+use Rattle.std.specs.Io.KnownBytes.{Appends}
+use Rattle.mvd_dots.specs.declared.refusals.Refusal.{Refusal}
+use Rattle.mvd_dots.specs.declared.refusals.Refusal.TheVariants.{Memory, Broken, ReadFailed, WriteFailed, TooManyRequests}
+use Rattle.mvd_wire.specs.declared.request.Request.TheVariants.{Bye}
+use Rattle.mvd_wire.specs.declared.reply.Reply.TheVariants.{Done, Refused}
+use Rattle.mvd_wire.specs.Frames.{AppendsFront, FrameValue, frame_at}
+use Rattle.mvd_wire.specs.Requests.{request_of}
+use Rattle.mvd_wire.specs.Replies.{reply_bytes}
+use Rattle.mvd_site.specs.Sites.{SiteValue}
+use Rattle.mvd_replica.specs.declared.serving.Ended.{Ended}
+use Rattle.mvd_replica.specs.declared.serving.Ended.TheVariants as ended
+use Rattle.mvd_replica.specs.declared.serving.Fault.{Fault}
+use Rattle.mvd_replica.specs.declared.serving.Fault.TheVariants.{Stopped}
+use Rattle.mvd_replica.specs.declared.serving.TheConstants.{FRAMES_MAX}
+use Rattle.mvd_replica.specs.Turns.{AreFrames, Event, GoesOn, Replies, Tells, Turn}
+
+-- a site between a reader and a writer, whose bytes may not be known
+pub record Side : Type 0 where
+  pub site : SiteValue
+  pub input : Option (List ℕ)
+  pub output : Option (List ℕ)
+
+-- what ends a connection once the turns are over: a Bye, the end of the input, a refusal that is told in one frame more, or the
+-- writer
+pub data Ending : Type 0 where
+  AtBye : Ending
+  AtEnd : Ending
+  AtRefusal : Refusal → Ending
+  AtWriter : Ending
+
+abbrev pub result_of : Ending → Result Ended Fault
+result_of AtBye = Ok ended.Bye
+result_of AtEnd = Ok ended.End
+result_of (AtRefusal refusal) = Err (Stopped refusal)
+result_of AtWriter = Err (Stopped WriteFailed)
+
+-- the frame that goes out at the end
+abbrev pub last_bytes : Bool → Ending → List ℕ
+last_bytes broken AtBye = reply_bytes (if broken then Refused Broken else Done)
+last_bytes broken AtEnd = []
+last_bytes broken (AtRefusal refusal) = reply_bytes (Refused refusal)
+last_bytes broken AtWriter = []
+
+-- why the reading of frames ended at this rest, and what is left unread of it
+abbrev pub Stops : List ℕ → Option (List ℕ) → Ending → Type 0
+Stops rest left AtBye = (frame : FrameValue) × (next : List ℕ) × (frame_at rest ≡ Ok (Some frame, next)) × (request_of frame.kind frame.payload ≡ Ok Bye) × (left ≡ Some next)
+Stops rest left AtEnd = (rest ≡ []) × (left ≡ Some [])
+Stops rest left (AtRefusal refusal) =
+    (refusal ≡ Memory) ⊎ ((refusal ≡ ReadFailed) ⊎ (((refusal ≡ TooManyRequests) × (left ≡ Some rest)) ⊎ (frame_at rest ≡ Err refusal)))
+Stops rest left AtWriter = ⊤
+
+-- so many frames were answered: as many as there may be exactly where that is what ends it
+abbrev pub IsCount : ℕ → Ending → Type 0
+IsCount count AtBye = count < FRAMES_MAX
+IsCount count AtEnd = count < FRAMES_MAX
+IsCount count (AtRefusal refusal) = ((count < FRAMES_MAX) × (refusal ≢ TooManyRequests)) ⊎ ((count ≡ FRAMES_MAX) × (refusal ≡ TooManyRequests))
+IsCount count AtWriter = count ≤ FRAMES_MAX
+
+-- the frames of the replies, one after the other
+abbrev pub replies_bytes : List Turn → List ℕ
+replies_bytes turns = flat_map (λ turn. reply_bytes turn.reply) turns
+
+-- the bytes went out, or the writer failed and a front of them did
+abbrev pub GoesOut : {X : Type 0} → Option (List ℕ) → Option (List ℕ) → List ℕ → X → X → X → Type 0
+GoesOut old new bytes failed result wanted = ((result ≡ wanted) × Appends old new bytes) ⊎ ((result ≡ failed) × AppendsFront old new bytes)
+
+-- Every frame was answered from the writes known then, and the connection ended so
+pub record Served (old new : Side) (result : Result Ended Fault) : Type 0 where
+  pub turns : List Turn
+  pub ending : Ending
+  pub replies : Replies old.site new.site turns
+  pub choice : (events : List Event) × Tells events turns
+  pub goes_on : AllByRecursion GoesOn turns
+  pub count : IsCount (length turns) ending
+  pub read : (bytes : List ℕ) → old.input ≡ Some bytes → (rest : List ℕ) × AreFrames turns bytes rest × Stops rest new.input ending
+  pub wrote : GoesOut old.output new.output (replies_bytes turns ++ last_bytes new.site.broken ending) (Err (Stopped WriteFailed)) result (result_of ending)
+
+-- turns that were taken, after which the connection goes on
+pub record Went (turns : List Turn) (old new : Side) : Type 0 where
+  pub replies : Replies old.site new.site turns
+  pub config : new.site.config ≡ old.site.config
+  pub choice : (events : List Event) × Tells events turns
+  pub goes_on : AllByRecursion GoesOn turns
+  pub read : (bytes : List ℕ) → old.input ≡ Some bytes → (rest : List ℕ) × (new.input ≡ Some rest) × AreFrames turns bytes rest
+  pub wrote : Appends old.output new.output (replies_bytes turns)

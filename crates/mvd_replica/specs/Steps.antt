@@ -1,0 +1,59 @@
+-- One frame of a connection.
+use Rattle.std.specs.Prelude.{◌≡◌, ◌≢◌, ◌⊎◌, ℕ, false, List, [], ◌∷◌, ◌++◌, length, Option, Some, None, Result, Ok, Err}
+use Rattle.std.specs.List.{AllByRecursion}
+use Rattle.mvd_dots.specs.declared.refusals.Refusal.{Refusal}
+use Rattle.mvd_dots.specs.declared.refusals.Refusal.TheVariants.{Memory, WriteFailed, TooManyRequests}
+use Rattle.mvd_keys.specs.Writes.{Write}
+use Rattle.mvd_wire.specs.declared.request.Request.{Request}
+use Rattle.mvd_wire.specs.declared.request.Request.TheVariants.{Bye}
+use Rattle.mvd_wire.specs.declared.reply.Reply.{Reply}
+use Rattle.mvd_wire.specs.declared.reply.Reply.TheVariants.{Refused}
+use Rattle.mvd_wire.specs.Replies.{CanBeSent, is_short}
+use Rattle.mvd_site.specs.Sites.{SiteValue}
+use Rattle.mvd_replica.specs.declared.serving.Ended.{Ended}
+use Rattle.mvd_replica.specs.declared.serving.Fault.{Fault}
+use Rattle.mvd_replica.specs.declared.serving.Fault.TheVariants.{Stopped}
+use Rattle.mvd_replica.specs.Turns.{AddsAt, AreFrames, Event, GoesOn, Replies, RepliesOne, Tells, Turn}
+use Rattle.mvd_replica.specs.Served.{AtBye, AtEnd, AtRefusal, AtWriter, Ending, GoesOut, Side, Stops, Went, last_bytes, replies_bytes, result_of}
+
+-- the reply that goes out: want of memory may stand in place of one that needs memory
+abbrev pub IsSent : Reply → Reply → Type 0
+IsSent reply sent = (sent ≡ reply) ⊎ ((is_short reply ≡ false) × (sent ≡ Refused Memory))
+
+-- what answering one frame does, a Bye apart
+pub record RepliesTo (asked : Result Request Refusal) (old new : SiteValue) (reply : Reply) : Type 0 where
+  pub one : RepliesOne old new (record { asked = asked; reply = reply })
+  pub fits : CanBeSent reply
+  pub goes_on : asked ≡ Ok Bye → ⊥
+  pub choice : (added : List Write) × AddsAt asked reply added
+  pub config : new.config ≡ old.config
+  -- a reply that takes memory told nothing but what was asked for
+  pub long : is_short reply ≡ false → new.broken ≡ old.broken
+
+-- the same, or nothing where the frame is a Bye
+abbrev pub TellsFrame : Result Request Refusal → SiteValue → SiteValue → Option Reply → Type 0
+TellsFrame asked old new None = (asked ≡ Ok Bye) × (new ≡ old)
+TellsFrame asked old new (Some reply) = RepliesTo asked old new reply
+
+abbrev pub IsLastCount : ℕ → Ending → Type 0
+IsLastCount count AtBye = count ≡ 0
+IsLastCount count AtEnd = count ≡ 0
+IsLastCount count (AtRefusal refusal) = (count ≡ 0) × (refusal ≢ TooManyRequests)
+IsLastCount count AtWriter = count ≡ 1
+
+-- the connection ends here
+pub record Ends (old new : Side) (result : Result Ended Fault) : Type 0 where
+  pub turns : List Turn
+  pub ending : Ending
+  pub replies : Replies old.site new.site turns
+  pub choice : (events : List Event) × Tells events turns
+  pub goes_on : AllByRecursion GoesOn turns
+  pub count : IsLastCount (length turns) ending
+  pub read : (bytes : List ℕ) → old.input ≡ Some bytes → (rest : List ℕ) × AreFrames turns bytes rest × Stops rest new.input ending
+  pub wrote : GoesOut old.output new.output (replies_bytes turns ++ last_bytes new.site.broken ending) (Err (Stopped WriteFailed)) result (result_of ending)
+
+-- one turn was taken, or the connection ended
+abbrev pub TakesTurn : Side → Side → Result (Option Ended) Fault → Type 0
+TakesTurn old new (Ok None) = (turn : Turn) × Went (turn ∷ []) old new
+TakesTurn old new (Ok (Some ended)) = Ends old new (Ok ended)
+TakesTurn old new (Err fault) = Ends old new (Err fault)

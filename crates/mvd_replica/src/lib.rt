@@ -1,0 +1,10 @@
+//! A site with its records, and the answering of one connection.
+#![tactic(auto)]
+
+mod opening;
+pub mod replica;
+pub mod serving;
+mod turns;
+
+pub use replica::Replica;
+pub use serving::{Ended, FRAMES_MAX, Fault, serve};

@@ -1,0 +1,145 @@
+//! A site whose states are stored before a reply says so.
+ghost use Rattle.std.specs.Prelude.{◌≡◌, ◌≢◌, ◌⊎◌, List, Err, IfErr, IfOk, MatchResult, false, true};
+ghost use Rattle.std.specs.FinMap as map;
+ghost use Rattle.mvd_dots.specs.declared.refusals.Refusal.{Refusal};
+ghost use Rattle.mvd_dots.specs.declared.refusals.Refusal.TheVariants.{Broken};
+ghost use Rattle.mvd_keys.specs.Writes.{Stands, Write};
+ghost use Rattle.mvd_wire.specs.declared.reply.Reply.TheVariants.{Refused};
+ghost use Rattle.mvd_wire.specs.Replies.{CanBeSent};
+ghost use Rattle.mvd_records.specs.Records.{IsSound, IsOurs, IsOpenRefusal, HasNone, HoldsRecords, old_states};
+ghost use Rattle.mvd_site.specs.FromStates.{after_from};
+ghost use Rattle.mvd_site.specs.Held.{IsHeldState};
+ghost use Rattle.mvd_site.specs.Known.{Adds};
+ghost use Rattle.mvd_site.specs.Prepared.{IsChangeNow};
+ghost use Rattle.mvd_site.specs.Sites.{has_no_room};
+ghost use Rattle.sqlite.specs.Held.{state};
+
+use crate::opening::site_in;
+use mvd_dots::Refusal;
+use mvd_records::Records;
+use mvd_site::{Change, Config, Prepared, Site};
+use mvd_wire::{Reply, Request};
+use sqlite::{Alter, Connection};
+use std::alloc::Global;
+
+/// A site, and its records: unless the site is broken, they hold its states.
+#[derive(Drop)]
+pub struct Replica<S: Alter> {
+    site: Site,
+    records: Records<S>,
+    ghost moved: { records.version ≡ 2 },
+}
+
+impl<S: Alter> Replica<S> {
+    ghost use Rattle.mvd_replica.specs.Kept.{HoldsSite, HoldsStates, PutsIn, Stores};
+    ghost use Rattle.mvd_replica.specs.Stored.{SameStates};
+    ghost use Rattle.mvd_replica.specs.Turns.{AnswersStored};
+
+    /// The replica of a site, with the states that its records hold. Records of version 1 are moved to version 2 first, key by
+    /// key. A refusal gives the connection back.
+    pub fn open(
+        alloc: Global,
+        conn: Connection<S>,
+        config: Config,
+    ) -> Result<Replica<S>, (Refusal, Connection<S>)>
+        ensures config { IfOk result (λ replica. (replica.site.config ≡ config) × (replica.site.broken ≡ false)) }
+        // There is a set of writes that it stands for.
+        ensures stands { IfOk result (λ replica. (known : List Write) × Stands replica.site.states known) }
+        ensures before { MatchResult result (λ replica. IsSound (state S.Store replica.records.conn) → IsSound (state S.Store conn)) (λ e. IsSound (state S.Store e.1) → IsSound (state S.Store conn)) }
+        ensures opened { IfOk result (λ replica. IsSound (state S.Store replica.records.conn) → IsOurs (state S.Store conn).committed → HoldsSite replica.site (state S.Store replica.records.conn).committed) }
+        // The key states that the two maps of the records spell are the same, also after a refusal, and then no old key is left.
+        ensures states { MatchResult result (λ replica. IsSound (state S.Store replica.records.conn) → IsOurs (state S.Store conn).committed → SameStates (state S.Store conn).committed (state S.Store replica.records.conn).committed) (λ e. IsSound (state S.Store e.1) → IsOurs (state S.Store conn).committed → SameStates (state S.Store conn).committed (state S.Store e.1).committed) }
+        ensures alone { IfOk result (λ replica. IsSound (state S.Store replica.records.conn) → IsOurs (state S.Store conn).committed → HasNone (old_states (state S.Store replica.records.conn).committed)) }
+        ensures refusal { IfErr result (λ e. IsOpenRefusal e.0 ⊎ ((e.0 ≡ Refusal.Full) ⊎ (e.0 ≡ Refusal.Memory))) }
+    {
+        let mut records = match Records::open(alloc, conn, config.site()) {
+            Ok(records) => records,
+            Err(refused) => return Err(refused),
+        };
+        match site_in(alloc, &mut records, config) {
+            Ok(site) => Ok(Replica { site, records }),
+            Err(refusal) => Err((refusal, records.into_connection())),
+        }
+    }
+
+    pub fn config(&self) -> &Config
+        ensures { result.now ≡ self.now.site.config }
+    {
+        self.site.config()
+    }
+
+    /// The number of keys that are held.
+    pub fn key_count(&self) -> u32
+        ensures { result ≡ map.len self.now.site.states }
+    {
+        self.site.key_count()
+    }
+
+    /// Whether an install was refused memory: the replica then answers `Broken` to everything, until it is opened again.
+    pub fn is_broken(&self) -> bool
+        ensures { result ≡ self.now.site.broken }
+    {
+        self.site.is_broken()
+    }
+
+    /// The connection of the records.
+    pub fn into_connection(self) -> Connection<S>
+        ensures { result ≡ self.records.conn }
+    {
+        let Replica { site: _, records } = self;
+        records.into_connection()
+    }
+
+    /// Stores a change and puts it in.
+    fn put_in(&mut self, change: Change) -> Result<(), Refusal>
+        requires room { has_no_room self.old.site.config self.old.site.states change.key ≡ false }
+        requires held { IsHeldState change.state }
+        requires fresh { IsChangeNow self.old.site change }
+        ensures site { PutsIn self.old.site self.new.site change result }
+        ensures before { IsSound (state S.Store self.new.records.conn) → IsSound (state S.Store self.old.records.conn) }
+        ensures kept { (site : _) → IsSound (state S.Store self.new.records.conn) → HoldsRecords 2 site (state S.Store self.old.records.conn).committed → HoldsRecords 2 site (state S.Store self.new.records.conn).committed }
+        ensures stored { (site : _) → IsSound (state S.Store self.new.records.conn) → HoldsRecords 2 site (state S.Store self.old.records.conn).committed → Stores (state S.Store self.old.records.conn).committed (state S.Store self.new.records.conn).committed change result }
+        ensures unchanged { IsSound (state S.Store self.new.records.conn) → result ≡ Err Refusal.Store → (state S.Store self.new.records.conn).committed ≡ (state S.Store self.old.records.conn).committed }
+    {
+        match self.records.save(change.key(), change.bytes()) {
+            Ok(()) => {}
+            Err(refusal) => return Err(refusal),
+        }
+        self.site.install(change)
+    }
+
+    /// Answers one request: the change is prepared, then stored, and then put in. A refusal other than `Broken` leaves the site
+    /// and the records as they were.
+    pub fn answer(&mut self, request: &Request) -> Reply
+        ensures answer { AnswersStored self.old.site self.new.site request.now result }
+        // There is a set of writes that it adds.
+        ensures choice { (added : List Write) × Adds request.now result added }
+        ensures config { self.new.site.config ≡ self.old.site.config }
+        // It is not too long for its frame.
+        ensures fits { CanBeSent result }
+        // Whether it is broken, and for good.
+        ensures told { result ≡ Refused Broken → self.new.site.broken ≡ true }
+        ensures broken { self.new.site.broken ≡ true → result ≡ Refused Broken }
+        ensures stays { self.old.site.broken ≡ true → self.new ≡ self.old }
+        ensures unchanged { (refusal : Refusal) → result ≡ Refused refusal → refusal ≢ Broken → self.new.site ≡ self.old.site }
+        ensures unstored { (refusal : Refusal) → IsSound (state S.Store self.new.records.conn) → result ≡ Refused refusal → refusal ≢ Broken → (state S.Store self.new.records.conn).committed ≡ (state S.Store self.old.records.conn).committed }
+        // The records follow the states.
+        ensures before { IsSound (state S.Store self.new.records.conn) → IsSound (state S.Store self.old.records.conn) }
+        ensures records { IsSound (state S.Store self.new.records.conn) → HoldsSite self.old.site (state S.Store self.old.records.conn).committed → HoldsSite self.new.site (state S.Store self.new.records.conn).committed }
+        // Where a change breaks the site, they hold the states with the change in.
+        ensures stored { IsSound (state S.Store self.new.records.conn) → HoldsSite self.old.site (state S.Store self.old.records.conn).committed → self.old.site.broken ≡ false → result ≡ Refused Broken →
+            HoldsStates self.old.site.config.site (after_from self.old.site.config self.old.site.states request.now) (state S.Store self.new.records.conn).committed }
+    {
+        match self.site.prepare(request) {
+            Err(refusal) => Reply::Refused(refusal),
+            Ok(Prepared::Answer(reply)) => reply,
+            Ok(Prepared::Change(change)) => {
+                let reply = change.reply();
+                match self.put_in(change) {
+                    Ok(()) => reply,
+                    Err(refusal) => Reply::Refused(refusal),
+                }
+            }
+        }
+    }
+}

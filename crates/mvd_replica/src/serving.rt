@@ -1,0 +1,58 @@
+//! The answering of one connection.
+ghost use Rattle.std.specs.Prelude.{◌≡◌};
+ghost use Rattle.mvd_records.specs.Records.{IsSound};
+ghost use Rattle.mvd_replica.specs.Kept.{HoldsSite};
+ghost use Rattle.mvd_replica.specs.Served.{Served, Side};
+ghost use Rattle.sqlite.specs.Held.{state};
+
+use crate::replica::Replica;
+use crate::turns::{stop, take_turn};
+use mvd_dots::Refusal;
+use sqlite::Alter;
+use std::alloc::Global;
+use std::io::{Read, Write};
+
+/// How a connection ended well.
+#[derive(Clone, Copy, Debug, PartialEq, Eq)]
+pub enum Ended {
+    /// It was said.
+    Bye,
+    /// The input ended after a frame.
+    End,
+}
+
+/// Why it ended otherwise.
+#[derive(Clone, Copy, Debug, PartialEq, Eq)]
+pub enum Fault {
+    Stopped(Refusal),
+    /// A line of a script is no command.
+    Line(u64),
+}
+
+/// As many frames of a connection are answered.
+pub const FRAMES_MAX: u32 = 1_000_000;
+
+/// Answers the frames of one connection, one after the other, until its Bye, its end, or a refusal that ends it.
+pub fn serve<R: Read, W: Write, S: Alter>(
+    alloc: Global,
+    reader: &mut R,
+    writer: &mut W,
+    replica: &mut Replica<S>,
+) -> Result<Ended, Fault>
+    ensures served { Served
+        (record { site = replica.old.site; input = R.remaining reader.old; output = W.contents writer.old })
+        (record { site = replica.new.site; input = R.remaining reader.new; output = W.contents writer.new }) result }
+    // The records follow the states.
+    ensures before { IsSound (state S.Store replica.new.records.conn) → IsSound (state S.Store replica.old.records.conn) }
+    ensures records { IsSound (state S.Store replica.new.records.conn) → HoldsSite replica.old.site (state S.Store replica.old.records.conn).committed → HoldsSite replica.new.site (state S.Store replica.new.records.conn).committed }
+    ensures config { replica.new.site.config ≡ replica.old.site.config }
+{
+    for _frame in 0..FRAMES_MAX {
+        match take_turn(alloc, reader, writer, replica) {
+            Ok(None) => continue,
+            Ok(Some(ended)) => return Ok(ended),
+            Err(fault) => return Err(fault),
+        }
+    }
+    Err(stop(writer, Refusal::TooManyRequests))
+}

@@ -1,0 +1,124 @@
+//! One frame of a connection.
+ghost use Rattle.std.specs.Prelude.{◌≡◌, if◌then◌else◌, Ok, Err, true, false};
+ghost use Rattle.mvd_dots.specs.declared.refusals.Refusal.TheVariants.{Broken, WriteFailed};
+ghost use Rattle.mvd_wire.specs.declared.request.Request.TheVariants.{Bye};
+ghost use Rattle.mvd_wire.specs.declared.reply.Reply.{Reply};
+ghost use Rattle.mvd_wire.specs.declared.reply.Reply.TheVariants.{Done, Refused};
+ghost use Rattle.mvd_wire.specs.Requests.{request_of};
+ghost use Rattle.mvd_wire.specs.Replies.{CanBeSent, reply_bytes};
+ghost use Rattle.mvd_records.specs.Records.{IsSound};
+ghost use Rattle.mvd_replica.specs.declared.serving.Fault.TheVariants.{Stopped};
+ghost use Rattle.mvd_replica.specs.Kept.{HoldsSite};
+ghost use Rattle.mvd_replica.specs.Served.{GoesOut, Side};
+ghost use Rattle.mvd_replica.specs.Steps.{IsSent, TakesTurn, TellsFrame};
+ghost use Rattle.sqlite.specs.Held.{state};
+
+use crate::replica::Replica;
+use crate::serving::{Ended, Fault};
+use mvd_dots::Refusal;
+use mvd_wire::{
+    Frame, Reply, Request, Short, decode_request, encode_reply, read_frame, short_reply,
+    write_frame,
+};
+use sqlite::Alter;
+use std::alloc::Global;
+use std::io::{Read, Write};
+
+/// Writes a Refused at the end of a connection.
+pub fn stop<W: Write>(writer: &mut W, refusal: Refusal) -> Fault
+    ensures { GoesOut (W.contents writer.old) (W.contents writer.new) (reply_bytes (Refused refusal)) (Stopped WriteFailed) result (Stopped refusal) }
+{
+    match write_frame(writer, Short::refused(refusal).bytes()) {
+        Ok(()) => Fault::Stopped(refusal),
+        Err(failed) => Fault::Stopped(failed),
+    }
+}
+
+/// Writes a reply, or want of memory in its place.
+fn send<W: Write>(alloc: Global, writer: &mut W, reply: &Reply) -> Result<(), Refusal>
+    requires { CanBeSent reply.now }
+    ensures { (sent : Reply) × IsSent reply.now sent × GoesOut (W.contents writer.old) (W.contents writer.new) (reply_bytes sent) (Err WriteFailed) result (Ok tt) }
+{
+    if let Some(short) = short_reply(reply) {
+        return write_frame(writer, short.bytes());
+    }
+    match encode_reply(alloc, reply) {
+        Ok(bytes) => write_frame(writer, &bytes),
+        Err(refusal) => write_frame(writer, Short::refused(refusal).bytes()),
+    }
+}
+
+/// The frame that answers a Bye.
+fn last(broken: bool) -> Short
+    ensures { result ≡ reply_bytes (if broken then Refused Broken else Done) }
+{
+    if broken {
+        Short::refused(Refusal::Broken)
+    } else {
+        Short::done()
+    }
+}
+
+fn is_bye(request: &Request) -> bool
+    ensures yes { result ≡ true → request.now ≡ Bye }
+    ensures no { result ≡ false → request.now ≡ Bye → ⊥ }
+{
+    match request {
+        Request::Bye => true,
+        _ => false,
+    }
+}
+
+/// Answers a frame. It is `None` for a Bye.
+fn reply_to<S: Alter>(alloc: Global, replica: &mut Replica<S>, frame: &Frame) -> Option<Reply>
+    ensures told { TellsFrame (request_of frame.now.kind frame.now.payload.items) replica.old.site replica.new.site result }
+    ensures before { IsSound (state S.Store replica.new.records.conn) → IsSound (state S.Store replica.old.records.conn) }
+    ensures records { IsSound (state S.Store replica.new.records.conn) → HoldsSite replica.old.site (state S.Store replica.old.records.conn).committed → HoldsSite replica.new.site (state S.Store replica.new.records.conn).committed }
+    ensures config { replica.new.site.config ≡ replica.old.site.config }
+{
+    let request = match decode_request(alloc, frame.kind, &frame.payload) {
+        Ok(request) => request,
+        Err(refusal) => return Some(Reply::Refused(refusal)),
+    };
+    if is_bye(&request) {
+        return None;
+    }
+    Some(replica.answer(&request))
+}
+
+/// Reads a frame, answers it and writes the reply. It is `None` where the connection goes on.
+pub fn take_turn<R: Read, W: Write, S: Alter>(
+    alloc: Global,
+    reader: &mut R,
+    writer: &mut W,
+    replica: &mut Replica<S>,
+) -> Result<Option<Ended>, Fault>
+    ensures taken { TakesTurn
+        (record { site = replica.old.site; input = R.remaining reader.old; output = W.contents writer.old })
+        (record { site = replica.new.site; input = R.remaining reader.new; output = W.contents writer.new }) result }
+    ensures before { IsSound (state S.Store replica.new.records.conn) → IsSound (state S.Store replica.old.records.conn) }
+    ensures records { IsSound (state S.Store replica.new.records.conn) → HoldsSite replica.old.site (state S.Store replica.old.records.conn).committed → HoldsSite replica.new.site (state S.Store replica.new.records.conn).committed }
+    ensures config { replica.new.site.config ≡ replica.old.site.config }
+{
+    let frame = match read_frame(alloc, reader) {
+        Ok(Some(frame)) => frame,
+        Ok(None) => return Ok(Some(Ended::End)),
+        Err(refusal) => {
+            let fault = stop(writer, refusal);
+            return Err(fault);
+        }
+    };
+    match reply_to(alloc, replica, &frame) {
+        None => {
+            let last = last(replica.is_broken());
+            match write_frame(writer, last.bytes()) {
+                Ok(()) => return Ok(Some(Ended::Bye)),
+                Err(failed) => return Err(Fault::Stopped(failed)),
+            }
+        }
+        Some(reply) => match send(alloc, writer, &reply) {
+            Ok(()) => return Ok(None),
+            Err(failed) => return Err(Fault::Stopped(failed)),
+        },
+    }
+}

@@ -2,7 +2,13 @@
 #![tactic(auto)]
 
 #[cfg(test)]
+mod bucket;
+#[cfg(test)]
+mod faults;
+#[cfg(test)]
 mod liars;
+#[cfg(test)]
+mod many;
 #[cfg(test)]
 mod peers;
 #[cfg(test)]

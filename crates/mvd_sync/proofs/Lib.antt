@@ -1,4 +1,3 @@
-pub mod Linking
 pub mod JoinLaws
 pub mod Steps
 pub mod Together

@@ -1,25 +1,29 @@
 -- A site as a side of a session.
 use Rattle.std.proofs.Common.{◌≡◌, ◌≢◌, ◌⊎◌, inl, inr, ℕ, ◌<◌, ◌≤◌, Bool, true, false, cond, ◌&&◌, ◌==◌, List, length, refl, sym, ap, subst, ◌∙◌, arith, Some, None, Option, true≢false}
-use Rattle.std.specs.Prelude.{IfOk, IfErr, OnOk, Result, Ok, Err, nat_lt, if◌then◌else◌, unwrap_or}
+use Rattle.std.specs.Prelude.{IfOk, IfErr, OnOk, Result, Ok, Err, nat_lt, if◌then◌else◌, unwrap_or, is_some, not}
 use Rattle.std.proofs.lemmas.Bool.Decides.{nat_tests}
 use Rattle.std.specs.Ordering.{nat_cmp, eq_by_cmp}
 use Rattle.std.specs.Cmp.{Equal-is}
 use Rattle.std.specs.Cmp.Lexicographic.{slice_cmp, nat_list_cmp_total}
 use Rattle.std.specs.FinMap.{get, insert, remove, len, get-remove, same_map}
 use Rattle.mvd_dots.specs.declared.refusals.Refusal.{Refusal}
-use Rattle.mvd_dots.specs.declared.refusals.Refusal.TheVariants.{Broken, DotClash}
-use Rattle.mvd_keys.specs.State.{State, IsValid, empty_state, join}
+use Rattle.mvd_dots.specs.declared.refusals.Refusal.TheVariants.{BadPath, Broken, DotClash, Full, Memory, StateTooLarge}
+use Rattle.mvd_keys.specs.State.{State, IsValid, clashes, empty_state, join}
 use Rattle.mvd_keys.specs.Writes.{is_empty}
 use Rattle.mvd_keys.proofs.Lists.{IsValid-join, join-empty, state_of_empty}
 use Rattle.mvd_tree.specs.HashTree.{KeyDigests, node_digest}
 use Rattle.mvd_tree.specs.Page.{children_digests}
 use Rattle.mvd_tree.proofs.Under.{keys_same}
 use Rattle.mvd_wire.specs.declared.reply.Digests.{Digests}
-use Rattle.mvd_site.specs.Answer.{digests, node_digests}
-use Rattle.mvd_site.specs.FromStates.{unless_broken, with_state}
+use Rattle.mvd_wire.specs.declared.request.Request.TheVariants.{Push}
+use Rattle.mvd_wire.specs.declared.reply.Reply.TheVariants.{Done, Refused}
+use Rattle.mvd_site.specs.Answer.{digests, is_full, is_too_large, node_digests}
+use Rattle.mvd_site.specs.Config.{ConfigValue}
+use Rattle.mvd_site.specs.FromStates.{AnswersFrom, bucket_refusal, push_reply, unless_broken, with_state}
 use Rattle.mvd_site.specs.Held.{AreHeld, States, state_at}
 use Rattle.mvd_site.specs.Sites.{SiteValue}
 use Rattle.mvd_sync.specs.Session.{is_nothing, put_state, pushed}
+use Rattle.mvd_sync.specs.Sides.{SiteFollows, SiteRefuses, is_site_refusal, tells_broken}
 use Rattle.mvd_sync.proofs.JoinLaws.{nothing_empty, valid_at}
 
 -- ---- the digests of a node
@@ -99,3 +103,80 @@ module _ (old new : SiteValue) (key : List ℕ) (s : State) (whole : (old.broken
   pub push_unbroken : (r : Result (Unit {0}) Refusal) → IfErr r (λ refusal. refusal ≢ Broken → new ≡ old) → IfErr r (λ refusal. refusal ≢ Broken → (new.broken ≡ false) × AreHeld new.states)
   push_unbroken (Ok done) same = tt
   push_unbroken (Err refusal) same = λ other. (ap (λ (v : SiteValue). v.broken) (same other) ∙ whole.0, held)
+
+-- what a push does not change
+pub push_follows : (old new : SiteValue) (after : States) (r : Result (Unit {0}) Refusal) → OnOk r (new ≡ record { config = old.config; states = after; broken = false }) → IfErr r (λ refusal. refusal ≢ Broken → new ≡ old)
+    → IfErr r (λ refusal. refusal ≡ Broken → new ≡ record { config = old.config; states = old.states; broken = true }) → (old.broken ≡ true → r ≡ Err Broken) → SiteFollows old new
+push_follows old new after (Ok done) is same told stays = (ap (λ (v : SiteValue). v.config) is, λ broken. let never = stays broken in absurd (cc))
+push_follows old new after (Err refusal) is same told stays = elim (is_broken refusal) [
+  | inl e ↦ (ap (λ (v : SiteValue). v.config) (told e), λ broken. told e ∙ (λ i. record { config = old.config; states = old.states; broken = sym broken i }))
+  | inr other ↦ (ap (λ (v : SiteValue). v.config) (same other), λ _. same other)
+]
+
+-- ---- what a site refuses
+
+same_refusal : (refusal told : Refusal) → Refused told ≡ Refused refusal → refusal ≡ told
+same_refusal refusal told e = cc
+
+is_told : (site : SiteValue) (refusal told : Refusal) → refusal ≡ told → is_site_refusal told ≡ true → site.broken ≡ tells_broken told → SiteRefuses site refusal
+is_told site refusal told e one broken = (ap is_site_refusal e ∙ one, broken ∙ sym (ap tells_broken e))
+
+module _ (site : SiteValue) (path : List ℕ) (r : Result Digests Refusal) (e : r ≡ unless_broken site.broken (Err Broken) (Ok (node_digests (digests site.states) path))) where
+  comes : (broken : Bool) → site.broken ≡ broken → r ≡ unless_broken broken (Err Broken) (Ok (node_digests (digests site.states) path))
+  comes broken is = e ∙ ap (λ b. unless_broken b (Err Broken) (Ok (node_digests (digests site.states) path))) is
+
+  pub node_refuses : IfErr r (SiteRefuses site)
+  node_refuses = elim site.broken as (λ b. site.broken ≡ b → IfErr r (SiteRefuses site)) [
+    | true ↦ λ is. subst (λ r. IfErr r (SiteRefuses site)) (sym (comes true is)) (refl, is)
+    | false ↦ λ is. subst (λ r. IfErr r (SiteRefuses site)) (sym (comes false is)) tt
+  ] refl
+
+  pub node_answers : OnOk r (site.broken ≡ false)
+  node_answers = elim site.broken as (λ b. site.broken ≡ b → OnOk r (site.broken ≡ false)) [
+    | true ↦ λ is. subst (λ r. OnOk r (site.broken ≡ false)) (sym (comes true is)) tt
+    | false ↦ λ is. subst (λ r. OnOk r (site.broken ≡ false)) (sym (comes false is)) is
+  ] refl
+
+bucket_told : (broken three : Bool) (refusal : Refusal) → refusal ≡ (if broken then Broken else if three then Memory else BadPath) → (is_site_refusal refusal ≡ true) × (broken ≡ tells_broken refusal)
+bucket_told true three refusal e = (ap is_site_refusal e, sym (ap tells_broken e))
+bucket_told false true refusal e = (ap is_site_refusal e, sym (ap tells_broken e))
+bucket_told false false refusal e = (ap is_site_refusal e, sym (ap tells_broken e))
+
+pub bucket_refuses : {X : Type 0} (site : SiteValue) (path : List ℕ) (r : Result X Refusal) → IfErr r (λ refusal. refusal ≡ bucket_refusal site.broken path) → IfErr r (SiteRefuses site)
+bucket_refuses site path (Ok done) e = tt
+bucket_refuses site path (Err refusal) e = bucket_told site.broken (length path == 3) refusal e
+
+pub get_refuses : {X : Type 0} (site : SiteValue) (r : Result X Refusal) → IfErr r (λ refusal. refusal ≡ unless_broken site.broken Broken Memory) → IfErr r (SiteRefuses site)
+get_refuses site (Ok done) e = tt
+get_refuses site (Err refusal) e = bucket_told site.broken true refusal e
+
+-- why a push is refused, by the limits
+push_told : (large clash larger full : Bool) (refusal : Refusal) → (if large then Refused StateTooLarge else if clash then Refused DotClash else if larger then Refused StateTooLarge else if full then Refused Full else Done) ≡ Refused refusal
+    → (is_site_refusal refusal ≡ true) × (false ≡ tells_broken refusal)
+push_told true clash larger full refusal e = let is = same_refusal refusal StateTooLarge e in (ap is_site_refusal is, sym (ap tells_broken is))
+push_told false true larger full refusal e = let is = same_refusal refusal DotClash e in (ap is_site_refusal is, sym (ap tells_broken is))
+push_told false false true full refusal e = let is = same_refusal refusal StateTooLarge e in (ap is_site_refusal is, sym (ap tells_broken is))
+push_told false false false true refusal e = let is = same_refusal refusal Full e in (ap is_site_refusal is, sym (ap tells_broken is))
+push_told false false false false refusal e = absurd (cc)
+
+module _ (old new : SiteValue) (key : List ℕ) (s : State) where
+  pub push_refuses : (r : Result (Unit {0}) Refusal) → AnswersFrom old new (Push key s) (push_reply r) → IfErr r (λ refusal. refusal ≡ Broken → new ≡ record { config = old.config; states = old.states; broken = true }) → (old.broken ≡ true → r ≡ Err Broken)
+      → IfErr r (SiteRefuses new)
+  push_refuses (Ok done) from told stays = tt
+  push_refuses (Err refusal) from told stays = elim old.broken as (λ b. old.broken ≡ b → SiteRefuses new refusal) [
+    | true ↦ λ was.
+        let e : Err refusal ≡ Err Broken = stays was in
+        let is : refusal ≡ Broken = cc in
+        is_told new refusal Broken is refl (ap (λ (v : SiteValue). v.broken) (told is))
+    | false ↦ λ was. elim (from was) [
+      | inl answered ↦
+          let why = push_told (is_too_large s) (clashes (state_at old.states key) s) (is_too_large (join (state_at old.states key) s)) (is_full old.config (is_some (get old.states key)) (len old.states) && not (is_empty (join (state_at old.states key) s).context)) refusal (sym answered.answers) in
+          (why.0, ap (λ (v : SiteValue). v.broken) answered.site ∙ why.1)
+      | inr (inl memory) ↦ is_told new refusal Memory (same_refusal refusal Memory (sym memory.0)) refl (ap (λ (v : SiteValue). v.broken) memory.1 ∙ was)
+      | inr (inr broke) ↦ is_told new refusal Broken (same_refusal refusal Broken (sym broke.0)) refl (ap (λ (v : SiteValue). v.broken) broke.1.site)
+    ]
+  ] refl
+
+pub push_answers : (new : SiteValue) (config : ConfigValue) (after : States) (r : Result (Unit {0}) Refusal) → OnOk r (new ≡ record { config = config; states = after; broken = false }) → OnOk r (new.broken ≡ false)
+push_answers new config after (Ok done) e = ap (λ (v : SiteValue). v.broken) e
+push_answers new config after (Err refusal) e = tt

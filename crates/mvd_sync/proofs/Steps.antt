@@ -5,7 +5,7 @@ use Rattle.std.specs.Ordering.{nat_cmp, eq_by_cmp, is_eq}
 use Rattle.std.specs.Cmp.{tied_itself, Equal-is}
 use Rattle.std.specs.Cmp.Lexicographic.{slice_cmp, nat_list_cmp_total}
 use Rattle.std.specs.FinMap.{get, insert, remove, get-insert, get-remove}
-use Rattle.mvd_keys.specs.State.{State, clashes, empty_state, join}
+use Rattle.mvd_keys.specs.State.{IsValid, State, clashes, empty_state, join}
 use Rattle.mvd_sync.specs.Session.{is_nothing, put_state, pushed, pushed_all, Each, ComesByPushes, is_member, AreDistinct, IsClash}
 use Rattle.mvd_site.specs.Held.{States, state_at}
 use Rattle.mvd_sync.proofs.JoinLaws.{nothing_is, no_clash_again}
@@ -19,10 +19,10 @@ use Rattle.mvd_dots.specs.declared.refusals.Refusal.{Refusal}
 -- ---- pushes into one side
 
 pub no_pushes : (can_give : List ℕ → State → Type 0) (a b : States) → b ≡ a → ComesByPushes can_give a b
-no_pushes can_give a b e = record { pushes = []; given = tt; is = e }
+no_pushes can_give a b e = record { pushes = []; given = tt; valid = tt; is = e }
 
 pub one_push : (can_give : List ℕ → State → Type 0) (T : Type 0) (from a : States) (key : List ℕ) (a' : States) → Carries can_give T from a key a' → ComesByPushes can_give a a'
-one_push can_give T from a key a' c = record { pushes = (key, c.state) ∷ []; given = (c.given, tt); is = c.is }
+one_push can_give T from a key a' c = record { pushes = (key, c.state) ∷ []; given = (c.given, tt); valid = (c.valid, tt); is = c.is }
 
 Each-append : {X : Type 0} (P : X → Type 0) (xs ys : List X) → Each P xs → Each P ys → Each P (xs ++ ys)
 Each-append P [] ys p q = q
@@ -36,6 +36,7 @@ pub more_pushes : (can_give : List ℕ → State → Type 0) (a b c : States) �
 more_pushes can_give a b c p q = record {
   pushes = p.pushes ++ q.pushes;
   given = Each-append (λ p. can_give p.0 p.1) p.pushes q.pushes p.given q.given;
+  valid = Each-append (λ p. IsValid p.1) p.pushes q.pushes p.valid q.valid;
   is = q.is ∙ ap (λ m. pushed_all m q.pushes) p.is ∙ sym (pushed_all-append a p.pushes q.pushes);
 }
 
@@ -62,18 +63,17 @@ or-false false = refl
 pub only : (k q : List ℕ) → IsTrue (is_member (k ∷ []) q) → q ≡ k
 only k q h = keys_same q k ((Equal-is _).0 (sym (or-false _) ∙ h))
 
-pub nothing_done : (part : List ℕ → Type 0) (T U : Type 0) (a b a' b' : States) (fault : SyncFault) → (T → a' ≡ a) → (U → b' ≡ b) → U → (IsClash fault → ClashesIn part a b) → Stopped part T U a b a' b' fault
-nothing_done part T U a b a' b' fault p q u clash = record { keys = []; last = None; within = tt; distinct = tt; local = p; peer = q; peer_unbroken = λ _. u; clash = clash }
+pub nothing_done : (part : List ℕ → Type 0) (T U : Type 0) (a b a' b' : States) (fault : SyncFault) → (T → a' ≡ a) → (U → b' ≡ b) → (IsClash fault → ClashesIn part a b) → Stopped part T U a b a' b' fault
+nothing_done part T U a b a' b' fault p q clash = record { keys = []; last = None; within = tt; distinct = tt; local = p; peer = q; clash = clash }
 
-pub only_pulled : (can_give : List ℕ → State → Type 0) (part : List ℕ → Type 0) (T U V : Type 0) (a b a' b' : States) (fault : SyncFault) (key : List ℕ) → part key → V → Carries can_give V b a key a' → (U → b' ≡ b) → (fault ≢ Peer Broken → U) → (IsClash fault → ⊥) → Stopped part T U a b a' b' fault
-only_pulled can_give part T U V a b a' b' fault key p v c q unbroken never = record {
+pub only_pulled : (can_give : List ℕ → State → Type 0) (part : List ℕ → Type 0) (T U V : Type 0) (a b a' b' : States) (fault : SyncFault) (key : List ℕ) → part key → V → Carries can_give V b a key a' → (U → b' ≡ b) → (IsClash fault → ⊥) → Stopped part T U a b a' b' fault
+only_pulled can_give part T U V a b a' b' fault key p v c q never = record {
   keys = [];
   last = Some key;
   within = (p, tt);
   distinct = (refl, tt);
   local = λ _. c.is ∙ ap (pushed a key) (c.answer v);
   peer = q;
-  peer_unbroken = unbroken;
   clash = λ is. absurd (never is);
 }
 
@@ -94,13 +94,14 @@ one_key can_give can_give' V W a b a' b' key v w differ c d =
 
 -- the taker is as it was after that
 pub carries_kept : (can_give : List ℕ → State → Type 0) (T : Type 0) (from into : States) (key : List ℕ) (into' into'' : States) → into'' ≡ into' → Carries can_give T from into key into' → Carries can_give T from into key into''
-carries_kept can_give T from into key into' into'' e c = record { state = c.state; given = c.given; answer = c.answer; is = e ∙ c.is; apart = c.apart }
+carries_kept can_give T from into key into' into'' e c = record { state = c.state; given = c.given; valid = c.valid; answer = c.answer; is = e ∙ c.is; apart = c.apart }
 
 -- the giver is as it was, and the taker was so before that
 pub carries_from : (can_give : List ℕ → State → Type 0) (T : Type 0) (from into from' into' : States) (key : List ℕ) (new : States) → from' ≡ from → into ≡ into' → Carries can_give T from into key new → Carries can_give T from' into' key new
 carries_from can_give T from into from' into' key new e f c = record {
   state = c.state;
   given = c.given;
+  valid = c.valid;
   answer = λ t. c.answer t ∙ ap (λ m. state_at m key) (sym e);
   is = c.is ∙ ap (λ m. pushed m key c.state) f;
   apart = ap (λ m. clashes (state_at m key) c.state) (sym f) ∙ c.apart;

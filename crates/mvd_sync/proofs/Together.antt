@@ -165,7 +165,6 @@ module _ (tell : Type 0) (part part2 part3 : List ℕ → Type 0) (a b a1 b1 a2 
         distinct = subst AreDistinct (sym (with_last-append w.keys s.keys s.last)) (distinct-append part part2 apart w.keys (with_last s.keys s.last) w.within s.within w.distinct s.distinct);
         local = λ t. s.local t ∙ ap (λ (p : States × States). p.0) there;
         peer = λ u. s.peer u ∙ ap (λ (p : States × States). p.1) there;
-        peer_unbroken = s.peer_unbroken;
         clash = λ is.
             let found = s.clash is in
             let kept = walk_leaves tell part a b a1 b1 n w found.key (λ q. apart found.key q found.within) in
@@ -173,15 +172,14 @@ module _ (tell : Type 0) (part part2 part3 : List ℕ → Type 0) (a b a1 b1 a2 
       }
 
 -- a walk that ended may have been all
-pub walk_was_all : (tell : Type 0) (part part' : List ℕ → Type 0) (T U : Type 0) (a b a' b' a'' b'' : States) (n : ℕ) (fault : SyncFault) → ((k : List ℕ) → part k → part' k) → Walked tell part a b a' b' n → (T → a'' ≡ a') → (U → b'' ≡ b') → U → (IsClash fault → ⊥) → Stopped part' T U a b a'' b'' fault
-walk_was_all tell part part' T U a b a' b' a'' b'' n fault into w e f u never = record {
+pub walk_was_all : (tell : Type 0) (part part' : List ℕ → Type 0) (T U : Type 0) (a b a' b' a'' b'' : States) (n : ℕ) (fault : SyncFault) → ((k : List ℕ) → part k → part' k) → Walked tell part a b a' b' n → (T → a'' ≡ a') → (U → b'' ≡ b') → (IsClash fault → ⊥) → Stopped part' T U a b a'' b'' fault
+walk_was_all tell part part' T U a b a' b' a'' b'' n fault into w e f never = record {
   keys = w.keys;
   last = None;
   within = Each-weaker part part' into w.keys w.within;
   distinct = w.distinct;
   local = λ t. e t ∙ ap (λ (p : States × States). p.0) w.states;
   peer = λ u. f u ∙ ap (λ (p : States × States). p.1) w.states;
-  peer_unbroken = λ _. u;
   clash = λ is. absurd (never is);
 }
 
@@ -207,6 +205,5 @@ walk_into tell part part' T U a b a' b' (Err fault) into back s = record {
   distinct = s.distinct;
   local = s.local;
   peer = s.peer;
-  peer_unbroken = s.peer_unbroken;
   clash = λ is. let found = s.clash is in record { key = found.key; within = into found.key found.within; clash = found.clash };
 }

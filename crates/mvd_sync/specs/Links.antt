@@ -3,7 +3,7 @@ use Rattle.std.specs.Prelude.{◌≡◌, ◌≢◌, ◌⊎◌, ◌<◌, ◌≤�
 use Rattle.std.specs.Io.KnownBytes.{Appends}
 use Rattle.mvd_dots.specs.Refusal.{number_of}
 use Rattle.mvd_dots.specs.declared.refusals.Refusal.{Refusal}
-use Rattle.mvd_dots.specs.declared.refusals.Refusal.TheVariants.{Memory}
+use Rattle.mvd_dots.specs.declared.refusals.Refusal.TheVariants.{BadKind, FrameTooLong, Memory, ReadFailed, Truncated, WriteFailed}
 use Rattle.mvd_wire.specs.declared.request.Request.{Request}
 use Rattle.mvd_wire.specs.declared.request.Request.TheVariants.{Get, Put, Delete, Find, Row, Rows, Node, Bucket, Push, Range, Bye}
 use Rattle.mvd_wire.specs.declared.reply.Reply.{Reply}
@@ -11,12 +11,21 @@ use Rattle.mvd_wire.specs.declared.reply.Reply.TheVariants.{Refused}
 use Rattle.mvd_wire.specs.Frames.{AppendsFront, FrameValue, frame_at}
 use Rattle.mvd_wire.specs.Requests.{request_frame}
 use Rattle.mvd_wire.specs.Replies.{reply_of}
+use Rattle.mvd_sync.specs.declared.remote.Remote.{Remote}
 
 -- what the reader has left, what the writer took, and the refusal of the link itself, if there was one
 pub record Link : Type 0 where
   pub input : Option (List ℕ)
   pub output : Option (List ℕ)
   pub refused : Option Refusal
+
+-- the link of a remote side, by what is known of a reader's and of a writer's bytes
+abbrev pub link : {R W : Type 0} → (R → Option (List ℕ)) → (W → Option (List ℕ)) → Remote R W → Link
+link remaining contents remote = record { input = remaining remote.reader; output = contents remote.writer; refused = remote.refused }
+
+-- the link goes on
+abbrev pub GoesOn : Link → Type 0
+GoesOn link = link.refused ≡ None
 
 -- the kind byte of the replies that accept a request
 abbrev pub answered_by : Request → ℕ
@@ -32,12 +41,11 @@ answered_by (Push k s) = 0xA3
 answered_by (Range f from to after) = 0xA4
 answered_by Bye = 0xA3
 
--- just this frame went out, and just one frame came in, of which this holds; the link goes on
+-- just this frame went out, and just one frame came in, of which this holds
 pub record Exchanged (old new : Link) (sent : List ℕ) (Came : FrameValue → Type 0) : Type 0 where
   pub wrote : Appends old.output new.output sent
   pub read : (bytes : List ℕ) → old.input ≡ Some bytes →
       (frame : FrameValue) × (rest : List ℕ) × (frame_at bytes ≡ Ok (Some frame, rest)) × (new.input ≡ Some rest) × Came frame
-  pub goes_on : new.refused ≡ None
 
 -- the frame spells the reply, which is of the kind that was asked for, or a refusal
 abbrev pub Tells : ℕ → Reply → FrameValue → Type 0
@@ -47,20 +55,40 @@ Tells kind reply frame = ((frame.kind ≡ kind) ⊎ (frame.kind ≡ 0xEE)) × (r
 abbrev pub TellsNone : ℕ → Refusal → FrameValue → Type 0
 TellsNone kind refusal frame = ((frame.kind ≡ kind) ⊎ (frame.kind ≡ 0xEE)) × (refusal ≢ Memory → reply_of frame.kind frame.payload ≡ Err refusal)
 
--- the refusals of a link itself: those from 30 on, and want of memory while a frame is read
-abbrev pub IsOwn : Refusal → Type 0
-IsOwn refusal = (30 ≤ number_of refusal) ⊎ (refusal ≡ Memory)
+-- the frame is of another kind than was asked for, and no refusal
+abbrev pub IsOther : ℕ → FrameValue → Type 0
+IsOther kind frame = (frame.kind ≢ kind) × (frame.kind ≢ 0xEE)
 
--- the link itself refuses, from now on; a front of the frame went out
-pub record Breaks (old new : Link) (sent : List ℕ) (refusal : Refusal) : Type 0 where
-  pub front : AppendsFront old.output new.output sent
-  pub own : IsOwn refusal
+-- just this frame went out, and of the bytes that the reader had left this holds
+pub record Unanswered (old new : Link) (sent : List ℕ) (Left : List ℕ → Type 0) : Type 0 where
+  pub wrote : Appends old.output new.output sent
+  pub left : (bytes : List ℕ) → old.input ≡ Some bytes → Left bytes
+
+-- the bytes end before a frame does
+abbrev pub EndsEarly : List ℕ → Type 0
+EndsEarly bytes = (frame_at bytes ≡ Err Truncated) ⊎ ((rest : List ℕ) × (frame_at bytes ≡ Ok (None, rest)))
+
+-- why a link breaks with this refusal
+pub data Cause (old new : Link) (sent : List ℕ) (kind : ℕ) (refusal : Refusal) : Type 0 where
+  -- the writer failed after a front of the frame, and nothing was read
+  of_write : refusal ≡ WriteFailed → AppendsFront old.output new.output sent → new.input ≡ old.input → Cause old new sent kind refusal
+  -- the reader failed, or memory was refused for what it gave
+  of_read : (refusal ≡ ReadFailed) ⊎ (refusal ≡ Memory) → Appends old.output new.output sent → Cause old new sent kind refusal
+  of_end : refusal ≡ Truncated → Unanswered old new sent EndsEarly → Cause old new sent kind refusal
+  of_length : refusal ≡ FrameTooLong → Unanswered old new sent (λ bytes. frame_at bytes ≡ Err FrameTooLong) → Cause old new sent kind refusal
+  of_kind : refusal ≡ BadKind → Exchanged old new sent (IsOther kind) → Cause old new sent kind refusal
+  -- the frame that came spells no reply
+  of_body : 30 ≤ number_of refusal → Exchanged old new sent (TellsNone kind refusal) → Cause old new sent kind refusal
+
+-- the link itself refuses, from now on
+pub record Breaks (old new : Link) (sent : List ℕ) (kind : ℕ) (refusal : Refusal) : Type 0 where
+  pub cause : Cause old new sent kind refusal
   pub kept : new.refused ≡ Some refusal
 
 -- how the sending of a frame over a link that goes on ends, where a reply of this kind is asked for
 abbrev pub Sends : Link → Link → List ℕ → ℕ → Result Reply Refusal → Type 0
-Sends old new sent kind (Ok reply) = Exchanged old new sent (Tells kind reply)
-Sends old new sent kind (Err refusal) = Breaks old new sent refusal ⊎ (Exchanged old new sent (TellsNone kind refusal) × (number_of refusal < 30))
+Sends old new sent kind (Ok reply) = Exchanged old new sent (Tells kind reply) × GoesOn new
+Sends old new sent kind (Err refusal) = Breaks old new sent kind refusal ⊎ (Exchanged old new sent (TellsNone kind refusal) × GoesOn new × (number_of refusal < 30))
 
 -- nothing was sent: the link had refused before, or the request has no frame, or memory was refused for it
 abbrev pub SendsNothing : Link → Link → Request → Refusal → Type 0

@@ -4,7 +4,7 @@ use Rattle.std.specs.Ordering.{eq_by_cmp}
 use Rattle.std.specs.FinMap.{get, insert, len, remove}
 use Rattle.mvd_dots.specs.declared.refusals.Refusal.TheVariants.{DotClash}
 use Rattle.mvd_keys.specs.Key.{key_cmp}
-use Rattle.mvd_keys.specs.State.{State, clashes, join}
+use Rattle.mvd_keys.specs.State.{IsValid, State, clashes, join}
 use Rattle.mvd_keys.specs.Writes.{Key, is_empty}
 use Rattle.mvd_site.specs.Held.{States, state_at}
 use Rattle.mvd_sync.specs.declared.session.SyncFault.{SyncFault}
@@ -32,10 +32,11 @@ abbrev pub Each : {X : Type 0} → (X → Type 0) → List X → Type 0
 Each P [] = Unit {0}
 Each P (x ∷ xs) = P x × Each P xs
 
--- the new states are the old ones after pushes of states that may be given for their keys
+-- the new states are the old ones after pushes of states in form that may be given for their keys
 pub record ComesByPushes (can_give : Key → State → Type 0) (old new : States) : Type 0 where
   pub pushes : List (Key × State)
   pub given : Each (λ p. can_give p.0 p.1) pushes
+  pub valid : Each (λ p. IsValid p.1) pushes
   pub is : new ≡ pushed_all old pushes
 
 -- whether a key is in a list

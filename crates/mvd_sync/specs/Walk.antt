@@ -3,7 +3,7 @@ use Rattle.std.specs.Prelude.{◌≡◌, ◌≢◌, ℕ, ◌≤◌, Bool, true, 
 use Rattle.std.specs.FinMap.{get}
 use Rattle.mvd_dots.specs.declared.refusals.Refusal.{Refusal}
 use Rattle.mvd_dots.specs.declared.refusals.Refusal.TheVariants.{Broken, DotClash}
-use Rattle.mvd_keys.specs.State.{State, clashes}
+use Rattle.mvd_keys.specs.State.{IsValid, State, clashes}
 use Rattle.mvd_keys.specs.Writes.{Key}
 use Rattle.mvd_tree.specs.HashTree.{place_of, is_under, begins, node_digest}
 use Rattle.mvd_tree.specs.Hashed.{SameUnder}
@@ -60,7 +60,7 @@ pub record ClashesIn (part : Key → Type 0) (a b : States) : Type 0 where
   pub clash : clashes (state_at a key) (state_at b key) ≡ true
 
 -- some of the keys of a part were exchanged, and perhaps a last one only pulled. Nothing is said of
--- a side that is no longer true, and a side is true unless the fault is that it is broken
+-- a side that is no longer true
 pub record Stopped (part : Key → Type 0) (local_true peer_true : Type 0) (a b a' b' : States) (fault : SyncFault) : Type 0 where
   pub keys : List Key
   pub last : Option Key
@@ -68,7 +68,6 @@ pub record Stopped (part : Key → Type 0) (local_true peer_true : Type 0) (a b 
   pub distinct : AreDistinct (with_last keys last)
   pub local : local_true → a' ≡ (stopped (a, b) keys last).0
   pub peer : peer_true → b' ≡ (stopped (a, b) keys last).1
-  pub peer_unbroken : fault ≢ Peer Broken → peer_true
   pub clash : IsClash fault → ClashesIn part a b
 
 -- how a walk over a part of the keys ends
@@ -76,15 +75,16 @@ abbrev pub WalkEnds : Type 0 → (Key → Type 0) → Type 0 → Type 0 → Stat
 WalkEnds tell part local_true peer_true a b a' b' (Ok count) = local_true × peer_true × Walked tell part a b a' b' count
 WalkEnds tell part local_true peer_true a b a' b' (Err fault) = Stopped part local_true peer_true a b a' b' fault
 
--- the local side changes by pushes alone, whatever the peer, and is true unless the fault is that it is broken
-abbrev pub PushesAlone : {N : Type 0} → (Key → State → Type 0) → Type 0 → States → States → Result N SyncFault → Type 0
-PushesAlone can_give local_true a a' (Ok n) = local_true × ComesByPushes can_give a a'
-PushesAlone can_give local_true a a' (Err fault) = (fault ≢ Local Broken → local_true) × (local_true → ComesByPushes can_give a a')
+-- a side changes by pushes alone, whatever the other, and is true unless the fault is that it is broken
+abbrev pub PushesAlone : {N : Type 0} → (Refusal → SyncFault) → (Key → State → Type 0) → Type 0 → States → States → Result N SyncFault → Type 0
+PushesAlone taker can_give is_true a a' (Ok n) = is_true × ComesByPushes can_give a a'
+PushesAlone taker can_give is_true a a' (Err fault) = (fault ≢ taker Broken → is_true) × (is_true → ComesByPushes can_give a a')
 
 -- a side's answer for a key was pushed into another side
 pub record Carries (can_give : Key → State → Type 0) (from_true : Type 0) (from into : States) (key : Key) (into' : States) : Type 0 where
   pub state : State
   pub given : can_give key state
+  pub valid : IsValid state
   pub answer : from_true → state ≡ state_at from key
   pub is : into' ≡ pushed into key state
   pub apart : clashes (state_at into key) state ≡ false

@@ -2,6 +2,7 @@
 ghost use Rattle.std.specs.Prelude.{◌≡◌, ◌≢◌, ◌+◌, ◌*◌, ◌≤◌, [], ◌∷◌, length, IfOk, IfErr, IfSome, IfNone, OnSome, ◌<◌, ◌^◌, OnOk, MatchOption, option_copied, false};
 ghost use Rattle.mvd_site.specs.Answer.{digests};
 ghost use Rattle.mvd_sync.specs.Answers.{IsListing, TakesNext, order_of_first};
+ghost use Rattle.mvd_sync.specs.Sides.{Blames};
 
 use crate::peer::Peer;
 use crate::walk::{ask, is_same};
@@ -51,6 +52,9 @@ impl Listing {
         ensures kept { P.is_true side.old → P.is_true side.new × (P.states side.new ≡ P.states side.old) }
         ensures page { P.is_true side.old → IfOk result (λ page. IsListing (digests (P.states side.old)) path.now (option_copied after.entry) page.0 page.1) }
         ensures no_clash { P.is_true side.old → IfErr result (λ refusal. refusal ≢ Refusal.DotClash) }
+        ensures follows { P.follows side.old side.new }
+        ensures refuses { IfErr result (Blames (P.can_refuse side.new)) }
+        ensures answers { OnOk result (P.can_answer side.new) }
         ensures more { IfOk result (λ page. page.0 ≡ [] → page.1 ≡ false) }
         ensures left { OnOk result (left.new + 1 ≡ left.old) }
         ensures least { left.new ≤ left.old }
@@ -77,6 +81,9 @@ impl Listing {
         ensures kept { P.is_true side.old → P.is_true side.new × (P.states side.new ≡ P.states side.old) }
         ensures page { P.is_true side.old → IsListing (digests (P.states side.old)) path.now (option_copied after.entry) self.old.0 self.old.1 → OnOk result (IsListing (digests (P.states side.old)) path.now (option_copied after.entry) self.new.0 self.new.1) }
         ensures no_clash { P.is_true side.old → IfErr result (λ refusal. refusal ≢ Refusal.DotClash) }
+        ensures follows { P.follows side.old side.new }
+        ensures refuses { IfErr result (Blames (P.can_refuse side.new)) }
+        ensures answers { P.can_answer side.old → OnOk result (P.can_answer side.new) }
         ensures more { OnOk result (self.new.0 ≡ [] → self.new.1 ≡ false) }
         ensures measure { OnOk result (2 ^ 64 * left.new + length self.new.0 ≤ 2 ^ 64 * left.old + length self.old.0) }
         ensures least { left.new ≤ left.old }

@@ -1,10 +1,12 @@
 //! A site at the other end of a connection.
-ghost use Rattle.std.specs.Prelude.{◌≡◌, ◌⊎◌, MatchResult, None, Some, Ok, Err};
+ghost use Rattle.std.specs.Prelude.{◌≡◌, ◌⊎◌, IfOk, MatchResult, None, Some, Ok, Err, refl};
 ghost use Rattle.mvd_dots.specs.declared.refusals.Refusal.{Refusal};
 ghost use Rattle.mvd_wire.specs.declared.request.Request.TheVariants.{Get, Node, Bucket, Push, Bye};
 ghost use Rattle.mvd_wire.specs.declared.reply.Reply.TheVariants.{State as Shown, Done, Digests as Told, Keys, Refused};
-ghost use Rattle.mvd_sync.specs.Links.{Asks, Refuses, SendsFrame, Sends, answered_by};
+ghost use Rattle.mvd_sync.specs.Links.{Asks, Refuses, SendsFrame, Sends, answered_by, link};
+ghost use Rattle.mvd_sync.specs.Sides.{Stays, stays_on};
 ghost use Rattle.mvd_wire.specs.Kind.{Gives};
+ghost use Rattle.mvd_wire.specs.Replies.{kind_of};
 ghost use Rattle.mvd_wire.specs.Requests.{request_frame};
 ghost use Rattle.std.specs.FinMap.{empty};
 ghost use Rattle.std.specs.Option.{option_copied};
@@ -44,6 +46,17 @@ fn answered_by(request: &Request) -> u8
     }
 }
 
+/// The refusal that a reply tells which accepts nothing.
+fn told(reply: &Reply) -> Refusal
+    requires { kind_of reply.now ≡ 0xEE }
+    ensures { reply.now ≡ Refused result }
+{
+    match reply {
+        Reply::Refused(refusal) => *refusal,
+        _ => Refusal::BadKind,
+    }
+}
+
 impl<R: Read + Drop, W: Write + Drop> Remote<R, W> {
     pub fn new(alloc: Global, reader: R, writer: W) -> Self
         ensures reader { result.reader ≡ reader }
@@ -73,10 +86,10 @@ impl<R: Read + Drop, W: Write + Drop> Remote<R, W> {
     }
 
     /// Sends a frame, and reads the reply, which is of this kind or a refusal.
-    #[tactic(auto, using(crate::proofs::Linking::breaks, crate::proofs::Linking::own_from))]
     fn send(&mut self, frame: &[u8], kind: u8) -> Result<Reply, Refusal>
         requires { self.old.refused ≡ None }
-        ensures { Sends (record { input = R.remaining self.old.reader; output = W.contents self.old.writer; refused = self.old.refused }) (record { input = R.remaining self.new.reader; output = W.contents self.new.writer; refused = self.new.refused }) frame.now kind result }
+        ensures sends { Sends (link R.remaining W.contents self.old) (link R.remaining W.contents self.new) frame.now kind result }
+        ensures of_kind { IfOk result (λ reply. (kind_of reply ≡ kind) ⊎ (kind_of reply ≡ 0xEE)) }
     {
         if let Err(refusal) = write_frame(&mut self.writer, frame) {
             self.refused = Some(refusal);
@@ -112,7 +125,7 @@ impl<R: Read + Drop, W: Write + Drop> Remote<R, W> {
     /// Asks one question: writes just the frame of the request, and reads just one frame, which spells the reply. After a
     /// refusal of the link itself, 30 to 35, or 20 while a frame is read, every later question is refused so.
     pub fn ask(&mut self, request: &Request) -> Result<Reply, Refusal>
-        ensures asked { Asks (record { input = R.remaining self.old.reader; output = W.contents self.old.writer; refused = self.old.refused }) (record { input = R.remaining self.new.reader; output = W.contents self.new.writer; refused = self.new.refused }) request.now result }
+        ensures asked { Asks (link R.remaining W.contents self.old) (link R.remaining W.contents self.new) request.now result }
         ensures stays { (refusal : Refusal) → self.old.refused ≡ Some refusal → (result ≡ Err refusal) × (self.new ≡ self.old) }
     {
         if let Some(refusal) = self.refused {
@@ -124,24 +137,9 @@ impl<R: Read + Drop, W: Write + Drop> Remote<R, W> {
         }
     }
 
-    /// The refusal that a reply tells. Any other reply here would be of another kind than was asked for, which ends the link.
-    fn refusal_of(&mut self, reply: &Reply) -> Refusal
-        ensures reader { self.new.reader ≡ self.old.reader }
-        ensures writer { self.new.writer ≡ self.old.writer }
-        ensures told { (self.new ≡ self.old) × (reply.now ≡ Refused result) ⊎ (self.new.refused ≡ Some Refusal.BadKind) × (result ≡ Refusal.BadKind) }
-    {
-        match reply {
-            Reply::Refused(refusal) => *refusal,
-            _ => {
-                self.refused = Some(Refusal::BadKind);
-                Refusal::BadKind
-            }
-        }
-    }
-
     /// The digest of a node, and those of its children.
     pub fn node(&mut self, path: &Path) -> Result<Digests, Refusal>
-        ensures asked { MatchResult result (λ digests. SendsFrame (record { input = R.remaining self.old.reader; output = W.contents self.old.writer; refused = self.old.refused }) (record { input = R.remaining self.new.reader; output = W.contents self.new.writer; refused = self.new.refused }) (Node path.now) (Ok (Told digests))) (λ refusal. Refuses (record { input = R.remaining self.old.reader; output = W.contents self.old.writer; refused = self.old.refused }) (record { input = R.remaining self.new.reader; output = W.contents self.new.writer; refused = self.new.refused }) (Node path.now) refusal) }
+        ensures asked { MatchResult result (λ digests. SendsFrame (link R.remaining W.contents self.old) (link R.remaining W.contents self.new) (Node path.now) (Ok (Told digests))) (λ refusal. Refuses (link R.remaining W.contents self.old) (link R.remaining W.contents self.new) (Node path.now) refusal) }
         ensures stays { (refusal : Refusal) → self.old.refused ≡ Some refusal → (result ≡ Err refusal) × (self.new ≡ self.old) }
     {
         if let Some(refusal) = self.refused {
@@ -153,7 +151,7 @@ impl<R: Read + Drop, W: Write + Drop> Remote<R, W> {
         };
         match self.send(&frame, 0xA7) {
             Ok(Reply::Digests(digests)) => Ok(digests),
-            Ok(reply) => Err(self.refusal_of(&reply)),
+            Ok(reply) => Err(told(&reply)),
             Err(refusal) => Err(refusal),
         }
     }
@@ -174,7 +172,7 @@ impl<R: Read + Drop, W: Write + Drop> Remote<R, W> {
         path: &Path,
         after: Option<&Key>,
     ) -> Result<(Vec<(Key, [u8; 32])>, bool), Refusal>
-        ensures asked { MatchResult result (λ page. SendsFrame (record { input = R.remaining self.old.reader; output = W.contents self.old.writer; refused = self.old.refused }) (record { input = R.remaining self.new.reader; output = W.contents self.new.writer; refused = self.new.refused }) (Bucket path.now (option_copied after.entry)) (Ok (Keys page.0.items page.1))) (λ refusal. Refuses (record { input = R.remaining self.old.reader; output = W.contents self.old.writer; refused = self.old.refused }) (record { input = R.remaining self.new.reader; output = W.contents self.new.writer; refused = self.new.refused }) (Bucket path.now (option_copied after.entry)) refusal) }
+        ensures asked { MatchResult result (λ page. SendsFrame (link R.remaining W.contents self.old) (link R.remaining W.contents self.new) (Bucket path.now (option_copied after.entry)) (Ok (Keys page.0.items page.1))) (λ refusal. Refuses (link R.remaining W.contents self.old) (link R.remaining W.contents self.new) (Bucket path.now (option_copied after.entry)) refusal) }
         ensures stays { (refusal : Refusal) → self.old.refused ≡ Some refusal → (result ≡ Err refusal) × (self.new ≡ self.old) }
     {
         if let Some(refusal) = self.refused {
@@ -186,14 +184,14 @@ impl<R: Read + Drop, W: Write + Drop> Remote<R, W> {
         };
         match self.send(&frame, 0xA8) {
             Ok(Reply::Keys(keys, more)) => Ok((keys.into_vec(), more)),
-            Ok(reply) => Err(self.refusal_of(&reply)),
+            Ok(reply) => Err(told(&reply)),
             Err(refusal) => Err(refusal),
         }
     }
 
     /// The state that the site has of a key.
     pub fn get(&mut self, key: &Key) -> Result<KeyState, Refusal>
-        ensures asked { MatchResult result (λ state. SendsFrame (record { input = R.remaining self.old.reader; output = W.contents self.old.writer; refused = self.old.refused }) (record { input = R.remaining self.new.reader; output = W.contents self.new.writer; refused = self.new.refused }) (Get key.now) (Ok (Shown state))) (λ refusal. Refuses (record { input = R.remaining self.old.reader; output = W.contents self.old.writer; refused = self.old.refused }) (record { input = R.remaining self.new.reader; output = W.contents self.new.writer; refused = self.new.refused }) (Get key.now) refusal) }
+        ensures asked { MatchResult result (λ state. SendsFrame (link R.remaining W.contents self.old) (link R.remaining W.contents self.new) (Get key.now) (Ok (Shown state))) (λ refusal. Refuses (link R.remaining W.contents self.old) (link R.remaining W.contents self.new) (Get key.now) refusal) }
         ensures stays { (refusal : Refusal) → self.old.refused ≡ Some refusal → (result ≡ Err refusal) × (self.new ≡ self.old) }
     {
         if let Some(refusal) = self.refused {
@@ -205,14 +203,14 @@ impl<R: Read + Drop, W: Write + Drop> Remote<R, W> {
         };
         match self.send(&frame, 0xA1) {
             Ok(Reply::State(state)) => Ok(state),
-            Ok(reply) => Err(self.refusal_of(&reply)),
+            Ok(reply) => Err(told(&reply)),
             Err(refusal) => Err(refusal),
         }
     }
 
     /// Joins a state to the one that the site has of a key.
     pub fn push(&mut self, key: &Key, state: &KeyState) -> Result<(), Refusal>
-        ensures asked { MatchResult result (λ _. SendsFrame (record { input = R.remaining self.old.reader; output = W.contents self.old.writer; refused = self.old.refused }) (record { input = R.remaining self.new.reader; output = W.contents self.new.writer; refused = self.new.refused }) (Push key.now state.now) (Ok (Done))) (λ refusal. Refuses (record { input = R.remaining self.old.reader; output = W.contents self.old.writer; refused = self.old.refused }) (record { input = R.remaining self.new.reader; output = W.contents self.new.writer; refused = self.new.refused }) (Push key.now state.now) refusal) }
+        ensures asked { MatchResult result (λ _. SendsFrame (link R.remaining W.contents self.old) (link R.remaining W.contents self.new) (Push key.now state.now) (Ok (Done))) (λ refusal. Refuses (link R.remaining W.contents self.old) (link R.remaining W.contents self.new) (Push key.now state.now) refusal) }
         ensures stays { (refusal : Refusal) → self.old.refused ≡ Some refusal → (result ≡ Err refusal) × (self.new ≡ self.old) }
     {
         if let Some(refusal) = self.refused {
@@ -224,14 +222,14 @@ impl<R: Read + Drop, W: Write + Drop> Remote<R, W> {
         };
         match self.send(&frame, 0xA3) {
             Ok(Reply::Done) => Ok(()),
-            Ok(reply) => Err(self.refusal_of(&reply)),
+            Ok(reply) => Err(told(&reply)),
             Err(refusal) => Err(refusal),
         }
     }
 
     /// Ends the connection.
     pub fn bye(&mut self) -> Result<(), Refusal>
-        ensures asked { MatchResult result (λ _. SendsFrame (record { input = R.remaining self.old.reader; output = W.contents self.old.writer; refused = self.old.refused }) (record { input = R.remaining self.new.reader; output = W.contents self.new.writer; refused = self.new.refused }) (Bye) (Ok (Done))) (λ refusal. Refuses (record { input = R.remaining self.old.reader; output = W.contents self.old.writer; refused = self.old.refused }) (record { input = R.remaining self.new.reader; output = W.contents self.new.writer; refused = self.new.refused }) (Bye) refusal) }
+        ensures asked { MatchResult result (λ _. SendsFrame (link R.remaining W.contents self.old) (link R.remaining W.contents self.new) (Bye) (Ok (Done))) (λ refusal. Refuses (link R.remaining W.contents self.old) (link R.remaining W.contents self.new) (Bye) refusal) }
         ensures stays { (refusal : Refusal) → self.old.refused ≡ Some refusal → (result ≡ Err refusal) × (self.new ≡ self.old) }
     {
         if let Some(refusal) = self.refused {
@@ -243,7 +241,7 @@ impl<R: Read + Drop, W: Write + Drop> Remote<R, W> {
         };
         match self.send(&frame, 0xA3) {
             Ok(Reply::Done) => Ok(()),
-            Ok(reply) => Err(self.refusal_of(&reply)),
+            Ok(reply) => Err(told(&reply)),
             Err(refusal) => Err(refusal),
         }
     }
@@ -257,10 +255,22 @@ impl<R: Read + Drop, W: Write + Drop> Peer for Remote<R, W> {
 
     ghost can_give = { λ _ _. Unit {0} };
 
+    // A link that refuses stays as it is.
+    ghost follows = { Stays (λ remote. (refusal : Refusal) × (remote.refused ≡ Some refusal)) };
+
+    // Where the link itself refuses, it refuses so.
+    ghost can_refuse = { λ remote refusal. (own : Refusal) → remote.refused ≡ Some own → refusal ≡ own };
+
+    ghost can_answer = { λ remote. remote.refused ≡ None };
+
     ghost in_form = { λ _ never. absurd never };
 
+    ghost follows_self = { λ _ _. refl };
+
+    ghost follows_on = { stays_on _ };
+
     fn node(&mut self, path: &Path) -> Result<Digests, Refusal>
-        ensures asked { MatchResult result (λ digests. SendsFrame (record { input = R.remaining self.old.reader; output = W.contents self.old.writer; refused = self.old.refused }) (record { input = R.remaining self.new.reader; output = W.contents self.new.writer; refused = self.new.refused }) (Node path.now) (Ok (Told digests))) (λ refusal. Refuses (record { input = R.remaining self.old.reader; output = W.contents self.old.writer; refused = self.old.refused }) (record { input = R.remaining self.new.reader; output = W.contents self.new.writer; refused = self.new.refused }) (Node path.now) refusal) }
+        ensures asked { MatchResult result (λ digests. SendsFrame (link R.remaining W.contents self.old) (link R.remaining W.contents self.new) (Node path.now) (Ok (Told digests))) (λ refusal. Refuses (link R.remaining W.contents self.old) (link R.remaining W.contents self.new) (Node path.now) refusal) }
         ensures stays { (refusal : Refusal) → self.old.refused ≡ Some refusal → (result ≡ Err refusal) × (self.new ≡ self.old) }
     {
         Remote::node(self, path)
@@ -271,21 +281,21 @@ impl<R: Read + Drop, W: Write + Drop> Peer for Remote<R, W> {
         path: &Path,
         after: Option<&Key>,
     ) -> Result<(Vec<(Key, [u8; 32])>, bool), Refusal>
-        ensures asked { MatchResult result (λ page. SendsFrame (record { input = R.remaining self.old.reader; output = W.contents self.old.writer; refused = self.old.refused }) (record { input = R.remaining self.new.reader; output = W.contents self.new.writer; refused = self.new.refused }) (Bucket path.now (option_copied after.entry)) (Ok (Keys page.0.items page.1))) (λ refusal. Refuses (record { input = R.remaining self.old.reader; output = W.contents self.old.writer; refused = self.old.refused }) (record { input = R.remaining self.new.reader; output = W.contents self.new.writer; refused = self.new.refused }) (Bucket path.now (option_copied after.entry)) refusal) }
+        ensures asked { MatchResult result (λ page. SendsFrame (link R.remaining W.contents self.old) (link R.remaining W.contents self.new) (Bucket path.now (option_copied after.entry)) (Ok (Keys page.0.items page.1))) (λ refusal. Refuses (link R.remaining W.contents self.old) (link R.remaining W.contents self.new) (Bucket path.now (option_copied after.entry)) refusal) }
         ensures stays { (refusal : Refusal) → self.old.refused ≡ Some refusal → (result ≡ Err refusal) × (self.new ≡ self.old) }
     {
         Remote::bucket(self, path, after)
     }
 
     fn get(&mut self, key: &Key) -> Result<KeyState, Refusal>
-        ensures asked { MatchResult result (λ state. SendsFrame (record { input = R.remaining self.old.reader; output = W.contents self.old.writer; refused = self.old.refused }) (record { input = R.remaining self.new.reader; output = W.contents self.new.writer; refused = self.new.refused }) (Get key.now) (Ok (Shown state))) (λ refusal. Refuses (record { input = R.remaining self.old.reader; output = W.contents self.old.writer; refused = self.old.refused }) (record { input = R.remaining self.new.reader; output = W.contents self.new.writer; refused = self.new.refused }) (Get key.now) refusal) }
+        ensures asked { MatchResult result (λ state. SendsFrame (link R.remaining W.contents self.old) (link R.remaining W.contents self.new) (Get key.now) (Ok (Shown state))) (λ refusal. Refuses (link R.remaining W.contents self.old) (link R.remaining W.contents self.new) (Get key.now) refusal) }
         ensures stays { (refusal : Refusal) → self.old.refused ≡ Some refusal → (result ≡ Err refusal) × (self.new ≡ self.old) }
     {
         Remote::get(self, key)
     }
 
     fn push(&mut self, key: &Key, state: &KeyState) -> Result<(), Refusal>
-        ensures asked { MatchResult result (λ _. SendsFrame (record { input = R.remaining self.old.reader; output = W.contents self.old.writer; refused = self.old.refused }) (record { input = R.remaining self.new.reader; output = W.contents self.new.writer; refused = self.new.refused }) (Push key.now state.now) (Ok (Done))) (λ refusal. Refuses (record { input = R.remaining self.old.reader; output = W.contents self.old.writer; refused = self.old.refused }) (record { input = R.remaining self.new.reader; output = W.contents self.new.writer; refused = self.new.refused }) (Push key.now state.now) refusal) }
+        ensures asked { MatchResult result (λ _. SendsFrame (link R.remaining W.contents self.old) (link R.remaining W.contents self.new) (Push key.now state.now) (Ok (Done))) (λ refusal. Refuses (link R.remaining W.contents self.old) (link R.remaining W.contents self.new) (Push key.now state.now) refusal) }
         ensures stays { (refusal : Refusal) → self.old.refused ≡ Some refusal → (result ≡ Err refusal) × (self.new ≡ self.old) }
     {
         Remote::push(self, key, state)

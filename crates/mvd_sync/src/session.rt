@@ -1,7 +1,8 @@
 //! Sessions of two sides.
-ghost use Rattle.std.specs.Prelude.{◌≡◌, ◌≢◌, ◌≤◌, IfOk, IfErr, MatchResult};
+ghost use Rattle.std.specs.Prelude.{◌≡◌, ◌≢◌, ◌≤◌, IfOk, IfErr, OnOk, MatchResult};
 ghost use Rattle.mvd_tree.specs.Hashed.{HashesTellApart};
 ghost use Rattle.mvd_site.specs.Answer.{spelled};
+ghost use Rattle.mvd_sync.specs.Sides.{IsFaultOf};
 ghost use Rattle.mvd_sync.specs.Session.{ComesByPushes, HaveClash, IsClash, SessionCompletes, SessionEnds};
 
 use crate::peer::Peer;
@@ -39,15 +40,23 @@ pub fn sync_within<L: Peer, P: Peer>(
     requires some { 1 ≤ questions }
     requires limit { questions ≤ MOST_QUESTIONS }
 
-    // Whatever the peer is, the local side changes by pushes of states that the peer may give, and by nothing else.
+    // Whatever the other side is, a side changes by pushes of states that the other may give, and by nothing else.
     ensures pushes { L.is_true local.old → L.is_true local.new → ComesByPushes P.can_give (L.states local.old) (L.states local.new) }
+    ensures peer_pushes { P.is_true peer.old → P.is_true peer.new → ComesByPushes L.can_give (P.states peer.old) (P.states peer.new) }
+
+    // Of neither side a call changes more than its calls may, true or not.
+    ensures follows { L.follows local.old local.new × P.follows peer.old peer.new }
+
+    // A fault is a refusal of the side that it names, or of the session for that side; with no fault both sides have answered.
+    ensures blames { IfErr result (IsFaultOf (L.can_refuse local.new) (P.can_refuse peer.new)) }
+    ensures answers { OnOk result (L.can_answer local.new × P.can_answer peer.new) }
 
     // It stays true, unless it says that it is broken.
     ensures local_unbroken { L.is_true local.old → MatchResult result (λ _. L.is_true local.new) (λ fault. fault ≢ SyncFault.Local Refusal.Broken → L.is_true local.new) }
+    ensures peer_unbroken { P.is_true peer.old → MatchResult result (λ _. P.is_true peer.new) (λ fault. fault ≢ SyncFault.Peer Refusal.Broken → P.is_true peer.new) }
 
     // Between true sides states are joined, at a fault, too.
     ensures session { L.is_true local.old → P.is_true peer.old → SessionEnds (λ report. report.keys) (L.is_true local.new) (P.is_true peer.new) (L.states local.old) (P.states peer.old) (L.states local.new) (P.states peer.new) result }
-    ensures peer_unbroken { L.is_true local.old → P.is_true peer.old → MatchResult result (λ _. P.is_true peer.new) (λ fault. fault ≢ SyncFault.Peer Refusal.Broken → P.is_true peer.new) }
     ensures clash { L.is_true local.old → P.is_true peer.old → IfErr result (λ fault. IsClash fault → HaveClash (L.states local.old) (P.states peer.old)) }
 
     // With no fault all is joined, where SHA-256 tells the texts of the two trees apart.
@@ -74,9 +83,13 @@ pub fn sync<L: Peer, P: Peer>(
     peer: &mut P,
 ) -> Result<Report, SyncFault>
     ensures pushes { L.is_true local.old → L.is_true local.new → ComesByPushes P.can_give (L.states local.old) (L.states local.new) }
+    ensures peer_pushes { P.is_true peer.old → P.is_true peer.new → ComesByPushes L.can_give (P.states peer.old) (P.states peer.new) }
+    ensures follows { L.follows local.old local.new × P.follows peer.old peer.new }
+    ensures blames { IfErr result (IsFaultOf (L.can_refuse local.new) (P.can_refuse peer.new)) }
+    ensures answers { OnOk result (L.can_answer local.new × P.can_answer peer.new) }
     ensures local_unbroken { L.is_true local.old → MatchResult result (λ _. L.is_true local.new) (λ fault. fault ≢ SyncFault.Local Refusal.Broken → L.is_true local.new) }
+    ensures peer_unbroken { P.is_true peer.old → MatchResult result (λ _. P.is_true peer.new) (λ fault. fault ≢ SyncFault.Peer Refusal.Broken → P.is_true peer.new) }
     ensures session { L.is_true local.old → P.is_true peer.old → SessionEnds (λ report. report.keys) (L.is_true local.new) (P.is_true peer.new) (L.states local.old) (P.states peer.old) (L.states local.new) (P.states peer.new) result }
-    ensures peer_unbroken { L.is_true local.old → P.is_true peer.old → MatchResult result (λ _. P.is_true peer.new) (λ fault. fault ≢ SyncFault.Peer Refusal.Broken → P.is_true peer.new) }
     ensures clash { L.is_true local.old → P.is_true peer.old → IfErr result (λ fault. IsClash fault → HaveClash (L.states local.old) (P.states peer.old)) }
     ensures complete { L.is_true local.old → P.is_true peer.old → HashesTellApart spelled (L.states local.old) (P.states peer.old) → IfOk result (λ report. SessionCompletes (L.states local.old) (P.states peer.old) (L.states local.new) (P.states peer.new) report.keys) }
 {

@@ -1,6 +1,7 @@
 //! A site as a side of a session.
 ghost use Rattle.std.specs.Prelude.{◌≡◌, false};
 ghost use Rattle.mvd_site.specs.Held.{AreHeld};
+ghost use Rattle.mvd_sync.specs.Sides.{SiteFollows, SiteRefuses, site_follows_on, site_follows_self};
 
 use crate::peer::Peer;
 use mvd_dots::Refusal;
@@ -17,13 +18,24 @@ impl Peer for Site {
 
     ghost can_give = { λ _ _. Unit {0} };
 
+    ghost follows = { SiteFollows };
+
+    ghost can_refuse = { SiteRefuses };
+
+    ghost can_answer = { λ site. site.broken ≡ false };
+
     ghost in_form = { λ _ whole. whole.1 };
 
-    #[tactic(auto, using(crate::proofs::SiteSides::node_own, crate::proofs::SiteSides::node_inner, crate::proofs::SiteSides::node_bucket, crate::proofs::SiteSides::node_apart))]
+    ghost follows_self = { site_follows_self };
+
+    ghost follows_on = { site_follows_on };
+
+    #[tactic(auto, using(crate::proofs::SiteSides::node_own, crate::proofs::SiteSides::node_inner, crate::proofs::SiteSides::node_bucket, crate::proofs::SiteSides::node_apart, crate::proofs::SiteSides::node_refuses, crate::proofs::SiteSides::node_answers))]
     fn node(&mut self, path: &Path) -> Result<Digests, Refusal> {
         Site::node(self, path)
     }
 
+    #[tactic(auto, using(crate::proofs::SiteSides::bucket_refuses))]
     fn bucket(
         &mut self,
         path: &Path,
@@ -32,6 +44,7 @@ impl Peer for Site {
         Site::bucket(self, path, after)
     }
 
+    #[tactic(auto, using(crate::proofs::SiteSides::get_refuses))]
     fn get(&mut self, key: &Key) -> Result<KeyState, Refusal> {
         Site::get(self, key)
     }

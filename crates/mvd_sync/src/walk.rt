@@ -1,12 +1,13 @@
 //! The walk of a session over both sides.
 ghost use Rattle.std.specs.Prelude.{◌≡◌, ◌≢◌, ◌+◌, ◌++◌, ◌∷◌, [], ◌<◌, ◌≤◌, length, IfOk, IfErr, OnOk, OnErr, IsTrue, ◌↔◌, true, false};
 ghost use Rattle.std.specs.FinMap.{get};
-ghost use Rattle.mvd_keys.specs.State.{clashes};
+ghost use Rattle.mvd_keys.specs.State.{IsValid, clashes};
 ghost use Rattle.mvd_tree.specs.HashTree.{node_digest};
 ghost use Rattle.mvd_tree.specs.Page.{children_digests};
 ghost use Rattle.mvd_site.specs.Held.{state_at};
 ghost use Rattle.mvd_site.specs.Answer.{digests};
 ghost use Rattle.mvd_sync.specs.Session.{pushed};
+ghost use Rattle.mvd_sync.specs.Sides.{Blames, IsFaultOf};
 ghost use Rattle.mvd_sync.specs.Walk.{CarryEnds, DigestsTell, IsBelow, PushesAlone, WalkEnds};
 
 use crate::listing::{self, Listing};
@@ -58,6 +59,9 @@ fn ask_node<P: Peer>(side: &mut P, left: &mut u64, path: &Path) -> Result<Node, 
     ensures children { P.is_true side.old → IfOk result (λ n. n.children ≡ children_digests (digests (P.states side.old)) path.now) }
     ensures no_clash { P.is_true side.old → IfErr result (λ refusal. refusal ≢ Refusal.DotClash) }
     ensures left { left.new ≤ left.old }
+    ensures follows { P.follows side.old side.new }
+    ensures refuses { IfErr result (Blames (P.can_refuse side.new)) }
+    ensures answers { OnOk result (P.can_answer side.new) }
 {
     ask(left)?;
     let digests = side.node(path)?;
@@ -76,6 +80,9 @@ fn ask_get<P: Peer>(side: &mut P, left: &mut u64, key: &Key) -> Result<KeyState,
     ensures no_clash { P.is_true side.old → IfErr result (λ refusal. refusal ≢ Refusal.DotClash) }
     ensures left { OnOk result (left.new + 1 ≡ left.old) }
     ensures least { left.new ≤ left.old }
+    ensures follows { P.follows side.old side.new }
+    ensures refuses { IfErr result (Blames (P.can_refuse side.new)) }
+    ensures answers { OnOk result (P.can_answer side.new) }
 {
     ask(left)?;
     side.get(key)
@@ -93,8 +100,14 @@ fn ask_push<P: Peer>(
     ensures refused { P.is_true side.old → P.is_true side.new → OnErr result (P.states side.new ≡ P.states side.old) }
     ensures unbroken { P.is_true side.old → IfErr result (λ refusal. refusal ≢ Refusal.Broken → P.is_true side.new) }
     ensures clash { P.is_true side.old → IfErr result (λ refusal. refusal ≡ Refusal.DotClash → clashes (state_at (P.states side.old) key.now) state.now ≡ true) }
+    ensures valid { IsValid state.now }
     ensures left { left.new ≤ left.old }
+    ensures follows { P.follows side.old side.new }
+    ensures refuses { IfErr result (Blames (P.can_refuse side.new)) }
+    ensures answers { OnOk result (P.can_answer side.new) }
 {
+    // Here it is known that the state's siblings have been seen.
+    let _seen = state.context();
     ask(left)?;
     side.push(key, state)
 }
@@ -112,6 +125,9 @@ fn pull<L: Peer, P: Peer>(
     ensures asked { OnOk result (left.new.peer + 1 ≡ left.old.peer) }
     ensures left_peer { left.new.peer ≤ left.old.peer }
     ensures left_local { left.new.local ≤ left.old.local }
+    ensures follows { L.follows local.old local.new × P.follows peer.old peer.new }
+    ensures blames { IfErr result (IsFaultOf (L.can_refuse local.new) (P.can_refuse peer.new)) }
+    ensures answers { OnOk result (L.can_answer local.new × P.can_answer peer.new) }
 {
     let state = match ask_get(peer, &mut left.peer, key) {
         Ok(state) => state,
@@ -135,6 +151,9 @@ fn give<L: Peer, P: Peer>(
     ensures peer { P.is_true peer.old → CarryEnds SyncFault.Peer L.can_give (L.is_true local.old) (L.states local.old) (P.states peer.old) key.now (P.is_true peer.new) (P.states peer.new) result }
     ensures left_peer { left.new.peer ≤ left.old.peer }
     ensures left_local { left.new.local ≤ left.old.local }
+    ensures follows { L.follows local.old local.new × P.follows peer.old peer.new }
+    ensures blames { IfErr result (IsFaultOf (L.can_refuse local.new) (P.can_refuse peer.new)) }
+    ensures answers { OnOk result (L.can_answer local.new × P.can_answer peer.new) }
 {
     let state = match ask_get(local, &mut left.local, key) {
         Ok(state) => state,
@@ -153,11 +172,15 @@ fn exchange<L: Peer, P: Peer>(
     left: &mut Questions,
     key: &Key,
 ) -> Result<u64, SyncFault>
-    ensures pushes { L.is_true local.old → PushesAlone P.can_give (L.is_true local.new) (L.states local.old) (L.states local.new) result }
+    ensures pushes { L.is_true local.old → PushesAlone SyncFault.Local P.can_give (L.is_true local.new) (L.states local.old) (L.states local.new) result }
+    ensures peer_pushes { P.is_true peer.old → PushesAlone SyncFault.Peer L.can_give (P.is_true peer.new) (P.states peer.old) (P.states peer.new) result }
     ensures session { L.is_true local.old → P.is_true peer.old → get (L.states local.old) key.now ≢ get (P.states peer.old) key.now → WalkEnds (Unit {0}) (λ k. k ≡ key.now) (L.is_true local.new) (P.is_true peer.new) (L.states local.old) (P.states peer.old) (L.states local.new) (P.states peer.new) result }
     ensures left_local { left.new.local ≤ left.old.local }
     ensures left { left.new.peer ≤ left.old.peer }
     ensures keys { IfOk result (λ n. n + left.new.peer ≤ left.old.peer) }
+    ensures follows { L.follows local.old local.new × P.follows peer.old peer.new }
+    ensures blames { IfErr result (IsFaultOf (L.can_refuse local.new) (P.can_refuse peer.new)) }
+    ensures answers { OnOk result (L.can_answer local.new × P.can_answer peer.new) }
 {
     match pull(local, peer, left, key) {
         Ok(()) => {}
@@ -177,11 +200,15 @@ fn settle<L: Peer, P: Peer>(
     key: &Key,
     differs: bool,
 ) -> Result<u64, SyncFault>
-    ensures pushes { L.is_true local.old → PushesAlone P.can_give (L.is_true local.new) (L.states local.old) (L.states local.new) result }
+    ensures pushes { L.is_true local.old → PushesAlone SyncFault.Local P.can_give (L.is_true local.new) (L.states local.old) (L.states local.new) result }
+    ensures peer_pushes { P.is_true peer.old → PushesAlone SyncFault.Peer L.can_give (P.is_true peer.new) (P.states peer.old) (P.states peer.new) result }
     ensures session { L.is_true local.old → P.is_true peer.old → (IsTrue differs → get (L.states local.old) key.now ≢ get (P.states peer.old) key.now) → WalkEnds (Unit {0}) (λ k. (k ≡ key.now) × IsTrue differs) (L.is_true local.new) (P.is_true peer.new) (L.states local.old) (P.states peer.old) (L.states local.new) (P.states peer.new) result }
     ensures left_local { left.new.local ≤ left.old.local }
     ensures left { left.new.peer ≤ left.old.peer }
     ensures keys { IfOk result (λ n. n + left.new.peer ≤ left.old.peer) }
+    ensures follows { L.follows local.old local.new × P.follows peer.old peer.new }
+    ensures blames { IfErr result (IsFaultOf (L.can_refuse local.new) (P.can_refuse peer.new)) }
+    ensures answers { L.can_answer local.old → P.can_answer peer.old → OnOk result (L.can_answer local.new × P.can_answer peer.new) }
 {
     if differs {
         exchange(local, peer, left, key)
@@ -198,10 +225,14 @@ fn walk_bucket<L: Peer, P: Peer>(
     path: &Path,
 ) -> Result<u64, SyncFault>
     requires { length path.now ≡ 3 }
-    ensures pushes { L.is_true local.old → PushesAlone P.can_give (L.is_true local.new) (L.states local.old) (L.states local.new) result }
+    ensures pushes { L.is_true local.old → PushesAlone SyncFault.Local P.can_give (L.is_true local.new) (L.states local.old) (L.states local.new) result }
+    ensures peer_pushes { P.is_true peer.old → PushesAlone SyncFault.Peer L.can_give (P.is_true peer.new) (P.states peer.old) (P.states peer.new) result }
     ensures session { L.is_true local.old → P.is_true peer.old → WalkEnds (DigestsTell path.now (L.states local.old) (P.states peer.old)) (IsBelow path.now) (L.is_true local.new) (P.is_true peer.new) (L.states local.old) (P.states peer.old) (L.states local.new) (P.states peer.new) result }
     ensures left { left.new.peer ≤ left.old.peer }
     ensures keys { IfOk result (λ n. n + left.new.peer ≤ left.old.peer) }
+    ensures follows { L.follows local.old local.new × P.follows peer.old peer.new }
+    ensures blames { IfErr result (IsFaultOf (L.can_refuse local.new) (P.can_refuse peer.new)) }
+    ensures answers { OnOk result (L.can_answer local.new × P.can_answer peer.new) }
 {
     let mut mine = match Listing::fetch(local, &mut left.local, path, None) {
         Ok(page) => page,
@@ -265,10 +296,14 @@ pub fn walk<L: Peer, P: Peer>(
     path: &Path,
 ) -> Result<u64, SyncFault>
     requires { length path.now ≤ 3 }
-    ensures pushes { L.is_true local.old → PushesAlone P.can_give (L.is_true local.new) (L.states local.old) (L.states local.new) result }
+    ensures pushes { L.is_true local.old → PushesAlone SyncFault.Local P.can_give (L.is_true local.new) (L.states local.old) (L.states local.new) result }
+    ensures peer_pushes { P.is_true peer.old → PushesAlone SyncFault.Peer L.can_give (P.is_true peer.new) (P.states peer.old) (P.states peer.new) result }
     ensures session { L.is_true local.old → P.is_true peer.old → WalkEnds (DigestsTell path.now (L.states local.old) (P.states peer.old)) (IsBelow path.now) (L.is_true local.new) (P.is_true peer.new) (L.states local.old) (P.states peer.old) (L.states local.new) (P.states peer.new) result }
     ensures left { left.new.peer ≤ left.old.peer }
     ensures keys { IfOk result (λ n. n + left.new.peer ≤ left.old.peer) }
+    ensures follows { L.follows local.old local.new × P.follows peer.old peer.new }
+    ensures blames { IfErr result (IsFaultOf (L.can_refuse local.new) (P.can_refuse peer.new)) }
+    ensures answers { OnOk result (L.can_answer local.new × P.can_answer peer.new) }
 {
     if depth(path) == 3 {
         return walk_bucket(local, peer, left, path);

@@ -17,3 +17,6 @@ returns-in-Err-clause-session g c u v = ends_at_once _ _ _ _ _ _
 
 pub returns-clause-session : goal.returns-clause-session
 returns-clause-session g c u v = ends_err _ _ _ _ _ _ _ _ _ (c.in-Err-walk.ensures.session u v)
+
+pub returns-in-Err-clause-follows : goal.returns-in-Err-clause-follows
+returns-in-Err-clause-follows g c = (g.met.L.Peer.follows_self _, g.met.P.Peer.follows_self _)

@@ -12,7 +12,7 @@ returns-in-Err-clause-pushes g t c u = let first = c.ask_node.ensures.kept u in 
 
 pub returns-in-Err-clause-session : goal.returns-in-Err-clause-session
 returns-in-Err-clause-session g t c u v =
-    nothing_done _ _ _ _ _ _ _ _ (λ _. (c.ask_node.ensures.kept u).1) (λ _. refl) v (λ is. absurd (local_question _ (c.in-Err.ensures.no_clash u) is))
+    nothing_done _ _ _ _ _ _ _ _ (λ _. (c.ask_node.ensures.kept u).1) (λ _. refl) (λ is. absurd (local_question _ (c.in-Err.ensures.no_clash u) is))
 
 pub returns-in-Err-ask_node-clause-pushes : goal.returns-in-Err-ask_node-clause-pushes
 returns-in-Err-ask_node-clause-pushes g t c u = let first = c.ask_node.ensures.kept u in (λ _. first.0, λ _. no_pushes _ _ _ first.1)
@@ -20,7 +20,7 @@ returns-in-Err-ask_node-clause-pushes g t c u = let first = c.ask_node.ensures.k
 pub returns-in-Err-ask_node-clause-session : goal.returns-in-Err-ask_node-clause-session
 returns-in-Err-ask_node-clause-session g t c u v =
     let second = c.ask_node-2.ensures.kept v in
-    nothing_done _ _ _ _ _ _ _ _ (λ _. (c.ask_node.ensures.kept u).1) (λ _. second.1) second.0 (λ is. absurd (peer_question _ (c.in-Err-ask_node.ensures.no_clash v) is))
+    nothing_done _ _ _ _ _ _ _ _ (λ _. (c.ask_node.ensures.kept u).1) (λ _. second.1) (λ is. absurd (peer_question _ (c.in-Err-ask_node.ensures.no_clash v) is))
 
 -- the node is the same on both sides
 pub returns-then-is_same-clause-pushes : goal.returns-then-is_same-clause-pushes
@@ -39,7 +39,10 @@ pub children-init : goal.children-init
 children-init g t c =
     let left = c.ask_node-2.ensures.left in
     record {
+      follows = (c.ask_node.ensures.follows, c.ask_node-2.ensures.follows);
+      answers = (c.in-Ok.ensures.answers, c.in-Ok-ask_node.ensures.answers);
       pushes = λ u. let first = c.ask_node.ensures.kept u in (first.0, no_pushes _ _ _ first.1);
+      peer_pushes = λ v. let second = c.ask_node-2.ensures.kept v in (second.0, no_pushes _ _ _ second.1);
       session = λ u v.
           let first = c.ask_node.ensures.kept u in
           let second = c.ask_node-2.ensures.kept v in
@@ -55,7 +58,10 @@ children-preserved-then-is_same-2 g t c =
     let small : d < 16 = c.children-test.true in
     let short : length path < 3 = omega arith in
     record {
+      follows = c.children.invariant.follows;
+      answers = c.children.invariant.answers;
       pushes = c.children.invariant.pushes;
+      peer_pushes = c.children.invariant.peer_pushes;
       session = λ u v.
           let old = c.children.invariant.session u v in
           let same = same_child path d _ _ short small _ _ (c.in-Ok.ensures.children u) (c.in-Ok-ask_node.ensures.children v) (c.is_same-in-children.ensures.0 c.if-is_same-2.true) in (
@@ -73,7 +79,7 @@ returns-in-Err-child-clause-pushes g t c u = let old = c.children.invariant.push
 pub returns-in-Err-child-clause-session : goal.returns-in-Err-child-clause-session
 returns-in-Err-child-clause-session g t c u v =
     let old = c.children.invariant.session u v in
-    walk_was_all _ _ _ _ _ _ _ _ _ _ _ _ _ (λ k p. p.0) old.1 (λ _. refl) (λ _. refl) old.0 (memory_question _ c.in-Err-child.ensures.memory)
+    walk_was_all _ _ _ _ _ _ _ _ _ _ _ _ _ (λ k p. p.0) old.1 (λ _. refl) (λ _. refl) (memory_question _ c.in-Err-child.ensures.memory)
 
 pub returns-in-Err-walk-clause-pushes : goal.returns-in-Err-walk-clause-pushes
 returns-in-Err-walk-clause-pushes g t c u =
@@ -101,10 +107,18 @@ children-preserved g t c =
     let short : length path < 3 = omega arith in
     let fewer = c.in-Ok-walk.ensures.keys in
     let before = c.children.invariant.keys in
+    let old = c.children.invariant.follows in
+    let new = c.walk.ensures.follows in
     record {
+      follows = (g.met.L.Peer.follows_on _ _ _ old.0 new.0, g.met.P.Peer.follows_on _ _ _ old.1 new.1);
+      answers = c.in-Ok-walk.ensures.answers;
       pushes = λ u.
           let old = c.children.invariant.pushes u in
           let new = c.in-Ok-walk.ensures.pushes old.0 in
+          (new.0, more_pushes _ _ _ _ old.1 new.1);
+      peer_pushes = λ v.
+          let old = c.children.invariant.peer_pushes v in
+          let new = c.in-Ok-walk.ensures.peer_pushes old.0 in
           (new.0, more_pushes _ _ _ _ old.1 new.1);
       session = λ u v.
           let local = c.children.invariant.pushes u in
@@ -129,3 +143,35 @@ returns-clause-session g t c u v =
     let path = c.args.path.now in
     let all : 16 ≤ c.children.digit = c.children-test.false in
     (local.0, old.0, walk_skips _ (IsBelowBefore path c.children.digit) (IsBelow path) _ _ _ _ _ (λ k p. p.0) (λ k p. inl (all_before path c.children.digit all k p)) old.1)
+
+-- what no call changes
+pub returns-in-Err-clause-follows : goal.returns-in-Err-clause-follows
+returns-in-Err-clause-follows g t c = (c.ask_node.ensures.follows, g.met.P.Peer.follows_self _)
+
+pub returns-in-Err-walk-clause-follows : goal.returns-in-Err-walk-clause-follows
+returns-in-Err-walk-clause-follows g t c =
+    let old = c.children.invariant.follows in
+    let new = c.walk.ensures.follows in
+    (g.met.L.Peer.follows_on _ _ _ old.0 new.0, g.met.P.Peer.follows_on _ _ _ old.1 new.1)
+
+-- the peer, whatever the local side is
+pub returns-in-Err-clause-peer_pushes : goal.returns-in-Err-clause-peer_pushes
+returns-in-Err-clause-peer_pushes g t c v = (λ _. v, λ _. no_pushes _ _ _ refl)
+
+pub returns-in-Err-ask_node-clause-peer_pushes : goal.returns-in-Err-ask_node-clause-peer_pushes
+returns-in-Err-ask_node-clause-peer_pushes g t c v = let second = c.ask_node-2.ensures.kept v in (λ _. second.0, λ _. no_pushes _ _ _ second.1)
+
+pub returns-then-is_same-clause-peer_pushes : goal.returns-then-is_same-clause-peer_pushes
+returns-then-is_same-clause-peer_pushes g t c v = let second = c.ask_node-2.ensures.kept v in (second.0, no_pushes _ _ _ second.1)
+
+pub returns-in-Err-child-clause-peer_pushes : goal.returns-in-Err-child-clause-peer_pushes
+returns-in-Err-child-clause-peer_pushes g t c v = let old = c.children.invariant.peer_pushes v in (λ _. old.0, λ _. old.1)
+
+pub returns-in-Err-walk-clause-peer_pushes : goal.returns-in-Err-walk-clause-peer_pushes
+returns-in-Err-walk-clause-peer_pushes g t c v =
+    let old = c.children.invariant.peer_pushes v in
+    let failed = c.in-Err-walk.ensures.peer_pushes old.0 in
+    (failed.0, λ still. more_pushes _ _ _ _ old.1 (failed.1 still))
+
+pub returns-clause-peer_pushes : goal.returns-clause-peer_pushes
+returns-clause-peer_pushes g t c v = c.children.invariant.peer_pushes v

@@ -2,8 +2,6 @@
 #![tactic(auto)]
 
 #[cfg(test)]
-mod bucket;
-#[cfg(test)]
 mod faults;
 #[cfg(test)]
 mod liars;

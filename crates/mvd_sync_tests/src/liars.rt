@@ -9,15 +9,19 @@ use mvd_wire::Digests;
 use std::alloc::Global;
 use std::test::Fail;
 
-/// What is wrong with a peer whose nodes all differ from those of a site with no key.
+/// What is wrong with a peer that tells another digest at each question.
 #[derive(Clone, Copy, Debug, PartialEq, Eq, Drop)]
 enum Lie {
     /// Nodes without children above the buckets.
     NoChildren,
     /// No key at all under its nodes.
     NoKeys,
+    /// The same key in each bucket.
+    OneKey,
     /// The keys of a page fall.
     Falling,
+    /// Each page of a bucket is the same.
+    SamePage,
     /// More is to come after no key.
     MoreWithoutKey,
     /// Pages of one key that never end.
@@ -50,11 +54,16 @@ impl Liar {
         Ok(())
     }
 
+    /// What it tells at a question, which is never the digest of what holds no key.
+    fn digest(&self) -> [u8; 32] {
+        [(self.questions % 255 + 1) as u8; 32]
+    }
+
     /// A page of these keys.
     fn page(&self, keys: &[&str], more: bool) -> Result<(Vec<(Key, [u8; 32])>, bool), Refusal> {
         let mut page = Vec::new(self.alloc);
         for key in keys {
-            page.push((Key::read(self.alloc, key)?, [7; 32]))?;
+            page.push((Key::read(self.alloc, key)?, self.digest()))?;
         }
         Ok((page, more))
     }
@@ -73,11 +82,21 @@ impl Peer for Liar {
 
     ghost can_give = { λ _ _. Unit {0} };
 
+    ghost follows = { λ _ _. Unit {0} };
+
+    ghost can_refuse = { λ _ _. Unit {0} };
+
+    ghost can_answer = { λ _. Unit {0} };
+
     ghost in_form = { λ _ never. absurd never };
+
+    ghost follows_self = { λ _. tt };
+
+    ghost follows_on = { λ _ _ _ _ _. tt };
 
     fn node(&mut self, path: &Path) -> Result<Digests, Refusal> {
         self.question()?;
-        let own = [7; 32];
+        let own = self.digest();
         if path.digits().len() == 3 || self.lie == Lie::NoChildren {
             return Ok(Digests {
                 own,
@@ -86,7 +105,7 @@ impl Peer for Liar {
         }
         Ok(Digests {
             own,
-            children: Some([[7; 32]; 16]),
+            children: Some([own; 16]),
         })
     }
 
@@ -101,7 +120,8 @@ impl Peer for Liar {
             Lie::NoChildren | Lie::NoKeys => self.page(&[], false),
             Lie::Falling => self.page(&["b", "a"], false),
             Lie::MoreWithoutKey => self.page(&[], true),
-            Lie::RefusesAt(_) => self.page(&["k"], false),
+            Lie::OneKey | Lie::RefusesAt(_) => self.page(&["k"], false),
+            Lie::SamePage => self.page(&["k"], true),
             Lie::OneKeyForEver => match after {
                 None => self.page(&["k"], true),
                 Some(key) => {
@@ -125,34 +145,58 @@ impl Peer for Liar {
     }
 }
 
-fn with_liar(alloc: Global, lie: Lie) -> Result<Result<Report, SyncFault>, Refusal> {
-    let mut local = Counting::new(alloc, 1, 10)?;
-    let mut peer = Liar::new(alloc, lie);
-    Ok(sync(alloc, &mut local, &mut peer))
+/// How a session ends that has a liar on the other side, and one that has it on the local side.
+fn with_liar(
+    alloc: Global,
+    lie: Lie,
+) -> Result<(Result<Report, SyncFault>, Result<Report, SyncFault>), Refusal> {
+    let mut site = Counting::new(alloc, 1, 10)?;
+    let mut liar = Liar::new(alloc, lie);
+    let other = sync(alloc, &mut site, &mut liar);
+    let mut liar = Liar::new(alloc, lie);
+    Ok((other, sync(alloc, &mut liar, &mut site)))
 }
 
 #[test]
 fn pages_and_nodes_out_of_form_are_33(rt: HostRuntime) -> Result<(), Fail> {
     let alloc = rt.alloc();
-    for lie in [Lie::NoChildren, Lie::Falling, Lie::MoreWithoutKey] {
+    let lies = [
+        Lie::NoChildren,
+        Lie::Falling,
+        Lie::SamePage,
+        Lie::MoreWithoutKey,
+    ];
+    for lie in lies {
         let ended = with_liar(alloc, lie)?;
-        assert_eq!(rt; ended, Err(SyncFault::Peer(Refusal::BadBody)));
+        assert_eq!(rt; ended.0, Err(SyncFault::Peer(Refusal::BadBody)));
+        assert_eq!(rt; ended.1, Err(SyncFault::Local(Refusal::BadBody)));
     }
     Ok(())
 }
 
+/// Whether a session of a site that has one key with a liar goes over so many keys, and leaves the site as it was.
+fn changes_nothing(alloc: Global, lie: Lie, keys: u64) -> Result<bool, Refusal> {
+    let mut site = Counting::new(alloc, 1, 10)?;
+    site.put("k", "-", "{}")?;
+    let before = site.root()?;
+    let mut liar = Liar::new(alloc, lie);
+    Ok(sync(alloc, &mut site, &mut liar) == Ok(Report { keys }) && site.root()? == before)
+}
+
 #[test]
 fn digests_alone_change_nothing(rt: HostRuntime) -> Result<(), Fail> {
-    let ended = with_liar(rt.alloc(), Lie::NoKeys)?;
-    assert_eq!(rt; ended, Ok(Report { keys: 0 }));
+    let alloc = rt.alloc();
+    assert!(rt; changes_nothing(alloc, Lie::NoKeys, 1)?);
+    assert!(rt; changes_nothing(alloc, Lie::OneKey, 4_096)?);
     Ok(())
 }
 
 #[test]
 fn each_question_may_be_refused(rt: HostRuntime) -> Result<(), Fail> {
-    for n in 1..7u64 {
+    for n in 1..20u64 {
         let ended = with_liar(rt.alloc(), Lie::RefusesAt(n))?;
-        assert_eq!(rt; ended, Err(SyncFault::Peer(Refusal::Store)));
+        assert_eq!(rt; ended.0, Err(SyncFault::Peer(Refusal::Store)));
+        assert_eq!(rt; ended.1, Err(SyncFault::Local(Refusal::Store)));
     }
     Ok(())
 }
@@ -169,5 +213,83 @@ fn pages_without_end_are_36(rt: HostRuntime) -> Result<(), Fail> {
     let ended = sync_within(alloc, &mut liar, &mut site, 100);
     assert_eq!(rt; ended, Err(SyncFault::Local(Refusal::TooManyRequests)));
     assert_eq!(rt; liar.questions, 100);
+    Ok(())
+}
+
+/// A site that gives the state of one key for that of any key.
+#[derive(Drop)]
+struct Mistaken {
+    site: Counting,
+    given: Key,
+}
+
+impl Peer for Mistaken {
+    ghost states = { λ _. empty };
+
+    ghost is_true = { λ _. ⊥ };
+
+    ghost can_give = { λ _ _. Unit {0} };
+
+    ghost follows = { λ _ _. Unit {0} };
+
+    ghost can_refuse = { λ _ _. Unit {0} };
+
+    ghost can_answer = { λ _. Unit {0} };
+
+    ghost in_form = { λ _ never. absurd never };
+
+    ghost follows_self = { λ _. tt };
+
+    ghost follows_on = { λ _ _ _ _ _. tt };
+
+    fn node(&mut self, path: &Path) -> Result<Digests, Refusal> {
+        self.site.node(path)
+    }
+
+    fn bucket(
+        &mut self,
+        path: &Path,
+        after: Option<&Key>,
+    ) -> Result<(Vec<(Key, [u8; 32])>, bool), Refusal> {
+        self.site.bucket(path, after)
+    }
+
+    fn get(&mut self, key: &Key) -> Result<KeyState, Refusal> {
+        let _ = key;
+        self.site.get(&self.given)
+    }
+
+    fn push(&mut self, key: &Key, state: &KeyState) -> Result<(), Refusal> {
+        self.site.push(key, state)
+    }
+}
+
+/// Whether a session takes the state that it is given, and ends where the peer refuses it for the other key.
+fn takes_what_is_given(
+    alloc: Global,
+    site: &mut Counting,
+    peer: &mut Mistaken,
+) -> Result<bool, Refusal> {
+    Ok(
+        peer.site.put("a", "-", "{\"x\":1}")?
+            && peer.site.put("b", "-", "{\"x\":2}")?
+            && sync(alloc, site, peer) == Err(SyncFault::Peer(Refusal::DotClash))
+            && site.shows("b", "2:1", 1)?
+            && site.shows("a", "-", 0)?,
+    )
+}
+
+fn with_mistaken(alloc: Global) -> Result<bool, Refusal> {
+    let mut site = Counting::new(alloc, 1, 10)?;
+    let mut peer = Mistaken {
+        site: Counting::new(alloc, 2, 10)?,
+        given: Key::read(alloc, "a")?,
+    };
+    takes_what_is_given(alloc, &mut site, &mut peer)
+}
+
+#[test]
+fn the_state_of_another_key_clashes(rt: HostRuntime) -> Result<(), Fail> {
+    assert!(rt; with_mistaken(rt.alloc())?);
     Ok(())
 }

@@ -2,7 +2,11 @@
 #![tactic(auto)]
 
 #[cfg(test)]
+mod faults;
+#[cfg(test)]
 mod liars;
+#[cfg(test)]
+mod many;
 #[cfg(test)]
 mod peers;
 #[cfg(test)]

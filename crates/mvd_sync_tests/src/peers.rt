@@ -101,7 +101,17 @@ impl Peer for Counting {
 
     ghost can_give = { λ _ _. Unit {0} };
 
+    ghost follows = { λ _ _. Unit {0} };
+
+    ghost can_refuse = { λ _ _. Unit {0} };
+
+    ghost can_answer = { λ _. Unit {0} };
+
     ghost in_form = { λ _ never. absurd never };
+
+    ghost follows_self = { λ _. tt };
+
+    ghost follows_on = { λ _ _ _ _ _. tt };
 
     fn node(&mut self, path: &Path) -> Result<Digests, Refusal> {
         self.asked.nodes = self.asked.nodes.saturating_add(1);

@@ -1,5 +1,5 @@
 //! Sessions of two sites.
-use crate::peers::{Asked, Counting};
+use crate::peers::Counting;
 use mvd_dots::Refusal;
 use mvd_site::Site;
 use mvd_sync::{Report, SyncFault, sync, sync_within};
@@ -7,7 +7,7 @@ use std::alloc::Global;
 use std::test::Fail;
 
 /// Two sites, 1 and 2.
-fn pair(alloc: Global, max_keys: u32) -> Result<(Counting, Counting), Refusal> {
+pub fn pair(alloc: Global, max_keys: u32) -> Result<(Counting, Counting), Refusal> {
     Ok((
         Counting::new(alloc, 1, max_keys)?,
         Counting::new(alloc, 2, max_keys)?,
@@ -15,7 +15,7 @@ fn pair(alloc: Global, max_keys: u32) -> Result<(Counting, Counting), Refusal> {
 }
 
 /// Whether a session ended so.
-fn ended(
+pub fn ended(
     alloc: Global,
     local: &mut Counting,
     peer: &mut Counting,
@@ -25,7 +25,7 @@ fn ended(
 }
 
 /// Whether both sides have the same digest at the root.
-fn alike(one: &Counting, two: &Counting) -> Result<bool, Refusal> {
+pub fn alike(one: &Counting, two: &Counting) -> Result<bool, Refusal> {
     Ok(one.root()? == two.root()?)
 }
 
@@ -45,7 +45,12 @@ fn have_both(one: &Counting, two: &Counting) -> Result<bool, Refusal> {
 }
 
 fn meet(alloc: Global, one: &mut Counting, two: &mut Counting) -> Result<bool, Refusal> {
-    Ok(put_both(one, "a", two, "b")? && ended(alloc, one, two, Ok(2)) && have_both(one, two)?)
+    Ok(
+        put_both(one, "a", two, "b")?
+            && ended(alloc, one, two, Ok(2))
+            && have_both(one, two)?
+            && ended(alloc, one, two, Ok(0)),
+    )
 }
 
 fn two_meet(alloc: Global) -> Result<bool, Refusal> {
@@ -59,16 +64,28 @@ fn two_sites_meet(rt: HostRuntime) -> Result<(), Fail> {
     Ok(())
 }
 
-/// Whether a second session asks each side one node and no more.
-fn ask_once(alloc: Global, one: &mut Counting, two: &mut Counting) -> Result<bool, Refusal> {
-    if !one.put("a", "-", "{\"x\":1}")? || !ended(alloc, one, two, Ok(1)) {
-        return Ok(false);
-    }
+/// Whether a session with one question to each side is enough, and asks them one node.
+fn one_is_enough(alloc: Global, one: &mut Counting, two: &mut Counting) -> bool {
     let before = (one.asked, two.asked);
+    sync_within(alloc, one, two, 1) == Ok(Report { keys: 0 })
+        && one.asked == before.0.with_node()
+        && two.asked == before.1.with_node()
+}
+
+/// Whether a session with one question to each side ends as the local side's 36.
+fn one_is_too_few(alloc: Global, local: &mut Counting, peer: &mut Counting) -> bool {
+    sync_within(alloc, local, peer, 1) == Err(SyncFault::Local(Refusal::TooManyRequests))
+}
+
+/// Whether one question to each side is enough where they are equal, and too few where they differ.
+fn ask_once(alloc: Global, one: &mut Counting, two: &mut Counting) -> Result<bool, Refusal> {
     Ok(
-        ended(alloc, one, two, Ok(0))
-            && one.asked == before.0.with_node()
-            && two.asked == before.1.with_node(),
+        one.put("a", "-", "{\"x\":1}")?
+            && one_is_too_few(alloc, one, two)
+            && ended(alloc, one, two, Ok(1))
+            && one_is_enough(alloc, one, two)
+            && two.put("b", "-", "{\"x\":2}")?
+            && one_is_too_few(alloc, two, one),
     )
 }
 
@@ -177,53 +194,6 @@ fn so_many_questions_and_no_more(rt: HostRuntime) -> Result<(), Fail> {
     assert!(rt; met == Err(SyncFault::Local(Refusal::TooManyRequests)));
     let met = asked_at_most(alloc, 6)?;
     assert!(rt; met == Ok(Report { keys: 1 }));
-    Ok(())
-}
-
-const KEYS: u64 = 2_000;
-
-/// Puts a document at this many keys, with this context.
-fn put_many(side: &mut Counting, keys: u64, seen: &str, document: &str) -> Result<(), Refusal> {
-    let alloc = side.alloc;
-    for n in 0..keys {
-        let key = format!(in alloc; "k{n}")?;
-        side.put(&key, seen, document)?;
-    }
-    Ok(())
-}
-
-/// Whether a side was asked few questions about ten keys that differ.
-fn few(before: Asked, after: Asked) -> bool {
-    after.nodes <= before.nodes.saturating_add(41)
-        && after.pages <= before.pages.saturating_add(10)
-        && after.gets == before.gets.saturating_add(10)
-        && after.pushes == before.pushes.saturating_add(10)
-}
-
-/// Whether few questions are asked where ten of many keys differ.
-fn ask_few(alloc: Global, one: &mut Counting, two: &mut Counting) -> Result<bool, Refusal> {
-    put_many(one, KEYS, "-", "{}")?;
-    if !ended(alloc, one, two, Ok(KEYS)) {
-        return Ok(false);
-    }
-    put_many(two, 10, "1:1", "{\"x\":1}")?;
-    let before = (one.asked, two.asked);
-    Ok(
-        ended(alloc, one, two, Ok(10))
-            && few(before.0, one.asked)
-            && few(before.1, two.asked)
-            && alike(one, two)?,
-    )
-}
-
-fn two_ask_few(alloc: Global) -> Result<bool, Refusal> {
-    let (mut one, mut two) = pair(alloc, 10_000)?;
-    ask_few(alloc, &mut one, &mut two)
-}
-
-#[test]
-fn few_questions_for_few_keys(rt: HostRuntime) -> Result<(), Fail> {
-    assert!(rt; two_ask_few(rt.alloc())?);
     Ok(())
 }
 

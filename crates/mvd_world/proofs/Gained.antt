@@ -1,5 +1,5 @@
 -- What a session adds, from the states of two sites to the writes that they know.
-use Rattle.std.proofs.Common.{◌≡◌, ◌≢◌, ◌⊎◌, inl, inr, Bool, true, false, ◌||◌, ◌==◌, cond, List, [], ◌∷◌, ◌++◌, Some, None, Result, Ok, Err, refl, sym, ap, ap₂, ◌∙◌, subst, ⊎_elim, true≢false, unwrap_or, append-nil, MatchResult, IfErr}
+use Rattle.std.proofs.Common.{◌≡◌, ◌≢◌, ◌⊎◌, inl, inr, Bool, true, false, ◌||◌, ◌==◌, cond, List, [], ◌∷◌, ◌++◌, Some, None, Result, Ok, Err, refl, sym, ap, ap₂, ◌∙◌, subst, ⊎_elim, true≢false, unwrap_or, append-nil, MatchResult, IfErr, IfOk}
 use Rattle.std.specs.Ordering.{eq_by_cmp}
 use Rattle.std.specs.FinMap.{get}
 use Rattle.std.specs.FinSet.{len-empty}
@@ -15,15 +15,18 @@ use Rattle.mvd_keys.proofs.Lists.{state_of_empty}
 use Rattle.mvd_keys.proofs.Sets.{IsValid-state}
 use Rattle.mvd_keys.proofs.Standing.{state-same_writes_of}
 use Rattle.mvd_keys.proofs.StatesOfWrites.{join-state}
+use Rattle.mvd_tree.specs.Hashed.{HashesTellApart}
+use Rattle.mvd_site.specs.Answer.{spelled}
 use Rattle.mvd_site.specs.Held.{AreHeld, States, state_at}
 use Rattle.mvd_site.specs.Sites.{SiteStands, SiteValue}
 use Rattle.mvd_site.proofs.Steps.{state_at-stands}
-use Rattle.mvd_sync.specs.Session.{Gives, HaveClash, IsClash, IsEnd, Pulls, SessionEnds, is_member}
+use Rattle.mvd_sync.specs.Session.{Gives, HaveClash, IsClash, IsEnd, Pulls, SessionCompletes, SessionEnds, is_member}
+use Rattle.mvd_sync.specs.Sides.{IsFaultOf, SiteRefuses}
 use Rattle.mvd_sync.specs.declared.session.Report.{Report}
 use Rattle.mvd_sync.specs.declared.session.SyncFault.{SyncFault}
 use Rattle.mvd_sync.specs.declared.session.SyncFault.TheVariants.{Local, Peer}
 use Rattle.mvd_sync.proofs.Together.{is_member-append}
-use Rattle.mvd_world.specs.Machine.{BreaksBy, EndsWith, StatesClash, writes_in}
+use Rattle.mvd_world.specs.Machine.{BreaksBy, EndsWith, HasAllThatDiffer, MayRefuse, StatesClash, writes_in}
 use Rattle.mvd_world.specs.Worlds.{Exchange}
 
 -- ---- the writes of several keys
@@ -163,19 +166,47 @@ states_clash local peer V W (Err found) first second clash fault e is =
     let have = clash (subst IsClash (sym same) is) in
     record { key = have.key; clash = ap₂ clashes (sym (state_at-stands local.states V have.key first)) (sym (state_at-stands peer.states W have.key second)) ∙ have.clash }
 
+-- a key that was not pulled has one state on both sides, since both have the join and are as they were
+not_pulled : (pulled given : List Key) (a b a' b' : States) (count : _) → given ≡ pulled → Pulls pulled a b a' → Gives given a b b' → SessionCompletes a b a' b' count →
+    (key : Key) → is_member pulled key ≡ false → state_at a key ≡ state_at b key
+not_pulled pulled given a b a' b' count same pulls gives done key out =
+    let mine : state_at a key ≡ join (state_at a key) (state_at b key) =
+    sym (pulls key ∙ ap (λ m. cond m (join (state_at a key) (state_at b key)) (state_at a key)) out) ∙ done.local_side key in
+    let theirs : state_at b key ≡ join (state_at a key) (state_at b key) =
+    sym (gives key ∙ ap (λ m. cond m (join (state_at b key) (join (state_at a key) (state_at b key))) (state_at b key)) (ap (λ ks. is_member ks key) same ∙ out)) ∙ done.peer_side key in
+    mine ∙ sym theirs
+
+all_pulled : (local peer local' peer' : SiteValue) (V W : List Write) (pulled given : List Key) (result : Result Report SyncFault) → Stands local.states V → Stands peer.states W → AreHeld local'.states → AreHeld peer'.states →
+    IsEnd (λ (report : Report). report.keys) (IsTrue_side local') (IsTrue_side peer') pulled given result →
+    (IsTrue_side local' → Pulls pulled local.states peer.states local'.states) → (IsTrue_side peer' → Gives given local.states peer.states peer'.states) →
+    (HashesTellApart spelled local.states peer.states → IfOk result (λ report. SessionCompletes local.states peer.states local'.states peer'.states report.keys)) →
+    IfOk result (λ _. HasAllThatDiffer V W pulled)
+all_pulled local peer local' peer' V W pulled given (Err fault) first second held held' ends pulls gives done = tt
+all_pulled local peer local' peer' V W pulled given (Ok report) first second held held' ends pulls gives done = λ tell key differ.
+    elim (is_member pulled key) as (λ m. is_member pulled key ≡ m → m ≡ true) [
+      | true ↦ λ _. refl
+      | false ↦ λ out. absurd (differ (sym (state_at-stands local.states V key first)
+          ∙ not_pulled pulled given local.states peer.states local'.states peer'.states report.keys ends.2 (pulls ends.0) (gives ends.1) (done (tell local.states peer.states first second)) key out
+          ∙ state_at-stands peer.states W key second))
+    ] refl
+
 pub sites_meet : (local peer local' peer' : SiteValue) (result : Result Report SyncFault) → local.broken ≡ false → peer.broken ≡ false → AreHeld local'.states → AreHeld peer'.states →
     SessionEnds (λ (report : Report). report.keys) (IsTrue_side local') (IsTrue_side peer') local.states peer.states local'.states peer'.states result →
     MatchResult result (λ _. IsTrue_side local') (λ fault. fault ≢ Local Broken → IsTrue_side local') →
     MatchResult result (λ _. IsTrue_side peer') (λ fault. fault ≢ Peer Broken → IsTrue_side peer') →
-    IfErr result (λ fault. IsClash fault → HaveClash local.states peer.states) → Exchange local peer local' peer' result
-sites_meet local peer local' peer' result first second held held' ends whole whole' clash V W stands stands' = record {
+    IfErr result (λ fault. IsClash fault → HaveClash local.states peer.states) →
+    (HashesTellApart spelled local.states peer.states → IfOk result (λ report. SessionCompletes local.states peer.states local'.states peer'.states report.keys)) →
+    IfErr result (IsFaultOf (SiteRefuses local') (SiteRefuses peer')) → Exchange local peer local' peer' result
+sites_meet local peer local' peer' result first second held held' ends whole whole' clash done told V W stands stands' = record {
   pulled = ends.pulled;
   given = ends.given;
   distinct = ends.distinct;
   ends = ends_with (IsTrue_side local') (IsTrue_side peer') ends.pulled ends.given local'.broken peer'.broken result
       (at_ok (Local Broken) local'.broken result (whole_side (Local Broken) local' result whole)) (at_ok (Peer Broken) peer'.broken result (whole_side (Peer Broken) peer' result whole')) ends.end;
+  all = all_pulled local peer local' peer' V W ends.pulled ends.given result (stands first) (stands' second) held held' ends.end ends.local_side ends.peer_side done;
   local_breaks = breaks_by (Local Broken) is_local_broken local.broken local'.broken result first (whole_side (Local Broken) local' result whole);
   peer_breaks = breaks_by (Peer Broken) is_peer_broken peer.broken peer'.broken result second (whole_side (Peer Broken) peer' result whole');
+  told = told;
   clash = states_clash local peer V W result (stands first) (stands' second) clash;
   local_stands = λ is. pulled_stands ends.pulled local.states peer.states local'.states V W (stands first) (stands' second) held (ends.local_side (is, held));
   peer_stands = λ is. given_stands ends.pulled ends.given local.states peer.states peer'.states V W (stands first) (stands' second) held'
@@ -194,14 +225,16 @@ still_stands site V W stands whole = subst (Stands site.states) (sym (ap (λ X. 
 stays : (was : Bool) (told : SyncFault) (result : Result Report SyncFault) → BreaksBy was was told result
 stays was told result = (λ broken. broken, λ whole broken. absurd (true≢false (sym broken ∙ whole)))
 
-pub nothing_met : (local peer : SiteValue) (fault : SyncFault) → (IsClash fault → ⊥) → Exchange local peer local peer (Err fault)
-nothing_met local peer fault apart V W first second = record {
+pub nothing_met : (local peer : SiteValue) (fault : SyncFault) → (IsClash fault → ⊥) → IsFaultOf (MayRefuse local.broken) (MayRefuse peer.broken) fault → Exchange local peer local peer (Err fault)
+nothing_met local peer fault apart told V W first second = record {
   pulled = [];
   given = [];
   distinct = tt;
   ends = inl refl;
+  all = tt;
   local_breaks = stays local.broken (Local Broken) (Err fault);
   peer_breaks = stays peer.broken (Peer Broken) (Err fault);
+  told = told;
   clash = λ other e is. absurd (apart (let same : fault ≡ other = cc in subst IsClash (sym same) is));
   local_stands = still_stands local V W first;
   peer_stands = still_stands peer W (V ++ writes_in [] W) second;

@@ -239,8 +239,10 @@ meets_lead old new local peer i j result at at' two both same_messages setting b
       local_broken = both.first'.broken;
       peer_broken = both.second'.broken;
       ends = does.ends;
+      all = does.all;
       local_breaks = subst (λ b. BreaksBy b both.first'.broken (Local Broken) result) mine.broken does.local_breaks;
       peer_breaks = subst (λ b. BreaksBy b both.second'.broken (Peer Broken) result) theirs.broken does.peer_breaks;
+      told = does.told;
       clash = does.clash;
       is = refl;
     } in

@@ -1,21 +1,25 @@
 -- Sites that write, are asked, send each other states of keys and hold sessions, as a machine over sets of writes: what is
 -- lost, repeated or comes out of order is a matter of which steps are taken, and no state of a key stands in it.
-use Rattle.std.specs.Prelude.{◌≡◌, ◌⊎◌, ℕ, Bool, true, false, not, ◌&&◌, ◌||◌, ◌==◌, nat_lt, nat_le, ◌-◌, if◌then◌else◌, List, [], ◌∷◌, ◌++◌, length, filter, Contains, MatchBool, Some, Result, Ok, Err}
+use Rattle.std.specs.Prelude.{◌≡◌, ◌⊎◌, ℕ, Bool, true, false, not, ◌&&◌, ◌||◌, ◌==◌, nat_lt, nat_le, ◌-◌, if◌then◌else◌, List, [], ◌∷◌, ◌++◌, length, filter, Contains, MatchBool, Some, Result, Ok, Err, ◌≢◌, IfOk, IfErr}
 use Rattle.std.specs.List.{slice_get}
 use Rattle.mvd_dots.specs.Dot.{DotValue}
 use Rattle.mvd_dots.specs.Context.{DotSet}
+use Rattle.mvd_dots.specs.declared.refusals.Refusal.{Refusal}
 use Rattle.mvd_dots.specs.declared.refusals.Refusal.TheVariants.{Memory, Broken, DotClash}
 use Rattle.mvd_keys.specs.State.{Text, clashes}
-use Rattle.mvd_keys.specs.Writes.{AreOf, Key, Write, Wrote, key_of, state, writes_of}
+use Rattle.mvd_keys.specs.Writes.{AreOf, Key, Stands, Write, Wrote, key_of, state, writes_of}
 use Rattle.mvd_rows.specs.Defs.{Definitions}
 use Rattle.mvd_wire.specs.declared.request.Request.{Request}
 use Rattle.mvd_wire.specs.declared.request.Request.TheVariants.{Put, Delete, Push}
 use Rattle.mvd_wire.specs.declared.reply.Reply.{Reply}
 use Rattle.mvd_wire.specs.declared.reply.Reply.TheVariants.{Done, Refused}
-use Rattle.mvd_site.specs.Answer.{is_question}
+use Rattle.mvd_tree.specs.Hashed.{HashesTellApart}
+use Rattle.mvd_site.specs.Answer.{is_question, spelled}
 use Rattle.mvd_site.specs.Config.{ConfigValue}
+use Rattle.mvd_site.specs.Held.{States}
 use Rattle.mvd_site.specs.Known.{Adds, MayReply}
 use Rattle.mvd_sync.specs.Session.{AreDistinct, IsClash, is_member}
+use Rattle.mvd_sync.specs.Sides.{IsFaultOf, is_site_refusal, tells_broken}
 use Rattle.mvd_sync.specs.declared.session.Report.{Report}
 use Rattle.mvd_sync.specs.declared.session.SyncFault.{SyncFault}
 use Rattle.mvd_sync.specs.declared.session.SyncFault.TheVariants.{Local, Peer}
@@ -154,6 +158,18 @@ EndsWith pulled given local_broken peer_broken (Err fault) = (given ≡ pulled) 
 abbrev pub BreaksBy : Bool → Bool → SyncFault → Result Report SyncFault → Type 0
 BreaksBy was is told result = (was ≡ true → is ≡ true) × (was ≡ false → is ≡ true → result ≡ Err told)
 
+-- a site that is whole afterwards, or broken, may have refused a session so
+abbrev pub MayRefuse : Bool → Refusal → Type 0
+MayRefuse broken refusal = (is_site_refusal refusal ≡ true) × (broken ≡ tells_broken refusal)
+
+-- SHA-256 tells the texts apart that are hashed for the states of two sets of writes
+abbrev pub TellApart : List Write → List Write → Type 0
+TellApart V W = (a b : States) → Stands a V → Stands b W → HashesTellApart spelled a b
+
+-- these are all keys of which two sets of writes have different states, where SHA-256 tells them apart
+abbrev pub HasAllThatDiffer : List Write → List Write → List Key → Type 0
+HasAllThatDiffer V W keys = TellApart V W → (key : Key) → state key V ≢ state key W → is_member keys key ≡ true
+
 -- two sites' states of a key clash
 pub record StatesClash (V W : List Write) : Type 0 where
   pub key : Key
@@ -167,8 +183,10 @@ pub record Meets (before : Knowledge) (local peer : ℕ) (result : Result Report
   pub local_broken : Bool
   pub peer_broken : Bool
   pub ends : EndsWith pulled given local_broken peer_broken result
+  pub all : IfOk result (λ _. HasAllThatDiffer (before.known local) (before.known peer) pulled)
   pub local_breaks : BreaksBy (before.broken local) local_broken (Local Broken) result
   pub peer_breaks : BreaksBy (before.broken peer) peer_broken (Peer Broken) result
+  pub told : IfErr result (IsFaultOf (MayRefuse local_broken) (MayRefuse peer_broken))
   pub clash : (fault : SyncFault) → result ≡ Err fault → IsClash fault → StatesClash (before.known local) (before.known peer)
   pub is : after ≡ record {
     known = met before.known local peer pulled given;

@@ -1,5 +1,5 @@
 -- What a world stands for: sets of writes, by which its sites and messages are what the machine says.
-use Rattle.std.specs.Prelude.{◌≡◌, ◌+◌, ℕ, true, false, List, ◌++◌, map, length, Some, Result, Err, slice_set}
+use Rattle.std.specs.Prelude.{◌≡◌, ◌+◌, ℕ, true, false, List, ◌++◌, map, length, Some, Result, Err, slice_set, IfOk, IfErr}
 use Rattle.std.specs.List.{slice_get, Contains}
 use Rattle.mvd_keys.specs.Writes.{Key, SameWrites, Stands, Write, state}
 use Rattle.mvd_wire.specs.declared.request.Request.{Request}
@@ -7,6 +7,7 @@ use Rattle.mvd_site.specs.Answer.{is_question}
 use Rattle.mvd_site.specs.FromStates.{answer_from}
 use Rattle.mvd_site.specs.Sites.{SiteStands, SiteValue}
 use Rattle.mvd_sync.specs.Session.{AreDistinct, IsClash}
+use Rattle.mvd_sync.specs.Sides.{IsFaultOf}
 use Rattle.mvd_sync.specs.declared.session.Report.{Report}
 use Rattle.mvd_sync.specs.declared.session.SyncFault.{SyncFault}
 use Rattle.mvd_sync.specs.declared.session.SyncFault.TheVariants.{Local, Peer}
@@ -15,7 +16,7 @@ use Rattle.mvd_world.specs.declared.steps.Step.{Step}
 use Rattle.mvd_world.specs.declared.steps.Outcome.{Outcome}
 use Rattle.mvd_world.specs.declared.worlds.Message.{Message}
 use Rattle.mvd_world.specs.declared.worlds.World.{World}
-use Rattle.mvd_world.specs.Machine.{BreaksBy, EndsWith, IsSound, Knowledge, MayStep, Runs, Sending, Setting, StatesClash, config_of, nothing_yet, writes_in}
+use Rattle.mvd_world.specs.Machine.{BreaksBy, EndsWith, HasAllThatDiffer, IsSound, Knowledge, MayRefuse, MayStep, Runs, Sending, Setting, StatesClash, config_of, nothing_yet, writes_in}
 
 -- the site of this number, with what it was set up with, and the writes that its states stand for unless it is broken
 pub record IsSiteOf (setting : Setting) (knowledge : Knowledge) (number : ℕ) (site : SiteValue) : Type 0 where
@@ -54,8 +55,10 @@ pub record SitesMeet (V W : List Write) (local peer local' peer' : SiteValue) (r
   pub given : List Key
   pub distinct : AreDistinct pulled
   pub ends : EndsWith pulled given local'.broken peer'.broken result
+  pub all : IfOk result (λ _. HasAllThatDiffer V W pulled)
   pub local_breaks : BreaksBy local.broken local'.broken (Local Broken) result
   pub peer_breaks : BreaksBy peer.broken peer'.broken (Peer Broken) result
+  pub told : IfErr result (IsFaultOf (MayRefuse local'.broken) (MayRefuse peer'.broken))
   pub clash : (fault : SyncFault) → result ≡ Err fault → IsClash fault → StatesClash V W
   pub local_stands : SiteStands local' (V ++ writes_in pulled W)
   pub peer_stands : SiteStands peer' (W ++ writes_in given (V ++ writes_in pulled W))

@@ -1,5 +1,5 @@
 //! A world of several sites, and the messages that they sent.
-ghost use Rattle.std.specs.Prelude.{◌≡◌, ◌≢◌, ◌≤◌, ◌<◌, ◌-◌, true, length, IfErr, IfOk, IfSome, OnOk, OnErr, Some, [], ◌∷◌, ◌++◌};
+ghost use Rattle.std.specs.Prelude.{◌≡◌, ◌≢◌, ◌≤◌, ◌<◌, ◌-◌, true, length, IfErr, IfOk, OnOk, OnErr, None, if◌then◌else◌, option_copied, [], ◌∷◌, ◌++◌};
 ghost use Rattle.std.specs.List.{slice_get};
 ghost use Rattle.mvd_wire.specs.declared.reply.Reply.TheVariants.{Refused};
 ghost use Rattle.mvd_dots.specs.declared.refusals.Refusal.TheVariants.{Memory};
@@ -57,7 +57,7 @@ impl World {
 
     /// The site of this number, if there is one.
     pub fn site(&self, number: u32) -> Option<&Site>
-        ensures { IfSome result (λ site. slice_get self.now.sites.items (number - 1) ≡ Some site.now) }
+        ensures { option_copied result ≡ (if is_numbered (length self.now.sites.items) number then slice_get self.now.sites.items (number - 1) else None) }
     {
         let index = number.checked_sub(1)?;
         self.sites.get(index as usize)

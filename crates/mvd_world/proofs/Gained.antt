@@ -26,7 +26,7 @@ use Rattle.mvd_sync.specs.declared.session.Report.{Report}
 use Rattle.mvd_sync.specs.declared.session.SyncFault.{SyncFault}
 use Rattle.mvd_sync.specs.declared.session.SyncFault.TheVariants.{Local, Peer}
 use Rattle.mvd_sync.proofs.Together.{is_member-append}
-use Rattle.mvd_world.specs.Machine.{BreaksBy, EndsWith, HasAllThatDiffer, MayRefuse, StatesClash, writes_in}
+use Rattle.mvd_world.specs.Machine.{BreaksBy, EndsWith, HasAllThatDiffer, MayRefuse, StatesClash, TellApart, ThatDiffer, writes_in}
 use Rattle.mvd_world.specs.Worlds.{Exchange}
 
 -- ---- the writes of several keys
@@ -190,6 +190,29 @@ all_pulled local peer local' peer' V W pulled given (Ok report) first second hel
           ∙ state_at-stands peer.states W key second))
     ] refl
 
+-- two maps have one value at a key just where the writes that they stand for have one state
+same_get : (a b : States) (V W : List Write) → Stands a V → Stands b W → (key : Key) → state key V ≡ state key W → get a key ≡ get b key
+same_get a b V W first second key same = first.at key ∙ held_at key V (state key W) same ∙ sym (second.at key)
+
+same_state : (a b : States) (V W : List Write) → Stands a V → Stands b W → (key : Key) → get a key ≡ get b key → state key V ≡ state key W
+same_state a b V W first second key same = sym (state_at-stands a V key first) ∙ ap (λ o. unwrap_or o empty_state) same ∙ state_at-stands b W key second
+
+that_differ : (local peer local' peer' : SiteValue) (V W : List Write) (result : Result Report SyncFault) → Stands local.states V → Stands peer.states W →
+    (HashesTellApart spelled local.states peer.states → IfOk result (λ report. SessionCompletes local.states peer.states local'.states peer'.states report.keys)) →
+    IfOk result (λ report. TellApart V W → ThatDiffer V W report.keys)
+that_differ local peer local' peer' V W (Err fault) first second done = tt
+that_differ local peer local' peer' V W (Ok report) first second done = λ tell.
+    let all = done (tell local.states peer.states first second) in
+    record {
+      keys = all.keys;
+      distinct = all.distinct;
+      differing = λ key. (
+        (λ member same. (all.differing key).0 member (same_get local.states peer.states V W first second key same)),
+        (λ differ. (all.differing key).1 (λ same. differ (same_state local.states peer.states V W first second key same))),
+      );
+      counted = all.counted;
+    }
+
 pub sites_meet : (local peer local' peer' : SiteValue) (result : Result Report SyncFault) → local.broken ≡ false → peer.broken ≡ false → AreHeld local'.states → AreHeld peer'.states →
     SessionEnds (λ (report : Report). report.keys) (IsTrue_side local') (IsTrue_side peer') local.states peer.states local'.states peer'.states result →
     MatchResult result (λ _. IsTrue_side local') (λ fault. fault ≢ Local Broken → IsTrue_side local') →
@@ -204,6 +227,7 @@ sites_meet local peer local' peer' result first second held held' ends whole who
   ends = ends_with (IsTrue_side local') (IsTrue_side peer') ends.pulled ends.given local'.broken peer'.broken result
       (at_ok (Local Broken) local'.broken result (whole_side (Local Broken) local' result whole)) (at_ok (Peer Broken) peer'.broken result (whole_side (Peer Broken) peer' result whole')) ends.end;
   all = all_pulled local peer local' peer' V W ends.pulled ends.given result (stands first) (stands' second) held held' ends.end ends.local_side ends.peer_side done;
+  counted = that_differ local peer local' peer' V W result (stands first) (stands' second) done;
   local_breaks = breaks_by (Local Broken) is_local_broken local.broken local'.broken result first (whole_side (Local Broken) local' result whole);
   peer_breaks = breaks_by (Peer Broken) is_peer_broken peer.broken peer'.broken result second (whole_side (Peer Broken) peer' result whole');
   told = told;
@@ -232,6 +256,7 @@ nothing_met local peer fault apart told V W first second = record {
   distinct = tt;
   ends = inl refl;
   all = tt;
+  counted = tt;
   local_breaks = stays local.broken (Local Broken) (Err fault);
   peer_breaks = stays peer.broken (Peer Broken) (Err fault);
   told = told;

@@ -240,6 +240,7 @@ meets_lead old new local peer i j result at at' two both same_messages setting b
       peer_broken = both.second'.broken;
       ends = does.ends;
       all = does.all;
+      counted = does.counted;
       local_breaks = subst (λ b. BreaksBy b both.first'.broken (Local Broken) result) mine.broken does.local_breaks;
       peer_breaks = subst (λ b. BreaksBy b both.second'.broken (Peer Broken) result) theirs.broken does.peer_breaks;
       told = does.told;

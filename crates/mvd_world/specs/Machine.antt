@@ -1,6 +1,6 @@
 -- Sites that write, are asked, send each other states of keys and hold sessions, as a machine over sets of writes: what is
--- lost, repeated or comes out of order is a matter of which steps are taken, and no state of a key stands in it.
-use Rattle.std.specs.Prelude.{◌≡◌, ◌⊎◌, ℕ, Bool, true, false, not, ◌&&◌, ◌||◌, ◌==◌, nat_lt, nat_le, ◌-◌, if◌then◌else◌, List, [], ◌∷◌, ◌++◌, length, filter, Contains, MatchBool, Some, Result, Ok, Err, ◌≢◌, IfOk, IfErr}
+-- lost, repeated or comes out of order is a matter of which steps are taken, and no map of states is kept in it.
+use Rattle.std.specs.Prelude.{◌≡◌, ◌⊎◌, ℕ, Bool, true, false, not, ◌&&◌, ◌||◌, ◌==◌, nat_lt, nat_le, ◌-◌, if◌then◌else◌, List, [], ◌∷◌, ◌++◌, length, filter, Contains, MatchBool, Some, Result, Ok, Err, ◌≢◌, IfOk, IfErr, IsTrue, ◌↔◌}
 use Rattle.std.specs.List.{slice_get}
 use Rattle.mvd_dots.specs.Dot.{DotValue}
 use Rattle.mvd_dots.specs.Context.{DotSet}
@@ -170,6 +170,13 @@ TellApart V W = (a b : States) → Stands a V → Stands b W → HashesTellApart
 abbrev pub HasAllThatDiffer : List Write → List Write → List Key → Type 0
 HasAllThatDiffer V W keys = TellApart V W → (key : Key) → state key V ≢ state key W → is_member keys key ≡ true
 
+-- the keys of which two sets of writes have different states
+pub record ThatDiffer (V W : List Write) (count : ℕ) : Type 0 where
+  pub keys : List Key
+  pub distinct : AreDistinct keys
+  pub differing : (key : Key) → IsTrue (is_member keys key) ↔ (state key V ≢ state key W)
+  pub counted : count ≡ length keys
+
 -- two sites' states of a key clash
 pub record StatesClash (V W : List Write) : Type 0 where
   pub key : Key
@@ -184,6 +191,7 @@ pub record Meets (before : Knowledge) (local peer : ℕ) (result : Result Report
   pub peer_broken : Bool
   pub ends : EndsWith pulled given local_broken peer_broken result
   pub all : IfOk result (λ _. HasAllThatDiffer (before.known local) (before.known peer) pulled)
+  pub counted : IfOk result (λ report. TellApart (before.known local) (before.known peer) → ThatDiffer (before.known local) (before.known peer) report.keys)
   pub local_breaks : BreaksBy (before.broken local) local_broken (Local Broken) result
   pub peer_breaks : BreaksBy (before.broken peer) peer_broken (Peer Broken) result
   pub told : IfErr result (IsFaultOf (MayRefuse local_broken) (MayRefuse peer_broken))

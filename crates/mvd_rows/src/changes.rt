@@ -48,8 +48,9 @@ impl Rows {
         ensures memory { IfErr result (λ refusal. refusal ≡ Memory) }
         ensures counts { Within (length self.old.indexes.items + 2 * length self.old.views.items) (4 * length self.old.views.items) meter.old meter.new }
     {
-        change_places(self.alloc, &mut self.indexes, way, spot, document, meter)?;
-        change_rows(self.alloc, &mut self.views, way, document, meter)?;
+        let parsed = document.parsed(self.alloc)?;
+        change_places(self.alloc, &mut self.indexes, way, spot, &parsed, meter)?;
+        change_rows(self.alloc, &mut self.views, way, &parsed, meter)?;
         Ok(())
     }
 
@@ -86,7 +87,8 @@ impl Rows {
         Ok(())
     }
 
-    /// From the one list of a key's siblings to the other. What stands in both is not touched.
+    /// From the one list of a key's siblings to the other. What stands in both is not touched, and a document is read
+    /// again only where an index or a view asks it.
     pub(crate) fn replace(
         &mut self,
         key: &Key,
@@ -104,6 +106,9 @@ impl Rows {
         ensures counts { let moved = length (not_among (pairs_of new.now) (pairs_of old.now)) + length (not_among (pairs_of old.now) (pairs_of new.now)) in
             Within (moved * (length self.old.indexes.items + 2 * length self.old.views.items)) (moved * (4 * length self.old.views.items)) meter.old meter.new }
     {
+        if self.indexes.is_empty() && self.views.is_empty() {
+            return Ok(());
+        }
         self.move_all(Way::Goes, key, old, new, meter)?;
         self.move_all(Way::Comes, key, new, old, meter)?;
         Ok(())

@@ -21,7 +21,7 @@ use crate::kept::Kept;
 use crate::marks::{Mark, Spot};
 use crate::meters::Meter;
 use crate::moves::Way;
-use mvd_docs::{Document, Field, Term};
+use mvd_docs::{Field, Parsed, Term};
 use mvd_dots::Refusal;
 use mvd_keys::Place;
 use std::alloc::Global;
@@ -40,7 +40,7 @@ impl Index {
         alloc: Global,
         way: Way,
         spot: &Spot,
-        document: &Document,
+        document: &Parsed,
         meter: &mut Meter,
     ) -> Result<(), Refusal>
         ensures places { OnOk result ((visible : Visible) → IsIndexOf self.old visible → map.get visible spot.now ≡ before way document.now →
@@ -61,7 +61,7 @@ impl Index {
         &mut self,
         alloc: Global,
         spot: &Spot,
-        document: &Document,
+        document: &Parsed,
         meter: &mut Meter,
     ) -> Result<(), Refusal>
         ensures places { OnOk result ((visible : Visible) → IsIndexOf self.old visible → map.get visible spot.now ≡ None →
@@ -86,7 +86,7 @@ impl Index {
         &mut self,
         alloc: Global,
         spot: &Spot,
-        document: &Document,
+        document: &Parsed,
         meter: &mut Meter,
     ) -> Result<(), Refusal>
         ensures places { OnOk result ((visible : Visible) → IsIndexOf self.old visible → map.get visible spot.now ≡ Some document.now →

@@ -14,7 +14,7 @@ use crate::marks::Spot;
 use crate::meters::Meter;
 use crate::moves::Way;
 use crate::views::View;
-use mvd_docs::Document;
+use mvd_docs::Parsed;
 use mvd_dots::Refusal;
 use std::alloc::Global;
 
@@ -23,7 +23,7 @@ pub(crate) fn change_places(
     indexes: &mut Vec<Index>,
     way: Way,
     spot: &Spot,
-    document: &Document,
+    document: &Parsed,
     meter: &mut Meter,
 ) -> Result<(), Refusal>
     ensures places { OnOk result ((visible : Visible) → All (λ index. IsIndexOf index visible) indexes.old.items → fin_map.get visible spot.now ≡ before way document.now →
@@ -43,7 +43,7 @@ pub(crate) fn change_rows(
     alloc: Global,
     views: &mut Vec<View>,
     way: Way,
-    document: &Document,
+    document: &Parsed,
     meter: &mut Meter,
 ) -> Result<(), Refusal>
     requires { (visible : Visible) × (spot : Spot) × (All (λ view. IsViewOf view visible) views.old.items × (IsSmall visible × (fin_map.get visible spot ≡ before way document.now))) }

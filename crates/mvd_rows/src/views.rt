@@ -23,7 +23,7 @@ use crate::marks::Tally;
 use crate::meters::Meter;
 use crate::moves::Way;
 use crate::tallies::Tallies;
-use mvd_docs::{Document, Field, Term, ViewName};
+use mvd_docs::{Field, Parsed, Term, ViewName};
 use mvd_dots::Refusal;
 use std::alloc::{AllocError, Global};
 
@@ -94,7 +94,7 @@ impl View {
         &mut self,
         alloc: Global,
         way: Way,
-        document: &Document,
+        document: &Parsed,
         meter: &mut Meter,
     ) -> Result<(), Refusal>
         requires { (visible : Visible) × (spot : Spot) × (IsViewOf self.old visible × (IsSmall visible × (map.get visible spot ≡ before way document.now))) }
@@ -112,7 +112,7 @@ impl View {
 
     /// A sibling comes.
     #[tactic(auto, using(crate::proofs::Grouped::none_come, crate::proofs::Grouped::plain_comes, crate::proofs::Grouped::whole_comes))]
-    fn add(&mut self, alloc: Global, document: &Document, meter: &mut Meter) -> Result<(), Refusal>
+    fn add(&mut self, alloc: Global, document: &Parsed, meter: &mut Meter) -> Result<(), Refusal>
         requires { (visible : Visible) × (IsViewOf self.old visible × IsSmall visible) }
         ensures rows { OnOk result ((visible : Visible) (spot : Spot) → IsViewOf self.old visible → map.get visible spot ≡ None →
             IsViewOf self.new (map.insert visible spot document.now)) }
@@ -151,7 +151,7 @@ impl View {
     fn remove(
         &mut self,
         alloc: Global,
-        document: &Document,
+        document: &Parsed,
         meter: &mut Meter,
     ) -> Result<(), Refusal>
         requires { (visible : Visible) × (spot : Spot) × (IsViewOf self.old visible × (IsSmall visible × (map.get visible spot ≡ Some document.now))) }

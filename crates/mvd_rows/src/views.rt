@@ -148,12 +148,7 @@ impl View {
 
     /// A sibling goes.
     #[tactic(auto, using(crate::proofs::Going::none_go))]
-    fn remove(
-        &mut self,
-        alloc: Global,
-        document: &Parsed,
-        meter: &mut Meter,
-    ) -> Result<(), Refusal>
+    fn remove(&mut self, alloc: Global, document: &Parsed, meter: &mut Meter) -> Result<(), Refusal>
         requires { (visible : Visible) × (spot : Spot) × (IsViewOf self.old visible × (IsSmall visible × (map.get visible spot ≡ Some document.now))) }
         ensures rows { OnOk result ((visible : Visible) (spot : Spot) → IsViewOf self.old visible → map.get visible spot ≡ Some document.now →
             IsViewOf self.new (map.remove visible spot)) }

@@ -1,0 +1,82 @@
+#!/bin/sh
+# Measures the program on scripts that it makes: seconds of the processor, and the most memory held at one time.
+# usage: tools/measure.sh PROGRAM [FOLDER]
+# PROGRAM is `mvd` as built. FOLDER has another program to compare with, target/release/twin, which runs the same
+# scripts. Each figure is the least of three runs, the programs in turn. Takes Debian's `time`.
+set -eu
+program=${1:?usage: tools/measure.sh PROGRAM [FOLDER]}
+other=${2:+$2/target/release/twin}
+[ -x /usr/bin/time ] || { echo "/usr/bin/time is not installed" >&2; exit 2; }
+work=$(mktemp -d)
+trap 'rm -rf "$work"' EXIT
+
+# script KIND N: a script of N writes.
+# core   two sites write with what they have read; each key is sent once, received and read
+# blind  two sites write with nothing read, so that siblings gather: eight writes a key
+# rows   as core with no messages, under two indexes and a view, which are asked
+# tree   as core, with a root after every 100 writes
+# small  one site, a key for each write, each document {}
+script() {
+    awk -v kind="$1" -v n="$2" '
+    function below(most) { seed = (seed * 16807) % 2147483647; return seed % most }
+    function document() {
+        return "{\"city\":\"" cities[below(4) + 1] "\",\"n\":" below(2000) - 1000 ",\"name\":\"" name "\"}"
+    }
+    BEGIN {
+        seed = 7
+        split("Oslo Rome Bonn Lima", cities, " ")
+        while (length(name) < 60) name = name "x"
+        if (kind == "small") {
+            print "sites 1"
+            for (i = 0; i < n; i++) print "put 1 k" i " - {}"
+            exit
+        }
+        print "sites 2"
+        if (kind == "rows") print "index city\nindex n\nview v city n"
+        keys = int(n / (kind == "blind" ? 8 : 10))
+        for (i = 0; i < n; i++) {
+            print "put " i % 2 + 1 " key" below(keys) (kind == "blind" ? " - " : " @ ") document()
+            if (kind == "tree" && i % 100 == 99) print "root 1"
+        }
+        if (kind == "core" || kind == "tree")
+            for (i = 0; i < keys; i++) print "send 2 key" i "\nrecv 1 " i + 1
+        if (kind == "rows") {
+            for (i = 0; i < keys; i++) print "find 1 n " below(2000) - 1000
+            for (i = 0; i < 100; i++) print "rows 1 v"
+        }
+        for (i = 0; i < keys; i++) print "get 1 key" i
+    }'
+}
+
+# run NAME PROGRAM: one run on the script, noted with its seconds and its kilobytes.
+run() {
+    /usr/bin/time -f '%U %S %M' -o "$work/used" "$2" sim < "$work/script" > "$work/$1.out"
+    awk -v name="$1" '{ print name, $1 + $2, $3 }' "$work/used" >> "$work/runs"
+}
+
+# measure KIND N: the least of three runs of each program.
+measure() {
+    script "$1" "$2" > "$work/script"
+    : > "$work/runs"
+    for _ in 1 2 3; do
+        run mvd "$program"
+        if [ -n "$other" ]; then run twin "$other"; fi
+    done
+    awk -v kind="$1" -v n="$2" '
+    !($1 in seconds) { names[++count] = $1; seconds[$1] = $2; memory[$1] = $3 }
+    $2 < seconds[$1] { seconds[$1] = $2 }
+    $3 < memory[$1] { memory[$1] = $3 }
+    END {
+        for (i = 1; i <= count; i++)
+            printf "%-6s %7d %-5s %7.2f s %8.1f MB\n", kind, n, names[i], seconds[names[i]], memory[names[i]] / 1024
+    }' "$work/runs"
+    if [ -n "$other" ] && ! cmp -s "$work/mvd.out" "$work/twin.out"; then echo "the two print differently"; fi
+}
+
+echo "machine: $(uname -srm), $(nproc) processors, $(sed -n 's/^model name[^:]*: //p' /proc/cpuinfo | head -1)"
+echo "load at the start: $(cut -d ' ' -f 1-3 /proc/loadavg)"
+for n in 10000 100000; do
+    for kind in core blind rows tree; do measure $kind $n; done
+done
+for n in 10000 100000 800000; do measure small $n; done
+echo "load at the end: $(cut -d ' ' -f 1-3 /proc/loadavg)"

@@ -9,7 +9,7 @@ use Rattle.mvd_world.specs.declared.steps.Step.{Step}
 use Rattle.mvd_world.specs.declared.steps.Outcome.{Outcome}
 use Rattle.mvd_world.specs.declared.worlds.World.{World}
 use Rattle.mvd_world.specs.Machine.{IsNoClash, Knowledge, MayStep, OnePutPerDot, Runs, Setting, nothing_yet}
-use Rattle.mvd_world.specs.Worlds.{AlikeWhereSame, IsWorld, Leads_to, StandForKnown, Steps}
+use Rattle.mvd_world.specs.Worlds.{AlikeWhereSame, AreShort, IsWorld, Leads_to, StandForKnown, Steps}
 use Rattle.mvd_world.proofs.Apart.{agree_within, step_apart}
 
 runs_push : (setting : Setting) (before middle after : Knowledge) (steps : List Step) (step : Step) (outcomes : List Outcome) (outcome : Outcome) → Runs setting before steps outcomes middle → MayStep setting middle step outcome after →
@@ -27,12 +27,13 @@ all_push P (y ∷ xs) x all here = (all.0, all_push P xs x all.1 here)
 pub record SoFar (setting : Setting) (steps : List Step) (outcomes : List Outcome) (world : World) : Type 0 where
   pub happened : Leads_to setting steps outcomes (λ end. IsWorld setting world end)
   pub apart : AllByRecursion IsNoClash outcomes
+  pub short : AreShort world
 
-pub at_first : (setting : Setting) (world : World) → IsWorld setting world nothing_yet → SoFar setting [] [] world
-at_first setting world is = record { happened = (nothing_yet, (refl, is)); apart = tt }
+pub at_first : (setting : Setting) (world : World) → IsWorld setting world nothing_yet → AreShort world → SoFar setting [] [] world
+at_first setting world is short = record { happened = (nothing_yet, (refl, is)); apart = tt; short = short }
 
-pub one_more : (setting : Setting) (steps : List Step) (step : Step) (outcomes : List Outcome) (outcome : Outcome) (old new : World) → SoFar setting steps outcomes old → Steps old new step outcome → SoFar setting (steps ++ step ∷ []) (outcomes ++ outcome ∷ []) new
-one_more setting steps step outcomes outcome old new so_far takes =
+pub one_more : (setting : Setting) (steps : List Step) (step : Step) (outcomes : List Outcome) (outcome : Outcome) (old new : World) → SoFar setting steps outcomes old → Steps old new step outcome → (AreShort old → AreShort new) → SoFar setting (steps ++ step ∷ []) (outcomes ++ outcome ∷ []) new
+one_more setting steps step outcomes outcome old new so_far takes short =
     let end = so_far.happened.0 in
     let runs = so_far.happened.1.0 in
     let world = so_far.happened.1.1 in
@@ -40,6 +41,7 @@ one_more setting steps step outcomes outcome old new so_far takes =
     record {
       happened = (more.0, (runs_push setting nothing_yet end more.0 steps step outcomes outcome runs more.1.0, more.1.1));
       apart = all_push IsNoClash outcomes outcome so_far.apart (step_apart setting end step outcome more.0 world.sound more.1.0);
+      short = short so_far.short;
     }
 
 -- ---- what follows

@@ -34,7 +34,7 @@ use Rattle.mvd_world.proofs.Changed.{get_push, learns_here, learns_other, set_ot
 use Rattle.mvd_world.proofs.Sound.{found as found_in, sound_answers, sound_meets, sound_receives, sound_sends}
 
 -- the site of a number
-site_of : (setting : Setting) (before : Knowledge) (sites : List SiteValue) (index number : ℕ) (s : SiteValue) → AreSites setting before sites → index + 1 ≡ number → slice_get sites index ≡ Some s → IsSiteOf setting before number s
+pub site_of : (setting : Setting) (before : Knowledge) (sites : List SiteValue) (index number : ℕ) (s : SiteValue) → AreSites setting before sites → index + 1 ≡ number → slice_get sites index ≡ Some s → IsSiteOf setting before number s
 site_of setting before sites index number s are at here = subst (λ n. IsSiteOf setting before n s) at (are index s here)
 
 -- nothing changed
@@ -150,7 +150,7 @@ received_adds key writes Done of = (of, refl)
 received_adds key writes reply of = refl
 
 -- a message of the world stands for one that was sent
-message_at : (ms : List Sending) (i : ℕ) (m : Message) → slice_get (map message_of ms) i ≡ Some m → (sending : Sending) × (slice_get ms i ≡ Some sending) × (m ≡ message_of sending)
+pub message_at : (ms : List Sending) (i : ℕ) (m : Message) → slice_get (map message_of ms) i ≡ Some m → (sending : Sending) × (slice_get ms i ≡ Some sending) × (m ≡ message_of sending)
 message_at [] i m h = cc
 message_at (sending ∷ ms) zero m h = (sending, refl, cc)
 message_at (sending ∷ ms) (suc i) m h = message_at ms i m h
@@ -299,7 +299,7 @@ one_more_site setting sites more s number so_far grown count is i x found = ⊎_
 pub never_ok : (done : Unit {0}) (refusal : Refusal) → ◌≡◌ {A = Result (Unit {0}) Refusal} (Ok done) (Err refusal) → ⊥
 never_ok done refusal e = cc
 
-is_broken : (refusal : Refusal) → (refusal ≡ Broken) ⊎ (refusal ≢ Broken)
+pub is_broken : (refusal : Refusal) → (refusal ≡ Broken) ⊎ (refusal ≢ Broken)
 is_broken Broken = inl refl
 is_broken refusal = inr (λ e. absurd (cc))
 

@@ -3,7 +3,7 @@ ghost use Rattle.std.specs.Prelude.{◌≡◌, ◌≤◌, ◌<◌, IfErr, IfOk, 
 ghost use Rattle.std.specs.List.{AllByRecursion};
 ghost use Rattle.mvd_dots.specs.declared.refusals.Refusal.TheVariants.{Memory};
 ghost use Rattle.mvd_world.specs.Machine.{IsNoClash, OnePutPerDot, setting_of};
-ghost use Rattle.mvd_world.specs.Worlds.{AlikeWhereSame, IsWorld, Leads_to, StandForKnown};
+ghost use Rattle.mvd_world.specs.Worlds.{AlikeWhereSame, AreShort, IsWorld, Leads_to, StandForKnown};
 
 use crate::steps::{Outcome, Step};
 use crate::worlds::World;
@@ -34,6 +34,8 @@ pub fn run_world(
     ensures alike { IfOk result (λ done. Leads_to (setting_of count max_keys defs) steps.now done.1.items (AlikeWhereSame done.0)) }
     // No answer and no session is refused for a clash.
     ensures apart { IfOk result (λ done. AllByRecursion IsNoClash done.1.items) }
+    // No message is longer than a state may be.
+    ensures short { IfOk result (λ done. AreShort done.0) }
     ensures only { IfErr result (λ refusal. refusal ≡ Memory) }
 {
     let mut world = World::new(alloc, count, max_keys, defs)?;

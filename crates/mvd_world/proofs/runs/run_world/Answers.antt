@@ -7,7 +7,7 @@ use Rattle.mvd_world.proofs.runs.run_world.Goals as goal
 pub loop-step-init : goal.loop-step-init
 loop-step-init c =
     let setting : Setting = record { count = c.args.count; max_keys = c.args.max_keys; defs = c.args.defs } in
-    subst (λ outcomes. SoFar setting [] outcomes c.in_ok-world.world) (sym c.new-outcomes.ensures.items) (at_first setting c.in_ok-world.world c.in_ok-world.ensures.world)
+    subst (λ outcomes. SoFar setting [] outcomes c.in_ok-world.world) (sym c.new-outcomes.ensures.items) (at_first setting c.in_ok-world.world c.in_ok-world.ensures.world c.in_ok-world.ensures.short)
 
 pub loop-step-preserved : goal.loop-step-preserved
 loop-step-preserved c =
@@ -17,7 +17,7 @@ loop-step-preserved c =
     subst₂ (λ done outcomes. SoFar setting done outcomes c.step-outcome.new.self)
     (sym (take_more steps i c.step-item.result c.loop-step-test.true ∙ ap (λ s. take i steps ++ s ∷ []) (sym c.step-item.is)))
     (sym c.in_ok-push.ensures.items)
-    (one_more setting (take i steps) c.step-item.result c.loop-step.outcomes.items c.step-outcome.result c.loop-step.world c.step-outcome.new.self c.loop-step.invariant c.step-outcome.ensures)
+    (one_more setting (take i steps) c.step-item.result c.loop-step.outcomes.items c.step-outcome.result c.loop-step.world c.step-outcome.new.self c.loop-step.invariant c.step-outcome.ensures.machine c.step-outcome.ensures.short)
 
 pub returns-clause-happened : goal.returns-clause-happened
 returns-clause-happened c =
@@ -46,3 +46,6 @@ returns-clause-alike c =
 
 pub returns-clause-apart : goal.returns-clause-apart
 returns-clause-apart c = c.loop-step.invariant.apart
+
+pub returns-clause-short : goal.returns-clause-short
+returns-clause-short c = c.loop-step.invariant.short

@@ -1,4 +1,4 @@
-use Rattle.std.proofs.Common.{◌≡◌, false, true, inl, refl, sym, ◌∙◌}
+use Rattle.std.proofs.Common.{◌≡◌, false, inl, refl, sym, ◌∙◌}
 use Rattle.mvd_dots.specs.declared.refusals.Refusal.TheVariants.{Broken}
 use Rattle.mvd_site.specs.Held.{AreHeld}
 use Rattle.mvd_sync.specs.declared.session.SyncFault.TheVariants.{Local, Peer}

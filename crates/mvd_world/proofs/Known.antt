@@ -24,6 +24,7 @@ use Rattle.mvd_site.specs.Sites.{SiteValue}
 use Rattle.mvd_site.proofs.Answered.{with_state-same}
 use Rattle.mvd_site.proofs.Lengths.{kept_empty}
 use Rattle.mvd_site.proofs.Steps.{state_at-stands, within-still}
+use Rattle.mvd_sync.proofs.SiteSides.{is_broken}
 use Rattle.mvd_world.specs.declared.steps.Outcome.TheVariants.{Replied}
 use Rattle.mvd_world.specs.declared.steps.Step.TheVariants.{Receive}
 use Rattle.mvd_world.specs.declared.worlds.Message.{Message}
@@ -31,7 +32,7 @@ use Rattle.mvd_world.specs.declared.worlds.World.{World}
 use Rattle.mvd_world.specs.Machine.{IsSound, Knowledge, Sending, Setting}
 use Rattle.mvd_world.specs.Worlds.{AcceptsAgain, HasNothingNew, IsSiteOf, IsWorld, KnownChangesNothing, StaysTheSame, message_of}
 use Rattle.mvd_world.proofs.Apart.{WasMade, agree_within, apart_within}
-use Rattle.mvd_world.proofs.Leading.{is_broken, message_at, site_of}
+use Rattle.mvd_world.proofs.Leading.{message_at, site_of}
 use Rattle.mvd_world.proofs.Sound.{found}
 
 -- ---- a push that has nothing new

@@ -23,6 +23,7 @@ use Rattle.mvd_site.specs.Sites.{AnswersOne, SiteStands, SiteValue}
 use Rattle.mvd_site.proofs.Answered.{after_stands, answered, changed_alike, with_state-same}
 use Rattle.mvd_site.proofs.Prepare.{Stands-none, refuses_all}
 use Rattle.mvd_site.proofs.Steps.{Adds-Refused, Stands-nothing, state_at-stands}
+use Rattle.mvd_sync.proofs.SiteSides.{is_broken}
 use Rattle.mvd_sync.specs.declared.session.Report.{Report}
 use Rattle.mvd_sync.specs.declared.session.SyncFault.{SyncFault}
 use Rattle.mvd_sync.specs.declared.session.SyncFault.TheVariants.{Local, Peer}
@@ -298,10 +299,6 @@ one_more_site setting sites more s number so_far grown count is i x found = ⊎_
 
 pub never_ok : (done : Unit {0}) (refusal : Refusal) → ◌≡◌ {A = Result (Unit {0}) Refusal} (Ok done) (Err refusal) → ⊥
 never_ok done refusal e = cc
-
-pub is_broken : (refusal : Refusal) → (refusal ≡ Broken) ⊎ (refusal ≢ Broken)
-is_broken Broken = inl refl
-is_broken refusal = inr (λ e. absurd (cc))
 
 pub refused_so : (s s' : SiteValue) (refusal : Refusal) → ◌≡◌ {A = Result (Unit {0}) Refusal} (Err refusal) (Err Broken) → (refusal ≡ Broken → s' ≡ record { config = s.config; states = s.states; broken = true }) →
     (Refused refusal ≡ Refused Broken) × (s'.broken ≡ true)

@@ -127,9 +127,9 @@ pub record AreAlike (a b : SiteValue) : Type 0 where
   pub states : a.states ≡ b.states
   pub answers : (request : Request) → is_question request ≡ true → answer_from a.config a.states request ≡ answer_from b.config b.states request
 
--- these steps with these outcomes, from nothing known, lead to sets of which this holds
-abbrev pub Leads_to : Setting → List Step → List Outcome → (Knowledge → Type 0) → Type 0
-Leads_to setting steps outcomes Holds = (end : Knowledge) × (Runs setting nothing_yet steps outcomes end × Holds end)
+-- these steps with these outcomes, from nothing known, lead to sets that the world stands for, and of which this holds
+abbrev pub Leads_to : Setting → World → List Step → List Outcome → (Knowledge → Type 0) → Type 0
+Leads_to setting world steps outcomes Holds = (end : Knowledge) × (Runs setting nothing_yet steps outcomes end × (IsWorld setting world end × Holds end))
 
 -- each site that is not broken stands for what it knows, which is a part of what was made
 abbrev pub StandForKnown : World → Knowledge → Type 0

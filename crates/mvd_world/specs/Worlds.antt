@@ -21,7 +21,7 @@ use Rattle.mvd_world.specs.declared.steps.Outcome.{Outcome}
 use Rattle.mvd_world.specs.declared.steps.Outcome.TheVariants.{Replied}
 use Rattle.mvd_world.specs.declared.worlds.Message.{Message}
 use Rattle.mvd_world.specs.declared.worlds.World.{World}
-use Rattle.mvd_world.specs.Machine.{BreaksBy, EndsWith, HasAllThatDiffer, IsSound, Knowledge, MayRefuse, MayStep, Runs, Sending, Setting, StatesClash, TellApart, ThatDiffer, config_of, may_be, nothing_yet, writes_in}
+use Rattle.mvd_world.specs.Machine.{BreaksBy, EndsWith, HasAllThatDiffer, IsSound, Knowledge, MayRefuse, MayStep, Runs, Sending, Setting, StatesClash, TellApart, ThatDiffer, ToldAtOnce, config_of, may_be, nothing_yet, writes_in}
 
 -- the site of this number, with what it was set up with, and the writes that its states stand for unless it is broken
 pub record IsSiteOf (setting : Setting) (knowledge : Knowledge) (number : ℕ) (site : SiteValue) : Type 0 where
@@ -98,6 +98,7 @@ pub record SitesMeet (V W : List Write) (local peer local' peer' : SiteValue) (r
   pub counted : IfOk result (λ report. TellApart V W → ThatDiffer V W report.keys)
   pub local_breaks : BreaksBy local.broken local'.broken (Local Broken) result
   pub peer_breaks : BreaksBy peer.broken peer'.broken (Peer Broken) result
+  pub at_once : ToldAtOnce local.broken peer.broken pulled result
   pub told : IfErr result (IsFaultOf (MayRefuse local'.broken) (MayRefuse peer'.broken))
   pub clash : (fault : SyncFault) → result ≡ Err fault → IsClash fault → StatesClash V W
   pub local_stands : SiteStands local' (V ++ writes_in pulled W)

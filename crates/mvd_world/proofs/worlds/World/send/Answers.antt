@@ -1,11 +1,11 @@
-use Rattle.std.proofs.Common.{◌≡◌, ◌-◌, false, length, refl, sym, ap, subst, ◌∙◌, arith, inl}
+use Rattle.std.proofs.Common.{◌≡◌, ◌-◌, false, length, refl, sym, ap, subst, ◌∙◌, arith}
 use Rattle.std.specs.List.{AllByRecursion}
 use Rattle.std.proofs.lemmas.Option.{slice_get_read}
 use Rattle.mvd_site.specs.Answer.{is_too_large}
 use Rattle.mvd_site.specs.Held.{state_at}
 use Rattle.mvd_world.specs.declared.worlds.Message.{Message}
 use Rattle.mvd_world.proofs.Known.{short_at, short_push}
-use Rattle.mvd_world.proofs.Leading.{sends_lead, sends_not_lead, why_refused}
+use Rattle.mvd_world.proofs.Leading.{for_memory, sends_lead, sends_not_lead}
 use Rattle.mvd_world.proofs.worlds.World.send.Goals as goal
 
 pub returns-in-Err-clause-leads : goal.returns-in-Err-clause-leads
@@ -14,7 +14,7 @@ returns-in-Err-clause-leads c =
     let s = c.index-sender.result.now in
     sends_not_lead old old c.args.site (c.args.site - 1) s c.in-Err.refusal (omega (arith, c.requires.some))
     (slice_get_read old.sites.items (length old.sites.items) (c.args.site - 1) s refl (omega (arith, c.requires.some, c.requires.within)) c.index-sender.ensures)
-    (why_refused s.broken c.in-Err.refusal c.in-Err.ensures.refused) refl refl
+    c.in-Err.ensures.refused refl refl
 
 pub returns-in-Err-append-clause-leads : goal.returns-in-Err-append-clause-leads
 returns-in-Err-append-clause-leads c =
@@ -22,7 +22,7 @@ returns-in-Err-append-clause-leads c =
     let s = c.index-sender.result.now in
     sends_not_lead old c.append.new.self c.args.site (c.args.site - 1) s c.in-Err-append.refusal (omega (arith, c.requires.some))
     (slice_get_read old.sites.items (length old.sites.items) (c.args.site - 1) s refl (omega (arith, c.requires.some, c.requires.within)) c.index-sender.ensures)
-    (inl c.in-Err-append.ensures.memory) c.append.ensures.sites c.in-Err-append.ensures.err
+    (for_memory s.broken c.in-Err-append.refusal c.in-Ok.ensures.whole c.in-Err-append.ensures.memory) c.append.ensures.sites c.in-Err-append.ensures.err
 
 pub returns-in-Ok-append-clause-leads : goal.returns-in-Ok-append-clause-leads
 returns-in-Ok-append-clause-leads c =

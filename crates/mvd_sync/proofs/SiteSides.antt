@@ -82,7 +82,7 @@ put_is_pushed m key s held valid =
       | false ↦ λ seen. sym (ap (λ b. cond b (remove m key) (insert m key new)) (not_nothing new seen))
     ] refl
 
-is_broken : (refusal : Refusal) → (refusal ≡ Broken) ⊎ (refusal ≢ Broken)
+pub is_broken : (refusal : Refusal) → (refusal ≡ Broken) ⊎ (refusal ≢ Broken)
 is_broken Broken = inl refl
 is_broken refusal = inr (λ e. absurd (cc))
 

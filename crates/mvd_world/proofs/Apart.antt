@@ -18,7 +18,7 @@ use Rattle.mvd_wire.specs.declared.reply.Reply.{Reply}
 use Rattle.mvd_wire.specs.declared.reply.Reply.TheVariants.{Refused}
 use Rattle.mvd_site.specs.Answer.{states_of}
 use Rattle.mvd_site.specs.Config.{ConfigValue}
-use Rattle.mvd_site.specs.FromStates.{IsClash as PushesClash}
+use Rattle.mvd_site.specs.FromStates.{IsClash as PushesClash, unless_broken}
 use Rattle.mvd_site.specs.Held.{States, state_at}
 use Rattle.mvd_site.specs.Known.{MayReply}
 use Rattle.mvd_site.proofs.Answered.{answered}
@@ -112,14 +112,15 @@ pub no_states_clash : (before : Knowledge) (local peer : ℕ) → IsSound before
 no_states_clash before local peer sound found =
     true≢false (sym found.clash ∙ apart_within before (before.known local) (before.known peer) found.key sound (sound.known local) (sound.known peer))
 
+not_sent_apart : (broken : Bool) → Refused (unless_broken broken Broken Memory) ≡ Refused DotClash → ⊥
+not_sent_apart true e = cc
+not_sent_apart false e = cc
+
 takes_apart : (setting : Setting) (before : Knowledge) (step : Step) (outcome : Outcome) (after : Knowledge) → IsSound before → may_be setting.count (length before.messages) step ≡ true → Takes setting before step outcome after → IsNoClash outcome
 takes_apart setting before (Write_at site request) (Replied reply) after sound may told = answers_apart setting before site request reply after (own_step _ request may) told
 takes_apart setting before (Ask site request) (Replied reply) after sound may told = answers_apart setting before site request reply after (asked_step _ request may) told
 takes_apart setting before (Send site key) (Sent_as number) after sound may told = (λ e. cc, λ fault e is. cc)
-takes_apart setting before (Send site key) (Replied reply) after sound may told = reply_apart reply (λ e. ⊎_elim
-    (λ memory. let f : Refused Memory ≡ Refused DotClash = sym memory ∙ e in cc)
-    (λ broken. let f : Refused Broken ≡ Refused DotClash = sym broken.0 ∙ e in cc)
-    told.refused)
+takes_apart setting before (Send site key) (Replied reply) after sound may told = reply_apart reply (λ e. not_sent_apart (before.broken site) (sym told.refused ∙ e))
 takes_apart setting before (Receive site message) (Replied reply) after sound may told = receives_apart setting before site message reply after sound told
 takes_apart setting before (Session local peer) (Met report) after sound may told = (λ e. cc, λ fault e is. cc)
 takes_apart setting before (Session local peer) (Failed fault) after sound may told =

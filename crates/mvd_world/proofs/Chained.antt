@@ -8,8 +8,8 @@ use Rattle.mvd_site.proofs.Alike.{from_states}
 use Rattle.mvd_world.specs.declared.steps.Step.{Step}
 use Rattle.mvd_world.specs.declared.steps.Outcome.{Outcome}
 use Rattle.mvd_world.specs.declared.worlds.World.{World}
-use Rattle.mvd_world.specs.Machine.{IsNoClash, Knowledge, MayStep, OnePutPerDot, Runs, Setting, nothing_yet}
-use Rattle.mvd_world.specs.Worlds.{AlikeWhereSame, IsWorld, Leads_to, StandForKnown, Steps}
+use Rattle.mvd_world.specs.Machine.{IsNoClash, Knowledge, MayStep, Runs, Setting, nothing_yet}
+use Rattle.mvd_world.specs.Worlds.{AlikeWhereSame, AreShort, IsWorld, Leads_to, StandForKnown, Steps}
 use Rattle.mvd_world.proofs.Apart.{agree_within, step_apart}
 
 runs_push : (setting : Setting) (before middle after : Knowledge) (steps : List Step) (step : Step) (outcomes : List Outcome) (outcome : Outcome) → Runs setting before steps outcomes middle → MayStep setting middle step outcome after →
@@ -25,35 +25,36 @@ all_push P (y ∷ xs) x all here = (all.0, all_push P xs x all.1 here)
 
 -- what is known of a world after some steps
 pub record SoFar (setting : Setting) (steps : List Step) (outcomes : List Outcome) (world : World) : Type 0 where
-  pub happened : Leads_to setting steps outcomes (λ end. IsWorld setting world end)
+  pub end : Knowledge
+  pub runs : Runs setting nothing_yet steps outcomes end
+  pub stands : IsWorld setting world end
   pub apart : AllByRecursion IsNoClash outcomes
+  pub short : AreShort world
 
-pub at_first : (setting : Setting) (world : World) → IsWorld setting world nothing_yet → SoFar setting [] [] world
-at_first setting world is = record { happened = (nothing_yet, (refl, is)); apart = tt }
+pub at_first : (setting : Setting) (world : World) → IsWorld setting world nothing_yet → AreShort world → SoFar setting [] [] world
+at_first setting world is short = record { end = nothing_yet; runs = refl; stands = is; apart = tt; short = short }
 
-pub one_more : (setting : Setting) (steps : List Step) (step : Step) (outcomes : List Outcome) (outcome : Outcome) (old new : World) → SoFar setting steps outcomes old → Steps old new step outcome → SoFar setting (steps ++ step ∷ []) (outcomes ++ outcome ∷ []) new
-one_more setting steps step outcomes outcome old new so_far takes =
-    let end = so_far.happened.0 in
-    let runs = so_far.happened.1.0 in
-    let world = so_far.happened.1.1 in
-    let more = takes setting end world in
+pub one_more : (setting : Setting) (steps : List Step) (step : Step) (outcomes : List Outcome) (outcome : Outcome) (old new : World) → SoFar setting steps outcomes old → Steps old new step outcome → (AreShort old → AreShort new) → SoFar setting (steps ++ step ∷ []) (outcomes ++ outcome ∷ []) new
+one_more setting steps step outcomes outcome old new so_far takes short =
+    let more = takes setting so_far.end so_far.stands in
     record {
-      happened = (more.0, (runs_push setting nothing_yet end more.0 steps step outcomes outcome runs more.1.0, more.1.1));
-      apart = all_push IsNoClash outcomes outcome so_far.apart (step_apart setting end step outcome more.0 world.sound more.1.0);
+      end = more.0;
+      runs = runs_push setting nothing_yet so_far.end more.0 steps step outcomes outcome so_far.runs more.1.0;
+      stands = more.1.1;
+      apart = all_push IsNoClash outcomes outcome so_far.apart (step_apart setting so_far.end step outcome more.0 so_far.stands.sound more.1.0);
+      short = short so_far.short;
     }
 
 -- ---- what follows
 
-pub one_put : (setting : Setting) (steps : List Step) (outcomes : List Outcome) (world : World) → SoFar setting steps outcomes world → Leads_to setting steps outcomes (λ end. OnePutPerDot end.made)
-one_put setting steps outcomes world so_far = (so_far.happened.0, (so_far.happened.1.0, so_far.happened.1.1.sound.one_put))
+pub leads_to : (setting : Setting) (steps : List Step) (outcomes : List Outcome) (world : World) (Holds : Knowledge → Type 0) → SoFar setting steps outcomes world → ((end : Knowledge) → IsWorld setting world end → Holds end) → Leads_to setting world steps outcomes Holds
+leads_to setting steps outcomes world Holds so_far follows = (so_far.end, (so_far.runs, (so_far.stands, follows so_far.end so_far.stands)))
 
-pub stand : (setting : Setting) (steps : List Step) (outcomes : List Outcome) (world : World) → SoFar setting steps outcomes world → Leads_to setting steps outcomes (StandForKnown world)
-stand setting steps outcomes world so_far =
-    let is = so_far.happened.1.1 in
-    (so_far.happened.0, (so_far.happened.1.0, λ i site found whole. ((is.sites i site found).stands whole, is.sound.known (i + 1))))
+pub stand : (setting : Setting) (world : World) (end : Knowledge) → IsWorld setting world end → StandForKnown world end
+stand setting world end is i site found whole = ((is.sites i site found).stands whole, is.sound.known (i + 1))
 
-alike_at : (setting : Setting) (world : World) (end : Knowledge) → IsWorld setting world end → AlikeWhereSame world end
-alike_at setting world end is i j a b at at' whole whole' same =
+pub alike : (setting : Setting) (world : World) (end : Knowledge) → IsWorld setting world end → AlikeWhereSame world end
+alike setting world end is i j a b at at' whole whole' same =
     let mine = is.sites i a at in
     let theirs = is.sites j b at' in
     let V = end.known (i + 1) in
@@ -65,6 +66,3 @@ alike_at setting world end is i j a b at at' whole whole' same =
       answers = λ request asks. ap (λ m. answer_from a.config m request) states
           ∙ from_states a.config b.config b.states request (ap (λ (c : ConfigValue). c.defs) mine.config ∙ sym (ap (λ (c : ConfigValue). c.defs) theirs.config)) asks;
     }
-
-pub alike : (setting : Setting) (steps : List Step) (outcomes : List Outcome) (world : World) → SoFar setting steps outcomes world → Leads_to setting steps outcomes (AlikeWhereSame world)
-alike setting steps outcomes world so_far = (so_far.happened.0, (so_far.happened.1.0, alike_at setting world so_far.happened.0 so_far.happened.1.1))

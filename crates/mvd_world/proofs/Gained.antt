@@ -1,5 +1,5 @@
 -- What a session adds, from the states of two sites to the writes that they know.
-use Rattle.std.proofs.Common.{◌≡◌, ◌≢◌, ◌⊎◌, inl, inr, Bool, true, false, ◌||◌, ◌==◌, cond, List, [], ◌∷◌, ◌++◌, Some, None, Result, Ok, Err, refl, sym, ap, ap₂, ◌∙◌, subst, ⊎_elim, true≢false, unwrap_or, append-nil, MatchResult, IfErr, IfOk}
+use Rattle.std.proofs.Common.{◌≡◌, ◌≢◌, ◌⊎◌, inl, inr, Bool, true, false, ◌||◌, ◌==◌, cond, List, [], ◌∷◌, ◌++◌, Some, None, Result, Ok, Err, refl, sym, ap, ap₂, ◌∙◌, subst, subst₂, ⊎_elim, true≢false, unwrap_or, append-nil, MatchResult, IfErr, IfOk}
 use Rattle.std.specs.Ordering.{eq_by_cmp}
 use Rattle.std.specs.FinMap.{get}
 use Rattle.std.specs.FinSet.{len-empty}
@@ -26,7 +26,7 @@ use Rattle.mvd_sync.specs.declared.session.Report.{Report}
 use Rattle.mvd_sync.specs.declared.session.SyncFault.{SyncFault}
 use Rattle.mvd_sync.specs.declared.session.SyncFault.TheVariants.{Local, Peer}
 use Rattle.mvd_sync.proofs.Together.{is_member-append}
-use Rattle.mvd_world.specs.Machine.{BreaksBy, EndsWith, HasAllThatDiffer, MayRefuse, StatesClash, TellApart, ThatDiffer, writes_in}
+use Rattle.mvd_world.specs.Machine.{BreaksBy, EndsWith, HasAllThatDiffer, MayRefuse, StatesClash, TellApart, ThatDiffer, ToldAtOnce, writes_in}
 use Rattle.mvd_world.specs.Worlds.{Exchange}
 
 -- ---- the writes of several keys
@@ -230,6 +230,7 @@ sites_meet local peer local' peer' result first second held held' ends whole who
   counted = that_differ local peer local' peer' V W result (stands first) (stands' second) done;
   local_breaks = breaks_by (Local Broken) is_local_broken local.broken local'.broken result first (whole_side (Local Broken) local' result whole);
   peer_breaks = breaks_by (Peer Broken) is_peer_broken peer.broken peer'.broken result second (whole_side (Peer Broken) peer' result whole');
+  at_once = subst₂ (λ a b. ToldAtOnce a b ends.pulled result) (sym first) (sym second) tt;
   told = told;
   clash = states_clash local peer V W result (stands first) (stands' second) clash;
   local_stands = λ is. pulled_stands ends.pulled local.states peer.states local'.states V W (stands first) (stands' second) held (ends.local_side (is, held));
@@ -249,8 +250,8 @@ still_stands site V W stands whole = subst (Stands site.states) (sym (ap (λ X. 
 stays : (was : Bool) (told : SyncFault) (result : Result Report SyncFault) → BreaksBy was was told result
 stays was told result = (λ broken. broken, λ whole broken. absurd (true≢false (sym broken ∙ whole)))
 
-pub nothing_met : (local peer : SiteValue) (fault : SyncFault) → (IsClash fault → ⊥) → IsFaultOf (MayRefuse local.broken) (MayRefuse peer.broken) fault → Exchange local peer local peer (Err fault)
-nothing_met local peer fault apart told V W first second = record {
+pub nothing_met : (local peer : SiteValue) (fault : SyncFault) → (IsClash fault → ⊥) → ToldAtOnce local.broken peer.broken [] (Err fault) → IsFaultOf (MayRefuse local.broken) (MayRefuse peer.broken) fault → Exchange local peer local peer (Err fault)
+nothing_met local peer fault apart at_once told V W first second = record {
   pulled = [];
   given = [];
   distinct = tt;
@@ -259,6 +260,7 @@ nothing_met local peer fault apart told V W first second = record {
   counted = tt;
   local_breaks = stays local.broken (Local Broken) (Err fault);
   peer_breaks = stays peer.broken (Peer Broken) (Err fault);
+  at_once = at_once;
   told = told;
   clash = λ other e is. absurd (apart (let same : fault ≡ other = cc in subst IsClash (sym same) is));
   local_stands = still_stands local V W first;
@@ -270,3 +272,12 @@ local_told is = ⊎_elim (λ e. cc) (λ e. cc) is
 
 pub peer_told : IsClash (Peer Broken) → ⊥
 peer_told is = ⊎_elim (λ e. cc) (λ e. cc) is
+
+pub local_at_once : (a b : Bool) → a ≡ true → ToldAtOnce a b [] (Err (Local Broken))
+local_at_once true b broken = (refl, refl)
+local_at_once false b broken = absurd (cc)
+
+pub peer_at_once : (a b : Bool) → a ≡ false → b ≡ true → ToldAtOnce a b [] (Err (Peer Broken))
+peer_at_once false true whole broken = (refl, refl)
+peer_at_once false false whole broken = absurd (cc)
+peer_at_once true b whole broken = absurd (cc)

@@ -1,5 +1,5 @@
 -- What each step leads to.
-use Rattle.std.proofs.Common.{◌≡◌, ◌≢◌, ◌⊎◌, inl, inr, ℕ, ◌≤◌, ◌+◌, ◌-◌, Bool, true, false, true≢false, zero, suc, List, [], ◌∷◌, ◌++◌, map, length, take, drop, Some, None, IsSomeAnd, refl, sym, ap, ap₂, ◌∙◌, subst, subst₂, ⊎_elim, arith, Result, Ok, Err}
+use Rattle.std.proofs.Common.{◌≡◌, ◌≢◌, inl, inr, ℕ, ◌≤◌, ◌+◌, ◌-◌, Bool, true, false, true≢false, zero, suc, List, [], ◌∷◌, ◌++◌, map, length, take, drop, Some, None, IsSomeAnd, refl, sym, ap, ap₂, ◌∙◌, subst, subst₂, ⊎_elim, arith, Result, Ok, Err}
 use Rattle.std.specs.Prelude.{slice_index_or, slice_set}
 use Rattle.std.specs.List.{slice_get}
 use Rattle.std.specs.FinMap.{empty}
@@ -23,18 +23,19 @@ use Rattle.mvd_site.specs.Sites.{AnswersOne, SiteStands, SiteValue}
 use Rattle.mvd_site.proofs.Answered.{after_stands, answered, changed_alike, with_state-same}
 use Rattle.mvd_site.proofs.Prepare.{Stands-none, refuses_all}
 use Rattle.mvd_site.proofs.Steps.{Adds-Refused, Stands-nothing, state_at-stands}
+use Rattle.mvd_sync.proofs.SiteSides.{is_broken}
 use Rattle.mvd_sync.specs.declared.session.Report.{Report}
 use Rattle.mvd_sync.specs.declared.session.SyncFault.{SyncFault}
 use Rattle.mvd_sync.specs.declared.session.SyncFault.TheVariants.{Local, Peer}
 use Rattle.mvd_world.specs.declared.worlds.Message.{Message}
 use Rattle.mvd_world.specs.declared.worlds.World.{World}
-use Rattle.mvd_world.specs.Machine.{Answers, BreaksBy, IsOwn, IsSound, Knowledge, Meets, Receives, Sending, Sends, SendsNot, Setting, becomes, config_of, learns, nothing_yet, received, writes_in}
+use Rattle.mvd_world.specs.Machine.{Answers, BreaksBy, IsOwn, IsSound, Knowledge, Meets, Receives, Sending, Sends, SendsNot, Setting, ToldAtOnce, becomes, config_of, learns, nothing_yet, received, writes_in}
 use Rattle.mvd_world.specs.Worlds.{AreSites, IsSiteOf, IsWorld, Leads, TwoMeet, message_of}
 use Rattle.mvd_world.proofs.Changed.{get_push, learns_here, learns_other, set_other, sites_changed}
 use Rattle.mvd_world.proofs.Sound.{found as found_in, sound_answers, sound_meets, sound_receives, sound_sends}
 
 -- the site of a number
-site_of : (setting : Setting) (before : Knowledge) (sites : List SiteValue) (index number : ℕ) (s : SiteValue) → AreSites setting before sites → index + 1 ≡ number → slice_get sites index ≡ Some s → IsSiteOf setting before number s
+pub site_of : (setting : Setting) (before : Knowledge) (sites : List SiteValue) (index number : ℕ) (s : SiteValue) → AreSites setting before sites → index + 1 ≡ number → slice_get sites index ≡ Some s → IsSiteOf setting before number s
 site_of setting before sites index number s are at here = subst (λ n. IsSiteOf setting before n s) at (are index s here)
 
 -- nothing changed
@@ -150,7 +151,7 @@ received_adds key writes Done of = (of, refl)
 received_adds key writes reply of = refl
 
 -- a message of the world stands for one that was sent
-message_at : (ms : List Sending) (i : ℕ) (m : Message) → slice_get (map message_of ms) i ≡ Some m → (sending : Sending) × (slice_get ms i ≡ Some sending) × (m ≡ message_of sending)
+pub message_at : (ms : List Sending) (i : ℕ) (m : Message) → slice_get (map message_of ms) i ≡ Some m → (sending : Sending) × (slice_get ms i ≡ Some sending) × (m ≡ message_of sending)
 message_at [] i m h = cc
 message_at (sending ∷ ms) zero m h = (sending, refl, cc)
 message_at (sending ∷ ms) (suc i) m h = message_at ms i m h
@@ -207,11 +208,11 @@ sends_lead old new number index s key m count at here whole is same_sites grown 
       ),
     )
 
-pub sends_not_lead : (old new : World) (number index : ℕ) (s : SiteValue) (refusal : Refusal) → index + 1 ≡ number → slice_get old.sites.items index ≡ Some s → ((refusal ≡ Memory) ⊎ ((refusal ≡ Broken) × (s.broken ≡ true))) →
+pub sends_not_lead : (old new : World) (number index : ℕ) (s : SiteValue) (refusal : Refusal) → index + 1 ≡ number → slice_get old.sites.items index ≡ Some s → refusal ≡ unless_broken s.broken Broken Memory →
     new.sites.items ≡ old.sites.items → new.messages.items ≡ old.messages.items → Leads old new (λ setting before after. SendsNot before number (Refused refusal) after)
 sends_not_lead old new number index s refusal at here why same_sites same_messages setting before world =
     let site = site_of setting before old.sites.items index number s world.sites at here in
-    (before, (record { refused = ⊎_elim (λ memory. inl (ap Refused memory)) (λ broken. inr (ap Refused broken.0, sym site.broken ∙ broken.1)) why; is = refl }, same_world setting old new before same_sites same_messages world))
+    (before, (record { refused = ap Refused why ∙ ap (λ b. Refused (unless_broken b Broken Memory)) site.broken; is = refl }, same_world setting old new before same_sites same_messages world))
 
 -- ---- a session
 
@@ -243,6 +244,7 @@ meets_lead old new local peer i j result at at' two both same_messages setting b
       counted = does.counted;
       local_breaks = subst (λ b. BreaksBy b both.first'.broken (Local Broken) result) mine.broken does.local_breaks;
       peer_breaks = subst (λ b. BreaksBy b both.second'.broken (Peer Broken) result) theirs.broken does.peer_breaks;
+      at_once = subst₂ (λ a b. ToldAtOnce a b does.pulled result) mine.broken theirs.broken does.at_once;
       told = does.told;
       clash = does.clash;
       is = refl;
@@ -277,9 +279,9 @@ changes_at old new number s s' some within read sites messages config = record {
   config = config;
 }
 
-pub why_refused : (broken : Bool) (refusal : Refusal) → refusal ≡ unless_broken broken Broken Memory → (refusal ≡ Memory) ⊎ ((refusal ≡ Broken) × (broken ≡ true))
-why_refused true refusal is = inr (is, refl)
-why_refused false refusal is = inl is
+-- a site that is whole was refused memory
+pub for_memory : (broken : Bool) (refusal : Refusal) → broken ≡ false → refusal ≡ Memory → refusal ≡ unless_broken broken Broken Memory
+for_memory broken refusal whole is = is ∙ ap (λ b. unless_broken b Broken Memory) (sym whole)
 
 -- ---- at first
 
@@ -298,10 +300,6 @@ one_more_site setting sites more s number so_far grown count is i x found = ⊎_
 
 pub never_ok : (done : Unit {0}) (refusal : Refusal) → ◌≡◌ {A = Result (Unit {0}) Refusal} (Ok done) (Err refusal) → ⊥
 never_ok done refusal e = cc
-
-is_broken : (refusal : Refusal) → (refusal ≡ Broken) ⊎ (refusal ≢ Broken)
-is_broken Broken = inl refl
-is_broken refusal = inr (λ e. absurd (cc))
 
 pub refused_so : (s s' : SiteValue) (refusal : Refusal) → ◌≡◌ {A = Result (Unit {0}) Refusal} (Err refusal) (Err Broken) → (refusal ≡ Broken → s' ≡ record { config = s.config; states = s.states; broken = true }) →
     (Refused refusal ≡ Refused Broken) × (s'.broken ≡ true)

@@ -5,3 +5,4 @@ pub mod Gained
 pub mod Leading
 pub mod Taking
 pub mod Chained
+pub mod Known

@@ -3,11 +3,12 @@ use Rattle.std.proofs.Common.{◌≡◌, ◌≢◌, ℕ, ◌≤◌, Bool, true, 
 use Rattle.std.proofs.lemmas.Bool.Decides.{nat_tests}
 use Rattle.std.proofs.lemmas.List.{length-map}
 use Rattle.mvd_world.specs.declared.steps.Step.{Step}
+use Rattle.mvd_world.specs.declared.steps.Step.TheVariants.{Receive}
 use Rattle.mvd_world.specs.declared.steps.Outcome.{Outcome}
 use Rattle.mvd_world.specs.declared.steps.Outcome.TheVariants.{NoSuch}
 use Rattle.mvd_world.specs.declared.worlds.World.{World}
 use Rattle.mvd_world.specs.Machine.{Knowledge, Setting, Takes, is_numbered, may_be}
-use Rattle.mvd_world.specs.Worlds.{IsWorld, Leads, Steps, message_of}
+use Rattle.mvd_world.specs.Worlds.{IsWorld, KnownChangesNothing, Leads, StaysTheSame, Steps, message_of}
 
 may_be_same : (setting : Setting) (old : World) (before : Knowledge) (step : Step) → IsWorld setting old before →
     may_be (length old.sites.items) (length old.messages.items) step ≡ may_be setting.count (length before.messages) step
@@ -41,3 +42,16 @@ two_numbers a b h same = true≢false (sym h ∙ ap not (eq-eqb a b same))
 pub step_as : (old new : World) (step is : Step) (outcome : Outcome) → step ≡ is → may_be (length old.sites.items) (length old.messages.items) step ≡ true → Leads old new (λ setting before after. Takes setting before is outcome after) → Steps old new step outcome
 step_as old new step is outcome same may leads =
     subst (λ x. Steps old new x outcome) (sym same) (step_takes old new is outcome (ap (may_be (length old.sites.items) (length old.messages.items)) (sym same) ∙ may) leads)
+
+-- ---- where there is no such step
+
+pub none_same : (old : World) (step : Step) → StaysTheSame old old step
+none_same old (Receive site message) = λ s m at at' nothing. refl
+none_same old step = tt
+
+pub none_known : (old : World) (step : Step) → may_be (length old.sites.items) (length old.messages.items) step ≡ false → KnownChangesNothing old old step NoSuch
+none_known old (Receive site message) none = λ setting before world may knows. absurd (true≢false (sym may ∙ sym (may_be_same setting old before (Receive site message) world) ∙ none))
+none_known old step none = tt
+
+pub there_is : (b : Bool) (outcome : Outcome) (old new : World) → b ≡ true → b ≡ false → (outcome ≡ NoSuch) × (new ≡ old)
+there_is b outcome old new may none = absurd (true≢false (sym may ∙ none))

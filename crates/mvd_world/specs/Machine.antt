@@ -1,6 +1,6 @@
 -- Sites that write, are asked, send each other states of keys and hold sessions, as a machine over sets of writes: what is
 -- lost, repeated or comes out of order is a matter of which steps are taken, and no map of states is kept in it.
-use Rattle.std.specs.Prelude.{◌≡◌, ◌⊎◌, ℕ, Bool, true, false, not, ◌&&◌, ◌||◌, ◌==◌, nat_lt, nat_le, ◌-◌, if◌then◌else◌, List, [], ◌∷◌, ◌++◌, length, filter, Contains, MatchBool, Some, Result, Ok, Err, ◌≢◌, IfOk, IfErr, IsTrue, ◌↔◌}
+use Rattle.std.specs.Prelude.{◌≡◌, ◌⊎◌, ℕ, Bool, true, false, not, ◌&&◌, ◌||◌, ◌==◌, nat_lt, nat_le, ◌-◌, if◌then◌else◌, List, [], ◌∷◌, ◌++◌, length, filter, Contains, MatchBool, Some, Result, Ok, Err, ◌≢◌, IfOk, IfErr, IsTrue, ◌↔◌, ⊤}
 use Rattle.std.specs.List.{slice_get}
 use Rattle.mvd_dots.specs.Dot.{DotValue}
 use Rattle.mvd_dots.specs.Context.{DotSet}
@@ -16,6 +16,7 @@ use Rattle.mvd_wire.specs.declared.reply.Reply.TheVariants.{Done, Refused}
 use Rattle.mvd_tree.specs.Hashed.{HashesTellApart}
 use Rattle.mvd_site.specs.Answer.{is_question, spelled}
 use Rattle.mvd_site.specs.Config.{ConfigValue}
+use Rattle.mvd_site.specs.FromStates.{unless_broken}
 use Rattle.mvd_site.specs.Held.{States}
 use Rattle.mvd_site.specs.Known.{Adds, MayReply}
 use Rattle.mvd_sync.specs.Session.{AreDistinct, IsClash, is_member}
@@ -120,7 +121,7 @@ pub record Sends (before : Knowledge) (site : ℕ) (key : Key) (number : ℕ) (a
 
 -- nothing is sent: memory was refused, or the site is broken
 pub record SendsNot (before : Knowledge) (site : ℕ) (reply : Reply) (after : Knowledge) : Type 0 where
-  pub refused : (reply ≡ Refused Memory) ⊎ ((reply ≡ Refused Broken) × (before.broken site ≡ true))
+  pub refused : reply ≡ Refused (unless_broken (before.broken site) Broken Memory)
   pub is : after ≡ before
 
 -- what a site learns of a message
@@ -158,6 +159,12 @@ EndsWith pulled given local_broken peer_broken (Err fault) = (given ≡ pulled) 
 abbrev pub BreaksBy : Bool → Bool → SyncFault → Result Report SyncFault → Type 0
 BreaksBy was is told result = (was ≡ true → is ≡ true) × (was ≡ false → is ≡ true → result ≡ Err told)
 
+-- a side that was broken is told at once, the local one first, and nothing is exchanged
+abbrev pub ToldAtOnce : Bool → Bool → List Key → Result Report SyncFault → Type 0
+ToldAtOnce false false pulled result = ⊤
+ToldAtOnce false true pulled result = (result ≡ Err (Peer Broken)) × (pulled ≡ [])
+ToldAtOnce true peer_was pulled result = (result ≡ Err (Local Broken)) × (pulled ≡ [])
+
 -- a site that is whole afterwards, or broken, may have refused a session so
 abbrev pub MayRefuse : Bool → Refusal → Type 0
 MayRefuse broken refusal = (is_site_refusal refusal ≡ true) × (broken ≡ tells_broken refusal)
@@ -194,6 +201,7 @@ pub record Meets (before : Knowledge) (local peer : ℕ) (result : Result Report
   pub counted : IfOk result (λ report. TellApart (before.known local) (before.known peer) → ThatDiffer (before.known local) (before.known peer) report.keys)
   pub local_breaks : BreaksBy (before.broken local) local_broken (Local Broken) result
   pub peer_breaks : BreaksBy (before.broken peer) peer_broken (Peer Broken) result
+  pub at_once : ToldAtOnce (before.broken local) (before.broken peer) pulled result
   pub told : IfErr result (IsFaultOf (MayRefuse local_broken) (MayRefuse peer_broken))
   pub clash : (fault : SyncFault) → result ≡ Err fault → IsClash fault → StatesClash (before.known local) (before.known peer)
   pub is : after ≡ record {

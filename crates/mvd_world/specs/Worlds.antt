@@ -1,22 +1,27 @@
 -- What a world stands for: sets of writes, by which its sites and messages are what the machine says.
-use Rattle.std.specs.Prelude.{◌≡◌, ◌+◌, ℕ, true, false, List, ◌++◌, map, length, Some, Result, Err, slice_set, IfOk, IfErr}
-use Rattle.std.specs.List.{slice_get, Contains}
+use Rattle.std.specs.Prelude.{◌≡◌, ◌⊎◌, ◌+◌, ◌-◌, ℕ, Bool, true, false, List, ◌++◌, map, length, Some, Result, Err, slice_set, IfOk, IfErr, ⊤}
+use Rattle.std.specs.List.{AllByRecursion, slice_get, Contains}
+use Rattle.mvd_keys.specs.State.{join}
 use Rattle.mvd_keys.specs.Writes.{Key, SameWrites, Stands, Write, state}
 use Rattle.mvd_wire.specs.declared.request.Request.{Request}
-use Rattle.mvd_site.specs.Answer.{is_question}
+use Rattle.mvd_wire.specs.declared.reply.Reply.TheVariants.{Done, Refused}
+use Rattle.mvd_site.specs.Answer.{is_question, is_too_large}
 use Rattle.mvd_site.specs.FromStates.{answer_from}
+use Rattle.mvd_site.specs.Held.{state_at}
 use Rattle.mvd_site.specs.Sites.{SiteStands, SiteValue}
 use Rattle.mvd_sync.specs.Session.{AreDistinct, IsClash}
 use Rattle.mvd_sync.specs.Sides.{IsFaultOf}
 use Rattle.mvd_sync.specs.declared.session.Report.{Report}
 use Rattle.mvd_sync.specs.declared.session.SyncFault.{SyncFault}
 use Rattle.mvd_sync.specs.declared.session.SyncFault.TheVariants.{Local, Peer}
-use Rattle.mvd_dots.specs.declared.refusals.Refusal.TheVariants.{Broken}
+use Rattle.mvd_dots.specs.declared.refusals.Refusal.TheVariants.{Broken, Memory}
 use Rattle.mvd_world.specs.declared.steps.Step.{Step}
+use Rattle.mvd_world.specs.declared.steps.Step.TheVariants.{Receive}
 use Rattle.mvd_world.specs.declared.steps.Outcome.{Outcome}
+use Rattle.mvd_world.specs.declared.steps.Outcome.TheVariants.{Replied}
 use Rattle.mvd_world.specs.declared.worlds.Message.{Message}
 use Rattle.mvd_world.specs.declared.worlds.World.{World}
-use Rattle.mvd_world.specs.Machine.{BreaksBy, EndsWith, HasAllThatDiffer, IsSound, Knowledge, MayRefuse, MayStep, Runs, Sending, Setting, StatesClash, TellApart, ThatDiffer, config_of, nothing_yet, writes_in}
+use Rattle.mvd_world.specs.Machine.{BreaksBy, EndsWith, HasAllThatDiffer, IsSound, Knowledge, MayRefuse, MayStep, Runs, Sending, Setting, StatesClash, TellApart, ThatDiffer, ToldAtOnce, config_of, may_be, nothing_yet, writes_in}
 
 -- the site of this number, with what it was set up with, and the writes that its states stand for unless it is broken
 pub record IsSiteOf (setting : Setting) (knowledge : Knowledge) (number : ℕ) (site : SiteValue) : Type 0 where
@@ -47,6 +52,40 @@ Leads old new Tells = (setting : Setting) (before : Knowledge) → IsWorld setti
 abbrev pub Steps : World → World → Step → Outcome → Type 0
 Steps old new step outcome = Leads old new (λ setting before after. MayStep setting before step outcome after)
 
+-- ---- a message that tells a site nothing new
+
+-- unless it is broken, the message's state joined to the site's is the site's
+abbrev pub HasNothingNew : SiteValue → Message → Type 0
+HasNothingNew site message = site.broken ≡ false → join (state_at site.states message.key) message.state ≡ state_at site.states message.key
+
+-- where a message has nothing new for its site, the world is the very same afterwards
+abbrev pub StaysTheSame : World → World → Step → Type 0
+StaysTheSame old new (Receive number message) = (site : SiteValue) (sent : Message) →
+    slice_get old.sites.items (number - 1) ≡ Some site → slice_get old.messages.items (message - 1) ≡ Some sent → HasNothingNew site sent → new ≡ old
+StaysTheSame old new step = ⊤
+
+-- the message was sent, and the site knows each write that it stands for
+pub record KnowsMessage (knowledge : Knowledge) (site message : ℕ) : Type 0 where
+  pub sending : Sending
+  pub sent : slice_get knowledge.messages (message - 1) ≡ Some sending
+  pub known : (write : Write) → Contains sending.writes write → Contains (knowledge.known site) write
+
+-- no message is spelled longer than it may be
+abbrev pub AreShort : World → Type 0
+AreShort world = AllByRecursion (λ (message : Message). is_too_large message.state ≡ false) world.messages.items
+
+-- it is done, or memory was refused; and a broken site says that it is
+abbrev pub AcceptsAgain : Bool → Outcome → Type 0
+AcceptsAgain false outcome = (outcome ≡ Replied Done) ⊎ (outcome ≡ Replied (Refused Memory))
+AcceptsAgain true outcome = outcome ≡ Replied (Refused Broken)
+
+-- A message that the site already knows, whatever sets the world stood for: the world is the very same afterwards
+abbrev pub KnownChangesNothing : World → World → Step → Outcome → Type 0
+KnownChangesNothing old new (Receive site message) outcome = (setting : Setting) (before : Knowledge) → IsWorld setting old before →
+    may_be setting.count (length before.messages) (Receive site message) ≡ true → KnowsMessage before site message →
+    (new ≡ old) × (AreShort old → AcceptsAgain (before.broken site) outcome)
+KnownChangesNothing old new step outcome = ⊤
+
 -- ---- a session of two sites
 
 -- what a session does to two sites, from writes that each stood for
@@ -59,6 +98,7 @@ pub record SitesMeet (V W : List Write) (local peer local' peer' : SiteValue) (r
   pub counted : IfOk result (λ report. TellApart V W → ThatDiffer V W report.keys)
   pub local_breaks : BreaksBy local.broken local'.broken (Local Broken) result
   pub peer_breaks : BreaksBy peer.broken peer'.broken (Peer Broken) result
+  pub at_once : ToldAtOnce local.broken peer.broken pulled result
   pub told : IfErr result (IsFaultOf (MayRefuse local'.broken) (MayRefuse peer'.broken))
   pub clash : (fault : SyncFault) → result ≡ Err fault → IsClash fault → StatesClash V W
   pub local_stands : SiteStands local' (V ++ writes_in pulled W)
@@ -88,9 +128,9 @@ pub record AreAlike (a b : SiteValue) : Type 0 where
   pub states : a.states ≡ b.states
   pub answers : (request : Request) → is_question request ≡ true → answer_from a.config a.states request ≡ answer_from b.config b.states request
 
--- these steps with these outcomes, from nothing known, lead to sets of which this holds
-abbrev pub Leads_to : Setting → List Step → List Outcome → (Knowledge → Type 0) → Type 0
-Leads_to setting steps outcomes Holds = (end : Knowledge) × (Runs setting nothing_yet steps outcomes end × Holds end)
+-- these steps with these outcomes, from nothing known, lead to sets that the world stands for, and of which this holds
+abbrev pub Leads_to : Setting → World → List Step → List Outcome → (Knowledge → Type 0) → Type 0
+Leads_to setting world steps outcomes Holds = (end : Knowledge) × (Runs setting nothing_yet steps outcomes end × (IsWorld setting world end × Holds end))
 
 -- each site that is not broken stands for what it knows, which is a part of what was made
 abbrev pub StandForKnown : World → Knowledge → Type 0

@@ -1,9 +1,9 @@
 //! Steps of a world, one after the other.
-ghost use Rattle.std.specs.Prelude.{◌≡◌, ◌≤◌, ◌<◌, IfErr, IfOk, length};
+ghost use Rattle.std.specs.Prelude.{◌≡◌, ◌≤◌, ◌<◌, IfErr, IfOk, length, ⊤};
 ghost use Rattle.std.specs.List.{AllByRecursion};
 ghost use Rattle.mvd_dots.specs.declared.refusals.Refusal.TheVariants.{Memory};
 ghost use Rattle.mvd_world.specs.Machine.{IsNoClash, OnePutPerDot, setting_of};
-ghost use Rattle.mvd_world.specs.Worlds.{AlikeWhereSame, IsWorld, Leads_to, StandForKnown};
+ghost use Rattle.mvd_world.specs.Worlds.{AlikeWhereSame, AreShort, Leads_to, StandForKnown};
 
 use crate::steps::{Outcome, Step};
 use crate::worlds::World;
@@ -25,15 +25,17 @@ pub fn run_world(
     requires high { max_keys ≤ 1000000 }
 
     // The steps with their outcomes are the machine's, and the world stands for the sets that they lead to.
-    ensures happened { IfOk result (λ done. Leads_to (setting_of count max_keys defs) steps.now done.1.items (λ end. IsWorld (setting_of count max_keys defs) done.0 end)) }
+    ensures happened { IfOk result (λ done. Leads_to (setting_of count max_keys defs) done.0 steps.now done.1.items (λ _. ⊤)) }
     // No two puts made share a dot.
-    ensures one_put { IfOk result (λ done. Leads_to (setting_of count max_keys defs) steps.now done.1.items (λ end. OnePutPerDot end.made)) }
+    ensures one_put { IfOk result (λ done. Leads_to (setting_of count max_keys defs) done.0 steps.now done.1.items (λ end. OnePutPerDot end.made)) }
     // Each site that is not broken stands for what it knows, and that was made.
-    ensures stand { IfOk result (λ done. Leads_to (setting_of count max_keys defs) steps.now done.1.items (StandForKnown done.0)) }
+    ensures stand { IfOk result (λ done. Leads_to (setting_of count max_keys defs) done.0 steps.now done.1.items (StandForKnown done.0)) }
     // Sites that know the same writes give equal answers to each question.
-    ensures alike { IfOk result (λ done. Leads_to (setting_of count max_keys defs) steps.now done.1.items (AlikeWhereSame done.0)) }
+    ensures alike { IfOk result (λ done. Leads_to (setting_of count max_keys defs) done.0 steps.now done.1.items (AlikeWhereSame done.0)) }
     // No answer and no session is refused for a clash.
     ensures apart { IfOk result (λ done. AllByRecursion IsNoClash done.1.items) }
+    // No message is longer than a state may be.
+    ensures short { IfOk result (λ done. AreShort done.0) }
     ensures only { IfErr result (λ refusal. refusal ≡ Memory) }
 {
     let mut world = World::new(alloc, count, max_keys, defs)?;

@@ -1,12 +1,13 @@
 //! A world of several sites, and the messages that they sent.
-ghost use Rattle.std.specs.Prelude.{◌≡◌, ◌≢◌, ◌≤◌, ◌<◌, ◌-◌, true, length, IfErr, IfOk, OnOk, OnErr, None, if◌then◌else◌, option_copied, [], ◌∷◌, ◌++◌};
+ghost use Rattle.std.specs.Prelude.{◌≡◌, ◌≢◌, ◌≤◌, ◌<◌, ◌-◌, false, true, length, IfErr, IfOk, OnOk, OnErr, None, if◌then◌else◌, option_copied, [], ◌∷◌, ◌++◌};
 ghost use Rattle.std.specs.List.{slice_get};
 ghost use Rattle.mvd_wire.specs.declared.reply.Reply.TheVariants.{Refused};
 ghost use Rattle.mvd_dots.specs.declared.refusals.Refusal.TheVariants.{Memory};
 ghost use Rattle.mvd_site.specs.Answer.{is_question};
-ghost use Rattle.mvd_world.specs.declared.steps.Step.TheVariants.{Send as Send_step};
+ghost use Rattle.mvd_world.specs.declared.steps.Step.TheVariants.{Receive, Send as Send_step};
+ghost use Rattle.mvd_world.specs.declared.steps.Outcome.TheVariants.{NoSuch, Replied};
 ghost use Rattle.mvd_world.specs.Machine.{Answers, IsOwn, Meets, Receives, Takes, is_numbered, is_write, may_be, nothing_yet, setting_of};
-ghost use Rattle.mvd_world.specs.Worlds.{IsWorld, Leads, Steps};
+ghost use Rattle.mvd_world.specs.Worlds.{AreShort, IsWorld, KnownChangesNothing, Leads, StaysTheSame, Steps};
 
 use crate::sessions::sync_at;
 use crate::steps::{Outcome, Step};
@@ -41,6 +42,7 @@ impl World {
         requires low { 0 < max_keys }
         requires high { max_keys ≤ 1000000 }
         ensures world { IfOk result (λ world. IsWorld (setting_of count max_keys defs) world nothing_yet) }
+        ensures short { IfOk result AreShort }
         ensures only { IfErr result (λ refusal. refusal ≡ Memory) }
     {
         let mut sites = Vec::new(alloc);
@@ -65,7 +67,14 @@ impl World {
 
     /// Takes one step. Where there is no such step, nothing is changed.
     pub fn step(&mut self, step: &Step) -> Outcome
-        ensures { Steps self.old self.new step.now result }
+        ensures machine { Steps self.old self.new step.now result }
+        // A message that has nothing new for its site changes nothing at all,
+        ensures same { StaysTheSame self.old self.new step.now }
+        // as any of which the site already knows each write.
+        ensures known { KnownChangesNothing self.old self.new step.now result }
+        // No message comes to be longer than a state may be.
+        ensures short { AreShort self.old → AreShort self.new }
+        ensures none { may_be (length self.old.sites.items) (length self.old.messages.items) step.now ≡ false → (result ≡ NoSuch) × (self.new ≡ self.old) }
     {
         if !self.may_be(step) {
             return Outcome::NoSuch;
@@ -109,7 +118,8 @@ impl World {
         requires some { 1 ≤ site }
         requires within { site ≤ length self.old.sites.items }
         requires own { IsOwn request.now }
-        ensures { Leads self.old self.new (λ setting before after. Answers setting before site request.now result after) }
+        ensures leads { Leads self.old self.new (λ setting before after. Answers setting before site request.now result after) }
+        ensures short { AreShort self.old → AreShort self.new }
     {
         let site = &mut self.sites[site as usize - 1];
         site.answer(request)
@@ -119,9 +129,13 @@ impl World {
     fn send(&mut self, site: u32, key: &Key) -> Outcome
         requires some { 1 ≤ site }
         requires within { site ≤ length self.old.sites.items }
-        ensures { Leads self.old self.new (λ setting before after. Takes setting before (Send_step site key.now) result after) }
+        ensures leads { Leads self.old self.new (λ setting before after. Takes setting before (Send_step site key.now) result after) }
+        ensures short { AreShort self.old → AreShort self.new }
     {
-        match self.sites[site as usize - 1].get(key) {
+        let sender = &self.sites[site as usize - 1];
+        // Here it is known that each state that a site holds has a spelling within the limit.
+        let _held = sender.key_count();
+        match sender.get(key) {
             Err(refusal) => Outcome::Replied(Reply::Refused(refusal)),
             Ok(state) => match self.append(key, state) {
                 Err(refusal) => Outcome::Replied(Reply::Refused(refusal)),
@@ -148,10 +162,15 @@ impl World {
         requires within { site ≤ length self.old.sites.items }
         requires some_message { 1 ≤ message }
         requires within_messages { message ≤ length self.old.messages.items }
-        ensures { Leads self.old self.new (λ setting before after. Receives setting before site message result after) }
+        ensures leads { Leads self.old self.new (λ setting before after. Receives setting before site message result after) }
+        ensures same { StaysTheSame self.old self.new (Receive site message) }
+        ensures known { KnownChangesNothing self.old self.new (Receive site message) (Replied result) }
+        ensures short { AreShort self.old → AreShort self.new }
     {
         let message = &self.messages[message as usize - 1];
         let taker = &mut self.sites[site as usize - 1];
+        // Here it is known that each state that it holds has a spelling within the limit.
+        let _held = taker.key_count();
         match taker.push(&message.key, &message.state) {
             Ok(()) => Reply::Done,
             Err(refusal) => Reply::Refused(refusal),
@@ -165,7 +184,8 @@ impl World {
         requires some_peer { 1 ≤ peer }
         requires within_peer { peer ≤ length self.old.sites.items }
         requires two { local ≢ peer }
-        ensures { Leads self.old self.new (λ setting before after. Meets before local peer result after) }
+        ensures leads { Leads self.old self.new (λ setting before after. Meets before local peer result after) }
+        ensures short { AreShort self.old → AreShort self.new }
     {
         sync_at(
             self.alloc,

@@ -1,15 +1,15 @@
-use Rattle.std.proofs.Common.{◌≡◌, false, true, inl, refl, sym, ◌∙◌}
+use Rattle.std.proofs.Common.{◌≡◌, false, inl, refl, sym, ◌∙◌}
 use Rattle.mvd_dots.specs.declared.refusals.Refusal.TheVariants.{Broken}
 use Rattle.mvd_site.specs.Held.{AreHeld}
 use Rattle.mvd_sync.specs.declared.session.SyncFault.TheVariants.{Local, Peer}
-use Rattle.mvd_world.proofs.Gained.{local_told, nothing_met, peer_told, sites_meet}
+use Rattle.mvd_world.proofs.Gained.{local_at_once, local_told, nothing_met, peer_at_once, peer_told, sites_meet}
 use Rattle.mvd_world.proofs.sessions.session.Goals as goal
 
 pub returns-then-is_broken-clause-exchange : goal.returns-then-is_broken-clause-exchange
-returns-then-is_broken-clause-exchange c = nothing_met c.args.local.now c.args.peer.now (Local Broken) local_told (inl (inl (refl, sym c.is_broken.ensures ∙ c.if-is_broken.true)))
+returns-then-is_broken-clause-exchange c = nothing_met c.args.local.now c.args.peer.now (Local Broken) local_told (local_at_once c.args.local.now.broken c.args.peer.now.broken (sym c.is_broken.ensures ∙ c.if-is_broken.true)) (inl (inl (refl, sym c.is_broken.ensures ∙ c.if-is_broken.true)))
 
 pub returns-then-is_broken-2-clause-exchange : goal.returns-then-is_broken-2-clause-exchange
-returns-then-is_broken-2-clause-exchange c = nothing_met c.args.local.now c.args.peer.now (Peer Broken) peer_told (inl (refl, sym c.is_broken-2.ensures ∙ c.if-is_broken-2.true))
+returns-then-is_broken-2-clause-exchange c = nothing_met c.args.local.now c.args.peer.now (Peer Broken) peer_told (peer_at_once c.args.local.now.broken c.args.peer.now.broken (sym c.is_broken.ensures ∙ c.if-is_broken.false) (sym c.is_broken-2.ensures ∙ c.if-is_broken-2.true)) (inl (refl, sym c.is_broken-2.ensures ∙ c.if-is_broken-2.true))
 
 pub returns-clause-exchange : goal.returns-clause-exchange
 returns-clause-exchange c =

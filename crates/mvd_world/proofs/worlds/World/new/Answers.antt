@@ -1,5 +1,8 @@
 use Rattle.std.proofs.Common.{◌≡◌, ◌+◌, [], ◌∷◌, false, length, sym, ap, ◌∙◌, subst, arith, length-append}
+use Rattle.std.specs.List.{AllByRecursion}
 use Rattle.std.specs.FinMap.{empty}
+use Rattle.mvd_site.specs.Answer.{is_too_large}
+use Rattle.mvd_world.specs.declared.worlds.Message.{Message}
 use Rattle.mvd_world.specs.Machine.{Setting, config_of, nothing_yet}
 use Rattle.mvd_world.specs.Worlds.{AreSites}
 use Rattle.mvd_world.proofs.Leading.{no_sites, one_more_site}
@@ -32,3 +35,6 @@ returns-clause-world c = record {
   messages = c.new-2.ensures.items;
   sound = sound_start;
 }
+
+pub returns-clause-short : goal.returns-clause-short
+returns-clause-short c = subst (AllByRecursion (λ (m : Message). is_too_large m.state ≡ false)) (sym c.new-2.ensures.items) tt

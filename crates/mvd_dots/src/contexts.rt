@@ -106,12 +106,19 @@ impl Context {
     pub fn copy(&self) -> Result<Context, Refusal>
         ensures { IsAnswer result (Ok self.now) }
     {
-        let mut entries = Vec::new(self.alloc);
+        let mut entries = Vec::with_capacity(self.alloc, self.entries.len())?;
         copy_onto(self.alloc, &mut entries, &self.entries)?;
         Ok(Context {
             alloc: self.alloc,
             entries,
         })
+    }
+
+    /// Gives back the places that were kept for more entries.
+    pub fn shrink_to_fit(&mut self)
+        ensures { self.new ≡ self.old }
+    {
+        self.entries.shrink_to_fit();
     }
 
     pub fn same(&self, other: &Context) -> bool

@@ -68,12 +68,13 @@ impl World {
     /// Takes one step. Where there is no such step, nothing is changed.
     pub fn step(&mut self, step: &Step) -> Outcome
         ensures machine { Steps self.old self.new step.now result }
-        // A message that has nothing new for its site changes nothing at all,
+        // A message that has nothing new for its site leaves the very same world.
         ensures same { StaysTheSame self.old self.new step.now }
-        // as any of which the site already knows each write.
+        // So does one of which the site already knows each write; it is done, or memory was refused, or the site says that it is broken.
         ensures known { KnownChangesNothing self.old self.new step.now result }
         // No message comes to be longer than a state may be.
         ensures short { AreShort self.old → AreShort self.new }
+        // Where there is no such step, it is told, and the world is the very same.
         ensures none { may_be (length self.old.sites.items) (length self.old.messages.items) step.now ≡ false → (result ≡ NoSuch) × (self.new ≡ self.old) }
     {
         if !self.may_be(step) {

@@ -2,8 +2,8 @@
 ghost use Rattle.std.specs.Prelude.{◌<◌, ◌≤◌, ◌^◌, IfOk, IfSome};
 ghost use Rattle.mvd_app.specs.Orders.{IsInRange};
 
-use clap::error::ErrorKind;
 use crate::words::command;
+use clap::error::ErrorKind;
 use clap::{ArgMatches, Error};
 use mvd_dots::Refusal;
 use std::alloc::{AllocError, Global};
@@ -125,11 +125,7 @@ fn sync_of<'a>(alloc: Global, matches: &ArgMatches<'a>) -> Result<Order<'a>, Ord
 }
 
 /// The number of an option, where it is given: `Range` where it is 0 or too great.
-fn number_in(
-    matches: &ArgMatches<'_>,
-    option: &str,
-    most: u64,
-) -> Result<Option<u64>, OrderFault>
+fn number_in(matches: &ArgMatches<'_>, option: &str, most: u64) -> Result<Option<u64>, OrderFault>
     ensures { IfOk result (λ found. IfSome found (λ n. (1 ≤ n) × (n ≤ most))) }
 {
     match matches.get_one::<u64>(option) {

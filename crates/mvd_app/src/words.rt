@@ -1,0 +1,121 @@
+//! The words that a command line may hold, and the help that it gives.
+use clap::{Arg, Command, value_parser};
+use std::alloc::{AllocError, Global};
+
+const SIM: &str =
+    "Runs a script over several sites. The script is read from standard input, and what its commands say is printed.";
+
+const LOOP: &str =
+    "Answers the requests that stand in hexadecimal on standard input. A client and a server meet over one \
+                    connection within this process, and the states are stored in memory. Each reply is printed as one line of \
+                    hexadecimal, and then how the connection ended.";
+
+const SERVE: &str =
+    "Serves a database to peers, one connection after the other. It prints where it listens, how each \
+                     connection ended, and, after the last one, the digest of all that it holds. Each write is stored before \
+                     its reply leaves.";
+
+const SYNC: &str =
+    "Runs a session of a database with a server, after which both hold all that one of them held. It prints how \
+                    many keys differed, and the digest of all that the database holds then.";
+
+/// The program's command, with one command below it for each order.
+pub fn command<'a>(alloc: Global) -> Result<Command<'a>, AllocError> {
+    let sim = Command::new(alloc, "sim")
+        .about(SIM)
+        .after_help("Example: mvd sim < examples/siblings.mvd");
+    Command::new(alloc, "mvd")
+        .about("A multi-value JSON document map with causal contexts.")
+        .subcommand_required(true)
+        .arg_required_else_help(true)
+        .subcommand(sim)?
+        .subcommand(loop_command(alloc)?)?
+        .subcommand(serve_command(alloc)?)?
+        .subcommand(sync_command(alloc)?)
+}
+
+fn loop_command<'a>(alloc: Global) -> Result<Command<'a>, AllocError> {
+    Command::new(alloc, "loop")
+        .about(LOOP)
+        .after_help("Example: echo 00000003210161 | mvd loop --site 1")
+        .arg(site(alloc))?
+        .arg(defs(alloc))?
+        .arg(max_keys(alloc))
+}
+
+fn serve_command<'a>(alloc: Global) -> Result<Command<'a>, AllocError> {
+    let conns = Arg::new(alloc, "conns")
+        .long("conns")
+        .value_name("C")
+        .value_parser(value_parser!(u64))
+        .help(
+            "How many connections are served, 1 to 1000. It goes on until it is stopped where this is left out.",
+        );
+    let command = Command::new(alloc, "serve")
+        .about(SERVE)
+        .after_help("Example: mvd serve --db a.db --site 1 --port 7001");
+    stored(alloc, command)?
+        .arg(port(alloc, "The port to listen at, 1 to 65535."))?
+        .arg(conns)
+}
+
+fn sync_command<'a>(alloc: Global) -> Result<Command<'a>, AllocError> {
+    let command = Command::new(alloc, "sync")
+        .about(SYNC)
+        .after_help("Example: mvd sync --db b.db --site 2 --port 7001");
+    stored(alloc, command)?.arg(port(alloc, "The port of the server, 1 to 65535."))
+}
+
+/// The options of a command on a database that meets a peer.
+fn stored<'a>(alloc: Global, command: Command<'a>) -> Result<Command<'a>, AllocError> {
+    let db = Arg::new(alloc, "db")
+        .long("db")
+        .value_name("FILE")
+        .required(true)
+        .help("The file of the database, which is made where it is missing.");
+    let address = Arg::new(alloc, "address")
+        .long("address")
+        .value_name("IP")
+        .default_value("127.0.0.1")
+        .help("The IP address of the server.");
+    command
+        .arg(db)?
+        .arg(site(alloc))?
+        .arg(defs(alloc))?
+        .arg(max_keys(alloc))?
+        .arg(address)
+}
+
+fn site<'a>(alloc: Global) -> Arg<'a> {
+    Arg::new(alloc, "site")
+        .long("site")
+        .value_name("N")
+        .required(true)
+        .value_parser(value_parser!(u64))
+        .help("The number of this site, 1 to 4294967295, which no other site has.")
+}
+
+fn port<'a>(alloc: Global, help: &'a str) -> Arg<'a> {
+    Arg::new(alloc, "port")
+        .long("port")
+        .value_name("P")
+        .required(true)
+        .value_parser(value_parser!(u64))
+        .help(help)
+}
+
+fn defs<'a>(alloc: Global) -> Arg<'a> {
+    Arg::new(alloc, "defs")
+        .long("defs")
+        .value_name("FILE")
+        .help("A file with a script's `index` and `view` lines.")
+}
+
+fn max_keys<'a>(alloc: Global) -> Arg<'a> {
+    Arg::new(alloc, "max-keys")
+        .long("max-keys")
+        .value_name("N")
+        .default_value("1000000")
+        .value_parser(value_parser!(u64))
+        .help("The most keys that the site may hold, 1 to 1000000.")
+}

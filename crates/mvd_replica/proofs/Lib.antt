@@ -6,3 +6,4 @@ pub mod Ending
 pub mod Loading
 pub mod Moving
 pub mod Sides
+pub mod Ordered

@@ -28,12 +28,12 @@ use Rattle.mvd_replica.specs.Stored.{HasState, Respells, SameStates, SpelledIn}
 
 -- ---- an entry of a map
 
-less_is_no_tie : (o : Ordering) → T (is_lt o) → is_eq o ≡ false
+pub less_is_no_tie : (o : Ordering) → T (is_lt o) → is_eq o ≡ false
 less_is_no_tie Less h = refl
 less_is_no_tie Equal h = absurd h
 less_is_no_tie Greater h = absurd h
 
-below_part : (key : Key) (es : List (Key × List ℕ)) (e : Key × List ℕ) (fs : List (Key × List ℕ)) → T (below_all key_cmp key (es ++ e ∷ fs)) → T (is_lt (key_cmp key e.0))
+pub below_part : (key : Key) (es : List (Key × List ℕ)) (e : Key × List ℕ) (fs : List (Key × List ℕ)) → T (below_all key_cmp key (es ++ e ∷ fs)) → T (is_lt (key_cmp key e.0))
 below_part key [] e fs h = first_true _ _ h
 below_part key (x ∷ es) e fs h = below_part key es e fs (second_true (is_lt (key_cmp key x.0)) _ h)
 
@@ -54,28 +54,28 @@ found_at m pairs n p same low is =
 
 -- ---- one state for one spelling
 
-spells_one : (layout : Layout) → IsPrefixFree (state layout) → (s t : State) (bytes : List ℕ) → Spells (state layout) s bytes → Spells (state layout) t bytes → s ≡ t
+pub spells_one : (layout : Layout) → IsPrefixFree (state layout) → (s t : State) (bytes : List ℕ) → Spells (state layout) s bytes → Spells (state layout) t bytes → s ≡ t
 spells_one layout free s t bytes one other = (free s t [] [] one.0 other.0 (ap (λ l. l ++ []) (sym one.1 ∙ other.1))).0
 
-free1 : IsPrefixFree (state layout1)
+pub free1 : IsPrefixFree (state layout1)
 free1 = prefix_free (state layout1) (lawful_state layout1 wide_layout1)
 
-free2 : IsPrefixFree (state layout2)
+pub free2 : IsPrefixFree (state layout2)
 free2 = prefix_free (state layout2) (lawful_state layout2 wide_layout2)
 
-some_is : (a b : List ℕ) → Some a ≡ Some b → a ≡ b
+pub some_is : (a b : List ℕ) → Some a ≡ Some b → a ≡ b
 some_is a b e = cc
 
-none_is_some : (a : List ℕ) → ◌≡◌ {A = Option (List ℕ)} None (Some a) → ⊥
+pub none_is_some : (a : List ℕ) → ◌≡◌ {A = Option (List ℕ)} None (Some a) → ⊥
 none_is_some a e = cc
 
 -- ---- one key
 
 module _ (a b : Database) (k : Key) (old new : List ℕ) (moves : MovesState a b k new) where
-  new_at : (key : Key) (tied : Bool) → eq_by_cmp key_cmp key k ≡ tied → get (new_states b) key ≡ cond tied (Some new) (get (new_states a) key)
+  pub new_at : (key : Key) (tied : Bool) → eq_by_cmp key_cmp key k ≡ tied → get (new_states b) key ≡ cond tied (Some new) (get (new_states a) key)
   new_at key tied is = ap (λ m. get m key) moves.saved ∙ get-insert key_total (new_states a) k new key ∙ ap (λ t. cond t (Some new) (get (new_states a) key)) is
 
-  old_at : (key : Key) (tied : Bool) → eq_by_cmp key_cmp key k ≡ tied → get (old_states b) key ≡ cond tied None (get (old_states a) key)
+  pub old_at : (key : Key) (tied : Bool) → eq_by_cmp key_cmp key k ≡ tied → get (old_states b) key ≡ cond tied None (get (old_states a) key)
   old_at key tied is = ap (λ m. get m key) moves.removed ∙ get-remove key_total (old_states a) k key ∙ ap (λ t. cond t None (get (old_states a) key)) is
 
   -- no old key is made

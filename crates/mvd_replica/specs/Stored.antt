@@ -1,18 +1,58 @@
 -- What is read of the records: this project's own format (docs/FORMATS.md, "Records").
-use Rattle.std.specs.Prelude.{◌≡◌, ◌⊎◌, ℕ, List, Some, map}
-use Rattle.std.specs.FinMap.{get}
+use Rattle.std.specs.Prelude.{◌≡◌, ◌⊎◌, ◌<◌, ◌↔◌, ℕ, List, Some, Ok, Err, map}
+use Rattle.std.specs.FinMap.{get, len}
+use Rattle.mvd_dots.specs.declared.refusals.Refusal.TheVariants.{Damaged}
 use Rattle.mvd_keys.specs.State.{State}
 use Rattle.mvd_keys.specs.Writes.{Key}
 use Rattle.mvd_wire.specs.Kind.{Spells}
 use Rattle.mvd_wire.specs.Kinds.{Layout, layout1, layout2, spell_state, state}
 use Rattle.mvd_records.specs.States.{States as Stored}
-use Rattle.mvd_records.specs.Records.{new_states, old_states}
-use Rattle.mvd_site.specs.Held.{IsHeldState}
+use Rattle.mvd_records.specs.Records.{AreApart, AreKeys, HasNone, IsWhole, TellsVersion, marks_of, new_states, old_states}
+use Rattle.mvd_site.specs.Held.{IsHeldState, States}
 use Rattle.sqlite.specs.Effect.{Database}
 
 -- the bytes spell a state that a site may hold
 abbrev pub IsStored : List ℕ → Type 0
 IsStored bytes = (s : State) × Spells (state layout2) s bytes × IsHeldState s
+
+-- the bytes spell such a state in version 1
+abbrev pub IsOldStored : List ℕ → Type 0
+IsOldStored bytes = (s : State) × Spells (state layout1) s bytes × IsHeldState s
+
+-- what is stored at each key, of version 2 and of version 1
+abbrev pub AreStored : Stored → Type 0
+AreStored stored = (key : Key) (bytes : List ℕ) → get stored key ≡ Some bytes → IsStored bytes
+
+abbrev pub AreOldStored : Stored → Type 0
+AreOldStored stored = (key : Key) (bytes : List ℕ) → get stored key ≡ Some bytes → IsOldStored bytes
+
+-- The two maps of records of a version are in order: each key is one, none is in both, in version 2 no old one is left, and what
+-- is stored are states that a site may hold
+pub record AreInOrder (version : ℕ) (old new : Stored) : Type 0 where
+  pub old_keys : AreKeys old
+  pub new_keys : AreKeys new
+  pub tables : AreApart version old new
+  pub old_stored : AreOldStored old
+  pub new_stored : AreStored new
+
+-- why records are damaged to a site: their marks are none of ours, or what their version tells is not in order
+abbrev pub AreDamaged : ℕ → Database → Type 0
+AreDamaged site db =
+    TellsVersion (marks_of db) site (Err Damaged) ⊎ ((version : ℕ) × TellsVersion (marks_of db) site (Ok version) × ¬ AreInOrder version (old_states db) (new_states db))
+
+-- more keys are held than so many, and no old key is left
+pub record HoldsTooMany (most : ℕ) (db : Database) : Type 0 where
+  pub alone : HasNone (old_states db)
+  pub more : most < len (new_states db)
+
+-- the old keys were in order and are moved: each new state was there, or stands for an old one
+pub record Migrates (version : ℕ) (old new : Database) : Type 0 where
+  pub whole : IsWhole version (old_states old) (old_states old) (new_states old)
+  pub stored : AreOldStored (old_states old)
+  pub kept : (key : Key) (bytes : List ℕ) → get (new_states old) key ≡ Some bytes → get (new_states new) key ≡ Some bytes
+  pub from : (key : Key) (bytes : List ℕ) → get (new_states new) key ≡ Some bytes →
+      (get (new_states old) key ≡ Some bytes) ⊎ (IsStored bytes × ((was : List ℕ) × (get (old_states old) key ≡ Some was)))
+  pub none : HasNone (old_states new)
 
 -- keys with states, as they are spelled
 abbrev pub spelled_entries : List (Key × State) → List (Key × List ℕ)
@@ -34,3 +74,7 @@ HasState db key s = SpelledIn layout2 (new_states db) key s ⊎ SpelledIn layout
 pub record SameStates (a b : Database) : Type 0 where
   pub kept : (key : Key) (s : State) → HasState a key s → HasState b key s
   pub only : (key : Key) (s : State) → HasState b key s → HasState a key s
+
+-- just these states are had, at just these keys
+abbrev pub HasJust : Database → States → Type 0
+HasJust db states = (key : Key) (s : State) → HasState db key s ↔ (get states key ≡ Some s)

@@ -1,14 +1,15 @@
 //! What a replica is opened with: the states that its records spell.
-ghost use Rattle.std.specs.Prelude.{◌≡◌, ◌≢◌, ◌⊎◌, ◌<◌, List, Err, false, IfErr, IfOk, IsTrue, MatchResult, OnOk};
+ghost use Rattle.std.specs.Prelude.{◌≡◌, ◌≢◌, ◌⊎◌, List, Err, false, IfErr, IfOk, IsTrue, MatchResult, OnOk};
 ghost use Rattle.std.specs.List.{AllByRecursion};
-ghost use Rattle.std.specs.FinMap.{is_sorted, len};
+ghost use Rattle.std.specs.FinMap.{entries, is_sorted};
 ghost use Rattle.mvd_keys.specs.Key.{key_cmp};
 ghost use Rattle.mvd_keys.specs.Writes.{Stands, Write};
 ghost use Rattle.mvd_wire.specs.Kinds.{spell_state};
 ghost use Rattle.mvd_records.specs.Pairs.{entries_of};
+ghost use Rattle.mvd_records.specs.States.{States as Stored};
 ghost use Rattle.mvd_records.specs.Records.{IsSound, HasNone, HoldsRecords, new_states, old_states};
 ghost use Rattle.mvd_site.specs.Held.{IsHeldState};
-ghost use Rattle.mvd_replica.specs.Stored.{IsStored, Respells, SameStates, spelled_entries};
+ghost use Rattle.mvd_replica.specs.Stored.{AreInOrder, AreStored, HoldsTooMany, IsOldStored, IsStored, Migrates, Respells, SameStates, spelled_entries};
 ghost use Rattle.mvd_replica.specs.Kept.{SpellStates};
 ghost use Rattle.sqlite.specs.Held.{state};
 
@@ -35,6 +36,7 @@ fn unread(refusal: Refusal) -> Refusal
 fn state_of(alloc: Global, bytes: &[u8]) -> Result<KeyState, Refusal>
     ensures held { IfOk result IsHeldState }
     ensures spelled { IfOk result (λ s. spell_state s ≡ bytes.now) }
+    ensures stored { OnOk result (IsStored bytes.now) }
     ensures damaged { IfErr result (λ e. e ≡ Refusal.Damaged → ¬ IsStored bytes.now) }
     ensures refusal { IfErr result (λ e. (e ≡ Refusal.Damaged) ⊎ (e ≡ Refusal.Memory)) }
 {
@@ -53,6 +55,8 @@ fn state_of(alloc: Global, bytes: &[u8]) -> Result<KeyState, Refusal>
 fn states_of(alloc: Global, pairs: Vec<(Key, Vec<u8>)>) -> Result<Vec<(Key, KeyState)>, Refusal>
     ensures spelled { IfOk result (λ states. spelled_entries states.items ≡ entries_of pairs.items) }
     ensures held { IfOk result (λ states. AllByRecursion (λ entry. IsHeldState entry.1) states.items) }
+    ensures stored { OnOk result (AllByRecursion (λ entry. IsStored entry.1) (entries_of pairs.items)) }
+    ensures damaged { (stored : Stored) → entries_of pairs.items ≡ entries stored → IfErr result (λ e. e ≡ Refusal.Damaged → ¬ AreStored stored) }
     ensures refusal { IfErr result (λ e. (e ≡ Refusal.Damaged) ⊎ (e ≡ Refusal.Memory)) }
 {
     let mut states = Vec::new(alloc);
@@ -66,16 +70,18 @@ fn states_of(alloc: Global, pairs: Vec<(Key, Vec<u8>)>) -> Result<Vec<(Key, KeyS
     Ok(states)
 }
 
-/// The site that records of version 2 hold.
+/// The site that records of version 2 hold. 17 exactly where they are not in order, and 10 where they hold too many keys.
 fn load<S: Alter>(alloc: Global, records: &mut Records<S>, config: Config) -> Result<Site, Refusal>
+    requires { records.old.version ≡ 2 }
     ensures config { IfOk result (λ site. (site.config ≡ config) × (site.broken ≡ false)) }
     ensures stands { IfOk result (λ site. (known : List Write) × Stands site.states known) }
     ensures before { IsSound (state S.Store records.new.conn) → IsSound (state S.Store records.old.conn) }
     ensures unchanged { (version number : _) → IsSound (state S.Store records.new.conn) → HoldsRecords version number (state S.Store records.old.conn).committed → (state S.Store records.new.conn).committed ≡ (state S.Store records.old.conn).committed }
     ensures spelled { (version number : _) → IsSound (state S.Store records.new.conn) → HoldsRecords version number (state S.Store records.old.conn).committed → IfOk result (λ site. SpellStates (new_states (state S.Store records.old.conn).committed) site.states) }
-    ensures full { (version number : _) → IsSound (state S.Store records.new.conn) → HoldsRecords version number (state S.Store records.old.conn).committed → IfErr result (λ e. e ≡ Refusal.Full → config.max_keys < len (new_states (state S.Store records.old.conn).committed)) }
-    // In version 2 no old key is left.
-    ensures alone { (version number : _) → IsSound (state S.Store records.new.conn) → HoldsRecords version number (state S.Store records.old.conn).committed → records.old.version ≡ 2 → IfOk result (λ _. HasNone (old_states (state S.Store records.old.conn).committed)) }
+    ensures full { (version number : _) → IsSound (state S.Store records.new.conn) → HoldsRecords version number (state S.Store records.old.conn).committed → IfErr result (λ e. e ≡ Refusal.Full → HoldsTooMany config.max_keys (state S.Store records.old.conn).committed) }
+    ensures order { (version number : _) → IsSound (state S.Store records.new.conn) → HoldsRecords version number (state S.Store records.old.conn).committed → MatchResult result
+        (λ _. AreInOrder 2 (old_states (state S.Store records.old.conn).committed) (new_states (state S.Store records.old.conn).committed))
+        (λ e. e ≡ Refusal.Damaged → ¬ AreInOrder 2 (old_states (state S.Store records.old.conn).committed) (new_states (state S.Store records.old.conn).committed)) }
     ensures refusal { IfErr result (λ e. (e ≡ Refusal.Damaged) ⊎ ((e ≡ Refusal.Full) ⊎ ((e ≡ Refusal.Memory) ⊎ (e ≡ Refusal.Store)))) }
     ensures version { records.new.version ≡ records.old.version }
 {
@@ -93,6 +99,7 @@ fn load<S: Alter>(alloc: Global, records: &mut Records<S>, config: Config) -> Re
 /// The spelling in version 2 of a state that version 1 spells so.
 fn respelled(alloc: Global, bytes: &[u8]) -> Result<Vec<u8>, Refusal>
     ensures spelled { IfOk result (λ spelled. Respells bytes.now spelled.items) }
+    ensures damaged { IfErr result (λ e. e ≡ Refusal.Damaged → ¬ IsOldStored bytes.now) }
     ensures refusal { IfErr result (λ e. (e ≡ Refusal.Damaged) ⊎ (e ≡ Refusal.Memory)) }
 {
     let state = match decode_old_state(alloc, bytes) {
@@ -114,7 +121,9 @@ fn migrate<S: Alter>(alloc: Global, records: &mut Records<S>) -> Result<(), Refu
     ensures moved { (number : _) → IsSound (state S.Store records.new.conn) → HoldsRecords records.old.version number (state S.Store records.old.conn).committed → MatchResult result (λ _. HoldsRecords 2 number (state S.Store records.new.conn).committed) (λ _. HoldsRecords records.old.version number (state S.Store records.new.conn).committed) }
     // The key states that the two maps spell are the same, also after a refusal.
     ensures states { (number : _) → IsSound (state S.Store records.new.conn) → HoldsRecords records.old.version number (state S.Store records.old.conn).committed → SameStates (state S.Store records.old.conn).committed (state S.Store records.new.conn).committed }
-    ensures alone { (number : _) → IsSound (state S.Store records.new.conn) → HoldsRecords records.old.version number (state S.Store records.old.conn).committed → OnOk result (HasNone (old_states (state S.Store records.new.conn).committed)) }
+    ensures order { (number : _) → IsSound (state S.Store records.new.conn) → HoldsRecords records.old.version number (state S.Store records.old.conn).committed → MatchResult result
+        (λ _. Migrates records.old.version (state S.Store records.old.conn).committed (state S.Store records.new.conn).committed)
+        (λ e. e ≡ Refusal.Damaged → ¬ AreInOrder records.old.version (old_states (state S.Store records.old.conn).committed) (new_states (state S.Store records.old.conn).committed)) }
     ensures refusal { IfErr result (λ e. (e ≡ Refusal.Damaged) ⊎ ((e ≡ Refusal.Memory) ⊎ (e ≡ Refusal.Store))) }
     ensures version { IfOk result (λ _. records.new.version ≡ 2) }
 {
@@ -147,6 +156,10 @@ pub fn site_in<S: Alter>(
     ensures holds { (number : _) → IsSound (state S.Store records.new.conn) → HoldsRecords records.old.version number (state S.Store records.old.conn).committed → IfOk result (λ site. HoldsRecords 2 number (state S.Store records.new.conn).committed × SpellStates (new_states (state S.Store records.new.conn).committed) site.states) }
     ensures states { (number : _) → IsSound (state S.Store records.new.conn) → HoldsRecords records.old.version number (state S.Store records.old.conn).committed → SameStates (state S.Store records.old.conn).committed (state S.Store records.new.conn).committed }
     ensures alone { (number : _) → IsSound (state S.Store records.new.conn) → HoldsRecords records.old.version number (state S.Store records.old.conn).committed → IfOk result (λ _. HasNone (old_states (state S.Store records.new.conn).committed)) }
+    ensures full { (number : _) → IsSound (state S.Store records.new.conn) → HoldsRecords records.old.version number (state S.Store records.old.conn).committed → IfErr result (λ e. e ≡ Refusal.Full → HoldsTooMany config.max_keys (state S.Store records.new.conn).committed) }
+    ensures order { (number : _) → IsSound (state S.Store records.new.conn) → HoldsRecords records.old.version number (state S.Store records.old.conn).committed → MatchResult result
+        (λ _. AreInOrder records.old.version (old_states (state S.Store records.old.conn).committed) (new_states (state S.Store records.old.conn).committed))
+        (λ e. e ≡ Refusal.Damaged → ¬ AreInOrder records.old.version (old_states (state S.Store records.old.conn).committed) (new_states (state S.Store records.old.conn).committed)) }
     ensures refusal { IfErr result (λ e. (e ≡ Refusal.Damaged) ⊎ ((e ≡ Refusal.Full) ⊎ ((e ≡ Refusal.Memory) ⊎ (e ≡ Refusal.Store)))) }
     ensures version { IfOk result (λ _. records.new.version ≡ 2) }
 {

@@ -1,4 +1,4 @@
-//! Tests of replicas: connections over memory, and records that are opened again.
+//! Tests of replicas: connections over memory, records that are opened again, and sessions.
 #![tactic(auto)]
 
 #[cfg(test)]
@@ -7,3 +7,5 @@ mod calls;
 mod connections;
 #[cfg(test)]
 mod records;
+#[cfg(test)]
+mod sessions;

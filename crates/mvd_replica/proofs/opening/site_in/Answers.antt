@@ -1,6 +1,7 @@
 use Rattle.std.proofs.Common.{arith, refl}
 use Rattle.mvd_replica.proofs.Loading.{loaded_holds}
-use Rattle.mvd_replica.proofs.Moving.{alone_by, same_then, same_unchanged, where_ok}
+use Rattle.mvd_replica.proofs.Moving.{same_then, same_unchanged}
+use Rattle.mvd_replica.proofs.Ordered.{alone_ordered, order_by, order_migrated, too_many_after}
 use Rattle.mvd_replica.proofs.opening.site_in.Goals as goal
 
 pub returns-then-version-eq2-clause-holds : goal.returns-then-version-eq2-clause-holds
@@ -19,8 +20,17 @@ returns-then-version-eq2-clause-states g c number sound holds = same_unchanged _
 pub returns-then-version-eq2-clause-alone : goal.returns-then-version-eq2-clause-alone
 returns-then-version-eq2-clause-alone g c number sound holds =
     let version = c.args.records.now.version in
-    alone_by c.load.result _ _ (c.load.ensures.unchanged version number sound holds)
-    (c.load.ensures.alone version number sound holds (omega (arith, c.version.ensures, c.if-version-eq2.true)))
+    alone_ordered c.load.result _ _ (c.load.ensures.unchanged version number sound holds) (c.load.ensures.order version number sound holds)
+
+pub returns-then-version-eq2-clause-full : goal.returns-then-version-eq2-clause-full
+returns-then-version-eq2-clause-full g c number sound holds =
+    let version = c.args.records.now.version in
+    too_many_after c.load.result c.args.config.max_keys _ _ (c.load.ensures.unchanged version number sound holds) (c.load.ensures.full version number sound holds)
+
+pub returns-then-version-eq2-clause-order : goal.returns-then-version-eq2-clause-order
+returns-then-version-eq2-clause-order g c number sound holds =
+    let version = c.args.records.now.version in
+    order_by c.load.result version _ _ (omega (arith, c.version.ensures, c.if-version-eq2.true)) (c.load.ensures.order version number sound holds)
 
 pub returns-in-Ok-clause-states : goal.returns-in-Ok-clause-states
 returns-in-Ok-clause-states g c number sound holds =
@@ -29,6 +39,15 @@ returns-in-Ok-clause-states g c number sound holds =
 
 pub returns-in-Ok-clause-alone : goal.returns-in-Ok-clause-alone
 returns-in-Ok-clause-alone g c number sound holds =
+    let moved = c.in-Ok.ensures.moved number (c.load-in-Ok.ensures.before sound) holds in
+    alone_ordered c.load-in-Ok.result _ _ (c.load-in-Ok.ensures.unchanged 2 number sound moved) (c.load-in-Ok.ensures.order 2 number sound moved)
+
+pub returns-in-Ok-clause-full : goal.returns-in-Ok-clause-full
+returns-in-Ok-clause-full g c number sound holds =
+    let moved = c.in-Ok.ensures.moved number (c.load-in-Ok.ensures.before sound) holds in
+    too_many_after c.load-in-Ok.result c.args.config.max_keys _ _ (c.load-in-Ok.ensures.unchanged 2 number sound moved) (c.load-in-Ok.ensures.full 2 number sound moved)
+
+pub returns-in-Ok-clause-order : goal.returns-in-Ok-clause-order
+returns-in-Ok-clause-order g c number sound holds =
     let before = c.load-in-Ok.ensures.before sound in
-    alone_by c.load-in-Ok.result _ _ (c.load-in-Ok.ensures.unchanged 2 number sound (c.in-Ok.ensures.moved number before holds))
-    (where_ok c.load-in-Ok.result _ (c.in-Ok.ensures.alone number before holds))
+    order_migrated c.load-in-Ok.result c.args.records.now.version _ _ (c.in-Ok.ensures.order number before holds) (c.load-in-Ok.ensures.order 2 number sound (c.in-Ok.ensures.moved number before holds))

@@ -1,9 +1,11 @@
 use Rattle.mvd_replica.proofs.Loading.{holds_opened}
-use Rattle.std.proofs.Common.{sym, subst}
+use Rattle.std.proofs.Common.{inl, inr, sym, subst}
+use Rattle.mvd_dots.specs.declared.refusals.Refusal.TheVariants.{Damaged, SiteMismatch}
 use Rattle.sqlite.specs.Held.{state}
 use Rattle.mvd_records.specs.Records.{IsSound}
-use Rattle.mvd_replica.specs.Stored.{SameStates}
+use Rattle.mvd_replica.specs.Stored.{HoldsTooMany, SameStates}
 use Rattle.mvd_replica.proofs.Moving.{same_kept, same_then, same_unchanged}
+use Rattle.mvd_replica.proofs.Ordered.{damaged_site, has_just, held_just, just_one, order_opened, told_as}
 use Rattle.mvd_replica.proofs.replica.Replica.open.Goals as goal
 
 pub returns-in-Ok-site_in-clause-opened : goal.returns-in-Ok-site_in-clause-opened
@@ -32,3 +34,43 @@ returns-in-Err-site_in-clause-states g c sound ours =
     let opened = c.in-Ok.ensures.opened (c.in-Err-site_in.ensures.before real) ours in
     subst (λ k. SameStates (state g.S.Store c.args.conn).committed (state g.S.Store k).committed) (sym same)
     (same_then _ _ _ (same_kept _ _ opened.states) (c.in-Err-site_in.ensures.states c.site.result real opened.holds))
+
+pub returns-in-Ok-site_in-clause-spelled : goal.returns-in-Ok-site_in-clause-spelled
+returns-in-Ok-site_in-clause-spelled g c sound ours =
+    let opened = c.in-Ok.ensures.opened (c.in-Ok-site_in.ensures.before sound) ours in
+    has_just _ _ c.in-Ok-site_in.site.states (same_then _ _ _ (same_kept _ _ opened.states) (c.in-Ok-site_in.ensures.states c.site.result sound opened.holds))
+    (c.in-Ok-site_in.ensures.alone c.site.result sound opened.holds) (c.in-Ok-site_in.ensures.holds c.site.result sound opened.holds).1 c.key_count-held.ensures.held.spelled
+
+pub returns-in-Ok-site_in-clause-again : goal.returns-in-Ok-site_in-clause-again
+returns-in-Ok-site_in-clause-again g c number states sound holds =
+    let opened = c.in-Ok.ensures.opened (c.in-Ok-site_in.ensures.before sound) (inr (inr holds.records.tables)) in
+    just_one (state g.S.Store c.args.conn).committed c.in-Ok-site_in.site.states states
+    (has_just _ _ c.in-Ok-site_in.site.states (same_then _ _ _ (same_kept _ _ opened.states) (c.in-Ok-site_in.ensures.states c.site.result sound opened.holds))
+    (c.in-Ok-site_in.ensures.alone c.site.result sound opened.holds) (c.in-Ok-site_in.ensures.holds c.site.result sound opened.holds).1 c.key_count-held.ensures.held.spelled)
+    (held_just number _ states holds)
+
+pub returns-in-Ok-site_in-clause-order : goal.returns-in-Ok-site_in-clause-order
+returns-in-Ok-site_in-clause-order g c sound ours =
+    let opened = c.in-Ok.ensures.opened (c.in-Ok-site_in.ensures.before sound) ours in
+    order_opened (state g.S.Store c.args.conn).committed _ c.in-Ok.records.version c.args.config.site c.site.result c.site.ensures.site opened.told opened.states (c.in-Ok-site_in.ensures.order c.site.result sound opened.holds)
+
+pub returns-in-Err-clause-mismatch : goal.returns-in-Err-clause-mismatch
+returns-in-Err-clause-mismatch g c sound ours is =
+    told_as (state g.S.Store c.args.conn).committed c.args.config.site c.site.result c.in-Err.refused.0 SiteMismatch c.site.ensures.site is (c.in-Err.ensures.refused sound ours)
+
+pub returns-in-Err-clause-damaged : goal.returns-in-Err-clause-damaged
+returns-in-Err-clause-damaged g c sound ours is =
+    inl (told_as (state g.S.Store c.args.conn).committed c.args.config.site c.site.result c.in-Err.refused.0 Damaged c.site.ensures.site is (c.in-Err.ensures.refused sound ours))
+
+pub returns-in-Err-site_in-clause-damaged : goal.returns-in-Err-site_in-clause-damaged
+returns-in-Err-site_in-clause-damaged g c sound ours is =
+    let real = subst (λ k. IsSound (state g.S.Store k)) c.into_connection.ensures sound in
+    let opened = c.in-Ok.ensures.opened (c.in-Err-site_in.ensures.before real) ours in
+    damaged_site (state g.S.Store c.args.conn).committed _ c.in-Ok.records.version c.args.config.site c.site.result c.site.ensures.site opened.told opened.states (c.in-Err-site_in.ensures.order c.site.result real opened.holds is)
+
+pub returns-in-Err-site_in-clause-full : goal.returns-in-Err-site_in-clause-full
+returns-in-Err-site_in-clause-full g c sound ours is =
+    let same = c.into_connection.ensures in
+    let real = subst (λ k. IsSound (state g.S.Store k)) same sound in
+    let opened = c.in-Ok.ensures.opened (c.in-Err-site_in.ensures.before real) ours in
+    subst (λ k. HoldsTooMany c.args.config.max_keys (state g.S.Store k).committed) (sym same) (c.in-Err-site_in.ensures.full c.site.result real opened.holds is)

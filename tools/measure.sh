@@ -1,5 +1,5 @@
 #!/bin/sh
-# Measures the program on scripts that it makes: seconds of the processor, and the most memory held at one time.
+# Measures the program on scripts that it makes: seconds of the processor, and the most memory held at one time (resident).
 # usage: tools/measure.sh PROGRAM [FOLDER]
 # PROGRAM is `mvd` as built. FOLDER has another program to compare with, target/release/twin, which runs the same
 # scripts. Each figure is the least of three runs, the programs in turn. Takes Debian's `time`.
@@ -48,7 +48,7 @@ script() {
     }'
 }
 
-# run NAME PROGRAM: one run on the script, noted with its seconds and its kilobytes.
+# run NAME PROGRAM: one run on the script, noted with its seconds and its kibibytes.
 run() {
     /usr/bin/time -f '%U %S %M' -o "$work/used" "$2" sim < "$work/script" > "$work/$1.out"
     awk -v name="$1" '{ print name, $1 + $2, $3 }' "$work/used" >> "$work/runs"
@@ -63,18 +63,22 @@ measure() {
         if [ -n "$other" ]; then run twin "$other"; fi
     done
     awk -v kind="$1" -v n="$2" '
-    !($1 in seconds) { names[++count] = $1; seconds[$1] = $2; memory[$1] = $3 }
+    !($1 in seconds) { seconds[$1] = $2; memory[$1] = $3 }
     $2 < seconds[$1] { seconds[$1] = $2 }
     $3 < memory[$1] { memory[$1] = $3 }
-    END {
-        for (i = 1; i <= count; i++)
-            printf "%-6s %7d %-5s %7.2f s %8.1f MB\n", kind, n, names[i], seconds[names[i]], memory[names[i]] / 1024
-    }' "$work/runs"
+    function used(name) {
+        if (!(name in seconds)) return "- | -"
+        return sprintf("%.2f s | %.1f MiB", seconds[name], memory[name] / 1024)
+    }
+    END { print "| " kind " | " n " | " used("mvd") " | " used("twin") " |" }' "$work/runs"
     if [ -n "$other" ] && ! cmp -s "$work/mvd.out" "$work/twin.out"; then echo "the two print differently"; fi
 }
 
 echo "machine: $(uname -srm), $(nproc) processors, $(sed -n 's/^model name[^:]*: //p' /proc/cpuinfo | head -1)"
 echo "load at the start: $(cut -d ' ' -f 1-3 /proc/loadavg)"
+if grep -q -w sha_ni /proc/cpuinfo; then echo "the processor has instructions for SHA-256"; fi
+echo "| script | writes | mvd: time | memory | twin: time | memory |"
+echo "|---|---|---|---|---|---|"
 for n in 10000 100000; do
     for kind in core blind rows tree; do measure $kind $n; done
 done

@@ -12,11 +12,10 @@ use mvd_replica::Replica;
 use mvd_rows::Defs;
 use mvd_site::Config;
 use sqlite::{Connection, File, FileStore};
-use std::env;
-use std::fs;
 use std::io::{self, BufReader};
 use std::net::SocketAddr;
 use std::process::ExitCode;
+use std::{env, fs};
 
 fn main(rt: HostRuntime) -> io::Result<ExitCode> {
     let alloc = rt.alloc();
@@ -133,11 +132,7 @@ fn defs_in(rt: &HostRuntime, file: Option<&str>) -> Result<Defs, Fault> {
 }
 
 /// The replica that a database file holds. The file is made where it is missing.
-fn stored(
-    rt: &HostRuntime,
-    db: &str,
-    config: Config,
-) -> Result<Replica<FileStore<File>>, Fault> {
+fn stored(rt: &HostRuntime, db: &str, config: Config) -> Result<Replica<FileStore<File>>, Fault> {
     match Connection::open(rt, db) {
         Ok(conn) => replica_in(rt.alloc(), conn, config),
         Err(_) => Err(Fault::Stopped(Refusal::Store)),

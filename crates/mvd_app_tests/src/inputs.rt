@@ -26,7 +26,12 @@ fn too_many_bytes_are_too_long(rt: HostRuntime) -> Result<(), Fail> {
     let whole = hex_bytes(alloc, &text).map_err(|_| "no bytes")?;
     assert_eq!(rt; whole.len(), 32_768);
     text.extend_from_slice(b"\n00\nxy")?;
-    assert!(rt; matches!(hex_bytes(alloc, &text), Err(Fault::Stopped(Refusal::FrameTooLong))));
+    assert!(rt;
+        matches!(
+            hex_bytes(alloc, &text),
+            Err(Fault::Stopped(Refusal::FrameTooLong))
+        )
+    );
     Ok(())
 }
 
@@ -39,7 +44,12 @@ fn a_text_may_have_so_many_digits(rt: HostRuntime) -> Result<(), Fail> {
     }
     assert!(rt; hex_bytes(alloc, &text).is_ok());
     text.push(b'x')?;
-    assert!(rt; matches!(hex_bytes(alloc, &text), Err(Fault::Stopped(Refusal::FrameTooLong))));
+    assert!(rt;
+        matches!(
+            hex_bytes(alloc, &text),
+            Err(Fault::Stopped(Refusal::FrameTooLong))
+        )
+    );
     Ok(())
 }
 
@@ -48,12 +58,27 @@ fn definitions_are_a_scripts(rt: HostRuntime) -> Result<(), Fail> {
     let alloc = rt.alloc();
     let text = b"# two\n\nindex city\nview v city n\n";
     assert!(rt; read_defs(alloc, text).is_ok());
-    assert!(rt; matches!(read_defs(alloc, b"index city\nview v city n\nmax 1"), Err(Fault::Line(3))));
-    assert!(rt; matches!(read_defs(alloc, b"index city\nindex city"), Err(Fault::Line(2))));
+    assert!(rt;
+        matches!(
+            read_defs(alloc, b"index city\nview v city n\nmax 1"),
+            Err(Fault::Line(3))
+        )
+    );
+    assert!(rt;
+        matches!(
+            read_defs(alloc, b"index city\nindex city"),
+            Err(Fault::Line(2))
+        )
+    );
     assert!(rt; matches!(read_defs(alloc, b"\xff"), Err(Fault::Line(1))));
     let long = [b'\n'; 65_537];
     assert!(rt; read_defs(alloc, &long[1..]).is_ok());
-    assert!(rt; matches!(read_defs(alloc, &long), Err(Fault::Stopped(Refusal::FrameTooLong))));
+    assert!(rt;
+        matches!(
+            read_defs(alloc, &long),
+            Err(Fault::Stopped(Refusal::FrameTooLong))
+        )
+    );
     Ok(())
 }
 
@@ -64,7 +89,23 @@ fn requests_are_answered_over_a_connection(rt: HostRuntime) -> Result<(), Fail> 
     let mut out = Vec::new(alloc);
     let config = Config::new(1, 10, Defs::new(alloc));
     loop_run(&rt, alloc, &mut input, &mut out, config).map_err(|_| "stopped")?;
-    assert_eq!(rt; out.as_slice(), b"00000007a1000000000000\n00000001a3\nended bye\n".as_slice());
+    assert_eq!(rt;
+        out.as_slice(),
+        b"00000007a1000000000000\n00000001a3\nended bye\n".as_slice()
+    );
+    Ok(())
+}
+
+#[test]
+fn what_follows_a_bye_is_not_answered(rt: HostRuntime) -> Result<(), Fail> {
+    let alloc = rt.alloc();
+    let mut lines = Vec::new(alloc);
+    lines.extend_from_slice(b"000000012f\n")?;
+    lines.extend_from_slice(&[b'0'; 60_000])?;
+    let mut out = Vec::new(alloc);
+    let config = Config::new(1, 10, Defs::new(alloc));
+    loop_run(&rt, alloc, &mut lines.as_slice(), &mut out, config).map_err(|_| "stopped")?;
+    assert_eq!(rt; out.as_slice(), b"00000001a3\nended bye\n".as_slice());
     Ok(())
 }
 
@@ -75,7 +116,10 @@ fn a_cut_request_ends_the_connection(rt: HostRuntime) -> Result<(), Fail> {
     let mut out = Vec::new(alloc);
     let config = Config::new(1, 10, Defs::new(alloc));
     loop_run(&rt, alloc, &mut input, &mut out, config).map_err(|_| "stopped")?;
-    assert_eq!(rt; out.as_slice(), b"00000002ee1e\nended 30 Truncated\n".as_slice());
+    assert_eq!(rt;
+        out.as_slice(),
+        b"00000002ee1e\nended 30 Truncated\n".as_slice()
+    );
     Ok(())
 }
 

@@ -1,4 +1,4 @@
-//! The lines of a script.
+//! The lines of a script, and those that are typed.
 
 /// A line of a script, as it is written.
 #[derive(Clone, Copy)]
@@ -88,6 +88,27 @@ pub fn line_of(text: &str) -> Option<Line<'_>> {
         "view" => Some(Line::View(view_of(rest)?)),
         "root" => Some(Line::At(number_of(rest)?, Command::Ask(ROOT))),
         _ => at_of(name, rest),
+    }
+}
+
+/// A line that is typed, as it is written: it names no site.
+#[derive(Clone, Copy)]
+pub enum Typed<'a> {
+    /// `help`
+    Help,
+    /// A write, or a question.
+    Ask(Ask<'a>),
+}
+
+/// The typed line that a text is, if it is one.
+pub fn typed_of(text: &str) -> Option<Typed<'_>> {
+    match text {
+        "help" => Some(Typed::Help),
+        "root" => Some(Typed::Ask(ROOT)),
+        _ => {
+            let (name, rest) = text.split_once(' ')?;
+            Some(Typed::Ask(ask_of(name, rest)?))
+        }
     }
 }
 

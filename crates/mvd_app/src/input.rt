@@ -1,11 +1,11 @@
-//! All of a reader's input, up to a limit.
+//! All of a reader's input, up to a limit, and text to a writer.
 ghost use Rattle.std.specs.Prelude.{◌≤◌, length, IfErr, IfOk};
 ghost use Rattle.mvd_app.specs.Ends.{EndsEarly};
 
 use crate::fault::Fault;
 use mvd_dots::Refusal;
 use std::alloc::Global;
-use std::io::Read;
+use std::io::{Read, Write};
 
 /// All that the reader has left: `FrameTooLong` where that is more than `most` bytes.
 pub fn read_input<R: Read>(alloc: Global, reader: &mut R, most: usize) -> Result<Vec<u8>, Fault>
@@ -28,4 +28,14 @@ pub fn read_input<R: Read>(alloc: Global, reader: &mut R, most: usize) -> Result
         bytes.extend_from_slice(&piece[..count])?;
     }
     Ok(bytes)
+}
+
+/// Writes a text.
+pub fn write_out<W: Write>(writer: &mut W, text: &str) -> Result<(), Fault>
+    ensures { IfErr result EndsEarly }
+{
+    match writer.write_all(text.as_bytes()) {
+        Ok(()) => Ok(()),
+        Err(_) => Err(Fault::Stopped(Refusal::WriteFailed)),
+    }
 }

@@ -1,18 +1,33 @@
-//! The commands of the program: a script over several sites, and the command line.
+//! The commands of the program: a script over several sites, a stored site and its peers, and the command line.
 #![tactic(auto)]
 
 mod asked;
 mod command;
+mod definitions;
+mod ending;
 mod fault;
+mod hexadecimal;
 mod input;
+mod link;
+mod looping;
 mod order;
 mod pages;
 mod play;
 mod printing;
 mod requests;
 mod script;
+mod serving;
+mod shell;
 mod talk;
+mod words;
 
+pub use asked::Asked;
+pub use definitions::{DEFS_MAX, read_defs};
 pub use fault::Fault;
-pub use order::{Order, OrderFault, order_of};
+pub use hexadecimal::hex_bytes;
+pub use input::read_input;
+pub use looping::loop_run;
+pub use order::{MOST_KEYS, Order, OrderFault, order_of};
 pub use script::sim;
+pub use serving::{replica_in, serve_run, sync_run};
+pub use shell::{remote_shell, shell};

@@ -1,14 +1,64 @@
 //! The command line.
-use clap::error::ErrorKind;
-use clap::{Command, Error};
-use mvd_dots::Refusal;
-use std::alloc::Global;
+ghost use Rattle.std.specs.Prelude.{◌≤◌, ◌×◌, IfOk, IfSome};
+ghost use Rattle.mvd_app.specs.Orders.{IsInRange};
+ghost use Rattle.mvd_site.specs.Config.{IsConfig};
 
-/// What a command line asks for.
+use crate::words::command;
+use clap::error::ErrorKind;
+use clap::{ArgMatches, Error};
+use mvd_dots::Refusal;
+use std::alloc::{AllocError, Global};
+use std::net::IpAddr;
+
+/// The most keys that a site may hold, and how many it may where no option says.
+pub const MOST_KEYS: u32 = 1_000_000;
+
+/// The most connections that a server may be asked to serve.
+const MOST_CONNECTIONS: u64 = 1_000;
+
+/// What a command line asks for. Numbers are in their ranges: a site is at least 1, `max_keys` 1 to 1,000,000, a port at least
+/// 1, and `conns` 1 to 1,000.
 #[derive(Debug, Clone, Copy, PartialEq, Eq)]
-pub enum Order {
+pub enum Order<'a> {
     /// Run a script from standard input.
     Sim,
+    /// Answer the requests that stand in hexadecimal on standard input, over a connection within one process.
+    Loop {
+        site: u32,
+        defs: Option<&'a str>,
+        max_keys: u32,
+    },
+    /// Serve a database to peers, one connection after the other.
+    Serve {
+        db: &'a str,
+        site: u32,
+        port: u16,
+        conns: Option<u32>,
+        defs: Option<&'a str>,
+        max_keys: u32,
+        address: IpAddr,
+    },
+    /// Answer the lines of standard input on a database.
+    Shell {
+        db: &'a str,
+        site: u32,
+        defs: Option<&'a str>,
+        max_keys: u32,
+    },
+    /// Answer the lines of standard input through a server.
+    RemoteShell {
+        port: u16,
+        address: IpAddr,
+    },
+    /// Run a session of a database with a server.
+    Sync {
+        db: &'a str,
+        site: u32,
+        port: u16,
+        defs: Option<&'a str>,
+        max_keys: u32,
+        address: IpAddr,
+    },
 }
 
 /// Why a command line asks for nothing.
@@ -16,28 +66,152 @@ pub enum Order {
 pub enum OrderFault {
     /// Its words are none of the program's, or they ask for help.
     Words(Error),
+    /// A number is out of its range.
+    Range,
     /// Memory was refused.
     Stopped(Refusal),
 }
 
-/// What the words ask for, of which the first is the program's own name.
-pub fn order_of(alloc: Global, words: &[&str]) -> Result<Order, OrderFault> {
-    match matched(alloc, words) {
-        Ok(()) => Ok(Order::Sim),
-        Err(error) => match error.kind() {
-            ErrorKind::OutOfMemory => Err(OrderFault::Stopped(Refusal::Memory)),
-            _ => Err(OrderFault::Words(error)),
-        },
+impl From<Error> for OrderFault {
+    fn from(error: Error) -> OrderFault {
+        match error.kind() {
+            ErrorKind::OutOfMemory => OrderFault::Stopped(Refusal::Memory),
+            _ => OrderFault::Words(error),
+        }
     }
 }
 
-fn matched(alloc: Global, words: &[&str]) -> Result<(), Error> {
-    let sim = Command::new(alloc, "sim").about("Run a script from standard input");
-    let command = Command::new(alloc, "mvd")
-        .about("A multi-value JSON document map with causal contexts")
-        .subcommand_required(true)
-        .arg_required_else_help(true)
-        .subcommand(sim)?;
-    command.try_get_matches_from(words)?;
-    Ok(())
+impl From<AllocError> for OrderFault {
+    fn from(_error: AllocError) -> OrderFault {
+        OrderFault::Stopped(Refusal::Memory)
+    }
+}
+
+/// What the words ask for, of which the first is the program's own name.
+pub fn order_of<'a>(alloc: Global, words: &'a [&'a str]) -> Result<Order<'a>, OrderFault>
+    ensures { IfOk result IsInRange }
+{
+    let matches = command(alloc)?.try_get_matches_from(words)?;
+    match matches.subcommand() {
+        Some(("loop", matches)) => loop_of(alloc, matches),
+        Some(("serve", matches)) => serve_of(alloc, matches),
+        Some(("shell", matches)) => shell_of(alloc, matches),
+        Some(("sync", matches)) => sync_of(alloc, matches),
+        _ => Ok(Order::Sim),
+    }
+}
+
+fn loop_of<'a>(alloc: Global, matches: &ArgMatches<'a>) -> Result<Order<'a>, OrderFault>
+    ensures { IfOk result IsInRange }
+{
+    Ok(Order::Loop {
+        site: site_in(matches)?,
+        defs: matches.get_str("defs"),
+        max_keys: max_keys_in(matches)?,
+    })
+}
+
+fn serve_of<'a>(alloc: Global, matches: &ArgMatches<'a>) -> Result<Order<'a>, OrderFault>
+    ensures { IfOk result IsInRange }
+{
+    Ok(Order::Serve {
+        db: matches.get_str("db").unwrap_or(""),
+        site: site_in(matches)?,
+        port: port_in(matches)?,
+        conns: conns_in(matches)?,
+        defs: matches.get_str("defs"),
+        max_keys: max_keys_in(matches)?,
+        address: address_in(alloc, matches)?,
+    })
+}
+
+fn sync_of<'a>(alloc: Global, matches: &ArgMatches<'a>) -> Result<Order<'a>, OrderFault>
+    ensures { IfOk result IsInRange }
+{
+    Ok(Order::Sync {
+        db: matches.get_str("db").unwrap_or(""),
+        site: site_in(matches)?,
+        port: port_in(matches)?,
+        defs: matches.get_str("defs"),
+        max_keys: max_keys_in(matches)?,
+        address: address_in(alloc, matches)?,
+    })
+}
+
+fn shell_of<'a>(alloc: Global, matches: &ArgMatches<'a>) -> Result<Order<'a>, OrderFault>
+    ensures { IfOk result IsInRange }
+{
+    match matches.get_str("db") {
+        Some(db) => Ok(Order::Shell {
+            db,
+            site: site_in(matches)?,
+            defs: matches.get_str("defs"),
+            max_keys: max_keys_in(matches)?,
+        }),
+        None => Ok(Order::RemoteShell {
+            port: port_in(matches)?,
+            address: address_in(alloc, matches)?,
+        }),
+    }
+}
+
+/// The number of an option, where it is given: `Range` where it is 0 or too great.
+fn number_in(matches: &ArgMatches<'_>, option: &str, most: u64) -> Result<Option<u64>, OrderFault>
+    ensures { IfOk result (λ found. IfSome found (λ n. (1 ≤ n) × (n ≤ most))) }
+{
+    match matches.get_one::<u64>(option) {
+        Some(number) if number == 0 || number > most => Err(OrderFault::Range),
+        found => Ok(found),
+    }
+}
+
+/// The number of an option that is given: `Range` where it is 0 or too great.
+fn given_in(matches: &ArgMatches<'_>, option: &str, most: u64) -> Result<u64, OrderFault>
+    ensures { IfOk result (λ n. (1 ≤ n) × (n ≤ most)) }
+{
+    match number_in(matches, option, most)? {
+        Some(number) => Ok(number),
+        None => Err(OrderFault::Range),
+    }
+}
+
+fn site_in(matches: &ArgMatches<'_>) -> Result<u32, OrderFault>
+    ensures { IfOk result (λ n. (1 ≤ n) × (n < 2 ^ 32)) }
+{
+    Ok(given_in(matches, "site", 4_294_967_295)? as u32)
+}
+
+fn port_in(matches: &ArgMatches<'_>) -> Result<u16, OrderFault>
+    ensures { IfOk result (λ n. (1 ≤ n) × (n < 2 ^ 16)) }
+{
+    Ok(given_in(matches, "port", 65_535)? as u16)
+}
+
+fn max_keys_in(matches: &ArgMatches<'_>) -> Result<u32, OrderFault>
+    ensures { IfOk result (λ n. (1 ≤ n) × (n ≤ 1000000)) }
+{
+    Ok(given_in(matches, "max-keys", u64::from(MOST_KEYS))? as u32)
+}
+
+fn conns_in(matches: &ArgMatches<'_>) -> Result<Option<u32>, OrderFault>
+    ensures { IfOk result (λ found. IfSome found (λ n. (1 ≤ n) × (n ≤ 1000))) }
+{
+    match number_in(matches, "conns", MOST_CONNECTIONS)? {
+        Some(number) => Ok(Some(number as u32)),
+        None => Ok(None),
+    }
+}
+
+/// The address of a server. Its text is read here, since `clap` reads numbers alone.
+fn address_in(alloc: Global, matches: &ArgMatches<'_>) -> Result<IpAddr, OrderFault> {
+    match matches.get_one::<IpAddr>("address") {
+        Some(address) => Ok(address),
+        None => {
+            let error = command(alloc)?.error(
+                ErrorKind::ValueValidation,
+                "invalid value for '--address <IP>': it is no IP address",
+            )?;
+            Err(OrderFault::Words(error))
+        }
+    }
 }

@@ -4,10 +4,11 @@ ghost use Rattle.std.specs.Option.{ForSome};
 ghost use Rattle.mvd_app.specs.Ends.{EndsEarly};
 
 use crate::command::{Command, Line, View, line_of};
+use crate::definitions::{add_index, add_view, text_of};
 use crate::fault::Fault;
-use crate::input::read_input;
+use crate::input::{read_input, write_out};
+use crate::order::MOST_KEYS;
 use crate::play::run;
-use mvd_docs::{Field, ViewName};
 use mvd_dots::Refusal;
 use mvd_rows::Defs;
 use mvd_world::World;
@@ -22,9 +23,6 @@ const PIECE: usize = 65_536;
 
 /// The most sites of a script.
 const SITES_MAX: u64 = 16;
-
-/// The most keys that a site may hold, and how many it may where no line says.
-const KEYS_MAX: u32 = 1_000_000;
 
 /// The head lines of a script: how many sites it has, and how many keys each may hold, where a line says so.
 #[derive(Clone, Copy)]
@@ -60,10 +58,10 @@ impl Script {
         requires { 0 < number }
         ensures { IfErr result EndsEarly }
     {
-        let Ok(text) = str::from_utf8(line) else {
+        let Some(text) = text_of(line) else {
             return Err(Fault::Line(number));
         };
-        if line.is_empty() || line[0] == b'#' {
+        if text.is_empty() {
             return Ok(());
         }
         let is_taken = match line_of(text) {
@@ -99,7 +97,7 @@ impl Script {
             return false;
         };
         let is_late = head.max_keys.is_some() || self.world.is_some();
-        if is_late || count == 0 || count > u64::from(KEYS_MAX) {
+        if is_late || count == 0 || count > u64::from(MOST_KEYS) {
             return false;
         }
         self.head = Some(Head {
@@ -121,7 +119,7 @@ impl Script {
         if !self.is_in_head() {
             return Ok(false);
         }
-        taken(add_index(self.alloc, &mut self.defs, field))
+        add_index(self.alloc, &mut self.defs, field)
     }
 
     /// Whether this may be one more view.
@@ -131,7 +129,7 @@ impl Script {
         if !self.is_in_head() {
             return Ok(false);
         }
-        taken(add_view(self.alloc, &mut self.defs, view))
+        add_view(self.alloc, &mut self.defs, view)
     }
 
     /// Runs a command, and whether there were head lines before it.
@@ -157,30 +155,8 @@ impl Script {
     fn begun(&self, head: Head) -> Result<World, Refusal>
         ensures { IfErr result (λ refusal. refusal ≡ Refusal.Memory) }
     {
-        let max_keys = head.max_keys.unwrap_or(KEYS_MAX);
+        let max_keys = head.max_keys.unwrap_or(MOST_KEYS);
         World::new(self.alloc, head.sites, max_keys, self.defs.copy()?)
-    }
-}
-
-fn add_index(alloc: Global, defs: &mut Defs, field: &str) -> Result<(), Refusal> {
-    defs.index(Field::read(alloc, field)?)
-}
-
-fn add_view(alloc: Global, defs: &mut Defs, view: View<'_>) -> Result<(), Refusal> {
-    let name = ViewName::read(alloc, view.name)?;
-    let group = Field::read(alloc, view.group)?;
-    let sum = Field::read(alloc, view.sum)?;
-    defs.view(name, group, sum)
-}
-
-/// Whether a definition was taken: it ends the script where memory was refused.
-fn taken(added: Result<(), Refusal>) -> Result<bool, Fault>
-    ensures { IfErr result EndsEarly }
-{
-    match added {
-        Ok(()) => Ok(true),
-        Err(Refusal::Memory) => Err(Fault::Stopped(Refusal::Memory)),
-        Err(_) => Ok(false),
     }
 }
 
@@ -205,13 +181,4 @@ pub fn sim<R: Read, W: Write>(alloc: Global, reader: &mut R, writer: &mut W) -> 
         ran?;
     }
     write_out(writer, out.as_str())
-}
-
-fn write_out<W: Write>(writer: &mut W, text: &str) -> Result<(), Fault>
-    ensures { IfErr result EndsEarly }
-{
-    match writer.write_all(text.as_bytes()) {
-        Ok(()) => Ok(()),
-        Err(_) => Err(Fault::Stopped(Refusal::WriteFailed)),
-    }
 }

@@ -16,15 +16,17 @@ ghost use Rattle.sqlite.specs.Held.{state};
 
 use crate::opening::site_in;
 use mvd_dots::Refusal;
+use mvd_keys::{Key, KeyState, Path};
 use mvd_records::Records;
 use mvd_site::{Change, Config, Prepared, Site};
-use mvd_wire::{Reply, Request};
+use mvd_wire::{Digests, Reply, Request};
 use sqlite::{Alter, Connection};
 use std::alloc::Global;
 
 /// A site, and its records: unless the site is broken, they hold its states.
 #[derive(Drop)]
 pub struct Replica<S: Alter> {
+    alloc: Global,
     site: Site,
     records: Records<S>,
     ghost moved: { records.version ≡ 2 },
@@ -57,7 +59,11 @@ impl<S: Alter> Replica<S> {
             Err(refused) => return Err(refused),
         };
         match site_in(alloc, &mut records, config) {
-            Ok(site) => Ok(Replica { site, records }),
+            Ok(site) => Ok(Replica {
+                alloc,
+                site,
+                records,
+            }),
             Err(refusal) => Err((refusal, records.into_connection())),
         }
     }
@@ -86,7 +92,7 @@ impl<S: Alter> Replica<S> {
     pub fn into_connection(self) -> Connection<S>
         ensures { result ≡ self.records.conn }
     {
-        let Replica { site: _, records } = self;
+        let Replica { records, .. } = self;
         records.into_connection()
     }
 
@@ -140,6 +146,54 @@ impl<S: Alter> Replica<S> {
                     Err(refusal) => Reply::Refused(refusal),
                 }
             }
+        }
+    }
+
+    /// The digests of a node and, above the buckets, of its children. It looks at no held state and takes no memory; a broken
+    /// replica refuses it.
+    pub fn node(&self, path: &Path) -> Result<Digests, Refusal>
+        ensures { result ≡ unless_broken self.now.site.broken (Err Broken) (Ok (node_digests (digests self.now.site.states) path.now)) }
+    {
+        self.site.node(path)
+    }
+
+    /// A page of at most 1,000 of a bucket's keys with their digests, those after a key if one is given, and whether more
+    /// follow. It looks at no held state. `BadPath` where the path has not three digits; a broken replica refuses it.
+    pub fn bucket(
+        &self,
+        path: &Path,
+        after: Option<&Key>,
+    ) -> Result<(Vec<(Key, [u8; 32])>, bool), Refusal>
+        ensures whole { IfOk result (λ _. self.now.site.broken ≡ false) }
+        ensures path { IfOk result (λ _. length path.now ≡ 3) }
+        ensures keys { IfOk result (λ page. page.0.items ≡ page_of (digests self.now.site.states) path.now (option_copied after.entry)) }
+        ensures more { IfOk result (λ page. page.1 ≡ is_more_after_page (digests self.now.site.states) path.now (option_copied after.entry)) }
+        ensures refused { IfErr result (λ refusal. refusal ≡ bucket_refusal self.now.site.broken path.now) }
+    {
+        self.site.bucket(path, after)
+    }
+
+    /// The state of a key, empty where the key is not held. A broken replica refuses it.
+    pub fn get(&self, key: &Key) -> Result<KeyState, Refusal>
+        ensures whole { IfOk result (λ _. self.now.site.broken ≡ false) }
+        ensures state { IfOk result (λ state. state ≡ state_at self.now.site.states key.now) }
+        ensures refused { IfErr result (λ refusal. refusal ≡ unless_broken self.now.site.broken Broken Memory) }
+    {
+        self.site.get(key)
+    }
+
+    /// Joins a state to that of a key, and stores it, as a request to push it does: done; or the first refusal that applies, after
+    /// which the site and the records are as they were, unless the replica is broken.
+    pub fn push(&mut self, key: &Key, pushed: &KeyState) -> Result<(), Refusal>
+    {
+        if self.site.is_broken() {
+            return Err(Refusal::Broken);
+        }
+        let request = Request::Push(key.copy(self.alloc)?, pushed.copy(self.alloc)?);
+        match self.site.prepare(&request) {
+            Err(refusal) => Err(refusal),
+            Ok(Prepared::Answer(_)) => Ok(()),
+            Ok(Prepared::Change(change)) => self.put_in(change),
         }
     }
 }

@@ -17,6 +17,7 @@ use Rattle.sqlite.specs.State.{State}
 pub record StoreRefusedFrom (old new : SiteValue) (request : Request) (reply : Reply) : Type 0 where
   pub told : reply ≡ Refused Store
   pub changes : after_from old.config old.states request ≢ old.states
+  pub whole : old.broken ≡ false
   pub site : new ≡ old
 
 -- What a stored site that is not broken does with one request, from its states alone: what a site does, or, only where there

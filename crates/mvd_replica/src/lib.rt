@@ -4,7 +4,7 @@
 mod opening;
 pub mod replica;
 pub mod serving;
-mod sides;
+mod side;
 mod turns;
 
 pub use replica::Replica;

@@ -29,9 +29,9 @@ impl<S: Alter> Peer for Replica<S> {
 
     ghost in_form = { λ _ whole. whole.1 };
 
-    ghost follows_self = { λ replica. replica_follows_self replica.site (state S.Store replica.records.conn) };
+    ghost follows_self = { λ replica. replica_follows_self _ _ };
 
-    ghost follows_on = { λ old mid new p q. replica_follows_on old.site mid.site new.site (state S.Store old.records.conn) (state S.Store mid.records.conn) (state S.Store new.records.conn) p q };
+    ghost follows_on = { λ old mid new p q. replica_follows_on _ _ _ _ _ _ p q };
 
     fn node(&mut self, path: &Path) -> Result<Digests, Refusal> {
         Replica::node(self, path)
@@ -50,6 +50,10 @@ impl<S: Alter> Peer for Replica<S> {
     }
 
     fn push(&mut self, key: &Key, state: &KeyState) -> Result<(), Refusal> {
-        Replica::push(self, key, state)
+        // Here it is known that the pushed state's siblings have been seen, and then what holds of any site.
+        let _seen = state.context();
+        let pushed = Replica::push(self, key, state);
+        let _held = self.key_count();
+        pushed
     }
 }

@@ -1,0 +1,163 @@
+#!/bin/sh
+# Runs `mvd serve` and `mvd sync` as processes, on files in a new folder, and asks them over sockets. It tells what it did, and
+# ends with 1 at the first answer that is not the one wanted. It needs python3, and sqlite3 (apt-get install sqlite3).
+# usage: tools/served.sh [PROGRAM]
+# With no PROGRAM it proves and builds crates/mvd first.
+set -eu
+top=$(cd "$(dirname "$0")/.." && pwd)
+for tool in python3 sqlite3; do
+  command -v $tool >/dev/null || { echo "$tool is not installed" >&2; exit 2; }
+done
+program=${1:-}
+if [ -z "$program" ]; then
+  (cd "$top/crates/mvd" && rt run -- sim <stdin >/dev/null)
+  program=$top/crates/mvd/out/mvd
+fi
+program=$(realpath "$program")
+room=$(mktemp -d)
+server=
+trap 'if [ -n "$server" ]; then kill -9 "$server" 2>/dev/null || :; fi; rm -rf "$room"' EXIT
+cd "$room"
+
+# A client. Each word is a request, answered before the next one is sent; `cut` sends half a frame and leaves.
+cat >client.py <<'END'
+import socket, struct, sys
+
+def frame(kind, payload):
+    return struct.pack(">IB", len(payload) + 1, kind) + payload
+
+def key(text):
+    return bytes([len(text)]) + text.encode()
+
+def request(word):
+    name, _, rest = word.partition(" ")
+    if name == "put":
+        which, _, document = rest.partition(" ")
+        return frame(0x22, key(which) + struct.pack(">II", 0, len(document)) + document.encode())
+    if name == "get":
+        return frame(0x21, key(rest))
+    return frame(0x2F, b"")
+
+def read(peer, count):
+    data = b""
+    while len(data) < count:
+        more = peer.recv(count - len(data))
+        if not more:
+            sys.exit("the server closed")
+        data += more
+    return data
+
+with socket.create_connection(("127.0.0.1", int(sys.argv[1])), 20) as peer:
+    for word in sys.argv[2:]:
+        if word == "cut":
+            peer.sendall(b"\0\0")
+            break
+        peer.sendall(request(word))
+        print(read(peer, struct.unpack(">I", read(peer, 4))[0]).hex())
+END
+
+miss() {
+  echo "served: $*" >&2
+  exit 1
+}
+
+# same WHAT WANTED GOT
+same() {
+  [ "$2" = "$3" ] || miss "$1: wanted '$2', got '$3'"
+  echo "$1: $2"
+}
+
+# Starts a server with these words, at a free port, and waits until it listens.
+serve() {
+  port=$(python3 -c 'import socket; s = socket.socket(); s.bind(("127.0.0.1", 0)); print(s.getsockname()[1])')
+  "$program" serve --port "$port" "$@" >told 2>fault &
+  server=$!
+  for _ in $(seq 100); do
+    if grep -q "^listening 127.0.0.1:$port$" told; then return; fi
+    kill -0 "$server" 2>/dev/null || break
+    sleep 0.1
+  done
+  miss "no server: $(cat told fault)"
+}
+
+# Waits for the server, which is to end well.
+ended() {
+  wait "$server" || miss "the server ended with $?: $(cat told fault)"
+  server=
+}
+
+# refused WHAT STATUS TEXT FILE WORD..: the program ends with this status and text, and the file stays as it is.
+refused() {
+  what=$1 wanted=$2 text=$3 file=$4
+  shift 4
+  before=$(cksum <"$file")
+  status=0
+  "$program" "$@" >out 2>fault || status=$?
+  [ "$status" = "$wanted" ] || miss "$what: wanted status $wanted, got $status: $(cat out fault)"
+  same "$what" "$text" "$(cat fault)"
+  [ "$before" = "$(cksum <"$file")" ] || miss "$what: $file changed"
+}
+
+echo 'index city' >defs
+# A put's reply is the dot that it minted: the site, and then the counter.
+first=a2000000010000000000000001
+second=a2000000020000000000000001
+done=a3
+
+serve --db a.db --site 1 --conns 2 --defs defs
+same "puts at site 1" "$first $first $done" \
+  "$(python3 client.py "$port" 'put k {"city":"Oslo"}' 'put a {}' bye | tr '\n' ' ' | sed 's/ $//')"
+python3 client.py "$port" cut
+ended
+same "its connections" "connection 1 bye connection 2 30 Truncated" "$(grep connection told | tr '\n' ' ' | sed 's/ $//')"
+lone=$(grep root told)
+
+serve --db b.db --site 2 --conns 1
+same "puts at site 2" "$second $second $done" \
+  "$(python3 client.py "$port" 'put k {"city":"Rome"}' 'put b {}' bye | tr '\n' ' ' | sed 's/ $//')"
+ended
+
+serve --db a.db --site 1 --conns 2 --defs defs
+"$program" sync --db b.db --site 2 --port "$port" >one || miss "no session"
+"$program" sync --db b.db --site 2 --port "$port" >two || miss "no second session"
+ended
+same "the session" "keys 3" "$(grep keys one)"
+same "the second session" "keys 0" "$(grep keys two)"
+root=$(grep root told)
+[ "$root" != "$lone" ] || miss "the root did not change"
+same "both roots" "$root $root" "$(grep root one) $(grep root two)"
+for file in a.db b.db; do
+  "$top/tools/integrity.sh" "$file" || miss "$file is not whole"
+done
+
+serve --db a.db --site 1
+same "a put before the kill" a2000000010000000000000002 "$(python3 client.py "$port" 'put k {"city":"Bergen"}')"
+kill -9 "$server"
+wait "$server" 2>/dev/null || :
+server=
+serve --db a.db --site 1 --conns 1
+case $(python3 client.py "$port" 'get k' bye) in
+*7b2263697479223a2242657267656e227d*) echo "the put is there after the kill" ;;
+*) miss "the put is gone after the kill" ;;
+esac
+ended
+
+serve --db a.db --site 1
+refused "a port in use" 1 "mvd: fault 34 ReadFailed" b.db serve --db b.db --site 2 --port "$port" --conns 1
+refused "a locked database" 1 "mvd: fault 21 Store" a.db sync --db a.db --site 1 --port "$port"
+kill "$server"
+wait "$server" 2>/dev/null || :
+server=
+refused "no server" 1 "mvd: fault 34 ReadFailed" b.db sync --db b.db --site 2 --port "$port"
+refused "another site's database" 1 "mvd: fault 16 SiteMismatch" b.db serve --db b.db --site 3 --port "$port"
+refused "too many keys" 1 "mvd: fault 10 Full" b.db serve --db b.db --site 2 --port "$port" --max-keys 1
+cp b.db damaged.db
+sqlite3 damaged.db "PRAGMA journal_mode = delete; UPDATE states2 SET state = x'00' WHERE key = 'b'" >/dev/null
+refused "a damaged row" 1 "mvd: fault 17 Damaged" damaged.db serve --db damaged.db --site 2 --port "$port"
+seq 2000 >none.db
+refused "no database" 1 "mvd: fault 21 Store" none.db serve --db none.db --site 2 --port "$port"
+printf 'index city\nview v city n\nmax 1\n' >bad
+refused "a line that defines nothing" 3 "mvd: line 3: not a command" b.db serve --db b.db --site 2 --port "$port" --defs bad
+refused "no file of definitions" 1 "mvd: fault 34 ReadFailed" b.db serve --db b.db --site 2 --port "$port" --defs none
+refused "a bad number" 2 "mvd: bad number" b.db serve --db b.db --site 0 --port "$port"
+echo "served: all as wanted"

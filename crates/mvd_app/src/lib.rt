@@ -26,6 +26,7 @@ pub use definitions::{DEFS_MAX, read_defs};
 pub use fault::Fault;
 pub use hexadecimal::hex_bytes;
 pub use input::read_input;
+pub use link::{Incoming, Link, Outgoing};
 pub use looping::loop_run;
 pub use order::{MOST_KEYS, Order, OrderFault, order_of};
 pub use script::sim;

@@ -1,0 +1,9 @@
+//! Tests of the commands: orders, their inputs, a connection within one process, and links.
+#![tactic(auto)]
+
+#[cfg(test)]
+mod inputs;
+#[cfg(test)]
+mod links;
+#[cfg(test)]
+mod orders;

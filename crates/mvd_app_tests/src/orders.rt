@@ -1,0 +1,101 @@
+//! What command lines ask for.
+use mvd_app::{Order, OrderFault, order_of};
+use std::alloc::Global;
+use std::net::{IpAddr, Ipv4Addr};
+use std::test::Fail;
+
+/// The words of a line, parted by spaces.
+fn words_of<'a>(alloc: Global, line: &'a str) -> Result<Vec<&'a str>, Fail> {
+    let mut words = Vec::new(alloc);
+    for word in line.split(' ') {
+        words.push(word)?;
+    }
+    Ok(words)
+}
+
+/// Whether a line asks for this.
+fn asks(alloc: Global, line: &str, wanted: Order<'_>) -> Result<bool, Fail> {
+    let words = words_of(alloc, line)?;
+    Ok(matches!(order_of(alloc, &words), Ok(order) if order == wanted))
+}
+
+/// Whether a number of the line is out of its range.
+fn is_out_of_range(alloc: Global, line: &str) -> Result<bool, Fail> {
+    let words = words_of(alloc, line)?;
+    Ok(matches!(order_of(alloc, &words), Err(OrderFault::Range)))
+}
+
+/// Whether the line's words are refused, or ask for help.
+fn is_no_order(alloc: Global, line: &str) -> Result<bool, Fail> {
+    let words = words_of(alloc, line)?;
+    Ok(matches!(order_of(alloc, &words), Err(OrderFault::Words(_))))
+}
+
+#[test]
+fn an_order_has_its_options(rt: HostRuntime) -> Result<(), Fail> {
+    let alloc = rt.alloc();
+    let least = Order::Serve {
+        db: "f",
+        site: 1,
+        port: 1,
+        conns: Some(1),
+        defs: None,
+        max_keys: 1_000_000,
+        address: IpAddr::V4(Ipv4Addr::LOCALHOST),
+    };
+    assert!(rt; asks(alloc, "mvd serve --db f --site 1 --port 1 --conns 1", least)?);
+    let most = Order::Sync {
+        db: "f",
+        site: u32::MAX,
+        port: 65_535,
+        defs: Some("d"),
+        max_keys: 1,
+        address: IpAddr::V4(Ipv4Addr::new(10, 0, 0, 1)),
+    };
+    let line = "mvd sync --db f --site 4294967295 --port 65535 --defs d --max-keys 1 --address 10.0.0.1";
+    assert!(rt; asks(alloc, line, most)?);
+    let looped = Order::Loop {
+        site: 7,
+        defs: None,
+        max_keys: 1_000_000,
+    };
+    assert!(rt; asks(alloc, "mvd loop --site 7", looped)?);
+    assert!(rt; asks(alloc, "mvd sim", Order::Sim)?);
+    Ok(())
+}
+
+#[test]
+fn a_number_out_of_range_is_told(rt: HostRuntime) -> Result<(), Fail> {
+    let alloc = rt.alloc();
+    let lines = [
+        "mvd serve --db f --site 0 --port 1 --conns 1",
+        "mvd serve --db f --site 4294967296 --port 1",
+        "mvd serve --db f --site 1 --port 0",
+        "mvd serve --db f --site 1 --port 65536",
+        "mvd serve --db f --site 1 --port 1 --conns 0",
+        "mvd serve --db f --site 1 --port 1 --conns 1001",
+        "mvd sync --db f --site 1 --port 1 --max-keys 0",
+        "mvd loop --site 1 --max-keys 1000001",
+    ];
+    for line in lines {
+        assert!(rt; is_out_of_range(alloc, line)?, "{line}");
+    }
+    Ok(())
+}
+
+#[test]
+fn other_words_are_refused(rt: HostRuntime) -> Result<(), Fail> {
+    let alloc = rt.alloc();
+    let lines = [
+        "mvd serve --db f --port 1 --conns 1",
+        "mvd serve --db f --site x --port 1",
+        "mvd serve --db f --site 1 --port 1 --address here",
+        "mvd sync --db f --site 1 --port 1 --conns 1",
+        "mvd loop --help",
+        "mvd",
+    ];
+    for line in lines {
+        assert!(rt; is_no_order(alloc, line)?, "{line}");
+    }
+    Ok(())
+}

@@ -1,5 +1,5 @@
 #!/usr/bin/env python3
-"""A client of `mvd serve`, with Python's standard library alone. docs/PROTOCOL.md tells the frames.
+"""A client of `mvd serve`, with Python's standard library alone. docs/PROTOCOL.md tells how to write one.
 
 usage: client.py PORT get KEY
        client.py PORT put KEY CONTEXT DOCUMENT
@@ -124,30 +124,28 @@ def context_end(data):
     return at
 
 
-def main(port, command, first, *rest):
-    client = Client(int(port))
+def answer(client, command, first, *rest):
+    """The lines that a command prints."""
     if command == "get":
         context, siblings = client.get(first)
-        print("context", context.hex())
-        for (site, counter), document in siblings:
-            print(f"{site}:{counter}", compact(document))
-    elif command == "find":
-        for key, (site, counter) in client.find(first, json.loads(rest[0])):
-            print(key, f"{site}:{counter}")
-    else:
-        context = bytes(4) if rest[0] == "-" else bytes.fromhex(rest[0])
-        if command == "put":
-            print("dot {}:{}".format(*client.put(first, context, json.loads(rest[1]))))
-        elif command == "del":
-            client.delete(first, context)
-            print("ok")
-    client.bye()
+        lines = [f"{site}:{counter} {compact(document)}" for (site, counter), document in siblings]
+        return [f"context {context.hex()}"] + lines
+    if command == "find":
+        return [f"{key} {site}:{counter}" for key, (site, counter) in client.find(first, json.loads(rest[0]))]
+    context = bytes(4) if rest[0] == "-" else bytes.fromhex(rest[0])
+    if command == "put":
+        return ["dot {}:{}".format(*client.put(first, context, json.loads(rest[1])))]
+    client.delete(first, context)
+    return ["ok"]
 
 
 if __name__ == "__main__":
-    if len(sys.argv) < 4 or sys.argv[2] not in ("get", "put", "del", "find"):
+    words = sys.argv[1:]
+    if len(words) != {"get": 3, "put": 5, "del": 4, "find": 4}.get(words[1] if len(words) > 1 else ""):
         sys.exit(__doc__)
     try:
-        main(*sys.argv[1:])
+        client = Client(int(words[0]))
+        print("\n".join(answer(client, *words[1:])))
+        client.bye()
     except Refused as refusal:
         sys.exit(f"refused {refusal}")

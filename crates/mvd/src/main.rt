@@ -2,8 +2,8 @@
 #![tactic(auto)]
 
 use mvd_app::{
-    DEFS_MAX, Fault, Order, OrderFault, loop_run, order_of, read_defs, read_input, remote_shell,
-    replica_in, serve_run, shell, sim, sync_run,
+    DEFS_MAX, Fault, Order, OrderFault, loop_run, order_of, read_defs, read_input,
+    remote_shell_run, replica_in, serve_run, shell_run, sim, sync_run,
 };
 use mvd_dots::Refusal;
 use mvd_replica::Replica;
@@ -112,13 +112,13 @@ fn run_serve(
 fn run_shell(rt: &HostRuntime, db: &str, config: Config) -> Result<(), Fault> {
     let mut replica = stored(rt, db, config)?;
     let mut reader = input(rt)?;
-    shell(rt.alloc(), &mut replica, &mut reader, &mut io::writer(rt))?;
+    shell_run(rt.alloc(), &mut replica, &mut reader, &mut io::writer(rt))?;
     closed(replica)
 }
 
 fn run_remote_shell(rt: &HostRuntime, address: SocketAddr) -> Result<(), Fault> {
     let mut reader = input(rt)?;
-    remote_shell(rt, rt.alloc(), address, &mut reader, &mut io::writer(rt))
+    remote_shell_run(rt, rt.alloc(), address, &mut reader, &mut io::writer(rt))
 }
 
 fn run_sync(rt: &HostRuntime, db: &str, config: Config, address: SocketAddr) -> Result<(), Fault> {

@@ -31,4 +31,4 @@ pub use looping::loop_run;
 pub use order::{MOST_KEYS, Order, OrderFault, order_of};
 pub use script::sim;
 pub use serving::{replica_in, serve_run, sync_run};
-pub use shell::{remote_shell, shell};
+pub use shell::{remote_shell_run, shell_run};

@@ -37,7 +37,7 @@ CTX is - where nothing was read, @ for all that `get K` shows now, or a context.
 ///
 /// It ends as `Stopped` where a line has over 16,777,216 bytes, the reader or the writer fails, or memory is refused for what is
 /// read or printed.
-pub fn shell<A: Asked, R: BufRead, W: Write>(
+pub fn shell_run<A: Asked, R: BufRead, W: Write>(
     alloc: Global,
     asked: &mut A,
     reader: &mut R,
@@ -121,7 +121,7 @@ fn add(line: &mut Vec<u8>, piece: &[u8]) -> Result<(), Fault>
 
 /// Answers the lines through the server at an address, and says Bye at their end. Where the connection was lost, each later line is
 /// refused so, and so is the Bye.
-pub fn remote_shell<N: Net, R: BufRead, W: Write>(
+pub fn remote_shell_run<N: Net, R: BufRead, W: Write>(
     rt: &N,
     alloc: Global,
     address: SocketAddr,
@@ -133,7 +133,7 @@ pub fn remote_shell<N: Net, R: BufRead, W: Write>(
     };
     let link = Link::new(alloc, stream)?;
     let mut remote = Remote::new(alloc, link.incoming(alloc)?, link.outgoing());
-    shell(alloc, &mut remote, reader, writer)?;
+    shell_run(alloc, &mut remote, reader, writer)?;
     remote.bye()?;
     Ok(())
 }

@@ -1,6 +1,8 @@
 //! The program `mvd`.
 #![tactic(auto)]
 
+ghost use Rattle.mvd_app.specs.Orders.{IsInRange};
+
 use mvd_app::{
     DEFS_MAX, Fault, Order, OrderFault, loop_run, order_of, read_defs, read_input,
     remote_shell_run, replica_in, serve_run, shell_run, sim, sync_run,
@@ -43,7 +45,9 @@ fn main(rt: HostRuntime) -> io::Result<ExitCode> {
 }
 
 /// Runs an order, from standard input where it reads, and to standard output.
-fn run(rt: &HostRuntime, order: Order<'_>) -> Result<(), Fault> {
+fn run(rt: &HostRuntime, order: Order<'_>) -> Result<(), Fault>
+    requires { IsInRange order }
+{
     match order {
         Order::Sim => run_sim(rt),
         Order::Loop {

@@ -25,9 +25,10 @@ is_cut_on true byte bytes e ih =
     (λ p. rw e refl, λ p. absurd (omega (arith, p, zero)))
 is_cut_on false byte bytes e ih =
     let more : feed_in (byte ∷ bytes) ≡ suc (feed_in bytes) = rw e (omega arith) in
-    let cut : suc (feed_in bytes) + 1 ≡ suc (feed_in bytes + 1) = omega arith in
-    (λ p. let here = ih.0 (omega (arith, p, more)) in rw (more, cut, e, here) refl,
-     λ p. let here = ih.1 (omega (arith, p, more)) in rw (e, here) refl)
+    let cut : suc (feed_in bytes) + 1 ≡ suc (feed_in bytes + 1) = omega arith in (
+      λ p. let here = ih.0 (omega (arith, p, more)) in rw (more, cut, e, here) refl,
+      λ p. let here = ih.1 (omega (arith, p, more)) in rw (e, here) refl,
+    )
 
 pub is_cut : (text : List ℕ) → IsCut text
 unfolding lines_of

@@ -1,5 +1,6 @@
 //! A client and a server over one connection within this process.
-ghost use Rattle.std.specs.Prelude.{◌≤◌, length};
+ghost use Rattle.std.specs.Prelude.{◌<◌, ◌≤◌, length};
+ghost use Rattle.mvd_wire.specs.Frames.{frame_limit};
 
 use crate::ending::How;
 use crate::fault::Fault;
@@ -151,7 +152,9 @@ fn print_frames(alloc: Global, frames: &[u8], out: &mut String) -> Result<(), Re
     Ok(())
 }
 
-fn print_frame(alloc: Global, frame: &Frame, out: &mut String) -> Result<(), Refusal> {
+fn print_frame(alloc: Global, frame: &Frame, out: &mut String) -> Result<(), Refusal>
+    requires { length frame.now.payload.items < frame_limit }
+{
     let length = frame.payload.len() as u32 + 1;
     let payload = hex::encode(alloc, &frame.payload)?;
     writeln!(out, "{length:08x}{:02x}{payload}", frame.kind)?;

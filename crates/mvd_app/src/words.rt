@@ -2,36 +2,40 @@
 use clap::{Arg, Command, value_parser};
 use std::alloc::{AllocError, Global};
 
+/// What `--version` tells behind the program's name.
+const VERSION: &str = "0.1.0, format version 2";
+
 const SIM: &str =
-    "Runs a script over several sites. The script is read from standard input, and what its commands say is \
-                   printed.\n\nExample: mvd sim < examples/siblings.mvd";
+    "Runs a script over several sites. The script is read from standard input, and what its commands say is printed.";
 
 const LOOP: &str =
     "Answers the requests that stand in hexadecimal on standard input. A client and a server meet over one \
                     connection within this process, and the states are stored in memory. Each reply is printed as one line of \
-                    hexadecimal, and then how the connection ended.\n\nExample: echo 00000003210161 | mvd loop --site 1";
+                    hexadecimal, and then how the connection ended.";
 
 const SERVE: &str =
     "Serves a database to peers, one connection after the other. It prints where it listens, how each \
                      connection ended, and, after the last one, the digest of all that it holds. Each write is stored before \
-                     its reply leaves.\n\nExample: mvd serve --db a.db --site 1 --port 7001";
+                     its reply leaves.";
 
 const SHELL: &str =
-    "Answers the lines of standard input, each at once, on a database or through a server. `help` among them lists \
-                     what may be asked.\n\nExample: echo 'put k - {\"a\":1}' | mvd shell --db a.db --site 1";
+    "Answers the lines of standard input, each at once, on a database or through a server. The line `help` lists what may be asked.";
 
 const SYNC: &str =
     "Runs a session of a database with a server, after which both hold all that one of them held. It prints how \
-                    many keys differed, and the digest of all that the database holds then.\n\nExample: mvd sync --db b.db \
-                    --site 2 --port 7001";
+                    many keys differed, and the digest of all that the database holds then.";
 
 /// The program's command, with one command below it for each order.
 pub fn command<'a>(alloc: Global) -> Result<Command<'a>, AllocError> {
+    let sim = Command::new(alloc, "sim")
+        .about(SIM)
+        .after_help("Example: mvd sim < examples/siblings.mvd");
     Command::new(alloc, "mvd")
         .about("A multi-value JSON document map with causal contexts.")
+        .version(VERSION)
         .subcommand_required(true)
         .arg_required_else_help(true)
-        .subcommand(Command::new(alloc, "sim").about(SIM))?
+        .subcommand(sim)?
         .subcommand(loop_command(alloc)?)?
         .subcommand(serve_command(alloc)?)?
         .subcommand(shell_command(alloc)?)?
@@ -41,6 +45,7 @@ pub fn command<'a>(alloc: Global) -> Result<Command<'a>, AllocError> {
 fn loop_command<'a>(alloc: Global) -> Result<Command<'a>, AllocError> {
     Command::new(alloc, "loop")
         .about(LOOP)
+        .after_help("Example: echo 00000003210161 | mvd loop --site 1")
         .arg(site(alloc))?
         .arg(defs(alloc))?
         .arg(max_keys(alloc))
@@ -54,7 +59,10 @@ fn serve_command<'a>(alloc: Global) -> Result<Command<'a>, AllocError> {
         .help(
             "How many connections are served, 1 to 1000. It goes on until it is stopped where this is left out.",
         );
-    stored(alloc, Command::new(alloc, "serve").about(SERVE))?
+    let command = Command::new(alloc, "serve")
+        .about(SERVE)
+        .after_help("Example: mvd serve --db a.db --site 1 --port 7001");
+    stored(alloc, command)?
         .arg(port(alloc, "The port to listen at, 1 to 65535."))?
         .arg(conns)
 }
@@ -67,6 +75,7 @@ fn shell_command<'a>(alloc: Global) -> Result<Command<'a>, AllocError> {
     .required(false);
     Command::new(alloc, "shell")
         .about(SHELL)
+        .after_help("Example: echo 'put k - {\"a\":1}' | mvd shell --db a.db --site 1")
         .arg(instead_of_port(db(alloc))?)?
         .arg(instead_of_port(site(alloc))?)?
         .arg(defs(alloc).conflicts_with("port")?)?
@@ -84,10 +93,10 @@ fn instead_of_port<'a>(option: Arg<'a>) -> Result<Arg<'a>, AllocError> {
 }
 
 fn sync_command<'a>(alloc: Global) -> Result<Command<'a>, AllocError> {
-    stored(alloc, Command::new(alloc, "sync").about(SYNC))?.arg(port(
-        alloc,
-        "The port of the server, 1 to 65535.",
-    ))
+    let command = Command::new(alloc, "sync")
+        .about(SYNC)
+        .after_help("Example: mvd sync --db b.db --site 2 --port 7001");
+    stored(alloc, command)?.arg(port(alloc, "The port of the server, 1 to 65535."))
 }
 
 /// The options of a command on a database that meets a peer.

@@ -29,6 +29,6 @@ returns-in-Err-clause-fault c =
     told text c.in-Some.lines.now c.first_line.result.0.now bytes (option_copied c.first_line.result.1) c.loop-rest.number c.in-Err.fault (omega (arith, c.if-text-gt-HEX_MAX.false)) so_far c.first_line.ensures.cut c.in-Err.ensures
 
 pub returns-clause-joined : goal.returns-clause-joined
-returns-clause-joined c = 
+returns-clause-joined c =
     let so_far : Reading c.args.text.now None c.loop-rest.number c.loop-rest.bytes.items = subst (λ (r : Option (Bor (List ℕ))). Reading c.args.text.now (option_copied r) c.loop-rest.number c.loop-rest.bytes.items) c.in_default.is c.loop-rest.invariant in
     (omega (arith, c.if-text-gt-HEX_MAX.false), is_read c.args.text.now c.loop-rest.bytes.items c.loop-rest.number so_far)

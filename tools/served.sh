@@ -19,7 +19,8 @@ server=
 trap 'if [ -n "$server" ]; then kill -9 "$server" 2>/dev/null || :; fi; rm -rf "$room"' EXIT
 cd "$room"
 
-# A client. Each word is a request, answered before the next one is sent; `cut` sends half a frame and leaves.
+# A client. Each word is a request, answered before the next one is sent; `cut` sends half a frame and leaves, and `gone` sends many
+# requests and leaves at once, with the replies unread.
 cat >client.py <<'END'
 import socket, struct, sys
 
@@ -51,6 +52,10 @@ with socket.create_connection(("127.0.0.1", int(sys.argv[1])), 20) as peer:
     for word in sys.argv[2:]:
         if word == "cut":
             peer.sendall(b"\0\0")
+            break
+        if word == "gone":
+            peer.setsockopt(socket.SOL_SOCKET, socket.SO_LINGER, struct.pack("ii", 1, 0))
+            peer.sendall(request("get k") * 5000)
             break
         peer.sendall(request(word))
         print(read(peer, struct.unpack(">I", read(peer, 4))[0]).hex())
@@ -104,12 +109,15 @@ first=a2000000010000000000000001
 second=a2000000020000000000000001
 done=a3
 
-serve --db a.db --site 1 --conns 2 --defs defs
+serve --db a.db --site 1 --conns 4 --defs defs
 same "puts at site 1" "$first $first $done" \
   "$(python3 client.py "$port" 'put k {"city":"Oslo"}' 'put a {}' bye | tr '\n' ' ' | sed 's/ $//')"
 python3 client.py "$port" cut
+python3 client.py "$port" gone
+same "a client after one that left" "$done" "$(python3 client.py "$port" bye)"
 ended
-same "its connections" "connection 1 bye connection 2 30 Truncated" "$(grep connection told | tr '\n' ' ' | sed 's/ $//')"
+same "its connections" "connection 1 bye connection 2 30 Truncated connection 3 3* connection 4 bye" \
+  "$(grep connection told | sed 's/^connection 3 3.*/connection 3 3*/' | tr '\n' ' ' | sed 's/ $//')"
 lone=$(grep root told)
 
 serve --db b.db --site 2 --conns 1

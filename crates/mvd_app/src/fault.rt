@@ -6,7 +6,7 @@ use thiserror::Error;
 /// Why a command ended before its end.
 #[derive(Debug, Drop, Error)]
 pub enum Fault {
-    /// It was refused: by its reader or writer, for want of memory, or since its input is too long.
+    /// It was refused: its reader, its writer, its store or its peer failed, memory was refused, or an input is too long.
     #[error("fault {0}")]
     Stopped(Refusal),
     /// This line of its input, counted from 1, is not a command.

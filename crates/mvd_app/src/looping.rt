@@ -44,20 +44,17 @@ fn exchanged<N: Net>(
     alloc: Global,
     requests: &[u8],
     config: Config,
-) -> Result<(Vec<u8>, Result<Ended, Refusal>), Refusal> {
+) -> Result<(Vec<u8>, Result<Ended, Refusal>), Fault> {
     let (mut client, server) = match connected(rt) {
         Ok(streams) => streams,
-        Err(_) => return Err(Refusal::ReadFailed),
+        Err(_) => return Err(Fault::Stopped(Refusal::ReadFailed)),
     };
     if client.write_all(requests).is_err() || client.shutdown(Shutdown::Write).is_err() {
-        return Err(Refusal::WriteFailed);
+        return Err(Fault::Stopped(Refusal::WriteFailed));
     }
     let ended = answered(alloc, server, config)?;
-    let mut replies = Vec::new(alloc);
-    match client.read_to_end(&mut replies) {
-        Ok(_) => Ok((replies, ended)),
-        Err(_) => Err(Refusal::ReadFailed),
-    }
+    let replies = read_input(alloc, &mut client, BYTES_MAX)?;
+    Ok((replies, ended))
 }
 
 /// Both ends of a new connection within this machine, at a port that the system picks: the client's, and the server's.
@@ -84,8 +81,17 @@ fn answered<S: Read + Write + Drop>(
     if let Some(refusal) = replies.refused {
         return Err(refusal);
     }
-    match server.get_mut().write_all(&replies.bytes) {
-        Ok(()) => Ok(ended),
+    send(server, &replies.bytes)?;
+    Ok(ended)
+}
+
+/// Sends the replies and closes. What was left unread is read first: a stream that is closed with bytes unread may lose what it sent.
+fn send<S: Read + Write + Drop>(mut server: BufReader<S>, replies: &[u8]) -> Result<(), Refusal> {
+    if io::copy(&mut server, &mut io::sink()).is_err() {
+        return Err(Refusal::ReadFailed);
+    }
+    match server.get_mut().write_all(replies) {
+        Ok(()) => Ok(()),
         Err(_) => Err(Refusal::WriteFailed),
     }
 }

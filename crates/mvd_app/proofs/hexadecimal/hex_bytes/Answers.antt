@@ -1,4 +1,4 @@
-use Rattle.std.proofs.Common.{◌≡◌, ◌≤◌, ◌+◌, ◌++◌, Ok, List, ℕ, Option, Some, None, Bor, length, arith, sym, subst, refl}
+use Rattle.std.proofs.Common.{◌≡◌, ◌≤◌, ◌+◌, ◌++◌, Ok, List, ℕ, Option, Some, None, Bor, length, arith, sym, subst}
 use Rattle.std.specs.Option.{option_copied}
 use Rattle.hex.specs.Hex.{decode_of}
 use Rattle.mvd_app.proofs.Lines.{Reading, starts, reads_on, told, is_read}

@@ -51,8 +51,10 @@ fn an_order_has_its_options(rt: HostRuntime) -> Result<(), Fail> {
         defs: Some("d"),
         max_keys: 1,
         address: IpAddr::V4(Ipv4Addr::new(10, 0, 0, 1)),
+        verbose: true,
     };
-    let line = "mvd sync --db f --site 4294967295 --port 65535 --defs d --max-keys 1 --address 10.0.0.1";
+    let line =
+        "mvd sync --db f --site 4294967295 --port 65535 --defs d --max-keys 1 --address 10.0.0.1 --verbose";
     assert!(rt; asks(alloc, line, most)?);
     let looped = Order::Loop {
         site: 7,

@@ -83,9 +83,10 @@ fn run(rt: &HostRuntime, order: Order<'_>) -> Result<(), Fault>
             defs,
             max_keys,
             address,
+            verbose,
         } => {
             let config = Config::new(site, max_keys, defs_in(rt, defs)?);
-            run_sync(rt, db, config, SocketAddr::new(address, port))
+            run_sync(rt, db, config, SocketAddr::new(address, port), verbose)
         }
     }
 }
@@ -125,10 +126,18 @@ fn run_remote_shell(rt: &HostRuntime, address: SocketAddr) -> Result<(), Fault> 
     remote_shell_run(rt, rt.alloc(), address, &mut reader, &mut io::writer(rt))
 }
 
-fn run_sync(rt: &HostRuntime, db: &str, config: Config, address: SocketAddr) -> Result<(), Fault> {
+fn run_sync(
+    rt: &HostRuntime,
+    db: &str,
+    config: Config,
+    address: SocketAddr,
+    verbose: bool,
+) -> Result<(), Fault> {
     let mut replica = stored(rt, db, config)?;
     let mut writer = io::writer(rt);
-    sync_run(rt, rt.alloc(), &mut replica, address, &mut writer)?;
+    let mut errors = rt.stderr();
+    let told = if verbose { Some(&mut errors) } else { None };
+    sync_run(rt, rt.alloc(), &mut replica, address, told, &mut writer)?;
     closed(replica)
 }
 

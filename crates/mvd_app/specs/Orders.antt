@@ -19,4 +19,4 @@ IsInRange (Loop site _ max_keys) = IsConfig site max_keys
 IsInRange (Serve _ site port conns _ max_keys _) = IsConfig site max_keys × IsPort port × AreConnections conns
 IsInRange (Shell _ site _ max_keys) = IsConfig site max_keys
 IsInRange (RemoteShell port _) = IsPort port
-IsInRange (Sync _ site port _ max_keys _) = IsConfig site max_keys × IsPort port
+IsInRange (Sync _ site port _ max_keys _ _) = IsConfig site max_keys × IsPort port

@@ -14,6 +14,7 @@ mod order;
 mod pages;
 mod play;
 mod printing;
+mod progress;
 mod requests;
 mod script;
 mod serving;

@@ -57,6 +57,7 @@ pub enum Order<'a> {
         defs: Option<&'a str>,
         max_keys: u32,
         address: IpAddr,
+        verbose: bool,
     },
 }
 
@@ -134,6 +135,7 @@ fn sync_of<'a>(alloc: Global, matches: &ArgMatches<'a>) -> Result<Order<'a>, Ord
         defs: matches.get_str("defs"),
         max_keys: max_keys_in(matches)?,
         address: address_in(alloc, matches)?,
+        verbose: matches.get_flag("verbose"),
     })
 }
 

@@ -1,5 +1,5 @@
 //! The words that a command line may hold, and the help that it gives.
-use clap::{Arg, Command, value_parser};
+use clap::{Arg, ArgAction, Command, value_parser};
 use std::alloc::{AllocError, Global};
 
 /// What `--version` tells behind the program's name.
@@ -96,7 +96,13 @@ fn sync_command<'a>(alloc: Global) -> Result<Command<'a>, AllocError> {
     let command = Command::new(alloc, "sync")
         .about(SYNC)
         .after_help("Example: mvd sync --db b.db --site 2 --port 7001");
-    stored(alloc, command)?.arg(port(alloc, "The port of the server, 1 to 65535."))
+    let verbose = Arg::new(alloc, "verbose")
+        .long("verbose")
+        .action(ArgAction::SetTrue)
+        .help("Tell on standard error, after each thousand keys, how many were exchanged so far.");
+    stored(alloc, command)?
+        .arg(port(alloc, "The port of the server, 1 to 65535."))?
+        .arg(verbose)
 }
 
 /// The options of a command on a database that meets a peer.

@@ -18,7 +18,7 @@ if [ $# -gt 0 ]; then
   chmod +x "$room/bin/mvd"
 fi
 PATH="$room/bin:$PATH" python3 - "$top" "$room/files" $# <<'END'
-import os, re, signal, sqlite3, subprocess, sys, time
+import atexit, os, re, signal, sqlite3, subprocess, sys
 
 top, room, given = sys.argv[1], sys.argv[2], sys.argv[3] != "0"
 
@@ -77,11 +77,48 @@ def quotes(file, source):
             print(f"done: {file} quotes {source}")
 
 
-def examples():
-    """Each command's help has an example, which runs when it is pasted."""
-    out, _ = run("mvd --help")
-    examples = re.findall(r"Example: (.*)", out)
-    print(f"done: help, with {len(examples)} examples")
+def server(db):
+    """A server of site 1 on a file, once it listens."""
+    started = subprocess.Popen(["mvd", "serve", "--db", db, "--site", "1", "--port", "7007"], cwd=room, stdout=subprocess.PIPE, text=True)
+    atexit.register(kill, started)
+    if started.stdout.readline() != "listening 127.0.0.1:7007\n":
+        miss("no server")
+    return started
+
+
+def kill(started):
+    """Kills a server that runs yet, and what it started."""
+    if started.poll() is not None:
+        return
+    below = subprocess.run(["pgrep", "-P", str(started.pid)], stdout=subprocess.PIPE, text=True).stdout.split()
+    for process in [int(word) for word in below] + [started.pid]:
+        os.kill(process, signal.SIGKILL)
+    started.wait()
+
+
+def helps():
+    """Each command's help has an example; that of a shell is run as it stands."""
+    wants("the version", "mvd --version", "mvd 0.1.0, format version 2\n", 2)
+    for command in ["sim", "loop", "serve", "shell", "sync"]:
+        out, status = run(f"mvd {command} --help")
+        example = re.search(r"^Example: (.*)$", out, re.M)
+        if status != 2 or not example:
+            miss(f"{command} --help: {status}\n{out}")
+        if command == "shell":
+            wants("an example of the help", "mkdir pasted; cd pasted; " + example[1], "dot 1:1\n")
+    print("done: help")
+
+
+def long_session():
+    """A session tells how far it is."""
+    puts = "".join(f"put k{number} - {{}}\n" for number in range(1001))
+    wants("1,001 puts", "mvd shell --db many.db --site 1 > puts.txt", "", 0, puts)
+    started = server("many.db")
+    out, status = run("mvd sync --db less.db --site 2 --port 7007 --verbose")
+    if status != 0 or sorted(line.split()[0] for line in out.splitlines()) != ["1000", "keys", "root"] or "keys 1001\n" not in out:
+        miss(f"a long session: {out}")
+    kill(started)
+    print("done: a long session")
 
 
 def old_file():
@@ -106,27 +143,17 @@ def old_file():
 
 def interrupted():
     """A server is killed, its port is bound again at once, and what it answered is in the file and the log beside it."""
-    def server(db):
-        started = subprocess.Popen(["mvd", "serve", "--db", db, "--site", "1", "--port", "7007"], cwd=room, stdout=subprocess.PIPE, text=True)
-        if started.stdout.readline() != "listening 127.0.0.1:7007\n":
-            miss("no server")
-        return started
-
     first = server("killed.db")
     wants("a write through a server", "mvd shell --port 7007", "dot 1:1\n", 0, 'put k - {"a":1}\n')
     wants("a file in use", "mvd shell --db killed.db --site 1", "mvd: fault 21 Store\n", 1, "get k\n")
-    pid = subprocess.run(["pgrep", "-P", str(first.pid)], stdout=subprocess.PIPE, text=True).stdout.split()
-    for process in [int(word) for word in pid] + [first.pid]:
-        os.kill(process, signal.SIGKILL)
-    first.wait()
+    kill(first)
     wants("a copy with its log", "cp killed.db whole.db; cp killed.db-wal whole.db-wal; mvd shell --db whole.db --site 1",
           'context 1:1\n1:1 {"a":1}\n', 0, "get k\n")
     second = server("killed.db")
     wants("a client, after a kill", 'python3 examples/client.py 7007 get k', 'context 0000000100000001000000000000000100000000\n1:1 {"a":1}\n')
     wants("a client's delete", 'python3 examples/client.py 7007 del k 0000000100000001000000000000000100000000', "ok\n")
     wants("a refusal", 'python3 examples/client.py 7007 find city 1', "refused 12\n", 1)
-    second.kill()
-    second.wait()
+    kill(second)
     wants("no server", "mvd shell --port 7007", "mvd: fault 34 ReadFailed\n", 1)
 
 
@@ -149,9 +176,10 @@ builds("README.md")
 for document in ["README.md", "docs/USING.md", "docs/PROTOCOL.md"]:
     runs(document)
 quotes("docs/USING.md", "crates/mvd_example/src/main.rt")
-examples()
+helps()
 answers_at_once()
 old_file()
 interrupted()
+long_session()
 END
 echo "all as the documents say"

@@ -27,9 +27,9 @@ def miss(what):
     sys.exit(f"first_hour: {what}")
 
 
-def run(script, stdin="", where=room):
+def run(script, stdin="", where=room, seconds=300):
     """What a script prints, on both outputs as they come, and its status."""
-    done = subprocess.run(["bash", "-c", script], cwd=where, input=stdin, text=True, timeout=300,
+    done = subprocess.run(["bash", "-c", script], cwd=where, input=stdin, text=True, timeout=seconds,
                           stdout=subprocess.PIPE, stderr=subprocess.STDOUT)
     return done.stdout, done.returncode
 
@@ -51,7 +51,7 @@ def builds(file):
     for word, text in blocks(file):
         if word == "build" and not given:
             # The block is run where it says, and the PATH that it sets is taken over.
-            out, status = run(text + "\necho \"PATH $PATH\"\n", where=top)
+            out, status = run(text + "\necho \"PATH $PATH\"\n", where=top, seconds=14400)
             if status != 0:
                 miss(out)
             os.environ["PATH"] = out.splitlines()[-1].removeprefix("PATH ")

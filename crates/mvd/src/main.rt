@@ -4,8 +4,8 @@
 ghost use Rattle.mvd_app.specs.Orders.{IsInRange};
 
 use mvd_app::{
-    DEFS_MAX, Fault, Order, OrderFault, loop_run, order_of, read_defs, read_input, replica_in,
-    serve_run, sim, sync_run,
+    DEFS_MAX, Fault, Order, OrderFault, loop_run, order_of, read_defs, read_input,
+    remote_shell_run, replica_in, serve_run, shell_run, sim, sync_run,
 };
 use mvd_dots::Refusal;
 use mvd_replica::Replica;
@@ -67,6 +67,15 @@ fn run(rt: &HostRuntime, order: Order<'_>) -> Result<(), Fault>
             let config = Config::new(site, max_keys, defs_in(rt, defs)?);
             run_serve(rt, db, config, SocketAddr::new(address, port), conns)
         }
+        Order::Shell {
+            db,
+            site,
+            defs,
+            max_keys,
+        } => run_shell(rt, db, Config::new(site, max_keys, defs_in(rt, defs)?)),
+        Order::RemoteShell { port, address } => {
+            run_remote_shell(rt, SocketAddr::new(address, port))
+        }
         Order::Sync {
             db,
             site,
@@ -74,9 +83,10 @@ fn run(rt: &HostRuntime, order: Order<'_>) -> Result<(), Fault>
             defs,
             max_keys,
             address,
+            verbose,
         } => {
             let config = Config::new(site, max_keys, defs_in(rt, defs)?);
-            run_sync(rt, db, config, SocketAddr::new(address, port))
+            run_sync(rt, db, config, SocketAddr::new(address, port), verbose)
         }
     }
 }
@@ -104,10 +114,30 @@ fn run_serve(
     closed(replica)
 }
 
-fn run_sync(rt: &HostRuntime, db: &str, config: Config, address: SocketAddr) -> Result<(), Fault> {
+fn run_shell(rt: &HostRuntime, db: &str, config: Config) -> Result<(), Fault> {
+    let mut replica = stored(rt, db, config)?;
+    let mut reader = input(rt)?;
+    shell_run(rt.alloc(), &mut replica, &mut reader, &mut io::writer(rt))?;
+    closed(replica)
+}
+
+fn run_remote_shell(rt: &HostRuntime, address: SocketAddr) -> Result<(), Fault> {
+    let mut reader = input(rt)?;
+    remote_shell_run(rt, rt.alloc(), address, &mut reader, &mut io::writer(rt))
+}
+
+fn run_sync(
+    rt: &HostRuntime,
+    db: &str,
+    config: Config,
+    address: SocketAddr,
+    verbose: bool,
+) -> Result<(), Fault> {
     let mut replica = stored(rt, db, config)?;
     let mut writer = io::writer(rt);
-    sync_run(rt, rt.alloc(), &mut replica, address, &mut writer)?;
+    let mut errors = rt.stderr();
+    let told = if verbose { Some(&mut errors) } else { None };
+    sync_run(rt, rt.alloc(), &mut replica, address, told, &mut writer)?;
     closed(replica)
 }
 

@@ -1,4 +1,4 @@
-//! The lines of a script.
+//! The lines of a script, and those that are typed.
 
 /// A line of a script, as it is written.
 #[derive(Clone, Copy)]
@@ -26,7 +26,6 @@ pub struct View<'a> {
 /// What is to be done at a site. Texts are not read yet.
 #[derive(Clone, Copy)]
 pub enum Command<'a> {
-    Write(Write<'a>),
     Ask(Ask<'a>),
     /// `send S K`
     Send { key: &'a str },
@@ -36,37 +35,47 @@ pub enum Command<'a> {
     Sync { peer: u64 },
 }
 
-/// What is written.
+/// What a site is asked, as it is written behind the site's number: a write, or a question.
 #[derive(Clone, Copy)]
-pub enum Write<'a> {
-    /// `put S K CTX DOC`
+pub enum Ask<'a> {
+    /// `put K CTX DOC`
     Put {
         key: &'a str,
         context: &'a str,
         document: &'a str,
     },
-    /// `del S K CTX`
+    /// `del K CTX`
     Delete {
         key: &'a str,
         context: &'a str,
     },
-}
-
-/// What is asked, a list page after page.
-#[derive(Clone, Copy)]
-pub enum Ask<'a> {
-    /// `get S K`
-    Get { key: &'a str },
-    /// `row S V TERM`
-    Row { view: &'a str, term: &'a str },
-    /// `node S PATH`, and `root S`, whose path is `-`
-    Node { path: &'a str },
-    /// `find S F TERM`
-    Find { field: &'a str, term: &'a str },
-    /// `range S F PAIR`
-    Range { field: &'a str, terms: &'a str },
-    /// `rows S V`
-    Rows { view: &'a str },
+    /// `get K`
+    Get {
+        key: &'a str,
+    },
+    /// `row V TERM`
+    Row {
+        view: &'a str,
+        term: &'a str,
+    },
+    /// `node PATH`, and `root`, whose path is `-`
+    Node {
+        path: &'a str,
+    },
+    /// `find F TERM`, page after page
+    Find {
+        field: &'a str,
+        term: &'a str,
+    },
+    /// `range F PAIR`, page after page
+    Range {
+        field: &'a str,
+        terms: &'a str,
+    },
+    /// `rows V`, page after page
+    Rows {
+        view: &'a str,
+    },
 }
 
 /// The line that a text is, if it is one.
@@ -77,13 +86,34 @@ pub fn line_of(text: &str) -> Option<Line<'_>> {
         "max" => Some(Line::Max(number_of(rest)?)),
         "index" => Some(Line::Index(rest)),
         "view" => Some(Line::View(view_of(rest)?)),
-        "root" => Some(Line::At(number_of(rest)?, ROOT)),
+        "root" => Some(Line::At(number_of(rest)?, Command::Ask(ROOT))),
         _ => at_of(name, rest),
     }
 }
 
+/// A line that is typed, as it is written: it names no site.
+#[derive(Clone, Copy)]
+pub enum Typed<'a> {
+    /// `help`
+    Help,
+    /// A write, or a question.
+    Ask(Ask<'a>),
+}
+
+/// The typed line that a text is, if it is one.
+pub fn typed_of(text: &str) -> Option<Typed<'_>> {
+    match text {
+        "help" => Some(Typed::Help),
+        "root" => Some(Typed::Ask(ROOT)),
+        _ => {
+            let (name, rest) = text.split_once(' ')?;
+            Some(Typed::Ask(ask_of(name, rest)?))
+        }
+    }
+}
+
 /// The digest of the whole hash tree.
-const ROOT: Command<'static> = Command::Ask(Ask::Node { path: "-" });
+const ROOT: Ask<'static> = Ask::Node { path: "-" };
 
 /// The command of a name on a site, which stands first.
 fn at_of<'a>(name: &str, rest: &'a str) -> Option<Line<'a>> {
@@ -100,8 +130,6 @@ fn view_of(rest: &str) -> Option<View<'_>> {
 /// The command of a name, with what stands behind the site.
 fn command_of<'a>(name: &str, rest: &'a str) -> Option<Command<'a>> {
     match name {
-        "put" => Some(Command::Write(put_of(rest)?)),
-        "del" => Some(Command::Write(delete_of(rest)?)),
         "send" => Some(Command::Send { key: last(rest)? }),
         "recv" => Some(Command::Receive {
             message: number_of(rest)?,
@@ -113,19 +141,25 @@ fn command_of<'a>(name: &str, rest: &'a str) -> Option<Command<'a>> {
     }
 }
 
+/// What is asked by a name, with what stands behind it.
 fn ask_of<'a>(name: &str, rest: &'a str) -> Option<Ask<'a>> {
     match name {
         "get" => Some(Ask::Get { key: last(rest)? }),
         "node" => Some(Ask::Node { path: last(rest)? }),
         "rows" => Some(Ask::Rows { view: last(rest)? }),
+        "put" => put_of(rest),
         _ => two_of(name, rest),
     }
 }
 
-/// A question of a word and the rest of the line.
+/// What is asked by a name, with a word and the rest of the line.
 fn two_of<'a>(name: &str, rest: &'a str) -> Option<Ask<'a>> {
     let (word, rest) = rest.split_once(' ')?;
     match name {
+        "del" => Some(Ask::Delete {
+            key: word,
+            context: last(rest)?,
+        }),
         "row" => Some(Ask::Row {
             view: word,
             term: rest,
@@ -143,21 +177,13 @@ fn two_of<'a>(name: &str, rest: &'a str) -> Option<Ask<'a>> {
 }
 
 /// A put, whose document is the rest of the line.
-fn put_of(rest: &str) -> Option<Write<'_>> {
+fn put_of(rest: &str) -> Option<Ask<'_>> {
     let (key, rest) = rest.split_once(' ')?;
     let (context, document) = rest.split_once(' ')?;
-    Some(Write::Put {
+    Some(Ask::Put {
         key,
         context,
         document,
-    })
-}
-
-fn delete_of(rest: &str) -> Option<Write<'_>> {
-    let (key, context) = rest.split_once(' ')?;
-    Some(Write::Delete {
-        key,
-        context: last(context)?,
     })
 }
 

@@ -37,6 +37,18 @@ pub enum Order<'a> {
         max_keys: u32,
         address: IpAddr,
     },
+    /// Answer the lines of standard input on a database.
+    Shell {
+        db: &'a str,
+        site: u32,
+        defs: Option<&'a str>,
+        max_keys: u32,
+    },
+    /// Answer the lines of standard input through a server.
+    RemoteShell {
+        port: u16,
+        address: IpAddr,
+    },
     /// Run a session of a database with a server.
     Sync {
         db: &'a str,
@@ -45,6 +57,7 @@ pub enum Order<'a> {
         defs: Option<&'a str>,
         max_keys: u32,
         address: IpAddr,
+        verbose: bool,
     },
 }
 
@@ -82,6 +95,7 @@ pub fn order_of<'a>(alloc: Global, words: &'a [&'a str]) -> Result<Order<'a>, Or
     match matches.subcommand() {
         Some(("loop", matches)) => loop_of(alloc, matches),
         Some(("serve", matches)) => serve_of(alloc, matches),
+        Some(("shell", matches)) => shell_of(alloc, matches),
         Some(("sync", matches)) => sync_of(alloc, matches),
         _ => Ok(Order::Sim),
     }
@@ -121,7 +135,25 @@ fn sync_of<'a>(alloc: Global, matches: &ArgMatches<'a>) -> Result<Order<'a>, Ord
         defs: matches.get_str("defs"),
         max_keys: max_keys_in(matches)?,
         address: address_in(alloc, matches)?,
+        verbose: matches.get_flag("verbose"),
     })
+}
+
+fn shell_of<'a>(alloc: Global, matches: &ArgMatches<'a>) -> Result<Order<'a>, OrderFault>
+    ensures { IfOk result IsInRange }
+{
+    match matches.get_str("db") {
+        Some(db) => Ok(Order::Shell {
+            db,
+            site: site_in(matches)?,
+            defs: matches.get_str("defs"),
+            max_keys: max_keys_in(matches)?,
+        }),
+        None => Ok(Order::RemoteShell {
+            port: port_in(matches)?,
+            address: address_in(alloc, matches)?,
+        }),
+    }
 }
 
 /// The number of an option, where it is given: `Range` where it is 0 or too great.

@@ -1,12 +1,13 @@
-//! The commands of a script: each is a step of its world, and of a list a step for each page.
+//! The commands of a script.
 ghost use Rattle.std.specs.Prelude.{◌≡◌, IfErr};
 
+use crate::asked::Member;
 use crate::command::Command;
-use crate::pages::next_page;
-use crate::printing::{print_none_such, print_outcome, print_refusal};
-use crate::steps::{site_of, step_of, taken};
+use crate::printing::{print_none_such, print_outcome};
+use crate::talk::{say, settle};
 use mvd_dots::Refusal;
-use mvd_world::{Outcome, Step, World};
+use mvd_keys::Key;
+use mvd_world::{Step, World};
 use std::alloc::Global;
 
 /// Runs a command on a site, and prints what it says, or only how it is refused.
@@ -25,61 +26,41 @@ pub fn run(
         return Ok(());
     }
     let start = out.len();
-    match say(alloc, world, site, command, out) {
-        Ok(()) => Ok(()),
-        Err(refusal) => {
-            cut(out, start);
-            print_refusal(refusal, out)?;
-            Ok(())
-        }
-    }
+    let said = play(alloc, world, site, command, out);
+    settle(said, start, out)
 }
 
-fn say(
+/// The site of this number, or 0, which is none.
+fn site_of(number: u64) -> u32 {
+    u32::try_from(number).unwrap_or(0)
+}
+
+fn play(
     alloc: Global,
     world: &mut World,
     site: u32,
     command: Command<'_>,
     out: &mut String,
 ) -> Result<(), Refusal> {
-    let mut step = step_of(alloc, world, site, command)?;
-    for _ in 0..u64::MAX {
-        match take(alloc, world, step, out)? {
-            Some(next) => step = next,
-            None => return Ok(()),
+    match command {
+        Command::Ask(ask) => say(alloc, &mut Member { world, site }, ask, out),
+        Command::Send { key } => {
+            let key = Key::read(alloc, key)?;
+            take(world, Step::Send { site, key }, out)
+        }
+        Command::Receive { message } => take(world, Step::Receive { site, message }, out),
+        Command::Sync { peer } => {
+            let peer = site_of(peer);
+            take(world, Step::Session { local: site, peer }, out)
         }
     }
-    drop(step);
-    Ok(())
 }
 
-/// Takes a step, prints what it comes to, and gives the next one where more is left of a list.
-fn take(
-    alloc: Global,
-    world: &mut World,
-    step: Step,
-    out: &mut String,
-) -> Result<Option<Step>, Refusal> {
-    let outcome = taken(world, &step);
-    let told = tell(alloc, &step, &outcome, out);
+/// Takes a step, and prints what it comes to.
+fn take(world: &mut World, step: Step, out: &mut String) -> Result<(), Refusal> {
+    let outcome = world.step(&step);
+    let told = print_outcome(&outcome, out);
     drop(outcome);
     drop(step);
     told
-}
-
-fn tell(
-    alloc: Global,
-    step: &Step,
-    outcome: &Outcome,
-    out: &mut String,
-) -> Result<Option<Step>, Refusal> {
-    print_outcome(alloc, step, outcome, out)?;
-    next_page(alloc, step, outcome)
-}
-
-/// Takes back what was printed from a place on, where that is no middle of a character.
-fn cut(out: &mut String, start: usize) {
-    if out.as_str().is_char_boundary(start) {
-        out.truncate(start);
-    }
 }

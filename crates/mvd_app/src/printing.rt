@@ -1,28 +1,21 @@
 //! What the commands of a script print.
+use crate::command::Ask;
 use mvd_docs::Term;
 use mvd_dots::{Dot, Refusal};
 use mvd_keys::{KeyState, Place};
 use mvd_sync::SyncFault;
-use mvd_wire::{Digests, Reply, Request};
-use mvd_world::{Outcome, Step};
+use mvd_wire::{Digests, Reply};
+use mvd_world::Outcome;
 use std::alloc::{AllocError, Global};
 use std::fmt::Write;
 
 /// A row of a view as it is told: its term, its count, its sum, and its ends.
 type ViewRow = (Term, u64, i128, Option<(i64, i64)>);
 
-/// Prints what a step came to. A refusal is not printed but given back.
-pub fn print_outcome(
-    alloc: Global,
-    step: &Step,
-    outcome: &Outcome,
-    out: &mut String,
-) -> Result<(), Refusal> {
+/// Prints what a message or a session came to. A refusal is not printed but given back.
+pub fn print_outcome(outcome: &Outcome, out: &mut String) -> Result<(), Refusal> {
     match outcome {
-        Outcome::Replied(Reply::Places(places, _)) => {
-            print_places(alloc, is_range(step), places.as_slice(), out)
-        }
-        Outcome::Replied(reply) => print_reply(alloc, reply, out),
+        Outcome::Replied(reply) => print_short(reply, out),
         Outcome::Sent(number) => {
             writeln!(out, "message {number}")?;
             Ok(())
@@ -45,25 +38,31 @@ pub fn print_refusal(refusal: Refusal, out: &mut String) -> Result<(), AllocErro
     writeln!(out, "refused {refusal}")
 }
 
-/// Whether the step asks for the places of several terms.
-fn is_range(step: &Step) -> bool {
-    matches!(
-        step,
-        Step::Ask {
-            request: Request::Range(..),
-            ..
-        }
-    )
-}
-
-fn print_reply(alloc: Global, reply: &Reply, out: &mut String) -> Result<(), Refusal> {
+/// Prints the reply to what was asked. A refusal is not printed but given back.
+pub fn print_reply(
+    alloc: Global,
+    ask: Ask<'_>,
+    reply: &Reply,
+    out: &mut String,
+) -> Result<(), Refusal> {
     match reply {
         Reply::State(state) => print_state(state, out),
-        Reply::Written(dot) => Ok(print_written(*dot, out)?),
-        Reply::Done => Ok(out.push_str("ok\n")?),
+        Reply::Places(places, _) => {
+            let has_terms = matches!(ask, Ask::Range { .. });
+            print_places(alloc, has_terms, places.as_slice(), out)
+        }
         Reply::Row(row) => Ok(print_row(row.count, row.sum, row.ends, out)?),
         Reply::Rows(rows, _) => print_rows(alloc, rows.as_slice(), out),
         Reply::Digests(digests) => print_digest(alloc, digests, out),
+        reply => print_short(reply, out),
+    }
+}
+
+/// Prints a reply that is no more than a word or a dot.
+fn print_short(reply: &Reply, out: &mut String) -> Result<(), Refusal> {
+    match reply {
+        Reply::Written(dot) => Ok(print_written(*dot, out)?),
+        Reply::Done => Ok(out.push_str("ok\n")?),
         Reply::Refused(refusal) => Err(*refusal),
         _ => Err(Refusal::BadKind),
     }

@@ -1,8 +1,12 @@
 //! The commands on a stored site that meet a peer.
+ghost use Rattle.std.specs.Prelude.{IfErr};
+ghost use Rattle.mvd_app.specs.Ends.{EndsEarly};
+
 use crate::ending::How;
 use crate::fault::Fault;
 use crate::input::write_out;
 use crate::link::Link;
+use crate::progress::Watched;
 use mvd_dots::Refusal;
 use mvd_keys::Path;
 use mvd_replica::{Ended, Replica, serve};
@@ -74,18 +78,20 @@ fn met<T: Read + Write + Drop, S: Alter + Drop>(
     }
 }
 
-/// Runs a session with the server at an address, says Bye, and tells how many keys differed, and the root digest.
-pub fn sync_run<N: Net, S: Alter + Drop, W: Write>(
+/// Runs a session with the server at an address, says Bye, and tells how many keys differed, and the root digest. Where `told` is
+/// given, it is told how far the session is.
+pub fn sync_run<N: Net, S: Alter + Drop, W: Write, E: Write>(
     rt: &N,
     alloc: Global,
     replica: &mut Replica<S>,
     address: SocketAddr,
+    told: Option<&mut E>,
     writer: &mut W,
 ) -> Result<(), Fault> {
     let Ok(stream) = rt.connect(address) else {
         return Err(Fault::Stopped(Refusal::ReadFailed));
     };
-    let keys = joined(alloc, stream, replica)?;
+    let keys = joined(alloc, stream, replica, told)?;
     let mut line = String::new(alloc);
     writeln!(line, "keys {keys}")?;
     print_root(alloc, replica, &mut line)?;
@@ -93,16 +99,22 @@ pub fn sync_run<N: Net, S: Alter + Drop, W: Write>(
 }
 
 /// Runs a session over a stream, and gives how many keys differed.
-fn joined<T: Read + Write + Drop, S: Alter + Drop>(
+fn joined<T: Read + Write + Drop, S: Alter + Drop, E: Write>(
     alloc: Global,
     stream: T,
     replica: &mut Replica<S>,
+    told: Option<&mut E>,
 ) -> Result<u64, Refusal> {
     let link = Link::new(alloc, stream)?;
-    let mut remote = Remote::new(alloc, link.incoming(alloc)?, link.outgoing());
-    match sync(alloc, replica, &mut remote) {
+    let remote = Remote::new(alloc, link.incoming(alloc)?, link.outgoing());
+    let mut watched = Watched {
+        remote,
+        keys: 0,
+        told,
+    };
+    match sync(alloc, replica, &mut watched) {
         Ok(report) => {
-            remote.bye()?;
+            watched.remote.bye()?;
             Ok(report.keys)
         }
         Err(SyncFault::Local(refusal) | SyncFault::Peer(refusal)) => Err(refusal),
@@ -122,7 +134,9 @@ fn print_root<S: Alter + Drop>(
 }
 
 /// Writes the lines at once, and begins anew.
-fn tell<W: Write>(writer: &mut W, lines: &mut String) -> Result<(), Fault> {
+pub fn tell<W: Write>(writer: &mut W, lines: &mut String) -> Result<(), Fault>
+    ensures { IfErr result EndsEarly }
+{
     write_out(writer, lines.as_str())?;
     lines.clear();
     match writer.flush() {

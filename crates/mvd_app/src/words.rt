@@ -1,6 +1,9 @@
 //! The words that a command line may hold, and the help that it gives.
-use clap::{Arg, Command, value_parser};
+use clap::{Arg, ArgAction, Command, value_parser};
 use std::alloc::{AllocError, Global};
+
+/// What `--version` tells behind the program's name.
+const VERSION: &str = "0.1.0, format version 2";
 
 const SIM: &str =
     "Runs a script over several sites. The script is read from standard input, and what its commands say is printed.";
@@ -15,6 +18,9 @@ const SERVE: &str =
                      connection ended, and, after the last one, the digest of all that it holds. Each write is stored before \
                      its reply leaves.";
 
+const SHELL: &str =
+    "Answers the lines of standard input, each at once, on a database or through a server. The line `help` lists what may be asked.";
+
 const SYNC: &str =
     "Runs a session of a database with a server, after which both hold all that one of them held. It prints how \
                     many keys differed, and the digest of all that the database holds then.";
@@ -26,11 +32,13 @@ pub fn command<'a>(alloc: Global) -> Result<Command<'a>, AllocError> {
         .after_help("Example: mvd sim < examples/siblings.mvd");
     Command::new(alloc, "mvd")
         .about("A multi-value JSON document map with causal contexts.")
+        .version(VERSION)
         .subcommand_required(true)
         .arg_required_else_help(true)
         .subcommand(sim)?
         .subcommand(loop_command(alloc)?)?
         .subcommand(serve_command(alloc)?)?
+        .subcommand(shell_command(alloc)?)?
         .subcommand(sync_command(alloc)?)
 }
 
@@ -59,31 +67,70 @@ fn serve_command<'a>(alloc: Global) -> Result<Command<'a>, AllocError> {
         .arg(conns)
 }
 
+fn shell_command<'a>(alloc: Global) -> Result<Command<'a>, AllocError> {
+    let port = port(
+        alloc,
+        "The port of a server, 1 to 65535, in place of a database.",
+    )
+    .required(false);
+    Command::new(alloc, "shell")
+        .about(SHELL)
+        .after_help("Example: echo 'put k - {\"a\":1}' | mvd shell --db a.db --site 1")
+        .arg(instead_of_port(db(alloc))?)?
+        .arg(instead_of_port(site(alloc))?)?
+        .arg(defs(alloc).conflicts_with("port")?)?
+        .arg(max_keys(alloc).conflicts_with("port")?)?
+        .arg(port)?
+        .arg(address(alloc).conflicts_with("db")?)
+}
+
+/// An option that is given where no port is.
+fn instead_of_port<'a>(option: Arg<'a>) -> Result<Arg<'a>, AllocError> {
+    option
+        .required(false)
+        .required_unless_present("port")?
+        .conflicts_with("port")
+}
+
 fn sync_command<'a>(alloc: Global) -> Result<Command<'a>, AllocError> {
     let command = Command::new(alloc, "sync")
         .about(SYNC)
         .after_help("Example: mvd sync --db b.db --site 2 --port 7001");
-    stored(alloc, command)?.arg(port(alloc, "The port of the server, 1 to 65535."))
+    let verbose = Arg::new(alloc, "verbose")
+        .long("verbose")
+        .action(ArgAction::SetTrue)
+        .help("Tell on standard error, after each thousand keys, how many were exchanged so far.");
+    stored(alloc, command)?
+        .arg(port(alloc, "The port of the server, 1 to 65535."))?
+        .arg(verbose)
 }
 
 /// The options of a command on a database that meets a peer.
 fn stored<'a>(alloc: Global, command: Command<'a>) -> Result<Command<'a>, AllocError> {
-    let db = Arg::new(alloc, "db")
-        .long("db")
-        .value_name("FILE")
-        .required(true)
-        .help("The file of the database, which is made where it is missing.");
-    let address = Arg::new(alloc, "address")
-        .long("address")
-        .value_name("IP")
-        .default_value("127.0.0.1")
-        .help("The IP address of the server.");
     command
-        .arg(db)?
+        .arg(db(alloc))?
         .arg(site(alloc))?
         .arg(defs(alloc))?
         .arg(max_keys(alloc))?
-        .arg(address)
+        .arg(address(alloc))
+}
+
+fn db<'a>(alloc: Global) -> Arg<'a> {
+    Arg::new(alloc, "db")
+        .long("db")
+        .value_name("FILE")
+        .required(true)
+        .help("The file of the database, which is made where it is missing.")
+}
+
+fn address<'a>(alloc: Global) -> Arg<'a> {
+    Arg::new(alloc, "address")
+        .long("address")
+        .value_name("IP")
+        .default_value("127.0.0.1")
+        .help(
+            "The IP address of the server. Nothing is encrypted, and nobody is asked who they are: put it behind a tunnel.",
+        )
 }
 
 fn site<'a>(alloc: Global) -> Arg<'a> {

@@ -1,4 +1,4 @@
-//! Tests of the commands: orders, their inputs, a connection within one process, and links.
+//! Tests of the commands: orders, their inputs, a connection within one process, links, and shells.
 #![tactic(auto)]
 
 #[cfg(test)]
@@ -7,3 +7,5 @@ mod inputs;
 mod links;
 #[cfg(test)]
 mod orders;
+#[cfg(test)]
+mod shells;

@@ -51,9 +51,10 @@ fn an_order_has_its_options(rt: HostRuntime) -> Result<(), Fail> {
         defs: Some("d"),
         max_keys: 1,
         address: IpAddr::V4(Ipv4Addr::new(10, 0, 0, 1)),
+        verbose: true,
     };
     let line =
-        "mvd sync --db f --site 4294967295 --port 65535 --defs d --max-keys 1 --address 10.0.0.1";
+        "mvd sync --db f --site 4294967295 --port 65535 --defs d --max-keys 1 --address 10.0.0.1 --verbose";
     assert!(rt; asks(alloc, line, most)?);
     let looped = Order::Loop {
         site: 7,
@@ -98,5 +99,27 @@ fn other_words_are_refused(rt: HostRuntime) -> Result<(), Fail> {
     for line in lines {
         assert!(rt; is_no_order(alloc, line)?, "{line}");
     }
+    Ok(())
+}
+
+#[test]
+fn a_shell_is_on_a_database_or_a_server(rt: HostRuntime) -> Result<(), Fail> {
+    let alloc = rt.alloc();
+    let file = Order::Shell {
+        db: "f",
+        site: 2,
+        defs: None,
+        max_keys: 9,
+    };
+    assert!(rt; asks(alloc, "mvd shell --db f --site 2 --max-keys 9", file)?);
+    let server = Order::RemoteShell {
+        port: 7,
+        address: IpAddr::V4(Ipv4Addr::LOCALHOST),
+    };
+    assert!(rt; asks(alloc, "mvd shell --port 7", server)?);
+    assert!(rt; is_out_of_range(alloc, "mvd shell --db f --site 0")?);
+    assert!(rt; is_no_order(alloc, "mvd shell")?);
+    assert!(rt; is_no_order(alloc, "mvd shell --db f")?);
+    assert!(rt; is_no_order(alloc, "mvd shell --db f --site 1 --port 7")?);
     Ok(())
 }

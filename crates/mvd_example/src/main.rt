@@ -1,0 +1,148 @@
+//! Replicas within a program: two of them write while apart, meet, and one resolves what both wrote.
+#![tactic(auto)]
+
+use mvd_docs::{Document, Field, Term};
+use mvd_dots::{Context, Refusal};
+use mvd_keys::Key;
+use mvd_replica::Replica;
+use mvd_rows::Defs;
+use mvd_site::Config;
+use mvd_sync::{SyncFault, sync};
+use mvd_wire::{Reply, Request};
+use sqlite::{Alter, Connection, MemStore};
+use std::alloc::Global;
+use std::fmt::Write;
+use std::io;
+use std::process::ExitCode;
+
+fn main(rt: HostRuntime) -> io::Result<ExitCode> {
+    let mut out = String::new(rt.alloc());
+    let ended = run(rt.alloc(), &mut out);
+    print!(rt; "{out}")?;
+    match ended {
+        Ok(()) => Ok(ExitCode::SUCCESS),
+        Err(refusal) => {
+            eprintln!(rt; "{refusal}")?;
+            Ok(ExitCode::from(1))
+        }
+    }
+}
+
+/// Two sites write to one key, and one of them resolves it.
+fn run(alloc: Global, out: &mut String) -> Result<(), Refusal> {
+    let mut desk = opened(alloc, 1)?;
+    let mut phone = opened(alloc, 2)?;
+    put(
+        alloc,
+        &mut desk,
+        "ada",
+        Context::new(alloc),
+        "{\"city\":\"Oslo\"}",
+    )?;
+    put(
+        alloc,
+        &mut phone,
+        "ada",
+        Context::new(alloc),
+        "{\"city\":\"Bergen\"}",
+    )?;
+    meet(alloc, &mut desk, &mut phone, out)?;
+
+    // Both documents stand. The context that is read with them says what the next write replaces.
+    let seen = show(alloc, &mut desk, "ada", out)?;
+    put(
+        alloc,
+        &mut desk,
+        "ada",
+        seen,
+        "{\"city\":\"Oslo\",\"was\":\"Bergen\"}",
+    )?;
+    meet(alloc, &mut desk, &mut phone, out)?;
+    show(alloc, &mut phone, "ada", out)?;
+    find(alloc, &mut phone, "city", "\"Oslo\"", out)
+}
+
+/// A replica with an index, in memory. In a file it is that of `Connection::open(rt, "notes.db")`.
+fn opened(alloc: Global, site: u32) -> Result<Replica<MemStore>, Refusal>
+    requires some { 0 < site }
+    requires few { site < 2 ^ 32 }
+{
+    let mut defs = Defs::new(alloc);
+    defs.index(Field::read(alloc, "city")?)?;
+    let conn = Connection::open_in_memory(alloc)?;
+    match Replica::open(alloc, conn, Config::new(site, 1_000_000, defs)) {
+        Ok(replica) => Ok(replica),
+        Err((refusal, _)) => Err(refusal),
+    }
+}
+
+/// Writes a document in place of what was seen. Once this returns, it is stored.
+fn put<S: Alter>(
+    alloc: Global,
+    replica: &mut Replica<S>,
+    key: &str,
+    seen: Context,
+    text: &str,
+) -> Result<(), Refusal> {
+    let document = Document::read(alloc, text)?;
+    let request = Request::Put(Key::read(alloc, key)?, seen, document);
+    match replica.answer(&request) {
+        Reply::Refused(refusal) => Err(refusal),
+        _ => Ok(()),
+    }
+}
+
+/// Prints the documents of a key, and gives the context to hand to the next write.
+fn show<S: Alter>(
+    alloc: Global,
+    replica: &mut Replica<S>,
+    key: &str,
+    out: &mut String,
+) -> Result<Context, Refusal> {
+    let state = replica.get(&Key::read(alloc, key)?)?;
+    for sibling in state.siblings() {
+        let document = sibling.document.text();
+        writeln!(out, "{key} {document}")?;
+    }
+    state.context().copy()
+}
+
+/// Prints the keys whose documents have a term at an indexed field: the first page of them.
+fn find<S: Alter>(
+    alloc: Global,
+    replica: &mut Replica<S>,
+    field: &str,
+    term: &str,
+    out: &mut String,
+) -> Result<(), Refusal> {
+    let field = Field::read(alloc, field)?;
+    let question = Request::Find(field, Term::read(alloc, term)?, None);
+    match replica.answer(&question) {
+        Reply::Places(places, _) => {
+            for place in places.as_slice() {
+                let key = place.key.text();
+                writeln!(out, "found {key}")?;
+            }
+            Ok(())
+        }
+        Reply::Refused(refusal) => Err(refusal),
+        _ => Ok(()),
+    }
+}
+
+/// A session: afterwards both hold all that one of them held.
+fn meet<S: Alter>(
+    alloc: Global,
+    local: &mut Replica<S>,
+    peer: &mut Replica<S>,
+    out: &mut String,
+) -> Result<(), Refusal> {
+    match sync(alloc, local, peer) {
+        Ok(report) => {
+            let keys = report.keys;
+            writeln!(out, "keys {keys}")?;
+            Ok(())
+        }
+        Err(SyncFault::Local(refusal) | SyncFault::Peer(refusal)) => Err(refusal),
+    }
+}

@@ -1,0 +1,185 @@
+#!/bin/sh
+# Runs the blocks `sh` of README.md, docs/USING.md and docs/PROTOCOL.md as they stand, one after the other, in a new folder, and wants
+# of each what its block `text` says is printed; and what else somebody meets in the first hour. It tells what it did, and ends with 1
+# where something else is printed. It needs bash and python3, and port 7007.
+# usage: tools/first_hour.sh [PROGRAM]
+# With no PROGRAM it runs the block `build` of README.md first, which proves and builds it.
+set -eu
+top=$(cd "$(dirname "$0")/.." && pwd)
+for tool in bash python3; do
+  command -v $tool >/dev/null || { echo "$tool is not installed" >&2; exit 2; }
+done
+room=$(mktemp -d)
+trap 'rm -rf "$room"' EXIT
+mkdir "$room/bin" "$room/files"
+ln -s "$top/examples" "$room/files/examples"
+if [ $# -gt 0 ]; then
+  printf '#!/bin/sh\nexec "%s" "$@"\n' "$(realpath "$1")" >"$room/bin/mvd"
+  chmod +x "$room/bin/mvd"
+fi
+PATH="$room/bin:$PATH" python3 - "$top" "$room/files" $# <<'END'
+import atexit, os, re, signal, sqlite3, subprocess, sys
+
+top, room, given = sys.argv[1], sys.argv[2], sys.argv[3] != "0"
+
+
+def miss(what):
+    sys.exit(f"first_hour: {what}")
+
+
+def run(script, stdin="", where=room, seconds=300):
+    """What a script prints, on both outputs as they come, and its status."""
+    done = subprocess.run(["bash", "-c", script], cwd=where, input=stdin, text=True, timeout=seconds,
+                          stdout=subprocess.PIPE, stderr=subprocess.STDOUT)
+    return done.stdout, done.returncode
+
+
+def wants(what, script, wanted, status=0, stdin=""):
+    got, ended = run(script, stdin)
+    if (got, ended) != (wanted, status):
+        miss(f"{what}: wanted {status}\n{wanted}got {ended}\n{got}")
+    print("done:", what)
+
+
+def blocks(file):
+    """The blocks of a document: the word behind the first fence, and the text."""
+    with open(os.path.join(top, file)) as text:
+        return re.findall(r"^```(\w*)\n(.*?)^```$", text.read(), re.M | re.S)
+
+
+def builds(file):
+    for word, text in blocks(file):
+        if word == "build" and not given:
+            # The block is run where it says, and the PATH that it sets is taken over.
+            out, status = run(text + "\necho \"PATH $PATH\"\n", where=top, seconds=14400)
+            if status != 0:
+                miss(out)
+            os.environ["PATH"] = out.splitlines()[-1].removeprefix("PATH ")
+            print("done: build")
+
+
+def runs(file):
+    found = blocks(file) + [("", "")]
+    for number, (word, text) in enumerate(found):
+        if word == "sh":
+            after, printed = found[number + 1]
+            wants(f"{file}, block {number + 1}", text, printed if after == "text" else "")
+
+
+def quotes(file, source):
+    """Each block `rattle` stands in the source as it is."""
+    with open(os.path.join(top, source)) as text:
+        code = text.read()
+    for word, text in blocks(file):
+        if word == "rattle":
+            if text not in code:
+                miss(f"{file}: this is no part of {source}:\n{text}")
+            print(f"done: {file} quotes {source}")
+
+
+def server(db):
+    """A server of site 1 on a file, once it listens."""
+    started = subprocess.Popen(["mvd", "serve", "--db", db, "--site", "1", "--port", "7007"], cwd=room, stdout=subprocess.PIPE, text=True)
+    atexit.register(kill, started)
+    if started.stdout.readline() != "listening 127.0.0.1:7007\n":
+        miss("no server")
+    return started
+
+
+def kill(started):
+    """Kills a server that runs yet, and what it started."""
+    if started.poll() is not None:
+        return
+    below = subprocess.run(["pgrep", "-P", str(started.pid)], stdout=subprocess.PIPE, text=True).stdout.split()
+    for process in [int(word) for word in below] + [started.pid]:
+        os.kill(process, signal.SIGKILL)
+    started.wait()
+
+
+def helps():
+    """Each command's help has an example; that of a shell is run as it stands."""
+    wants("the version", "mvd --version", "mvd 0.1.0, format version 2\n", 2)
+    for command in ["sim", "loop", "serve", "shell", "sync"]:
+        out, status = run(f"mvd {command} --help")
+        example = re.search(r"^Example: (.*)$", out, re.M)
+        if status != 2 or not example:
+            miss(f"{command} --help: {status}\n{out}")
+        if command == "shell":
+            wants("an example of the help", "mkdir pasted; cd pasted; " + example[1], "dot 1:1\n")
+    print("done: help")
+
+
+def long_session():
+    """A session tells how far it is."""
+    puts = "".join(f"put k{number} - {{}}\n" for number in range(1001))
+    wants("1,001 puts", "mvd shell --db many.db --site 1 > puts.txt", "", 0, puts)
+    started = server("many.db")
+    out, status = run("mvd sync --db less.db --site 2 --port 7007 --verbose")
+    if status != 0 or sorted(line.split()[0] for line in out.splitlines()) != ["1000", "keys", "root"] or "keys 1001\n" not in out:
+        miss(f"a long session: {out}")
+    kill(started)
+    print("done: a long session")
+
+
+def old_file():
+    """A file of version 1 is moved where it is opened, and then written as any other."""
+    state = bytes.fromhex("0001" "0001" "0000000000000001" "00000000" "0001" "0001" "0000000000000001" "00000007") + b'{"a":1}'
+    with sqlite3.connect(os.path.join(room, "old.db")) as old:
+        old.execute("CREATE TABLE states (key TEXT PRIMARY KEY NOT NULL, state BLOB NOT NULL) STRICT")
+        old.execute("CREATE TABLE meta (name TEXT PRIMARY KEY NOT NULL, value INTEGER NOT NULL) STRICT")
+        old.execute("INSERT INTO meta VALUES ('format', 1), ('site', 1)")
+        old.execute("INSERT INTO states VALUES ('k', ?)", (state,))
+    old.close()
+    wants("a file of version 1", "mvd shell --db old.db --site 1", 'context 1:1\n1:1 {"a":1}\ndot 1:2\n', 0, 'get k\nput k @ {"a":2}\n')
+    old = sqlite3.connect(os.path.join(room, "old.db"))
+    marks = old.execute("SELECT value FROM meta ORDER BY name").fetchall(), old.execute("SELECT count(*) FROM states").fetchall()
+    old.execute("UPDATE meta SET value = 3 WHERE name = 'format'")
+    old.commit()
+    old.close()
+    if marks != ([(2,), (1,)], [(0,)]):
+        miss(f"a file of version 1 is left as {marks}")
+    wants("a file of a later version", "mvd shell --db old.db --site 1", "mvd: fault 17 Damaged\n", 1, "get k\n")
+
+
+def interrupted():
+    """A server is killed, its port is bound again at once, and what it answered is in the file and the log beside it."""
+    first = server("killed.db")
+    wants("a write through a server", "mvd shell --port 7007", "dot 1:1\n", 0, 'put k - {"a":1}\n')
+    wants("a file in use", "mvd shell --db killed.db --site 1", "mvd: fault 21 Store\n", 1, "get k\n")
+    kill(first)
+    wants("a copy with its log", "cp killed.db whole.db; cp killed.db-wal whole.db-wal; mvd shell --db whole.db --site 1",
+          'context 1:1\n1:1 {"a":1}\n', 0, "get k\n")
+    second = server("killed.db")
+    wants("a client, after a kill", 'python3 examples/client.py 7007 get k', 'context 0000000100000001000000000000000100000000\n1:1 {"a":1}\n')
+    wants("a client's delete", 'python3 examples/client.py 7007 del k 0000000100000001000000000000000100000000', "ok\n")
+    wants("a refusal", 'python3 examples/client.py 7007 find city 1', "refused 12\n", 1)
+    kill(second)
+    wants("no server", "mvd shell --port 7007", "mvd: fault 34 ReadFailed\n", 1)
+
+
+def answers_at_once():
+    """A line is answered before the next one is read."""
+    shell = subprocess.Popen(["mvd", "shell", "--db", "once.db", "--site", "1"], cwd=room, text=True, bufsize=1,
+                             stdin=subprocess.PIPE, stdout=subprocess.PIPE)
+    for line, wanted in [("put k - {}", "dot 1:1"), ("", None), ("nothing", "line 3: not a command"), ("get k", "context 1:1"), ("", "1:1 {}")]:
+        if line or wanted is None:
+            shell.stdin.write(line + "\n")
+        if wanted is not None and shell.stdout.readline() != wanted + "\n":
+            miss(f"the shell did not answer {line}")
+    shell.stdin.close()
+    if shell.wait() != 0:
+        miss("the shell's end")
+    print("done: a shell answers at once")
+
+
+builds("README.md")
+for document in ["README.md", "docs/USING.md", "docs/PROTOCOL.md"]:
+    runs(document)
+quotes("docs/USING.md", "crates/mvd_example/src/main.rt")
+helps()
+answers_at_once()
+old_file()
+interrupted()
+long_session()
+END
+echo "all as the documents say"

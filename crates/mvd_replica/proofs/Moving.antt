@@ -172,16 +172,3 @@ moving_more a b c key old old' new new' moving moves was spelled new-is old-is =
 pub ended_same : (result : Result (Unit {0}) Refusal) (a b c : Database) (number : ℕ) → SameStates a b → OnOk result (EndsMove number b c) → OnErr result (c ≡ b) → SameStates a c
 ended_same (Ok done) a b c number same ends still = same_then a b c same (same_kept b c ends.states)
 ended_same (Err e) a b c number same ends still = same_then a b c same (same_unchanged b c still)
-
-pub ended_alone : (result : Result (Unit {0}) Refusal) (b c : Database) (number : ℕ) → OnOk result (EndsMove number b c) → OnOk result (HasNone (old_states c))
-ended_alone (Ok done) b c number ends = ends.moved
-ended_alone (Err e) b c number ends = tt
-
--- a load that changed nothing
-pub alone_by : (result : Result SiteValue Refusal) (a b : Database) → b ≡ a → IfOk result (λ _. HasNone (old_states a)) → IfOk result (λ _. HasNone (old_states b))
-alone_by (Ok site) a b same alone = subst (λ d. HasNone (old_states d)) (sym same) alone
-alone_by (Err e) a b same alone = tt
-
-pub where_ok : (result : Result SiteValue Refusal) (P : Type 0) → P → IfOk result (λ _. P)
-where_ok (Ok site) P holds = holds
-where_ok (Err e) P holds = tt

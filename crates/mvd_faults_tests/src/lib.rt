@@ -16,6 +16,8 @@ mod memory;
 #[cfg(test)]
 mod random;
 #[cfg(test)]
+mod scale;
+#[cfg(test)]
 mod stops;
 #[cfg(test)]
 mod streams;

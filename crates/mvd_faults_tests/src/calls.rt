@@ -1,7 +1,7 @@
 //! A replica, its connections, and frames in hexadecimal digits.
 use mvd_docs::{Field, ViewName};
 use mvd_dots::Refusal;
-use mvd_replica::{Ended, Fault, Replica, serve};
+use mvd_replica::{Ended, Replica, serve};
 use mvd_rows::Defs;
 use mvd_site::Config;
 use sqlite::{Alter, Connection, MemStore};
@@ -107,8 +107,7 @@ pub fn served_on<R: Read, W: Write, S: Alter + Drop>(
     match serve(alloc, reader, writer, replica) {
         Ok(Ended::Bye) => "bye",
         Ok(Ended::End) => "end",
-        Err(Fault::Stopped(refusal)) => refusal.name(),
-        Err(Fault::Line(_)) => "line",
+        Err(refusal) => refusal.name(),
     }
 }
 

@@ -63,16 +63,25 @@ const DAMAGED: &[(&str, &str)] = &[
     ),
 ];
 
+/// The files of a database that is closed, which stands in one of them alone.
+fn close<D: Disk + Drop>(conn: Connection<FileStore<D>>) -> Option<Files<D>> {
+    match conn.close_files() {
+        Ok(files) => Some(files),
+        Err((_, store)) => {
+            drop(store.close());
+            None
+        }
+    }
+}
+
 /// The bytes of a database that is closed.
 fn closed(alloc: Global, conn: Connection<FileStore<Memory>>) -> Result<Vec<u8>, Refusal> {
-    match conn.close_files() {
-        Ok(files) => {
-            let mut bytes = Vec::new(alloc);
-            bytes.extend_from_slice(files.db.bytes())?;
-            Ok(bytes)
-        }
-        Err(_) => Err(Refusal::Store),
-    }
+    let Some(files) = close(conn) else {
+        return Err(Refusal::Store);
+    };
+    let mut bytes = Vec::new(alloc);
+    bytes.extend_from_slice(files.db.bytes())?;
+    Ok(bytes)
 }
 
 /// A database file with all three tables and these rows.
@@ -90,7 +99,7 @@ fn database(alloc: Global, rows: &(&str, &str)) -> Result<Vec<u8>, Refusal> {
 /// Files of which the database has these bytes.
 fn files_with(alloc: Global, bytes: &[u8]) -> Result<Files<Memory>, Refusal> {
     let mut files = no_files(alloc);
-    if files.db.write_at(0, bytes).is_err() || files.db.sync().is_err() {
+    if !files.db.may_be_used() || files.db.write_at(0, bytes).is_err() || files.db.sync().is_err() {
         return Err(Refusal::Memory);
     }
     Ok(files)

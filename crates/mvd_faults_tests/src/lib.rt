@@ -12,6 +12,8 @@ mod damaged;
 #[cfg(test)]
 mod frames;
 #[cfg(test)]
+mod meetings;
+#[cfg(test)]
 mod memory;
 #[cfg(test)]
 mod random;

@@ -24,11 +24,22 @@ impl Random {
         (x >> 11).checked_rem(limit).unwrap_or(0)
     }
 
+    /// The same, as a byte.
+    fn byte(&mut self, limit: u64) -> u8 {
+        self.below(limit).to_be_bytes()[7]
+    }
+
     /// One of these.
     fn one_of(&mut self, choices: &[u32]) -> u32 {
         let at = self.below(choices.len() as u64) as usize;
         choices.get(at).copied().unwrap_or(0)
     }
+}
+
+/// The two lower bytes of a number.
+fn two(number: u32) -> [u8; 2] {
+    let [_, _, high, low] = number.to_be_bytes();
+    [high, low]
 }
 
 /// A payload that is made piece by piece.
@@ -99,7 +110,7 @@ impl Maker {
         };
         for at in 0..letters {
             let byte = if u64::from(at) == odd {
-                self.random.below(256) as u8
+                self.random.byte(256)
             } else {
                 b'x'
             };
@@ -110,11 +121,11 @@ impl Maker {
 
     fn key(&mut self) -> Result<(), AllocError> {
         if self.random.below(4) > 0 {
-            let letter = b'a' + self.random.below(9) as u8;
+            let letter = b'a'.wrapping_add(self.random.byte(9));
             return self.push(&[1, letter]);
         }
         let len = self.random.one_of(&[0, 1, 2, 127, 128, 129, 255]);
-        self.push(&[len as u8])?;
+        self.push(&two(len)[1..])?;
         self.letters(len)
     }
 
@@ -135,7 +146,9 @@ impl Maker {
             self.push(&base.to_be_bytes())?;
             self.push(&loose.to_be_bytes())?;
             for number in 0..u64::from(loose.min(2)) {
-                let counter = base + self.random.below(4) + 3 * number;
+                let counter = base
+                    .wrapping_add(self.random.below(4))
+                    .wrapping_add(number * 3);
                 self.push(&counter.to_be_bytes())?;
             }
         }
@@ -146,9 +159,12 @@ impl Maker {
         let letters = self
             .random
             .one_of(&[0, 1, 1, 1, 1, 1, 1, 40, 65_527, 65_528, 65_529]);
-        let city = self.random.below(3) == 0;
-        let begin: &[u8] = if city { b"{\"city\":\"" } else { b"{\"a\":\"" };
-        let len = letters.saturating_add(begin.len() as u32 + 2);
+        let (begin, rest): (&[u8], u32) = if self.random.below(3) == 0 {
+            (b"{\"city\":\"", 11)
+        } else {
+            (b"{\"a\":\"", 8)
+        };
+        let len = letters.saturating_add(rest);
         self.push(&len.to_be_bytes())?;
         self.push(begin)?;
         self.letters(letters)?;
@@ -156,14 +172,14 @@ impl Maker {
     }
 
     fn term(&mut self) -> Result<(), AllocError> {
-        let tag = self.random.below(6) as u8;
+        let tag = self.random.byte(6);
         self.push(&[tag])?;
         match tag {
             3 => self.push(&self.random.state.to_be_bytes()),
             4 => {
-                let len = self.random.one_of(&[0, 4, 4, 511, 512, 513]) as u16;
-                self.push(&len.to_be_bytes())?;
-                self.letters(u32::from(len))
+                let len = self.random.one_of(&[0, 4, 4, 511, 512, 513]);
+                self.push(&two(len))?;
+                self.letters(len)
             }
             _ => Ok(()),
         }
@@ -174,18 +190,18 @@ impl Maker {
             0 => self.push(b"\0\x04city"),
             1 => self.push(b"\0\x05spend"),
             _ => {
-                let len = self.random.one_of(&[0, 1, 63, 64, 65]) as u16;
-                self.push(&len.to_be_bytes())?;
-                self.letters(u32::from(len))
+                let len = self.random.one_of(&[0, 1, 63, 64, 65]);
+                self.push(&two(len))?;
+                self.letters(len)
             }
         }
     }
 
     fn path(&mut self) -> Result<(), AllocError> {
-        let digits = self.random.below(5) as u8;
+        let digits = self.random.byte(5);
         self.push(&[digits])?;
         for _ in 0..digits {
-            let digit = self.random.below(17) as u8;
+            let digit = self.random.byte(17);
             self.push(&[digit])?;
         }
         Ok(())
@@ -193,8 +209,8 @@ impl Maker {
 
     fn state(&mut self) -> Result<(), AllocError> {
         self.context()?;
-        let siblings = self.random.one_of(&[0, 0, 1, 1, 2, 65_535]) as u16;
-        self.push(&siblings.to_be_bytes())?;
+        let siblings = self.random.one_of(&[0, 0, 1, 1, 2, 65_535]);
+        self.push(&two(siblings))?;
         for _ in 0..siblings.min(2) {
             self.dot()?;
             self.document()?;
@@ -220,7 +236,7 @@ impl Maker {
         for piece in pieces {
             self.piece(*piece)?;
             if let Piece::Option(inner) = piece {
-                let flag = self.random.one_of(&[0, 1, 1, 2]) as u8;
+                let flag = [0, 1, 1, 2][self.random.below(4) as usize % 4];
                 self.push(&[flag])?;
                 if flag > 0 {
                     for part in inner.iter() {
@@ -240,7 +256,7 @@ impl Maker {
             1 => self.letters(2)?,
             2 => {
                 let at = self.random.below(len) as usize;
-                let byte = self.random.below(256) as u8;
+                let byte = self.random.byte(256);
                 if let Some(found) = self.bytes.get_mut(at) {
                     *found = byte;
                 }
@@ -253,14 +269,19 @@ impl Maker {
     /// Adds a frame to a connection's bytes.
     fn frame(&mut self, input: &mut Vec<u8>) -> Result<(), AllocError> {
         // A Bye, which is the last of them, is seldom.
-        let at = self.random.below(8 * KINDS.len() as u64 - 7) as usize / 8;
+        let at = self.random.below(97) as usize / 8;
         let Some((kind, pieces)) = KINDS.get(at) else {
             return Ok(());
         };
         self.bytes.clear();
         self.pieces(pieces)?;
         self.damage()?;
-        input.extend_from_slice(&(self.bytes.len() as u32 + 1).to_be_bytes())?;
+        input.extend_from_slice(
+            &u32::try_from(self.bytes.len())
+                .unwrap_or(0)
+                .saturating_add(1)
+                .to_be_bytes(),
+        )?;
         input.push(*kind)?;
         input.extend_from_slice(self.bytes.as_slice())
     }

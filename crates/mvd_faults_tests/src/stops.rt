@@ -8,7 +8,7 @@ use sqlite_disk::{Crash, Disk, Fuse, Memory};
 use std::alloc::Global;
 use std::test::Fail;
 
-type Stopping = Fuse<Memory>;
+pub type Stopping = Fuse<Memory>;
 
 /// Two files in memory with no byte.
 pub fn no_files(alloc: Global) -> Files<Memory> {
@@ -51,7 +51,7 @@ pub fn in_files<D: Disk + Drop>(
 }
 
 /// Files whose calls stop after so many of the log's, and so many of the database's.
-fn fused(files: Files<Memory>, log_calls: u64, db_calls: u64) -> Files<Stopping> {
+pub fn fused(files: Files<Memory>, log_calls: u64, db_calls: u64) -> Files<Stopping> {
     let Files { log, db } = files;
     Files {
         log: Fuse::new(log, log_calls),
@@ -60,7 +60,7 @@ fn fused(files: Files<Memory>, log_calls: u64, db_calls: u64) -> Files<Stopping>
 }
 
 /// The machine comes back: both files have what a crash left of them, and no call fails any more.
-fn revived(mut files: Files<Stopping>) -> Files<Stopping> {
+pub fn revived(mut files: Files<Stopping>) -> Files<Stopping> {
     files.log.crash();
     files.db.crash();
     files

@@ -91,7 +91,7 @@ impl Read for Again {
     fn read(&mut self, buf: &mut [u8]) -> io::Result<usize> {
         for byte in buf.iter_mut() {
             *byte = NO_KIND[self.at % 5];
-            self.at = (self.at + 1) % 5;
+            self.at = self.at.wrapping_add(1) % 5;
         }
         Ok(buf.len())
     }

@@ -186,6 +186,10 @@ fn with_zeros(alloc: Global, bytes: &[u8], from: usize, to: usize) -> Result<Vec
 
 const PAGE: usize = 4_096;
 
+fn beginning(bytes: &[u8], len: usize) -> &[u8] {
+    &bytes[..len.min(bytes.len())]
+}
+
 #[test]
 fn a_page_of_zeros_is_no_answer(rt: HostRuntime) -> Result<(), Fail> {
     let alloc = rt.alloc();
@@ -196,10 +200,11 @@ fn a_page_of_zeros_is_no_answer(rt: HostRuntime) -> Result<(), Fail> {
     );
     let mut refused = 0u32;
     for page in 0..bytes.len() / PAGE {
-        let zeros = with_zeros(alloc, bytes.as_slice(), page * PAGE, (page + 1) * PAGE)?;
+        let from = page.saturating_mul(PAGE);
+        let zeros = with_zeros(alloc, bytes.as_slice(), from, from.saturating_add(PAGE))?;
         let found = opened_as(alloc, zeros.as_slice(), root.as_slice())?;
         assert!(rt; found != Found::Other, "page {page}");
-        refused += u32::from(found == Found::Refused);
+        refused = refused.saturating_add(u32::from(found == Found::Refused));
     }
     println!(rt; "{refused} of {} pages", bytes.len() / PAGE)?;
     Ok(())
@@ -211,9 +216,9 @@ fn a_file_that_is_cut_is_refused(rt: HostRuntime) -> Result<(), Fail> {
     let (bytes, root) = ten_keys(alloc)?;
     for page in 0..bytes.len() / PAGE {
         for over in [0, 1_000] {
-            let cut = page * PAGE + over;
+            let cut = page.saturating_mul(PAGE).saturating_add(over);
             if cut > 0 {
-                let found = opened_as(alloc, &bytes[..cut], root.as_slice())?;
+                let found = opened_as(alloc, beginning(bytes.as_slice(), cut), root.as_slice())?;
                 assert!(rt; found == Found::Refused, "cut at {cut}");
             }
         }

@@ -76,5 +76,4 @@ else
     done
     sweep mvd_faults_tests worlds::a_world_is_asked_again
     sweep mvd_sync_tests faults::a_refused_allocation_leaves_old_states_or_joins
-    sweep mvd_tests memory::a_script_is_run_again
 fi

@@ -16,8 +16,6 @@ use Rattle.mvd_wire.specs.Replies.{reply_bytes}
 use Rattle.mvd_wire.proofs.FramesRead.{no_frame_taken}
 use Rattle.mvd_replica.specs.declared.serving.Ended.{Ended}
 use Rattle.mvd_replica.specs.declared.serving.Ended.TheVariants as ended
-use Rattle.mvd_replica.specs.declared.serving.Fault.{Fault}
-use Rattle.mvd_replica.specs.declared.serving.Fault.TheVariants.{Stopped}
 use Rattle.mvd_replica.specs.Turns.{AreFrames, GoesOn, Replies, Turn}
 use Rattle.mvd_replica.specs.Served.{Side, Ending, AtBye, AtEnd, AtRefusal, AtWriter, Stops, GoesOut, Went, replies_bytes, last_bytes, result_of}
 use Rattle.mvd_replica.specs.Steps.{Ends, IsSent, RepliesTo}
@@ -55,8 +53,8 @@ few e (inr (inl is)) h = cc
 few e (inr (inr (inl is))) h = cc
 few e (inr (inr (inr is))) h = cc
 
-pub at_refusal : (site : SiteValue) (before after output out : Option (List ℕ)) (e : Refusal) (fault : Fault) → Reads (option_map frame_value) before after (Err e) frame_at → EndsReading e →
-    GoesOut output out (reply_bytes (Refused e)) (Stopped WriteFailed) fault (Stopped e) →
+pub at_refusal : (site : SiteValue) (before after output out : Option (List ℕ)) (e : Refusal) (fault : Refusal) → Reads (option_map frame_value) before after (Err e) frame_at → EndsReading e →
+    GoesOut output out (reply_bytes (Refused e)) WriteFailed fault e →
     Ends (record { site = site; input = before; output = output }) (record { site = site; input = after; output = out }) (Err fault)
 at_refusal site before after output out e fault came which wrote = record {
   turns = [];
@@ -66,7 +64,7 @@ at_refusal site before after output out e fault came which wrote = record {
   goes_on = tt;
   count = (refl, few e which);
   read = λ bytes known. (bytes, refl, told e bytes after which (came bytes known));
-  wrote = GoesOut-err output out (reply_bytes (Refused e)) (Stopped WriteFailed) fault (Stopped e) wrote;
+  wrote = GoesOut-err output out (reply_bytes (Refused e)) WriteFailed fault e wrote;
 }
 
 bye_stops : (before after : Option (List ℕ)) (frame : Frame) → Reads (option_map frame_value) before after (Ok (Some frame)) frame_at → request_of frame.kind frame.payload.items ≡ Ok Bye →
@@ -75,9 +73,9 @@ bye_stops before after frame came asked bytes known =
     let p : (rest : List ℕ) × (after ≡ Some rest) × (frame_at bytes ≡ Ok (Some (frame_value frame), rest)) = came bytes known in
     (bytes, refl, (frame_value frame, p.0, p.2, asked, p.1))
 
-pub at_bye : (old site : SiteValue) (before after output out : Option (List ℕ)) (frame : Frame) (result : Result Ended Fault) → Reads (option_map frame_value) before after (Ok (Some frame)) frame_at →
+pub at_bye : (old site : SiteValue) (before after output out : Option (List ℕ)) (frame : Frame) (result : Result Ended Refusal) → Reads (option_map frame_value) before after (Ok (Some frame)) frame_at →
     request_of frame.kind frame.payload.items ≡ Ok Bye → site ≡ old →
-    GoesOut output out (reply_bytes (if site.broken then Refused Broken else Done)) (Err (Stopped WriteFailed)) result (Ok ended.Bye) →
+    GoesOut output out (reply_bytes (if site.broken then Refused Broken else Done)) (Err WriteFailed) result (Ok ended.Bye) →
     Ends (record { site = old; input = before; output = output }) (record { site = site; input = after; output = out }) result
 at_bye old site before after output out frame result came asked same wrote = record {
   turns = [];
@@ -113,7 +111,7 @@ goes_on old new before after output out frame reply sent came replied is wrote =
 pub at_writer : (old new : SiteValue) (before after output out : Option (List ℕ)) (frame : Frame) (reply sent : Reply) → Reads (option_map frame_value) before after (Ok (Some frame)) frame_at →
     RepliesTo (request_of frame.kind frame.payload.items) old new reply → IsSent reply sent →
     AppendsFront output out (reply_bytes sent) →
-    Ends (record { site = old; input = before; output = output }) (record { site = new; input = after; output = out }) (Err (Stopped WriteFailed))
+    Ends (record { site = old; input = before; output = output }) (record { site = new; input = after; output = out }) (Err WriteFailed)
 at_writer old new before after output out frame reply sent came replied is wrote =
     let asked = request_of frame.kind frame.payload.items in
     let turn : Turn = record { asked = asked; reply = sent } in
@@ -146,9 +144,9 @@ at_bye_ok old site before after output out frame broken bytes came asked same is
 
 pub at_bye_failed : (old site : SiteValue) (before after output out : Option (List ℕ)) (frame : Frame) (broken : Bool) (bytes : List ℕ) (failed : Refusal) → Reads (option_map frame_value) before after (Ok (Some frame)) frame_at →
     request_of frame.kind frame.payload.items ≡ Ok Bye → site ≡ old → broken ≡ site.broken → bytes ≡ reply_bytes (if broken then Refused Broken else Done) → failed ≡ WriteFailed → AppendsFront output out bytes →
-    Ends (record { site = old; input = before; output = output }) (record { site = site; input = after; output = out }) (Err (Stopped failed))
+    Ends (record { site = old; input = before; output = output }) (record { site = site; input = after; output = out }) (Err failed)
 at_bye_failed old site before after output out frame broken bytes failed came asked same is last why wrote =
-    at_bye old site before after output out frame (Err (Stopped failed)) came asked same (inr (ap (λ (r : Refusal). Err (Stopped r)) why, subst (AppendsFront output out) (last_is site broken bytes is last) wrote))
+    at_bye old site before after output out frame (Err failed) came asked same (inr (ap (λ (r : Refusal). Err r) why, subst (AppendsFront output out) (last_is site broken bytes is last) wrote))
 
 appended : (output out : Option (List ℕ)) (bytes : List ℕ) → GoesOut {X = Result (Unit {0}) Refusal} output out bytes (Err WriteFailed) (Ok tt) (Ok tt) → Appends output out bytes
 appended output out bytes (inl h) = h.1
@@ -168,10 +166,10 @@ goes_on_sent old new before after output out frame reply came replied sent =
 pub at_writer_sent : (old new : SiteValue) (before after output out : Option (List ℕ)) (frame : Frame) (reply : Reply) (failed : Refusal) → Reads (option_map frame_value) before after (Ok (Some frame)) frame_at →
     RepliesTo (request_of frame.kind frame.payload.items) old new reply →
     ((sent : Reply) × IsSent reply sent × GoesOut {X = Result (Unit {0}) Refusal} output out (reply_bytes sent) (Err WriteFailed) (Err failed) (Ok tt)) →
-    Ends (record { site = old; input = before; output = output }) (record { site = new; input = after; output = out }) (Err (Stopped failed))
+    Ends (record { site = old; input = before; output = output }) (record { site = new; input = after; output = out }) (Err failed)
 at_writer_sent old new before after output out frame reply failed came replied sent =
     let why : (failed ≡ WriteFailed) × AppendsFront output out (reply_bytes sent.0) = fronted output out (reply_bytes sent.0) failed sent.2 in
-    subst (λ (r : Refusal). Ends (record { site = old; input = before; output = output }) (record { site = new; input = after; output = out }) (Err (Stopped r))) (sym why.0)
+    subst (λ (r : Refusal). Ends (record { site = old; input = before; output = output }) (record { site = new; input = after; output = out }) (Err r)) (sym why.0)
     (at_writer old new before after output out frame reply sent.0 came replied sent.1 why.1)
 
 -- a frame that was written, or a front of it

@@ -5,3 +5,4 @@ pub mod Whole
 pub mod Ending
 pub mod Loading
 pub mod Moving
+pub mod Sides

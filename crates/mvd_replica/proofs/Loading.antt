@@ -15,7 +15,7 @@ use Rattle.mvd_keys.specs.Writes.{Key}
 use Rattle.mvd_keys.proofs.KeyOrder.{key_total}
 use Rattle.mvd_wire.specs.Kinds.{spell_state}
 use Rattle.mvd_records.specs.States.{States as Stored}
-use Rattle.mvd_records.specs.Records.{EndsMove, HoldsRecords, new_states}
+use Rattle.mvd_records.specs.Records.{EndsMove, HasNone, HoldsRecords, new_states, old_states}
 use Rattle.mvd_site.specs.Config.{ConfigValue}
 use Rattle.mvd_site.specs.Sites.{SiteValue, opened}
 use Rattle.sqlite.specs.Effect.{Database}
@@ -103,8 +103,9 @@ moved_by (Ok done) a b version number ends same holds = ends.holds
 moved_by (Err e) a b version number ends same holds = subst (HoldsRecords version number) (sym same) holds
 
 -- the records of the site that was read from them
-pub holds_opened : (site : SiteValue) (config : ConfigValue) (number : ℕ) (b : Database) → site.config ≡ config → number ≡ config.site → HoldsRecords 2 number b → SpellStates (new_states b) site.states → HoldsSite site b
-holds_opened site config number b same is records spelled = record {
+pub holds_opened : (site : SiteValue) (config : ConfigValue) (number : ℕ) (b : Database) → site.config ≡ config → number ≡ config.site → HoldsRecords 2 number b → HasNone (old_states b) → SpellStates (new_states b) site.states → HoldsSite site b
+holds_opened site config number b same is records alone spelled = record {
+  alone = alone;
   records = subst (λ n. HoldsRecords 2 n b) (is ∙ ap (λ (k : ConfigValue). k.site) (sym same)) records;
   spelled = λ _. spelled;
 }

@@ -12,8 +12,6 @@ use Rattle.mvd_site.specs.Sites.{SiteValue}
 use Rattle.mvd_wire.specs.Frames.{AppendsFront}
 use Rattle.mvd_wire.specs.Replies.{reply_bytes}
 use Rattle.mvd_replica.specs.declared.serving.Ended.{Ended}
-use Rattle.mvd_replica.specs.declared.serving.Fault.{Fault}
-use Rattle.mvd_replica.specs.declared.serving.Fault.TheVariants.{Stopped}
 use Rattle.mvd_replica.specs.declared.serving.TheConstants.{FRAMES_MAX}
 use Rattle.mvd_replica.specs.Turns.{Turn, Replies, AreFrames, GoesOn}
 use Rattle.mvd_replica.specs.Served.{Side, Ending, AtBye, AtEnd, AtRefusal, AtWriter, Stops, GoesOut, IsCount, Served, Went, replies_bytes, last_bytes, result_of}
@@ -63,7 +61,7 @@ counted n count AtEnd room last = omega arith
 counted n count (AtRefusal refusal) room last = inl (omega (arith, last.0), last.1)
 counted n count AtWriter room last = omega arith
 
-pub Served-after : (turns : List Turn) (a b c : Side) (result : Result Ended Fault) → Went turns a b → length turns < FRAMES_MAX → Ends b c result → Served a c result
+pub Served-after : (turns : List Turn) (a b c : Side) (result : Result Ended Refusal) → Went turns a b → length turns < FRAMES_MAX → Ends b c result → Served a c result
 Served-after turns a b c result one room last = record {
   turns = turns ++ last.turns;
   ending = last.ending;
@@ -75,18 +73,18 @@ Served-after turns a b c result one room last = record {
       let p : (rest : List ℕ) × (b.input ≡ Some rest) × AreFrames turns bytes rest = one.read bytes known in
       let q : (rest : List ℕ) × AreFrames last.turns p.0 rest × Stops rest c.input last.ending = last.read p.0 p.1 in
       (q.0, AreFrames-append turns last.turns bytes p.0 q.0 p.2 q.1, q.2);
-  wrote = subst (λ l. GoesOut a.output c.output l (Err (Stopped WriteFailed)) result (result_of last.ending))
+  wrote = subst (λ l. GoesOut a.output c.output l (Err WriteFailed) result (result_of last.ending))
       (sym (append_assoc (replies_bytes turns) (replies_bytes last.turns) (last_bytes c.site.broken last.ending)) ∙ ap (λ l. l ++ last_bytes c.site.broken last.ending) (sym (replies_bytes-append turns last.turns)))
-      (GoesOut-after a.output b.output c.output (replies_bytes turns) (replies_bytes last.turns ++ last_bytes c.site.broken last.ending) (Err (Stopped WriteFailed)) result (result_of last.ending) one.wrote last.wrote);
+      (GoesOut-after a.output b.output c.output (replies_bytes turns) (replies_bytes last.turns ++ last_bytes c.site.broken last.ending) (Err WriteFailed) result (result_of last.ending) one.wrote last.wrote);
 }
 
-pub GoesOut-err : (a b : Option (List ℕ)) (bytes : List ℕ) (failed fault wanted : Fault) → GoesOut a b bytes failed fault wanted → GoesOut {X = Result Ended Fault} a b bytes (Err failed) (Err fault) (Err wanted)
-GoesOut-err a b bytes failed fault wanted (inl h) = inl (ap (λ (f : Fault). Err f) h.0, h.1)
-GoesOut-err a b bytes failed fault wanted (inr h) = inr (ap (λ (f : Fault). Err f) h.0, h.1)
+pub GoesOut-err : (a b : Option (List ℕ)) (bytes : List ℕ) (failed fault wanted : Refusal) → GoesOut a b bytes failed fault wanted → GoesOut {X = Result Ended Refusal} a b bytes (Err failed) (Err fault) (Err wanted)
+GoesOut-err a b bytes failed fault wanted (inl h) = inl (ap (λ (f : Refusal). Err f) h.0, h.1)
+GoesOut-err a b bytes failed fault wanted (inr h) = inr (ap (λ (f : Refusal). Err f) h.0, h.1)
 
 -- as many turns as there may be
-pub Served-full : (turns : List Turn) (a b : Side) (output : Option (List ℕ)) (fault : Fault) → Went turns a b → length turns ≡ FRAMES_MAX →
-    GoesOut b.output output (reply_bytes (Refused TooManyRequests)) (Stopped WriteFailed) fault (Stopped TooManyRequests) →
+pub Served-full : (turns : List Turn) (a b : Side) (output : Option (List ℕ)) (fault : Refusal) → Went turns a b → length turns ≡ FRAMES_MAX →
+    GoesOut b.output output (reply_bytes (Refused TooManyRequests)) WriteFailed fault TooManyRequests →
     Served a (record { site = b.site; input = b.input; output = output }) (Err fault)
 Served-full turns a b output fault one full told = record {
   turns = turns;
@@ -98,8 +96,8 @@ Served-full turns a b output fault one full told = record {
   read = λ bytes known.
       let p : (rest : List ℕ) × (b.input ≡ Some rest) × AreFrames turns bytes rest = one.read bytes known in
       (p.0, p.2, inr (inr (inl (refl, p.1))));
-  wrote = GoesOut-after a.output b.output output (replies_bytes turns) (reply_bytes (Refused TooManyRequests)) (Err (Stopped WriteFailed)) (Err fault) (Err (Stopped TooManyRequests)) one.wrote
-      (GoesOut-err b.output output (reply_bytes (Refused TooManyRequests)) (Stopped WriteFailed) fault (Stopped TooManyRequests) told);
+  wrote = GoesOut-after a.output b.output output (replies_bytes turns) (reply_bytes (Refused TooManyRequests)) (Err WriteFailed) (Err fault) (Err TooManyRequests) one.wrote
+      (GoesOut-err b.output output (reply_bytes (Refused TooManyRequests)) WriteFailed fault TooManyRequests told);
 }
 
 -- ---- as the code has them

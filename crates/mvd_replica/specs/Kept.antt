@@ -1,14 +1,15 @@
 -- What the records of a site hold: this project's own format (docs/FORMATS.md, "Records").
-use Rattle.std.specs.Prelude.{◌≡◌, ◌≢◌, ◌⊎◌, false, true, List, ℕ, Result, Ok, Err, option_map}
+use Rattle.std.specs.Prelude.{◌≡◌, ◌≢◌, ◌⊎◌, false, true, List, ℕ, Some, Result, Ok, Err, option_map}
 use Rattle.std.specs.FinMap.{get, insert}
 use Rattle.mvd_dots.specs.declared.refusals.Refusal.{Refusal}
 use Rattle.mvd_dots.specs.declared.refusals.Refusal.TheVariants.{Broken, Store}
+use Rattle.mvd_keys.specs.State.{State}
 use Rattle.mvd_keys.specs.Writes.{Key}
 use Rattle.mvd_wire.specs.Kinds.{spell_state}
 use Rattle.mvd_records.specs.States.{States as Stored}
-use Rattle.mvd_records.specs.Records.{HoldsRecords, SavesState, new_states}
+use Rattle.mvd_records.specs.Records.{HasNone, HoldsRecords, SavesState, new_states, old_states}
 use Rattle.mvd_site.specs.Change.{ChangeValue}
-use Rattle.mvd_site.specs.Held.{States}
+use Rattle.mvd_site.specs.Held.{IsSpelled, States}
 use Rattle.mvd_site.specs.Sites.{SiteValue}
 use Rattle.sqlite.specs.Effect.{Database}
 
@@ -16,14 +17,21 @@ use Rattle.sqlite.specs.Effect.{Database}
 abbrev pub SpellStates : Stored → States → Type 0
 SpellStates stored states = (key : Key) → get stored key ≡ option_map spell_state (get states key)
 
--- the database holds the records of a site of this number, which are these states
+-- each state has a spelling
+abbrev pub AreSpelled : States → Type 0
+AreSpelled states = (key : Key) (s : State) → get states key ≡ Some s → IsSpelled s
+
+-- the database holds the records of a site of this number, which are these states, and none of version 1
 pub record HoldsStates (site : ℕ) (states : States) (db : Database) : Type 0 where
   pub records : HoldsRecords 2 site db
+  pub alone : HasNone (old_states db)
   pub spelled : SpellStates (new_states db) states
+  pub fits : AreSpelled states
 
 -- the site and the records agree, unless the site is broken
 pub record HoldsSite (site : SiteValue) (db : Database) : Type 0 where
   pub records : HoldsRecords 2 site.config.site db
+  pub alone : HasNone (old_states db)
   pub spelled : site.broken ≡ false → SpellStates (new_states db) site.states
 
 -- the site with a change put in

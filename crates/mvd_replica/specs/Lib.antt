@@ -3,3 +3,4 @@ pub mod Stored
 pub mod Turns
 pub mod Served
 pub mod Steps
+pub mod Sides

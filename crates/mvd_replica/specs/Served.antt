@@ -12,8 +12,6 @@ use Rattle.mvd_wire.specs.Replies.{reply_bytes}
 use Rattle.mvd_site.specs.Sites.{SiteValue}
 use Rattle.mvd_replica.specs.declared.serving.Ended.{Ended}
 use Rattle.mvd_replica.specs.declared.serving.Ended.TheVariants as ended
-use Rattle.mvd_replica.specs.declared.serving.Fault.{Fault}
-use Rattle.mvd_replica.specs.declared.serving.Fault.TheVariants.{Stopped}
 use Rattle.mvd_replica.specs.declared.serving.TheConstants.{FRAMES_MAX}
 use Rattle.mvd_replica.specs.Turns.{AreFrames, Event, GoesOn, Replies, Tells, Turn}
 
@@ -31,11 +29,11 @@ pub data Ending : Type 0 where
   AtRefusal : Refusal → Ending
   AtWriter : Ending
 
-abbrev pub result_of : Ending → Result Ended Fault
+abbrev pub result_of : Ending → Result Ended Refusal
 result_of AtBye = Ok ended.Bye
 result_of AtEnd = Ok ended.End
-result_of (AtRefusal refusal) = Err (Stopped refusal)
-result_of AtWriter = Err (Stopped WriteFailed)
+result_of (AtRefusal refusal) = Err refusal
+result_of AtWriter = Err WriteFailed
 
 -- the frame that goes out at the end
 abbrev pub last_bytes : Bool → Ending → List ℕ
@@ -68,7 +66,7 @@ abbrev pub GoesOut : {X : Type 0} → Option (List ℕ) → Option (List ℕ) �
 GoesOut old new bytes failed result wanted = ((result ≡ wanted) × Appends old new bytes) ⊎ ((result ≡ failed) × AppendsFront old new bytes)
 
 -- Every frame was answered from the writes known then, and the connection ended so
-pub record Served (old new : Side) (result : Result Ended Fault) : Type 0 where
+pub record Served (old new : Side) (result : Result Ended Refusal) : Type 0 where
   pub turns : List Turn
   pub ending : Ending
   pub replies : Replies old.site new.site turns
@@ -76,7 +74,7 @@ pub record Served (old new : Side) (result : Result Ended Fault) : Type 0 where
   pub goes_on : AllByRecursion GoesOn turns
   pub count : IsCount (length turns) ending
   pub read : (bytes : List ℕ) → old.input ≡ Some bytes → (rest : List ℕ) × AreFrames turns bytes rest × Stops rest new.input ending
-  pub wrote : GoesOut old.output new.output (replies_bytes turns ++ last_bytes new.site.broken ending) (Err (Stopped WriteFailed)) result (result_of ending)
+  pub wrote : GoesOut old.output new.output (replies_bytes turns ++ last_bytes new.site.broken ending) (Err WriteFailed) result (result_of ending)
 
 -- turns that were taken, after which the connection goes on
 pub record Went (turns : List Turn) (old new : Side) : Type 0 where

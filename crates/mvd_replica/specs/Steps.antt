@@ -11,8 +11,6 @@ use Rattle.mvd_wire.specs.declared.reply.Reply.TheVariants.{Refused}
 use Rattle.mvd_wire.specs.Replies.{CanBeSent, is_short}
 use Rattle.mvd_site.specs.Sites.{SiteValue}
 use Rattle.mvd_replica.specs.declared.serving.Ended.{Ended}
-use Rattle.mvd_replica.specs.declared.serving.Fault.{Fault}
-use Rattle.mvd_replica.specs.declared.serving.Fault.TheVariants.{Stopped}
 use Rattle.mvd_replica.specs.Turns.{AddsAt, AreFrames, Event, GoesOn, Replies, RepliesOne, Tells, Turn}
 use Rattle.mvd_replica.specs.Served.{AtBye, AtEnd, AtRefusal, AtWriter, Ending, GoesOut, Side, Stops, Went, last_bytes, replies_bytes, result_of}
 
@@ -42,7 +40,7 @@ IsLastCount count (AtRefusal refusal) = (count ≡ 0) × (refusal ≢ TooManyReq
 IsLastCount count AtWriter = count ≡ 1
 
 -- the connection ends here
-pub record Ends (old new : Side) (result : Result Ended Fault) : Type 0 where
+pub record Ends (old new : Side) (result : Result Ended Refusal) : Type 0 where
   pub turns : List Turn
   pub ending : Ending
   pub replies : Replies old.site new.site turns
@@ -50,10 +48,10 @@ pub record Ends (old new : Side) (result : Result Ended Fault) : Type 0 where
   pub goes_on : AllByRecursion GoesOn turns
   pub count : IsLastCount (length turns) ending
   pub read : (bytes : List ℕ) → old.input ≡ Some bytes → (rest : List ℕ) × AreFrames turns bytes rest × Stops rest new.input ending
-  pub wrote : GoesOut old.output new.output (replies_bytes turns ++ last_bytes new.site.broken ending) (Err (Stopped WriteFailed)) result (result_of ending)
+  pub wrote : GoesOut old.output new.output (replies_bytes turns ++ last_bytes new.site.broken ending) (Err WriteFailed) result (result_of ending)
 
 -- one turn was taken, or the connection ended
-abbrev pub TakesTurn : Side → Side → Result (Option Ended) Fault → Type 0
+abbrev pub TakesTurn : Side → Side → Result (Option Ended) Refusal → Type 0
 TakesTurn old new (Ok None) = (turn : Turn) × Went (turn ∷ []) old new
 TakesTurn old new (Ok (Some ended)) = Ends old new (Ok ended)
 TakesTurn old new (Err fault) = Ends old new (Err fault)

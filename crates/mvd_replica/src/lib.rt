@@ -4,7 +4,8 @@
 mod opening;
 pub mod replica;
 pub mod serving;
+mod side;
 mod turns;
 
 pub use replica::Replica;
-pub use serving::{Ended, FRAMES_MAX, Fault, serve};
+pub use serving::{Ended, FRAMES_MAX, serve};

@@ -1,37 +1,46 @@
 //! A site whose states are stored before a reply says so.
-ghost use Rattle.std.specs.Prelude.{◌≡◌, ◌≢◌, ◌⊎◌, List, Err, IfErr, IfOk, MatchResult, false, true};
+ghost use Rattle.std.specs.Prelude.{◌≡◌, ◌≢◌, ◌⊎◌, ◌≤◌, List, length, Ok, Err, IfErr, IfOk, MatchResult, OnOk, false, true};
+ghost use Rattle.std.specs.Option.{option_copied};
 ghost use Rattle.std.specs.FinMap as map;
 ghost use Rattle.mvd_dots.specs.declared.refusals.Refusal.{Refusal};
-ghost use Rattle.mvd_dots.specs.declared.refusals.Refusal.TheVariants.{Broken};
+ghost use Rattle.mvd_dots.specs.declared.refusals.Refusal.TheVariants.{Broken, DotClash, Memory};
+ghost use Rattle.mvd_dots.specs.Answer.{IsAnswer};
+ghost use Rattle.mvd_keys.specs.State.{IsValid, clashes, join};
 ghost use Rattle.mvd_keys.specs.Writes.{Stands, Write};
+ghost use Rattle.mvd_tree.specs.Page.{is_more_after_page, page_of};
+ghost use Rattle.mvd_wire.specs.declared.request.Request.TheVariants.{Push};
 ghost use Rattle.mvd_wire.specs.declared.reply.Reply.TheVariants.{Refused};
 ghost use Rattle.mvd_wire.specs.Replies.{CanBeSent};
 ghost use Rattle.mvd_records.specs.Records.{IsSound, IsOurs, IsOpenRefusal, HasNone, HoldsRecords, old_states};
-ghost use Rattle.mvd_site.specs.FromStates.{after_from};
-ghost use Rattle.mvd_site.specs.Held.{IsHeldState};
+ghost use Rattle.mvd_site.specs.Answer.{digests, node_digests};
+ghost use Rattle.mvd_site.specs.FromStates.{after_from, bucket_refusal, push_reply, unless_broken, with_state};
+ghost use Rattle.mvd_site.specs.Held.{AreHeld, IsHeldState, state_at};
 ghost use Rattle.mvd_site.specs.Known.{Adds};
-ghost use Rattle.mvd_site.specs.Prepared.{IsChangeNow};
+ghost use Rattle.mvd_site.specs.Prepared.{IsChangeNow, is_refusal};
 ghost use Rattle.mvd_site.specs.Sites.{has_no_room};
 ghost use Rattle.sqlite.specs.Held.{state};
 
 use crate::opening::site_in;
 use mvd_dots::Refusal;
+use mvd_keys::{Key, KeyState, Path};
 use mvd_records::Records;
 use mvd_site::{Change, Config, Prepared, Site};
-use mvd_wire::{Reply, Request};
+use mvd_wire::{Digests, Reply, Request};
 use sqlite::{Alter, Connection};
 use std::alloc::Global;
 
 /// A site, and its records: unless the site is broken, they hold its states.
 #[derive(Drop)]
 pub struct Replica<S: Alter> {
+    alloc: Global,
     site: Site,
     records: Records<S>,
     ghost moved: { records.version ≡ 2 },
 }
 
 impl<S: Alter> Replica<S> {
-    ghost use Rattle.mvd_replica.specs.Kept.{HoldsSite, HoldsStates, PutsIn, Stores};
+    ghost use Rattle.mvd_replica.specs.Kept.{HoldsSite, HoldsStates, PutsIn, Stores, broken_site};
+    ghost use Rattle.mvd_replica.specs.Sides.{AnswersFromStored, StoreFollows};
     ghost use Rattle.mvd_replica.specs.Stored.{SameStates};
     ghost use Rattle.mvd_replica.specs.Turns.{AnswersStored};
 
@@ -57,7 +66,11 @@ impl<S: Alter> Replica<S> {
             Err(refused) => return Err(refused),
         };
         match site_in(alloc, &mut records, config) {
-            Ok(site) => Ok(Replica { site, records }),
+            Ok(site) => Ok(Replica {
+                alloc,
+                site,
+                records,
+            }),
             Err(refusal) => Err((refusal, records.into_connection())),
         }
     }
@@ -70,7 +83,10 @@ impl<S: Alter> Replica<S> {
 
     /// The number of keys that are held.
     pub fn key_count(&self) -> u32
-        ensures { result ≡ map.len self.now.site.states }
+        ensures count { result ≡ map.len self.now.site.states }
+        ensures room { result ≤ self.now.site.config.max_keys }
+        // Each key that is held is one, and each state has seen a dot and has a spelling within the limit.
+        ensures held { AreHeld self.now.site.states }
     {
         self.site.key_count()
     }
@@ -84,9 +100,13 @@ impl<S: Alter> Replica<S> {
 
     /// The connection of the records.
     pub fn into_connection(self) -> Connection<S>
-        ensures { result ≡ self.records.conn }
+        ensures same { result ≡ self.records.conn }
+        // What it held is what `open` then gives.
+        ensures holds { self.site.broken ≡ false → HoldsSite self.site (state S.Store self.records.conn).committed → HoldsStates self.site.config.site self.site.states (state S.Store result).committed }
     {
-        let Replica { site: _, records } = self;
+        // Here it is known that what is held has spellings.
+        let _held = self.site.key_count();
+        let Replica { records, .. } = self;
         records.into_connection()
     }
 
@@ -112,6 +132,7 @@ impl<S: Alter> Replica<S> {
     /// and the records as they were.
     pub fn answer(&mut self, request: &Request) -> Reply
         ensures answer { AnswersStored self.old.site self.new.site request.now result }
+        ensures states { AnswersFromStored self.old.site self.new.site request.now result }
         // There is a set of writes that it adds.
         ensures choice { (added : List Write) × Adds request.now result added }
         ensures config { self.new.site.config ≡ self.old.site.config }
@@ -134,6 +155,9 @@ impl<S: Alter> Replica<S> {
             Err(refusal) => Reply::Refused(refusal),
             Ok(Prepared::Answer(reply)) => reply,
             Ok(Prepared::Change(change)) => {
+                // Here it is known that what is held and what comes in have spellings.
+                let _held = self.site.key_count();
+                let _state = change.state();
                 let reply = change.reply();
                 match self.put_in(change) {
                     Ok(()) => reply,
@@ -141,5 +165,87 @@ impl<S: Alter> Replica<S> {
                 }
             }
         }
+    }
+
+    /// The digests of a node and, above the buckets, of its children. It looks at no held state and takes no memory; a broken
+    /// replica refuses it.
+    pub fn node(&self, path: &Path) -> Result<Digests, Refusal>
+        ensures { result ≡ unless_broken self.now.site.broken (Err Broken) (Ok (node_digests (digests self.now.site.states) path.now)) }
+    {
+        self.site.node(path)
+    }
+
+    /// A page of at most 1,000 of a bucket's keys with their digests, those after a key if one is given, and whether more
+    /// follow. It looks at no held state. `BadPath` where the path has not three digits; a broken replica refuses it.
+    pub fn bucket(
+        &self,
+        path: &Path,
+        after: Option<&Key>,
+    ) -> Result<(Vec<(Key, [u8; 32])>, bool), Refusal>
+        ensures whole { IfOk result (λ _. self.now.site.broken ≡ false) }
+        ensures path { IfOk result (λ _. length path.now ≡ 3) }
+        ensures keys { IfOk result (λ page. page.0.items ≡ page_of (digests self.now.site.states) path.now (option_copied after.entry)) }
+        ensures more { IfOk result (λ page. page.1 ≡ is_more_after_page (digests self.now.site.states) path.now (option_copied after.entry)) }
+        ensures refused { IfErr result (λ refusal. refusal ≡ bucket_refusal self.now.site.broken path.now) }
+    {
+        self.site.bucket(path, after)
+    }
+
+    /// The state of a key, empty where the key is not held. A broken replica refuses it.
+    pub fn get(&self, key: &Key) -> Result<KeyState, Refusal>
+        ensures whole { IfOk result (λ _. self.now.site.broken ≡ false) }
+        ensures state { IfOk result (λ state. state ≡ state_at self.now.site.states key.now) }
+        ensures refused { IfErr result (λ refusal. refusal ≡ unless_broken self.now.site.broken Broken Memory) }
+    {
+        self.site.get(key)
+    }
+
+    /// Joins a state to that of a key, and stores it, as a request to push it does: done; or the first refusal that applies, after
+    /// which the site and the records are as they were, unless the replica is broken.
+    pub fn push(&mut self, key: &Key, pushed: &KeyState) -> Result<(), Refusal>
+        ensures answer { AnswersFromStored self.old.site self.new.site (Push key.now pushed.now) (push_reply result) }
+        ensures joined { OnOk result (self.new.site ≡ record { config = self.old.site.config; states = with_state self.old.site.states key.now (join (state_at self.old.site.states key.now) pushed.now); broken = false }) }
+        ensures agreed { OnOk result (clashes (state_at self.old.site.states key.now) pushed.now ≡ false) }
+        ensures clash { IfErr result (λ refusal. refusal ≡ DotClash → clashes (state_at self.old.site.states key.now) pushed.now ≡ true) }
+        ensures unchanged { IfErr result (λ refusal. refusal ≢ Broken → self.new.site ≡ self.old.site) }
+        ensures unstored { IfErr result (λ refusal. refusal ≢ Broken → IsSound (state S.Store self.new.records.conn) → (state S.Store self.new.records.conn).committed ≡ (state S.Store self.old.records.conn).committed) }
+        // Whether it is broken, and for good.
+        ensures told { IfErr result (λ refusal. refusal ≡ Broken → self.new.site ≡ broken_site self.old.site) }
+        ensures stays { self.old.site.broken ≡ true → (result ≡ Err Broken) × (self.new ≡ self.old) }
+        // A state that was joined is that of some set of writes.
+        ensures valid { OnOk result (IsValid pushed.now) }
+        // The records follow the states.
+        ensures store { StoreFollows self.old.site self.new.site (state S.Store self.old.records.conn) (state S.Store self.new.records.conn) }
+        ensures stored { IsSound (state S.Store self.new.records.conn) → HoldsSite self.old.site (state S.Store self.old.records.conn).committed → self.old.site.broken ≡ false → result ≡ Err Broken →
+            HoldsStates self.old.site.config.site (after_from self.old.site.config self.old.site.states (Push key.now pushed.now)) (state S.Store self.new.records.conn).committed }
+    {
+        // Here it is known that the pushed state's siblings have been seen.
+        let _seen = pushed.context();
+        if self.site.is_broken() {
+            return Err(Refusal::Broken);
+        }
+        let request = match pushing(self.alloc, key, pushed) {
+            Ok(request) => request,
+            Err(refusal) => return Err(refusal),
+        };
+        let reply = self.answer(&request);
+        accepted(reply)
+    }
+}
+
+/// The request to push a state.
+fn pushing(alloc: Global, key: &Key, pushed: &KeyState) -> Result<Request, Refusal>
+    ensures { IsAnswer result (Ok (Push key.now pushed.now)) }
+{
+    Ok(Request::Push(key.copy(alloc)?, pushed.copy(alloc)?))
+}
+
+/// Whether a reply accepts what was asked.
+fn accepted(reply: Reply) -> Result<(), Refusal>
+    ensures { MatchResult result (λ _. is_refusal reply ≡ false) (λ refusal. reply ≡ Refused refusal) }
+{
+    match reply {
+        Reply::Refused(refusal) => Err(refusal),
+        _ => Ok(()),
     }
 }

@@ -21,24 +21,18 @@ pub enum Ended {
     End,
 }
 
-/// Why it ended otherwise.
-#[derive(Clone, Copy, Debug, PartialEq, Eq)]
-pub enum Fault {
-    Stopped(Refusal),
-    /// A line of a script is no command.
-    Line(u64),
-}
-
 /// As many frames of a connection are answered.
 pub const FRAMES_MAX: u32 = 1_000_000;
 
-/// Answers the frames of one connection, one after the other, until its Bye, its end, or a refusal that ends it.
+/// Answers the frames of one connection, one after the other, until its Bye or its end. Any other end is a refusal: `Truncated`,
+/// `FrameTooLong`, `ReadFailed` or `Memory` while a frame is read, `TooManyRequests` after as many as there may be, each told in one
+/// frame more; or `WriteFailed`, after which nothing more is written.
 pub fn serve<R: Read, W: Write, S: Alter>(
     alloc: Global,
     reader: &mut R,
     writer: &mut W,
     replica: &mut Replica<S>,
-) -> Result<Ended, Fault>
+) -> Result<Ended, Refusal>
     ensures served { Served
         (record { site = replica.old.site; input = R.remaining reader.old; output = W.contents writer.old })
         (record { site = replica.new.site; input = R.remaining reader.new; output = W.contents writer.new }) result }
@@ -51,7 +45,7 @@ pub fn serve<R: Read, W: Write, S: Alter>(
         match take_turn(alloc, reader, writer, replica) {
             Ok(None) => continue,
             Ok(Some(ended)) => return Ok(ended),
-            Err(fault) => return Err(fault),
+            Err(refusal) => return Err(refusal),
         }
     }
     Err(stop(writer, Refusal::TooManyRequests))

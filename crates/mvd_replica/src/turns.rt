@@ -7,14 +7,13 @@ ghost use Rattle.mvd_wire.specs.declared.reply.Reply.TheVariants.{Done, Refused}
 ghost use Rattle.mvd_wire.specs.Requests.{request_of};
 ghost use Rattle.mvd_wire.specs.Replies.{CanBeSent, reply_bytes};
 ghost use Rattle.mvd_records.specs.Records.{IsSound};
-ghost use Rattle.mvd_replica.specs.declared.serving.Fault.TheVariants.{Stopped};
 ghost use Rattle.mvd_replica.specs.Kept.{HoldsSite};
 ghost use Rattle.mvd_replica.specs.Served.{GoesOut, Side};
 ghost use Rattle.mvd_replica.specs.Steps.{IsSent, TakesTurn, TellsFrame};
 ghost use Rattle.sqlite.specs.Held.{state};
 
 use crate::replica::Replica;
-use crate::serving::{Ended, Fault};
+use crate::serving::Ended;
 use mvd_dots::Refusal;
 use mvd_wire::{
     Frame, Reply, Request, Short, decode_request, encode_reply, read_frame, short_reply,
@@ -24,13 +23,13 @@ use sqlite::Alter;
 use std::alloc::Global;
 use std::io::{Read, Write};
 
-/// Writes a Refused at the end of a connection.
-pub fn stop<W: Write>(writer: &mut W, refusal: Refusal) -> Fault
-    ensures { GoesOut (W.contents writer.old) (W.contents writer.new) (reply_bytes (Refused refusal)) (Stopped WriteFailed) result (Stopped refusal) }
+/// Writes a Refused at the end of a connection, which ends with it, or with the writer's failure.
+pub fn stop<W: Write>(writer: &mut W, refusal: Refusal) -> Refusal
+    ensures { GoesOut (W.contents writer.old) (W.contents writer.new) (reply_bytes (Refused refusal)) WriteFailed result refusal }
 {
     match write_frame(writer, Short::refused(refusal).bytes()) {
-        Ok(()) => Fault::Stopped(refusal),
-        Err(failed) => Fault::Stopped(failed),
+        Ok(()) => refusal,
+        Err(failed) => failed,
     }
 }
 
@@ -92,7 +91,7 @@ pub fn take_turn<R: Read, W: Write, S: Alter>(
     reader: &mut R,
     writer: &mut W,
     replica: &mut Replica<S>,
-) -> Result<Option<Ended>, Fault>
+) -> Result<Option<Ended>, Refusal>
     ensures taken { TakesTurn
         (record { site = replica.old.site; input = R.remaining reader.old; output = W.contents writer.old })
         (record { site = replica.new.site; input = R.remaining reader.new; output = W.contents writer.new }) result }
@@ -104,8 +103,8 @@ pub fn take_turn<R: Read, W: Write, S: Alter>(
         Ok(Some(frame)) => frame,
         Ok(None) => return Ok(Some(Ended::End)),
         Err(refusal) => {
-            let fault = stop(writer, refusal);
-            return Err(fault);
+            let stopped = stop(writer, refusal);
+            return Err(stopped);
         }
     };
     match reply_to(alloc, replica, &frame) {
@@ -113,12 +112,12 @@ pub fn take_turn<R: Read, W: Write, S: Alter>(
             let last = last(replica.is_broken());
             match write_frame(writer, last.bytes()) {
                 Ok(()) => return Ok(Some(Ended::Bye)),
-                Err(failed) => return Err(Fault::Stopped(failed)),
+                Err(failed) => return Err(failed),
             }
         }
         Some(reply) => match send(alloc, writer, &reply) {
             Ok(()) => return Ok(None),
-            Err(failed) => return Err(Fault::Stopped(failed)),
+            Err(failed) => return Err(failed),
         },
     }
 }

@@ -2,7 +2,7 @@
 ghost use Rattle.mvd_site.specs.Config.{IsConfig};
 
 use mvd_dots::Refusal;
-use mvd_replica::{Ended, Fault, Replica, serve};
+use mvd_replica::{Ended, Replica, serve};
 use mvd_rows::Defs;
 use mvd_site::Config;
 use sqlite::{Alter, Connection, MemStore};
@@ -72,12 +72,11 @@ pub fn again<S: Alter + Drop>(
     opened(alloc, replica.into_connection(), number, max_keys)
 }
 
-fn ended(how: Result<Ended, Fault>) -> &'static str {
+fn ended(how: Result<Ended, Refusal>) -> &'static str {
     match how {
         Ok(Ended::Bye) => " bye",
         Ok(Ended::End) => " end",
-        Err(Fault::Stopped(refusal)) => refusal.name(),
-        Err(Fault::Line(_)) => " line",
+        Err(refusal) => refusal.name(),
     }
 }
 

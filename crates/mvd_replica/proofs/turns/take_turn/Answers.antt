@@ -9,8 +9,8 @@ returns-in-Ok-None-clause-taken g c =
 
 pub returns-in-Err-clause-taken : goal.returns-in-Err-clause-taken
 returns-in-Err-clause-taken g c =
-    at_refusal c.args.replica.now.site (g.R.Read.remaining c.args.reader.now) (g.R.Read.remaining c.read_frame.new.reader) (g.W.Write.contents c.args.writer.now) (g.W.Write.contents c.stop-fault.new.writer) c.in-Err.refusal c.stop-fault.result
-    c.in-Err.ensures.read c.in-Err.ensures.err c.stop-fault.ensures
+    at_refusal c.args.replica.now.site (g.R.Read.remaining c.args.reader.now) (g.R.Read.remaining c.read_frame.new.reader) (g.W.Write.contents c.args.writer.now) (g.W.Write.contents c.stop-stopped.new.writer) c.in-Err.refusal c.stop-stopped.result
+    c.in-Err.ensures.read c.in-Err.ensures.err c.stop-stopped.ensures
 
 pub returns-in-Ok-clause-taken : goal.returns-in-Ok-clause-taken
 returns-in-Ok-clause-taken g c =

@@ -1,4 +1,4 @@
-use Rattle.std.proofs.Common.{◌≡◌, ◌≢◌, true, false, Ok, Err, refl, sym, ap, subst}
+use Rattle.std.proofs.Common.{◌≡◌, ◌≢◌, inl, true, false, Ok, Err, refl, sym, ap, subst}
 use Rattle.mvd_dots.specs.declared.refusals.Refusal.{Refusal}
 use Rattle.mvd_dots.specs.declared.refusals.Refusal.TheVariants.{Broken}
 use Rattle.mvd_wire.specs.declared.reply.Reply.TheVariants.{Refused}
@@ -7,9 +7,10 @@ use Rattle.mvd_site.specs.FromStates.{after_from}
 use Rattle.mvd_site.specs.Prepared.{IsReady, Prepares, PreparesFrom}
 use Rattle.mvd_site.specs.Sites.{AnswersOne, SiteValue}
 use Rattle.mvd_site.proofs.Outcomes.{change_plain, err_is, refused_fits, whole_where_ok}
-use Rattle.mvd_site.proofs.Prepare.{answers_broken, answers_by_answer, answers_by_change, answers_by_refusal}
+use Rattle.mvd_site.proofs.Prepare.{answers_broken, answers_by_answer, answers_by_change, answers_by_refusal, answers_from_answer, answers_from_change, answers_from_refusal}
 use Rattle.mvd_site.proofs.Runs.{fitting}
 use Rattle.mvd_replica.proofs.Answering.{answers_refused, answers_unstored, not_store}
+use Rattle.mvd_replica.proofs.Sides.{refused_from}
 use Rattle.mvd_replica.proofs.Storing.{holds_put, holds_refused, stored_broken}
 use Rattle.mvd_replica.proofs.replica.Replica.answer.Goals as goal
 
@@ -76,11 +77,33 @@ pub returns-in-Err-put_in-clause-records : goal.returns-in-Err-put_in-clause-rec
 returns-in-Err-put_in-clause-records g c sound holds =
     let old = c.args.self.now.site in
     holds_refused old c.put_in.new.self.site _ _ c.in-Ok-Change.change c.in-Err-put_in.refusal c.in-Err-put_in.ensures.site
-    (λ store. c.in-Err-put_in.ensures.unchanged sound (ap (λ (r : Refusal). Err r) store)) (c.in-Err-put_in.ensures.kept old.config.site sound holds.records) holds
+    (λ store. c.in-Err-put_in.ensures.unchanged sound (ap (λ (r : Refusal). Err r) store)) (c.in-Err-put_in.ensures.stored old.config.site sound holds.records) (c.in-Err-put_in.ensures.kept old.config.site sound holds.records) holds
 
 pub returns-in-Err-put_in-clause-stored : goal.returns-in-Err-put_in-clause-stored
 returns-in-Err-put_in-clause-stored g c sound holds whole is =
     let old = c.args.self.now.site in
     let prepared = subst (λ p. PreparesFrom old.config old.states c.args.request.now (Ok p)) c.in-Ok-Change.field-0-is (c.in-Ok-Change.ensures.states whole) in
     stored_broken old _ _ c.in-Ok-Change.change (after_from old.config old.states c.args.request.now) whole prepared.after
-    (c.in-Err-put_in.ensures.stored old.config.site sound holds.records (not_store c.in-Err-put_in.refusal is)) (c.in-Err-put_in.ensures.kept old.config.site sound holds.records) holds
+    (c.in-Err-put_in.ensures.stored old.config.site sound holds.records (not_store c.in-Err-put_in.refusal is)) c.key_count-held.ensures.held.spelled c.state-state.ensures.spelled (c.in-Err-put_in.ensures.kept old.config.site sound holds.records) holds
+
+pub returns-in-Err-clause-states : goal.returns-in-Err-clause-states
+returns-in-Err-clause-states g c = inl (answers_from_refusal c.args.self.now.site c.args.request.now c.in-Err.refusal (λ whole. c.in-Err.ensures.states whole))
+
+pub returns-in-Ok-Answer-clause-states : goal.returns-in-Ok-Answer-clause-states
+returns-in-Ok-Answer-clause-states g c =
+    let old = c.args.self.now.site in
+    inl (answers_from_answer old c.args.request.now c.in-Ok-Answer.reply
+    (λ whole. subst (λ p. PreparesFrom old.config old.states c.args.request.now (Ok p)) c.in-Ok-Answer.field-0-is (c.in-Ok-Answer.ensures.states whole)))
+
+pub returns-in-Ok-clause-states : goal.returns-in-Ok-clause-states
+returns-in-Ok-clause-states g c =
+    let old = c.args.self.now.site in
+    inl (answers_from_change old c.put_in.new.self.site c.args.request.now c.in-Ok-Change.change c.reply-reply.result c.in-Ok.ensures.site c.reply-reply.ensures
+    (λ whole. subst (λ p. PreparesFrom old.config old.states c.args.request.now (Ok p)) c.in-Ok-Change.field-0-is (c.in-Ok-Change.ensures.states whole)))
+
+pub returns-in-Err-put_in-clause-states : goal.returns-in-Err-put_in-clause-states
+returns-in-Err-put_in-clause-states g c =
+    let old = c.args.self.now.site in
+    let whole : old.broken ≡ false = whole_where_ok old.broken c.in-Ok-Change.field-0 c.in-Ok-Change.ensures.broken in
+    refused_from old c.put_in.new.self.site c.args.request.now c.in-Ok-Change.change c.in-Err-put_in.refusal whole c.in-Err-put_in.ensures.site
+    (subst (λ p. PreparesFrom old.config old.states c.args.request.now (Ok p)) c.in-Ok-Change.field-0-is (c.in-Ok-Change.ensures.states whole))

@@ -10,7 +10,7 @@ pub returns-in-Ok-site_in-clause-opened : goal.returns-in-Ok-site_in-clause-open
 returns-in-Ok-site_in-clause-opened g c sound ours =
     let opened = c.in-Ok.ensures.opened (c.in-Ok-site_in.ensures.before sound) ours in
     let both = c.in-Ok-site_in.ensures.holds c.site.result sound opened.holds in
-    holds_opened c.in-Ok-site_in.site c.args.config c.site.result _ c.in-Ok-site_in.ensures.config.0 c.site.ensures.site both.0 both.1
+    holds_opened c.in-Ok-site_in.site c.args.config c.site.result _ c.in-Ok-site_in.ensures.config.0 c.site.ensures.site both.0 (c.in-Ok-site_in.ensures.alone c.site.result sound opened.holds) both.1
 
 pub returns-in-Err-clause-states : goal.returns-in-Err-clause-states
 returns-in-Err-clause-states g c sound ours = same_unchanged _ _ (c.in-Err.ensures.unchanged sound)

@@ -1,0 +1,93 @@
+-- A replica as a side of a session.
+use Rattle.std.proofs.Common.{◌≡◌, ◌≢◌, ◌⊎◌, ◌∙◌, Bool, true, false, Result, Ok, Err, refl, sym, ap, subst, inl, inr, true≢false, if◌then◌else◌}
+use Rattle.std.specs.Result.{IfErr, IfOk, MatchResult, OnErr, OnOk}
+use Rattle.mvd_dots.specs.declared.refusals.Refusal.{Refusal}
+use Rattle.mvd_dots.specs.declared.refusals.Refusal.TheVariants.{Broken, DotClash, Memory, StateTooLarge, Store}
+use Rattle.mvd_keys.specs.State.{State, clashes, join}
+use Rattle.mvd_keys.specs.Writes.{Key}
+use Rattle.mvd_wire.specs.declared.request.Request.{Request}
+use Rattle.mvd_wire.specs.declared.request.Request.TheVariants.{Push}
+use Rattle.mvd_wire.specs.declared.reply.Reply.{Reply}
+use Rattle.mvd_wire.specs.declared.reply.Reply.TheVariants.{Done, Refused}
+use Rattle.mvd_site.specs.Change.{ChangeValue}
+use Rattle.mvd_site.specs.Config.{ConfigValue}
+use Rattle.mvd_site.specs.FromStates.{Answered, AnswersFrom, after_from, answer_from, push_reply, within}
+use Rattle.mvd_site.specs.Held.{States, state_at}
+use Rattle.mvd_site.specs.Prepared.{PreparesChangeFrom, is_refusal}
+use Rattle.mvd_site.specs.Sites.{SiteValue}
+use Rattle.mvd_site.specs.Answer.{is_too_large}
+use Rattle.mvd_site.proofs.Answered.{insert_differs, limited_cases}
+use Rattle.mvd_site.proofs.Prepare.{answers_from_breaking}
+use Rattle.mvd_site.proofs.Pushes.{PushFacts, push_facts, refusal_is}
+use Rattle.mvd_sync.specs.Sides.{SiteRefuses}
+use Rattle.mvd_sync.proofs.SiteSides.{push_refuses as site_push_refuses}
+use Rattle.mvd_replica.specs.Kept.{PutsIn, broken_site}
+use Rattle.mvd_replica.specs.Sides.{AnswersFromStored, ReplicaRefuses, StoreRefusedFrom}
+
+-- ---- one request, from the states
+
+-- a change that was not put in
+pub refused_from : (old new : SiteValue) (request : Request) (change : ChangeValue) (refusal : Refusal) → old.broken ≡ false → PutsIn {A = Unit {0}} old new change (Err refusal) →
+    PreparesChangeFrom old.config old.states request change → AnswersFromStored old new request (Refused refusal)
+refused_from old new request change refusal whole (inl store) prepared = inr (record {
+  told = ap Refused store.0;
+  changes = λ same. insert_differs old.states change.key change.state prepared.differs (sym prepared.after ∙ same);
+  whole = whole;
+  site = store.1;
+})
+refused_from old new request change refusal whole (inr broke) prepared = inl (answers_from_breaking old new request change refusal broke.0 broke.1 (λ _. prepared))
+
+-- ---- a push
+
+-- an answer to a push that refuses nothing
+plain_done : (large clash : Bool) (rest : Reply) → (is_refusal rest ≡ false → rest ≡ Done) → is_refusal (if large then Refused StateTooLarge else if clash then Refused DotClash else rest) ≡ false →
+    (if large then Refused StateTooLarge else if clash then Refused DotClash else rest) ≡ Done
+plain_done true clash rest is plain = absurd (true≢false plain)
+plain_done false true rest is plain = absurd (true≢false plain)
+plain_done false false rest is plain = is plain
+
+done_by : (config : ConfigValue) (m : States) (key : Key) (pushed : State) → is_refusal (answer_from config m (Push key pushed)) ≡ false → answer_from config m (Push key pushed) ≡ Done
+done_by config m key pushed plain =
+    plain_done (is_too_large pushed) (clashes (state_at m key) pushed) (within config m key (join (state_at m key) pushed) Done)
+    (limited_cases (λ r. is_refusal r ≡ false → r ≡ Done) config _ _ (join (state_at m key) pushed) Done (λ e. absurd (true≢false e)) (λ e. absurd (true≢false e)) (λ e. refl)) plain
+
+-- the reply to a push, as its result
+pub pushed_reply : (old new : SiteValue) (key : Key) (pushed : State) (reply : Reply) (result : Result (Unit {0}) Refusal) → old.broken ≡ false → AnswersFromStored old new (Push key pushed) reply →
+    MatchResult result (λ _. is_refusal reply ≡ false) (λ refusal. reply ≡ Refused refusal) → reply ≡ push_reply result
+pushed_reply old new key pushed reply (Err refusal) whole answers is = is
+pushed_reply old new key pushed reply (Ok done) whole (inr store) plain = absurd (true≢false (ap is_refusal (sym store.told) ∙ plain))
+pushed_reply old new key pushed reply (Ok done) whole (inl from) plain = elim (from whole) [
+  | inl answered ↦ answered.answers ∙ done_by old.config old.states key pushed (ap is_refusal (sym answered.answers) ∙ plain)
+  | inr (inl memory) ↦ absurd (true≢false (ap is_refusal (sym memory.0) ∙ plain))
+  | inr (inr broke) ↦ absurd (true≢false (ap is_refusal (sym broke.0) ∙ plain))
+]
+
+store_facts : (old new : SiteValue) (key : Key) (pushed : State) (result : Result (Unit {0}) Refusal) → StoreRefusedFrom old new (Push key pushed) (push_reply result) → PushFacts old new key pushed result
+store_facts old new key pushed (Ok done) store = let bad : Done ≡ Refused Store = store.told in absurd cc
+store_facts old new key pushed (Err refusal) store = let is : refusal ≡ Store = refusal_is refusal Store store.told in record {
+  joined = tt;
+  agreed = tt;
+  clash = λ clash. absurd (let bad : DotClash ≡ Store = sym clash ∙ is in cc);
+  unchanged = λ _. store.site;
+  told = λ broken. absurd (let bad : Broken ≡ Store = sym broken ∙ is in cc);
+}
+
+pub stored_facts : (old new : SiteValue) (key : Key) (pushed : State) (result : Result (Unit {0}) Refusal) → old.broken ≡ false → AnswersFromStored old new (Push key pushed) (push_reply result) → PushFacts old new key pushed result
+stored_facts old new key pushed result whole (inl from) = push_facts old new key pushed result whole from
+stored_facts old new key pushed result whole (inr store) = store_facts old new key pushed result store
+
+-- ---- what a replica refuses
+
+is_inl : {X : Type 0} (site : SiteValue) (r : Result X Refusal) → IfErr r (SiteRefuses site) → IfErr r (ReplicaRefuses site)
+is_inl site (Ok done) refuses = tt
+is_inl site (Err refusal) refuses = inl refuses
+
+module _ (old new : SiteValue) (key : Key) (s : State) where
+  by_store : (r : Result (Unit {0}) Refusal) → StoreRefusedFrom old new (Push key s) (push_reply r) → IfErr r (ReplicaRefuses new)
+  by_store (Ok done) store = tt
+  by_store (Err refusal) store = inr (refusal_is refusal Store store.told, ap (λ (v : SiteValue). v.broken) store.site ∙ store.whole)
+
+  pub push_refuses : (r : Result (Unit {0}) Refusal) → AnswersFromStored old new (Push key s) (push_reply r) → IfErr r (λ refusal. refusal ≡ Broken → new ≡ broken_site old) → (old.broken ≡ true → r ≡ Err Broken) →
+      IfErr r (ReplicaRefuses new)
+  push_refuses r (inl from) told stays = is_inl new r (site_push_refuses old new key s r from told stays)
+  push_refuses r (inr store) told stays = by_store r store

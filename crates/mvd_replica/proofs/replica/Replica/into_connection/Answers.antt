@@ -1,0 +1,10 @@
+use Rattle.std.proofs.Common.{subst, sym}
+use Rattle.sqlite.specs.Held.{state}
+use Rattle.mvd_replica.specs.Kept.{HoldsStates}
+use Rattle.mvd_replica.proofs.Storing.{holds_states}
+use Rattle.mvd_replica.proofs.replica.Replica.into_connection.Goals as goal
+
+pub returns-clause-holds : goal.returns-clause-holds
+returns-clause-holds g c whole holds =
+    let site = c.args.self.site in
+    subst (λ k. HoldsStates site.config.site site.states (state g.S.Store k).committed) (sym c.into_connection.ensures) (holds_states site _ whole c.key_count-held.ensures.held.spelled holds)

@@ -1,0 +1,11 @@
+use Rattle.mvd_sync.proofs.SiteSides.{push_ok}
+use Rattle.mvd_replica.proofs.Sides.{push_refuses}
+use Rattle.mvd_replica.proofs.side.ReplicaPeer.push.Goals as goal
+
+pub returns-clause-ok : goal.returns-clause-ok
+returns-clause-ok g c whole =
+    push_ok c.args.self.now.site c.push-pushed.new.self.site c.args.key.now c.args.state.now whole c.key_count-held.ensures.held c.push-pushed.result c.context-seen.ensures.valid c.push-pushed.ensures.joined
+
+pub returns-clause-refuses : goal.returns-clause-refuses
+returns-clause-refuses g c =
+    push_refuses c.args.self.now.site c.push-pushed.new.self.site c.args.key.now c.args.state.now c.push-pushed.result c.push-pushed.ensures.answer c.push-pushed.ensures.told (λ broken. (c.push-pushed.ensures.stays broken).0)

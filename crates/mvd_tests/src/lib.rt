@@ -10,8 +10,6 @@ mod listing;
 #[cfg(test)]
 mod long;
 #[cfg(test)]
-mod memory;
-#[cfg(test)]
 mod random;
 #[cfg(test)]
 mod scripts;

@@ -193,7 +193,7 @@ fn digests_alone_change_nothing(rt: HostRuntime) -> Result<(), Fail> {
 
 #[test]
 fn each_question_may_be_refused(rt: HostRuntime) -> Result<(), Fail> {
-    for n in 1..20u64 {
+    for n in 1..300u64 {
         let ended = with_liar(rt.alloc(), Lie::RefusesAt(n))?;
         assert_eq!(rt; ended.0, Err(SyncFault::Peer(Refusal::Store)));
         assert_eq!(rt; ended.1, Err(SyncFault::Local(Refusal::Store)));

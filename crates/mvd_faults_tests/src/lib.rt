@@ -1,0 +1,27 @@
+//! Tests of a stored site where something fails: its streams, its bytes, its records, its store and its memory.
+#![tactic(auto)]
+
+#[cfg(test)]
+mod asked;
+#[cfg(test)]
+mod bytes;
+#[cfg(test)]
+mod calls;
+#[cfg(test)]
+mod damaged;
+#[cfg(test)]
+mod frames;
+#[cfg(test)]
+mod meetings;
+#[cfg(test)]
+mod memory;
+#[cfg(test)]
+mod random;
+#[cfg(test)]
+mod scale;
+#[cfg(test)]
+mod stops;
+#[cfg(test)]
+mod streams;
+#[cfg(test)]
+mod worlds;

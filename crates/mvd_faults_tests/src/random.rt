@@ -1,0 +1,341 @@
+//! Random frames, from a generator with a fixed seed.
+use super::calls::{GET, bytes_of, first, replies};
+use super::frames::{count, is_state};
+use mvd_dots::Refusal;
+use mvd_replica::Replica;
+use sqlite::MemStore;
+use std::alloc::{AllocError, Global};
+use std::test::Fail;
+
+/// Numbers that a seed determines.
+#[derive(Drop)]
+struct Random {
+    state: u64,
+}
+
+impl Random {
+    /// The next number below a limit, or 0 where that is 0.
+    fn below(&mut self, limit: u64) -> u64 {
+        let mut x = self.state | 1;
+        x ^= x << 13;
+        x ^= x >> 7;
+        x ^= x << 17;
+        self.state = x;
+        (x >> 11).checked_rem(limit).unwrap_or(0)
+    }
+
+    /// The same, as a byte.
+    fn byte(&mut self, limit: u64) -> u8 {
+        self.below(limit).to_be_bytes()[7]
+    }
+
+    /// One of these.
+    fn one_of(&mut self, choices: &[u32]) -> u32 {
+        let at = self.below(choices.len() as u64) as usize;
+        choices.get(at).copied().unwrap_or(0)
+    }
+}
+
+/// The two lower bytes of a number.
+fn two(number: u32) -> [u8; 2] {
+    let [_, _, high, low] = number.to_be_bytes();
+    [high, low]
+}
+
+/// A payload that is made piece by piece.
+#[derive(Drop)]
+struct Maker {
+    random: Random,
+    bytes: Vec<u8>,
+}
+
+/// The pieces of a payload.
+#[derive(Clone, Copy, Drop)]
+enum Piece {
+    Key,
+    Context,
+    Document,
+    Term,
+    Name,
+    Path,
+    Dot,
+    State,
+    /// A flag, and behind it some of these pieces.
+    Option(&'static [Piece]),
+}
+
+/// The payload of each kind of request.
+const KINDS: &[(u8, &[Piece])] = &[
+    (0x21, &[Piece::Key]),
+    (0x22, &[Piece::Key, Piece::Context, Piece::Document]),
+    (0x23, &[Piece::Key, Piece::Context]),
+    (
+        0x24,
+        &[
+            Piece::Name,
+            Piece::Term,
+            Piece::Option(&[Piece::Key, Piece::Dot]),
+        ],
+    ),
+    (0x25, &[Piece::Name, Piece::Term]),
+    (0x26, &[Piece::Name, Piece::Option(&[Piece::Term])]),
+    (0x27, &[Piece::Path]),
+    (0x28, &[Piece::Path, Piece::Option(&[Piece::Key])]),
+    (0x29, &[Piece::Key, Piece::State]),
+    (
+        0x2A,
+        &[
+            Piece::Name,
+            Piece::Term,
+            Piece::Term,
+            Piece::Option(&[Piece::Term, Piece::Key, Piece::Dot]),
+        ],
+    ),
+    (0x20, &[Piece::Key]),
+    (0xA1, &[Piece::State]),
+    (0x2F, &[]),
+];
+
+impl Maker {
+    fn push(&mut self, bytes: &[u8]) -> Result<(), AllocError> {
+        self.bytes.extend_from_slice(bytes)
+    }
+
+    /// So many letters, or seldom one byte among them that is none.
+    fn letters(&mut self, letters: u32) -> Result<(), AllocError> {
+        let odd = if self.random.below(20) == 0 {
+            self.random.below(u64::from(letters))
+        } else {
+            u64::MAX
+        };
+        for at in 0..letters {
+            let byte = if u64::from(at) == odd {
+                self.random.byte(256)
+            } else {
+                b'x'
+            };
+            self.bytes.push(byte)?;
+        }
+        Ok(())
+    }
+
+    fn key(&mut self) -> Result<(), AllocError> {
+        if self.random.below(4) > 0 {
+            let letter = b'a'.wrapping_add(self.random.byte(9));
+            return self.push(&[1, letter]);
+        }
+        let len = self.random.one_of(&[0, 1, 2, 127, 128, 129, 255]);
+        self.push(&two(len)[1..])?;
+        self.letters(len)
+    }
+
+    fn dot(&mut self) -> Result<(), AllocError> {
+        let site = self.random.one_of(&[0, 1, 1, 2, 3, u32::MAX]);
+        let counter = [0, 1, 2, 3, (1 << 48) - 1, 1 << 48][self.random.below(6) as usize % 6];
+        self.push(&site.to_be_bytes())?;
+        self.push(&u64::to_be_bytes(counter))
+    }
+
+    fn context(&mut self) -> Result<(), AllocError> {
+        let entries = self.random.one_of(&[0, 0, 1, 1, 2, 3, u32::MAX]);
+        self.push(&entries.to_be_bytes())?;
+        for site in 1..=entries.min(3) {
+            let base = self.random.below(4);
+            let loose = self.random.one_of(&[0, 0, 1, 2, u32::MAX]);
+            self.push(&site.to_be_bytes())?;
+            self.push(&base.to_be_bytes())?;
+            self.push(&loose.to_be_bytes())?;
+            for number in 0..u64::from(loose.min(2)) {
+                let counter = base
+                    .wrapping_add(self.random.below(4))
+                    .wrapping_add(number * 3);
+                self.push(&counter.to_be_bytes())?;
+            }
+        }
+        Ok(())
+    }
+
+    fn document(&mut self) -> Result<(), AllocError> {
+        let letters = self
+            .random
+            .one_of(&[0, 1, 1, 1, 1, 1, 1, 40, 65_527, 65_528, 65_529]);
+        let (begin, rest): (&[u8], u32) = if self.random.below(3) == 0 {
+            (b"{\"city\":\"", 11)
+        } else {
+            (b"{\"a\":\"", 8)
+        };
+        let len = letters.saturating_add(rest);
+        self.push(&len.to_be_bytes())?;
+        self.push(begin)?;
+        self.letters(letters)?;
+        self.push(b"\"}")
+    }
+
+    fn term(&mut self) -> Result<(), AllocError> {
+        let tag = self.random.byte(6);
+        self.push(&[tag])?;
+        match tag {
+            3 => self.push(&self.random.state.to_be_bytes()),
+            4 => {
+                let len = self.random.one_of(&[0, 4, 4, 511, 512, 513]);
+                self.push(&two(len))?;
+                self.letters(len)
+            }
+            _ => Ok(()),
+        }
+    }
+
+    fn name(&mut self) -> Result<(), AllocError> {
+        match self.random.below(4) {
+            0 => self.push(b"\0\x04city"),
+            1 => self.push(b"\0\x05spend"),
+            _ => {
+                let len = self.random.one_of(&[0, 1, 63, 64, 65]);
+                self.push(&two(len))?;
+                self.letters(len)
+            }
+        }
+    }
+
+    fn path(&mut self) -> Result<(), AllocError> {
+        let digits = self.random.byte(5);
+        self.push(&[digits])?;
+        for _ in 0..digits {
+            let digit = self.random.byte(17);
+            self.push(&[digit])?;
+        }
+        Ok(())
+    }
+
+    fn state(&mut self) -> Result<(), AllocError> {
+        self.context()?;
+        let siblings = self.random.one_of(&[0, 0, 1, 1, 2, 65_535]);
+        self.push(&two(siblings))?;
+        for _ in 0..siblings.min(2) {
+            self.dot()?;
+            self.document()?;
+        }
+        Ok(())
+    }
+
+    fn piece(&mut self, piece: Piece) -> Result<(), AllocError> {
+        match piece {
+            Piece::Key => self.key(),
+            Piece::Context => self.context(),
+            Piece::Document => self.document(),
+            Piece::Term => self.term(),
+            Piece::Name => self.name(),
+            Piece::Path => self.path(),
+            Piece::Dot => self.dot(),
+            Piece::State => self.state(),
+            Piece::Option(_) => Ok(()),
+        }
+    }
+
+    fn pieces(&mut self, pieces: &[Piece]) -> Result<(), AllocError> {
+        for piece in pieces {
+            self.piece(*piece)?;
+            if let Piece::Option(inner) = piece {
+                let flag = [0, 1, 1, 2][self.random.below(4) as usize % 4];
+                self.push(&[flag])?;
+                if flag > 0 {
+                    for part in inner.iter() {
+                        self.piece(*part)?;
+                    }
+                }
+            }
+        }
+        Ok(())
+    }
+
+    /// Takes bytes away, puts some at the end, or changes some; mostly none.
+    fn damage(&mut self) -> Result<(), AllocError> {
+        let len = self.bytes.len() as u64;
+        match self.random.below(8) {
+            0 => self.bytes.truncate(self.random.below(len) as usize),
+            1 => self.letters(2)?,
+            2 => {
+                let at = self.random.below(len) as usize;
+                let byte = self.random.byte(256);
+                if let Some(found) = self.bytes.get_mut(at) {
+                    *found = byte;
+                }
+            }
+            _ => {}
+        }
+        Ok(())
+    }
+
+    /// Adds a frame to a connection's bytes.
+    fn frame(&mut self, input: &mut Vec<u8>) -> Result<(), AllocError> {
+        // A Bye, which is the last of them, is seldom.
+        let at = self.random.below(97) as usize / 8;
+        let Some((kind, pieces)) = KINDS.get(at) else {
+            return Ok(());
+        };
+        self.bytes.clear();
+        self.pieces(pieces)?;
+        self.damage()?;
+        input.extend_from_slice(
+            &u32::try_from(self.bytes.len())
+                .unwrap_or(0)
+                .saturating_add(1)
+                .to_be_bytes(),
+        )?;
+        input.push(*kind)?;
+        input.extend_from_slice(self.bytes.as_slice())
+    }
+}
+
+const FRAMES: u32 = 40;
+
+const CONNECTIONS: u32 = 250;
+
+/// Whether a connection of such frames has as many replies, or ends by a Bye, and the next one tells a state.
+fn is_answered(
+    alloc: Global,
+    replica: &mut Replica<MemStore>,
+    maker: &mut Maker,
+) -> Result<usize, Refusal> {
+    let mut input = Vec::new(alloc);
+    for _ in 0..FRAMES {
+        maker.frame(&mut input)?;
+    }
+    let (output, ended) = replies(alloc, replica, input.as_slice());
+    let answered = count(alloc, output.as_slice())?;
+    let question = bytes_of(alloc, &[GET])?;
+    let (state, _) = replies(alloc, replica, question.as_slice());
+    let is_whole = match ended {
+        "end" => answered == FRAMES as usize,
+        "bye" => true,
+        _ => false,
+    };
+    if is_whole && is_state(alloc, state.as_slice())? {
+        Ok(answered)
+    } else {
+        Err(Refusal::Damaged)
+    }
+}
+
+#[test]
+fn random_frames_are_answered(rt: HostRuntime) -> Result<(), Fail> {
+    let alloc = rt.alloc();
+    let mut replica = first(alloc)?;
+    let mut maker = Maker {
+        random: Random {
+            state: 0x9E37_79B9_7F4A_7C15,
+        },
+        bytes: Vec::new(alloc),
+    };
+    let mut answered = 0usize;
+    for connection in 0..CONNECTIONS {
+        match is_answered(alloc, &mut replica, &mut maker) {
+            Ok(replies) => answered = answered.saturating_add(replies),
+            Err(refusal) => {
+                return Err(Fail::new(format_args!("connection {connection}: {refusal}")));
+            }
+        }
+    }
+    println!(rt; "{answered} frames, {} keys", replica.key_count())?;
+    Ok(())
+}

@@ -1,0 +1,79 @@
+#!/bin/bash
+# Refuses each growth of memory in turn, in each test that is made for it: each run must pass. docs/FAULTS.md has the counts.
+# It runs the proved tests (`rt test` in their crates first), and needs a C compiler.
+# usage: tools/faults.sh [CRATE TEST]
+set -eu
+top=$(cd "$(dirname "$0")/.." && pwd)
+room=$(mktemp -d)
+trap 'rm -rf "$room"' EXIT
+cat >"$room/refuse.c" <<'C'
+// Refuses the allocation of number REFUSE, counted from 1; at the end of a run with 0 it tells how many there were.
+#define _GNU_SOURCE
+#include <dlfcn.h>
+#include <errno.h>
+#include <stdio.h>
+#include <stdlib.h>
+static unsigned long calls, refused;
+static int begun;
+static void *(*of_malloc)(size_t), *(*of_realloc)(void *, size_t), *(*of_aligned)(size_t, size_t);
+static int (*of_posix)(void **, size_t, size_t);
+__attribute__((constructor)) static void begin(void) {
+    const char *number = getenv("REFUSE");
+    of_malloc = dlsym(RTLD_NEXT, "malloc");
+    of_realloc = dlsym(RTLD_NEXT, "realloc");
+    of_aligned = dlsym(RTLD_NEXT, "aligned_alloc");
+    of_posix = dlsym(RTLD_NEXT, "posix_memalign");
+    refused = number ? strtoul(number, 0, 10) : 0;
+    begun = 1;
+}
+__attribute__((destructor)) static void end(void) {
+    begun = 0;
+    if (!refused) fprintf(stderr, "allocations %lu\n", calls);
+}
+static int refuses(void) { return begun && ++calls == refused; }
+void *malloc(size_t size) {
+    if (!of_malloc) of_malloc = dlsym(RTLD_NEXT, "malloc");
+    if (refuses()) { errno = ENOMEM; return 0; }
+    return of_malloc(size);
+}
+void *realloc(void *old, size_t size) {
+    if (!of_realloc) of_realloc = dlsym(RTLD_NEXT, "realloc");
+    if (refuses()) { errno = ENOMEM; return 0; }
+    return of_realloc(old, size);
+}
+void *aligned_alloc(size_t align, size_t size) {
+    if (!of_aligned) of_aligned = dlsym(RTLD_NEXT, "aligned_alloc");
+    if (refuses()) { errno = ENOMEM; return 0; }
+    return of_aligned(align, size);
+}
+int posix_memalign(void **out, size_t align, size_t size) {
+    if (!of_posix) of_posix = dlsym(RTLD_NEXT, "posix_memalign");
+    if (refuses()) return ENOMEM;
+    return of_posix(out, align, size);
+}
+C
+${CC:-cc} -O1 -shared -fPIC -o "$room/refuse.so" "$room/refuse.c" -ldl
+
+one() { # BINARY TEST NUMBER: prints the number where the test does not pass
+    REFUSE=$3 LD_PRELOAD=$room/refuse.so timeout 60 "$1" "$2" >/dev/null 2>&1 || echo "$3"
+}
+export -f one
+export room
+
+sweep() { # CRATE TEST
+    local binary=$top/crates/$1/out/$1_tests count failed
+    [ -x "$binary" ] || { echo "$1: no tests are built: run rt test there" >&2; exit 2; }
+    count=$(REFUSE=0 LD_PRELOAD=$room/refuse.so "$binary" "$2" 2>&1 >/dev/null | sed -n 's/^allocations //p')
+    failed=$(seq 1 "$count" | xargs -P "$(nproc)" -I N bash -c "one '$binary' '$2' N" | sort -n | tr '\n' ' ')
+    echo "$1 $2: $count growths, not passed: ${failed:-none}"
+}
+
+if [ $# = 2 ]; then
+    sweep "$1" "$2"
+else
+    for test in a_site_is_asked_again a_replica_is_asked_again a_fresh_replica_is_opened_again an_old_replica_is_opened_again; do
+        sweep mvd_faults_tests memory::$test
+    done
+    sweep mvd_faults_tests worlds::a_world_is_asked_again
+    sweep mvd_sync_tests faults::a_refused_allocation_leaves_old_states_or_joins
+fi

@@ -120,7 +120,7 @@ rising_unique low (x ∷ xs) (y ∷ ys) p q there back =
     λ i. heads i ∷ tails i
 
 module _ (b c : ℕ) (xs ys : List ℕ) (p : RisesAbove (b + 1) xs) (there : (n : ℕ) → HasCounter c ys n → HasCounter b xs n) where
-  base_at_most : c ≤ b
+  pub base_at_most : c ≤ b
   base_at_most =
       elim (Rattle.std.proofs.lemmas.Bool.cases_lt b c) [
         | inl less ↦ elim (there (b + 1) (inl (omega arith, omega arith))) [

@@ -127,6 +127,13 @@ impl Context {
         same_entries(&self.entries, &other.entries)
     }
 
+    /// Whether each dot of the other is here too. It takes no memory.
+    pub fn includes(&self, other: &Context) -> bool
+        ensures { IsTrue result ↔ (set.union self.now other.now ≡ self.now) }
+    {
+        self.includes_entries(&other.entries)
+    }
+
     pub fn add(&mut self, dot: Dot) -> Result<(), Refusal>
         ensures ok { OnOk result (self.new ≡ set.insert self.old dot) }
         ensures unchanged { OnErr result (self.new ≡ self.old) }
@@ -184,6 +191,28 @@ impl Context {
             alloc,
             entries: read_entries(alloc, text.as_bytes())?,
         })
+    }
+
+    fn includes_entries(&self, entries: &[Entry]) -> bool
+        requires { AreEntries entries.now }
+        ensures { IsTrue result ↔ (set.union self.now (set_of entries.now) ≡ self.now) }
+    {
+        for entry in entries {
+            if !self.includes_entry(entry) {
+                return false;
+            }
+        }
+        true
+    }
+
+    fn includes_entry(&self, entry: &Entry) -> bool
+        requires { IsEntry entry.now }
+        ensures { IsTrue result ↔ (set.union self.now (entry_dots entry.now) ≡ self.now) }
+    {
+        match self.find(entry.site) {
+            Some(held) => held.includes(entry),
+            None => false,
+        }
     }
 
     fn find(&self, site: u32) -> Option<&Entry>

@@ -166,6 +166,9 @@ impl Kept {
         }
         let empty = KeyState::empty(self.alloc);
         let (is_held, old) = self.look(key, &empty, looks);
+        if old.includes(pushed) {
+            return Ok(Prepared::Answer(Reply::Done));
+        }
         match old.join(self.alloc, pushed) {
             Err(refusal) => return Err(refusal),
             Ok(state) => return self.limited(key, is_held, old, state, None),

@@ -1,13 +1,29 @@
-use Rattle.std.proofs.Common.{◌≡◌, false, ap, sym, ◌∙◌, ⊎_elim, inl, inr}
+use Rattle.std.proofs.Common.{◌≡◌, false, refl, ap, sym, ◌∙◌, ⊎_elim, inl, inr, None, Ok}
 use Rattle.mvd_keys.specs.State.{State, clashes, join}
 use Rattle.mvd_keys.specs.Writes.{is_empty}
 use Rattle.mvd_keys.proofs.Lists.{join-empty}
-use Rattle.mvd_wire.specs.declared.reply.Reply.TheVariants.{Refused}
+use Rattle.mvd_wire.specs.declared.reply.Reply.TheVariants.{Done, Refused}
 use Rattle.mvd_site.specs.Answer.{is_too_large}
 use Rattle.mvd_site.proofs.Lengths.{is_short}
-use Rattle.mvd_site.proofs.Outcomes.{join_err, join_ok, memory_or_not}
+use Rattle.mvd_site.specs.declared.changes.Prepared.TheVariants.{Answer}
+use Rattle.mvd_site.proofs.Outcomes.{change_plain, join_err, join_ok, memory_or_not}
 use Rattle.mvd_site.proofs.Prepare.{limited_push, pushed_clash}
+use Rattle.mvd_site.proofs.Steps.{within-still}
 use Rattle.mvd_site.proofs.kept.Kept.prepare_push.Goals as goal
+
+pub returns-then-includes-clause-answer : goal.returns-then-includes-clause-answer
+returns-then-includes-clause-answer c =
+    let site = c.args.self.now in
+    let old = c.look-is_held.result.1.now in
+    let pushed = c.args.pushed.now in
+    let small : is_too_large pushed ≡ false = is_short pushed c.state_length.result c.state_length.ensures.length c.if-state_length-gt-STATE_LIMIT.false in
+    let same = join_ok old pushed old (c.if-includes.ensures.known refl) in
+    limited_push site c.args.key.now pushed old (Ok (Answer Done)) small
+    (ap (λ s. clashes s pushed) (sym c.look-is_held.ensures.state) ∙ same.0) (same.1 ∙ ap (λ s. join s pushed) c.look-is_held.ensures.state)
+    (within-still site.config site.states c.args.key.now old Done c.look-is_held.ensures.kept.short c.look-is_held.ensures.state, refl, c.look-is_held.ensures.state)
+
+pub returns-then-includes-clause-ready : goal.returns-then-includes-clause-ready
+returns-then-includes-clause-ready c = change_plain None
 
 pub returns-in-Err-clause-answer : goal.returns-in-Err-clause-answer
 returns-in-Err-clause-answer c =

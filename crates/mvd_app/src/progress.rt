@@ -33,7 +33,6 @@ impl<R: Read + Drop, W: Write + Drop, E: Write> Watched<'_, R, W, E> {
 
 /// No truth is claimed of a side at the other end of a connection.
 impl<R: Read + Drop, W: Write + Drop, E: Write> Peer for Watched<'_, R, W, E> {
-    ghost use Rattle.std.specs.Prelude.{tt};
     ghost use Rattle.std.specs.FinMap.{empty};
 
     ghost states = { λ _. empty };

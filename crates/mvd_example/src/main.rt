@@ -1,6 +1,8 @@
 //! Replicas within a program: two of them write while apart, meet, and one resolves what both wrote.
 #![tactic(auto)]
 
+ghost use Rattle.std.specs.Prelude.{◌<◌};
+
 use mvd_docs::{Document, Field, Term};
 use mvd_dots::{Context, Refusal};
 use mvd_keys::Key;
@@ -64,8 +66,7 @@ fn run(alloc: Global, out: &mut String) -> Result<(), Refusal> {
 
 /// A replica with an index, in memory. In a file it is that of `Connection::open(rt, "notes.db")`.
 fn opened(alloc: Global, site: u32) -> Result<Replica<MemStore>, Refusal>
-    requires some { 0 < site }
-    requires few { site < 2 ^ 32 }
+    requires { 0 < site }
 {
     let mut defs = Defs::new(alloc);
     defs.index(Field::read(alloc, "city")?)?;

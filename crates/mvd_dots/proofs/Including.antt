@@ -56,16 +56,16 @@ entry_gone dots e form none is =
 pub more_entries : (dots : DotSet) (es : List EntryValue) (i : ℕ) (e : EntryValue) → i < length es → e ≡ get_or es i e → set.union dots (set_of (take i es)) ≡ dots → set.union dots (entry_dots e) ≡ dots → set.union dots (set_of (take (i + 1) es)) ≡ dots
 more_entries dots es i e h at before here =
     all_here dots _ (λ site n holds.
-        let here_too : Holds (set.union (set_of (take i es)) (entry_dots e)) site n
-        = subst (λ s. Holds s site n) (ap set_of (take_more es i e h ∙ ap (λ x. take i es ++ x ∷ []) (sym at)) ∙ dots_of_push (take i es) e) holds in
-        elim (holds_union (set_of (take i es)) (entry_dots e) site n here_too) [
-          | inl k ↦ is_here dots _ before site n k
-          | inr k ↦ is_here dots _ here site n k
-        ])
+    let here_too : Holds (set.union (set_of (take i es)) (entry_dots e)) site n
+    = subst (λ s. Holds s site n) (ap set_of (take_more es i e h ∙ ap (λ x. take i es ++ x ∷ []) (sym at)) ∙ dots_of_push (take i es) e) holds in
+    elim (holds_union (set_of (take i es)) (entry_dots e) site n here_too) [
+      | inl k ↦ is_here dots _ before site n k
+      | inr k ↦ is_here dots _ here site n k
+    ])
 
 pub entry_at_here : (dots : DotSet) (es : List EntryValue) (i : ℕ) (e : EntryValue) → i < length es → e ≡ get_or es i e → set.union dots (set_of es) ≡ dots → set.union dots (entry_dots e) ≡ dots
 entry_at_here dots es i e h at is =
     all_here dots (entry_dots e) (λ site n holds.
-        let k = holds_entry e site n holds in
-        let there : Holds (set_of es) e.site n = subst (λ (v : EntryValue). Holds (set_of es) v.site n) (sym at) (at_holds_entry es i e h n (subst (λ (v : EntryValue). HasCounter v.base v.loose n) at k.1)) in
-        is_here dots (set_of es) is site n (subst (λ s. Holds (set_of es) s n) (sym k.0) there))
+    let k = holds_entry e site n holds in
+    let there : Holds (set_of es) e.site n = subst (λ (v : EntryValue). Holds (set_of es) v.site n) (sym at) (at_holds_entry es i e h n (subst (λ (v : EntryValue). HasCounter v.base v.loose n) at k.1)) in
+    is_here dots (set_of es) is site n (subst (λ s. Holds (set_of es) s n) (sym k.0) there))

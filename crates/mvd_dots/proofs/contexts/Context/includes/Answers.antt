@@ -8,8 +8,7 @@ includes_entries-requires c = subst AreEntries (sym c.deref.ensures.value) c.oth
 
 pub returns : goal.returns
 returns c =
-    let is : set_of c.deref.result.now ≡ c.args.other.now = ap set_of c.deref.ensures.value ∙ c.other.view_is in
-    (
+    let is : set_of c.deref.result.now ≡ c.args.other.now = ap set_of c.deref.ensures.value ∙ c.other.view_is in (
       λ h. subst (λ s. set.union c.args.self.now s ≡ c.args.self.now) is (c.includes_entries.ensures.0 h),
       λ e. c.includes_entries.ensures.1 (subst (λ s. set.union c.args.self.now s ≡ c.args.self.now) (sym is) e),
     )

@@ -124,7 +124,7 @@ at_writer old new before after output out frame reply sent came replied is wrote
       count = refl;
       read = λ bytes known.
           let p : (rest : List ℕ) × (after ≡ Some rest) × (frame_at bytes ≡ Ok (Some (frame_value frame), rest)) = came bytes known in
-          (p.0, (frame_value frame, p.0, p.2, refl, refl), tt);
+          (p.0, (frame_value frame, p.0, p.2, refl, refl), p.1);
       wrote = inr (refl, subst (AppendsFront output out) same wrote);
     }
 

@@ -271,12 +271,22 @@ loaded_order config states (Err e) old new is order = λ damaged.
     let refused : opened config states ≡ Err e = is (λ memory. (let bad : Damaged ≡ Memory = sym damaged ∙ memory in absurd cc)) in
     absurd (opened_not_damaged (ltb config.max_keys (length states)) _ (refused ∙ ap (λ (r : Refusal). Err r) damaged))
 
-pub too_many : (result : Result SiteValue Refusal) (most : ℕ) (db : Database) → HasNone (old_states db) → IfErr result (λ e. e ≡ Full → most < len (new_states db)) → IfErr result (λ e. e ≡ Full → HoldsTooMany most db)
-too_many (Ok site) most db none more = tt
-too_many (Err e) most db none more = λ full. record { alone = none; more = more full }
+pub too_many : (result : Result SiteValue Refusal) (most : ℕ) (db : Database) → AreInOrder 2 (old_states db) (new_states db) → IfErr result (λ e. e ≡ Full → most < len (new_states db)) →
+    IfErr result (λ e. e ≡ Full → HoldsTooMany most db × AreInOrder 2 (old_states db) (new_states db))
+too_many (Ok site) most db order many = tt
+too_many (Err e) most db order many = λ full. (record { alone = order.tables.moved refl; more = many full }, order)
 
-pub too_many_after : (result : Result SiteValue Refusal) (most : ℕ) (a b : Database) → b ≡ a → IfErr result (λ e. e ≡ Full → HoldsTooMany most a) → IfErr result (λ e. e ≡ Full → HoldsTooMany most b)
-too_many_after result most a b same many = subst (λ d. IfErr result (λ e. e ≡ Full → HoldsTooMany most d)) (sym same) many
+-- a load that changed nothing
+pub too_many_after : (result : Result SiteValue Refusal) (most version : ℕ) (a b : Database) → version ≡ 2 → b ≡ a → IfErr result (λ e. e ≡ Full → HoldsTooMany most a × AreInOrder 2 (old_states a) (new_states a)) →
+    IfErr result (λ e. e ≡ Full → HoldsTooMany most b × AreInOrder version (old_states a) (new_states a))
+too_many_after (Ok site) most version a b two same many = tt
+too_many_after (Err e) most version a b two same many = λ full. (subst (HoldsTooMany most) (sym same) (many full).0, subst (λ v. AreInOrder v (old_states a) (new_states a)) (sym two) (many full).1)
+
+-- and one after a move
+pub too_many_moved : (result : Result SiteValue Refusal) (most version : ℕ) (a b c : Database) → c ≡ b → Migrates version a b → IfErr result (λ e. e ≡ Full → HoldsTooMany most b × AreInOrder 2 (old_states b) (new_states b)) →
+    IfErr result (λ e. e ≡ Full → HoldsTooMany most c × AreInOrder version (old_states a) (new_states a))
+too_many_moved (Ok site) most version a b c same migrates many = tt
+too_many_moved (Err e) most version a b c same migrates many = λ full. (subst (HoldsTooMany most) (sym same) (many full).0, order_before version a b migrates (many full).1)
 
 pub order_by : (result : Result SiteValue Refusal) (version : ℕ) (old new : Stored) → version ≡ 2 → MatchResult result (λ _. AreInOrder 2 old new) (λ e. e ≡ Damaged → ¬ AreInOrder 2 old new) →
     MatchResult result (λ _. AreInOrder version old new) (λ e. e ≡ Damaged → ¬ AreInOrder version old new)

@@ -26,12 +26,16 @@ use Rattle.mvd_replica.specs.Sides.{AnswersFromStored, ReplicaRefuses, StoreRefu
 
 -- ---- one request, from the states
 
+-- a change is of the states
+pub changes_states : (old : SiteValue) (request : Request) (change : ChangeValue) → PreparesChangeFrom old.config old.states request change → after_from old.config old.states request ≢ old.states
+changes_states old request change prepared same = insert_differs old.states change.key change.state prepared.differs (sym prepared.after ∙ same)
+
 -- a change that was not put in
 pub refused_from : (old new : SiteValue) (request : Request) (change : ChangeValue) (refusal : Refusal) → old.broken ≡ false → PutsIn {A = Unit {0}} old new change (Err refusal) →
     PreparesChangeFrom old.config old.states request change → AnswersFromStored old new request (Refused refusal)
 refused_from old new request change refusal whole (inl store) prepared = inr (record {
   told = ap Refused store.0;
-  changes = λ same. insert_differs old.states change.key change.state prepared.differs (sym prepared.after ∙ same);
+  changes = changes_states old request change prepared;
   whole = whole;
   site = store.1;
 })

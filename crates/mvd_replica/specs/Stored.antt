@@ -35,6 +35,10 @@ pub record AreInOrder (version : ℕ) (old new : Stored) : Type 0 where
   pub old_stored : AreOldStored old
   pub new_stored : AreStored new
 
+-- the marks tell this site a version, and what it tells is in order
+abbrev pub AreReadable : ℕ → Database → Type 0
+AreReadable site db = (version : ℕ) × TellsVersion (marks_of db) site (Ok version) × AreInOrder version (old_states db) (new_states db)
+
 -- why records are damaged to a site: their marks are none of ours, or what their version tells is not in order
 abbrev pub AreDamaged : ℕ → Database → Type 0
 AreDamaged site db =

@@ -1,5 +1,5 @@
 //! A site whose states are stored before a reply says so.
-ghost use Rattle.std.specs.Prelude.{◌≡◌, ◌≢◌, ◌⊎◌, ◌≤◌, List, length, Ok, Err, IfErr, IfOk, MatchResult, OnOk, false, true};
+ghost use Rattle.std.specs.Prelude.{◌≡◌, ◌≢◌, ◌⊎◌, ◌≤◌, List, length, Ok, Err, IfErr, IfOk, IsTrue, MatchResult, OnOk, false, true};
 ghost use Rattle.std.specs.Option.{option_copied};
 ghost use Rattle.std.specs.FinMap as map;
 ghost use Rattle.mvd_dots.specs.declared.refusals.Refusal.{Refusal};
@@ -19,6 +19,7 @@ ghost use Rattle.mvd_site.specs.Known.{Adds};
 ghost use Rattle.mvd_site.specs.Prepared.{IsChangeNow, is_refusal};
 ghost use Rattle.mvd_site.specs.Sites.{has_no_room};
 ghost use Rattle.sqlite.specs.Held.{state};
+ghost use Rattle.sqlite.specs.State.{HasCleanDisk};
 
 use crate::opening::site_in;
 use mvd_dots::Refusal;
@@ -41,7 +42,7 @@ pub struct Replica<S: Alter> {
 impl<S: Alter> Replica<S> {
     ghost use Rattle.mvd_replica.specs.Kept.{HoldsSite, HoldsStates, PutsIn, Stores, broken_site};
     ghost use Rattle.mvd_replica.specs.Sides.{AnswersFromStored, StoreFollows};
-    ghost use Rattle.mvd_replica.specs.Stored.{AreDamaged, AreInOrder, HasJust, HoldsTooMany, SameStates};
+    ghost use Rattle.mvd_replica.specs.Stored.{AreDamaged, AreReadable, HasJust, HoldsTooMany, SameStates};
     ghost use Rattle.mvd_replica.specs.Turns.{AnswersStored};
 
     /// The replica of a site, with the states that its records hold. Records of version 1 are moved to version 2 first, key by
@@ -65,9 +66,9 @@ impl<S: Alter> Replica<S> {
         // 16 where the marks are another site's. 17 exactly where the records are damaged. 10 where they then hold too many keys.
         ensures mismatch { IfErr result (λ e. IsSound (state S.Store e.1) → IsOurs (state S.Store conn).committed → e.0 ≡ Refusal.SiteMismatch → TellsVersion (marks_of (state S.Store conn).committed) config.site (Err Refusal.SiteMismatch)) }
         ensures order { IfOk result (λ replica. IsSound (state S.Store replica.records.conn) → IsOurs (state S.Store conn).committed →
-            (version : _) × TellsVersion (marks_of (state S.Store conn).committed) config.site (Ok version) × AreInOrder version (old_states (state S.Store conn).committed) (new_states (state S.Store conn).committed)) }
+            AreReadable config.site (state S.Store conn).committed) }
         ensures damaged { IfErr result (λ e. IsSound (state S.Store e.1) → IsOurs (state S.Store conn).committed → e.0 ≡ Refusal.Damaged → AreDamaged config.site (state S.Store conn).committed) }
-        ensures full { IfErr result (λ e. IsSound (state S.Store e.1) → IsOurs (state S.Store conn).committed → e.0 ≡ Refusal.Full → HoldsTooMany config.max_keys (state S.Store e.1).committed) }
+        ensures full { IfErr result (λ e. IsSound (state S.Store e.1) → IsOurs (state S.Store conn).committed → e.0 ≡ Refusal.Full → HoldsTooMany config.max_keys (state S.Store e.1).committed × AreReadable config.site (state S.Store conn).committed) }
         ensures refusal { IfErr result (λ e. IsOpenRefusal e.0 ⊎ ((e.0 ≡ Refusal.Full) ⊎ (e.0 ≡ Refusal.Memory))) }
     {
         let mut records = match Records::open(alloc, conn, config.site()) {
@@ -132,6 +133,7 @@ impl<S: Alter> Replica<S> {
         ensures before { IsSound (state S.Store self.new.records.conn) → IsSound (state S.Store self.old.records.conn) }
         ensures kept { (site : _) → IsSound (state S.Store self.new.records.conn) → HoldsRecords 2 site (state S.Store self.old.records.conn).committed → HoldsRecords 2 site (state S.Store self.new.records.conn).committed }
         ensures stored { (site : _) → IsSound (state S.Store self.new.records.conn) → HoldsRecords 2 site (state S.Store self.old.records.conn).committed → Stores (state S.Store self.old.records.conn).committed (state S.Store self.new.records.conn).committed change result }
+        ensures open { HasCleanDisk (state S.Store self.new.records.conn) → self.new.site ≢ self.old.site → IsTrue (state S.Store self.new.records.conn).is_open }
         ensures unchanged { IsSound (state S.Store self.new.records.conn) → result ≡ Err Refusal.Store → (state S.Store self.new.records.conn).committed ≡ (state S.Store self.old.records.conn).committed }
     {
         match self.records.save(change.key(), change.bytes()) {
@@ -156,6 +158,10 @@ impl<S: Alter> Replica<S> {
         ensures broken { self.new.site.broken ≡ true → result ≡ Refused Broken }
         ensures stays { self.old.site.broken ≡ true → self.new ≡ self.old }
         ensures unchanged { (refusal : Refusal) → result ≡ Refused refusal → refusal ≢ Broken → self.new.site ≡ self.old.site }
+        // What would change nothing leaves all as it was.
+        ensures still { after_from self.old.site.config self.old.site.states request.now ≡ self.old.site.states → self.new ≡ self.old }
+        // A change is taken only with the store open.
+        ensures open { HasCleanDisk (state S.Store self.new.records.conn) → self.new.site ≢ self.old.site → IsTrue (state S.Store self.new.records.conn).is_open }
         ensures unstored { (refusal : Refusal) → IsSound (state S.Store self.new.records.conn) → result ≡ Refused refusal → refusal ≢ Broken → (state S.Store self.new.records.conn).committed ≡ (state S.Store self.old.records.conn).committed }
         // The records follow the states.
         ensures before { IsSound (state S.Store self.new.records.conn) → IsSound (state S.Store self.old.records.conn) }
@@ -221,6 +227,10 @@ impl<S: Alter> Replica<S> {
         ensures agreed { OnOk result (clashes (state_at self.old.site.states key.now) pushed.now ≡ false) }
         ensures clash { IfErr result (λ refusal. refusal ≡ DotClash → clashes (state_at self.old.site.states key.now) pushed.now ≡ true) }
         ensures unchanged { IfErr result (λ refusal. refusal ≢ Broken → self.new.site ≡ self.old.site) }
+        // What would change nothing leaves all as it was.
+        ensures still { after_from self.old.site.config self.old.site.states (Push key.now pushed.now) ≡ self.old.site.states → self.new ≡ self.old }
+        // A change is taken only with the store open.
+        ensures open { HasCleanDisk (state S.Store self.new.records.conn) → self.new.site ≢ self.old.site → IsTrue (state S.Store self.new.records.conn).is_open }
         ensures unstored { IfErr result (λ refusal. refusal ≢ Broken → IsSound (state S.Store self.new.records.conn) → (state S.Store self.new.records.conn).committed ≡ (state S.Store self.old.records.conn).committed) }
         // Whether it is broken, and for good.
         ensures told { IfErr result (λ refusal. refusal ≡ Broken → self.new.site ≡ broken_site self.old.site) }

@@ -73,4 +73,7 @@ returns-in-Err-site_in-clause-full g c sound ours is =
     let same = c.into_connection.ensures in
     let real = subst (λ k. IsSound (state g.S.Store k)) same sound in
     let opened = c.in-Ok.ensures.opened (c.in-Err-site_in.ensures.before real) ours in
-    subst (λ k. HoldsTooMany c.args.config.max_keys (state g.S.Store k).committed) (sym same) (c.in-Err-site_in.ensures.full c.site.result real opened.holds is)
+    let many = c.in-Err-site_in.ensures.full c.site.result real opened.holds is in (
+      subst (λ k. HoldsTooMany c.args.config.max_keys (state g.S.Store k).committed) (sym same) many.0,
+      order_opened (state g.S.Store c.args.conn).committed _ c.in-Ok.records.version c.args.config.site c.site.result c.site.ensures.site opened.told opened.states many.1,
+    )

@@ -41,7 +41,7 @@ pub struct Replica<S: Alter> {
 
 impl<S: Alter> Replica<S> {
     ghost use Rattle.mvd_replica.specs.Kept.{HoldsSite, HoldsStates, PutsIn, Stores, broken_site};
-    ghost use Rattle.mvd_replica.specs.Sides.{AnswersFromStored, StoreFollows};
+    ghost use Rattle.mvd_replica.specs.Sides.{AnswersFromStored, ReplicaFollows};
     ghost use Rattle.mvd_replica.specs.Stored.{AreDamaged, AreReadable, HasJust, HoldsTooMany, SameStates};
     ghost use Rattle.mvd_replica.specs.Turns.{AnswersStored};
 
@@ -133,7 +133,8 @@ impl<S: Alter> Replica<S> {
         ensures before { IsSound (state S.Store self.new.records.conn) → IsSound (state S.Store self.old.records.conn) }
         ensures kept { (site : _) → IsSound (state S.Store self.new.records.conn) → HoldsRecords 2 site (state S.Store self.old.records.conn).committed → HoldsRecords 2 site (state S.Store self.new.records.conn).committed }
         ensures stored { (site : _) → IsSound (state S.Store self.new.records.conn) → HoldsRecords 2 site (state S.Store self.old.records.conn).committed → Stores (state S.Store self.old.records.conn).committed (state S.Store self.new.records.conn).committed change result }
-        ensures open { HasCleanDisk (state S.Store self.new.records.conn) → self.new.site ≢ self.old.site → IsTrue (state S.Store self.new.records.conn).is_open }
+        ensures taken { HasCleanDisk (state S.Store self.new.records.conn) → IsTrue (state S.Store self.new.records.conn).is_open ⊎ (self.new.site ≡ self.old.site) }
+        ensures clean { HasCleanDisk (state S.Store self.new.records.conn) → HasCleanDisk (state S.Store self.old.records.conn) }
         ensures unchanged { IsSound (state S.Store self.new.records.conn) → result ≡ Err Refusal.Store → (state S.Store self.new.records.conn).committed ≡ (state S.Store self.old.records.conn).committed }
     {
         match self.records.save(change.key(), change.bytes()) {
@@ -161,7 +162,8 @@ impl<S: Alter> Replica<S> {
         // What would change nothing leaves all as it was.
         ensures still { after_from self.old.site.config self.old.site.states request.now ≡ self.old.site.states → self.new ≡ self.old }
         // A change is taken only with the store open.
-        ensures open { HasCleanDisk (state S.Store self.new.records.conn) → self.new.site ≢ self.old.site → IsTrue (state S.Store self.new.records.conn).is_open }
+        ensures taken { HasCleanDisk (state S.Store self.new.records.conn) → IsTrue (state S.Store self.new.records.conn).is_open ⊎ (self.new.site ≡ self.old.site) }
+        ensures clean { HasCleanDisk (state S.Store self.new.records.conn) → HasCleanDisk (state S.Store self.old.records.conn) }
         ensures unstored { (refusal : Refusal) → IsSound (state S.Store self.new.records.conn) → result ≡ Refused refusal → refusal ≢ Broken → (state S.Store self.new.records.conn).committed ≡ (state S.Store self.old.records.conn).committed }
         // The records follow the states.
         ensures before { IsSound (state S.Store self.new.records.conn) → IsSound (state S.Store self.old.records.conn) }
@@ -230,7 +232,8 @@ impl<S: Alter> Replica<S> {
         // What would change nothing leaves all as it was.
         ensures still { after_from self.old.site.config self.old.site.states (Push key.now pushed.now) ≡ self.old.site.states → self.new ≡ self.old }
         // A change is taken only with the store open.
-        ensures open { HasCleanDisk (state S.Store self.new.records.conn) → self.new.site ≢ self.old.site → IsTrue (state S.Store self.new.records.conn).is_open }
+        ensures taken { HasCleanDisk (state S.Store self.new.records.conn) → IsTrue (state S.Store self.new.records.conn).is_open ⊎ (self.new.site ≡ self.old.site) }
+        ensures clean { HasCleanDisk (state S.Store self.new.records.conn) → HasCleanDisk (state S.Store self.old.records.conn) }
         ensures unstored { IfErr result (λ refusal. refusal ≢ Broken → IsSound (state S.Store self.new.records.conn) → (state S.Store self.new.records.conn).committed ≡ (state S.Store self.old.records.conn).committed) }
         // Whether it is broken, and for good.
         ensures told { IfErr result (λ refusal. refusal ≡ Broken → self.new.site ≡ broken_site self.old.site) }
@@ -238,7 +241,7 @@ impl<S: Alter> Replica<S> {
         // A state that was joined is that of some set of writes.
         ensures valid { OnOk result (IsValid pushed.now) }
         // The records follow the states.
-        ensures store { StoreFollows self.old.site self.new.site (state S.Store self.old.records.conn) (state S.Store self.new.records.conn) }
+        ensures follows { ReplicaFollows (λ asked. asked ≡ Push key.now pushed.now) self.old.site self.new.site (state S.Store self.old.records.conn) (state S.Store self.new.records.conn) }
         ensures stored { IsSound (state S.Store self.new.records.conn) → HoldsSite self.old.site (state S.Store self.old.records.conn).committed → self.old.site.broken ≡ false → result ≡ Err Broken →
             HoldsStates self.old.site.config.site (after_from self.old.site.config self.old.site.states (Push key.now pushed.now)) (state S.Store self.new.records.conn).committed }
     {

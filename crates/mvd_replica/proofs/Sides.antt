@@ -102,7 +102,7 @@ module _ (old new : SiteValue) (key : Key) (s : State) where
 -- ---- the records
 
 -- a site that one request breaks
-broke_by : (old new : SiteValue) (request : Request) (reply : Reply) → old.broken ≡ false → new.broken ≡ true → AnswersFromStored old new request reply → Broke old new request
+pub broke_by : (old new : SiteValue) (request : Request) (reply : Reply) → old.broken ≡ false → new.broken ≡ true → AnswersFromStored old new request reply → Broke old new request
 broke_by old new request reply whole broken (inr store) = absurd (true≢false (sym broken ∙ ap (λ (s : SiteValue). s.broken) store.site ∙ whole))
 broke_by old new request reply whole broken (inl from) = elim (from whole) [
   | inl answered ↦ absurd (true≢false (sym broken ∙ ap (λ (s : SiteValue). s.broken) answered.site))

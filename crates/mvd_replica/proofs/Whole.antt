@@ -16,7 +16,7 @@ use Rattle.mvd_replica.specs.declared.serving.TheConstants.{FRAMES_MAX}
 use Rattle.mvd_replica.specs.Turns.{Turn, Replies, AreFrames, GoesOn}
 use Rattle.mvd_replica.specs.Served.{Side, Ending, AtBye, AtEnd, AtRefusal, AtWriter, Stops, GoesOut, GoesOutAfter, IsCount, IsCutCount, Served, Went, frames_most, replies_bytes, last_bytes, result_of}
 use Rattle.mvd_replica.specs.Steps.{Ends, IsLastCount, TakesTurn}
-use Rattle.mvd_replica.proofs.Replying.{Replies-append, Replies-none, AreFrames-append, GoesOn-append, HasChoice-none, HasChoice-append}
+use Rattle.mvd_replica.proofs.Replying.{Replies-append, Replies-none, StandsOn-append, StandsOn-none, AreFrames-append, GoesOn-append, HasChoice-none, HasChoice-append}
 
 replies_bytes-append : (first second : List Turn) → replies_bytes (first ++ second) ≡ replies_bytes first ++ replies_bytes second
 replies_bytes-append first second = flat_map-append (λ (t : Turn). reply_bytes t.reply) first second
@@ -25,6 +25,7 @@ replies_bytes-append first second = flat_map-append (λ (t : Turn). reply_bytes 
 pub Went-none : (side : Side) → Went [] side side
 Went-none side = record {
   replies = Replies-none side.site;
+  stands = StandsOn-none side.site;
   config = refl;
   choice = HasChoice-none;
   goes_on = tt;
@@ -35,6 +36,7 @@ Went-none side = record {
 pub Went-append : (first second : List Turn) (a b c : Side) → Went first a b → Went second b c → Went (first ++ second) a c
 Went-append first second a b c one other = record {
   replies = Replies-append a.site b.site c.site first second one.config one.replies other.replies;
+  stands = StandsOn-append a.site b.site c.site first second one.stands other.stands;
   config = other.config ∙ one.config;
   choice = HasChoice-append first second one.choice other.choice;
   goes_on = GoesOn-append first second one.goes_on other.goes_on;
@@ -80,6 +82,7 @@ Served-after turns a b c result one room last = record {
   turns = turns ++ last.turns;
   ending = last.ending;
   replies = Replies-append a.site b.site c.site turns last.turns one.config one.replies last.replies;
+  stands = StandsOn-append a.site b.site c.site turns last.turns one.stands last.stands;
   choice = HasChoice-append turns last.turns one.choice last.choice;
   goes_on = GoesOn-append turns last.turns one.goes_on last.goes_on;
   count = subst (λ n. IsCount n last.ending) (sym (length-append turns last.turns)) (counted (length turns) (length last.turns) last.ending (subst (λ m. length turns < m) most room) last.count);
@@ -111,6 +114,7 @@ Served-full turns a b output fault one full told = record {
   turns = turns;
   ending = AtRefusal TooManyRequests;
   replies = one.replies;
+  stands = one.stands;
   choice = one.choice;
   goes_on = one.goes_on;
   count = inr (full ∙ most, refl);

@@ -12,7 +12,7 @@ use Rattle.mvd_wire.specs.Replies.{reply_bytes}
 use Rattle.mvd_site.specs.Sites.{SiteValue}
 use Rattle.mvd_replica.specs.declared.serving.Ended.{Ended}
 use Rattle.mvd_replica.specs.declared.serving.Ended.TheVariants as ended
-use Rattle.mvd_replica.specs.Turns.{AreFrames, Event, GoesOn, Replies, Tells, Turn}
+use Rattle.mvd_replica.specs.Turns.{AreFrames, Event, GoesOn, Replies, StandsOn, Tells, Turn}
 
 -- a site between a reader and a writer, whose bytes may not be known
 pub record Side : Type 0 where
@@ -93,6 +93,7 @@ pub record Served (old new : Side) (result : Result Ended Refusal) : Type 0 wher
   pub turns : List Turn
   pub ending : Ending
   pub replies : Replies old.site new.site turns
+  pub stands : StandsOn old.site new.site turns
   pub choice : (events : List Event) × Tells events turns
   pub goes_on : AllByRecursion GoesOn turns
   pub count : IsCount (length turns) ending
@@ -103,6 +104,7 @@ pub record Served (old new : Side) (result : Result Ended Refusal) : Type 0 wher
 -- turns that were taken, after which the connection goes on
 pub record Went (turns : List Turn) (old new : Side) : Type 0 where
   pub replies : Replies old.site new.site turns
+  pub stands : StandsOn old.site new.site turns
   pub config : new.site.config ≡ old.site.config
   pub choice : (events : List Event) × Tells events turns
   pub goes_on : AllByRecursion GoesOn turns

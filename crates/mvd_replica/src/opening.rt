@@ -1,5 +1,5 @@
 //! What a replica is opened with: the states that its records spell.
-ghost use Rattle.std.specs.Prelude.{◌≡◌, ◌≢◌, ◌⊎◌, List, Err, false, IfErr, IfOk, IsTrue, MatchResult, OnOk};
+ghost use Rattle.std.specs.Prelude.{◌≡◌, ◌≢◌, ◌⊎◌, ◌↔◌, List, Err, false, IfErr, IfOk, IsTrue, MatchResult, OnOk};
 ghost use Rattle.std.specs.List.{AllByRecursion};
 ghost use Rattle.std.specs.FinMap.{entries, is_sorted};
 ghost use Rattle.mvd_keys.specs.Key.{key_cmp};
@@ -9,7 +9,7 @@ ghost use Rattle.mvd_records.specs.Pairs.{entries_of};
 ghost use Rattle.mvd_records.specs.States.{States as Stored};
 ghost use Rattle.mvd_records.specs.Records.{IsSound, HasNone, HoldsRecords, new_states, old_states};
 ghost use Rattle.mvd_site.specs.Held.{IsHeldState};
-ghost use Rattle.mvd_replica.specs.Stored.{AreInOrder, AreStored, HoldsTooMany, IsOldStored, IsStored, Migrates, Respells, SameStates, spelled_entries};
+ghost use Rattle.mvd_replica.specs.Stored.{AreInOrder, AreStored, HoldsTooMany, IsOldStored, IsStored, Migrates, Respells, Resumes, SameStates, spelled_entries};
 ghost use Rattle.mvd_replica.specs.Kept.{SpellStates};
 ghost use Rattle.sqlite.specs.Held.{state};
 
@@ -124,6 +124,7 @@ fn migrate<S: Alter>(alloc: Global, records: &mut Records<S>) -> Result<(), Refu
     ensures order { (number : _) → IsSound (state S.Store records.new.conn) → HoldsRecords records.old.version number (state S.Store records.old.conn).committed → MatchResult result
         (λ _. Migrates records.old.version (state S.Store records.old.conn).committed (state S.Store records.new.conn).committed)
         (λ e. e ≡ Refusal.Damaged → ¬ AreInOrder records.old.version (old_states (state S.Store records.old.conn).committed) (new_states (state S.Store records.old.conn).committed)) }
+    ensures alike { (number : _) → IsSound (state S.Store records.new.conn) → HoldsRecords records.old.version number (state S.Store records.old.conn).committed → IfErr result (λ _. AreInOrder records.old.version (old_states (state S.Store records.old.conn).committed) (new_states (state S.Store records.old.conn).committed) ↔ AreInOrder records.old.version (old_states (state S.Store records.new.conn).committed) (new_states (state S.Store records.new.conn).committed)) }
     ensures refusal { IfErr result (λ e. (e ≡ Refusal.Damaged) ⊎ ((e ≡ Refusal.Memory) ⊎ (e ≡ Refusal.Store))) }
     ensures version { IfOk result (λ _. records.new.version ≡ 2) }
 {
@@ -160,6 +161,7 @@ pub fn site_in<S: Alter>(
     ensures order { (number : _) → IsSound (state S.Store records.new.conn) → HoldsRecords records.old.version number (state S.Store records.old.conn).committed → MatchResult result
         (λ _. AreInOrder records.old.version (old_states (state S.Store records.old.conn).committed) (new_states (state S.Store records.old.conn).committed))
         (λ e. e ≡ Refusal.Damaged → ¬ AreInOrder records.old.version (old_states (state S.Store records.old.conn).committed) (new_states (state S.Store records.old.conn).committed)) }
+    ensures resumes { (number : _) → IsSound (state S.Store records.new.conn) → HoldsRecords records.old.version number (state S.Store records.old.conn).committed → Resumes records.old.version number (state S.Store records.old.conn).committed (state S.Store records.new.conn).committed }
     ensures refusal { IfErr result (λ e. (e ≡ Refusal.Damaged) ⊎ ((e ≡ Refusal.Full) ⊎ ((e ≡ Refusal.Memory) ⊎ (e ≡ Refusal.Store)))) }
     ensures version { IfOk result (λ _. records.new.version ≡ 2) }
 {

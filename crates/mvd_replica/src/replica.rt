@@ -42,7 +42,7 @@ pub struct Replica<S: Alter> {
 impl<S: Alter> Replica<S> {
     ghost use Rattle.mvd_replica.specs.Kept.{HoldsSite, HoldsStates, PutsIn, Stores, broken_site};
     ghost use Rattle.mvd_replica.specs.Sides.{AnswersFromStored, ReplicaFollows};
-    ghost use Rattle.mvd_replica.specs.Stored.{AreDamaged, AreReadable, HasJust, HoldsTooMany, SameStates};
+    ghost use Rattle.mvd_replica.specs.Stored.{AreDamaged, AreReadable, HasJust, HoldsTooMany, Resumes, SameStates};
     ghost use Rattle.mvd_replica.specs.Turns.{AnswersStored};
 
     /// The replica of a site, with the states that its records hold. Records of version 1 are moved to version 2 first, key by
@@ -69,6 +69,10 @@ impl<S: Alter> Replica<S> {
             AreReadable config.site (state S.Store conn).committed) }
         ensures damaged { IfErr result (λ e. IsSound (state S.Store e.1) → IsOurs (state S.Store conn).committed → e.0 ≡ Refusal.Damaged → AreDamaged config.site (state S.Store conn).committed) }
         ensures full { IfErr result (λ e. IsSound (state S.Store e.1) → IsOurs (state S.Store conn).committed → e.0 ≡ Refusal.Full → HoldsTooMany config.max_keys (state S.Store e.1).committed × AreReadable config.site (state S.Store conn).committed) }
+        // After a refusal the last commit is as before, or the records are this site's and opened again goes on.
+        ensures resumes { IfErr result (λ e. IsSound (state S.Store e.1) → IsOurs (state S.Store conn).committed → ((state S.Store e.1).committed ≡ (state S.Store conn).committed)
+            ⊎ ((version : _) × TellsVersion (marks_of (state S.Store conn).committed) config.site (Ok version) × Resumes version config.site (state S.Store conn).committed (state S.Store e.1).committed)) }
+        ensures untouched { IfErr result (λ e. IsSound (state S.Store e.1) → e.0 ≡ Refusal.SiteMismatch → (state S.Store e.1).committed ≡ (state S.Store conn).committed) }
         ensures refusal { IfErr result (λ e. IsOpenRefusal e.0 ⊎ ((e.0 ≡ Refusal.Full) ⊎ (e.0 ≡ Refusal.Memory))) }
     {
         let mut records = match Records::open(alloc, conn, config.site()) {

@@ -1,7 +1,7 @@
 use Rattle.std.proofs.Common.{arith, refl}
 use Rattle.mvd_replica.proofs.Loading.{loaded_holds}
 use Rattle.mvd_replica.proofs.Moving.{same_then, same_unchanged}
-use Rattle.mvd_replica.proofs.Ordered.{alone_ordered, order_by, order_migrated, too_many_after, too_many_moved}
+use Rattle.mvd_replica.proofs.Ordered.{alone_ordered, order_by, order_migrated, resumes_moved, resumes_same, too_many_after, too_many_moved}
 use Rattle.mvd_replica.proofs.opening.site_in.Goals as goal
 
 pub returns-then-version-eq2-clause-holds : goal.returns-then-version-eq2-clause-holds
@@ -52,3 +52,15 @@ pub returns-in-Ok-clause-order : goal.returns-in-Ok-clause-order
 returns-in-Ok-clause-order g c number sound holds =
     let before = c.load-in-Ok.ensures.before sound in
     order_migrated c.load-in-Ok.result c.args.records.now.version _ _ (c.in-Ok.ensures.order number before holds) (c.load-in-Ok.ensures.order 2 number sound (c.in-Ok.ensures.moved number before holds))
+
+pub returns-then-version-eq2-clause-resumes : goal.returns-then-version-eq2-clause-resumes
+returns-then-version-eq2-clause-resumes g c number sound holds = resumes_same c.args.records.now.version number _ _ (c.load.ensures.unchanged c.args.records.now.version number sound holds) holds
+
+pub returns-in-Ok-clause-resumes : goal.returns-in-Ok-clause-resumes
+returns-in-Ok-clause-resumes g c number sound holds =
+    let before = c.load-in-Ok.ensures.before sound in
+    let moved = c.in-Ok.ensures.moved number before holds in
+    resumes_moved c.args.records.now.version number _ _ _ (c.load-in-Ok.ensures.unchanged 2 number sound moved) moved (c.in-Ok.ensures.order number before holds)
+
+pub returns-in-Err-clause-resumes : goal.returns-in-Err-clause-resumes
+returns-in-Err-clause-resumes g c number sound holds = (c.args.records.now.version, c.in-Err.ensures.moved number sound holds, c.in-Err.ensures.alike number sound holds)

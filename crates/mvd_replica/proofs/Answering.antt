@@ -18,8 +18,10 @@ use Rattle.mvd_site.proofs.Outcomes.{memory_or_not, refused_fits}
 use Rattle.mvd_site.proofs.Prepare.{answers_by_breaking, refuses_all}
 use Rattle.mvd_site.proofs.Steps.{Adds-nothing, Stands-nothing}
 use Rattle.mvd_replica.specs.Kept.{PutsIn, broken_site}
+use Rattle.mvd_replica.specs.Sides.{AnswersFromStored}
 use Rattle.mvd_replica.specs.Turns.{AnswersStored, MayTell, StoreRefused}
 use Rattle.mvd_replica.specs.Steps.{RepliesTo}
+use Rattle.mvd_replica.proofs.Sides.{broke_by}
 use Rattle.mvd_replica.proofs.Replying.{AddsAt-Refused, AddsAt-Refused-none, MayTell-memory}
 
 -- what a site does with a request that stores nothing
@@ -71,6 +73,7 @@ refused_frame site asked refusal exact bye = record {
   one = record {
     replies = λ known stands. may_refuse site.config known site.broken asked refusal exact (memory_or_not refusal);
     stands = λ known added stands adds. stays site known added stands (AddsAt-Refused asked refusal added adds);
+    keeps = λ known added stands adds. Stands-nothing site.states known added stands (AddsAt-Refused asked refusal added adds);
   };
   fits = refused_fits refusal;
   goes_on = λ is. (let no : ◌≡◌ {A = Result Request Refusal} (Err refusal) (Ok Bye) = bye is in absurd cc);
@@ -86,12 +89,25 @@ long_is_whole old new reply before true was is told stays long =
 long_is_whole old new reply true false was is told stays long = ap (λ (s : SiteValue). s.broken) (stays was)
 long_is_whole old new reply false false was is told stays long = is ∙ sym was
 
+-- a site that is broken afterwards has the states that it had
+broken_states : (old new : SiteValue) (request : Request) (reply : Reply) (was : Bool) → old.broken ≡ was → new.broken ≡ true → AnswersFromStored old new request reply → (old.broken ≡ true → new ≡ old) → new.states ≡ old.states
+broken_states old new request reply true was broken answers stays = ap (λ (s : SiteValue). s.states) (stays was)
+broken_states old new request reply false was broken answers stays = ap (λ (s : SiteValue). s.states) (broke_by old new request reply was broken answers).site
+
+-- what the states stand for after a request, also where the site is broken
+keeps_states : (old new : SiteValue) (request : Request) (reply : Reply) (is : Bool) → new.broken ≡ is → AnswersStored old new request reply → AnswersFromStored old new request reply → (new.broken ≡ true → reply ≡ Refused Broken) →
+    (old.broken ≡ true → new ≡ old) → (known added : List Write) → Stands old.states known → Adds request reply added → Stands new.states (known ++ added)
+keeps_states old new request reply false is one answers told stays known added stands adds = one.stands known added (λ _. stands) adds is
+keeps_states old new request reply true is one answers told stays known added stands adds =
+    let none : added ≡ [] = AddsAt-Refused (Ok request) Broken added (subst (λ r. Adds request r added) (told is) adds) in
+    subst (λ m. Stands m (known ++ added)) (sym (broken_states old new request reply old.broken refl is answers stays)) (Stands-nothing old.states known added stands none)
+
 -- and one that does
-pub replied : (old new : SiteValue) (asked : Result Request Refusal) (request : Request) (reply : Reply) → asked ≡ Ok request → AnswersStored old new request reply → CanBeSent reply → (request ≡ Bye → ⊥) →
+pub replied : (old new : SiteValue) (asked : Result Request Refusal) (request : Request) (reply : Reply) → asked ≡ Ok request → AnswersStored old new request reply → AnswersFromStored old new request reply → CanBeSent reply → (request ≡ Bye → ⊥) →
     ((added : List Write) × Adds request reply added) → new.config ≡ old.config → (new.broken ≡ true → reply ≡ Refused Broken) → (old.broken ≡ true → new ≡ old) → RepliesTo asked old new reply
-replied old new asked request reply is one fits no_bye some config told stays =
+replied old new asked request reply is one answers fits no_bye some config told stays =
     subst (λ a. RepliesTo a old new reply) (sym is) (record {
-      one = record { replies = λ known stands. inl (one.replies known stands); stands = one.stands };
+      one = record { replies = λ known stands. inl (one.replies known stands); stands = one.stands; keeps = keeps_states old new request reply new.broken refl one answers told stays };
       fits = fits;
       goes_on = λ bye. no_bye cc;
       choice = some;

@@ -16,12 +16,12 @@ use Rattle.mvd_wire.specs.Replies.{reply_bytes}
 use Rattle.mvd_wire.proofs.FramesRead.{no_frame_taken}
 use Rattle.mvd_replica.specs.declared.serving.Ended.{Ended}
 use Rattle.mvd_replica.specs.declared.serving.Ended.TheVariants as ended
-use Rattle.mvd_replica.specs.Turns.{AreFrames, GoesOn, Replies, Turn}
+use Rattle.mvd_replica.specs.Turns.{AreFrames, GoesOn, Replies, StandsOn, Turn}
 use Rattle.mvd_replica.specs.Served.{Side, Ending, AtBye, AtEnd, AtRefusal, AtWriter, Stops, GoesOut, Went, replies_bytes, last_bytes, result_of}
 use Rattle.mvd_replica.specs.Steps.{Ends, IsSent, RepliesTo}
 use Rattle.std.proofs.KnownBytes.{Appends-nil}
 use Rattle.mvd_replica.proofs.Whole.{GoesOut-err}
-use Rattle.mvd_replica.proofs.Replying.{Replies-none, Replies-one, RepliesOne-sent, HasChoice-none, HasChoice-sent}
+use Rattle.mvd_replica.proofs.Replying.{Replies-none, Replies-one, RepliesOne-sent, StandsOn-none, StandsOn-one, HasChoice-none, HasChoice-sent}
 
 -- ---- the ends
 
@@ -31,6 +31,7 @@ at_end site before after output came = record {
   turns = [];
   ending = AtEnd;
   replies = Replies-none site;
+  stands = StandsOn-none site;
   choice = HasChoice-none;
   goes_on = tt;
   count = refl;
@@ -60,6 +61,7 @@ at_refusal site before after output out e fault came which wrote = record {
   turns = [];
   ending = AtRefusal e;
   replies = Replies-none site;
+  stands = StandsOn-none site;
   choice = HasChoice-none;
   goes_on = tt;
   count = (refl, few e which);
@@ -81,6 +83,7 @@ at_bye old site before after output out frame result came asked same wrote = rec
   turns = [];
   ending = AtBye;
   replies = subst (λ s. Replies s site []) same (Replies-none site);
+  stands = subst (λ s. StandsOn s site []) same (StandsOn-none site);
   choice = HasChoice-none;
   goes_on = tt;
   count = refl;
@@ -98,6 +101,7 @@ goes_on old new before after output out frame reply sent came replied is wrote =
       turn,
       record {
         replies = Replies-one old new turn (RepliesOne-sent old new asked reply sent is replied.long replied.one);
+        stands = StandsOn-one old new turn (RepliesOne-sent old new asked reply sent is replied.long replied.one);
         config = replied.config;
         choice = HasChoice-sent asked reply sent is replied.choice;
         goes_on = (replied.goes_on, tt);
@@ -119,12 +123,13 @@ at_writer old new before after output out frame reply sent came replied is wrote
       turns = turn ∷ [];
       ending = AtWriter;
       replies = Replies-one old new turn (RepliesOne-sent old new asked reply sent is replied.long replied.one);
+      stands = StandsOn-one old new turn (RepliesOne-sent old new asked reply sent is replied.long replied.one);
       choice = HasChoice-sent asked reply sent is replied.choice;
       goes_on = (replied.goes_on, tt);
       count = refl;
       read = λ bytes known.
           let p : (rest : List ℕ) × (after ≡ Some rest) × (frame_at bytes ≡ Ok (Some (frame_value frame), rest)) = came bytes known in
-          (p.0, (frame_value frame, p.0, p.2, refl, refl), tt);
+          (p.0, (frame_value frame, p.0, p.2, refl, refl), p.1);
       wrote = inr (refl, subst (AppendsFront output out) same wrote);
     }
 

@@ -21,14 +21,14 @@ use Rattle.mvd_wire.specs.Kind.{Spells, spelled_within}
 use Rattle.mvd_wire.specs.Kinds.{layout1, layout2, spell_state, state, state_limit}
 use Rattle.mvd_records.specs.Pairs.{Pair, entries_of}
 use Rattle.mvd_records.specs.States.{States as Stored}
-use Rattle.mvd_records.specs.Records.{AreDisjoint, EndsMove, HasNone, IsWhole, KeepsStates, LacksKey, MovesState, TellsVersion, marks_of, new_states, old_states}
+use Rattle.mvd_records.specs.Records.{AreDisjoint, EndsMove, HasNone, IsWhole, KeepsStates, LacksKey, HoldsRecords, MovesState, TellsVersion, marks_of, new_states, old_states}
 use Rattle.mvd_site.specs.Config.{ConfigValue}
 use Rattle.mvd_site.specs.Held.{AreHeld, IsHeldState, IsSpelled, States}
 use Rattle.mvd_site.specs.Sites.{SiteValue, opened}
 use Rattle.sqlite.specs.Effect.{Database}
 use Rattle.mvd_replica.specs.Kept.{AreSpelled, HoldsStates, SpellStates}
-use Rattle.mvd_replica.specs.Stored.{AreDamaged, AreInOrder, AreOldStored, AreStored, HasJust, HasState, HoldsTooMany, IsOldStored, IsStored, Migrates, Respells, SameStates, spelled_entries}
-use Rattle.mvd_replica.proofs.Moving.{free1, free2, found_at, less_is_no_tie, below_part, new_at, old_at, none_is_some, some_is, spells_one}
+use Rattle.mvd_replica.specs.Stored.{AreDamaged, AreInOrder, AreOldStored, AreStored, HasJust, HasState, HoldsTooMany, IsOldStored, IsStored, Migrates, Respells, Resumes, SameStates, spelled_entries}
+use Rattle.mvd_replica.proofs.Moving.{Moving, free1, free2, found_at, less_is_no_tie, below_part, new_at, old_at, none_is_some, some_is, spells_one}
 
 -- ---- what is stored
 
@@ -71,6 +71,7 @@ not_yet m pairs done p same so_far low is =
 -- the keys of the list were moved from the first database to the second
 pub record Moved (a b : Database) (done : List (Key × List ℕ)) : Type 0 where
   pub left : (key : Key) → get (old_states b) key ≡ cond (is_some (find key_cmp key done)) None (get (old_states a) key)
+  pub had : (key : Key) (bytes : List ℕ) → find key_cmp key done ≡ Some bytes → get (old_states a) key ≡ Some bytes
   pub read : (key : Key) (bytes : List ℕ) → find key_cmp key done ≡ Some bytes → IsOldStored bytes
   pub kept : (key : Key) (bytes : List ℕ) → get (new_states a) key ≡ Some bytes → get (new_states b) key ≡ Some bytes
   pub from : (key : Key) (bytes : List ℕ) → get (new_states b) key ≡ Some bytes →
@@ -79,6 +80,7 @@ pub record Moved (a b : Database) (done : List (Key × List ℕ)) : Type 0 where
 pub moved_none : (a b : Database) → b ≡ a → Moved a b []
 moved_none a b same = subst (λ d. Moved a d []) (sym same) (record {
   left = λ key. refl;
+  had = λ key bytes found. absurd (none_is_some bytes found);
   read = λ key bytes found. absurd (none_is_some bytes found);
   kept = λ key bytes found. found;
   from = λ key bytes found. inl found;
@@ -95,6 +97,10 @@ module _ (a b c : Database) (k : Key) (old new : List ℕ) (done : List (Key × 
   left_at : (key : Key) (tied : Bool) → eq_by_cmp key_cmp key k ≡ tied → get (old_states c) key ≡ cond (is_some (find key_cmp key more)) None (get (old_states a) key)
   left_at key true is = old_at b c k old new moves key true is ∙ sym (ap (λ o. cond (is_some o) None (get (old_states a) key)) (found_more key true is))
   left_at key false is = old_at b c k old new moves key false is ∙ moved.left key ∙ sym (ap (λ o. cond (is_some o) None (get (old_states a) key)) (found_more key false is))
+
+  had_at : (key : Key) (bytes : List ℕ) (tied : Bool) → eq_by_cmp key_cmp key k ≡ tied → find key_cmp key more ≡ Some bytes → get (old_states a) key ≡ Some bytes
+  had_at key bytes true is found = ap (get (old_states a)) (same_where_tied key k is) ∙ was ∙ sym (found_more key true is) ∙ found
+  had_at key bytes false is found = moved.had key bytes (sym (found_more key false is) ∙ found)
 
   read_at : (key : Key) (bytes : List ℕ) (tied : Bool) → eq_by_cmp key_cmp key k ≡ tied → find key_cmp key more ≡ Some bytes → IsOldStored bytes
   read_at key bytes true is found = subst IsOldStored (some_is old bytes (sym (found_more key true is) ∙ found)) (spelled.0, spelled.1, spelled.3)
@@ -113,6 +119,7 @@ module _ (a b c : Database) (k : Key) (old new : List ℕ) (done : List (Key × 
   pub moved_on : Moved a c more
   moved_on = record {
     left = λ key. left_at key (eq_by_cmp key_cmp key k) refl;
+    had = λ key bytes found. had_at key bytes (eq_by_cmp key_cmp key k) refl found;
     read = λ key bytes found. read_at key bytes (eq_by_cmp key_cmp key k) refl found;
     kept = λ key bytes found. kept_at key bytes (eq_by_cmp key_cmp key k) refl found;
     from = λ key bytes found. from_at key bytes (eq_by_cmp key_cmp key k) refl found;
@@ -214,6 +221,65 @@ read_order version db pairs two whole same all =
     second_order (old_states db) (new_states db) (subst (λ v. IsWhole v (new_states db) (old_states db) (new_states db)) two whole)
     (stored_by IsStored (new_states db) (subst (AllByRecursion (λ (e : Key × List ℕ). IsStored e.1)) same all))
 
+-- ---- a move that was broken off
+
+module _ (version : ℕ) (a b : Database) (done : List (Key × List ℕ)) (moved : Moved a b done) (moving : Moving a b) (whole : IsWhole version (old_states a) (old_states a) (new_states a)) where
+  order_on : AreInOrder version (old_states a) (new_states a) → AreInOrder version (old_states b) (new_states b)
+  order_on order = record {
+    old_keys = λ key bytes found. whole.keys key bytes (moving.shrinks key bytes found);
+    new_keys = λ key bytes found. key_from key bytes (moved.from key bytes found);
+    tables = record { apart = moving.apart; moved = λ two key bytes found. whole.tables.moved two key bytes (moving.shrinks key bytes found) };
+    old_stored = λ key bytes found. order.old_stored key bytes (moving.shrinks key bytes found);
+    new_stored = λ key bytes found. stored_from key bytes (moved.from key bytes found);
+  }
+    where
+      key_from : (key : Key) (bytes : List ℕ) → (get (new_states a) key ≡ Some bytes) ⊎ (IsStored bytes × ((was : List ℕ) × (get (old_states a) key ≡ Some was))) → is_key key ≡ true
+      key_from key bytes (inl there) = order.new_keys key bytes there
+      key_from key bytes (inr came) = whole.keys key came.1.0 came.1.1
+
+      stored_from : (key : Key) (bytes : List ℕ) → (get (new_states a) key ≡ Some bytes) ⊎ (IsStored bytes × ((was : List ℕ) × (get (old_states a) key ≡ Some was))) → IsStored bytes
+      stored_from key bytes (inl there) = order.new_stored key bytes there
+      stored_from key bytes (inr came) = came.0
+
+  order_off : AreInOrder version (old_states b) (new_states b) → AreInOrder version (old_states a) (new_states a)
+  order_off order = record {
+    old_keys = whole.keys;
+    new_keys = λ key bytes found. order.new_keys key bytes (moved.kept key bytes found);
+    tables = whole.tables;
+    old_stored = λ key bytes found. old_by key bytes (find key_cmp key done) refl found;
+    new_stored = λ key bytes found. order.new_stored key bytes (moved.kept key bytes found);
+  }
+    where
+      old_by : (key : Key) (bytes : List ℕ) (o : Option (List ℕ)) → find key_cmp key done ≡ o → get (old_states a) key ≡ Some bytes → IsOldStored bytes
+      old_by key bytes None is found = order.old_stored key bytes (moved.left key ∙ ap (λ o. cond (is_some o) None (get (old_states a) key)) is ∙ found)
+      old_by key bytes (Some was) is found = moved.read key bytes (is ∙ sym (moved.had key was is) ∙ found)
+
+  pub order_moved : AreInOrder version (old_states a) (new_states a) ↔ AreInOrder version (old_states b) (new_states b)
+  order_moved = (order_on, order_off)
+
+  -- where nothing more was moved
+  pub order_then : (c : Database) → c ≡ b → AreInOrder version (old_states a) (new_states a) ↔ AreInOrder version (old_states c) (new_states c)
+  order_then c same = subst (λ d. AreInOrder version (old_states a) (new_states a) ↔ AreInOrder version (old_states d) (new_states d)) (sym same) order_moved
+
+  -- the end of a move that was refused
+  pub order_ended : (result : Result (Unit {0}) Refusal) (c : Database) → OnErr result (c ≡ b) → IfErr result (λ _. AreInOrder version (old_states a) (new_states a) ↔ AreInOrder version (old_states c) (new_states c))
+  order_ended (Ok ended) c same = tt
+  order_ended (Err e) c same = order_then c same
+
+pub order_same : (version : ℕ) (a b : Database) → b ≡ a → AreInOrder version (old_states a) (new_states a) ↔ AreInOrder version (old_states b) (new_states b)
+order_same version a b same = subst (λ d. AreInOrder version (old_states a) (new_states a) ↔ AreInOrder version (old_states d) (new_states d)) (sym same) (λ order. order, λ order. order)
+
+pub resumes_same : (version number : ℕ) (a b : Database) → b ≡ a → HoldsRecords version number a → Resumes version number a b
+resumes_same version number a b same holds = (version, subst (HoldsRecords version number) (sym same) holds, order_same version a b same)
+
+pub resumes_moved : (version number : ℕ) (a b c : Database) → c ≡ b → HoldsRecords 2 number b → Migrates version a b → Resumes version number a c
+resumes_moved version number a b c same holds migrates = subst (Resumes version number a) (sym same) (2, holds, (order_after version a b migrates, order_before version a b migrates))
+
+-- from the database before its tables were made
+pub resumes_opened : (version site number : ℕ) (a b c : Database) → number ≡ site → KeepsStates a b → Resumes version number b c → Resumes version site a c
+resumes_opened version site number a b c same keeps it = subst (λ n. Resumes version n a c) same
+    (it.0, it.1, (λ order. it.2.0 (order_kept version a b keeps order), λ order. order_back version a b keeps (it.2.1 order)))
+
 -- ---- one pair more
 
 all_more : {X : Type 0} (P : X → Type 0) (xs : List X) (x : X) → AllByRecursion P xs → P x → AllByRecursion P (xs ++ x ∷ [])
@@ -271,12 +337,22 @@ loaded_order config states (Err e) old new is order = λ damaged.
     let refused : opened config states ≡ Err e = is (λ memory. (let bad : Damaged ≡ Memory = sym damaged ∙ memory in absurd cc)) in
     absurd (opened_not_damaged (ltb config.max_keys (length states)) _ (refused ∙ ap (λ (r : Refusal). Err r) damaged))
 
-pub too_many : (result : Result SiteValue Refusal) (most : ℕ) (db : Database) → HasNone (old_states db) → IfErr result (λ e. e ≡ Full → most < len (new_states db)) → IfErr result (λ e. e ≡ Full → HoldsTooMany most db)
-too_many (Ok site) most db none more = tt
-too_many (Err e) most db none more = λ full. record { alone = none; more = more full }
+pub too_many : (result : Result SiteValue Refusal) (most : ℕ) (db : Database) → AreInOrder 2 (old_states db) (new_states db) → IfErr result (λ e. e ≡ Full → most < len (new_states db)) →
+    IfErr result (λ e. e ≡ Full → HoldsTooMany most db × AreInOrder 2 (old_states db) (new_states db))
+too_many (Ok site) most db order many = tt
+too_many (Err e) most db order many = λ full. (record { alone = order.tables.moved refl; more = many full }, order)
 
-pub too_many_after : (result : Result SiteValue Refusal) (most : ℕ) (a b : Database) → b ≡ a → IfErr result (λ e. e ≡ Full → HoldsTooMany most a) → IfErr result (λ e. e ≡ Full → HoldsTooMany most b)
-too_many_after result most a b same many = subst (λ d. IfErr result (λ e. e ≡ Full → HoldsTooMany most d)) (sym same) many
+-- a load that changed nothing
+pub too_many_after : (result : Result SiteValue Refusal) (most version : ℕ) (a b : Database) → version ≡ 2 → b ≡ a → IfErr result (λ e. e ≡ Full → HoldsTooMany most a × AreInOrder 2 (old_states a) (new_states a)) →
+    IfErr result (λ e. e ≡ Full → HoldsTooMany most b × AreInOrder version (old_states a) (new_states a))
+too_many_after (Ok site) most version a b two same many = tt
+too_many_after (Err e) most version a b two same many = λ full. (subst (HoldsTooMany most) (sym same) (many full).0, subst (λ v. AreInOrder v (old_states a) (new_states a)) (sym two) (many full).1)
+
+-- and one after a move
+pub too_many_moved : (result : Result SiteValue Refusal) (most version : ℕ) (a b c : Database) → c ≡ b → Migrates version a b → IfErr result (λ e. e ≡ Full → HoldsTooMany most b × AreInOrder 2 (old_states b) (new_states b)) →
+    IfErr result (λ e. e ≡ Full → HoldsTooMany most c × AreInOrder version (old_states a) (new_states a))
+too_many_moved (Ok site) most version a b c same migrates many = tt
+too_many_moved (Err e) most version a b c same migrates many = λ full. (subst (HoldsTooMany most) (sym same) (many full).0, order_before version a b migrates (many full).1)
 
 pub order_by : (result : Result SiteValue Refusal) (version : ℕ) (old new : Stored) → version ≡ 2 → MatchResult result (λ _. AreInOrder 2 old new) (λ e. e ≡ Damaged → ¬ AreInOrder 2 old new) →
     MatchResult result (λ _. AreInOrder version old new) (λ e. e ≡ Damaged → ¬ AreInOrder version old new)

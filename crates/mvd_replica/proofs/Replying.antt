@@ -5,7 +5,7 @@ use Rattle.std.proofs.lemmas.List.{map-append}
 use Rattle.std.specs.List.{AllByRecursion}
 use Rattle.mvd_dots.specs.declared.refusals.Refusal.{Refusal}
 use Rattle.mvd_dots.specs.declared.refusals.Refusal.TheVariants.{Memory}
-use Rattle.mvd_keys.specs.Writes.{Write}
+use Rattle.mvd_keys.specs.Writes.{Stands, Write}
 use Rattle.mvd_wire.specs.declared.request.Request.{Request}
 use Rattle.mvd_wire.specs.declared.request.Request.TheVariants.{Put, Delete, Push}
 use Rattle.mvd_wire.specs.declared.reply.Reply.{Reply}
@@ -14,7 +14,7 @@ use Rattle.mvd_wire.specs.Replies.{is_short}
 use Rattle.mvd_site.specs.Config.{ConfigValue}
 use Rattle.mvd_site.specs.Known.{Adds}
 use Rattle.mvd_site.specs.Sites.{SiteStands, SiteValue}
-use Rattle.mvd_replica.specs.Turns.{AddsAt, AllTold, AreFrames, Event, GoesOn, IsMemory, MayTell, Replies, RepliesOne, Tells, Turn, known_after}
+use Rattle.mvd_replica.specs.Turns.{AddsAt, AllTold, AreFrames, Event, GoesOn, IsMemory, MayTell, Replies, RepliesOne, StandsOn, Tells, Turn, known_after}
 use Rattle.mvd_replica.specs.Steps.{IsSent}
 
 record Split (events : List Event) (first second : List Turn) : Type 0 where
@@ -77,6 +77,29 @@ Replies-one old new turn one known (e ∷ []) stands tells =
     )
 Replies-one old new turn one known (e ∷ f ∷ es) stands tells = absurd (let all : ◌≡◌ {A = List Turn} (e.turn ∷ f.turn ∷ map (λ event. event.turn) es) (turn ∷ []) = tells.told in cc)
 
+-- ---- the states themselves
+
+pub StandsOn-append : (old mid new : SiteValue) (first second : List Turn) → StandsOn old mid first → StandsOn mid new second → StandsOn old new (first ++ second)
+StandsOn-append old mid new first second one other known events stands tells =
+    let p : Split events first second = split first second events tells in
+    let grown : known_after events ≡ known_after p.before ++ known_after p.after = ap known_after p.all ∙ flat_map-append (λ (e : Event). e.added) p.before p.after in
+    let regrouped : known ++ known_after events ≡ (known ++ known_after p.before) ++ known_after p.after = ap (λ l. known ++ l) grown ∙ sym (append_assoc known (known_after p.before) (known_after p.after)) in
+    subst (Stands new.states) (sym regrouped) (other (known ++ known_after p.before) p.after (one known p.before stands p.one) p.other)
+
+pub StandsOn-none : (site : SiteValue) → StandsOn site site []
+StandsOn-none site known [] stands tells = subst (Stands site.states) (sym (append-nil known)) stands
+StandsOn-none site known (e ∷ es) stands tells = absurd (let some : ◌≡◌ {A = List Turn} (e.turn ∷ map (λ event. event.turn) es) [] = tells.told in cc)
+
+pub StandsOn-one : (old new : SiteValue) (turn : Turn) → RepliesOne old new turn → StandsOn old new (turn ∷ [])
+StandsOn-one old new turn one known [] stands tells = absurd (let none : ◌≡◌ {A = List Turn} [] (turn ∷ []) = tells.told in cc)
+StandsOn-one old new turn one known (e ∷ []) stands tells =
+    let all : ◌≡◌ {A = List Turn} (e.turn ∷ []) (turn ∷ []) = tells.told in
+    let same : e.turn ≡ turn = cc in
+    let same_added : known ++ known_after (e ∷ []) ≡ known ++ e.added = ap (λ l. known ++ l) (append-nil e.added) in
+    let adds : AddsAt turn.asked turn.reply e.added = subst (λ (t : Turn). AddsAt t.asked t.reply e.added) same tells.fits.0 in
+    subst (Stands new.states) (sym same_added) (one.keeps known e.added stands adds)
+StandsOn-one old new turn one known (e ∷ f ∷ es) stands tells = absurd (let all : ◌≡◌ {A = List Turn} (e.turn ∷ f.turn ∷ map (λ event. event.turn) es) (turn ∷ []) = tells.told in cc)
+
 -- ---- want of memory in place of a long reply
 
 -- a reply that takes memory adds nothing
@@ -121,6 +144,7 @@ RepliesOne-sent old new asked reply sent (inr other) still one =
     subst (λ r. RepliesOne old new (record { asked = asked; reply = r })) (sym other.1) (record {
       replies = λ known stands. MayTell-memory old.config known old.broken new.broken asked (still other.0);
       stands = λ known added stands adds. one.stands known added stands (AddsAt-long asked reply added other.0 (AddsAt-Refused asked Memory added adds));
+      keeps = λ known added stands adds. one.keeps known added stands (AddsAt-long asked reply added other.0 (AddsAt-Refused asked Memory added adds));
     })
 
 -- ---- the frames, and a choice that fits

@@ -1,5 +1,6 @@
 -- A replica as a side of a session.
 use Rattle.std.proofs.Common.{◌≡◌, ◌≢◌, ◌⊎◌, ◌∙◌, Bool, true, false, Result, Ok, Err, refl, sym, ap, subst, inl, inr, true≢false, if◌then◌else◌}
+use Rattle.std.specs.Prelude.{IsTrue}
 use Rattle.std.specs.Result.{IfErr, IfOk, MatchResult, OnErr, OnOk}
 use Rattle.mvd_dots.specs.declared.refusals.Refusal.{Refusal}
 use Rattle.mvd_dots.specs.declared.refusals.Refusal.TheVariants.{Broken, DotClash, Memory, StateTooLarge, Store}
@@ -11,7 +12,7 @@ use Rattle.mvd_wire.specs.declared.reply.Reply.{Reply}
 use Rattle.mvd_wire.specs.declared.reply.Reply.TheVariants.{Done, Refused}
 use Rattle.mvd_site.specs.Change.{ChangeValue}
 use Rattle.mvd_site.specs.Config.{ConfigValue}
-use Rattle.mvd_site.specs.FromStates.{Answered, AnswersFrom, after_from, answer_from, push_reply, within}
+use Rattle.mvd_site.specs.FromStates.{Answered, AnswersFrom, Broke, after_from, answer_from, push_reply, within}
 use Rattle.mvd_site.specs.Held.{States, state_at}
 use Rattle.mvd_site.specs.Prepared.{PreparesChangeFrom, is_refusal}
 use Rattle.mvd_site.specs.Sites.{SiteValue}
@@ -21,17 +22,23 @@ use Rattle.mvd_site.proofs.Prepare.{answers_from_breaking}
 use Rattle.mvd_site.proofs.Pushes.{PushFacts, push_facts, refusal_is}
 use Rattle.mvd_sync.specs.Sides.{SiteRefuses}
 use Rattle.mvd_sync.proofs.SiteSides.{push_refuses as site_push_refuses}
-use Rattle.mvd_replica.specs.Kept.{PutsIn, broken_site}
-use Rattle.mvd_replica.specs.Sides.{AnswersFromStored, ReplicaRefuses, StoreRefusedFrom}
+use Rattle.mvd_records.specs.Records.{IsSound}
+use Rattle.sqlite.specs.State.{HasCleanDisk, State as Shown}
+use Rattle.mvd_replica.specs.Kept.{HoldsSite, HoldsStates, PutsIn, broken_site}
+use Rattle.mvd_replica.specs.Sides.{AnswersFromStored, HoldsBroken, ReplicaFollows, ReplicaRefuses, StoreRefusedFrom}
 
 -- ---- one request, from the states
+
+-- a change is of the states
+pub changes_states : (old : SiteValue) (request : Request) (change : ChangeValue) → PreparesChangeFrom old.config old.states request change → after_from old.config old.states request ≢ old.states
+changes_states old request change prepared same = insert_differs old.states change.key change.state prepared.differs (sym prepared.after ∙ same)
 
 -- a change that was not put in
 pub refused_from : (old new : SiteValue) (request : Request) (change : ChangeValue) (refusal : Refusal) → old.broken ≡ false → PutsIn {A = Unit {0}} old new change (Err refusal) →
     PreparesChangeFrom old.config old.states request change → AnswersFromStored old new request (Refused refusal)
 refused_from old new request change refusal whole (inl store) prepared = inr (record {
   told = ap Refused store.0;
-  changes = λ same. insert_differs old.states change.key change.state prepared.differs (sym prepared.after ∙ same);
+  changes = changes_states old request change prepared;
   whole = whole;
   site = store.1;
 })
@@ -91,3 +98,70 @@ module _ (old new : SiteValue) (key : Key) (s : State) where
       IfErr r (ReplicaRefuses new)
   push_refuses r (inl from) told stays = is_inl new r (site_push_refuses old new key s r from told stays)
   push_refuses r (inr store) told stays = by_store r store
+
+-- ---- the records
+
+-- a site that one request breaks
+pub broke_by : (old new : SiteValue) (request : Request) (reply : Reply) → old.broken ≡ false → new.broken ≡ true → AnswersFromStored old new request reply → Broke old new request
+broke_by old new request reply whole broken (inr store) = absurd (true≢false (sym broken ∙ ap (λ (s : SiteValue). s.broken) store.site ∙ whole))
+broke_by old new request reply whole broken (inl from) = elim (from whole) [
+  | inl answered ↦ absurd (true≢false (sym broken ∙ ap (λ (s : SiteValue). s.broken) answered.site))
+  | inr (inl memory) ↦ absurd (true≢false (sym broken ∙ ap (λ (s : SiteValue). s.broken) memory.1 ∙ whole))
+  | inr (inr broke) ↦ broke.1
+]
+
+module _ (old new : SiteValue) (request : Request) (reply : Reply) (before after : Shown) where
+  abbrev Asked : Request → Type 0
+  Asked asked = asked ≡ request
+
+  holds_broken : Broke old new request → HoldsStates old.config.site (after_from old.config old.states request) after.committed → HoldsBroken Asked new after.committed
+  holds_broken broke holds = subst (λ s. HoldsBroken Asked s after.committed) (sym broke.site) (record { request = request; asked = refl; changes = broke.changes; holds = holds })
+
+  shut_by : IsTrue after.is_open ⊎ (new ≡ old) → (IsSound after → IsSound before) → HasCleanDisk after → before.is_open ≡ false → new ≡ old
+  shut_by (inl is) sound clean shut = absurd (true≢false (sym (sound (record { clean = clean; is_open = is })).is_open ∙ shut))
+  shut_by (inr same) sound clean shut = same
+
+  -- what one request does to the records
+  pub follows_by : new.config ≡ old.config → (old.broken ≡ true → new ≡ old) → (old.broken ≡ true → after.committed ≡ before.committed) → (IsSound after → IsSound before) →
+      (IsSound after → HoldsSite old before.committed → HoldsSite new after.committed) → (HasCleanDisk after → HasCleanDisk before) → (HasCleanDisk after → IsTrue after.is_open ⊎ (new ≡ old)) →
+      (new.broken ≡ true → reply ≡ Refused Broken) → AnswersFromStored old new request reply →
+      (IsSound after → HoldsSite old before.committed → old.broken ≡ false → reply ≡ Refused Broken → HoldsStates old.config.site (after_from old.config old.states request) after.committed) →
+      ReplicaFollows Asked old new before after
+  follows_by config still same sound holds clean taken told answers stored = record {
+    site = (config, still);
+    store = record {
+      sound = sound;
+      holds = holds;
+      stays = same;
+      stored = λ now held whole broken. holds_broken (broke_by old new request reply whole broken answers) (stored now held whole (told broken));
+      clean = clean;
+      shut = λ disk shut. shut_by (taken disk) sound disk shut;
+    };
+  }
+
+the_request : (a b : Request) → ◌≡◌ {A = Result Request Refusal} (Ok a) (Ok b) → a ≡ b
+the_request a b e = cc
+
+-- a request that was made
+pub follows_made : (made asked : Request) (old new : SiteValue) (before after : Shown) → ◌≡◌ {A = Result Request Refusal} (Ok asked) (Ok made) → ReplicaFollows (λ request. request ≡ made) old new before after →
+    ReplicaFollows (λ request. request ≡ asked) old new before after
+follows_made made asked old new before after same it = subst (λ r. ReplicaFollows (λ request. request ≡ r) old new before after) (sym (the_request asked made same)) it
+
+-- the same of any requests of which it holds
+pub follows_wider : (asks wider : Request → Type 0) (old new : SiteValue) (before after : Shown) → ((request : Request) → asks request → wider request) → ReplicaFollows asks old new before after → ReplicaFollows wider old new before after
+follows_wider asks wider old new before after widens it = record {
+  site = it.site;
+  store = record {
+    sound = it.store.sound;
+    holds = it.store.holds;
+    stays = it.store.stays;
+    stored = λ sound holds whole broken.
+        let was = it.store.stored sound holds whole broken in
+        record { request = was.request; asked = widens was.request was.asked; changes = was.changes; holds = was.holds };
+    clean = it.store.clean;
+    shut = it.store.shut;
+  };
+}
+
+pub follows_any : (asks : Request → Type 0) (old new : SiteValue) (before after : Shown) → ReplicaFollows asks old new before after → ReplicaFollows (λ _. Unit {0}) old new before after
+follows_any asks old new before after it = follows_wider asks (λ _. Unit {0}) old new before after (λ _ _. tt) it

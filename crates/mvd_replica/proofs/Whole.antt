@@ -14,9 +14,9 @@ use Rattle.mvd_wire.specs.Replies.{reply_bytes}
 use Rattle.mvd_replica.specs.declared.serving.Ended.{Ended}
 use Rattle.mvd_replica.specs.declared.serving.TheConstants.{FRAMES_MAX}
 use Rattle.mvd_replica.specs.Turns.{Turn, Replies, AreFrames, GoesOn}
-use Rattle.mvd_replica.specs.Served.{Side, Ending, AtBye, AtEnd, AtRefusal, AtWriter, Stops, GoesOut, IsCount, Served, Went, replies_bytes, last_bytes, result_of}
+use Rattle.mvd_replica.specs.Served.{Side, Ending, AtBye, AtEnd, AtRefusal, AtWriter, Stops, GoesOut, GoesOutAfter, IsCount, IsCutCount, Served, Went, frames_most, replies_bytes, last_bytes, result_of}
 use Rattle.mvd_replica.specs.Steps.{Ends, IsLastCount, TakesTurn}
-use Rattle.mvd_replica.proofs.Replying.{Replies-append, Replies-none, AreFrames-append, GoesOn-append, HasChoice-none, HasChoice-append}
+use Rattle.mvd_replica.proofs.Replying.{Replies-append, Replies-none, StandsOn-append, StandsOn-none, AreFrames-append, GoesOn-append, HasChoice-none, HasChoice-append}
 
 replies_bytes-append : (first second : List Turn) → replies_bytes (first ++ second) ≡ replies_bytes first ++ replies_bytes second
 replies_bytes-append first second = flat_map-append (λ (t : Turn). reply_bytes t.reply) first second
@@ -25,6 +25,7 @@ replies_bytes-append first second = flat_map-append (λ (t : Turn). reply_bytes 
 pub Went-none : (side : Side) → Went [] side side
 Went-none side = record {
   replies = Replies-none side.site;
+  stands = StandsOn-none side.site;
   config = refl;
   choice = HasChoice-none;
   goes_on = tt;
@@ -35,6 +36,7 @@ Went-none side = record {
 pub Went-append : (first second : List Turn) (a b c : Side) → Went first a b → Went second b c → Went (first ++ second) a c
 Went-append first second a b c one other = record {
   replies = Replies-append a.site b.site c.site first second one.config one.replies other.replies;
+  stands = StandsOn-append a.site b.site c.site first second one.stands other.stands;
   config = other.config ∙ one.config;
   choice = HasChoice-append first second one.choice other.choice;
   goes_on = GoesOn-append first second one.goes_on other.goes_on;
@@ -55,7 +57,21 @@ GoesOut-after a b c front bytes failed result wanted one (inr other) =
     let m : (m : ℕ) × (front ++ take other.1.0 bytes ≡ take m (front ++ bytes)) = take-past front bytes other.1.0 in
     inr (other.0, (m.0, subst (Appends a c) m.1 (Appends-trans _ _ _ _ _ one other.1.1)))
 
-counted : (n count : ℕ) (ending : Ending) → n < FRAMES_MAX → IsLastCount count ending → IsCount (n + count) ending
+-- as many frames as the code counts
+most : FRAMES_MAX ≡ frames_most
+most = refl
+
+cut_count : (count : ℕ) (ending : Ending) → IsLastCount count ending → IsCutCount count ending
+cut_count count AtBye last = last
+cut_count count AtEnd last = last
+cut_count count (AtRefusal refusal) last = last.0
+cut_count count AtWriter last = last
+
+GoesOutAfter-first : {X : Type 0} (a b c : Option (List ℕ)) (first bytes : List ℕ) (failed result wanted : X) → Appends a b first → GoesOut b c bytes failed result wanted → GoesOutAfter a c first bytes failed result wanted
+GoesOutAfter-first a b c first bytes failed result wanted one (inl other) = inl (other.0, Appends-trans _ _ _ _ _ one other.1)
+GoesOutAfter-first a b c first bytes failed result wanted one (inr other) = inr (other.0, (other.1.0, Appends-trans _ _ _ _ _ one other.1.1))
+
+counted : (n count : ℕ) (ending : Ending) → n < frames_most → IsLastCount count ending → IsCount (n + count) ending
 counted n count AtBye room last = omega arith
 counted n count AtEnd room last = omega arith
 counted n count (AtRefusal refusal) room last = inl (omega (arith, last.0), last.1)
@@ -66,9 +82,10 @@ Served-after turns a b c result one room last = record {
   turns = turns ++ last.turns;
   ending = last.ending;
   replies = Replies-append a.site b.site c.site turns last.turns one.config one.replies last.replies;
+  stands = StandsOn-append a.site b.site c.site turns last.turns one.stands last.stands;
   choice = HasChoice-append turns last.turns one.choice last.choice;
   goes_on = GoesOn-append turns last.turns one.goes_on last.goes_on;
-  count = subst (λ n. IsCount n last.ending) (sym (length-append turns last.turns)) (counted (length turns) (length last.turns) last.ending room last.count);
+  count = subst (λ n. IsCount n last.ending) (sym (length-append turns last.turns)) (counted (length turns) (length last.turns) last.ending (subst (λ m. length turns < m) most room) last.count);
   read = λ bytes known.
       let p : (rest : List ℕ) × (b.input ≡ Some rest) × AreFrames turns bytes rest = one.read bytes known in
       let q : (rest : List ℕ) × AreFrames last.turns p.0 rest × Stops rest c.input last.ending = last.read p.0 p.1 in
@@ -76,6 +93,13 @@ Served-after turns a b c result one room last = record {
   wrote = subst (λ l. GoesOut a.output c.output l (Err WriteFailed) result (result_of last.ending))
       (sym (append_assoc (replies_bytes turns) (replies_bytes last.turns) (last_bytes c.site.broken last.ending)) ∙ ap (λ l. l ++ last_bytes c.site.broken last.ending) (sym (replies_bytes-append turns last.turns)))
       (GoesOut-after a.output b.output c.output (replies_bytes turns) (replies_bytes last.turns ++ last_bytes c.site.broken last.ending) (Err WriteFailed) result (result_of last.ending) one.wrote last.wrote);
+  went_out = record {
+    whole = turns;
+    cut = last.turns;
+    all = refl;
+    count = cut_count (length last.turns) last.ending last.count;
+    wrote = GoesOutAfter-first a.output b.output c.output (replies_bytes turns) (replies_bytes last.turns ++ last_bytes c.site.broken last.ending) (Err WriteFailed) result (result_of last.ending) one.wrote last.wrote;
+  };
 }
 
 pub GoesOut-err : (a b : Option (List ℕ)) (bytes : List ℕ) (failed fault wanted : Refusal) → GoesOut a b bytes failed fault wanted → GoesOut {X = Result Ended Refusal} a b bytes (Err failed) (Err fault) (Err wanted)
@@ -90,14 +114,23 @@ Served-full turns a b output fault one full told = record {
   turns = turns;
   ending = AtRefusal TooManyRequests;
   replies = one.replies;
+  stands = one.stands;
   choice = one.choice;
   goes_on = one.goes_on;
-  count = inr (full, refl);
+  count = inr (full ∙ most, refl);
   read = λ bytes known.
       let p : (rest : List ℕ) × (b.input ≡ Some rest) × AreFrames turns bytes rest = one.read bytes known in
       (p.0, p.2, inr (inr (inl (refl, p.1))));
   wrote = GoesOut-after a.output b.output output (replies_bytes turns) (reply_bytes (Refused TooManyRequests)) (Err WriteFailed) (Err fault) (Err TooManyRequests) one.wrote
       (GoesOut-err b.output output (reply_bytes (Refused TooManyRequests)) WriteFailed fault TooManyRequests told);
+  went_out = record {
+    whole = turns;
+    cut = [];
+    all = sym (append-nil turns);
+    count = refl;
+    wrote = GoesOutAfter-first a.output b.output output (replies_bytes turns) (reply_bytes (Refused TooManyRequests)) (Err WriteFailed) (Err fault) (Err TooManyRequests) one.wrote
+        (GoesOut-err b.output output (reply_bytes (Refused TooManyRequests)) WriteFailed fault TooManyRequests told);
+  };
 }
 
 -- ---- as the code has them

@@ -1,5 +1,5 @@
 -- A whole connection: from the bytes that came to the bytes that went out.
-use Rattle.std.specs.Prelude.{◌≡◌, ◌≢◌, ◌⊎◌, ℕ, ◌<◌, ◌≤◌, Bool, if◌then◌else◌, List, [], ◌++◌, length, flat_map, Option, Some, Result, Ok, Err, ⊤}
+use Rattle.std.specs.Prelude.{◌≡◌, ◌≢◌, ◌⊎◌, ℕ, ◌<◌, ◌≤◌, Bool, if◌then◌else◌, List, [], ◌++◌, length, take, flat_map, Option, Some, Result, Ok, Err}
 use Rattle.std.specs.List.{AllByRecursion}
 use Rattle.std.specs.Io.KnownBytes.{Appends}
 use Rattle.mvd_dots.specs.declared.refusals.Refusal.{Refusal}
@@ -12,8 +12,7 @@ use Rattle.mvd_wire.specs.Replies.{reply_bytes}
 use Rattle.mvd_site.specs.Sites.{SiteValue}
 use Rattle.mvd_replica.specs.declared.serving.Ended.{Ended}
 use Rattle.mvd_replica.specs.declared.serving.Ended.TheVariants as ended
-use Rattle.mvd_replica.specs.declared.serving.TheConstants.{FRAMES_MAX}
-use Rattle.mvd_replica.specs.Turns.{AreFrames, Event, GoesOn, Replies, Tells, Turn}
+use Rattle.mvd_replica.specs.Turns.{AreFrames, Event, GoesOn, Replies, StandsOn, Tells, Turn}
 
 -- a site between a reader and a writer, whose bytes may not be known
 pub record Side : Type 0 where
@@ -48,14 +47,25 @@ Stops rest left AtBye = (frame : FrameValue) × (next : List ℕ) × (frame_at r
 Stops rest left AtEnd = (rest ≡ []) × (left ≡ Some [])
 Stops rest left (AtRefusal refusal) =
     (refusal ≡ Memory) ⊎ ((refusal ≡ ReadFailed) ⊎ (((refusal ≡ TooManyRequests) × (left ≡ Some rest)) ⊎ (frame_at rest ≡ Err refusal)))
-Stops rest left AtWriter = ⊤
+Stops rest left AtWriter = left ≡ Some rest
+
+-- as many frames of a connection are answered
+abbrev pub frames_most : ℕ
+frames_most = 1000000
 
 -- so many frames were answered: as many as there may be exactly where that is what ends it
 abbrev pub IsCount : ℕ → Ending → Type 0
-IsCount count AtBye = count < FRAMES_MAX
-IsCount count AtEnd = count < FRAMES_MAX
-IsCount count (AtRefusal refusal) = ((count < FRAMES_MAX) × (refusal ≢ TooManyRequests)) ⊎ ((count ≡ FRAMES_MAX) × (refusal ≡ TooManyRequests))
-IsCount count AtWriter = count ≤ FRAMES_MAX
+IsCount count AtBye = count < frames_most
+IsCount count AtEnd = count < frames_most
+IsCount count (AtRefusal refusal) = ((count < frames_most) × (refusal ≢ TooManyRequests)) ⊎ ((count ≡ frames_most) × (refusal ≡ TooManyRequests))
+IsCount count AtWriter = count ≤ frames_most
+
+-- so many replies may not have gone out whole: the one at which the writer failed
+abbrev pub IsCutCount : ℕ → Ending → Type 0
+IsCutCount count AtBye = count ≡ 0
+IsCutCount count AtEnd = count ≡ 0
+IsCutCount count (AtRefusal refusal) = count ≡ 0
+IsCutCount count AtWriter = count ≡ 1
 
 -- the frames of the replies, one after the other
 abbrev pub replies_bytes : List Turn → List ℕ
@@ -65,20 +75,36 @@ replies_bytes turns = flat_map (λ turn. reply_bytes turn.reply) turns
 abbrev pub GoesOut : {X : Type 0} → Option (List ℕ) → Option (List ℕ) → List ℕ → X → X → X → Type 0
 GoesOut old new bytes failed result wanted = ((result ≡ wanted) × Appends old new bytes) ⊎ ((result ≡ failed) × AppendsFront old new bytes)
 
+-- the first bytes went out, and then the others, or the writer failed and a front of the others did
+abbrev pub GoesOutAfter : {X : Type 0} → Option (List ℕ) → Option (List ℕ) → List ℕ → List ℕ → X → X → X → Type 0
+GoesOutAfter old new first bytes failed result wanted =
+    ((result ≡ wanted) × Appends old new (first ++ bytes)) ⊎ ((result ≡ failed) × ((n : ℕ) × Appends old new (first ++ take n bytes)))
+
+-- all replies but the one at which the writer failed went out whole, and then what ends the connection
+pub record WentOut (old new : Option (List ℕ)) (turns : List Turn) (ending : Ending) (broken : Bool) (result : Result Ended Refusal) : Type 0 where
+  pub whole : List Turn
+  pub cut : List Turn
+  pub all : turns ≡ whole ++ cut
+  pub count : IsCutCount (length cut) ending
+  pub wrote : GoesOutAfter old new (replies_bytes whole) (replies_bytes cut ++ last_bytes broken ending) (Err WriteFailed) result (result_of ending)
+
 -- Every frame was answered from the writes known then, and the connection ended so
 pub record Served (old new : Side) (result : Result Ended Refusal) : Type 0 where
   pub turns : List Turn
   pub ending : Ending
   pub replies : Replies old.site new.site turns
+  pub stands : StandsOn old.site new.site turns
   pub choice : (events : List Event) × Tells events turns
   pub goes_on : AllByRecursion GoesOn turns
   pub count : IsCount (length turns) ending
   pub read : (bytes : List ℕ) → old.input ≡ Some bytes → (rest : List ℕ) × AreFrames turns bytes rest × Stops rest new.input ending
   pub wrote : GoesOut old.output new.output (replies_bytes turns ++ last_bytes new.site.broken ending) (Err WriteFailed) result (result_of ending)
+  pub went_out : WentOut old.output new.output turns ending new.site.broken result
 
 -- turns that were taken, after which the connection goes on
 pub record Went (turns : List Turn) (old new : Side) : Type 0 where
   pub replies : Replies old.site new.site turns
+  pub stands : StandsOn old.site new.site turns
   pub config : new.site.config ≡ old.site.config
   pub choice : (events : List Event) × Tells events turns
   pub goes_on : AllByRecursion GoesOn turns

@@ -1,17 +1,21 @@
 -- A stored site as a side of a session: what it does from its states, what of it no call changes, and what it refuses.
-use Rattle.std.proofs.Common.{refl, sym, subst, ◌∙◌}
-use Rattle.std.specs.Prelude.{◌≡◌, ◌≢◌, ◌⊎◌, false}
+use Rattle.std.proofs.Common.{refl, sym, subst, true≢false, ◌∙◌}
+use Rattle.std.specs.Prelude.{◌≡◌, ◌≢◌, ◌⊎◌, Bool, false, true}
 use Rattle.mvd_dots.specs.declared.refusals.Refusal.{Refusal}
 use Rattle.mvd_dots.specs.declared.refusals.Refusal.TheVariants.{Store}
+use Rattle.mvd_keys.specs.State.{State as Keyed}
+use Rattle.mvd_keys.specs.Writes.{Key}
 use Rattle.mvd_wire.specs.declared.request.Request.{Request}
+use Rattle.mvd_wire.specs.declared.request.Request.TheVariants.{Push}
 use Rattle.mvd_wire.specs.declared.reply.Reply.{Reply}
 use Rattle.mvd_wire.specs.declared.reply.Reply.TheVariants.{Refused}
 use Rattle.mvd_records.specs.Records.{IsSound}
 use Rattle.mvd_site.specs.FromStates.{AnswersFrom, after_from}
 use Rattle.mvd_site.specs.Sites.{SiteValue}
 use Rattle.mvd_sync.specs.Sides.{SiteFollows, SiteRefuses, site_follows_on, site_follows_self}
-use Rattle.mvd_replica.specs.Kept.{HoldsSite}
-use Rattle.sqlite.specs.State.{State}
+use Rattle.mvd_replica.specs.Kept.{HoldsSite, HoldsStates}
+use Rattle.sqlite.specs.Effect.{Database}
+use Rattle.sqlite.specs.State.{HasCleanDisk, State}
 
 -- the request would change the states, the store refused it, and the site is as it was
 pub record StoreRefusedFrom (old new : SiteValue) (request : Request) (reply : Reply) : Type 0 where
@@ -25,27 +29,70 @@ pub record StoreRefusedFrom (old new : SiteValue) (request : Request) (reply : R
 abbrev pub AnswersFromStored : SiteValue → SiteValue → Request → Reply → Type 0
 AnswersFromStored old new request reply = AnswersFrom old new request reply ⊎ StoreRefusedFrom old new request reply
 
--- what calls do to the store: if it is sound now it was, and if it held the site it does
-pub record StoreFollows (old new : SiteValue) (before after : State) : Type 0 where
+-- the records hold what a broken site had, with the change of such a request put in
+pub record HoldsBroken (asks : Request → Type 0) (site : SiteValue) (db : Database) : Type 0 where
+  pub request : Request
+  pub asked : asks request
+  pub changes : after_from site.config site.states request ≢ site.states
+  pub holds : HoldsStates site.config.site (after_from site.config site.states request) db
+
+-- What calls of such requests do to the store. If it is sound now it was, and if it held the site it does; once the site is broken
+-- it stays as it is, and if that came by these calls it holds the change as well. A store that was shut takes no change.
+pub record StoreFollows (asks : Request → Type 0) (old new : SiteValue) (before after : State) : Type 0 where
   pub sound : IsSound after → IsSound before
   pub holds : IsSound after → HoldsSite old before.committed → HoldsSite new after.committed
+  pub stays : old.broken ≡ true → after.committed ≡ before.committed
+  pub stored : IsSound after → HoldsSite old before.committed → old.broken ≡ false → new.broken ≡ true → HoldsBroken asks new after.committed
+  pub clean : HasCleanDisk after → HasCleanDisk before
+  pub shut : HasCleanDisk after → before.is_open ≡ false → new ≡ old
 
 -- a replica keeps its configuration, once broken all of its site, and its records follow the states
-pub record ReplicaFollows (old new : SiteValue) (before after : State) : Type 0 where
+pub record ReplicaFollows (asks : Request → Type 0) (old new : SiteValue) (before after : State) : Type 0 where
   pub site : SiteFollows old new
-  pub store : StoreFollows old new before after
+  pub store : StoreFollows asks old new before after
 
-pub replica_follows_self : (site : SiteValue) (s : State) → ReplicaFollows site site s s
-replica_follows_self site s = record { site = site_follows_self site; store = record { sound = λ sound. sound; holds = λ _ holds. holds } }
+-- the request pushes a state
+abbrev pub IsPush : Request → Type 0
+IsPush request = (key : Key) × (pushed : Keyed) × (request ≡ Push key pushed)
 
-pub replica_follows_on : (old mid new : SiteValue) (before between after : State) → ReplicaFollows old mid before between → ReplicaFollows mid new between after → ReplicaFollows old new before after
-replica_follows_on old mid new before between after p q = record {
-  site = site_follows_on old mid new p.site q.site;
+pub replica_follows_self : {asks : Request → Type 0} (site : SiteValue) (s : State) → ReplicaFollows asks site site s s
+replica_follows_self site s = record {
+  site = site_follows_self site;
   store = record {
-    sound = λ sound. p.store.sound (q.store.sound sound);
-    holds = λ sound holds. q.store.holds sound (p.store.holds (q.store.sound sound) holds);
+    sound = λ sound. sound;
+    holds = λ _ holds. holds;
+    stays = λ _. refl;
+    stored = λ _ _ whole broken. absurd (true≢false (sym broken ∙ whole));
+    clean = λ clean. clean;
+    shut = λ _ _. refl;
   };
 }
+
+module _ (asks : Request → Type 0) (old mid new : SiteValue) (before between after : State) (p : ReplicaFollows asks old mid before between) (q : ReplicaFollows asks mid new between after) where
+  stored_on : (is : Bool) → mid.broken ≡ is → IsSound after → HoldsSite old before.committed → old.broken ≡ false → new.broken ≡ true → HoldsBroken asks new after.committed
+  stored_on true is sound holds whole broken =
+      subst (λ s. HoldsBroken asks s after.committed) (sym (q.site.1 is))
+      (subst (HoldsBroken asks mid) (sym (q.store.stays is)) (p.store.stored (q.store.sound sound) holds whole is))
+  stored_on false is sound holds whole broken = q.store.stored sound (p.store.holds (q.store.sound sound) holds) is broken
+
+  shut_on : (is : Bool) → between.is_open ≡ is → HasCleanDisk after → before.is_open ≡ false → new ≡ old
+  shut_on true is clean shut =
+      let sound : IsSound between = record { clean = q.store.clean clean; is_open = is } in
+      absurd (true≢false (sym (p.store.sound sound).is_open ∙ shut))
+  shut_on false is clean shut = q.store.shut clean is ∙ p.store.shut (q.store.clean clean) shut
+
+  pub replica_follows_on : ReplicaFollows asks old new before after
+  replica_follows_on = record {
+    site = site_follows_on old mid new p.site q.site;
+    store = record {
+      sound = λ sound. p.store.sound (q.store.sound sound);
+      holds = λ sound holds. q.store.holds sound (p.store.holds (q.store.sound sound) holds);
+      stays = λ broken. q.store.stays (subst (λ (s : SiteValue). s.broken ≡ true) (sym (p.site.1 broken)) broken) ∙ p.store.stays broken;
+      stored = stored_on mid.broken refl;
+      clean = λ clean. p.store.clean (q.store.clean clean);
+      shut = shut_on between.is_open refl;
+    };
+  }
 
 -- a replica, as it is after that, may have refused so: as a site does, or the store did
 abbrev pub ReplicaRefuses : SiteValue → Refusal → Type 0

@@ -7,7 +7,7 @@ use Rattle.mvd_keys.specs.Writes.{Key}
 use Rattle.mvd_wire.specs.Kind.{Spells}
 use Rattle.mvd_wire.specs.Kinds.{Layout, layout1, layout2, spell_state, state}
 use Rattle.mvd_records.specs.States.{States as Stored}
-use Rattle.mvd_records.specs.Records.{AreApart, AreKeys, HasNone, IsWhole, TellsVersion, marks_of, new_states, old_states}
+use Rattle.mvd_records.specs.Records.{AreApart, AreKeys, HasNone, HoldsRecords, IsWhole, TellsVersion, marks_of, new_states, old_states}
 use Rattle.mvd_site.specs.Held.{IsHeldState, States}
 use Rattle.sqlite.specs.Effect.{Database}
 
@@ -35,10 +35,20 @@ pub record AreInOrder (version : ℕ) (old new : Stored) : Type 0 where
   pub old_stored : AreOldStored old
   pub new_stored : AreStored new
 
+-- the marks tell this site a version, and what it tells is in order
+abbrev pub AreReadable : ℕ → Database → Type 0
+AreReadable site db = (version : ℕ) × TellsVersion (marks_of db) site (Ok version) × AreInOrder version (old_states db) (new_states db)
+
 -- why records are damaged to a site: their marks are none of ours, or what their version tells is not in order
 abbrev pub AreDamaged : ℕ → Database → Type 0
 AreDamaged site db =
     TellsVersion (marks_of db) site (Err Damaged) ⊎ ((version : ℕ) × TellsVersion (marks_of db) site (Ok version) × ¬ AreInOrder version (old_states db) (new_states db))
+
+-- The records are the site's, also where a move of old keys was broken off, and in order exactly where they were: opened again
+-- they are found as they were
+abbrev pub Resumes : ℕ → ℕ → Database → Database → Type 0
+Resumes version site old new =
+    (now : ℕ) × HoldsRecords now site new × (AreInOrder version (old_states old) (new_states old) ↔ AreInOrder now (old_states new) (new_states new))
 
 -- more keys are held than so many, and no old key is left
 pub record HoldsTooMany (most : ℕ) (db : Database) : Type 0 where

@@ -3,7 +3,7 @@ use Rattle.std.specs.Prelude.{◌≡◌, ◌⊎◌, Bool, true, false, ℕ, List
 use Rattle.std.specs.List.{AllByRecursion}
 use Rattle.mvd_dots.specs.declared.refusals.Refusal.{Refusal}
 use Rattle.mvd_dots.specs.declared.refusals.Refusal.TheVariants.{Memory, Store}
-use Rattle.mvd_keys.specs.Writes.{Write}
+use Rattle.mvd_keys.specs.Writes.{Stands, Write}
 use Rattle.mvd_wire.specs.declared.request.Request.{Request}
 use Rattle.mvd_wire.specs.declared.request.Request.TheVariants.{Bye}
 use Rattle.mvd_wire.specs.declared.reply.Reply.{Reply}
@@ -73,10 +73,15 @@ abbrev pub Replies : SiteValue → SiteValue → List Turn → Type 0
 Replies old new turns = (known : List Write) (events : List Event) → SiteStands old known → Tells events turns →
     AllTold old.config known old.broken events new.broken × SiteStands new (known ++ known_after events)
 
+-- The states themselves, also those of a site that is broken, stand afterwards for what they stood for and what the turns added
+abbrev pub StandsOn : SiteValue → SiteValue → List Turn → Type 0
+StandsOn old new turns = (known : List Write) (events : List Event) → Stands old.states known → Tells events turns → Stands new.states (known ++ known_after events)
+
 -- the same of one turn
 pub record RepliesOne (old new : SiteValue) (turn : Turn) : Type 0 where
   pub replies : (known : List Write) → SiteStands old known → MayTell old.config known old.broken turn.asked turn.reply new.broken
   pub stands : (known added : List Write) → SiteStands old known → AddsAt turn.asked turn.reply added → SiteStands new (known ++ added)
+  pub keeps : (known added : List Write) → Stands old.states known → AddsAt turn.asked turn.reply added → Stands new.states (known ++ added)
 
 -- and of one request, for which no memory is wanted but the site's own
 pub record AnswersStored (old new : SiteValue) (request : Request) (reply : Reply) : Type 0 where

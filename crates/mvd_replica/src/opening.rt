@@ -1,5 +1,5 @@
 //! What a replica is opened with: the states that its records spell.
-ghost use Rattle.std.specs.Prelude.{◌≡◌, ◌≢◌, ◌⊎◌, List, Err, false, IfErr, IfOk, IsTrue, MatchResult, OnOk};
+ghost use Rattle.std.specs.Prelude.{◌≡◌, ◌≢◌, ◌⊎◌, ◌↔◌, List, Err, false, IfErr, IfOk, IsTrue, MatchResult, OnOk};
 ghost use Rattle.std.specs.List.{AllByRecursion};
 ghost use Rattle.std.specs.FinMap.{entries, is_sorted};
 ghost use Rattle.mvd_keys.specs.Key.{key_cmp};
@@ -9,7 +9,7 @@ ghost use Rattle.mvd_records.specs.Pairs.{entries_of};
 ghost use Rattle.mvd_records.specs.States.{States as Stored};
 ghost use Rattle.mvd_records.specs.Records.{IsSound, HasNone, HoldsRecords, new_states, old_states};
 ghost use Rattle.mvd_site.specs.Held.{IsHeldState};
-ghost use Rattle.mvd_replica.specs.Stored.{AreInOrder, AreStored, HoldsTooMany, IsOldStored, IsStored, Migrates, Respells, SameStates, spelled_entries};
+ghost use Rattle.mvd_replica.specs.Stored.{AreInOrder, AreStored, HoldsTooMany, IsOldStored, IsStored, Migrates, Respells, Resumes, SameStates, spelled_entries};
 ghost use Rattle.mvd_replica.specs.Kept.{SpellStates};
 ghost use Rattle.sqlite.specs.Held.{state};
 
@@ -78,7 +78,7 @@ fn load<S: Alter>(alloc: Global, records: &mut Records<S>, config: Config) -> Re
     ensures before { IsSound (state S.Store records.new.conn) → IsSound (state S.Store records.old.conn) }
     ensures unchanged { (version number : _) → IsSound (state S.Store records.new.conn) → HoldsRecords version number (state S.Store records.old.conn).committed → (state S.Store records.new.conn).committed ≡ (state S.Store records.old.conn).committed }
     ensures spelled { (version number : _) → IsSound (state S.Store records.new.conn) → HoldsRecords version number (state S.Store records.old.conn).committed → IfOk result (λ site. SpellStates (new_states (state S.Store records.old.conn).committed) site.states) }
-    ensures full { (version number : _) → IsSound (state S.Store records.new.conn) → HoldsRecords version number (state S.Store records.old.conn).committed → IfErr result (λ e. e ≡ Refusal.Full → HoldsTooMany config.max_keys (state S.Store records.old.conn).committed) }
+    ensures full { (version number : _) → IsSound (state S.Store records.new.conn) → HoldsRecords version number (state S.Store records.old.conn).committed → IfErr result (λ e. e ≡ Refusal.Full → HoldsTooMany config.max_keys (state S.Store records.old.conn).committed × AreInOrder 2 (old_states (state S.Store records.old.conn).committed) (new_states (state S.Store records.old.conn).committed)) }
     ensures order { (version number : _) → IsSound (state S.Store records.new.conn) → HoldsRecords version number (state S.Store records.old.conn).committed → MatchResult result
         (λ _. AreInOrder 2 (old_states (state S.Store records.old.conn).committed) (new_states (state S.Store records.old.conn).committed))
         (λ e. e ≡ Refusal.Damaged → ¬ AreInOrder 2 (old_states (state S.Store records.old.conn).committed) (new_states (state S.Store records.old.conn).committed)) }
@@ -124,6 +124,7 @@ fn migrate<S: Alter>(alloc: Global, records: &mut Records<S>) -> Result<(), Refu
     ensures order { (number : _) → IsSound (state S.Store records.new.conn) → HoldsRecords records.old.version number (state S.Store records.old.conn).committed → MatchResult result
         (λ _. Migrates records.old.version (state S.Store records.old.conn).committed (state S.Store records.new.conn).committed)
         (λ e. e ≡ Refusal.Damaged → ¬ AreInOrder records.old.version (old_states (state S.Store records.old.conn).committed) (new_states (state S.Store records.old.conn).committed)) }
+    ensures alike { (number : _) → IsSound (state S.Store records.new.conn) → HoldsRecords records.old.version number (state S.Store records.old.conn).committed → IfErr result (λ _. AreInOrder records.old.version (old_states (state S.Store records.old.conn).committed) (new_states (state S.Store records.old.conn).committed) ↔ AreInOrder records.old.version (old_states (state S.Store records.new.conn).committed) (new_states (state S.Store records.new.conn).committed)) }
     ensures refusal { IfErr result (λ e. (e ≡ Refusal.Damaged) ⊎ ((e ≡ Refusal.Memory) ⊎ (e ≡ Refusal.Store))) }
     ensures version { IfOk result (λ _. records.new.version ≡ 2) }
 {
@@ -156,10 +157,11 @@ pub fn site_in<S: Alter>(
     ensures holds { (number : _) → IsSound (state S.Store records.new.conn) → HoldsRecords records.old.version number (state S.Store records.old.conn).committed → IfOk result (λ site. HoldsRecords 2 number (state S.Store records.new.conn).committed × SpellStates (new_states (state S.Store records.new.conn).committed) site.states) }
     ensures states { (number : _) → IsSound (state S.Store records.new.conn) → HoldsRecords records.old.version number (state S.Store records.old.conn).committed → SameStates (state S.Store records.old.conn).committed (state S.Store records.new.conn).committed }
     ensures alone { (number : _) → IsSound (state S.Store records.new.conn) → HoldsRecords records.old.version number (state S.Store records.old.conn).committed → IfOk result (λ _. HasNone (old_states (state S.Store records.new.conn).committed)) }
-    ensures full { (number : _) → IsSound (state S.Store records.new.conn) → HoldsRecords records.old.version number (state S.Store records.old.conn).committed → IfErr result (λ e. e ≡ Refusal.Full → HoldsTooMany config.max_keys (state S.Store records.new.conn).committed) }
+    ensures full { (number : _) → IsSound (state S.Store records.new.conn) → HoldsRecords records.old.version number (state S.Store records.old.conn).committed → IfErr result (λ e. e ≡ Refusal.Full → HoldsTooMany config.max_keys (state S.Store records.new.conn).committed × AreInOrder records.old.version (old_states (state S.Store records.old.conn).committed) (new_states (state S.Store records.old.conn).committed)) }
     ensures order { (number : _) → IsSound (state S.Store records.new.conn) → HoldsRecords records.old.version number (state S.Store records.old.conn).committed → MatchResult result
         (λ _. AreInOrder records.old.version (old_states (state S.Store records.old.conn).committed) (new_states (state S.Store records.old.conn).committed))
         (λ e. e ≡ Refusal.Damaged → ¬ AreInOrder records.old.version (old_states (state S.Store records.old.conn).committed) (new_states (state S.Store records.old.conn).committed)) }
+    ensures resumes { (number : _) → IsSound (state S.Store records.new.conn) → HoldsRecords records.old.version number (state S.Store records.old.conn).committed → Resumes records.old.version number (state S.Store records.old.conn).committed (state S.Store records.new.conn).committed }
     ensures refusal { IfErr result (λ e. (e ≡ Refusal.Damaged) ⊎ ((e ≡ Refusal.Full) ⊎ ((e ≡ Refusal.Memory) ⊎ (e ≡ Refusal.Store)))) }
     ensures version { IfOk result (λ _. records.new.version ≡ 2) }
 {

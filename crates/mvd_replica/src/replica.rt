@@ -1,5 +1,5 @@
 //! A site whose states are stored before a reply says so.
-ghost use Rattle.std.specs.Prelude.{◌≡◌, ◌≢◌, ◌⊎◌, ◌≤◌, List, length, Ok, Err, IfErr, IfOk, MatchResult, OnOk, false, true};
+ghost use Rattle.std.specs.Prelude.{◌≡◌, ◌≢◌, ◌⊎◌, ◌≤◌, List, length, Ok, Err, IfErr, IfOk, IsTrue, MatchResult, OnOk, false, true};
 ghost use Rattle.std.specs.Option.{option_copied};
 ghost use Rattle.std.specs.FinMap as map;
 ghost use Rattle.mvd_dots.specs.declared.refusals.Refusal.{Refusal};
@@ -19,6 +19,7 @@ ghost use Rattle.mvd_site.specs.Known.{Adds};
 ghost use Rattle.mvd_site.specs.Prepared.{IsChangeNow, is_refusal};
 ghost use Rattle.mvd_site.specs.Sites.{has_no_room};
 ghost use Rattle.sqlite.specs.Held.{state};
+ghost use Rattle.sqlite.specs.State.{HasCleanDisk};
 
 use crate::opening::site_in;
 use mvd_dots::Refusal;
@@ -40,8 +41,8 @@ pub struct Replica<S: Alter> {
 
 impl<S: Alter> Replica<S> {
     ghost use Rattle.mvd_replica.specs.Kept.{HoldsSite, HoldsStates, PutsIn, Stores, broken_site};
-    ghost use Rattle.mvd_replica.specs.Sides.{AnswersFromStored, StoreFollows};
-    ghost use Rattle.mvd_replica.specs.Stored.{AreDamaged, AreInOrder, HasJust, HoldsTooMany, SameStates};
+    ghost use Rattle.mvd_replica.specs.Sides.{AnswersFromStored, ReplicaFollows};
+    ghost use Rattle.mvd_replica.specs.Stored.{AreDamaged, AreReadable, HasJust, HoldsTooMany, Resumes, SameStates};
     ghost use Rattle.mvd_replica.specs.Turns.{AnswersStored};
 
     /// The replica of a site, with the states that its records hold. Records of version 1 are moved to version 2 first, key by
@@ -65,9 +66,13 @@ impl<S: Alter> Replica<S> {
         // 16 where the marks are another site's. 17 exactly where the records are damaged. 10 where they then hold too many keys.
         ensures mismatch { IfErr result (λ e. IsSound (state S.Store e.1) → IsOurs (state S.Store conn).committed → e.0 ≡ Refusal.SiteMismatch → TellsVersion (marks_of (state S.Store conn).committed) config.site (Err Refusal.SiteMismatch)) }
         ensures order { IfOk result (λ replica. IsSound (state S.Store replica.records.conn) → IsOurs (state S.Store conn).committed →
-            (version : _) × TellsVersion (marks_of (state S.Store conn).committed) config.site (Ok version) × AreInOrder version (old_states (state S.Store conn).committed) (new_states (state S.Store conn).committed)) }
+            AreReadable config.site (state S.Store conn).committed) }
         ensures damaged { IfErr result (λ e. IsSound (state S.Store e.1) → IsOurs (state S.Store conn).committed → e.0 ≡ Refusal.Damaged → AreDamaged config.site (state S.Store conn).committed) }
-        ensures full { IfErr result (λ e. IsSound (state S.Store e.1) → IsOurs (state S.Store conn).committed → e.0 ≡ Refusal.Full → HoldsTooMany config.max_keys (state S.Store e.1).committed) }
+        ensures full { IfErr result (λ e. IsSound (state S.Store e.1) → IsOurs (state S.Store conn).committed → e.0 ≡ Refusal.Full → HoldsTooMany config.max_keys (state S.Store e.1).committed × AreReadable config.site (state S.Store conn).committed) }
+        // After a refusal the last commit is as before, or the records are this site's and opened again goes on.
+        ensures resumes { IfErr result (λ e. IsSound (state S.Store e.1) → IsOurs (state S.Store conn).committed → ((state S.Store e.1).committed ≡ (state S.Store conn).committed)
+            ⊎ ((version : _) × TellsVersion (marks_of (state S.Store conn).committed) config.site (Ok version) × Resumes version config.site (state S.Store conn).committed (state S.Store e.1).committed)) }
+        ensures untouched { IfErr result (λ e. IsSound (state S.Store e.1) → e.0 ≡ Refusal.SiteMismatch → (state S.Store e.1).committed ≡ (state S.Store conn).committed) }
         ensures refusal { IfErr result (λ e. IsOpenRefusal e.0 ⊎ ((e.0 ≡ Refusal.Full) ⊎ (e.0 ≡ Refusal.Memory))) }
     {
         let mut records = match Records::open(alloc, conn, config.site()) {
@@ -132,6 +137,8 @@ impl<S: Alter> Replica<S> {
         ensures before { IsSound (state S.Store self.new.records.conn) → IsSound (state S.Store self.old.records.conn) }
         ensures kept { (site : _) → IsSound (state S.Store self.new.records.conn) → HoldsRecords 2 site (state S.Store self.old.records.conn).committed → HoldsRecords 2 site (state S.Store self.new.records.conn).committed }
         ensures stored { (site : _) → IsSound (state S.Store self.new.records.conn) → HoldsRecords 2 site (state S.Store self.old.records.conn).committed → Stores (state S.Store self.old.records.conn).committed (state S.Store self.new.records.conn).committed change result }
+        ensures taken { HasCleanDisk (state S.Store self.new.records.conn) → IsTrue (state S.Store self.new.records.conn).is_open ⊎ (self.new.site ≡ self.old.site) }
+        ensures clean { HasCleanDisk (state S.Store self.new.records.conn) → HasCleanDisk (state S.Store self.old.records.conn) }
         ensures unchanged { IsSound (state S.Store self.new.records.conn) → result ≡ Err Refusal.Store → (state S.Store self.new.records.conn).committed ≡ (state S.Store self.old.records.conn).committed }
     {
         match self.records.save(change.key(), change.bytes()) {
@@ -156,6 +163,11 @@ impl<S: Alter> Replica<S> {
         ensures broken { self.new.site.broken ≡ true → result ≡ Refused Broken }
         ensures stays { self.old.site.broken ≡ true → self.new ≡ self.old }
         ensures unchanged { (refusal : Refusal) → result ≡ Refused refusal → refusal ≢ Broken → self.new.site ≡ self.old.site }
+        // What would change nothing leaves all as it was.
+        ensures still { after_from self.old.site.config self.old.site.states request.now ≡ self.old.site.states → self.new ≡ self.old }
+        // A change is taken only with the store open.
+        ensures taken { HasCleanDisk (state S.Store self.new.records.conn) → IsTrue (state S.Store self.new.records.conn).is_open ⊎ (self.new.site ≡ self.old.site) }
+        ensures clean { HasCleanDisk (state S.Store self.new.records.conn) → HasCleanDisk (state S.Store self.old.records.conn) }
         ensures unstored { (refusal : Refusal) → IsSound (state S.Store self.new.records.conn) → result ≡ Refused refusal → refusal ≢ Broken → (state S.Store self.new.records.conn).committed ≡ (state S.Store self.old.records.conn).committed }
         // The records follow the states.
         ensures before { IsSound (state S.Store self.new.records.conn) → IsSound (state S.Store self.old.records.conn) }
@@ -221,6 +233,11 @@ impl<S: Alter> Replica<S> {
         ensures agreed { OnOk result (clashes (state_at self.old.site.states key.now) pushed.now ≡ false) }
         ensures clash { IfErr result (λ refusal. refusal ≡ DotClash → clashes (state_at self.old.site.states key.now) pushed.now ≡ true) }
         ensures unchanged { IfErr result (λ refusal. refusal ≢ Broken → self.new.site ≡ self.old.site) }
+        // What would change nothing leaves all as it was.
+        ensures still { after_from self.old.site.config self.old.site.states (Push key.now pushed.now) ≡ self.old.site.states → self.new ≡ self.old }
+        // A change is taken only with the store open.
+        ensures taken { HasCleanDisk (state S.Store self.new.records.conn) → IsTrue (state S.Store self.new.records.conn).is_open ⊎ (self.new.site ≡ self.old.site) }
+        ensures clean { HasCleanDisk (state S.Store self.new.records.conn) → HasCleanDisk (state S.Store self.old.records.conn) }
         ensures unstored { IfErr result (λ refusal. refusal ≢ Broken → IsSound (state S.Store self.new.records.conn) → (state S.Store self.new.records.conn).committed ≡ (state S.Store self.old.records.conn).committed) }
         // Whether it is broken, and for good.
         ensures told { IfErr result (λ refusal. refusal ≡ Broken → self.new.site ≡ broken_site self.old.site) }
@@ -228,7 +245,7 @@ impl<S: Alter> Replica<S> {
         // A state that was joined is that of some set of writes.
         ensures valid { OnOk result (IsValid pushed.now) }
         // The records follow the states.
-        ensures store { StoreFollows self.old.site self.new.site (state S.Store self.old.records.conn) (state S.Store self.new.records.conn) }
+        ensures follows { ReplicaFollows (λ asked. asked ≡ Push key.now pushed.now) self.old.site self.new.site (state S.Store self.old.records.conn) (state S.Store self.new.records.conn) }
         ensures stored { IsSound (state S.Store self.new.records.conn) → HoldsSite self.old.site (state S.Store self.old.records.conn).committed → self.old.site.broken ≡ false → result ≡ Err Broken →
             HoldsStates self.old.site.config.site (after_from self.old.site.config self.old.site.states (Push key.now pushed.now)) (state S.Store self.new.records.conn).committed }
     {

@@ -13,7 +13,7 @@ use sqlite::Alter;
 /// A replica is true to the states of its keys as long as it is not broken. What `follows` says of its records holds after any
 /// calls of a session.
 impl<S: Alter> Peer for Replica<S> {
-    ghost use Rattle.mvd_replica.specs.Sides.{ReplicaFollows, ReplicaRefuses, replica_follows_on, replica_follows_self};
+    ghost use Rattle.mvd_replica.specs.Sides.{IsPush, ReplicaFollows, ReplicaRefuses, replica_follows_on, replica_follows_self};
 
     ghost states = { λ replica. replica.site.states };
 
@@ -21,7 +21,7 @@ impl<S: Alter> Peer for Replica<S> {
 
     ghost can_give = { λ _ _. Unit {0} };
 
-    ghost follows = { λ old new. ReplicaFollows old.site new.site (state S.Store old.records.conn) (state S.Store new.records.conn) };
+    ghost follows = { λ old new. ReplicaFollows IsPush old.site new.site (state S.Store old.records.conn) (state S.Store new.records.conn) };
 
     ghost can_refuse = { λ replica refusal. ReplicaRefuses replica.site refusal };
 
@@ -31,7 +31,7 @@ impl<S: Alter> Peer for Replica<S> {
 
     ghost follows_self = { λ replica. replica_follows_self _ _ };
 
-    ghost follows_on = { λ old mid new p q. replica_follows_on _ _ _ _ _ _ p q };
+    ghost follows_on = { λ old mid new p q. replica_follows_on _ _ _ _ _ _ _ p q };
 
     fn node(&mut self, path: &Path) -> Result<Digests, Refusal> {
         Replica::node(self, path)

@@ -8,6 +8,7 @@ ghost use Rattle.mvd_wire.specs.Requests.{request_of};
 ghost use Rattle.mvd_wire.specs.Replies.{CanBeSent, reply_bytes};
 ghost use Rattle.mvd_records.specs.Records.{IsSound};
 ghost use Rattle.mvd_replica.specs.Kept.{HoldsSite};
+ghost use Rattle.mvd_replica.specs.Sides.{ReplicaFollows};
 ghost use Rattle.mvd_replica.specs.Served.{GoesOut, Side};
 ghost use Rattle.mvd_replica.specs.Steps.{IsSent, TakesTurn, TellsFrame};
 ghost use Rattle.sqlite.specs.Held.{state};
@@ -74,6 +75,7 @@ fn reply_to<S: Alter>(alloc: Global, replica: &mut Replica<S>, frame: &Frame) ->
     ensures before { IsSound (state S.Store replica.new.records.conn) → IsSound (state S.Store replica.old.records.conn) }
     ensures records { IsSound (state S.Store replica.new.records.conn) → HoldsSite replica.old.site (state S.Store replica.old.records.conn).committed → HoldsSite replica.new.site (state S.Store replica.new.records.conn).committed }
     ensures config { replica.new.site.config ≡ replica.old.site.config }
+    ensures follows { ReplicaFollows (λ _. Unit {0}) replica.old.site replica.new.site (state S.Store replica.old.records.conn) (state S.Store replica.new.records.conn) }
 {
     let request = match decode_request(alloc, frame.kind, &frame.payload) {
         Ok(request) => request,
@@ -98,6 +100,7 @@ pub fn take_turn<R: Read, W: Write, S: Alter>(
     ensures before { IsSound (state S.Store replica.new.records.conn) → IsSound (state S.Store replica.old.records.conn) }
     ensures records { IsSound (state S.Store replica.new.records.conn) → HoldsSite replica.old.site (state S.Store replica.old.records.conn).committed → HoldsSite replica.new.site (state S.Store replica.new.records.conn).committed }
     ensures config { replica.new.site.config ≡ replica.old.site.config }
+    ensures follows { ReplicaFollows (λ _. Unit {0}) replica.old.site replica.new.site (state S.Store replica.old.records.conn) (state S.Store replica.new.records.conn) }
 {
     let frame = match read_frame(alloc, reader) {
         Ok(Some(frame)) => frame,

@@ -13,7 +13,9 @@ returns-clause-spelled g c version number sound holds =
 
 pub returns-clause-full : goal.returns-clause-full
 returns-clause-full g c version number sound holds =
-    too_many c.open.result c.args.config.max_keys _ ((c.in-Ok.ensures.whole version number sound holds).tables.moved c.requires)
+    too_many c.open.result c.args.config.max_keys _
+    (read_order c.args.records.now.version (state g.S.Store c.args.records.now.conn).committed c.in-Ok.pairs.items c.requires (c.in-Ok.ensures.whole version number sound holds) (c.in-Ok.ensures.entries version number sound holds)
+    c.in-Ok-states_of.ensures.stored)
     (loaded_full c.args.config _ c.in-Ok-states_of.states.items c.open.result c.open.ensures.opened (c.in-Ok-states_of.ensures.spelled ∙ c.in-Ok.ensures.entries version number sound holds))
 
 pub returns-in-Err-clause-order : goal.returns-in-Err-clause-order

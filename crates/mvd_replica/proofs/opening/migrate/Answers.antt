@@ -4,7 +4,7 @@ use Rattle.std.proofs.lemmas.Iterator.Consumers.{YieldsList-end, YieldsList-so_f
 use Rattle.std.proofs.lemmas.List.{map-id}
 use Rattle.mvd_records.specs.Pairs.{entries_of}
 use Rattle.mvd_replica.specs.Stored.{IsOldStored}
-use Rattle.mvd_replica.proofs.Ordered.{migrated, moved_more, moved_none, not_stored, not_yet, still_there, whole_old}
+use Rattle.mvd_replica.proofs.Ordered.{migrated, moved_more, moved_none, not_stored, not_yet, order_ended, order_moved, order_same, order_then, still_there, whole_old}
 use Rattle.mvd_records.specs.Records.{HoldsRecords}
 use Rattle.mvd_replica.proofs.Loading.{moved_by}
 use Rattle.mvd_replica.proofs.Moving.{ended_same, found_at, moving_more, moving_none, same_then, same_unchanged}
@@ -120,3 +120,26 @@ returns-clause-order g c number sound holds =
     migrated c.finish.result _ _ _ version number (entries_of c.loop-key.yielded) (c.loop-key.invariant.moved number before holds)
     (ap entries_of (sym (map-id c.loop-key.yielded) ∙ end.0) ∙ c.in-Ok.ensures.entries version number first holds) (c.in-Ok.ensures.whole version number first holds)
     (c.finish.ensures.finished version number sound now) (c.finish.ensures.damaged version number sound now)
+
+pub returns-in-Err-clause-alike : goal.returns-in-Err-clause-alike
+returns-in-Err-clause-alike g c number sound holds = order_same _ _ _ (c.in-Err.ensures.unchanged c.args.records.now.version number sound holds)
+
+pub returns-in-Err-respelled-clause-alike : goal.returns-in-Err-respelled-clause-alike
+returns-in-Err-respelled-clause-alike g c number sound holds =
+    let version = c.args.records.now.version in
+    order_moved version _ _ _ (c.loop-key.invariant.moved number sound holds) (c.loop-key.invariant.moving number sound holds) (c.in-Ok.ensures.whole version number (c.loop-key.invariant.since sound) holds)
+
+pub returns-in-Err-move_key-clause-alike : goal.returns-in-Err-move_key-clause-alike
+returns-in-Err-move_key-clause-alike g c number sound holds =
+    let version = c.args.records.now.version in
+    let before = c.in-Err-move_key.ensures.before sound in
+    order_then version _ _ _ (c.loop-key.invariant.moved number before holds) (c.loop-key.invariant.moving number before holds) (c.in-Ok.ensures.whole version number (c.loop-key.invariant.since before) holds) _
+    (c.in-Err-move_key.ensures.unchanged sound)
+
+pub returns-clause-alike : goal.returns-clause-alike
+returns-clause-alike g c number sound holds =
+    let version = c.args.records.now.version in
+    let before = c.finish.ensures.before sound in
+    let now = c.loop-key.invariant.kept version number before holds in
+    order_ended version _ _ _ (c.loop-key.invariant.moved number before holds) (c.loop-key.invariant.moving number before holds) (c.in-Ok.ensures.whole version number (c.loop-key.invariant.since before) holds) c.finish.result _
+    (c.finish.ensures.unchanged version number sound now)

@@ -10,7 +10,7 @@ use Rattle.mvd_site.proofs.Outcomes.{change_plain, err_is, refused_fits, whole_w
 use Rattle.mvd_site.proofs.Prepare.{answers_broken, answers_by_answer, answers_by_change, answers_by_refusal, answers_from_answer, answers_from_change, answers_from_refusal}
 use Rattle.mvd_site.proofs.Runs.{fitting}
 use Rattle.mvd_replica.proofs.Answering.{answers_refused, answers_unstored, not_store}
-use Rattle.mvd_replica.proofs.Sides.{refused_from}
+use Rattle.mvd_replica.proofs.Sides.{changes_states, refused_from}
 use Rattle.mvd_replica.proofs.Storing.{holds_put, holds_refused, stored_broken}
 use Rattle.mvd_replica.proofs.replica.Replica.answer.Goals as goal
 
@@ -85,6 +85,18 @@ returns-in-Err-put_in-clause-stored g c sound holds whole is =
     let prepared = subst (λ p. PreparesFrom old.config old.states c.args.request.now (Ok p)) c.in-Ok-Change.field-0-is (c.in-Ok-Change.ensures.states whole) in
     stored_broken old _ _ c.in-Ok-Change.change (after_from old.config old.states c.args.request.now) whole prepared.after
     (c.in-Err-put_in.ensures.stored old.config.site sound holds.records (not_store c.in-Err-put_in.refusal is)) c.key_count-held.ensures.held.spelled c.state-state.ensures.spelled (c.in-Err-put_in.ensures.kept old.config.site sound holds.records) holds
+
+pub returns-in-Ok-clause-still : goal.returns-in-Ok-clause-still
+returns-in-Ok-clause-still g c same =
+    let old = c.args.self.now.site in
+    let whole : old.broken ≡ false = whole_where_ok old.broken c.in-Ok-Change.field-0 c.in-Ok-Change.ensures.broken in
+    absurd (changes_states old c.args.request.now c.in-Ok-Change.change (subst (λ p. PreparesFrom old.config old.states c.args.request.now (Ok p)) c.in-Ok-Change.field-0-is (c.in-Ok-Change.ensures.states whole)) same)
+
+pub returns-in-Err-put_in-clause-still : goal.returns-in-Err-put_in-clause-still
+returns-in-Err-put_in-clause-still g c same =
+    let old = c.args.self.now.site in
+    let whole : old.broken ≡ false = whole_where_ok old.broken c.in-Ok-Change.field-0 c.in-Ok-Change.ensures.broken in
+    absurd (changes_states old c.args.request.now c.in-Ok-Change.change (subst (λ p. PreparesFrom old.config old.states c.args.request.now (Ok p)) c.in-Ok-Change.field-0-is (c.in-Ok-Change.ensures.states whole)) same)
 
 pub returns-in-Err-clause-states : goal.returns-in-Err-clause-states
 returns-in-Err-clause-states g c = inl (answers_from_refusal c.args.self.now.site c.args.request.now c.in-Err.refusal (λ whole. c.in-Err.ensures.states whole))

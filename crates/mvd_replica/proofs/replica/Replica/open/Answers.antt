@@ -1,11 +1,11 @@
 use Rattle.mvd_replica.proofs.Loading.{holds_opened}
-use Rattle.std.proofs.Common.{inl, inr, sym, subst}
+use Rattle.std.proofs.Common.{Ok, inl, inr, sym, subst}
 use Rattle.mvd_dots.specs.declared.refusals.Refusal.TheVariants.{Damaged, SiteMismatch}
 use Rattle.sqlite.specs.Held.{state}
-use Rattle.mvd_records.specs.Records.{IsSound}
-use Rattle.mvd_replica.specs.Stored.{HoldsTooMany, SameStates}
+use Rattle.mvd_records.specs.Records.{IsSound, TellsVersion, marks_of}
+use Rattle.mvd_replica.specs.Stored.{HoldsTooMany, Resumes, SameStates}
 use Rattle.mvd_replica.proofs.Moving.{same_kept, same_then, same_unchanged}
-use Rattle.mvd_replica.proofs.Ordered.{damaged_site, has_just, held_just, just_one, order_opened, told_as}
+use Rattle.mvd_replica.proofs.Ordered.{damaged_site, has_just, held_just, just_one, order_opened, resumes_opened, told_as}
 use Rattle.mvd_replica.proofs.replica.Replica.open.Goals as goal
 
 pub returns-in-Ok-site_in-clause-opened : goal.returns-in-Ok-site_in-clause-opened
@@ -73,4 +73,23 @@ returns-in-Err-site_in-clause-full g c sound ours is =
     let same = c.into_connection.ensures in
     let real = subst (λ k. IsSound (state g.S.Store k)) same sound in
     let opened = c.in-Ok.ensures.opened (c.in-Err-site_in.ensures.before real) ours in
-    subst (λ k. HoldsTooMany c.args.config.max_keys (state g.S.Store k).committed) (sym same) (c.in-Err-site_in.ensures.full c.site.result real opened.holds is)
+    let many = c.in-Err-site_in.ensures.full c.site.result real opened.holds is in (
+      subst (λ k. HoldsTooMany c.args.config.max_keys (state g.S.Store k).committed) (sym same) many.0,
+      order_opened (state g.S.Store c.args.conn).committed _ c.in-Ok.records.version c.args.config.site c.site.result c.site.ensures.site opened.told opened.states many.1,
+    )
+
+pub returns-in-Err-clause-resumes : goal.returns-in-Err-clause-resumes
+returns-in-Err-clause-resumes g c sound ours = inl (c.in-Err.ensures.unchanged sound)
+
+pub returns-in-Err-site_in-clause-resumes : goal.returns-in-Err-site_in-clause-resumes
+returns-in-Err-site_in-clause-resumes g c sound ours =
+    let same = c.into_connection.ensures in
+    let real = subst (λ k. IsSound (state g.S.Store k)) same sound in
+    let opened = c.in-Ok.ensures.opened (c.in-Err-site_in.ensures.before real) ours in
+    let version = c.in-Ok.records.version in
+    inr (
+      version,
+      subst (λ n. TellsVersion (marks_of (state g.S.Store c.args.conn).committed) n (Ok version)) c.site.ensures.site opened.told,
+      subst (λ k. Resumes version c.args.config.site (state g.S.Store c.args.conn).committed (state g.S.Store k).committed) (sym same)
+          (resumes_opened version c.args.config.site c.site.result _ _ _ c.site.ensures.site opened.states (c.in-Err-site_in.ensures.resumes c.site.result real opened.holds)),
+    )

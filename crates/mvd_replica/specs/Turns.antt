@@ -1,5 +1,5 @@
 -- What a connection asked and was answered, frame by frame.
-use Rattle.std.specs.Prelude.{◌≡◌, ◌⊎◌, Bool, true, false, ℕ, List, [], ◌∷◌, ◌++◌, map, flat_map, Option, Some, Result, Ok, Err}
+use Rattle.std.specs.Prelude.{◌≡◌, ◌⊎◌, Bool, false, ℕ, List, [], ◌∷◌, ◌++◌, map, flat_map, Some, Result, Ok, Err}
 use Rattle.std.specs.List.{AllByRecursion}
 use Rattle.mvd_dots.specs.declared.refusals.Refusal.{Refusal}
 use Rattle.mvd_dots.specs.declared.refusals.Refusal.TheVariants.{Memory, Store}

@@ -114,3 +114,7 @@ replied old new asked request reply is one answers fits no_bye some config told 
       config = config;
       long = long_is_whole old new reply old.broken new.broken refl refl told stays;
     })
+
+-- the request that a frame decoded to
+pub asked_as : (asked read : Result Request Refusal) (decoded request : Request) → asked ≡ read → read ≡ Ok decoded → request ≡ decoded → asked ≡ Ok request
+asked_as asked read decoded request same is made = same ∙ is ∙ ap (λ (r : Request). Ok r) (sym made)

@@ -162,6 +162,3 @@ follows_wider asks wider old new before after widens it = record {
     shut = it.store.shut;
   };
 }
-
-pub follows_any : (asks : Request → Type 0) (old new : SiteValue) (before after : Shown) → ReplicaFollows asks old new before after → ReplicaFollows (λ _. Unit {0}) old new before after
-follows_any asks old new before after it = follows_wider asks (λ _. Unit {0}) old new before after (λ _ _. tt) it

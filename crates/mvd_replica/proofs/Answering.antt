@@ -1,5 +1,5 @@
 -- One request to a replica.
-use Rattle.std.proofs.Common.{◌≡◌, ◌≢◌, ◌⊎◌, ◌∙◌, Bool, true, false, List, [], ◌++◌, Option, Some, Result, Ok, Err, IsSomeAnd, refl, sym, ap, subst, inl, inr, true≢false}
+use Rattle.std.proofs.Common.{◌≡◌, ◌≢◌, ◌⊎◌, ◌∙◌, Bool, true, false, List, [], ◌++◌, Result, Ok, Err, IsSomeAnd, refl, sym, ap, subst, inl, inr, true≢false}
 use Rattle.mvd_dots.specs.declared.refusals.Refusal.{Refusal}
 use Rattle.mvd_dots.specs.declared.refusals.Refusal.TheVariants.{Broken, Memory, Store}
 use Rattle.mvd_keys.specs.Writes.{Stands, Write, state}
@@ -17,9 +17,9 @@ use Rattle.mvd_site.specs.Sites.{AnswersOne, SiteStands, SiteValue}
 use Rattle.mvd_site.proofs.Outcomes.{memory_or_not, refused_fits}
 use Rattle.mvd_site.proofs.Prepare.{answers_by_breaking, refuses_all}
 use Rattle.mvd_site.proofs.Steps.{Adds-nothing, Stands-nothing}
-use Rattle.mvd_replica.specs.Kept.{PutsIn, broken_site}
+use Rattle.mvd_replica.specs.Kept.{PutsIn}
 use Rattle.mvd_replica.specs.Sides.{AnswersFromStored}
-use Rattle.mvd_replica.specs.Turns.{AnswersStored, MayTell, StoreRefused}
+use Rattle.mvd_replica.specs.Turns.{AnswersStored, MayTell}
 use Rattle.mvd_replica.specs.Steps.{RepliesTo}
 use Rattle.mvd_replica.proofs.Sides.{broke_by}
 use Rattle.mvd_replica.proofs.Replying.{AddsAt-Refused, AddsAt-Refused-none, MayTell-memory}
@@ -114,3 +114,7 @@ replied old new asked request reply is one answers fits no_bye some config told 
       config = config;
       long = long_is_whole old new reply old.broken new.broken refl refl told stays;
     })
+
+-- the request that a frame decoded to
+pub asked_as : (asked read : Result Request Refusal) (decoded request : Request) → asked ≡ read → read ≡ Ok decoded → request ≡ decoded → asked ≡ Ok request
+asked_as asked read decoded request same is made = same ∙ is ∙ ap (λ (r : Request). Ok r) (sym made)

@@ -1,23 +1,23 @@
 -- The ends of one frame.
-use Rattle.std.proofs.Common.{◌≡◌, ◌≢◌, ℕ, ◌+◌, zero, suc, true, false, List, [], ◌∷◌, ◌++◌, length, Option, Some, None, Result, Ok, Err, inl, inr, ◌⊎◌, refl, sym, ap, ◌∙◌, subst, append-nil, arith, option_map, if◌then◌else◌, Bool, eqb}
+use Rattle.std.proofs.Common.{◌≡◌, ◌≢◌, ℕ, List, [], ◌∷◌, ◌++◌, Option, Some, None, Result, Ok, Err, inl, inr, refl, sym, ap, ◌∙◌, subst, append-nil, option_map, if◌then◌else◌, Bool}
 use Rattle.std.specs.Result.{IfErr, OnErr, OnOk}
 use Rattle.std.specs.Io.KnownBytes.{Appends}
 use Rattle.mvd_dots.specs.declared.refusals.Refusal.{Refusal}
-use Rattle.mvd_dots.specs.declared.refusals.Refusal.TheVariants.{Memory, Broken, ReadFailed, WriteFailed, Truncated, FrameTooLong, TooManyRequests}
+use Rattle.mvd_dots.specs.declared.refusals.Refusal.TheVariants.{Memory, Broken, ReadFailed, WriteFailed, TooManyRequests}
 use Rattle.mvd_wire.specs.declared.request.Request.{Request}
 use Rattle.mvd_wire.specs.declared.request.Request.TheVariants.{Bye}
 use Rattle.mvd_wire.specs.declared.reply.Reply.{Reply}
 use Rattle.mvd_wire.specs.declared.reply.Reply.TheVariants.{Done, Refused}
 use Rattle.mvd_site.specs.Sites.{SiteValue}
 use Rattle.mvd_wire.specs.declared.frame.Frame.{Frame}
-use Rattle.mvd_wire.specs.Frames.{AppendsFront, EndsReading, FrameValue, Reads, frame_at, frame_value}
+use Rattle.mvd_wire.specs.Frames.{AppendsFront, EndsReading, Reads, frame_at, frame_value}
 use Rattle.mvd_wire.specs.Requests.{request_of}
 use Rattle.mvd_wire.specs.Replies.{reply_bytes}
 use Rattle.mvd_wire.proofs.FramesRead.{no_frame_taken}
 use Rattle.mvd_replica.specs.declared.serving.Ended.{Ended}
 use Rattle.mvd_replica.specs.declared.serving.Ended.TheVariants as ended
-use Rattle.mvd_replica.specs.Turns.{AreFrames, GoesOn, Replies, StandsOn, Turn}
-use Rattle.mvd_replica.specs.Served.{Side, Ending, AtBye, AtEnd, AtRefusal, AtWriter, Stops, GoesOut, Went, replies_bytes, last_bytes, result_of}
+use Rattle.mvd_replica.specs.Turns.{IsAskedAtOnce, AreFrames, Replies, StandsOn, Turn}
+use Rattle.mvd_replica.specs.Served.{AtBye, AtEnd, AtRefusal, AtWriter, Stops, GoesOut, Went}
 use Rattle.mvd_replica.specs.Steps.{Ends, IsSent, RepliesTo}
 use Rattle.std.proofs.KnownBytes.{Appends-nil}
 use Rattle.mvd_replica.proofs.Whole.{GoesOut-err}
@@ -182,3 +182,9 @@ pub goes_out : (output out : Option (List ℕ)) (bytes wanted : List ℕ) (resul
     IfErr result (λ e. e ≡ WriteFailed) → GoesOut {X = Result (Unit {0}) Refusal} output out wanted (Err WriteFailed) result (Ok tt)
 goes_out output out bytes wanted (Ok done) is ok front err = inl (refl, subst (Appends output out) is ok)
 goes_out output out bytes wanted (Err e) is ok front err = inr (ap (λ (r : Refusal). Err r) err, subst (AppendsFront output out) is front)
+
+-- the request of a frame that was read
+pub asked_first : (before after : Option (List ℕ)) (frame : Frame) (request : Request) → Reads (option_map frame_value) before after (Ok (Some frame)) frame_at → request_of frame.kind frame.payload.items ≡ Ok request → IsAskedAtOnce before request
+asked_first before after frame request came asked bytes known =
+    let p : (rest : List ℕ) × (after ≡ Some rest) × (frame_at bytes ≡ Ok (Some (frame_value frame), rest)) = came bytes known in
+    (frame_value frame, p.0, p.2, asked)

@@ -1,15 +1,14 @@
 -- Keys of version 1, moved one after the other.
-use Rattle.std.proofs.Common.{◌≡◌, ◌⊎◌, ◌∙◌, ◌&&◌, ◌<◌, Bool, true, false, cond, ℕ, suc, List, [], ◌∷◌, ◌++◌, length, map, take, drop, get_or, Option, Some, None, Result, Ok, Err, T, refl, sym, ap, subst, inl, inr}
+use Rattle.std.proofs.Common.{◌≡◌, ◌∙◌, ◌<◌, Bool, true, false, cond, ℕ, suc, List, [], ◌∷◌, ◌++◌, length, take, drop, get_or, Option, Some, None, Result, Ok, Err, T, refl, sym, ap, subst, inl, inr}
 use Rattle.std.proofs.Math.Seq.{split_at}
 use Rattle.std.proofs.lemmas.List.{map-append}
-use Rattle.std.specs.Result.{IfOk, OnErr, OnOk}
+use Rattle.std.specs.Result.{OnErr, OnOk}
 use Rattle.mvd_dots.specs.declared.refusals.Refusal.{Refusal}
-use Rattle.mvd_site.specs.Sites.{SiteValue}
 use Rattle.std.specs.declared.cmp.Ordering.{Ordering}
 use Rattle.std.specs.declared.cmp.Ordering.TheVariants.{Less, Equal, Greater}
 use Rattle.std.specs.Ordering.{eq_by_cmp, is_eq, is_lt}
 use Rattle.std.specs.Cmp.{eq_by_cmp_equiv}
-use Rattle.std.specs.FinMap.{entries, entries_sorted, find, get, get-entries, get-insert, get-remove, insert, is_sorted, remove}
+use Rattle.std.specs.FinMap.{entries, entries_sorted, find, get, get-entries, get-insert, get-remove, is_sorted}
 use Rattle.std.specs.FinMap.Entries.{below_all}
 use Rattle.mvd_keys.specs.Key.{key_cmp}
 use Rattle.mvd_keys.specs.State.{State}
@@ -22,7 +21,7 @@ use Rattle.mvd_wire.proofs.KindLaws.{lawful_state, wide_layout1, wide_layout2}
 use Rattle.mvd_wire.proofs.Laws.{prefix_free}
 use Rattle.mvd_records.specs.Pairs.{Pair, entries_of}
 use Rattle.mvd_records.specs.States.{States as Stored}
-use Rattle.mvd_records.specs.Records.{AreDisjoint, EndsMove, HasNone, KeepsStates, MovesState, new_states, old_states}
+use Rattle.mvd_records.specs.Records.{AreDisjoint, EndsMove, KeepsStates, MovesState, new_states, old_states}
 use Rattle.sqlite.specs.Effect.{Database}
 use Rattle.mvd_replica.specs.Stored.{HasState, Respells, SameStates, SpelledIn}
 

@@ -1,11 +1,11 @@
 -- Records in order.
-use Rattle.std.proofs.Common.{◌≡◌, ◌≢◌, ◌⊎◌, ◌∙◌, ◌↔◌, ◌<◌, Bool, true, false, cond, ℕ, suc, zero, List, [], ◌∷◌, ◌++◌, length, map, take, drop, get_or, is_some, Option, Some, None, option_map, Result, Ok, Err, T, refl, sym, ap, subst, subst₂, inl, inr, true≢false, if◌then◌else◌, ltb, ◌≤◌, nat_le, arith}
+use Rattle.std.proofs.Common.{◌≡◌, ◌≢◌, ◌⊎◌, ◌∙◌, ◌↔◌, ◌<◌, Bool, true, false, cond, ℕ, suc, List, [], ◌∷◌, ◌++◌, length, map, take, drop, get_or, is_some, Option, Some, None, option_map, Result, Ok, Err, T, refl, sym, ap, subst, subst₂, inl, inr, true≢false, if◌then◌else◌, ltb, ◌≤◌, nat_le, arith}
 use Rattle.std.proofs.Math.Seq.{split_at}
 use Rattle.std.proofs.lemmas.List.{map-append, map-id}
 use Rattle.std.proofs.lemmas.Bool.Decides.{nat_tests}
 use Rattle.std.specs.Result.{IfErr, IfOk, MatchResult, OnErr, OnOk}
 use Rattle.std.specs.List.{AllByRecursion}
-use Rattle.std.specs.Ordering.{eq_by_cmp, is_lt}
+use Rattle.std.specs.Ordering.{eq_by_cmp}
 use Rattle.std.specs.Cmp.{eq_by_cmp_equiv}
 use Rattle.std.specs.FinMap.{entries, entries_sorted, find, get, get-entries, is_sorted, len, same_map}
 use Rattle.std.specs.FinMap.Entries.{below_all, find-append}
@@ -18,17 +18,17 @@ use Rattle.mvd_keys.specs.Writes.{Key}
 use Rattle.mvd_keys.proofs.KeyOrder.{key_antisymmetric, key_total, same_where_tied}
 use Rattle.mvd_keys.proofs.Rising.{first_true, second_true}
 use Rattle.mvd_wire.specs.Kind.{Spells, spelled_within}
-use Rattle.mvd_wire.specs.Kinds.{layout1, layout2, spell_state, state, state_limit}
+use Rattle.mvd_wire.specs.Kinds.{layout2, spell_state, state, state_limit}
 use Rattle.mvd_records.specs.Pairs.{Pair, entries_of}
 use Rattle.mvd_records.specs.States.{States as Stored}
 use Rattle.mvd_records.specs.Records.{AreDisjoint, EndsMove, HasNone, IsWhole, KeepsStates, LacksKey, HoldsRecords, MovesState, TellsVersion, marks_of, new_states, old_states}
 use Rattle.mvd_site.specs.Config.{ConfigValue}
-use Rattle.mvd_site.specs.Held.{AreHeld, IsHeldState, IsSpelled, States}
+use Rattle.mvd_site.specs.Held.{IsHeldState, States}
 use Rattle.mvd_site.specs.Sites.{SiteValue, opened}
 use Rattle.sqlite.specs.Effect.{Database}
 use Rattle.mvd_replica.specs.Kept.{AreSpelled, HoldsStates, SpellStates}
-use Rattle.mvd_replica.specs.Stored.{AreDamaged, AreInOrder, AreOldStored, AreStored, HasJust, HasState, HoldsTooMany, IsOldStored, IsStored, Migrates, Respells, Resumes, SameStates, spelled_entries}
-use Rattle.mvd_replica.proofs.Moving.{Moving, free1, free2, found_at, less_is_no_tie, below_part, new_at, old_at, none_is_some, some_is, spells_one}
+use Rattle.mvd_replica.specs.Stored.{AreDamaged, AreInOrder, AreStored, HasJust, HasState, HoldsTooMany, IsOldStored, IsStored, Migrates, Respells, Resumes, SameStates, spelled_entries}
+use Rattle.mvd_replica.proofs.Moving.{Moving, free2, found_at, less_is_no_tie, below_part, new_at, old_at, none_is_some, some_is, spells_one}
 
 -- ---- what is stored
 

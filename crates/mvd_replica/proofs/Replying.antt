@@ -1,5 +1,5 @@
 -- Turns one after the other.
-use Rattle.std.proofs.Common.{◌≡◌, ◌≢◌, ◌⊎◌, ◌∙◌, Bool, true, false, ℕ, List, [], ◌∷◌, ◌++◌, map, flat_map, Option, Some, Result, Ok, Err, inl, inr, refl, sym, ap, ap₂, subst, subst₂, append_assoc, append-nil}
+use Rattle.std.proofs.Common.{◌≡◌, ◌∙◌, Bool, false, ℕ, List, [], ◌∷◌, ◌++◌, map, Result, Ok, Err, inl, inr, refl, sym, ap, ap₂, subst, subst₂, append_assoc, append-nil}
 use Rattle.std.proofs.lemmas.Grind.{flat_map-append}
 use Rattle.std.proofs.lemmas.List.{map-append}
 use Rattle.std.specs.List.{AllByRecursion}
@@ -14,7 +14,7 @@ use Rattle.mvd_wire.specs.Replies.{is_short}
 use Rattle.mvd_site.specs.Config.{ConfigValue}
 use Rattle.mvd_site.specs.Known.{Adds}
 use Rattle.mvd_site.specs.Sites.{SiteStands, SiteValue}
-use Rattle.mvd_replica.specs.Turns.{AddsAt, AllTold, AreFrames, Event, GoesOn, IsMemory, MayTell, Replies, RepliesOne, StandsOn, Tells, Turn, known_after}
+use Rattle.mvd_replica.specs.Turns.{AddsAt, AllTold, AreFrames, Event, GoesOn, MayTell, Replies, RepliesOne, StandsOn, Tells, Turn, known_after}
 use Rattle.mvd_replica.specs.Steps.{IsSent}
 
 record Split (events : List Event) (first second : List Turn) : Type 0 where

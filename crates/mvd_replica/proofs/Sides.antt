@@ -1,9 +1,9 @@
 -- A replica as a side of a session.
 use Rattle.std.proofs.Common.{◌≡◌, ◌≢◌, ◌⊎◌, ◌∙◌, Bool, true, false, Result, Ok, Err, refl, sym, ap, subst, inl, inr, true≢false, if◌then◌else◌}
 use Rattle.std.specs.Prelude.{IsTrue}
-use Rattle.std.specs.Result.{IfErr, IfOk, MatchResult, OnErr, OnOk}
+use Rattle.std.specs.Result.{IfErr, MatchResult}
 use Rattle.mvd_dots.specs.declared.refusals.Refusal.{Refusal}
-use Rattle.mvd_dots.specs.declared.refusals.Refusal.TheVariants.{Broken, DotClash, Memory, StateTooLarge, Store}
+use Rattle.mvd_dots.specs.declared.refusals.Refusal.TheVariants.{Broken, DotClash, StateTooLarge, Store}
 use Rattle.mvd_keys.specs.State.{State, clashes, join}
 use Rattle.mvd_keys.specs.Writes.{Key}
 use Rattle.mvd_wire.specs.declared.request.Request.{Request}
@@ -12,7 +12,7 @@ use Rattle.mvd_wire.specs.declared.reply.Reply.{Reply}
 use Rattle.mvd_wire.specs.declared.reply.Reply.TheVariants.{Done, Refused}
 use Rattle.mvd_site.specs.Change.{ChangeValue}
 use Rattle.mvd_site.specs.Config.{ConfigValue}
-use Rattle.mvd_site.specs.FromStates.{Answered, AnswersFrom, Broke, after_from, answer_from, push_reply, within}
+use Rattle.mvd_site.specs.FromStates.{Broke, after_from, answer_from, push_reply, within}
 use Rattle.mvd_site.specs.Held.{States, state_at}
 use Rattle.mvd_site.specs.Prepared.{PreparesChangeFrom, is_refusal}
 use Rattle.mvd_site.specs.Sites.{SiteValue}
@@ -162,6 +162,3 @@ follows_wider asks wider old new before after widens it = record {
     shut = it.store.shut;
   };
 }
-
-pub follows_any : (asks : Request → Type 0) (old new : SiteValue) (before after : Shown) → ReplicaFollows asks old new before after → ReplicaFollows (λ _. Unit {0}) old new before after
-follows_any asks old new before after it = follows_wider asks (λ _. Unit {0}) old new before after (λ _ _. tt) it

@@ -1,5 +1,5 @@
 -- What is stored of the states.
-use Rattle.std.proofs.Common.{◌≡◌, ◌≢◌, ◌⊎◌, ◌∙◌, Bool, true, false, cond, List, ℕ, Option, Some, None, Result, Ok, Err, option_map, refl, sym, ap, subst, subst₂, inl, inr, true≢false}
+use Rattle.std.proofs.Common.{◌≡◌, ◌≢◌, ◌∙◌, true, false, cond, List, ℕ, Some, Result, Ok, Err, option_map, refl, sym, ap, subst, subst₂, inl, inr, true≢false}
 use Rattle.std.specs.Ordering.{eq_by_cmp}
 use Rattle.std.specs.Result.{IfErr, OnOk}
 use Rattle.std.specs.FinMap.{get, get-insert, insert}
@@ -11,7 +11,7 @@ use Rattle.mvd_keys.specs.State.{State}
 use Rattle.mvd_keys.specs.Writes.{Key}
 use Rattle.mvd_wire.specs.Kinds.{spell_state}
 use Rattle.mvd_records.specs.States.{States as Stored}
-use Rattle.mvd_records.specs.Records.{HasNone, HoldsRecords, SavesState, new_states, old_states}
+use Rattle.mvd_records.specs.Records.{HasNone, HoldsRecords, SavesState, new_states}
 use Rattle.mvd_site.specs.Change.{ChangeValue}
 use Rattle.mvd_site.specs.Held.{IsSpelled, States}
 use Rattle.mvd_site.specs.Sites.{SiteValue}

@@ -1,19 +1,17 @@
 -- Turns, and what ends them.
-use Rattle.std.proofs.Common.{◌≡◌, ℕ, ◌+◌, ◌<◌, ◌≤◌, List, [], ◌∷◌, ◌++◌, length, flat_map, take, suc, Option, Some, None, Result, Ok, Err, inl, inr, ◌⊎◌, refl, sym, ap, ◌∙◌, subst, append_assoc, append-nil, arith}
+use Rattle.std.proofs.Common.{◌≡◌, ℕ, ◌+◌, ◌<◌, List, [], ◌∷◌, ◌++◌, length, take, suc, Option, Some, None, Result, Ok, Err, inl, inr, refl, sym, ap, ◌∙◌, subst, append_assoc, append-nil, arith}
 use Rattle.std.proofs.lemmas.Grind.{flat_map-append}
 use Rattle.std.proofs.lemmas.List.{length-append}
 use Rattle.std.proofs.KnownBytes.{Appends-trans, Appends-nil}
 use Rattle.std.specs.Io.KnownBytes.{Appends}
-use Rattle.std.proofs.Math.Seq.{take-add}
 use Rattle.mvd_dots.specs.declared.refusals.Refusal.{Refusal}
 use Rattle.mvd_dots.specs.declared.refusals.Refusal.TheVariants.{WriteFailed, TooManyRequests}
 use Rattle.mvd_wire.specs.declared.reply.Reply.TheVariants.{Refused}
-use Rattle.mvd_site.specs.Sites.{SiteValue}
-use Rattle.mvd_wire.specs.Frames.{AppendsFront}
 use Rattle.mvd_wire.specs.Replies.{reply_bytes}
 use Rattle.mvd_replica.specs.declared.serving.Ended.{Ended}
 use Rattle.mvd_replica.specs.declared.serving.TheConstants.{FRAMES_MAX}
-use Rattle.mvd_replica.specs.Turns.{Turn, Replies, AreFrames, GoesOn}
+use Rattle.mvd_wire.specs.declared.request.Request.{Request}
+use Rattle.mvd_replica.specs.Turns.{IsAsked, IsAskedAtOnce, Turn, AreFrames}
 use Rattle.mvd_replica.specs.Served.{Side, Ending, AtBye, AtEnd, AtRefusal, AtWriter, Stops, GoesOut, GoesOutAfter, IsCount, IsCutCount, Served, Went, frames_most, replies_bytes, last_bytes, result_of}
 use Rattle.mvd_replica.specs.Steps.{Ends, IsLastCount, TakesTurn}
 use Rattle.mvd_replica.proofs.Replying.{Replies-append, Replies-none, StandsOn-append, StandsOn-none, AreFrames-append, GoesOn-append, HasChoice-none, HasChoice-append}
@@ -144,3 +142,9 @@ pub Went-more : (turns : List Turn) (a b c : Side) (found : Option Ended) (n : �
 Went-more turns a b c found n count one same taken =
     let next : (turn : Turn) × Went (turn ∷ []) b c = subst (λ o. TakesTurn b c (Ok o)) same taken in
     (turns ++ next.0 ∷ [], length-append turns (next.0 ∷ []) ∙ ap (λ k. k + 1) count, Went-append turns (next.0 ∷ []) a b c one next.1)
+
+-- a request after the turns
+pub asked_later : (turns : List Turn) (a b : Side) → Went turns a b → (request : Request) → IsAskedAtOnce b.input request → IsAsked a.input request
+asked_later turns a b one request asked bytes known =
+    let p : (rest : List ℕ) × (b.input ≡ Some rest) × AreFrames turns bytes rest = one.read bytes known in
+    (turns, p.0, p.2, asked p.0 p.1)

@@ -1,5 +1,5 @@
 -- What the records of a site hold: this project's own format (docs/FORMATS.md, "Records").
-use Rattle.std.specs.Prelude.{◌≡◌, ◌≢◌, ◌⊎◌, false, true, List, ℕ, Some, Result, Ok, Err, option_map}
+use Rattle.std.specs.Prelude.{◌≡◌, ◌≢◌, ◌⊎◌, false, true, ℕ, Some, Result, Ok, Err, option_map}
 use Rattle.std.specs.FinMap.{get, insert}
 use Rattle.mvd_dots.specs.declared.refusals.Refusal.{Refusal}
 use Rattle.mvd_dots.specs.declared.refusals.Refusal.TheVariants.{Broken, Store}

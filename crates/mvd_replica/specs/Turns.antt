@@ -1,5 +1,5 @@
 -- What a connection asked and was answered, frame by frame.
-use Rattle.std.specs.Prelude.{◌≡◌, ◌⊎◌, Bool, true, false, ℕ, List, [], ◌∷◌, ◌++◌, map, flat_map, Option, Some, Result, Ok, Err}
+use Rattle.std.specs.Prelude.{◌≡◌, ◌⊎◌, Bool, false, ℕ, List, [], ◌∷◌, ◌++◌, map, flat_map, Option, Some, Result, Ok, Err}
 use Rattle.std.specs.List.{AllByRecursion}
 use Rattle.mvd_dots.specs.declared.refusals.Refusal.{Refusal}
 use Rattle.mvd_dots.specs.declared.refusals.Refusal.TheVariants.{Memory, Store}
@@ -93,6 +93,18 @@ abbrev pub AreFrames : List Turn → List ℕ → List ℕ → Type 0
 AreFrames [] bytes rest = bytes ≡ rest
 AreFrames (turn ∷ turns) bytes rest = (frame : FrameValue) × (next : List ℕ) × (frame_at bytes ≡ Ok (Some frame, next))
     × (turn.asked ≡ request_of frame.kind frame.payload) × AreFrames turns next rest
+
+-- the first frame of the bytes is this request
+abbrev pub IsAskedFirst : List ℕ → Request → Type 0
+IsAskedFirst bytes request = (frame : FrameValue) × (next : List ℕ) × (frame_at bytes ≡ Ok (Some frame, next)) × (request_of frame.kind frame.payload ≡ Ok request)
+
+-- the same of bytes that may not be known
+abbrev pub IsAskedAtOnce : Option (List ℕ) → Request → Type 0
+IsAskedAtOnce input request = (bytes : List ℕ) → input ≡ Some bytes → IsAskedFirst bytes request
+
+-- a frame of the input is this request
+abbrev pub IsAsked : Option (List ℕ) → Request → Type 0
+IsAsked input request = (bytes : List ℕ) → input ≡ Some bytes → (turns : List Turn) × (rest : List ℕ) × AreFrames turns bytes rest × IsAskedFirst rest request
 
 -- the turn is no Bye
 abbrev pub GoesOn : Turn → Type 0

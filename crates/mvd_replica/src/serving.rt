@@ -3,6 +3,7 @@ ghost use Rattle.std.specs.Prelude.{◌≡◌};
 ghost use Rattle.mvd_records.specs.Records.{IsSound};
 ghost use Rattle.mvd_replica.specs.Kept.{HoldsSite};
 ghost use Rattle.mvd_replica.specs.Sides.{ReplicaFollows};
+ghost use Rattle.mvd_replica.specs.Turns.{IsAsked};
 ghost use Rattle.mvd_replica.specs.Served.{Served, Side};
 ghost use Rattle.sqlite.specs.Held.{state};
 
@@ -42,7 +43,7 @@ pub fn serve<R: Read, W: Write, S: Alter>(
     ensures records { IsSound (state S.Store replica.new.records.conn) → HoldsSite replica.old.site (state S.Store replica.old.records.conn).committed → HoldsSite replica.new.site (state S.Store replica.new.records.conn).committed }
     ensures config { replica.new.site.config ≡ replica.old.site.config }
     // Once the site is broken all stays as it is, and if a change broke it here the records hold that as well. A shut store takes none.
-    ensures follows { ReplicaFollows (λ _. Unit {0}) replica.old.site replica.new.site (state S.Store replica.old.records.conn) (state S.Store replica.new.records.conn) }
+    ensures follows { ReplicaFollows (λ request. IsAsked (R.remaining reader.old) request) replica.old.site replica.new.site (state S.Store replica.old.records.conn) (state S.Store replica.new.records.conn) }
 {
     for _frame in 0..FRAMES_MAX {
         match take_turn(alloc, reader, writer, replica) {

@@ -10,6 +10,7 @@ ghost use Rattle.mvd_records.specs.Records.{IsSound};
 ghost use Rattle.mvd_replica.specs.Kept.{HoldsSite};
 ghost use Rattle.mvd_replica.specs.Sides.{ReplicaFollows};
 ghost use Rattle.mvd_replica.specs.Served.{GoesOut, Side};
+ghost use Rattle.mvd_replica.specs.Turns.{IsAskedAtOnce};
 ghost use Rattle.mvd_replica.specs.Steps.{IsSent, TakesTurn, TellsFrame};
 ghost use Rattle.sqlite.specs.Held.{state};
 
@@ -75,7 +76,7 @@ fn reply_to<S: Alter>(alloc: Global, replica: &mut Replica<S>, frame: &Frame) ->
     ensures before { IsSound (state S.Store replica.new.records.conn) → IsSound (state S.Store replica.old.records.conn) }
     ensures records { IsSound (state S.Store replica.new.records.conn) → HoldsSite replica.old.site (state S.Store replica.old.records.conn).committed → HoldsSite replica.new.site (state S.Store replica.new.records.conn).committed }
     ensures config { replica.new.site.config ≡ replica.old.site.config }
-    ensures follows { ReplicaFollows (λ _. Unit {0}) replica.old.site replica.new.site (state S.Store replica.old.records.conn) (state S.Store replica.new.records.conn) }
+    ensures follows { ReplicaFollows (λ request. request_of frame.now.kind frame.now.payload.items ≡ Ok request) replica.old.site replica.new.site (state S.Store replica.old.records.conn) (state S.Store replica.new.records.conn) }
 {
     let request = match decode_request(alloc, frame.kind, &frame.payload) {
         Ok(request) => request,
@@ -100,7 +101,7 @@ pub fn take_turn<R: Read, W: Write, S: Alter>(
     ensures before { IsSound (state S.Store replica.new.records.conn) → IsSound (state S.Store replica.old.records.conn) }
     ensures records { IsSound (state S.Store replica.new.records.conn) → HoldsSite replica.old.site (state S.Store replica.old.records.conn).committed → HoldsSite replica.new.site (state S.Store replica.new.records.conn).committed }
     ensures config { replica.new.site.config ≡ replica.old.site.config }
-    ensures follows { ReplicaFollows (λ _. Unit {0}) replica.old.site replica.new.site (state S.Store replica.old.records.conn) (state S.Store replica.new.records.conn) }
+    ensures follows { ReplicaFollows (λ request. IsAskedAtOnce (R.remaining reader.old) request) replica.old.site replica.new.site (state S.Store replica.old.records.conn) (state S.Store replica.new.records.conn) }
 {
     let frame = match read_frame(alloc, reader) {
         Ok(Some(frame)) => frame,

@@ -1,5 +1,6 @@
 use Rattle.std.proofs.Common.{arith, refl, [], ◌∙◌}
-use Rattle.mvd_replica.proofs.Whole.{Went-none, Went-more, Served-after, Served-some, Served-full}
+use Rattle.mvd_replica.proofs.Whole.{asked_later, Went-none, Went-more, Served-after, Served-some, Served-full}
+use Rattle.mvd_replica.proofs.Sides.{follows_wider}
 use Rattle.mvd_replica.specs.Sides.{replica_follows_on, replica_follows_self}
 use Rattle.mvd_replica.proofs.serving.serve.Goals as goal
 
@@ -12,7 +13,7 @@ loop-frame-preserved g c = record {
   before = λ s. c.loop-frame.invariant.before (c.in-Ok-None.ensures.before s);
   records = λ s h. c.in-Ok-None.ensures.records s (c.loop-frame.invariant.records (c.in-Ok-None.ensures.before s) h);
   config = c.in-Ok-None.ensures.config ∙ c.loop-frame.invariant.config;
-  follows = replica_follows_on _ _ _ _ _ _ _ c.loop-frame.invariant.follows c.in-Ok-None.ensures.follows;
+  follows = replica_follows_on _ _ _ _ _ _ _ c.loop-frame.invariant.follows (follows_wider _ _ _ _ _ _ (asked_later c.loop-frame.invariant.went.0 _ _ c.loop-frame.invariant.went.2) c.in-Ok-None.ensures.follows);
 }
 
 pub returns-in-Ok-Some-clause-served : goal.returns-in-Ok-Some-clause-served
@@ -28,7 +29,7 @@ returns-clause-served g c =
     Served-full c.loop-frame.invariant.went.0 _ _ _ _ c.loop-frame.invariant.went.2 (omega (arith, c.loop-frame.invariant.went.1, c.loop-frame-test.false, c.loop-frame.auto._frame-end)) c.stop.ensures
 
 pub returns-in-Ok-Some-clause-follows : goal.returns-in-Ok-Some-clause-follows
-returns-in-Ok-Some-clause-follows g c = replica_follows_on _ _ _ _ _ _ _ c.loop-frame.invariant.follows c.in-Ok-Some.ensures.follows
+returns-in-Ok-Some-clause-follows g c = replica_follows_on _ _ _ _ _ _ _ c.loop-frame.invariant.follows (follows_wider _ _ _ _ _ _ (asked_later c.loop-frame.invariant.went.0 _ _ c.loop-frame.invariant.went.2) c.in-Ok-Some.ensures.follows)
 
 pub returns-in-Err-clause-follows : goal.returns-in-Err-clause-follows
-returns-in-Err-clause-follows g c = replica_follows_on _ _ _ _ _ _ _ c.loop-frame.invariant.follows c.in-Err.ensures.follows
+returns-in-Err-clause-follows g c = replica_follows_on _ _ _ _ _ _ _ c.loop-frame.invariant.follows (follows_wider _ _ _ _ _ _ (asked_later c.loop-frame.invariant.went.0 _ _ c.loop-frame.invariant.went.2) c.in-Err.ensures.follows)

@@ -1,7 +1,7 @@
 use Rattle.std.proofs.Common.{◌≡◌, List, length}
 use Rattle.sqlite.specs.Held.{state}
 use Rattle.mvd_records.specs.Records.{IsSound}
-use Rattle.mvd_replica.specs.Turns.{Turn}
+use Rattle.mvd_replica.specs.Turns.{IsAsked, Turn}
 use Rattle.mvd_replica.specs.Kept.{HoldsSite}
 use Rattle.mvd_replica.specs.Served.{Went}
 use Rattle.mvd_replica.specs.Sides.{ReplicaFollows}
@@ -15,5 +15,5 @@ invariant-loop-frame g l = record {
   before : IsSound (state g.S.Store l.replica.records.conn) → IsSound (state g.S.Store l.initial.replica.records.conn);
   records : IsSound (state g.S.Store l.replica.records.conn) → HoldsSite l.initial.replica.site (state g.S.Store l.initial.replica.records.conn).committed → HoldsSite l.replica.site (state g.S.Store l.replica.records.conn).committed;
   config : l.replica.site.config ≡ l.initial.replica.site.config;
-  follows : ReplicaFollows (λ _. Unit {0}) l.initial.replica.site l.replica.site (state g.S.Store l.initial.replica.records.conn) (state g.S.Store l.replica.records.conn);
+  follows : ReplicaFollows (λ request. IsAsked (g.R.Read.remaining l.initial.reader) request) l.initial.replica.site l.replica.site (state g.S.Store l.initial.replica.records.conn) (state g.S.Store l.replica.records.conn);
 }

@@ -1,8 +1,8 @@
 use Rattle.std.proofs.Common.{◌≡◌, sym, ap, ◌∙◌}
 use Rattle.sqlite.specs.Held.{state}
 use Rattle.mvd_wire.specs.Requests.{request_of}
-use Rattle.mvd_replica.proofs.Answering.{refused_frame, replied}
-use Rattle.mvd_replica.proofs.Sides.{follows_any, follows_by}
+use Rattle.mvd_replica.proofs.Answering.{asked_as, refused_frame, replied}
+use Rattle.mvd_replica.proofs.Sides.{follows_wider, follows_by}
 use Rattle.mvd_replica.specs.Sides.{replica_follows_self}
 use Rattle.mvd_replica.proofs.turns.reply_to.Goals as goal
 
@@ -26,7 +26,8 @@ returns-then-is_bye-clause-follows g c = replica_follows_self _ _
 
 pub returns-clause-follows : goal.returns-clause-follows
 returns-clause-follows g c =
-    follows_any _ _ _ _ _
+    let same : request_of c.args.frame.now.kind c.args.frame.now.payload.items ≡ request_of c.args.frame.now.kind c.deref.result.now = ap (request_of c.args.frame.now.kind) (sym c.deref.ensures.value) in
+    follows_wider _ _ _ _ _ _ (λ request is. asked_as (request_of c.args.frame.now.kind c.args.frame.now.payload.items) (request_of c.args.frame.now.kind c.deref.result.now) c.in-Ok.request request same c.in-Ok.ensures.exact is)
     (follows_by c.args.replica.now.site c.answer.new.self.site c.in-Ok.request c.answer.result (state g.S.Store c.args.replica.now.records.conn) (state g.S.Store c.answer.new.self.records.conn)
     c.answer.ensures.config (λ broken. ap (λ r. r.site) (c.answer.ensures.stays broken)) (λ broken. ap (λ r. (state g.S.Store r.records.conn).committed) (c.answer.ensures.stays broken))
     c.answer.ensures.before c.answer.ensures.records c.answer.ensures.clean c.answer.ensures.taken c.answer.ensures.broken c.answer.ensures.states c.answer.ensures.stored)

@@ -1,5 +1,7 @@
 use Rattle.std.proofs.Common.{◌∙◌}
-use Rattle.mvd_replica.proofs.Ending.{at_end, at_refusal, at_bye_ok, at_bye_failed, goes_on_sent, at_writer_sent, came}
+use Rattle.mvd_replica.proofs.Ending.{at_end, at_refusal, at_bye_ok, at_bye_failed, goes_on_sent, asked_first, at_writer_sent, came}
+use Rattle.mvd_replica.proofs.Sides.{follows_wider}
+use Rattle.mvd_replica.specs.Sides.{replica_follows_self}
 use Rattle.mvd_replica.proofs.turns.take_turn.Goals as goal
 
 pub returns-in-Ok-None-clause-taken : goal.returns-in-Ok-None-clause-taken
@@ -31,3 +33,25 @@ pub returns-in-Err-send-clause-taken : goal.returns-in-Err-send-clause-taken
 returns-in-Err-send-clause-taken g c =
     at_writer_sent c.args.replica.now.site c.reply_to.new.replica.site (g.R.Read.remaining c.args.reader.now) (g.R.Read.remaining c.read_frame.new.reader) (g.W.Write.contents c.args.writer.now) (g.W.Write.contents c.send.new.writer) c.in-Ok-Some.frame c.in-Some.reply c.in-Err-send.failed
     (came c.in-Ok-Some.field-0-is c.in-Ok-Some.ensures.read) c.in-Some.ensures.told c.in-Err-send.ensures
+
+pub returns-in-Ok-None-clause-follows : goal.returns-in-Ok-None-clause-follows
+returns-in-Ok-None-clause-follows g c = replica_follows_self _ _
+
+pub returns-in-Err-clause-follows : goal.returns-in-Err-clause-follows
+returns-in-Err-clause-follows g c = replica_follows_self _ _
+
+pub returns-in-Ok-clause-follows : goal.returns-in-Ok-clause-follows
+returns-in-Ok-clause-follows g c =
+    follows_wider _ _ _ _ _ _ (λ request asked. asked_first (g.R.Read.remaining c.args.reader.now) (g.R.Read.remaining c.read_frame.new.reader) c.in-Ok-Some.frame request (came c.in-Ok-Some.field-0-is c.in-Ok-Some.ensures.read) asked) c.in-None.ensures.follows
+
+pub returns-in-Err-write_frame-clause-follows : goal.returns-in-Err-write_frame-clause-follows
+returns-in-Err-write_frame-clause-follows g c =
+    follows_wider _ _ _ _ _ _ (λ request asked. asked_first (g.R.Read.remaining c.args.reader.now) (g.R.Read.remaining c.read_frame.new.reader) c.in-Ok-Some.frame request (came c.in-Ok-Some.field-0-is c.in-Ok-Some.ensures.read) asked) c.in-None.ensures.follows
+
+pub returns-in-Ok-send-clause-follows : goal.returns-in-Ok-send-clause-follows
+returns-in-Ok-send-clause-follows g c =
+    follows_wider _ _ _ _ _ _ (λ request asked. asked_first (g.R.Read.remaining c.args.reader.now) (g.R.Read.remaining c.read_frame.new.reader) c.in-Ok-Some.frame request (came c.in-Ok-Some.field-0-is c.in-Ok-Some.ensures.read) asked) c.in-Some.ensures.follows
+
+pub returns-in-Err-send-clause-follows : goal.returns-in-Err-send-clause-follows
+returns-in-Err-send-clause-follows g c =
+    follows_wider _ _ _ _ _ _ (λ request asked. asked_first (g.R.Read.remaining c.args.reader.now) (g.R.Read.remaining c.read_frame.new.reader) c.in-Ok-Some.frame request (came c.in-Ok-Some.field-0-is c.in-Ok-Some.ensures.read) asked) c.in-Some.ensures.follows

@@ -1,11 +1,11 @@
-use Rattle.std.proofs.Common.{◌≡◌, ◌≢◌, inl, true, false, Ok, Err, refl, sym, ap, subst}
+use Rattle.std.proofs.Common.{◌≡◌, inl, true, false, Ok, Err, refl, sym, ap, subst}
 use Rattle.mvd_dots.specs.declared.refusals.Refusal.{Refusal}
 use Rattle.mvd_dots.specs.declared.refusals.Refusal.TheVariants.{Broken}
 use Rattle.mvd_wire.specs.declared.reply.Reply.TheVariants.{Refused}
 use Rattle.mvd_wire.specs.Replies.{CanBeSent}
 use Rattle.mvd_site.specs.FromStates.{after_from}
 use Rattle.mvd_site.specs.Prepared.{IsReady, Prepares, PreparesFrom}
-use Rattle.mvd_site.specs.Sites.{AnswersOne, SiteValue}
+use Rattle.mvd_site.specs.Sites.{AnswersOne}
 use Rattle.mvd_site.proofs.Outcomes.{change_plain, err_is, refused_fits, whole_where_ok}
 use Rattle.mvd_site.proofs.Prepare.{answers_broken, answers_by_answer, answers_by_change, answers_by_refusal, answers_from_answer, answers_from_change, answers_from_refusal}
 use Rattle.mvd_site.proofs.Runs.{fitting}

@@ -1,4 +1,4 @@
-use Rattle.mvd_replica.proofs.Storing.{puts_in, stores}
+use Rattle.mvd_replica.proofs.Storing.{stores}
 use Rattle.mvd_replica.proofs.replica.Replica.put_in.Goals as goal
 
 pub returns-clause-kept : goal.returns-clause-kept

@@ -1,13 +1,13 @@
 //! The program `mvd`.
 #![tactic(auto)]
 
-ghost use Rattle.mvd_app.specs.Orders.{IsInRange};
+ghost use Rattle.mvd_input.specs.Orders.{IsInRange};
 
 use mvd_app::{
-    DEFS_MAX, Fault, Order, OrderFault, loop_run, order_of, read_defs, read_input,
-    remote_shell_run, replica_in, serve_run, shell_run, sim, sync_run,
+    loop_run, remote_shell_run, replica_in, serve_run, shell_run, sim, sync_run,
 };
 use mvd_dots::Refusal;
+use mvd_input::{DEFS_MAX, Fault, Order, OrderFault, order_of, read_defs, read_input};
 use mvd_replica::Replica;
 use mvd_rows::Defs;
 use mvd_site::Config;

@@ -2,10 +2,10 @@
 ghost use Rattle.std.specs.Prelude.{◌≡◌, IfErr};
 
 use crate::asked::Member;
-use crate::command::Command;
 use crate::printing::{print_none_such, print_outcome};
 use crate::talk::{say, settle};
 use mvd_dots::Refusal;
+use mvd_input::Command;
 use mvd_keys::Key;
 use mvd_world::{Step, World};
 use std::alloc::Global;

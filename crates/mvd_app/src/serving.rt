@@ -1,13 +1,12 @@
 //! The commands on a stored site that meet a peer.
 ghost use Rattle.std.specs.Prelude.{IfErr};
-ghost use Rattle.mvd_app.specs.Ends.{EndsEarly};
+ghost use Rattle.mvd_input.specs.Ends.{EndsEarly};
 
 use crate::ending::How;
-use crate::fault::Fault;
-use crate::input::write_out;
 use crate::link::Link;
 use crate::progress::Watched;
 use mvd_dots::Refusal;
+use mvd_input::{Fault, write_out};
 use mvd_keys::Path;
 use mvd_replica::{Ended, Replica, serve};
 use mvd_site::Config;

@@ -1,15 +1,13 @@
 //! Lines that are typed, each answered at once.
 ghost use Rattle.std.specs.Prelude.{◌≤◌, ◌<◌, length, IfErr};
-ghost use Rattle.mvd_app.specs.Ends.{EndsEarly};
+ghost use Rattle.mvd_input.specs.Ends.{EndsEarly};
 
 use crate::asked::Asked;
-use crate::command::{Typed, typed_of};
-use crate::definitions::text_of;
-use crate::fault::Fault;
 use crate::link::Link;
 use crate::serving::tell;
 use crate::talk::answer;
 use mvd_dots::Refusal;
+use mvd_input::{Fault, Typed, text_of, typed_of};
 use mvd_sync::Remote;
 use std::alloc::Global;
 use std::fmt::Write as Print;

@@ -2,11 +2,11 @@
 ghost use Rattle.std.specs.Prelude.{◌≡◌, IfErr};
 
 use crate::asked::Asked;
-use crate::command::Ask;
 use crate::pages::next_page;
 use crate::printing::{print_refusal, print_reply};
 use crate::requests::request_of;
 use mvd_dots::Refusal;
+use mvd_input::Ask;
 use mvd_wire::{Reply, Request};
 use std::alloc::Global;
 

@@ -1,6 +1,7 @@
 //! Lines that are typed, and what they print.
-use mvd_app::{Fault, read_defs, replica_in, shell_run};
+use mvd_app::{replica_in, shell_run};
 use mvd_dots::Refusal;
+use mvd_input::{Fault, read_defs};
 use mvd_replica::Replica;
 use mvd_site::Config;
 use sqlite::{Connection, MemStore};

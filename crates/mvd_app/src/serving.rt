@@ -57,13 +57,15 @@ pub fn serve_run<'a, N: Net, S: Alter + Drop, W: Write>(
         Ok(listener) => listener,
         Err(error) => return Err(Stop::unheard(address, error)),
     };
-    Ok(listen(alloc, &listener, replica, address, conns, writer)?)
+    Ok(listen::<N, S, W>(
+        alloc, &listener, replica, address, conns, writer,
+    )?)
 }
 
 /// Serves the connections of a listener.
-fn listen<L: OpenListener, S: Alter + Drop, W: Write>(
+fn listen<N: Net, S: Alter + Drop, W: Write>(
     alloc: Global,
-    listener: &L,
+    listener: &N::Listener,
     replica: &mut Replica<S>,
     address: SocketAddr,
     conns: Option<u32>,

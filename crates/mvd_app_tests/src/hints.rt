@@ -1,4 +1,6 @@
 //! What is told of a fault.
+ghost use Rattle.std.specs.Prelude.{◌<◌};
+
 use mvd_app::replica_in;
 use mvd_dots::Refusal;
 use mvd_input::{Fault, Hint, Stop};
@@ -18,11 +20,15 @@ fn tells(alloc: Global, stop: &Stop<'_>, wanted: &str) -> Result<bool, AllocErro
 }
 
 // These have no clause, so that the proof of a test does not carry the state of each call.
-fn opened(alloc: Global, conn: Connection<MemStore>, site: u32) -> Result<Replica<MemStore>, Stop<'static>>
+fn opened(
+    alloc: Global,
+    conn: Connection<MemStore>,
+    site: u32,
+) -> Result<Replica<MemStore>, Stop<'static>>
     requires { 0 < site }
-    requires { site < 2 ^ 32 }
 {
-    replica_in(alloc, conn, Config::new(site, 10, Defs::new(alloc)), "a.db")
+    let config = Config::new(site, 10, Defs::new(alloc));
+    replica_in(alloc, conn, config, "a.db")
 }
 
 /// What is told where the file of site 7 is opened as that of another.

@@ -3,13 +3,9 @@
 
 ghost use Rattle.mvd_input.specs.Orders.{IsInRange};
 
-use mvd_app::{
-    loop_run, remote_shell_run, replica_in, serve_run, shell_run, sim, sync_run,
-};
+use mvd_app::{loop_run, remote_shell_run, replica_in, serve_run, shell_run, sim, sync_run};
 use mvd_dots::Refusal;
-use mvd_input::{
-    DEFS_MAX, Fault, Hint, Order, OrderFault, Stop, order_of, read_defs, read_input,
-};
+use mvd_input::{DEFS_MAX, Fault, Hint, Order, OrderFault, Stop, order_of, read_defs, read_input};
 use mvd_replica::Replica;
 use mvd_rows::Defs;
 use mvd_site::Config;

@@ -4,7 +4,7 @@ ghost use Rattle.mvd_wire.specs.Frames.{frame_limit};
 
 use crate::ending::How;
 use mvd_dots::Refusal;
-use mvd_input::{BYTES_MAX, HEX_MAX, Fault, hex_bytes, read_input, write_out};
+use mvd_input::{BYTES_MAX, Fault, HEX_MAX, hex_bytes, read_input, write_out};
 use mvd_replica::{Ended, Replica, serve};
 use mvd_site::Config;
 use mvd_wire::{Frame, read_frame};

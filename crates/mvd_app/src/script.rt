@@ -5,7 +5,10 @@ ghost use Rattle.mvd_input.specs.Ends.{EndsEarly};
 
 use crate::play::run;
 use mvd_dots::Refusal;
-use mvd_input::{MOST_KEYS, Command, Fault, Line, View, add_index, add_view, line_of, read_input, text_of, write_out};
+use mvd_input::{
+    Command, Fault, Line, MOST_KEYS, View, add_index, add_view, line_of, read_input, text_of,
+    write_out,
+};
 use mvd_rows::Defs;
 use mvd_world::World;
 use std::alloc::Global;

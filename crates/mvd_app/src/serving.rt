@@ -55,9 +55,7 @@ pub fn serve_run<'a, N: Net, S: Alter + Drop, W: Write>(
         Ok(listener) => listener,
         Err(error) => return Err(Stop::unheard(address, error)),
     };
-    Ok(listen::<N, S, W>(
-        alloc, &listener, replica, address, conns, writer,
-    )?)
+    Ok(listen::<N, S, W>(alloc, &listener, replica, address, conns, writer)?)
 }
 
 /// Serves the connections of a listener.

@@ -69,6 +69,12 @@ fn a_line_is_told_with_its_form(rt: HostRuntime) -> Result<(), Fail> {
     let wanted =
         "mvd: line 3: not a command\nmvd: standard input: a line has two hexadecimal digits for each byte";
     assert!(rt; tells(rt.alloc(), &stop, wanted)?);
-    assert!(rt; tells(rt.alloc(), &Stop::from(Refusal::Memory), "mvd: fault 20 Memory")?);
+    assert!(rt;
+        tells(
+            rt.alloc(),
+            &Stop::from(Refusal::Memory),
+            "mvd: fault 20 Memory"
+        )?
+    );
     Ok(())
 }

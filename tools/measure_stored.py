@@ -6,7 +6,7 @@ usage: tools/measure_stored.py PROGRAM [FOLDER]
 PROGRAM is `mvd` as built. FOLDER has a program to compare with, target/release/yardstick: tools/yardstick, where `cargo build
 --release` makes it. Each figure is the best of three runs, the programs in turn, but of a first session, which is run once. What is
 measured runs on the last processor, and the clients on the others. The files are made in TMPDIR (else /tmp), so the puts are those
-of its disk. MEASURE_KEYS has other numbers of keys than 10000 100000 1000000.
+of its disk. MEASURE_KEYS has other numbers of keys than 10000 100000 1000000, and MEASURE_RUNS another number of runs than 3.
 """
 import os
 import shutil
@@ -19,10 +19,10 @@ import tempfile
 import threading
 import time
 
-RUNS = 3
+RUNS = int(os.environ.get("MEASURE_RUNS", "3"))
 SIZES = [int(word) for word in os.environ.get("MEASURE_KEYS", "10000 100000 1000000").split()]
 MOST_CARRIED = 100_000
-PUTS = 10_000
+PUTS = 1_000
 READS = 200_000
 DIFFERING = 10
 STRIDE = 7919  # how far apart the keys of two puts or reads are
@@ -321,8 +321,9 @@ def print_files(program, yardstick, folder):
 def print_sessions(program, folder):
     print("\n| keys | differ | questions | went by | time: who asks | who is asked |")
     print("|---|---|---|---|---|---|")
-    first = [(keys, 0) for keys in SIZES if keys <= MOST_CARRIED]
-    for keys, odd in [(keys, DIFFERING) for keys in SIZES] + first:
+    few = [keys for keys in SIZES if keys <= MOST_CARRIED]
+    more = [keys for keys in SIZES if keys > MOST_CARRIED]
+    for keys, odd in [(k, DIFFERING) for k in few] + [(k, 0) for k in few] + [(k, DIFFERING) for k in more]:
         clear(folder)
         best = measure_session(program, folder, keys, odd)
         cells = [best.told("{}", "questions"), best.told("{:.3f} s", "session"), best.told("{:.2f} s", "asking"),
@@ -339,7 +340,7 @@ def main(program, folder=None):
     yardstick = folder and os.path.join(folder, "target/release/yardstick")
     os.sched_setaffinity(0, PROCESSORS[:-1] or PROCESSORS)
     with tempfile.TemporaryDirectory() as room:
-        print(f"a sync of 4 KiB: {seconds_of_a_sync(room) * 1000:.2f} ms")
+        print(f"a sync of 4 KiB: {seconds_of_a_sync(room) * 1000:.2f} ms; the best of {RUNS} runs; load {os.getloadavg()}")
         print_files(program, yardstick, room)
         print_sessions(program, room)
 

@@ -7,7 +7,7 @@
 use rusqlite::{params, Connection};
 use sha2::{Digest, Sha256};
 use std::error::Error;
-use std::time::Instant;
+use std::time::{Instant, SystemTime};
 
 /// How far apart the keys of two upserts are.
 const STRIDE: u64 = 7919;
@@ -48,16 +48,17 @@ fn rows(file: &str) -> Result<f64, Box<dyn Error>> {
     Ok(start.elapsed().as_secs_f64())
 }
 
-/// Upserts small states, each in a commit of its own.
+/// Upserts small states, each in a commit of its own. No run writes what an earlier one wrote, since SQLite skips such a write.
 fn upserts(file: &str, count: u64, keys: u64) -> Result<f64, Box<dyn Error>> {
     let db = Connection::open(file)?;
     let mut upsert = db.prepare(
         "INSERT INTO states2 (key, state) VALUES (?1, ?2) ON CONFLICT (key) DO UPDATE SET state = excluded.state",
     )?;
+    let run = SystemTime::now().duration_since(SystemTime::UNIX_EPOCH)?.as_nanos();
     let start = Instant::now();
     for n in 0..count {
         let mut state = vec![0u8; 60];
-        state[..8].copy_from_slice(&n.to_be_bytes());
+        state[..16].copy_from_slice(&(run + u128::from(n)).to_be_bytes());
         upsert.execute(params![format!("k{}", n * STRIDE % keys), state])?;
     }
     Ok(start.elapsed().as_secs_f64())

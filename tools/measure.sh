@@ -1,11 +1,14 @@
 #!/bin/sh
 # Measures the program on scripts that it makes: seconds of the processor, and the most memory held at one time (resident).
+# Then measure_stored.py measures stored sites and sessions.
 # usage: tools/measure.sh PROGRAM [FOLDER]
-# PROGRAM is `mvd` as built. FOLDER has another program to compare with, target/release/twin, which runs the same
-# scripts. Each figure is the least of three runs, the programs in turn. Takes Debian's `time`.
+# PROGRAM is `mvd` as built. FOLDER has other programs to compare with, each of which may be missing: target/release/twin, which
+# runs the same scripts, and target/release/yardstick (tools/yardstick). Each figure is the least of three runs, the programs in
+# turn. Takes Debian's `time`, and python3.
 set -eu
 program=${1:?usage: tools/measure.sh PROGRAM [FOLDER]}
 other=${2:+$2/target/release/twin}
+[ -x "$other" ] || other=
 [ -x /usr/bin/time ] || { echo "/usr/bin/time is not installed" >&2; exit 2; }
 work=$(mktemp -d)
 trap 'rm -rf "$work"' EXIT
@@ -83,4 +86,5 @@ for n in 10000 100000; do
     for kind in core blind rows tree; do measure $kind $n; done
 done
 for n in 10000 100000 800000; do measure small $n; done
+"$(dirname "$0")/measure_stored.py" "$program" ${2:+"$2"}
 echo "load at the end: $(cut -d ' ' -f 1-3 /proc/loadavg)"

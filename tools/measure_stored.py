@@ -133,6 +133,16 @@ def memory(pid, name):
         return next(int(line.split()[1]) / 1024 for line in file if line.startswith(name))
 
 
+def refused(program, path):
+    """Seconds of the processor until a file of site 1 is refused to another site: the database is opened, and one row of it read."""
+    words = ["taskset", "-c", str(PROCESSORS[-1]), program, "shell", "--db", path, "--site", "2"]
+    process = subprocess.Popen(words, stdin=subprocess.DEVNULL, stderr=subprocess.DEVNULL)
+    _, process.returncode, used = os.wait4(process.pid, 0)
+    if not process.returncode:
+        sys.exit("another site was not refused")
+    return used.ru_utime + used.ru_stime
+
+
 class Server:
     """A server on a file of site 1, for one connection."""
 
@@ -247,6 +257,7 @@ def measure_file(program, yardstick, folder, keys):
     best = Best()
     for turn in range(RUNS):
         compare_rows(best, yardstick, journal)
+        best.add(refused=refused(program, ours))
         server = Server(program, ours)
         pid = server.process.pid
         best.add(opened=server.opened, opening=server.opening, most=memory(pid, "VmHWM"), held=memory(pid, "VmRSS"))
@@ -303,11 +314,11 @@ def seconds_of_a_sync(folder):
 
 def print_files(program, yardstick, folder):
     found = [(keys, measure_file(program, yardstick, folder, keys)) for keys in SIZES if not clear(folder)]
-    print("\n| keys | mvd opens: time | went by | most memory | when open | yardstick reads: time | went by | ratio |")
-    print("|---|---|---|---|---|---|---|---|")
+    print("\n| keys | mvd opens: time | of it the database | went by | most memory | when open | yardstick reads: time | went by | ratio |")
+    print("|---|---|---|---|---|---|---|---|---|")
     for keys, best in found:
-        cells = [best.told("{:.2f} s", "opened"), best.told("{:.2f} s", "opening"), best.told("{:.1f} MiB", "most"),
-                 best.told("{:.1f} MiB", "held"), best.told("{:.2f} s", "rows"), best.told("{:.2f} s", "rows_went_by"),
+        cells = [best.told("{:.2f} s", "opened"), best.told("{:.2f} s", "refused"), best.told("{:.2f} s", "opening"),
+                 best.told("{:.1f} MiB", "most"), best.told("{:.1f} MiB", "held"), best.told("{:.2f} s", "rows"), best.told("{:.2f} s", "rows_went_by"),
                  best.ratio("opened", "rows")]
         print(f"| {keys} | {' | '.join(cells)} |")
     print("\n| keys | puts a second | a put: time | upserts a second: journal | log | reads a second | a read: time |")

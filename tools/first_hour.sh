@@ -50,8 +50,8 @@ def blocks(file):
 def builds(file):
     for word, text in blocks(file):
         if word == "build" and not given:
-            # The block is run where it says, and the PATH that it sets is taken over.
-            out, status = run(text + "\necho \"PATH $PATH\"\n", where=top, seconds=14400)
+            # The block is run where it says, up to the first command that fails, and the PATH that it sets is taken over.
+            out, status = run("set -e\n" + text + "\necho \"PATH $PATH\"\n", where=top, seconds=14400)
             if status != 0:
                 miss(out)
             os.environ["PATH"] = out.splitlines()[-1].removeprefix("PATH ")

@@ -17,7 +17,7 @@ use Rattle.mvd_replica.specs.Turns.{AreFrames, Event, GoesOn, IsFirstBroken, IsT
 use Rattle.sqlite.specs.State.{State}
 
 -- a site with its store, between a reader and a writer, whose bytes may not be known
-pub record Side : Type 0 where
+pub record Side : Type 1 where
   pub site : SiteValue
   pub store : State
   pub input : Option (List ℕ)

@@ -11,7 +11,7 @@ use Rattle.std.specs.FinMap.{entries, entries_sorted, find, get, get-entries, is
 use Rattle.std.specs.FinMap.Entries.{below_all, find-append}
 use Rattle.mvd_dots.specs.Answer.{IsAnswer}
 use Rattle.mvd_dots.specs.declared.refusals.Refusal.{Refusal}
-use Rattle.mvd_dots.specs.declared.refusals.Refusal.TheVariants.{Damaged, Full, Memory, StateTooLarge}
+use Rattle.mvd_dots.specs.declared.refusals.Refusal.TheVariants.{Damaged, Full, Memory, SiteMismatch, StateTooLarge, Store}
 use Rattle.mvd_keys.specs.Key.{is_key, key_cmp}
 use Rattle.mvd_keys.specs.State.{State}
 use Rattle.mvd_keys.specs.Writes.{Key}
@@ -21,7 +21,7 @@ use Rattle.mvd_wire.specs.Kind.{Spells, spelled_within}
 use Rattle.mvd_wire.specs.Kinds.{layout2, spell_state, state, state_limit}
 use Rattle.mvd_records.specs.Pairs.{Pair, entries_of}
 use Rattle.mvd_records.specs.States.{States as Stored}
-use Rattle.mvd_records.specs.Records.{AreDisjoint, EndsMove, HasNone, IsWhole, KeepsStates, LacksKey, HoldsRecords, MovesState, TellsVersion, marks_of, new_states, old_states}
+use Rattle.mvd_records.specs.Records.{AreDisjoint, EndsMove, HasNone, IsWhole, KeepsStates, LacksKey, HoldsRecords, IsOpenRefusal, MovesState, TellsVersion, marks_of, new_states, old_states}
 use Rattle.mvd_site.specs.Config.{ConfigValue}
 use Rattle.mvd_site.specs.Held.{IsHeldState, States}
 use Rattle.mvd_site.specs.Sites.{SiteValue, opened}
@@ -323,6 +323,29 @@ told_as db site number e wanted same is told = subst (λ r. TellsVersion (marks_
 
 pub damaged_site : (a b : Database) (version site number : ℕ) → number ≡ site → TellsVersion (marks_of a) number (Ok version) → KeepsStates a b → ¬ AreInOrder version (old_states b) (new_states b) → AreDamaged site a
 damaged_site a b version site number same told keeps unordered = inr (version, subst (λ n. TellsVersion (marks_of a) n (Ok version)) same told, λ order. unordered (order_kept version a b keeps order))
+
+-- ---- which refusals these are
+
+pub not_full : (e : Refusal) → IsOpenRefusal e → e ≡ Full → ⊥
+not_full e (inl is) full = (let bad : SiteMismatch ≡ Full = sym is ∙ full in cc)
+not_full e (inr (inl is)) full = (let bad : Damaged ≡ Full = sym is ∙ full in cc)
+not_full e (inr (inr is)) full = (let bad : Store ≡ Full = sym is ∙ full in cc)
+
+-- what a site is not loaded for
+abbrev pub IsLoadRefusal : Refusal → Type 0
+IsLoadRefusal e = (e ≡ Damaged) ⊎ ((e ≡ Full) ⊎ ((e ≡ Memory) ⊎ (e ≡ Store)))
+
+pub not_mismatch : (e : Refusal) → IsLoadRefusal e → e ≡ SiteMismatch → ⊥
+not_mismatch e (inl is) other = (let bad : Damaged ≡ SiteMismatch = sym is ∙ other in cc)
+not_mismatch e (inr (inl is)) other = (let bad : Full ≡ SiteMismatch = sym is ∙ other in cc)
+not_mismatch e (inr (inr (inl is))) other = (let bad : Memory ≡ SiteMismatch = sym is ∙ other in cc)
+not_mismatch e (inr (inr (inr is))) other = (let bad : Store ≡ SiteMismatch = sym is ∙ other in cc)
+
+pub loaded_which : (e : Refusal) → IsLoadRefusal e → IsOpenRefusal e ⊎ ((e ≡ Full) ⊎ (e ≡ Memory))
+loaded_which e (inl is) = inl (inr (inl is))
+loaded_which e (inr (inl is)) = inr (inl is)
+loaded_which e (inr (inr (inl is))) = inr (inr is)
+loaded_which e (inr (inr (inr is))) = inl (inr (inr is))
 
 -- ---- how a load ends
 

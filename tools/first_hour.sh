@@ -50,8 +50,8 @@ def blocks(file):
 def builds(file):
     for word, text in blocks(file):
         if word == "build" and not given:
-            # The block is run where it says, and the PATH that it sets is taken over.
-            out, status = run(text + "\necho \"PATH $PATH\"\n", where=top, seconds=14400)
+            # The block is run where it says, up to the first command that fails, and the PATH that it sets is taken over.
+            out, status = run("set -e\n" + text + "\necho \"PATH $PATH\"\n", where=top, seconds=14400)
             if status != 0:
                 miss(out)
             os.environ["PATH"] = out.splitlines()[-1].removeprefix("PATH ")
@@ -138,14 +138,16 @@ def old_file():
     old.close()
     if marks != ([(2,), (1,)], [(0,)]):
         miss(f"a file of version 1 is left as {marks}")
-    wants("a file of a later version", "mvd shell --db old.db --site 1", "mvd: fault 17 Damaged\n", 1, "get k\n")
+    wants("a file of a later version", "mvd shell --db old.db --site 1", "mvd: fault 17 Damaged\nmvd: old.db is damaged, or of a "
+          "later version of mvd: name another file, or a copy of this one\n", 1, "get k\n")
 
 
 def interrupted():
     """A server is killed, its port is bound again at once, and what it answered is in the file and the log beside it."""
     first = server("killed.db")
     wants("a write through a server", "mvd shell --port 7007", "dot 1:1\n", 0, 'put k - {"a":1}\n')
-    wants("a file in use", "mvd shell --db killed.db --site 1", "mvd: fault 21 Store\n", 1, "get k\n")
+    wants("a file in use", "mvd shell --db killed.db --site 1", "mvd: fault 21 Store\nmvd: killed.db is in use: end the program "
+          "that has it open, or ask that one through its port\n", 1, "get k\n")
     kill(first)
     wants("a copy with its log", "cp killed.db whole.db; cp killed.db-wal whole.db-wal; mvd shell --db whole.db --site 1",
           'context 1:1\n1:1 {"a":1}\n', 0, "get k\n")
@@ -154,7 +156,8 @@ def interrupted():
     wants("a client's delete", 'python3 examples/client.py 7007 del k 0000000100000001000000000000000100000000', "ok\n")
     wants("a refusal", 'python3 examples/client.py 7007 find city 1', "refused 12\n", 1)
     kill(second)
-    wants("no server", "mvd shell --port 7007", "mvd: fault 34 ReadFailed\n", 1)
+    wants("no server", "mvd shell --port 7007", "mvd: fault 34 ReadFailed\nmvd: 127.0.0.1:7007: Connection refused (os error 111); "
+          "start `mvd serve` there, or name another --address and --port\n", 1)
 
 
 def answers_at_once():

@@ -91,15 +91,17 @@ ended() {
   server=
 }
 
-# refused WHAT STATUS TEXT FILE WORD..: the program ends with this status and text, and the file stays as it is.
+# refused WHAT STATUS TEXT HINT FILE WORD..: the program ends with this status, tells this text and on the next line this hint, and
+# the file stays as it is.
 refused() {
-  what=$1 wanted=$2 text=$3 file=$4
-  shift 4
+  what=$1 wanted=$2 text=$3 hint=$4 file=$5
+  shift 5
   before=$(cksum <"$file")
   status=0
   "$program" "$@" >out 2>fault || status=$?
   [ "$status" = "$wanted" ] || miss "$what: wanted status $wanted, got $status: $(cat out fault)"
-  same "$what" "$text" "$(cat fault)"
+  same "$what" "mvd: $text" "$(head -n 1 fault)"
+  same "$what, hint" "mvd: $hint" "$(tail -n +2 fault)"
   [ "$before" = "$(cksum <"$file")" ] || miss "$what: $file changed"
 }
 
@@ -151,21 +153,40 @@ esac
 ended
 
 serve --db a.db --site 1
-refused "a port in use" 1 "mvd: fault 34 ReadFailed" b.db serve --db b.db --site 2 --port "$port" --conns 1
-refused "a locked database" 1 "mvd: fault 21 Store" a.db sync --db a.db --site 1 --port "$port"
+at="127.0.0.1:$port"
+refused "a port in use" 1 "fault 34 ReadFailed" "$at is in use: end the program that listens there, or name another --port" \
+  b.db serve --db b.db --site 2 --port "$port" --conns 1
+refused "a locked database" 1 "fault 21 Store" "a.db is in use: end the program that has it open, or ask that one through its port" \
+  a.db sync --db a.db --site 1 --port "$port"
 kill "$server"
 wait "$server" 2>/dev/null || :
 server=
-refused "no server" 1 "mvd: fault 34 ReadFailed" b.db sync --db b.db --site 2 --port "$port"
-refused "another site's database" 1 "mvd: fault 16 SiteMismatch" b.db serve --db b.db --site 3 --port "$port"
-refused "too many keys" 1 "mvd: fault 10 Full" b.db serve --db b.db --site 2 --port "$port" --max-keys 1
+refused "no server" 1 "fault 34 ReadFailed" \
+  "$at: Connection refused (os error 111); start \`mvd serve\` there, or name another --address and --port" \
+  b.db sync --db b.db --site 2 --port "$port"
+refused "another site's database" 1 "fault 16 SiteMismatch" "b.db is the file of site 2: name that site by --site, or another file" \
+  b.db serve --db b.db --site 3 --port "$port"
+refused "too many keys" 1 "fault 10 Full" "the file has no room for so many keys: raise --max-keys, up to 1000000" \
+  b.db serve --db b.db --site 2 --port "$port" --max-keys 1
 cp b.db damaged.db
 sqlite3 damaged.db "PRAGMA journal_mode = delete; UPDATE states2 SET state = x'00' WHERE key = 'b'" >/dev/null
-refused "a damaged row" 1 "mvd: fault 17 Damaged" damaged.db serve --db damaged.db --site 2 --port "$port"
+refused "a damaged row" 1 "fault 17 Damaged" \
+  "damaged.db is damaged, or of a later version of mvd: name another file, or a copy of this one" \
+  damaged.db serve --db damaged.db --site 2 --port "$port"
 seq 2000 >none.db
-refused "no database" 1 "mvd: fault 21 Store" none.db serve --db none.db --site 2 --port "$port"
+refused "no database" 1 "fault 21 Store" "none.db is no database of mvd, or damaged: name another file, or a copy of this one" \
+  none.db serve --db none.db --site 2 --port "$port"
+refused "no folder" 1 "fault 21 Store" "no/b.db: unable to open database file; see to its folder, its rights and the disk" \
+  b.db shell --db no/b.db --site 2
 printf 'index city\nview v city n\nmax 1\n' >bad
-refused "a line that defines nothing" 3 "mvd: line 3: not a command" b.db serve --db b.db --site 2 --port "$port" --defs bad
-refused "no file of definitions" 1 "mvd: fault 34 ReadFailed" b.db serve --db b.db --site 2 --port "$port" --defs none
-refused "a bad number" 2 "mvd: bad number" b.db serve --db b.db --site 0 --port "$port"
+refused "a line that defines nothing" 3 "line 3: not a command" \
+  "bad: a line is \`index F\` or \`view V G S\`, each but once, and at most 16 of either" \
+  b.db serve --db b.db --site 2 --port "$port" --defs bad
+refused "no file of definitions" 1 "fault 34 ReadFailed" \
+  "none cannot be read: --defs names a file of lines \`index F\` and \`view V G S\`" \
+  b.db serve --db b.db --site 2 --port "$port" --defs none
+refused "a script that cannot be read" 1 "fault 34 ReadFailed" "standard input cannot be read" b.db sim <.
+refused "a line of a script" 3 "line 1: not a command" \
+  "standard input: docs/FORMATS.md lists the lines of a script, of which \`sites N\` is the first" b.db sim <bad
+refused "a bad number" 2 "bad number" "\`mvd help COMMAND\` tells the range of each" b.db serve --db b.db --site 0 --port "$port"
 echo "served: all as wanted"

@@ -1,13 +1,11 @@
 //! The program `mvd`.
 #![tactic(auto)]
 
-ghost use Rattle.mvd_app.specs.Orders.{IsInRange};
+ghost use Rattle.mvd_input.specs.Orders.{IsInRange};
 
-use mvd_app::{
-    DEFS_MAX, Fault, Order, OrderFault, loop_run, order_of, read_defs, read_input,
-    remote_shell_run, replica_in, serve_run, shell_run, sim, sync_run,
-};
+use mvd_app::{loop_run, remote_shell_run, replica_in, serve_run, shell_run, sim, sync_run};
 use mvd_dots::Refusal;
+use mvd_input::{DEFS_MAX, Fault, Hint, Order, OrderFault, Stop, order_of, read_defs, read_input};
 use mvd_replica::Replica;
 use mvd_rows::Defs;
 use mvd_site::Config;
@@ -30,22 +28,22 @@ fn main(rt: HostRuntime) -> io::Result<ExitCode> {
     match order_of(alloc, &texts) {
         Ok(order) => match run(&rt, order) {
             Ok(()) => Ok(ExitCode::SUCCESS),
-            Err(fault) => told(&rt, &fault),
+            Err(stop) => told(&rt, &stop),
         },
         Err(OrderFault::Words(error)) => {
             rt.eprint(&error)?;
             Ok(ExitCode::from(2))
         }
         Err(OrderFault::Range) => {
-            eprintln!(rt; "mvd: bad number")?;
+            eprintln!(rt; "mvd: bad number\nmvd: `mvd help COMMAND` tells the range of each")?;
             Ok(ExitCode::from(2))
         }
-        Err(OrderFault::Stopped(refusal)) => told(&rt, &Fault::Stopped(refusal)),
+        Err(OrderFault::Stopped(refusal)) => told(&rt, &Stop::from(refusal)),
     }
 }
 
 /// Runs an order, from standard input where it reads, and to standard output.
-fn run(rt: &HostRuntime, order: Order<'_>) -> Result<(), Fault>
+fn run<'a>(rt: &HostRuntime, order: Order<'a>) -> Result<(), Stop<'a>>
     requires { IsInRange order }
 {
     match order {
@@ -91,54 +89,64 @@ fn run(rt: &HostRuntime, order: Order<'_>) -> Result<(), Fault>
     }
 }
 
-fn run_sim(rt: &HostRuntime) -> Result<(), Fault> {
+fn run_sim<'a>(rt: &HostRuntime) -> Result<(), Stop<'a>> {
     let mut reader = input(rt)?;
-    sim(rt.alloc(), &mut reader, &mut io::writer(rt))
+    match sim(rt.alloc(), &mut reader, &mut io::writer(rt)) {
+        Ok(()) => Ok(()),
+        Err(fault) => Err(Stop::in_input(fault, Hint::Script)),
+    }
 }
 
-fn run_loop(rt: &HostRuntime, config: Config) -> Result<(), Fault> {
+fn run_loop<'a>(rt: &HostRuntime, config: Config) -> Result<(), Stop<'a>> {
     let mut reader = input(rt)?;
-    loop_run(rt, rt.alloc(), &mut reader, &mut io::writer(rt), config)
+    match loop_run(rt, rt.alloc(), &mut reader, &mut io::writer(rt), config) {
+        Ok(()) => Ok(()),
+        // This is of the connection, too, and then not of the input.
+        Err(Fault::Stopped(Refusal::ReadFailed)) => Err(Stop::from(Refusal::ReadFailed)),
+        Err(fault) => Err(Stop::in_input(fault, Hint::Hexadecimal)),
+    }
 }
 
-fn run_serve(
+fn run_serve<'a>(
     rt: &HostRuntime,
-    db: &str,
+    db: &'a str,
     config: Config,
     address: SocketAddr,
     conns: Option<u32>,
-) -> Result<(), Fault> {
+) -> Result<(), Stop<'a>> {
     let mut replica = stored(rt, db, config)?;
     let mut writer = io::writer(rt);
     serve_run(rt, rt.alloc(), &mut replica, address, conns, &mut writer)?;
-    closed(replica)
+    closed(replica, db)
 }
 
-fn run_shell(rt: &HostRuntime, db: &str, config: Config) -> Result<(), Fault> {
+fn run_shell<'a>(rt: &HostRuntime, db: &'a str, config: Config) -> Result<(), Stop<'a>> {
     let mut replica = stored(rt, db, config)?;
     let mut reader = input(rt)?;
-    shell_run(rt.alloc(), &mut replica, &mut reader, &mut io::writer(rt))?;
-    closed(replica)
+    match shell_run(rt.alloc(), &mut replica, &mut reader, &mut io::writer(rt)) {
+        Ok(()) => closed(replica, db),
+        Err(fault) => Err(Stop::in_input(fault, Hint::Script)),
+    }
 }
 
-fn run_remote_shell(rt: &HostRuntime, address: SocketAddr) -> Result<(), Fault> {
+fn run_remote_shell<'a>(rt: &HostRuntime, address: SocketAddr) -> Result<(), Stop<'a>> {
     let mut reader = input(rt)?;
     remote_shell_run(rt, rt.alloc(), address, &mut reader, &mut io::writer(rt))
 }
 
-fn run_sync(
+fn run_sync<'a>(
     rt: &HostRuntime,
-    db: &str,
+    db: &'a str,
     config: Config,
     address: SocketAddr,
     verbose: bool,
-) -> Result<(), Fault> {
+) -> Result<(), Stop<'a>> {
     let mut replica = stored(rt, db, config)?;
     let mut writer = io::writer(rt);
     let mut errors = rt.stderr();
     let told = if verbose { Some(&mut errors) } else { None };
     sync_run(rt, rt.alloc(), &mut replica, address, told, &mut writer)?;
-    closed(replica)
+    closed(replica, db)
 }
 
 /// Standard input.
@@ -150,10 +158,17 @@ fn input(rt: &HostRuntime) -> Result<BufReader<<HostRuntime as Input>::Reader>, 
 }
 
 /// The indexes and views of a file of definitions, or none.
-fn defs_in(rt: &HostRuntime, file: Option<&str>) -> Result<Defs, Fault> {
+fn defs_in<'a>(rt: &HostRuntime, file: Option<&'a str>) -> Result<Defs, Stop<'a>> {
     let Some(file) = file else {
         return Ok(Defs::new(rt.alloc()));
     };
+    match defs_of(rt, file) {
+        Ok(defs) => Ok(defs),
+        Err(fault) => Err(Stop::in_defs(file, fault)),
+    }
+}
+
+fn defs_of(rt: &HostRuntime, file: &str) -> Result<Defs, Fault> {
     let Ok(mut file) = fs::open(rt, file) else {
         return Err(Fault::Stopped(Refusal::ReadFailed));
     };
@@ -162,25 +177,29 @@ fn defs_in(rt: &HostRuntime, file: Option<&str>) -> Result<Defs, Fault> {
 }
 
 /// The replica that a database file holds. The file is made where it is missing.
-fn stored(rt: &HostRuntime, db: &str, config: Config) -> Result<Replica<FileStore<File>>, Fault> {
+fn stored<'a>(
+    rt: &HostRuntime,
+    db: &'a str,
+    config: Config,
+) -> Result<Replica<FileStore<File>>, Stop<'a>> {
     match Connection::open(rt, db) {
-        Ok(conn) => replica_in(rt.alloc(), conn, config),
-        Err(_) => Err(Fault::Stopped(Refusal::Store)),
+        Ok(conn) => replica_in(rt.alloc(), conn, config, db),
+        Err(error) => Err(Stop::in_file(db, error)),
     }
 }
 
 /// Closes a replica's database: what its log holds is copied into the file.
-fn closed(replica: Replica<FileStore<File>>) -> Result<(), Fault> {
+fn closed<'a>(replica: Replica<FileStore<File>>, db: &'a str) -> Result<(), Stop<'a>> {
     match replica.into_connection().close() {
         Ok(()) => Ok(()),
-        Err(_) => Err(Fault::Stopped(Refusal::Store)),
+        Err(error) => Err(Stop::in_file(db, error)),
     }
 }
 
-/// Tells a fault on standard error, and gives its status.
-fn told(rt: &impl Eprint, fault: &Fault) -> io::Result<ExitCode> {
-    eprintln!(rt; "mvd: {fault}")?;
-    Ok(status_of(fault))
+/// Tells on standard error why a command was stopped, and gives its status.
+fn told(rt: &impl Eprint, stop: &Stop<'_>) -> io::Result<ExitCode> {
+    eprintln!(rt; "{stop}")?;
+    Ok(status_of(&stop.fault))
 }
 
 /// 1 where a command was stopped, and 3 where a line is not a command.

@@ -3,10 +3,8 @@ ghost use Rattle.std.specs.Prelude.{◌<◌, ◌≤◌, length};
 ghost use Rattle.mvd_wire.specs.Frames.{frame_limit};
 
 use crate::ending::How;
-use crate::fault::Fault;
-use crate::hexadecimal::{BYTES_MAX, HEX_MAX, hex_bytes};
-use crate::input::{read_input, write_out};
 use mvd_dots::Refusal;
+use mvd_input::{BYTES_MAX, Fault, HEX_MAX, hex_bytes, read_input, write_out};
 use mvd_replica::{Ended, Replica, serve};
 use mvd_site::Config;
 use mvd_wire::{Frame, read_frame};

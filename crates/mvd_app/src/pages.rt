@@ -1,8 +1,8 @@
 //! Lists, asked for page after page.
-use crate::command::Ask;
 use crate::requests::{find_of, range_of, rows_of};
 use mvd_docs::Term;
 use mvd_dots::Refusal;
+use mvd_input::Ask;
 use mvd_keys::Place;
 use mvd_wire::{Reply, Request};
 use std::alloc::Global;

@@ -1,7 +1,7 @@
 //! What the commands of a script print.
-use crate::command::Ask;
 use mvd_docs::Term;
 use mvd_dots::{Dot, Refusal};
+use mvd_input::Ask;
 use mvd_keys::{KeyState, Place};
 use mvd_sync::SyncFault;
 use mvd_wire::{Digests, Reply};

@@ -1,8 +1,8 @@
 //! The requests that texts are.
 use crate::asked::Asked;
-use crate::command::Ask;
 use mvd_docs::{Document, Field, Term, ViewName};
 use mvd_dots::{Context, Dot, Refusal};
+use mvd_input::Ask;
 use mvd_keys::{Key, Path, Place};
 use mvd_wire::{Reply, Request};
 use std::alloc::Global;

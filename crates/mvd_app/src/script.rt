@@ -1,15 +1,14 @@
 //! Scripts: a line is a command on one of several sites.
 ghost use Rattle.std.specs.Prelude.{◌≡◌, ◌<◌, ◌≤◌, IfErr};
 ghost use Rattle.std.specs.Option.{ForSome};
-ghost use Rattle.mvd_app.specs.Ends.{EndsEarly};
+ghost use Rattle.mvd_input.specs.Ends.{EndsEarly};
 
-use crate::command::{Command, Line, View, line_of};
-use crate::definitions::{add_index, add_view, text_of};
-use crate::fault::Fault;
-use crate::input::{read_input, write_out};
-use crate::order::MOST_KEYS;
 use crate::play::run;
 use mvd_dots::Refusal;
+use mvd_input::{
+    Command, Fault, Line, MOST_KEYS, View, add_index, add_view, line_of, read_input, text_of,
+    write_out,
+};
 use mvd_rows::Defs;
 use mvd_world::World;
 use std::alloc::Global;

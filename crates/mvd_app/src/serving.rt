@@ -1,13 +1,12 @@
 //! The commands on a stored site that meet a peer.
 ghost use Rattle.std.specs.Prelude.{IfErr};
-ghost use Rattle.mvd_app.specs.Ends.{EndsEarly};
+ghost use Rattle.mvd_input.specs.Ends.{EndsEarly};
 
 use crate::ending::How;
-use crate::fault::Fault;
-use crate::input::write_out;
 use crate::link::Link;
 use crate::progress::Watched;
 use mvd_dots::Refusal;
+use mvd_input::{Fault, Stop, write_out};
 use mvd_keys::Path;
 use mvd_replica::{Ended, Replica, serve};
 use mvd_site::Config;
@@ -18,15 +17,24 @@ use std::fmt::Write as Print;
 use std::io::{Read, Write};
 use std::net::{Net, OpenListener, SocketAddr};
 
-/// The replica of a site that a database holds.
-pub fn replica_in<S: Alter + Drop>(
+/// The replica of a site that the database of a file holds.
+pub fn replica_in<'a, S: Alter + Drop>(
     alloc: Global,
     conn: Connection<S>,
     config: Config,
-) -> Result<Replica<S>, Fault> {
+    file: &'a str,
+) -> Result<Replica<S>, Stop<'a>> {
     match Replica::open(alloc, conn, config) {
         Ok(replica) => Ok(replica),
-        Err((refusal, _)) => Err(Fault::Stopped(refusal)),
+        Err((refusal, mut conn)) => Err(Stop::in_records(file, refusal, owner_in(&mut conn))),
+    }
+}
+
+/// The site that the marks of a database name, where they can be read.
+fn owner_in<S: Alter>(conn: &mut Connection<S>) -> Option<u32> {
+    match conn.query_row("SELECT value FROM meta WHERE name = 'site'", &[]) {
+        Ok(row) => row.get(0).ok(),
+        Err(_) => None,
     }
 }
 
@@ -35,17 +43,30 @@ pub fn replica_in<S: Alter + Drop>(
 ///
 /// A connection that ends in a fault is told, and the next one is served. It is `Stopped` with `ReadFailed` where it cannot listen or
 /// accept, and with `WriteFailed` where a line cannot be written.
-pub fn serve_run<N: Net, S: Alter + Drop, W: Write>(
+pub fn serve_run<'a, N: Net, S: Alter + Drop, W: Write>(
     rt: &N,
     alloc: Global,
     replica: &mut Replica<S>,
     address: SocketAddr,
     conns: Option<u32>,
     writer: &mut W,
-) -> Result<(), Fault> {
-    let Ok(listener) = rt.bind(address) else {
-        return Err(Fault::Stopped(Refusal::ReadFailed));
+) -> Result<(), Stop<'a>> {
+    let listener = match rt.bind(address) {
+        Ok(listener) => listener,
+        Err(error) => return Err(Stop::unheard(address, error)),
     };
+    Ok(listen::<N, S, W>(alloc, &listener, replica, address, conns, writer)?)
+}
+
+/// Serves the connections of a listener.
+fn listen<N: Net, S: Alter + Drop, W: Write>(
+    alloc: Global,
+    listener: &N::Listener,
+    replica: &mut Replica<S>,
+    address: SocketAddr,
+    conns: Option<u32>,
+    writer: &mut W,
+) -> Result<(), Fault> {
     let mut line = String::new(alloc);
     writeln!(line, "listening {address}")?;
     tell(writer, &mut line)?;
@@ -80,18 +101,31 @@ fn met<T: Read + Write + Drop, S: Alter + Drop>(
 
 /// Runs a session with the server at an address, says Bye, and tells how many keys differed, and the root digest. Where `told` is
 /// given, it is told how far the session is.
-pub fn sync_run<N: Net, S: Alter + Drop, W: Write, E: Write>(
+pub fn sync_run<'a, N: Net, S: Alter + Drop, W: Write, E: Write>(
     rt: &N,
     alloc: Global,
     replica: &mut Replica<S>,
     address: SocketAddr,
     told: Option<&mut E>,
     writer: &mut W,
-) -> Result<(), Fault> {
-    let Ok(stream) = rt.connect(address) else {
-        return Err(Fault::Stopped(Refusal::ReadFailed));
+) -> Result<(), Stop<'a>> {
+    let stream = match rt.connect(address) {
+        Ok(stream) => stream,
+        Err(error) => return Err(Stop::unanswered(address, error)),
     };
-    let keys = joined(alloc, stream, replica, told)?;
+    match joined(alloc, stream, replica, told) {
+        Ok(keys) => Ok(tell_joined(alloc, replica, keys, writer)?),
+        Err(fault) => Err(Stop::in_session(address, fault)),
+    }
+}
+
+/// Tells how many keys differed, and the root digest.
+fn tell_joined<S: Alter + Drop, W: Write>(
+    alloc: Global,
+    replica: &Replica<S>,
+    keys: u64,
+    writer: &mut W,
+) -> Result<(), Fault> {
     let mut line = String::new(alloc);
     writeln!(line, "keys {keys}")?;
     print_root(alloc, replica, &mut line)?;
@@ -104,21 +138,18 @@ fn joined<T: Read + Write + Drop, S: Alter + Drop, E: Write>(
     stream: T,
     replica: &mut Replica<S>,
     told: Option<&mut E>,
-) -> Result<u64, Refusal> {
-    let link = Link::new(alloc, stream)?;
-    let remote = Remote::new(alloc, link.incoming(alloc)?, link.outgoing());
+) -> Result<u64, SyncFault> {
+    let link = Link::new(alloc, stream).map_err(SyncFault::Local)?;
+    let incoming = link.incoming(alloc).map_err(SyncFault::Local)?;
+    let remote = Remote::new(alloc, incoming, link.outgoing());
     let mut watched = Watched {
         remote,
         keys: 0,
         told,
     };
-    match sync(alloc, replica, &mut watched) {
-        Ok(report) => {
-            watched.remote.bye()?;
-            Ok(report.keys)
-        }
-        Err(SyncFault::Local(refusal) | SyncFault::Peer(refusal)) => Err(refusal),
-    }
+    let report = sync(alloc, replica, &mut watched)?;
+    watched.remote.bye().map_err(SyncFault::Peer)?;
+    Ok(report.keys)
 }
 
 fn print_root<S: Alter + Drop>(

@@ -1,16 +1,14 @@
 //! Lines that are typed, each answered at once.
 ghost use Rattle.std.specs.Prelude.{◌≤◌, ◌<◌, length, IfErr};
-ghost use Rattle.mvd_app.specs.Ends.{EndsEarly};
+ghost use Rattle.mvd_input.specs.Ends.{EndsEarly};
 
 use crate::asked::Asked;
-use crate::command::{Typed, typed_of};
-use crate::definitions::text_of;
-use crate::fault::Fault;
 use crate::link::Link;
 use crate::serving::tell;
 use crate::talk::answer;
 use mvd_dots::Refusal;
-use mvd_sync::Remote;
+use mvd_input::{Fault, Hint, Stop, Typed, text_of, typed_of};
+use mvd_sync::{Remote, SyncFault};
 use std::alloc::Global;
 use std::fmt::Write as Print;
 use std::io::{BufRead, Read, Write};
@@ -121,19 +119,24 @@ fn add(line: &mut Vec<u8>, piece: &[u8]) -> Result<(), Fault>
 
 /// Answers the lines through the server at an address, and says Bye at their end. Where the connection was lost, each later line is
 /// refused so, and so is the Bye.
-pub fn remote_shell_run<N: Net, R: BufRead, W: Write>(
+pub fn remote_shell_run<'a, N: Net, R: BufRead, W: Write>(
     rt: &N,
     alloc: Global,
     address: SocketAddr,
     reader: &mut R,
     writer: &mut W,
-) -> Result<(), Fault> {
-    let Ok(stream) = rt.connect(address) else {
-        return Err(Fault::Stopped(Refusal::ReadFailed));
+) -> Result<(), Stop<'a>> {
+    let stream = match rt.connect(address) {
+        Ok(stream) => stream,
+        Err(error) => return Err(Stop::unanswered(address, error)),
     };
     let link = Link::new(alloc, stream)?;
     let mut remote = Remote::new(alloc, link.incoming(alloc)?, link.outgoing());
-    shell_run(alloc, &mut remote, reader, writer)?;
-    remote.bye()?;
-    Ok(())
+    if let Err(fault) = shell_run(alloc, &mut remote, reader, writer) {
+        return Err(Stop::in_input(fault, Hint::Script));
+    }
+    match remote.bye() {
+        Ok(()) => Ok(()),
+        Err(refusal) => Err(Stop::in_session(address, SyncFault::Peer(refusal))),
+    }
 }

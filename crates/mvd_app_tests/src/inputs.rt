@@ -1,6 +1,7 @@
 //! Hexadecimal lines, files of definitions, and a connection within one process.
-use mvd_app::{Fault, hex_bytes, loop_run, read_defs};
+use mvd_app::loop_run;
 use mvd_dots::Refusal;
+use mvd_input::{Fault, hex_bytes, read_defs};
 use mvd_rows::Defs;
 use mvd_site::Config;
 use std::alloc::{AllocError, Global};

@@ -1,6 +1,8 @@
-//! Tests of the commands: orders, their inputs, a connection within one process, links, and shells.
+//! Tests of the commands: orders, their inputs, a connection within one process, links, shells, and hints.
 #![tactic(auto)]
 
+#[cfg(test)]
+mod hints;
 #[cfg(test)]
 mod inputs;
 #[cfg(test)]

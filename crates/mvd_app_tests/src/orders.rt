@@ -1,5 +1,5 @@
 //! What command lines ask for.
-use mvd_app::{Order, OrderFault, order_of};
+use mvd_input::{Order, OrderFault, order_of};
 use std::alloc::Global;
 use std::net::{IpAddr, Ipv4Addr};
 use std::test::Fail;

@@ -1,6 +1,7 @@
 //! Lines that are typed, and what they print.
-use mvd_app::{Fault, read_defs, replica_in, shell_run};
+use mvd_app::{replica_in, shell_run};
 use mvd_dots::Refusal;
+use mvd_input::{Fault, read_defs};
 use mvd_replica::Replica;
 use mvd_site::Config;
 use sqlite::{Connection, MemStore};
@@ -13,7 +14,10 @@ fn in_memory(alloc: Global) -> Result<Replica<MemStore>, Fault> {
         return Err(Fault::Stopped(Refusal::Store));
     };
     let defs = read_defs(alloc, b"index city\nview v city n\n")?;
-    replica_in(alloc, conn, Config::new(7, 2, defs))
+    match replica_in(alloc, conn, Config::new(7, 2, defs), "a.db") {
+        Ok(replica) => Ok(replica),
+        Err(stop) => Err(stop.fault),
+    }
 }
 
 fn printed(alloc: Global, lines: &[u8]) -> Result<Vec<u8>, Fault> {

@@ -17,6 +17,10 @@ use std::fmt::Write;
 use std::io;
 use std::process::ExitCode;
 
+const OSLO: &str = "{\"city\":\"Oslo\"}";
+const BERGEN: &str = "{\"city\":\"Bergen\"}";
+const BOTH: &str = "{\"city\":\"Oslo\",\"was\":\"Bergen\"}";
+
 fn main(rt: HostRuntime) -> io::Result<ExitCode> {
     let mut out = String::new(rt.alloc());
     let ended = run(rt.alloc(), &mut out);
@@ -34,34 +38,28 @@ fn main(rt: HostRuntime) -> io::Result<ExitCode> {
 fn run(alloc: Global, out: &mut String) -> Result<(), Refusal> {
     let mut desk = opened(alloc, 1)?;
     let mut phone = opened(alloc, 2)?;
-    put(
-        alloc,
-        &mut desk,
-        "ada",
-        Context::new(alloc),
-        "{\"city\":\"Oslo\"}",
-    )?;
-    put(
-        alloc,
-        &mut phone,
-        "ada",
-        Context::new(alloc),
-        "{\"city\":\"Bergen\"}",
-    )?;
-    meet(alloc, &mut desk, &mut phone, out)?;
+    let ended = write_and_meet(alloc, &mut desk, &mut phone, out);
+    drop(desk);
+    drop(phone);
+    ended
+}
+
+fn write_and_meet<S: Alter>(
+    alloc: Global,
+    desk: &mut Replica<S>,
+    phone: &mut Replica<S>,
+    out: &mut String,
+) -> Result<(), Refusal> {
+    put(alloc, desk, "ada", Context::new(alloc), OSLO)?;
+    put(alloc, phone, "ada", Context::new(alloc), BERGEN)?;
+    meet(alloc, desk, phone, out)?;
 
     // Both documents stand. The context that is read with them says what the next write replaces.
-    let seen = show(alloc, &mut desk, "ada", out)?;
-    put(
-        alloc,
-        &mut desk,
-        "ada",
-        seen,
-        "{\"city\":\"Oslo\",\"was\":\"Bergen\"}",
-    )?;
-    meet(alloc, &mut desk, &mut phone, out)?;
-    show(alloc, &mut phone, "ada", out)?;
-    find(alloc, &mut phone, "city", "\"Oslo\"", out)
+    let seen = show(alloc, desk, "ada", out)?;
+    put(alloc, desk, "ada", seen, BOTH)?;
+    meet(alloc, desk, phone, out)?;
+    show(alloc, phone, "ada", out)?;
+    find(alloc, phone, "city", "\"Oslo\"", out)
 }
 
 /// A replica with an index, in memory. In a file it is that of `Connection::open(rt, "notes.db")`.

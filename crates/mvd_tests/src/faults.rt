@@ -1,6 +1,7 @@
 //! Scripts that end early, readers that fail, and writers that do.
-use mvd_app::{Fault, sim};
+use mvd_app::sim;
 use mvd_dots::Refusal;
+use mvd_input::Fault;
 use std::alloc::Global;
 use std::io;
 use std::io::{Read, Write};

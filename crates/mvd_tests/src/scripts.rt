@@ -1,5 +1,6 @@
 //! Scripts, and what they print.
-use mvd_app::{Fault, sim};
+use mvd_app::sim;
+use mvd_input::Fault;
 use std::alloc::Global;
 use std::test::Fail;
 

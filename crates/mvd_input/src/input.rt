@@ -1,6 +1,6 @@
 //! All of a reader's input, up to a limit, and text to a writer.
 ghost use Rattle.std.specs.Prelude.{◌≤◌, length, IfErr, IfOk};
-ghost use Rattle.mvd_app.specs.Ends.{EndsEarly};
+ghost use Rattle.mvd_input.specs.Ends.{EndsEarly};
 
 use crate::fault::Fault;
 use mvd_dots::Refusal;

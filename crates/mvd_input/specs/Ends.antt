@@ -1,8 +1,8 @@
 -- How a script may end early.
 use Rattle.std.specs.Prelude.{◌≡◌, ◌<◌, ◌⊎◌}
 use Rattle.mvd_dots.specs.declared.refusals.Refusal.TheVariants.{Memory, FrameTooLong, ReadFailed, WriteFailed}
-use Rattle.mvd_app.specs.declared.fault.Fault.{Fault}
-use Rattle.mvd_app.specs.declared.fault.Fault.TheVariants.{Stopped, Line}
+use Rattle.mvd_input.specs.declared.fault.Fault.{Fault}
+use Rattle.mvd_input.specs.declared.fault.Fault.TheVariants.{Stopped, Line}
 
 -- its input is too long, the reader or the writer failed, or memory was refused; else one of its lines, counted from 1, is no command
 abbrev pub EndsEarly : Fault → Type 0

@@ -16,7 +16,7 @@ pub enum Fault {
 
 impl From<Refusal> for Fault {
     ghost use Rattle.std.specs.Prelude.{◌≡◌};
-    ghost use Rattle.mvd_app.specs.declared.fault.Fault.TheVariants.{Stopped};
+    ghost use Rattle.mvd_input.specs.declared.fault.Fault.TheVariants.{Stopped};
 
     ghost from_gives = { λ refusal fault. fault ≡ Stopped refusal };
 
@@ -28,7 +28,7 @@ impl From<Refusal> for Fault {
 impl From<AllocError> for Fault {
     ghost use Rattle.std.specs.Prelude.{◌≡◌};
     ghost use Rattle.mvd_dots.specs.declared.refusals.Refusal.TheVariants.{Memory};
-    ghost use Rattle.mvd_app.specs.declared.fault.Fault.TheVariants.{Stopped};
+    ghost use Rattle.mvd_input.specs.declared.fault.Fault.TheVariants.{Stopped};
 
     ghost from_gives = { λ _ fault. fault ≡ Stopped Memory };
 
@@ -40,7 +40,7 @@ impl From<AllocError> for Fault {
 impl<T: Drop> From<AllocFailed<T>> for Fault {
     ghost use Rattle.std.specs.Prelude.{◌≡◌};
     ghost use Rattle.mvd_dots.specs.declared.refusals.Refusal.TheVariants.{Memory};
-    ghost use Rattle.mvd_app.specs.declared.fault.Fault.TheVariants.{Stopped};
+    ghost use Rattle.mvd_input.specs.declared.fault.Fault.TheVariants.{Stopped};
 
     ghost from_gives = { λ _ fault. fault ≡ Stopped Memory };
 

@@ -2,9 +2,9 @@ use Rattle.std.proofs.Common.{rules, tests, ◌+◌, ◌==◌, ◌∙◌, sym}
 use Rattle.std.proofs.lemmas.Iterator.{YieldsList-from_slice}
 use Rattle.std.proofs.lemmas.Iterator.Search.{position_from_yields_List}
 use Rattle.std.proofs.lemmas.List.{take_rest}
-use Rattle.mvd_app.specs.Hexadecimal.{lines_after}
-use Rattle.mvd_app.proofs.Lines.{cut_at, cut_nowhere}
-use Rattle.mvd_app.proofs.hexadecimal.first_line.Goals as goal
+use Rattle.mvd_input.specs.Hexadecimal.{lines_after}
+use Rattle.mvd_input.proofs.Lines.{cut_at, cut_nowhere}
+use Rattle.mvd_input.proofs.hexadecimal.first_line.Goals as goal
 
 pub returns-in-Some-clause-cut : goal.returns-in-Some-clause-cut
 unfolding lines_after

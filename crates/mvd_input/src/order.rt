@@ -1,6 +1,6 @@
 //! The command line.
 ghost use Rattle.std.specs.Prelude.{◌<◌, ◌≤◌, ◌^◌, IfOk, IfSome};
-ghost use Rattle.mvd_app.specs.Orders.{IsInRange};
+ghost use Rattle.mvd_input.specs.Orders.{IsInRange};
 
 use crate::words::command;
 use clap::error::ErrorKind;

@@ -5,9 +5,9 @@ use Rattle.std.specs.Option.{option_copied}
 use Rattle.std.proofs.lemmas.Bool.{ltb-false}
 use Rattle.std.proofs.lemmas.List.{append-nil, length-append}
 use Rattle.mvd_dots.specs.declared.refusals.Refusal.TheVariants.{Memory, FrameTooLong}
-use Rattle.mvd_app.specs.declared.fault.Fault.{Fault}
-use Rattle.mvd_app.specs.declared.fault.Fault.TheVariants.{Stopped, Line}
-use Rattle.mvd_app.specs.Hexadecimal.{lines_of, onto_first, lines_after, Spell, SpellFew, FailsAt, HasFault, IsNoHexadecimal, SpellsTooMany}
+use Rattle.mvd_input.specs.declared.fault.Fault.{Fault}
+use Rattle.mvd_input.specs.declared.fault.Fault.TheVariants.{Stopped, Line}
+use Rattle.mvd_input.specs.Hexadecimal.{lines_of, onto_first, lines_after, Spell, SpellFew, FailsAt, HasFault, IsNoHexadecimal, SpellsTooMany}
 use Rattle.hex.specs.Hex.{decode_of}
 
 -- where the first line feed stands, or the length

@@ -1,8 +1,8 @@
 //! Files of definitions, by the rules of a script's head.
 ghost use Rattle.std.specs.Prelude.{◌≡◌, ◌<◌, ◌≤◌, length, Err, IfErr, IfOk};
 ghost use Rattle.mvd_dots.specs.declared.refusals.Refusal.TheVariants.{FrameTooLong};
-ghost use Rattle.mvd_app.specs.declared.fault.Fault.TheVariants.{Stopped};
-ghost use Rattle.mvd_app.specs.Ends.{EndsEarly};
+ghost use Rattle.mvd_input.specs.declared.fault.Fault.TheVariants.{Stopped};
+ghost use Rattle.mvd_input.specs.Ends.{EndsEarly};
 
 use crate::command::{Line, View, line_of};
 use crate::fault::Fault;

@@ -1,8 +1,8 @@
 use Rattle.std.proofs.Common.{◌≡◌, ◌≤◌, ◌+◌, ◌++◌, Ok, List, ℕ, Option, Some, None, Bor, length, arith, sym, subst}
 use Rattle.std.specs.Option.{option_copied}
 use Rattle.hex.specs.Hex.{decode_of}
-use Rattle.mvd_app.proofs.Lines.{Reading, starts, reads_on, told, is_read}
-use Rattle.mvd_app.proofs.hexadecimal.hex_bytes.Goals as goal
+use Rattle.mvd_input.proofs.Lines.{Reading, starts, reads_on, told, is_read}
+use Rattle.mvd_input.proofs.hexadecimal.hex_bytes.Goals as goal
 
 pub loop-rest-init : goal.loop-rest-init
 loop-rest-init c = rw c.new-bytes.ensures.items (starts c.args.text.now)

@@ -3,8 +3,8 @@ use Rattle.std.specs.Prelude.{ℕ, List, [], ◌∷◌, ◌++◌, ◌≡◌, ◌
 use Rattle.hex.specs.Hex.{decode_of}
 use Rattle.hex.specs.declared.error.FromHexError.{FromHexError}
 use Rattle.mvd_dots.specs.declared.refusals.Refusal.TheVariants.{Memory, FrameTooLong}
-use Rattle.mvd_app.specs.declared.fault.Fault.{Fault}
-use Rattle.mvd_app.specs.declared.fault.Fault.TheVariants.{Stopped, Line}
+use Rattle.mvd_input.specs.declared.fault.Fault.{Fault}
+use Rattle.mvd_input.specs.declared.fault.Fault.TheVariants.{Stopped, Line}
 
 -- a byte, and the lines behind it in the first of which it stands
 unfoldable pub onto_first : ℕ → List (List ℕ) → List (List ℕ)

@@ -5,6 +5,13 @@ use std::alloc::{AllocError, Global};
 /// What `--version` tells behind the program's name.
 const VERSION: &str = "0.1.0, format version 2";
 
+/// What stands at the end of the help.
+const FIRST: &str = "\
+Example: echo 'put k - {\"a\":1}' | mvd shell --db a.db --site 1
+
+Where a command is stopped, standard error says `mvd: fault N Name`, and on the next line where that came and what to do about it.
+docs/USING.md lists the faults.";
+
 const SIM: &str =
     "Runs a script over several sites. The script is read from standard input, and what its commands say is printed.";
 
@@ -32,6 +39,7 @@ pub fn command<'a>(alloc: Global) -> Result<Command<'a>, AllocError> {
         .after_help("Example: mvd sim < examples/siblings.mvd");
     Command::new(alloc, "mvd")
         .about("A multi-value JSON document map with causal contexts.")
+        .after_help(FIRST)
         .version(VERSION)
         .subcommand_required(true)
         .arg_required_else_help(true)
@@ -61,7 +69,7 @@ fn serve_command<'a>(alloc: Global) -> Result<Command<'a>, AllocError> {
         );
     let command = Command::new(alloc, "serve")
         .about(SERVE)
-        .after_help("Example: mvd serve --db a.db --site 1 --port 7001");
+        .after_help("Example: mvd serve --db a.db --site 1 --port 7007");
     stored(alloc, command)?
         .arg(port(alloc, "The port to listen at, 1 to 65535."))?
         .arg(conns)
@@ -95,7 +103,7 @@ fn instead_of_port<'a>(option: Arg<'a>) -> Result<Arg<'a>, AllocError> {
 fn sync_command<'a>(alloc: Global) -> Result<Command<'a>, AllocError> {
     let command = Command::new(alloc, "sync")
         .about(SYNC)
-        .after_help("Example: mvd sync --db b.db --site 2 --port 7001");
+        .after_help("Example: mvd sync --db b.db --site 2 --port 7007");
     let verbose = Arg::new(alloc, "verbose")
         .long("verbose")
         .action(ArgAction::SetTrue)

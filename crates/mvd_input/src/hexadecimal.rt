@@ -4,9 +4,9 @@ ghost use Rattle.std.specs.Option.{option_copied};
 ghost use Rattle.hex.specs.Hex.{decode_of};
 ghost use Rattle.mvd_dots.specs.declared.refusals.Refusal.TheVariants.{Memory};
 ghost use Rattle.mvd_dots.specs.declared.refusals.Refusal.TheVariants as refusals;
-ghost use Rattle.mvd_app.specs.declared.fault.Fault.TheVariants.{Stopped};
-ghost use Rattle.mvd_app.specs.declared.fault.Fault.TheVariants as faults;
-ghost use Rattle.mvd_app.specs.Hexadecimal.{AreJoined, HasFault, IsNoHexadecimal, SpellsTooMany, lines_after, lines_of};
+ghost use Rattle.mvd_input.specs.declared.fault.Fault.TheVariants.{Stopped};
+ghost use Rattle.mvd_input.specs.declared.fault.Fault.TheVariants as faults;
+ghost use Rattle.mvd_input.specs.Hexadecimal.{AreJoined, HasFault, IsNoHexadecimal, SpellsTooMany, lines_after, lines_of};
 
 use crate::fault::Fault;
 use hex::FromHexError;

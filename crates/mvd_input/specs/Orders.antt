@@ -2,8 +2,8 @@
 use Rattle.std.specs.Prelude.{ℕ, Option, ◌≤◌, ⊤}
 use Rattle.std.specs.Option.{ForSome}
 use Rattle.mvd_site.specs.Config.{IsConfig}
-use Rattle.mvd_app.specs.declared.order.Order.{Order}
-use Rattle.mvd_app.specs.declared.order.Order.TheVariants.{Sim, Loop, Serve, Shell, RemoteShell, Sync}
+use Rattle.mvd_input.specs.declared.order.Order.{Order}
+use Rattle.mvd_input.specs.declared.order.Order.TheVariants.{Sim, Loop, Serve, Shell, RemoteShell, Sync}
 
 -- a port is 1..=65,535, and 1..=1,000 connections are served where they are counted
 abbrev pub IsPort : ℕ → Type 0

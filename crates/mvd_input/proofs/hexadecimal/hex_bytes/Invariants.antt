@@ -1,6 +1,6 @@
 use Rattle.std.specs.Option.{option_copied}
-use Rattle.mvd_app.proofs.Lines.{Reading, left}
-use Rattle.mvd_app.proofs.hexadecimal.hex_bytes.Given as goal
+use Rattle.mvd_input.proofs.Lines.{Reading, left}
+use Rattle.mvd_input.proofs.hexadecimal.hex_bytes.Given as goal
 
 abbrev pub invariant-loop-rest : goal.invariant-loop-rest
 invariant-loop-rest l = Reading l.text (option_copied l.rest) l.number l.bytes.items

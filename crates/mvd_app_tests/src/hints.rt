@@ -1,0 +1,80 @@
+//! What is told of a fault.
+ghost use Rattle.std.specs.Prelude.{◌<◌};
+
+use mvd_app::replica_in;
+use mvd_dots::Refusal;
+use mvd_input::{Fault, Hint, Stop};
+use mvd_replica::Replica;
+use mvd_rows::Defs;
+use mvd_site::Config;
+use sqlite::{Connection, MemStore};
+use std::alloc::{AllocError, Global};
+use std::io::{self, ErrorKind};
+use std::net::{IpAddr, Ipv4Addr, SocketAddr};
+use std::test::Fail;
+
+/// Whether this is told of why a command was stopped.
+fn tells(alloc: Global, stop: &Stop<'_>, wanted: &str) -> Result<bool, AllocError> {
+    let told = format!(in alloc; "{stop}")?;
+    Ok(told.as_str() == wanted)
+}
+
+// These have no clause, so that the proof of a test does not carry the state of each call.
+fn opened(
+    alloc: Global,
+    conn: Connection<MemStore>,
+    site: u32,
+) -> Result<Replica<MemStore>, Stop<'static>>
+    requires { 0 < site }
+{
+    let config = Config::new(site, 10, Defs::new(alloc));
+    replica_in(alloc, conn, config, "a.db")
+}
+
+/// What is told where the file of site 7 is opened as that of another.
+fn told_to(alloc: Global, site: u32, wanted: &str) -> Result<bool, Fail>
+    requires { 0 < site }
+{
+    let conn = Connection::open_in_memory(alloc)?;
+    let Ok(replica) = opened(alloc, conn, 7) else {
+        return Ok(false);
+    };
+    match opened(alloc, replica.into_connection(), site) {
+        Ok(_) => Ok(false),
+        Err(stop) => Ok(tells(alloc, &stop, wanted)?),
+    }
+}
+
+#[test]
+fn whose_a_file_is_is_told(rt: HostRuntime) -> Result<(), Fail> {
+    let wanted =
+        "mvd: fault 16 SiteMismatch\nmvd: a.db is the file of site 7: name that site by --site, or another file";
+    assert!(rt; told_to(rt.alloc(), 8, wanted)?);
+    Ok(())
+}
+
+#[test]
+fn a_port_in_use_is_told(rt: HostRuntime) -> Result<(), Fail> {
+    let address = SocketAddr::new(IpAddr::V4(Ipv4Addr::LOCALHOST), 7007);
+    let stop = Stop::unheard(address, io::Error::from(ErrorKind::AddrInUse));
+    let wanted =
+        "mvd: fault 34 ReadFailed\nmvd: 127.0.0.1:7007 is in use: end the program that listens there, or name another --port";
+    assert!(rt; tells(rt.alloc(), &stop, wanted)?);
+    Ok(())
+}
+
+#[test]
+fn a_line_is_told_with_its_form(rt: HostRuntime) -> Result<(), Fail> {
+    let stop = Stop::in_input(Fault::Line(3), Hint::Hexadecimal);
+    let wanted =
+        "mvd: line 3: not a command\nmvd: standard input: a line has two hexadecimal digits for each byte";
+    assert!(rt; tells(rt.alloc(), &stop, wanted)?);
+    assert!(rt;
+        tells(
+            rt.alloc(),
+            &Stop::from(Refusal::Memory),
+            "mvd: fault 20 Memory"
+        )?
+    );
+    Ok(())
+}

@@ -1,0 +1,195 @@
+//! A fault, and what there is to do about it.
+ghost use Rattle.std.specs.Prelude.{◌≡◌, Some};
+ghost use Rattle.mvd_dots.specs.declared.refusals.Refusal.TheVariants.{ReadFailed, SiteMismatch, Store};
+ghost use Rattle.mvd_input.specs.declared.fault.Fault.TheVariants.{Stopped};
+ghost use Rattle.mvd_input.specs.Stops.{refusal_of};
+
+use crate::fault::Fault;
+use mvd_dots::Refusal;
+use mvd_sync::SyncFault;
+use sqlite::ErrorCode;
+use std::fmt;
+use std::io::{self, ErrorKind};
+use std::net::SocketAddr;
+use thiserror::Error;
+
+/// Where a fault came, and what to do about it. A file is named as the command line names it.
+#[derive(Debug, Clone, Copy, Error)]
+pub enum Hint<'a> {
+    #[error("standard input cannot be read")]
+    NoInput,
+    #[error("standard input: docs/FORMATS.md lists the lines of a script, of which `sites N` is the first")]
+    Script,
+    #[error("standard input: a line has two hexadecimal digits for each byte")]
+    Hexadecimal,
+    #[error("an input is too long: docs/BEHAVIOUR.md tells how long each may be")]
+    TooLong,
+    #[error("{0} cannot be read: --defs names a file of lines `index F` and `view V G S`")]
+    NoDefs(&'a str),
+    #[error("{0}: a line is `index F` or `view V G S`, each but once, and at most 16 of either")]
+    BadDefs(&'a str),
+    #[error("{0} is in use: end the program that has it open, or ask that one through its port")]
+    InUse(&'a str),
+    #[error("{0} is no database of mvd, or damaged: name another file, or a copy of this one")]
+    NoDatabase(&'a str),
+    #[error("{0}: {1}; see to its folder, its rights and the disk")]
+    Unusable(&'a str, sqlite::Error),
+    #[error("{0} is the file of site {1}: name that site by --site, or another file")]
+    OtherSite(&'a str, u32),
+    #[error("{0} is damaged, or of a later version of mvd: name another file, or a copy of this one")]
+    Damaged(&'a str),
+    #[error("the file has no room for so many keys: raise --max-keys, up to 1000000")]
+    Full,
+    #[error("{0} is in use: end the program that listens there, or name another --port")]
+    PortInUse(SocketAddr),
+    #[error("{0}: {1}; --address names an address of this machine")]
+    NoListener(SocketAddr, io::Error),
+    #[error("{0}: {1}; start `mvd serve` there, or name another --address and --port")]
+    NoServer(SocketAddr, io::Error),
+    #[error("the connection with {0} broke: what was done before stays, so run this again")]
+    Broken(SocketAddr),
+    #[error("the server at {0} refused it: what was done before stays")]
+    Refused(SocketAddr),
+    #[error("two files wrote under one site's number: docs/USING.md tells what not to do with a copy")]
+    Clash,
+}
+
+/// Why a command was stopped, and what there is to do about it where something is known.
+#[derive(Debug, Drop)]
+pub struct Stop<'a> {
+    pub fault: Fault,
+    pub hint: Option<Hint<'a>>,
+}
+
+/// The fault, and the hint on a line of its own.
+impl fmt::Display for Stop<'_> {
+    fn fmt<W: fmt::Write>(&self, f: &mut fmt::Formatter<W>) -> fmt::Result {
+        let fault = &self.fault;
+        match &self.hint {
+            Some(hint) => write!(f, "mvd: {fault}\nmvd: {hint}"),
+            None => write!(f, "mvd: {fault}"),
+        }
+    }
+}
+
+impl From<Fault> for Stop<'_> {
+    ghost use Rattle.std.specs.Prelude.{◌≡◌, None};
+
+    ghost from_gives = { λ fault stop. stop ≡ record { fault = fault; hint = None } };
+
+    fn from(fault: Fault) -> Self {
+        Stop { fault, hint: None }
+    }
+}
+
+impl From<Refusal> for Stop<'_> {
+    ghost use Rattle.std.specs.Prelude.{◌≡◌, None};
+    ghost use Rattle.mvd_input.specs.declared.fault.Fault.TheVariants.{Stopped};
+
+    ghost from_gives = { λ refusal stop. stop ≡ record { fault = Stopped refusal; hint = None } };
+
+    fn from(refusal: Refusal) -> Self {
+        Stop::from(Fault::Stopped(refusal))
+    }
+}
+
+impl<'a> Stop<'a> {
+    fn new(refusal: Refusal, hint: Hint<'a>) -> Stop<'a>
+        ensures fault { result.fault ≡ Stopped refusal }
+        ensures hint { result.hint ≡ Some hint.entry }
+    {
+        Stop {
+            fault: Fault::Stopped(refusal),
+            hint: Some(hint),
+        }
+    }
+
+    /// The lines of standard input are at fault, which should be of this form.
+    pub fn in_input(fault: Fault, form: Hint<'a>) -> Stop<'a>
+        ensures { result.fault ≡ fault }
+    {
+        let hint = match fault {
+            Fault::Line(_) => Some(form),
+            Fault::Stopped(Refusal::ReadFailed) => Some(Hint::NoInput),
+            Fault::Stopped(Refusal::FrameTooLong) => Some(Hint::TooLong),
+            Fault::Stopped(_) => None,
+        };
+        Stop { fault, hint }
+    }
+
+    /// A file of definitions is at fault.
+    pub fn in_defs(file: &'a str, fault: Fault) -> Stop<'a>
+        ensures { result.fault ≡ fault }
+    {
+        let hint = match fault {
+            Fault::Line(_) => Some(Hint::BadDefs(file)),
+            Fault::Stopped(Refusal::ReadFailed) => Some(Hint::NoDefs(file)),
+            Fault::Stopped(Refusal::FrameTooLong) => Some(Hint::TooLong),
+            Fault::Stopped(_) => None,
+        };
+        Stop { fault, hint }
+    }
+
+    /// A file cannot be opened as a database, or not be closed.
+    pub fn in_file(file: &'a str, error: sqlite::Error) -> Stop<'a>
+        ensures { result.fault ≡ Stopped Store }
+    {
+        let hint = match error {
+            sqlite::Error::SqliteFailure(ErrorCode::DatabaseBusy) => Hint::InUse(file),
+            sqlite::Error::SqliteFailure(ErrorCode::NotADatabase | ErrorCode::DatabaseCorrupt) => {
+                Hint::NoDatabase(file)
+            }
+            error => Hint::Unusable(file, error),
+        };
+        Stop::new(Refusal::Store, hint)
+    }
+
+    /// The records of a file are refused. Their marks name this site, where they can be read.
+    pub fn in_records(file: &'a str, refusal: Refusal, owner: Option<u32>) -> Stop<'a>
+        ensures fault { result.fault ≡ Stopped refusal }
+        ensures owner { (site : _) → refusal ≡ SiteMismatch → owner ≡ Some site → result.hint ≡ Some (Hint.OtherSite file.entry site) }
+    {
+        match (refusal, owner) {
+            (Refusal::SiteMismatch, Some(site)) => Stop::new(refusal, Hint::OtherSite(file, site)),
+            (Refusal::Damaged, _) => Stop::new(refusal, Hint::Damaged(file)),
+            (Refusal::Full, _) => Stop::new(refusal, Hint::Full),
+            (Refusal::Store, _) => Stop::new(refusal, Hint::NoDatabase(file)),
+            _ => Stop::from(refusal),
+        }
+    }
+
+    /// Nothing can listen at an address.
+    pub fn unheard(address: SocketAddr, error: io::Error) -> Stop<'a>
+        ensures { result.fault ≡ Stopped ReadFailed }
+    {
+        let hint = match error.kind() {
+            ErrorKind::AddrInUse => Hint::PortInUse(address),
+            _ => Hint::NoListener(address, error),
+        };
+        Stop::new(Refusal::ReadFailed, hint)
+    }
+
+    /// No server answers at an address.
+    pub fn unanswered(address: SocketAddr, error: io::Error) -> Stop<'a>
+        ensures { result.fault ≡ Stopped ReadFailed }
+    {
+        Stop::new(Refusal::ReadFailed, Hint::NoServer(address, error))
+    }
+
+    /// A session with the server at an address ends early.
+    pub fn in_session(address: SocketAddr, fault: SyncFault) -> Stop<'a>
+        ensures { result.fault ≡ Stopped (refusal_of fault) }
+    {
+        match fault {
+            SyncFault::Local(Refusal::DotClash) | SyncFault::Peer(Refusal::DotClash) => {
+                Stop::new(Refusal::DotClash, Hint::Clash)
+            }
+            SyncFault::Local(Refusal::Full) => Stop::new(Refusal::Full, Hint::Full),
+            SyncFault::Local(refusal) => Stop::from(refusal),
+            SyncFault::Peer(refusal) if refusal.number() < 30 => {
+                Stop::new(refusal, Hint::Refused(address))
+            }
+            SyncFault::Peer(refusal) => Stop::new(refusal, Hint::Broken(address)),
+        }
+    }
+}

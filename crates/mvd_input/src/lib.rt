@@ -1,0 +1,20 @@
+//! What comes in from outside, as it is written: the command line, the lines of a script, files of definitions, and lines of
+//! hexadecimal digits, each within its limit; and what is told where something is at fault.
+#![tactic(auto)]
+
+mod command;
+mod definitions;
+mod fault;
+mod hexadecimal;
+mod hint;
+mod input;
+mod order;
+mod words;
+
+pub use command::{Ask, Command, Line, Typed, View, line_of, typed_of};
+pub use definitions::{DEFS_MAX, add_index, add_view, read_defs, text_of};
+pub use fault::Fault;
+pub use hexadecimal::{BYTES_MAX, HEX_MAX, hex_bytes};
+pub use hint::{Hint, Stop};
+pub use input::{read_input, write_out};
+pub use order::{MOST_KEYS, Order, OrderFault, order_of};

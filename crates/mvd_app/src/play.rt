@@ -4,7 +4,7 @@ ghost use Rattle.std.specs.Prelude.{◌≡◌, IfErr};
 use crate::asked::Member;
 use crate::command::Command;
 use crate::printing::{print_none_such, print_outcome};
-use crate::talk::{say, settle};
+use crate::talk::{LINE, say, settle};
 use mvd_dots::Refusal;
 use mvd_keys::Key;
 use mvd_world::{Step, World};
@@ -25,6 +25,8 @@ pub fn run(
         print_none_such(out)?;
         return Ok(());
     }
+    // Nothing is done for which there is no room to tell it.
+    out.reserve(LINE)?;
     let start = out.len();
     let said = play(alloc, world, site, command, out);
     settle(said, start, out)

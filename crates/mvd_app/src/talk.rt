@@ -10,6 +10,9 @@ use mvd_dots::Refusal;
 use mvd_wire::{Reply, Request};
 use std::alloc::Global;
 
+/// As long as the longest line that tells of a write, a message, a session or a refusal.
+pub const LINE: usize = 64;
+
 /// Asks, and prints what is answered, of a list page after page, or only how it is refused.
 pub fn answer<A: Asked>(
     alloc: Global,
@@ -19,6 +22,8 @@ pub fn answer<A: Asked>(
 ) -> Result<(), Refusal>
     ensures { IfErr result (λ refusal. refusal ≡ Refusal.Memory) }
 {
+    // Nothing is done for which there is no room to tell it.
+    out.reserve(LINE)?;
     let start = out.len();
     let said = say(alloc, asked, ask, out);
     settle(said, start, out)

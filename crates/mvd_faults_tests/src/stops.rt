@@ -95,7 +95,10 @@ const PUTS: [&str; 6] = [
 ];
 
 /// Puts at keys of the side whose files stop, and of the other.
-const MINE: [&str; 2] = [PUTS[0], PUTS[1]];
+const MINE: [&str; 2] = [
+    "0000001222016b00000000000000077b2261223a317d",
+    "0000001222016100000000000000077b2261223a327d",
+];
 
 const THEIRS: [&str; 2] = [
     "0000001222016b00000000000000077b2261223a337d",

@@ -71,7 +71,10 @@ impl Bytes {
 
     pub fn add(&mut self, digits: &str) {
         let start = self.len.min(ROOM);
-        for (byte, pair) in self.room[start..].iter_mut().zip(digits.as_bytes().chunks(2)) {
+        for (byte, pair) in self.room[start..]
+            .iter_mut()
+            .zip(digits.as_bytes().chunks(2))
+        {
             if let [high, low] = pair {
                 *byte = digit(*high).wrapping_mul(16).wrapping_add(digit(*low));
             }

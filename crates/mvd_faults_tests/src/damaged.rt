@@ -217,8 +217,10 @@ fn is_zeroed_refused(alloc: Global, bytes: &[u8], page: usize) -> Result<bool, R
 fn is_cut_refused(alloc: Global, bytes: &[u8], page: usize) -> Result<bool, Refusal> {
     let cut = page.saturating_mul(PAGE).min(bytes.len());
     let later = cut.saturating_add(1_000).min(bytes.len());
-    Ok((cut == 0 || root_in(alloc, &bytes[..cut])?.is_none())
-        && root_in(alloc, &bytes[..later])?.is_none())
+    Ok(
+        (cut == 0 || root_in(alloc, &bytes[..cut])?.is_none())
+            && root_in(alloc, &bytes[..later])?.is_none(),
+    )
 }
 
 #[test]
@@ -228,8 +230,14 @@ fn a_file_that_is_cut_or_has_zeros_is_refused(rt: HostRuntime) -> Result<(), Fai
     assert!(rt; root_in(alloc, bytes.as_slice())? == Some(root));
     let pages = bytes.len() / PAGE;
     for page in 0..pages {
-        assert!(rt; is_zeroed_refused(alloc, bytes.as_slice(), page)?, "zeros in {page}");
-        assert!(rt; is_cut_refused(alloc, bytes.as_slice(), page)?, "cut at {page}");
+        assert!(rt;
+            is_zeroed_refused(alloc, bytes.as_slice(), page)?,
+            "zeros in {page}"
+        );
+        assert!(rt;
+            is_cut_refused(alloc, bytes.as_slice(), page)?,
+            "cut at {page}"
+        );
     }
     println!(rt; "{pages} pages")?;
     Ok(())
@@ -250,7 +258,10 @@ fn is_filled_refused(alloc: Global, byte: u8, len: usize) -> Result<bool, Refusa
 fn a_file_that_is_no_database_is_refused(rt: HostRuntime) -> Result<(), Fail> {
     for byte in [0, b'S', b'x', 0xFF] {
         for len in [2, 100, 512, 4_096, 8_192, 10_000] {
-            assert!(rt; is_filled_refused(rt.alloc(), byte, len)?, "{len} times {byte}");
+            assert!(rt;
+                is_filled_refused(rt.alloc(), byte, len)?,
+                "{len} times {byte}"
+            );
         }
     }
     Ok(())

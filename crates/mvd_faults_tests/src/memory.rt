@@ -56,11 +56,7 @@ fn new_site(alloc: Global, number: u32) -> Result<Site, Refusal> {
 }
 
 /// Whether a site answers as it should, or from some request on that it is broken.
-fn answers_all(
-    alloc: Global,
-    site: &mut Site,
-    asked: &[(&str, &str)],
-) -> Result<bool, Refusal> {
+fn answers_all(alloc: Global, site: &mut Site, asked: &[(&str, &str)]) -> Result<bool, Refusal> {
     let mut should = Told::Wanted;
     for (request, wanted) in asked {
         let told = ask_site_again(alloc, site, request, wanted)?;

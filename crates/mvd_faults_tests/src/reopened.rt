@@ -1,7 +1,5 @@
 //! Records that are opened again, by the same site and by another.
-use super::calls::{
-    GET, PUT, STATE, WRITTEN, conn_of, gives, new_replica, opened, or_refusal,
-};
+use super::calls::{GET, PUT, STATE, WRITTEN, conn_of, gives, new_replica, opened, or_refusal};
 use mvd_dots::Refusal;
 use mvd_replica::Replica;
 use sqlite::{Connection, MemStore};
@@ -39,7 +37,13 @@ fn with_two(alloc: Global) -> Result<(Replica<MemStore>, bool), Refusal> {
     let mut replica = new_replica(alloc, 1)?;
     let is_put = gives(alloc, &mut replica, &[PUT], &[WRITTEN], "end");
     let mut replica = or_refusal(opened(alloc, conn_of(replica), 1, 1))?;
-    let is_full = gives(alloc, &mut replica, &[GET, OTHER], &[STATE, "00000002ee0a"], "end");
+    let is_full = gives(
+        alloc,
+        &mut replica,
+        &[GET, OTHER],
+        &[STATE, "00000002ee0a"],
+        "end",
+    );
     let mut replica = or_refusal(opened(alloc, conn_of(replica), 1, 2))?;
     let has_room = gives(alloc, &mut replica, &[OTHER], &[WRITTEN], "end");
     Ok((replica, is_put && is_full && has_room))

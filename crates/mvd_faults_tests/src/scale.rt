@@ -51,7 +51,10 @@ fn siblings(alloc: Global, count: u32) -> Vec<u8> {
 /// The context of so many loose counters of site 2, and a document behind it.
 fn loose(alloc: Global, counters: u32) -> Vec<u8> {
     let mut bytes = Vec::new(alloc);
-    push(&mut bytes, &[0, 0, 0, 1, 0, 0, 0, 2, 0, 0, 0, 0, 0, 0, 0, 0]);
+    push(
+        &mut bytes,
+        &[0, 0, 0, 1, 0, 0, 0, 2, 0, 0, 0, 0, 0, 0, 0, 0],
+    );
     push(&mut bytes, &counters.to_be_bytes());
     for number in 1..=u64::from(counters) {
         push(&mut bytes, &number.saturating_mul(2).to_be_bytes());
@@ -75,11 +78,7 @@ fn said(alloc: Global, replica: &mut Replica<MemStore>, kind: u8, rest: &[u8]) -
 type Step<'a> = (&'static str, u8, &'a [u8], (u8, usize));
 
 /// Fails where the site does not say so to each; and tells how long it took.
-fn take(
-    rt: HostRuntime,
-    replica: &mut Replica<MemStore>,
-    steps: &[Step<'_>],
-) -> Result<(), Fail> {
+fn take(rt: HostRuntime, replica: &mut Replica<MemStore>, steps: &[Step<'_>]) -> Result<(), Fail> {
     for (name, kind, rest, wanted) in steps {
         let start = Instant::now(&rt)?;
         let reply = said(rt.alloc(), replica, *kind, rest);

@@ -1,7 +1,7 @@
 //! Readers and writers that fail in the middle, and such as give and take a byte a call.
 use super::calls::{
-    BAD_CONTEXT, BYE, Bytes, CLASH, CLASHES, DONE, EMPTY, GET, PUT, ROOM, STATE, Told, WIDE, WRITTEN,
-    asks, new_replica, served_on,
+    BAD_CONTEXT, BYE, Bytes, CLASH, CLASHES, DONE, EMPTY, GET, PUT, ROOM, STATE, Told, WIDE,
+    WRITTEN, asks, new_replica, served_on,
 };
 use mvd_dots::Refusal;
 use mvd_replica::Replica;

@@ -26,7 +26,7 @@ enum Lie {
     MoreWithoutKey,
     /// Pages of one key that never end.
     OneKeyForEver,
-    /// A page of one key, and its question of this number is refused.
+    /// Two pages in each of a few buckets, and its question of this number is refused.
     RefusesAt(u64),
 }
 
@@ -57,6 +57,19 @@ impl Liar {
     /// What it tells at a question, which is never the digest of what holds no key.
     fn digest(&self) -> [u8; 32] {
         [(self.questions % 255 + 1) as u8; 32]
+    }
+
+    /// The digests of a node's children: four tell that they hold a key, where a question may be refused, and else all.
+    fn children(&self) -> [[u8; 32]; 16] {
+        let mut children = [self.digest(); 16];
+        if matches!(self.lie, Lie::RefusesAt(_)) {
+            for (digit, child) in children.iter_mut().enumerate() {
+                if digit % 4 > 0 {
+                    *child = [0; 32];
+                }
+            }
+        }
+        children
     }
 
     /// A page of these keys.
@@ -105,7 +118,7 @@ impl Peer for Liar {
         }
         Ok(Digests {
             own,
-            children: Some([own; 16]),
+            children: Some(self.children()),
         })
     }
 
@@ -120,8 +133,12 @@ impl Peer for Liar {
             Lie::NoChildren | Lie::NoKeys => self.page(&[], false),
             Lie::Falling => self.page(&["b", "a"], false),
             Lie::MoreWithoutKey => self.page(&[], true),
-            Lie::OneKey | Lie::RefusesAt(_) => self.page(&["k"], false),
+            Lie::OneKey => self.page(&["k"], false),
             Lie::SamePage => self.page(&["k"], true),
+            Lie::RefusesAt(_) => match after {
+                None => self.page(&["k"], true),
+                Some(_) => self.page(&["l"], false),
+            },
             Lie::OneKeyForEver => match after {
                 None => self.page(&["k"], true),
                 Some(key) => {
@@ -191,13 +208,29 @@ fn digests_alone_change_nothing(rt: HostRuntime) -> Result<(), Fail> {
     Ok(())
 }
 
+/// What a session comes to where none of its questions is refused.
+const WHOLE: Report = Report { keys: 128 };
+
+/// How many questions of a session may be refused: each ends it as that side's refusal, and past the last one it ends well.
+fn refusals(alloc: Global) -> Result<u64, Refusal> {
+    for n in 0..1_000u64 {
+        let ended = with_liar(alloc, Lie::RefusesAt(n.saturating_add(1)))?;
+        if ended.0 == Ok(WHOLE) && ended.1 == Ok(WHOLE) {
+            return Ok(n);
+        }
+        if ended.0 != Err(SyncFault::Peer(Refusal::Store))
+            || ended.1 != Err(SyncFault::Local(Refusal::Store))
+        {
+            return Err(Refusal::Damaged);
+        }
+    }
+    Err(Refusal::TooManyRequests)
+}
+
 #[test]
 fn each_question_may_be_refused(rt: HostRuntime) -> Result<(), Fail> {
-    for n in 1..300u64 {
-        let ended = with_liar(rt.alloc(), Lie::RefusesAt(n))?;
-        assert_eq!(rt; ended.0, Err(SyncFault::Peer(Refusal::Store)));
-        assert_eq!(rt; ended.1, Err(SyncFault::Local(Refusal::Store)));
-    }
+    // Of 21 nodes, and in 64 buckets of two pages with a state that is given and one that is pushed for each.
+    assert_eq!(rt; refusals(rt.alloc())?, 405);
     Ok(())
 }
 

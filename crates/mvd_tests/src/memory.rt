@@ -1,6 +1,7 @@
 //! A script of which one growth is refused, whichever it is: tools/faults.sh refuses each in turn. With none refused it prints as ever.
-use mvd_app::{Fault, sim};
+use mvd_app::sim;
 use mvd_dots::Refusal;
+use mvd_input::Fault;
 use std::alloc::{AllocError, Global};
 use std::test::Fail;
 

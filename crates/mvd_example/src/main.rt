@@ -18,7 +18,9 @@ use std::io;
 use std::process::ExitCode;
 
 const OSLO: &str = "{\"city\":\"Oslo\"}";
+
 const BERGEN: &str = "{\"city\":\"Bergen\"}";
+
 const BOTH: &str = "{\"city\":\"Oslo\",\"was\":\"Bergen\"}";
 
 fn main(rt: HostRuntime) -> io::Result<ExitCode> {

@@ -71,9 +71,11 @@ sweep() { # CRATE TEST
 if [ $# = 2 ]; then
     sweep "$1" "$2"
 else
-    for test in a_site_is_asked_again a_replica_is_asked_again a_fresh_replica_is_opened_again an_old_replica_is_opened_again; do
+    for test in a_site_is_asked_again a_replica_is_asked_again a_connection_tells_what_is_there a_fresh_replica_is_opened_again \
+        an_old_replica_is_opened_again; do
         sweep mvd_faults_tests memory::$test
     done
     sweep mvd_faults_tests worlds::a_world_is_asked_again
+    sweep mvd_tests memory::a_script_tells_what_it_did
     sweep mvd_sync_tests faults::a_refused_allocation_leaves_old_states_or_joins
 fi

@@ -1,86 +1,104 @@
 //! Bytes that are no request, or those of another.
-use super::calls::{CLASH, GET, PUT, WIDE, bytes_of, first, gives, replies, served_on};
-use super::frames::{count, is_state};
+use super::calls::{Bytes, CLASH, GET, PUT, ROOM, WIDE, new_replica, replies, served_on};
 use mvd_dots::Refusal;
 use mvd_replica::Replica;
+use mvd_wire::{Frame, decode_reply, read_frame};
 use sqlite::MemStore;
 use std::alloc::Global;
 use std::io;
 use std::io::{Read, Write};
 use std::test::Fail;
 
-/// Whether a connection with these bytes has replies that decode, and the next one tells a state.
-fn is_answered(
+/// A refusal where a frame is no reply.
+fn decode(alloc: Global, frame: &Frame) -> Result<(), Refusal> {
+    let reply = decode_reply(alloc, frame.kind, &frame.payload)?;
+    drop(reply);
+    Ok(())
+}
+
+/// Whether there is one more reply. A refusal where it does not decode.
+fn is_next(alloc: Global, output: &mut &[u8]) -> Result<bool, Refusal> {
+    match read_frame(alloc, output)? {
+        Some(frame) => {
+            let decoded = decode(alloc, &frame);
+            drop(frame);
+            decoded?;
+            Ok(true)
+        }
+        None => Ok(false),
+    }
+}
+
+/// How many replies there are. A refusal where one does not decode.
+fn count(alloc: Global, mut output: &[u8]) -> Result<usize, Refusal> {
+    for replies in 0..usize::MAX {
+        if !is_next(alloc, &mut output)? {
+            return Ok(replies);
+        }
+    }
+    Ok(usize::MAX)
+}
+
+/// Whether a connection with a question for the state of `k` gives a state and nothing else.
+fn tells_state(alloc: Global, replica: &mut Replica<MemStore>) -> bool {
+    let (output, ended) = replies(alloc, replica, Bytes::of(&[GET]).bytes());
+    let is_state = matches!(output.as_slice(), [_, _, _, _, 0xA1, ..]);
+    let counted = count(alloc, output.as_slice());
+    drop(output);
+    is_state && counted == Ok(1) && ended == "end"
+}
+
+/// How many replies a connection with these bytes has, and how it ends. A refusal where one does not decode, or where the next
+/// connection tells no state.
+pub fn answers(
     alloc: Global,
     replica: &mut Replica<MemStore>,
     input: &[u8],
-) -> Result<bool, Refusal> {
-    let (output, _) = replies(alloc, replica, input);
-    let question = bytes_of(alloc, &[GET])?;
-    let (state, ended) = replies(alloc, replica, question.as_slice());
-    let _replies = count(alloc, output.as_slice())?;
-    Ok(is_state(alloc, state.as_slice())? && ended == "end")
+) -> Result<(usize, &'static str), Refusal> {
+    let (output, ended) = replies(alloc, replica, input);
+    let counted = count(alloc, output.as_slice());
+    drop(output);
+    let replies = counted?;
+    if tells_state(alloc, replica) {
+        Ok((replies, ended))
+    } else {
+        Err(Refusal::Damaged)
+    }
 }
 
-fn is_answered_first(alloc: Global, input: &[u8]) -> Result<bool, Refusal> {
-    let mut replica = first(alloc)?;
-    is_answered(alloc, &mut replica, input)
+/// The same of a replica's first connection.
+fn answers_first(alloc: Global, input: &[u8]) -> Result<(usize, &'static str), Refusal> {
+    let mut replica = new_replica(alloc, 1)?;
+    let answered = answers(alloc, &mut replica, input);
+    drop(replica);
+    answered
+}
+
+/// These bytes, with the one of a place replaced by its complement.
+fn changed(mut bytes: Bytes, at: usize) -> Bytes {
+    if at < ROOM {
+        bytes.room[at] = !bytes.room[at];
+    }
+    bytes
 }
 
 #[test]
-fn what_is_cut_is_answered(rt: HostRuntime) -> Result<(), Fail> {
-    let input = bytes_of(rt.alloc(), &[PUT, WIDE, CLASH])?;
-    for cut in 0..input.len() {
-        assert!(rt;
-            is_answered_first(rt.alloc(), &input[..cut])?,
-            "cut at {cut}"
-        );
+fn what_is_cut_or_changed_is_answered(rt: HostRuntime) -> Result<(), Fail> {
+    let input = Bytes::of(&[PUT, WIDE, CLASH]);
+    let bytes = input.bytes();
+    for at in 0..bytes.len() {
+        let cut = answers_first(rt.alloc(), &bytes[..at]);
+        assert!(rt; cut.is_ok(), "cut at {at}");
+        let other = answers_first(rt.alloc(), changed(input, at).bytes());
+        assert!(rt; other.is_ok(), "another at {at}");
     }
-    assert!(rt; is_answered_first(rt.alloc(), input.as_slice())?);
-    println!(rt; "{} prefixes, and the whole", input.len())?;
-    Ok(())
-}
-
-#[test]
-fn what_has_another_byte_is_answered(rt: HostRuntime) -> Result<(), Fail> {
-    let mut input = bytes_of(rt.alloc(), &[PUT, WIDE, CLASH])?;
-    for at in 0..input.len() {
-        input[at] = !input[at];
-        assert!(rt; is_answered_first(rt.alloc(), input.as_slice())?, "at {at}");
-        input[at] = !input[at];
-    }
-    println!(rt; "{} bytes", input.len())?;
-    Ok(())
-}
-
-/// Bytes that are no request, the reply, and the end.
-const NO_REQUESTS: &[(&str, &str, &str)] = &[
-    ("0000000929016b00000000ffff", "00000002ee21", "end"),
-    (
-        "0000001722016b00000001000000010000000000000000ffffffff",
-        "00000002ee21",
-        "end",
-    ),
-    (
-        "0000001722016b0000000100000001000000000000000000000000",
-        "00000002ee02",
-        "end",
-    ),
-    ("ffffffff", "00000002ee1f", "FrameTooLong"),
-];
-
-#[test]
-fn what_is_no_request_has_its_refusal(rt: HostRuntime) -> Result<(), Fail> {
-    for (input, reply, end) in NO_REQUESTS {
-        let mut replica = first(rt.alloc())?;
-        let is_given = gives(rt.alloc(), &mut replica, &[input], &[reply], end)?;
-        assert!(rt; is_given, "{input}");
-    }
+    answers_first(rt.alloc(), bytes)?;
+    println!(rt; "{} prefixes and bytes, and the whole", bytes.len())?;
     Ok(())
 }
 
 /// The same frame again and again, without end.
-#[derive(Drop)]
+#[derive(Clone, Copy)]
 struct Again {
     at: usize,
 }
@@ -98,7 +116,7 @@ impl Read for Again {
 }
 
 /// Counts the frames that are written: those that tell a bad kind, those that tell too many requests, and others.
-#[derive(Drop)]
+#[derive(Clone, Copy)]
 struct Counts {
     kinds: u64,
     ends: u64,
@@ -107,12 +125,11 @@ struct Counts {
 
 impl Write for Counts {
     fn write(&mut self, buf: &[u8]) -> io::Result<usize> {
-        let count = match buf {
-            [0, 0, 0, 2, 0xEE, 32] => &mut self.kinds,
-            [0, 0, 0, 2, 0xEE, 36] => &mut self.ends,
-            _ => &mut self.others,
-        };
-        *count = count.saturating_add(1);
+        match buf {
+            [0, 0, 0, 2, 0xEE, 32] => self.kinds = self.kinds.saturating_add(1),
+            [0, 0, 0, 2, 0xEE, 36] => self.ends = self.ends.saturating_add(1),
+            _ => self.others = self.others.saturating_add(1),
+        }
         Ok(buf.len())
     }
 
@@ -123,7 +140,7 @@ impl Write for Counts {
 
 #[test]
 fn a_million_frames_are_answered(rt: HostRuntime) -> Result<(), Fail> {
-    let mut replica = first(rt.alloc())?;
+    let mut replica = new_replica(rt.alloc(), 1)?;
     let mut reader = Again { at: 0 };
     let mut writer = Counts {
         kinds: 0,
@@ -131,9 +148,8 @@ fn a_million_frames_are_answered(rt: HostRuntime) -> Result<(), Fail> {
         others: 0,
     };
     let ended = served_on(rt.alloc(), &mut reader, &mut writer, &mut replica);
-    assert_eq!(rt; ended, "TooManyRequests");
-    assert_eq!(rt; writer.kinds, 1_000_000);
-    assert_eq!(rt; writer.ends, 1);
-    assert_eq!(rt; writer.others, 0);
+    drop(replica);
+    assert!(rt; ended == "TooManyRequests");
+    assert!(rt; writer.kinds == 1_000_000 && writer.ends == 1 && writer.others == 0);
     Ok(())
 }

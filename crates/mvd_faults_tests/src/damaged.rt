@@ -1,8 +1,9 @@
 //! Records that are damaged, and files that are.
-use super::calls::{replies, run};
-use super::stops::{connected, in_files, no_files, root_of};
+use super::calls::{Root, conn_of, or_refusal, push, replies, root_of, run};
+use super::stops::{connected, in_files, no_files};
 use mvd_dots::Refusal;
-use sqlite::{Connection, FileStore, Files};
+use mvd_replica::Replica;
+use sqlite::{Alter, Connection, FileStore, Files};
 use sqlite_disk::{Disk, Memory};
 use std::alloc::Global;
 use std::test::Fail;
@@ -36,8 +37,14 @@ const DAMAGED: &[(&str, &str)] = &[
         "",
         "INSERT INTO meta VALUES ('format', 2), ('site', 4294967297)",
     ),
-    (TWO, "INSERT INTO states2 VALUES ('a b', x'000000000001')"),
-    (TWO, "INSERT INTO states2 VALUES ('', x'00')"),
+    (
+        TWO,
+        "INSERT INTO states2 VALUES ('a b', x'00000001000000010000000000000001000000000001000000010000000000000001000000077b2261223a317d')",
+    ),
+    (
+        TWO,
+        "INSERT INTO states2 VALUES ('', x'00000001000000010000000000000001000000000001000000010000000000000001000000077b2261223a317d')",
+    ),
     (TWO, "INSERT INTO states2 VALUES ('k', x'')"),
     (TWO, "INSERT INTO states2 VALUES ('k', x'00')"),
     (TWO, "INSERT INTO states2 VALUES ('k', x'000000000000')"),
@@ -49,7 +56,10 @@ const DAMAGED: &[(&str, &str)] = &[
         TWO,
         "INSERT INTO states2 VALUES ('k', x'00000001000000010000000000000001000000000001000000010000000000000001000000077b2261223a327d00')",
     ),
-    (TWO, "INSERT INTO states VALUES ('k', x'00')"),
+    (
+        TWO,
+        "INSERT INTO states VALUES ('k', x'00010001000000000000000100000000000100010000000000000001000000077b2261223a317d')",
+    ),
     (ONE, "INSERT INTO states VALUES ('k', x'')"),
     (ONE, "INSERT INTO states VALUES ('k', x'00')"),
     (ONE, "INSERT INTO states VALUES ('k', x'00000000')"),
@@ -59,7 +69,7 @@ const DAMAGED: &[(&str, &str)] = &[
     ),
     (
         ONE,
-        "INSERT INTO states VALUES ('k', x'00'); INSERT INTO states2 VALUES ('k', x'00')",
+        "INSERT INTO states VALUES ('k', x'00010001000000000000000100000000000100010000000000000001000000077b2261223a317d'); INSERT INTO states2 VALUES ('k', x'00000001000000010000000000000001000000000001000000010000000000000001000000077b2261223a317d')",
     ),
 ];
 
@@ -74,26 +84,24 @@ fn close<D: Disk + Drop>(conn: Connection<FileStore<D>>) -> Option<Files<D>> {
     }
 }
 
-/// The bytes of a database that is closed.
-fn closed(alloc: Global, conn: Connection<FileStore<Memory>>) -> Result<Vec<u8>, Refusal> {
-    let Some(files) = close(conn) else {
-        return Err(Refusal::Store);
-    };
+/// The bytes of a database that is closed; none where it is not.
+fn closed(alloc: Global, conn: Connection<FileStore<Memory>>) -> Vec<u8> {
     let mut bytes = Vec::new(alloc);
-    bytes.extend_from_slice(files.db.bytes())?;
-    Ok(bytes)
+    if let Some(files) = close(conn) {
+        push(&mut bytes, files.db.bytes());
+    }
+    bytes
 }
 
 /// A database file with all three tables and these rows.
 fn database(alloc: Global, rows: &(&str, &str)) -> Result<Vec<u8>, Refusal> {
-    let mut conn = match connected(alloc, no_files(alloc)) {
-        Ok(conn) => conn,
-        Err(_) => return Err(Refusal::Store),
+    let Ok(mut conn) = connected(alloc, no_files(alloc)) else {
+        return Err(Refusal::Store);
     };
     for sql in [OLD, NEW, rows.0, rows.1] {
         run(&mut conn, sql)?;
     }
-    closed(alloc, conn)
+    Ok(closed(alloc, conn))
 }
 
 /// Files of which the database has these bytes.
@@ -105,138 +113,155 @@ fn files_with(alloc: Global, bytes: &[u8]) -> Result<Files<Memory>, Refusal> {
     Ok(files)
 }
 
+/// The files, where what they hold is refused as damaged.
+fn damaged(alloc: Global, files: Files<Memory>) -> Option<Files<Memory>> {
+    match in_files(alloc, files) {
+        Err((Refusal::Damaged, files)) => Some(files),
+        other => {
+            drop(other);
+            None
+        }
+    }
+}
+
 /// Whether the records in a file of these bytes are refused as damaged, twice, and the file stays as it is.
 fn is_damaged(alloc: Global, bytes: &[u8]) -> Result<bool, Refusal> {
-    let Err((Refusal::Damaged, files)) = in_files(alloc, files_with(alloc, bytes)?) else {
-        return Ok(false);
-    };
-    if files.db.bytes() != bytes {
-        return Ok(false);
+    match damaged(alloc, files_with(alloc, bytes)?) {
+        Some(files) => {
+            let is_same = files.db.bytes() == bytes;
+            Ok(is_same && damaged(alloc, files).is_some())
+        }
+        None => Ok(false),
     }
-    Ok(matches!(in_files(alloc, files), Err((Refusal::Damaged, _))))
+}
+
+fn is_case_damaged(alloc: Global, rows: &(&str, &str)) -> Result<bool, Refusal> {
+    let bytes = database(alloc, rows)?;
+    let found = is_damaged(alloc, bytes.as_slice());
+    drop(bytes);
+    found
 }
 
 #[test]
 fn damaged_records_are_refused_and_stay(rt: HostRuntime) -> Result<(), Fail> {
     for rows in DAMAGED {
-        let bytes = database(rt.alloc(), rows)?;
-        assert!(rt;
-            is_damaged(rt.alloc(), bytes.as_slice())?,
-            "{} {}",
-            rows.0,
-            rows.1
-        );
+        assert!(rt; is_case_damaged(rt.alloc(), rows)?, "{} {}", rows.0, rows.1);
     }
     Ok(())
 }
 
 /// A put of a document of so many letters at a key of one letter.
-fn long_put(alloc: Global, key: u8, letters: u32) -> Result<Vec<u8>, Refusal> {
+fn long_put(alloc: Global, key: u8, letters: u32) -> Vec<u8> {
     let mut frame = Vec::new(alloc);
-    frame.extend_from_slice(&letters.saturating_add(19).to_be_bytes())?;
-    frame.extend_from_slice(&[0x22, 1, key, 0, 0, 0, 0])?;
-    frame.extend_from_slice(&letters.saturating_add(8).to_be_bytes())?;
-    frame.extend_from_slice(b"{\"a\":\"")?;
+    push(&mut frame, &letters.saturating_add(19).to_be_bytes());
+    push(&mut frame, &[0x22, 1, key, 0, 0, 0, 0]);
+    push(&mut frame, &letters.saturating_add(8).to_be_bytes());
+    push(&mut frame, b"{\"a\":\"");
     for _ in 0..letters {
-        frame.push(b'x')?;
+        push(&mut frame, b"x");
     }
-    frame.extend_from_slice(b"\"}")?;
-    Ok(frame)
+    push(&mut frame, b"\"}");
+    frame
+}
+
+/// Puts documents of many lengths at ten keys.
+fn put_ten<S: Alter + Drop>(alloc: Global, replica: &mut Replica<S>) {
+    for number in 0..10u8 {
+        let put = long_put(alloc, b'a' + number, u32::from(number) * 1_000);
+        let _replies = replies(alloc, replica, put.as_slice());
+    }
 }
 
 /// The bytes of a file of records with ten keys, and its root.
-fn ten_keys(alloc: Global) -> Result<(Vec<u8>, Vec<u8>), Refusal> {
-    let Ok(mut replica) = in_files(alloc, no_files(alloc)) else {
-        return Err(Refusal::Store);
-    };
-    for number in 0..10u8 {
-        let put = long_put(alloc, b'a' + number, u32::from(number) * 1_000)?;
-        let _replies = replies(alloc, &mut replica, put.as_slice());
-    }
-    let root = root_of(alloc, &mut replica)?;
-    Ok((closed(alloc, replica.into_connection())?, root))
+fn ten_keys(alloc: Global) -> Result<(Vec<u8>, Root), Refusal> {
+    let mut replica = or_refusal(in_files(alloc, no_files(alloc)))?;
+    put_ten(alloc, &mut replica);
+    let root = root_of(alloc, &mut replica);
+    Ok((closed(alloc, conn_of(replica)), root))
 }
 
-/// How a file with these bytes is opened: refused, or with this root, or with another.
-#[derive(Clone, Copy, Debug, PartialEq, Eq, Drop)]
-enum Found {
-    Refused,
-    Same,
-    Other,
-}
-
-fn opened_as(alloc: Global, bytes: &[u8], root: &[u8]) -> Result<Found, Refusal> {
-    match in_files(alloc, files_with(alloc, bytes)?) {
-        Err(_) => Ok(Found::Refused),
+/// The root of the records in a file with these bytes; `None` where it is refused.
+fn root_in(alloc: Global, bytes: &[u8]) -> Result<Option<Root>, Refusal> {
+    let files = files_with(alloc, bytes)?;
+    match or_refusal(in_files(alloc, files)) {
         Ok(mut replica) => {
-            let is_same = root_of(alloc, &mut replica)?.as_slice() == root;
-            Ok(if is_same { Found::Same } else { Found::Other })
+            let root = root_of(alloc, &mut replica);
+            drop(replica);
+            Ok(Some(root))
         }
+        Err(_) => Ok(None),
     }
-}
-
-/// The same bytes, with zeros from one place up to another.
-fn with_zeros(alloc: Global, bytes: &[u8], from: usize, to: usize) -> Result<Vec<u8>, Refusal> {
-    let mut copy = Vec::new(alloc);
-    for (at, byte) in bytes.iter().enumerate() {
-        copy.push(if from <= at && at < to { 0 } else { *byte })?;
-    }
-    Ok(copy)
 }
 
 const PAGE: usize = 4_096;
 
-fn beginning(bytes: &[u8], len: usize) -> &[u8] {
-    &bytes[..len.min(bytes.len())]
+/// The same bytes, with zeros in one page.
+fn with_zeros(alloc: Global, bytes: &[u8], page: usize) -> Vec<u8> {
+    let mut copy = Vec::new(alloc);
+    for (at, byte) in bytes.iter().enumerate() {
+        let byte = if at / PAGE == page { 0 } else { *byte };
+        push(&mut copy, &[byte]);
+    }
+    copy
+}
+
+/// Whether a file with zeros in one page is refused.
+fn is_zeroed_refused(alloc: Global, bytes: &[u8], page: usize) -> Result<bool, Refusal> {
+    let zeros = with_zeros(alloc, bytes, page);
+    let found = root_in(alloc, zeros.as_slice());
+    drop(zeros);
+    Ok(found?.is_none())
+}
+
+/// Whether a file that is cut at a page, and one that is cut a little later, are refused.
+fn is_cut_refused(alloc: Global, bytes: &[u8], page: usize) -> Result<bool, Refusal> {
+    let cut = page.saturating_mul(PAGE).min(bytes.len());
+    let later = cut.saturating_add(1_000).min(bytes.len());
+    Ok(
+        (cut == 0 || root_in(alloc, &bytes[..cut])?.is_none())
+            && root_in(alloc, &bytes[..later])?.is_none(),
+    )
 }
 
 #[test]
-fn a_page_of_zeros_is_no_answer(rt: HostRuntime) -> Result<(), Fail> {
+fn a_file_that_is_cut_or_has_zeros_is_refused(rt: HostRuntime) -> Result<(), Fail> {
     let alloc = rt.alloc();
     let (bytes, root) = ten_keys(alloc)?;
-    assert_eq!(rt;
-        opened_as(alloc, bytes.as_slice(), root.as_slice())?,
-        Found::Same
-    );
-    let mut refused = 0u32;
-    for page in 0..bytes.len() / PAGE {
-        let from = page.saturating_mul(PAGE);
-        let zeros = with_zeros(alloc, bytes.as_slice(), from, from.saturating_add(PAGE))?;
-        let found = opened_as(alloc, zeros.as_slice(), root.as_slice())?;
-        assert!(rt; found != Found::Other, "page {page}");
-        refused = refused.saturating_add(u32::from(found == Found::Refused));
+    assert!(rt; root_in(alloc, bytes.as_slice())? == Some(root));
+    let pages = bytes.len() / PAGE;
+    for page in 0..pages {
+        assert!(rt;
+            is_zeroed_refused(alloc, bytes.as_slice(), page)?,
+            "zeros in {page}"
+        );
+        assert!(rt;
+            is_cut_refused(alloc, bytes.as_slice(), page)?,
+            "cut at {page}"
+        );
     }
-    println!(rt; "{refused} of {} pages", bytes.len() / PAGE)?;
+    println!(rt; "{pages} pages")?;
     Ok(())
 }
 
-#[test]
-fn a_file_that_is_cut_is_refused(rt: HostRuntime) -> Result<(), Fail> {
-    let alloc = rt.alloc();
-    let (bytes, root) = ten_keys(alloc)?;
-    for page in 0..bytes.len() / PAGE {
-        for over in [0, 1_000] {
-            let cut = page.saturating_mul(PAGE).saturating_add(over);
-            if cut > 0 {
-                let found = opened_as(alloc, beginning(bytes.as_slice(), cut), root.as_slice())?;
-                assert!(rt; found == Found::Refused, "cut at {cut}");
-            }
-        }
+/// Whether a file of so many times one byte is refused.
+fn is_filled_refused(alloc: Global, byte: u8, len: usize) -> Result<bool, Refusal> {
+    let mut bytes = Vec::new(alloc);
+    for _ in 0..len {
+        push(&mut bytes, &[byte]);
     }
-    Ok(())
+    let found = root_in(alloc, bytes.as_slice());
+    drop(bytes);
+    Ok(found?.is_none())
 }
 
 #[test]
 fn a_file_that_is_no_database_is_refused(rt: HostRuntime) -> Result<(), Fail> {
-    let alloc = rt.alloc();
     for byte in [0, b'S', b'x', 0xFF] {
         for len in [2, 100, 512, 4_096, 8_192, 10_000] {
-            let mut bytes = Vec::new(alloc);
-            for _ in 0..len {
-                bytes.push(byte)?;
-            }
-            let found = opened_as(alloc, bytes.as_slice(), &[])?;
-            assert!(rt; found == Found::Refused, "{len} times {byte}");
+            assert!(rt;
+                is_filled_refused(rt.alloc(), byte, len)?,
+                "{len} times {byte}"
+            );
         }
     }
     Ok(())

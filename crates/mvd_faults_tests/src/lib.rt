@@ -1,4 +1,5 @@
-//! Tests of a stored site where something fails: its streams, its bytes, its records, its store and its memory.
+//! Tests of a stored site: its connections, its records when they are opened again, and faults of its streams, its bytes, its
+//! records, its store and its memory.
 #![tactic(auto)]
 
 #[cfg(test)]
@@ -10,13 +11,11 @@ mod calls;
 #[cfg(test)]
 mod damaged;
 #[cfg(test)]
-mod frames;
-#[cfg(test)]
-mod meetings;
-#[cfg(test)]
 mod memory;
 #[cfg(test)]
 mod random;
+#[cfg(test)]
+mod reopened;
 #[cfg(test)]
 mod scale;
 #[cfg(test)]

@@ -1,73 +1,18 @@
 //! One growth that is refused, whichever it is: tools/faults.sh refuses each in turn. With none refused all is as ever.
 use super::asked::{ASKED, Asked};
-use super::calls::{config, memory, new_replica, opened, run, served_on};
+use super::calls::{
+    Bytes, EMPTY, GET, PUT, STATE, Told, WRITTEN, asks, asks_again, config, conn_of, memory,
+    new_replica, opened, or_refusal, run, serves, tells,
+};
 use super::damaged::{OLD, ONE};
 use super::stops::OLD_ROWS;
 use mvd_dots::Refusal;
 use mvd_replica::Replica;
 use mvd_site::Site;
-use mvd_wire::{Reply, decode_request, encode_reply, read_frame, short_reply};
-use sqlite::{Alter, Connection, MemStore};
+use mvd_wire::{Reply, Request, decode_request, encode_reply, short_reply};
+use sqlite::{Connection, MemStore};
 use std::alloc::Global;
 use std::test::Fail;
-
-/// What a reply tells, beside the one that is wanted.
-#[derive(Clone, Copy, Debug, PartialEq, Eq, Drop)]
-pub enum Told {
-    Wanted,
-    /// Memory was refused, to the site or to its store.
-    Refused,
-    Broken,
-    Other,
-}
-
-const ROOM: usize = 300;
-
-/// A frame in a room of its own, so that it takes no memory.
-#[derive(Drop)]
-pub struct Frame {
-    room: [u8; ROOM],
-    len: usize,
-}
-
-fn digit(letter: u8) -> u8 {
-    match letter {
-        b'a'..=b'f' => letter.saturating_sub(b'a').saturating_add(10),
-        _ => letter.saturating_sub(b'0'),
-    }
-}
-
-impl Frame {
-    /// That of these hexadecimal digits.
-    pub fn new(digits: &str) -> Frame {
-        let mut room = [0; ROOM];
-        for (byte, pair) in room.iter_mut().zip(digits.as_bytes().chunks(2)) {
-            if let [high, low] = pair {
-                *byte = digit(*high).wrapping_mul(16).wrapping_add(digit(*low));
-            }
-        }
-        Frame {
-            room,
-            len: digits.len() / 2,
-        }
-    }
-
-    pub fn bytes(&self) -> &[u8] {
-        &self.room[..self.len.min(ROOM)]
-    }
-}
-
-/// What these bytes tell.
-fn tells(reply: &[u8], wanted: &str) -> Told {
-    if reply == Frame::new(wanted).bytes() {
-        return Told::Wanted;
-    }
-    match reply {
-        [0, 0, 0, 2, 0xEE, 20 | 21] => Told::Refused,
-        [0, 0, 0, 2, 0xEE, 22] => Told::Broken,
-        _ => Told::Other,
-    }
-}
 
 /// What a reply tells.
 pub fn told_by(alloc: Global, reply: &Reply, wanted: &str) -> Result<Told, Refusal> {
@@ -77,15 +22,20 @@ pub fn told_by(alloc: Global, reply: &Reply, wanted: &str) -> Result<Told, Refus
     }
 }
 
+/// The request that a frame is.
+pub fn request_of(alloc: Global, digits: &str) -> Result<Request, Refusal> {
+    let frame = Bytes::of(&[digits]);
+    decode_request(alloc, frame.room[4], frame.bytes().get(5..).unwrap_or(&[]))
+}
+
 /// What a site answers to a request.
 fn ask_site(alloc: Global, site: &mut Site, request: &str, wanted: &str) -> Result<Told, Refusal> {
-    let frame = Frame::new(request);
-    let mut bytes = frame.bytes();
-    let Some(frame) = read_frame(alloc, &mut bytes)? else {
-        return Ok(Told::Other);
-    };
-    let request = decode_request(alloc, frame.kind, &frame.payload)?;
-    told_by(alloc, &site.answer(&request), wanted)
+    let request = request_of(alloc, request)?;
+    let reply = site.answer(&request);
+    let told = told_by(alloc, &reply, wanted);
+    drop(reply);
+    drop(request);
+    told
 }
 
 /// What it answers, and once more where memory was refused.
@@ -102,30 +52,32 @@ fn ask_site_again(
 }
 
 fn new_site(alloc: Global, number: u32) -> Result<Site, Refusal> {
-    Site::new(alloc, config(alloc, number)?)
+    Site::new(alloc, config(alloc, number, 100)?)
 }
 
 /// Whether a site answers as it should, or from some request on that it is broken.
+fn answers_all(alloc: Global, site: &mut Site, asked: &[(&str, &str)]) -> Result<bool, Refusal> {
+    let mut should = Told::Wanted;
+    for (request, wanted) in asked {
+        let told = ask_site_again(alloc, site, request, wanted)?;
+        if told == Told::Broken {
+            should = Told::Broken;
+        }
+        if told != should {
+            return Ok(false);
+        }
+    }
+    Ok(true)
+}
+
 fn site_answers(alloc: Global, asked: &Asked) -> Result<bool, Refusal> {
     let mut site = match new_site(alloc, asked.0) {
         Ok(site) => site,
         Err(_) => new_site(alloc, asked.0)?,
     };
-    let mut is_broken = false;
-    for (request, wanted) in asked.1 {
-        let told = ask_site_again(alloc, &mut site, request, wanted)?;
-        is_broken = is_broken || told == Told::Broken;
-        if told
-            != if is_broken {
-                Told::Broken
-            } else {
-                Told::Wanted
-            }
-        {
-            return Ok(false);
-        }
-    }
-    Ok(true)
+    let answered = answers_all(alloc, &mut site, asked.1);
+    drop(site);
+    answered
 }
 
 #[test]
@@ -136,71 +88,68 @@ fn a_site_is_asked_again(rt: HostRuntime) -> Result<(), Fail> {
     Ok(())
 }
 
-/// What a replica answers to a request on a connection of its own.
-fn ask_replica<S: Alter + Drop>(
-    alloc: Global,
-    replica: &mut Replica<S>,
-    request: &str,
-    wanted: &str,
-) -> Told {
-    let frame = Frame::new(request);
-    let mut input = frame.bytes();
-    let mut room = [0; ROOM];
-    let mut output: &mut [u8] = &mut room;
-    let _ended = served_on(alloc, &mut input, &mut output, replica);
-    let left = output.len();
-    tells(&room[..ROOM.saturating_sub(left)], wanted)
-}
-
-/// What it answers, and once more where memory was refused.
-fn ask_replica_again<S: Alter + Drop>(
-    alloc: Global,
-    replica: &mut Replica<S>,
-    request: &str,
-    wanted: &str,
-) -> Told {
-    match ask_replica(alloc, replica, request, wanted) {
-        Told::Refused => ask_replica(alloc, replica, request, wanted),
-        told => told,
+fn made(alloc: Global, number: u32) -> Result<Replica<MemStore>, Refusal> {
+    match new_replica(alloc, number) {
+        Err(_) => new_replica(alloc, number),
+        made => made,
     }
 }
 
-/// Whether a refusal to open tells that memory was refused, and the next call opens.
+/// The replica that records hold, which are opened once more where memory was refused.
 fn open_again(
     alloc: Global,
     conn: Connection<MemStore>,
     number: u32,
 ) -> Result<Replica<MemStore>, Refusal> {
-    let conn = match opened(alloc, conn, number) {
-        Ok(replica) => return Ok(replica),
-        Err((Refusal::Memory | Refusal::Store, conn)) => conn,
-        Err((refusal, _)) => return Err(refusal),
-    };
-    match opened(alloc, conn, number) {
-        Ok(replica) => Ok(replica),
-        Err((refusal, _)) => Err(refusal),
+    match opened(alloc, conn, number, 100) {
+        Err((Refusal::Memory | Refusal::Store, conn)) => {
+            or_refusal(opened(alloc, conn, number, 100))
+        }
+        found => or_refusal(found),
     }
+}
+
+/// The same replica; one that is broken tells it once more, and is opened again.
+fn mended(
+    alloc: Global,
+    mut replica: Replica<MemStore>,
+    number: u32,
+) -> Result<Replica<MemStore>, Refusal> {
+    if !replica.is_broken() {
+        return Ok(replica);
+    }
+    let told = asks(alloc, &mut replica, GET, STATE);
+    let conn = conn_of(replica);
+    if told == Told::Broken {
+        open_again(alloc, conn, number)
+    } else {
+        drop(conn);
+        Err(Refusal::Damaged)
+    }
+}
+
+/// How many requests a replica answers as it should before another answer, each on a connection of its own.
+fn answered(alloc: Global, replica: &mut Replica<MemStore>, asked: &[(&str, &str)]) -> usize {
+    let mut count = 0usize;
+    for (request, wanted) in asked {
+        if asks_again(alloc, replica, request, wanted) != Told::Wanted {
+            return count;
+        }
+        count = count.saturating_add(1);
+    }
+    count
 }
 
 /// Whether a replica answers as it should; one that is broken is opened again, and has the write.
 fn replica_answers(alloc: Global, asked: &Asked) -> Result<bool, Refusal> {
-    let mut replica = match new_replica(alloc, asked.0) {
-        Ok(replica) => replica,
-        Err(_) => new_replica(alloc, asked.0)?,
-    };
-    for (request, wanted) in asked.1 {
-        match ask_replica_again(alloc, &mut replica, request, wanted) {
-            Told::Wanted => {}
-            Told::Broken => {
-                if ask_replica(alloc, &mut replica, request, wanted) != Told::Broken {
-                    return Ok(false);
-                }
-                replica = open_again(alloc, replica.into_connection(), asked.0)?;
-            }
-            _ => return Ok(false),
-        }
-    }
-    Ok(true)
+    let mut replica = made(alloc, asked.0)?;
+    let count = answered(alloc, &mut replica, asked.1);
+    let from = count.saturating_add(usize::from(replica.is_broken()));
+    let mut replica = mended(alloc, replica, asked.0)?;
+    let rest = asked.1.get(from..).unwrap_or(&[]);
+    let is_whole = answered(alloc, &mut replica, rest) == rest.len();
+    drop(replica);
+    Ok(is_whole && (from > count || count == asked.1.len()))
 }
 
 #[test]
@@ -208,6 +157,97 @@ fn a_replica_is_asked_again(rt: HostRuntime) -> Result<(), Fail> {
     for (at, asked) in ASKED.iter().enumerate() {
         assert!(rt; replica_answers(rt.alloc(), asked)?, "at {at}");
     }
+    Ok(())
+}
+
+/// A put, a question that it bears on, and the replies to this with the put and without.
+type Pair = (&'static str, &'static str, &'static str, &'static str);
+
+const PAIRS: [Pair; 3] = [
+    (PUT, GET, STATE, EMPTY),
+    (
+        "0000001222016100000000000000077b2261223a327d",
+        "0000000e2400016103000000000000000200",
+        "0000001ba40000010300000000000000020161000000010000000000000001",
+        "00000004a4000000",
+    ),
+    (
+        "00000025220162000000000000001a7b22616d6f756e74223a352c2263697479223a224f736c6f227d",
+        "0000000f2500057370656e640400044f736c6f",
+        "0000002aa50000000000000001000000000000000000000000000000050100000000000000050000000000000005",
+        "0000001aa500000000000000000000000000000000000000000000000000",
+    ),
+];
+
+/// The first frame of these bytes, and what follows it.
+fn first_frame(bytes: &[u8]) -> (&[u8], &[u8]) {
+    let len = match bytes {
+        [_, _, high, low, ..] => usize::from(u16::from_be_bytes([*high, *low])).saturating_add(4),
+        _ => 0,
+    };
+    bytes.split_at(len.min(bytes.len()))
+}
+
+/// Whether a put and the question behind it may be answered so, where the put is there afterwards or not. The put that breaks the
+/// site is there, and nothing behind it.
+fn may_tell(put: Told, question: Told, is_there: bool, was_broken: bool) -> bool {
+    match (put, question) {
+        (Told::Wanted, Told::Wanted | Told::Refused | Told::Nothing) => is_there,
+        (Told::Refused, Told::Wanted | Told::Nothing) => !is_there,
+        (Told::Nothing, Told::Nothing) => !is_there,
+        (Told::Broken, Told::Broken) => is_there != was_broken,
+        _ => false,
+    }
+}
+
+/// Whether a replica has the put of a pair; `None` where it answers neither with it nor without.
+fn has_put(alloc: Global, replica: &mut Replica<MemStore>, pair: &Pair) -> Option<bool> {
+    if asks_again(alloc, replica, pair.1, pair.2) == Told::Wanted {
+        return Some(true);
+    }
+    match asks_again(alloc, replica, pair.1, pair.3) {
+        Told::Wanted => Some(false),
+        _ => None,
+    }
+}
+
+/// Whether the frames of a connection with the pairs tell what the replica has afterwards.
+fn pairs_tell(alloc: Global, replica: &mut Replica<MemStore>, mut output: &[u8]) -> bool {
+    let mut was_broken = false;
+    for pair in &PAIRS {
+        let (put, rest) = first_frame(output);
+        let (question, rest) = first_frame(rest);
+        output = rest;
+        let put = tells(put, WRITTEN);
+        let wanted = if put == Told::Wanted { pair.2 } else { pair.3 };
+        let question = tells(question, wanted);
+        match has_put(alloc, replica, pair) {
+            Some(is_there) if may_tell(put, question, is_there, was_broken) => {}
+            _ => return false,
+        }
+        was_broken = was_broken || put == Told::Broken;
+    }
+    true
+}
+
+/// Whether a connection with all pairs is answered as it may be; a replica that is broken then is opened again.
+fn connection_tells(alloc: Global) -> Result<bool, Refusal> {
+    let mut input = Bytes::of(&[]);
+    for pair in &PAIRS {
+        input.add(pair.0);
+        input.add(pair.1);
+    }
+    let mut replica = made(alloc, 1)?;
+    let (output, ended) = serves(alloc, &mut replica, &input);
+    let mut replica = mended(alloc, replica, 1)?;
+    let is_told = pairs_tell(alloc, &mut replica, output.bytes());
+    drop(replica);
+    Ok(is_told && (ended == "end" || ended == "Memory"))
+}
+
+#[test]
+fn a_connection_tells_what_is_there(rt: HostRuntime) -> Result<(), Fail> {
+    assert!(rt; connection_tells(rt.alloc())?);
     Ok(())
 }
 
@@ -223,16 +263,13 @@ fn database(alloc: Global, statements: &[&str]) -> Result<Connection<MemStore>, 
 /// Whether a replica is opened on these records, and answers these questions.
 fn opens(alloc: Global, statements: &[&str], asked: &[(&str, &str)]) -> Result<bool, Refusal> {
     let conn = match database(alloc, statements) {
-        Ok(conn) => conn,
         Err(_) => database(alloc, statements)?,
+        Ok(conn) => conn,
     };
     let mut replica = open_again(alloc, conn, 1)?;
-    for (request, wanted) in asked {
-        if ask_replica_again(alloc, &mut replica, request, wanted) != Told::Wanted {
-            return Ok(false);
-        }
-    }
-    Ok(true)
+    let count = answered(alloc, &mut replica, asked);
+    drop(replica);
+    Ok(count == asked.len())
 }
 
 /// Questions for three keys, and their states in the records of version 1.
@@ -253,7 +290,7 @@ const OLD_ASKED: &[(&str, &str)] = &[
 
 #[test]
 fn a_fresh_replica_is_opened_again(rt: HostRuntime) -> Result<(), Fail> {
-    let asked = [("00000003210161", "00000007a1000000000000")];
+    let asked = [("00000003210161", EMPTY)];
     assert!(rt; opens(rt.alloc(), &[], &asked)?);
     Ok(())
 }

@@ -1,14 +1,14 @@
 //! Random frames, from a generator with a fixed seed.
-use super::calls::{GET, bytes_of, first, replies};
-use super::frames::{count, is_state};
+use super::bytes::answers;
+use super::calls::{new_replica, push};
 use mvd_dots::Refusal;
 use mvd_replica::Replica;
 use sqlite::MemStore;
-use std::alloc::{AllocError, Global};
+use std::alloc::Global;
 use std::test::Fail;
 
 /// Numbers that a seed determines.
-#[derive(Drop)]
+#[derive(Clone, Copy)]
 struct Random {
     state: u64,
 }
@@ -34,12 +34,6 @@ impl Random {
         let at = self.below(choices.len() as u64) as usize;
         choices.get(at).copied().unwrap_or(0)
     }
-}
-
-/// The two lower bytes of a number.
-fn two(number: u32) -> [u8; 2] {
-    let [_, _, high, low] = number.to_be_bytes();
-    [high, low]
 }
 
 /// A payload that is made piece by piece.
@@ -97,12 +91,12 @@ const KINDS: &[(u8, &[Piece])] = &[
 ];
 
 impl Maker {
-    fn push(&mut self, bytes: &[u8]) -> Result<(), AllocError> {
-        self.bytes.extend_from_slice(bytes)
+    fn push(&mut self, bytes: &[u8]) {
+        push(&mut self.bytes, bytes);
     }
 
     /// So many letters, or seldom one byte among them that is none.
-    fn letters(&mut self, letters: u32) -> Result<(), AllocError> {
+    fn letters(&mut self, letters: u32) {
         let odd = if self.random.below(20) == 0 {
             self.random.below(u64::from(letters))
         } else {
@@ -114,48 +108,56 @@ impl Maker {
             } else {
                 b'x'
             };
-            self.bytes.push(byte)?;
+            self.push(&[byte]);
         }
-        Ok(())
     }
 
-    fn key(&mut self) -> Result<(), AllocError> {
+    /// A length of so many bytes, which is one of these, and as many letters.
+    fn text(&mut self, width: usize, lens: &[u32]) {
+        let len = self.random.one_of(lens);
+        let [_, _, high, low] = len.to_be_bytes();
+        if width > 1 {
+            self.push(&[high]);
+        }
+        self.push(&[low]);
+        self.letters(len);
+    }
+
+    fn key(&mut self) {
         if self.random.below(4) > 0 {
             let letter = b'a'.wrapping_add(self.random.byte(9));
-            return self.push(&[1, letter]);
+            self.push(&[1, letter]);
+        } else {
+            self.text(1, &[0, 1, 2, 127, 128, 129, 255]);
         }
-        let len = self.random.one_of(&[0, 1, 2, 127, 128, 129, 255]);
-        self.push(&two(len)[1..])?;
-        self.letters(len)
     }
 
-    fn dot(&mut self) -> Result<(), AllocError> {
+    fn dot(&mut self) {
         let site = self.random.one_of(&[0, 1, 1, 2, 3, u32::MAX]);
         let counter = [0, 1, 2, 3, (1 << 48) - 1, 1 << 48][self.random.below(6) as usize % 6];
-        self.push(&site.to_be_bytes())?;
-        self.push(&u64::to_be_bytes(counter))
+        self.push(&site.to_be_bytes());
+        self.push(&u64::to_be_bytes(counter));
     }
 
-    fn context(&mut self) -> Result<(), AllocError> {
+    fn context(&mut self) {
         let entries = self.random.one_of(&[0, 0, 1, 1, 2, 3, u32::MAX]);
-        self.push(&entries.to_be_bytes())?;
+        self.push(&entries.to_be_bytes());
         for site in 1..=entries.min(3) {
             let base = self.random.below(4);
             let loose = self.random.one_of(&[0, 0, 1, 2, u32::MAX]);
-            self.push(&site.to_be_bytes())?;
-            self.push(&base.to_be_bytes())?;
-            self.push(&loose.to_be_bytes())?;
+            self.push(&site.to_be_bytes());
+            self.push(&base.to_be_bytes());
+            self.push(&loose.to_be_bytes());
             for number in 0..u64::from(loose.min(2)) {
                 let counter = base
                     .wrapping_add(self.random.below(4))
                     .wrapping_add(number * 3);
-                self.push(&counter.to_be_bytes())?;
+                self.push(&counter.to_be_bytes());
             }
         }
-        Ok(())
     }
 
-    fn document(&mut self) -> Result<(), AllocError> {
+    fn document(&mut self) {
         let letters = self
             .random
             .one_of(&[0, 1, 1, 1, 1, 1, 1, 40, 65_527, 65_528, 65_529]);
@@ -165,60 +167,51 @@ impl Maker {
             (b"{\"a\":\"", 8)
         };
         let len = letters.saturating_add(rest);
-        self.push(&len.to_be_bytes())?;
-        self.push(begin)?;
-        self.letters(letters)?;
-        self.push(b"\"}")
+        self.push(&len.to_be_bytes());
+        self.push(begin);
+        self.letters(letters);
+        self.push(b"\"}");
     }
 
-    fn term(&mut self) -> Result<(), AllocError> {
+    fn term(&mut self) {
         let tag = self.random.byte(6);
-        self.push(&[tag])?;
+        self.push(&[tag]);
         match tag {
             3 => self.push(&self.random.state.to_be_bytes()),
-            4 => {
-                let len = self.random.one_of(&[0, 4, 4, 511, 512, 513]);
-                self.push(&two(len))?;
-                self.letters(len)
-            }
-            _ => Ok(()),
+            4 => self.text(2, &[0, 4, 4, 511, 512, 513]),
+            _ => {}
         }
     }
 
-    fn name(&mut self) -> Result<(), AllocError> {
+    fn name(&mut self) {
         match self.random.below(4) {
             0 => self.push(b"\0\x04city"),
             1 => self.push(b"\0\x05spend"),
-            _ => {
-                let len = self.random.one_of(&[0, 1, 63, 64, 65]);
-                self.push(&two(len))?;
-                self.letters(len)
-            }
+            _ => self.text(2, &[0, 1, 63, 64, 65]),
         }
     }
 
-    fn path(&mut self) -> Result<(), AllocError> {
+    fn path(&mut self) {
         let digits = self.random.byte(5);
-        self.push(&[digits])?;
+        self.push(&[digits]);
         for _ in 0..digits {
             let digit = self.random.byte(17);
-            self.push(&[digit])?;
+            self.push(&[digit]);
         }
-        Ok(())
     }
 
-    fn state(&mut self) -> Result<(), AllocError> {
-        self.context()?;
+    fn state(&mut self) {
+        self.context();
         let siblings = self.random.one_of(&[0, 0, 1, 1, 2, 65_535]);
-        self.push(&two(siblings))?;
+        let [_, _, high, low] = siblings.to_be_bytes();
+        self.push(&[high, low]);
         for _ in 0..siblings.min(2) {
-            self.dot()?;
-            self.document()?;
+            self.dot();
+            self.document();
         }
-        Ok(())
     }
 
-    fn piece(&mut self, piece: Piece) -> Result<(), AllocError> {
+    fn piece(&mut self, piece: Piece) {
         match piece {
             Piece::Key => self.key(),
             Piece::Context => self.context(),
@@ -228,32 +221,31 @@ impl Maker {
             Piece::Path => self.path(),
             Piece::Dot => self.dot(),
             Piece::State => self.state(),
-            Piece::Option(_) => Ok(()),
+            Piece::Option(_) => {}
         }
     }
 
-    fn pieces(&mut self, pieces: &[Piece]) -> Result<(), AllocError> {
+    fn pieces(&mut self, pieces: &[Piece]) {
         for piece in pieces {
-            self.piece(*piece)?;
+            self.piece(*piece);
             if let Piece::Option(inner) = piece {
                 let flag = [0, 1, 1, 2][self.random.below(4) as usize % 4];
-                self.push(&[flag])?;
+                self.push(&[flag]);
                 if flag > 0 {
                     for part in inner.iter() {
-                        self.piece(*part)?;
+                        self.piece(*part);
                     }
                 }
             }
         }
-        Ok(())
     }
 
     /// Takes bytes away, puts some at the end, or changes some; mostly none.
-    fn damage(&mut self) -> Result<(), AllocError> {
+    fn damage(&mut self) {
         let len = self.bytes.len() as u64;
         match self.random.below(8) {
             0 => self.bytes.truncate(self.random.below(len) as usize),
-            1 => self.letters(2)?,
+            1 => self.letters(2),
             2 => {
                 let at = self.random.below(len) as usize;
                 let byte = self.random.byte(256);
@@ -263,27 +255,21 @@ impl Maker {
             }
             _ => {}
         }
-        Ok(())
     }
 
     /// Adds a frame to a connection's bytes.
-    fn frame(&mut self, input: &mut Vec<u8>) -> Result<(), AllocError> {
+    fn frame(&mut self, input: &mut Vec<u8>) {
         // A Bye, which is the last of them, is seldom.
         let at = self.random.below(97) as usize / 8;
-        let Some((kind, pieces)) = KINDS.get(at) else {
-            return Ok(());
-        };
-        self.bytes.clear();
-        self.pieces(pieces)?;
-        self.damage()?;
-        input.extend_from_slice(
-            &u32::try_from(self.bytes.len())
-                .unwrap_or(0)
-                .saturating_add(1)
-                .to_be_bytes(),
-        )?;
-        input.push(*kind)?;
-        input.extend_from_slice(self.bytes.as_slice())
+        if let Some((kind, pieces)) = KINDS.get(at) {
+            self.bytes.clear();
+            self.pieces(pieces);
+            self.damage();
+            let len = u32::try_from(self.bytes.len()).unwrap_or(0);
+            push(input, &len.saturating_add(1).to_be_bytes());
+            push(input, &[*kind]);
+            push(input, self.bytes.as_slice());
+        }
     }
 }
 
@@ -291,36 +277,28 @@ const FRAMES: u32 = 40;
 
 const CONNECTIONS: u32 = 250;
 
-/// Whether a connection of such frames has as many replies, or ends by a Bye, and the next one tells a state.
-fn is_answered(
+/// How many of such frames are answered, which is all, or those up to a Bye.
+fn round(
     alloc: Global,
     replica: &mut Replica<MemStore>,
     maker: &mut Maker,
 ) -> Result<usize, Refusal> {
     let mut input = Vec::new(alloc);
     for _ in 0..FRAMES {
-        maker.frame(&mut input)?;
+        maker.frame(&mut input);
     }
-    let (output, ended) = replies(alloc, replica, input.as_slice());
-    let answered = count(alloc, output.as_slice())?;
-    let question = bytes_of(alloc, &[GET])?;
-    let (state, _) = replies(alloc, replica, question.as_slice());
-    let is_whole = match ended {
-        "end" => answered == FRAMES as usize,
-        "bye" => true,
-        _ => false,
-    };
-    if is_whole && is_state(alloc, state.as_slice())? {
-        Ok(answered)
+    let answered = answers(alloc, replica, input.as_slice());
+    drop(input);
+    let (replies, ended) = answered?;
+    if ended == "bye" || (ended == "end" && replies == FRAMES as usize) {
+        Ok(replies)
     } else {
         Err(Refusal::Damaged)
     }
 }
 
-#[test]
-fn random_frames_are_answered(rt: HostRuntime) -> Result<(), Fail> {
-    let alloc = rt.alloc();
-    let mut replica = first(alloc)?;
+/// How many are answered on all connections.
+fn rounds(alloc: Global, replica: &mut Replica<MemStore>) -> Result<usize, Fail> {
     let mut maker = Maker {
         random: Random {
             state: 0x9E37_79B9_7F4A_7C15,
@@ -329,13 +307,22 @@ fn random_frames_are_answered(rt: HostRuntime) -> Result<(), Fail> {
     };
     let mut answered = 0usize;
     for connection in 0..CONNECTIONS {
-        match is_answered(alloc, &mut replica, &mut maker) {
+        match round(alloc, replica, &mut maker) {
             Ok(replies) => answered = answered.saturating_add(replies),
             Err(refusal) => {
                 return Err(Fail::new(format_args!("connection {connection}: {refusal}")));
             }
         }
     }
-    println!(rt; "{answered} frames, {} keys", replica.key_count())?;
+    Ok(answered)
+}
+
+#[test]
+fn random_frames_are_answered(rt: HostRuntime) -> Result<(), Fail> {
+    let mut replica = new_replica(rt.alloc(), 1)?;
+    let answered = rounds(rt.alloc(), &mut replica);
+    let keys = replica.key_count();
+    drop(replica);
+    println!(rt; "{} frames, {keys} keys", answered?)?;
     Ok(())
 }

@@ -1,14 +1,15 @@
 //! Files that stop before some call, and are opened again.
-use super::calls::{bytes_of, opened, replies, run};
+use super::calls::{Bytes, Root, conn_of, new_replica, opened, or_refusal, root_of, run, serves};
 use super::damaged::{OLD, ONE};
 use mvd_dots::Refusal;
 use mvd_replica::Replica;
-use sqlite::{Alter, Connection, FileStore, Files, Options};
+use mvd_sync::sync_within;
+use sqlite::{Alter, Connection, FileStore, Files, MemStore, Options};
 use sqlite_disk::{Crash, Disk, Fuse, Memory};
 use std::alloc::Global;
 use std::test::Fail;
 
-pub type Stopping = Fuse<Memory>;
+type Stopping = Fuse<Memory>;
 
 /// Two files in memory with no byte.
 pub fn no_files(alloc: Global) -> Files<Memory> {
@@ -36,13 +37,13 @@ pub fn files_of<D: Disk + Drop>(conn: Connection<FileStore<D>>) -> Files<D> {
     conn.into_store().close()
 }
 
-/// The replica that two files hold, and what is left of them where they hold none.
+/// The replica of site 1 that two files hold, and what is left of them where they hold none.
 pub fn in_files<D: Disk + Drop>(
     alloc: Global,
     files: Files<D>,
 ) -> Result<Replica<FileStore<D>>, (Refusal, Files<D>)> {
     match connected(alloc, files) {
-        Ok(conn) => match opened(alloc, conn, 1) {
+        Ok(conn) => match opened(alloc, conn, 1, 100) {
             Ok(replica) => Ok(replica),
             Err((refusal, conn)) => Err((refusal, files_of(conn))),
         },
@@ -50,9 +51,14 @@ pub fn in_files<D: Disk + Drop>(
     }
 }
 
-/// Files whose calls stop after so many of the log's, and so many of the database's.
-pub fn fused(files: Files<Memory>, log_calls: u64, db_calls: u64) -> Files<Stopping> {
+/// Files of which one stops after so many calls: the log, or the database.
+fn fused(files: Files<Memory>, of_log: bool, calls: u64) -> Files<Stopping> {
     let Files { log, db } = files;
+    let (log_calls, db_calls) = if of_log {
+        (calls, u64::MAX)
+    } else {
+        (u64::MAX, calls)
+    };
     Files {
         log: Fuse::new(log, log_calls),
         db: Fuse::new(db, db_calls),
@@ -60,24 +66,26 @@ pub fn fused(files: Files<Memory>, log_calls: u64, db_calls: u64) -> Files<Stopp
 }
 
 /// The machine comes back: both files have what a crash left of them, and no call fails any more.
-pub fn revived(mut files: Files<Stopping>) -> Files<Stopping> {
+fn revived(mut files: Files<Stopping>) -> Files<Stopping> {
     files.log.crash();
     files.db.crash();
     files
 }
 
-/// The digest of the root, as the reply that tells it.
-pub fn root_of<S: Alter + Drop>(
-    alloc: Global,
-    replica: &mut Replica<S>,
-) -> Result<Vec<u8>, Refusal> {
-    let question = bytes_of(alloc, &["000000022700"])?;
-    let (reply, _) = replies(alloc, replica, question.as_slice());
-    Ok(reply)
+/// What is done on files that stop.
+#[derive(Clone, Copy, PartialEq, Eq)]
+enum Run {
+    /// Six puts are served.
+    Puts,
+    /// Three keys of version 1 are moved, which is done when the files are opened.
+    Move,
+    /// A session, as its local side, and as the peer.
+    Local,
+    Peer,
 }
 
 /// Six requests, each of which changes the states: puts at four keys, the last two of which supersede others.
-pub const PUTS: [&str; 6] = [
+const PUTS: [&str; 6] = [
     "0000001222016b00000000000000077b2261223a317d",
     "0000001222016100000000000000077b2261223a327d",
     "0000001222016b00000000000000077b2261223a337d",
@@ -86,107 +94,58 @@ pub const PUTS: [&str; 6] = [
     "0000001222016300000000000000077b2261223a367d",
 ];
 
-/// How many frames with a dot there are.
-fn written_in(output: &[u8]) -> usize {
-    output
-        .chunks(17)
-        .filter(|chunk| chunk.len() == 17 && chunk[4] == 0xA2)
-        .count()
-}
+/// Puts at keys of the side whose files stop, and of the other.
+const MINE: [&str; 2] = [
+    "0000001222016b00000000000000077b2261223a317d",
+    "0000001222016100000000000000077b2261223a327d",
+];
 
-/// The roots after none of the puts, after the first, and so on.
-fn roots(alloc: Global) -> Result<Vec<Vec<u8>>, Refusal> {
-    let mut roots = Vec::new(alloc);
-    let mut replica = match in_files(alloc, no_files(alloc)) {
-        Ok(replica) => replica,
-        Err((refusal, _)) => return Err(refusal),
-    };
-    roots.push(root_of(alloc, &mut replica)?)?;
-    for put in PUTS {
-        let put = bytes_of(alloc, &[put])?;
-        let _replies = replies(alloc, &mut replica, put.as_slice());
-        roots.push(root_of(alloc, &mut replica)?)?;
-    }
-    Ok(roots)
-}
+const THEIRS: [&str; 2] = [
+    "0000001222016b00000000000000077b2261223a337d",
+    "0000001222016200000000000000077b2261223a347d",
+];
 
-/// Serves the six puts on these files, and tells how many were answered.
-fn put_six(alloc: Global, files: Files<Stopping>) -> Result<(usize, Files<Stopping>), Refusal> {
-    let puts = bytes_of(alloc, &PUTS)?;
-    match in_files(alloc, files) {
-        Ok(mut replica) => {
-            let (output, _) = replies(alloc, &mut replica, puts.as_slice());
-            Ok((
-                written_in(output.as_slice()),
-                files_of(replica.into_connection()),
-            ))
+/// Serves puts, and tells how many were answered by a dot.
+fn put_all<S: Alter + Drop>(alloc: Global, replica: &mut Replica<S>, puts: &[&str]) -> usize {
+    let (output, _) = serves(alloc, replica, &Bytes::of(puts));
+    let mut written = 0usize;
+    for frame in output.bytes().chunks(17) {
+        if frame.len() == 17 && frame[4] == 0xA2 {
+            written = written.saturating_add(1);
         }
-        Err((_, files)) => Ok((0, files)),
     }
+    written
 }
 
-/// The root that the files hold once the machine is back.
-fn root_after(alloc: Global, files: Files<Stopping>) -> Result<Vec<u8>, Refusal> {
-    match in_files(alloc, revived(files)) {
-        Ok(mut replica) => root_of(alloc, &mut replica),
-        Err((refusal, _)) => Err(refusal),
-    }
-}
-
-/// Stops the files before these calls, and opens them again. Answers how many puts were answered, where the states are those
-/// after them, or with the next one.
-fn stopped(
+/// Whether a session with so many questions to each side at most ends well.
+fn meets<S: Alter + Drop, T: Alter + Drop>(
     alloc: Global,
-    roots: &[Vec<u8>],
-    log_calls: u64,
-    db_calls: u64,
-) -> Result<Option<usize>, Refusal> {
-    let (done, files) = put_six(alloc, fused(no_files(alloc), log_calls, db_calls))?;
-    let root = root_after(alloc, files)?;
-    let is_kept = roots
-        .iter()
-        .skip(done)
-        .take(2)
-        .any(|wanted| wanted.as_slice() == root.as_slice());
-    Ok(if is_kept { Some(done) } else { None })
+    local: &mut Replica<S>,
+    peer: &mut Replica<T>,
+    questions: usize,
+) -> bool {
+    sync_within(alloc, local, peer, (questions as u64).clamp(1, 1_000)).is_ok()
 }
 
-/// Stops one file before each of its calls, until all puts are answered, and tells how many calls that took.
-fn until_answered(alloc: Global, of_log: bool) -> Result<u64, Fail> {
-    let roots = roots(alloc)?;
-    for calls in 0..10_000u64 {
-        let (log, db) = if of_log {
-            (calls, u64::MAX)
-        } else {
-            (u64::MAX, calls)
-        };
-        match stopped(alloc, roots.as_slice(), log, db)? {
-            None => return Err(Fail::new(format_args!("{calls} calls left other states"))),
-            Some(6) => return Ok(calls),
-            Some(_) => {}
-        }
+/// Does so much of a run, and tells how much was done: of the six puts how many, or of another run whether all of it was.
+fn does<S: Alter + Drop>(
+    alloc: Global,
+    run: Run,
+    most: usize,
+    replica: &mut Replica<S>,
+    other: &mut Replica<MemStore>,
+) -> usize {
+    match run {
+        Run::Puts => put_all(alloc, replica, &PUTS[..most.min(6)]),
+        Run::Move => 1,
+        Run::Local => usize::from(meets(alloc, replica, other, most)),
+        Run::Peer => usize::from(meets(alloc, other, replica, most)),
     }
-    Err("no run ended")?
 }
 
-#[test]
-fn a_stop_while_six_puts_are_served(rt: HostRuntime) -> Result<(), Fail> {
-    let log = until_answered(rt.alloc(), true)?;
-    let db = until_answered(rt.alloc(), false)?;
-    println!(rt; "{log} calls of the log, {db} of the database")?;
-    Ok(())
-}
-
-/// Records of version 1 with three keys.
-fn three_old(alloc: Global) -> Result<Files<Memory>, Refusal> {
-    let mut conn = match connected(alloc, no_files(alloc)) {
-        Ok(conn) => conn,
-        Err(_) => return Err(Refusal::Store),
-    };
-    for sql in [OLD, ONE, OLD_ROWS] {
-        run(&mut conn, sql)?;
-    }
-    Ok(files_of(conn))
+/// How much is done when all of a run is.
+fn whole(run: Run) -> usize {
+    if run == Run::Puts { 6 } else { 1 }
 }
 
 pub const OLD_ROWS: &str = "INSERT INTO states VALUES
@@ -194,40 +153,174 @@ pub const OLD_ROWS: &str = "INSERT INTO states VALUES
  ('b', x'00010001000000000000000100000000000100010000000000000001000000077b2261223a327d'),
  ('k', x'00010001000000000000000100000000000100010000000000000001000000077b2261223a317d')";
 
-/// Stops the files before these calls while the keys are moved, and opens them again: the root then, and whether the first
-/// open went well.
-fn moved(alloc: Global, log_calls: u64, db_calls: u64) -> Result<(bool, Vec<u8>), Refusal> {
-    let files = fused(three_old(alloc)?, log_calls, db_calls);
-    let (is_open, files) = match in_files(alloc, files) {
-        Ok(replica) => (true, files_of(replica.into_connection())),
-        Err((_, files)) => (false, files),
+/// Records of version 1 with three keys.
+fn three_old(alloc: Global) -> Result<Files<Memory>, Refusal> {
+    let Ok(mut conn) = connected(alloc, no_files(alloc)) else {
+        return Err(Refusal::Store);
     };
-    Ok((is_open, root_after(alloc, files)?))
+    for sql in [OLD, ONE, OLD_ROWS] {
+        run(&mut conn, sql)?;
+    }
+    Ok(files_of(conn))
 }
 
-fn until_moved(alloc: Global, of_log: bool) -> Result<u64, Fail> {
-    let (_, wanted) = moved(alloc, u64::MAX, u64::MAX)?;
+/// Records with the two puts of the side whose files stop.
+fn with_mine(alloc: Global) -> Result<Files<Memory>, Refusal> {
+    let mut replica = or_refusal(in_files(alloc, no_files(alloc)))?;
+    put_all(alloc, &mut replica, &MINE);
+    Ok(files_of(conn_of(replica)))
+}
+
+/// The files before a run.
+fn files_before(alloc: Global, run: Run) -> Result<Files<Memory>, Refusal> {
+    match run {
+        Run::Puts => Ok(no_files(alloc)),
+        Run::Move => three_old(alloc),
+        Run::Local | Run::Peer => with_mine(alloc),
+    }
+}
+
+/// Does so much of a run on files that stop: how much was done, the root then, and the files.
+fn done_on(
+    alloc: Global,
+    run: Run,
+    most: usize,
+    files: Files<Stopping>,
+    other: &mut Replica<MemStore>,
+) -> (usize, Root, Files<Stopping>) {
+    match in_files(alloc, files) {
+        Ok(mut replica) => {
+            let done = does(alloc, run, most, &mut replica, other);
+            let root = root_of(alloc, &mut replica);
+            (done, root, files_of(conn_of(replica)))
+        }
+        Err((_, files)) => (0, [0; 33], files),
+    }
+}
+
+/// The root once the machine is back, and that after one more session.
+fn found_in(
+    alloc: Global,
+    run: Run,
+    files: Files<Stopping>,
+    other: &mut Replica<MemStore>,
+) -> Result<(Root, Root), Refusal> {
+    let mut replica = or_refusal(in_files(alloc, revived(files)))?;
+    let kept = root_of(alloc, &mut replica);
+    if run != Run::Puts {
+        does(alloc, run, 1_000, &mut replica, other);
+    }
+    let end = root_of(alloc, &mut replica);
+    drop(replica);
+    Ok((kept, end))
+}
+
+/// What a run came to: how much was done, and the roots: as it ended, once the machine was back, and after one more session, there
+/// and on the other side.
+#[derive(Clone, Copy)]
+struct Left {
+    done: usize,
+    last: Root,
+    kept: Root,
+    end: Root,
+    other: Root,
+}
+
+/// Does so much of a run beside another side, on files of which one stops after so many calls.
+fn done_beside(
+    alloc: Global,
+    run: Run,
+    most: usize,
+    stop: (bool, u64),
+    other: &mut Replica<MemStore>,
+) -> Result<Left, Refusal> {
+    let files = fused(files_before(alloc, run)?, stop.0, stop.1);
+    let (done, last, files) = done_on(alloc, run, most, files, other);
+    let (kept, end) = found_in(alloc, run, files, other)?;
+    Ok(Left {
+        done,
+        last,
+        kept,
+        end,
+        other: root_of(alloc, other),
+    })
+}
+
+/// The same beside a side of its own, which has two puts.
+fn done(alloc: Global, run: Run, most: usize, stop: (bool, u64)) -> Result<Left, Refusal> {
+    let mut other = new_replica(alloc, 2)?;
+    put_all(alloc, &mut other, &THEIRS);
+    let left = done_beside(alloc, run, most, stop, &mut other);
+    drop(other);
+    left
+}
+
+/// The roots in the course of a run, where nothing stops: of the puts after each, of a session after more and more questions.
+fn roots(alloc: Global, run: Run) -> Result<Vec<Root>, Refusal> {
+    let mut roots = Vec::new(alloc);
+    for most in 0..100usize {
+        let left = done(alloc, run, most, (true, u64::MAX))?;
+        roots.push(left.last)?;
+        if left.done == whole(run) {
+            break;
+        }
+    }
+    Ok(roots)
+}
+
+/// Whether what a run left is what it may: the states after the puts that were answered, or with the next one; those that the session
+/// has on its way, or at its end where it ended well; and after one more session those at the end, on both sides.
+fn may_leave(run: Run, roots: &[Root], left: &Left) -> bool {
+    let Some(last) = roots.last() else {
+        return false;
+    };
+    let (from, count) = if run == Run::Puts {
+        (left.done, 2)
+    } else if left.done == 0 {
+        (0, roots.len())
+    } else {
+        (roots.len().saturating_sub(1), 1)
+    };
+    let is_known = roots
+        .iter()
+        .skip(from)
+        .take(count)
+        .any(|root| *root == left.kept);
+    match run {
+        Run::Puts => is_known,
+        Run::Move => is_known && left.end == *last,
+        Run::Local | Run::Peer => is_known && left.end == *last && left.other == *last,
+    }
+}
+
+/// Stops one file before each of its calls, until all of a run is done, and tells how many calls that took.
+fn until_done(alloc: Global, run: Run, of_log: bool) -> Result<u64, Fail> {
+    let roots = roots(alloc, run)?;
     for calls in 0..10_000u64 {
-        let (log, db) = if of_log {
-            (calls, u64::MAX)
-        } else {
-            (u64::MAX, calls)
-        };
-        let (is_open, root) = moved(alloc, log, db)?;
-        if root.as_slice() != wanted.as_slice() {
+        let left = done(alloc, run, 1_000, (of_log, calls))?;
+        if !may_leave(run, roots.as_slice(), &left) {
             return Err(Fail::new(format_args!("{calls} calls left other states")));
         }
-        if is_open {
+        if left.done == whole(run) {
             return Ok(calls);
         }
     }
     Err("no run ended")?
 }
 
+const RUNS: [(&str, Run); 4] = [
+    ("six puts", Run::Puts),
+    ("three old keys", Run::Move),
+    ("a session's local side", Run::Local),
+    ("a session's peer", Run::Peer),
+];
+
 #[test]
-fn a_stop_while_old_keys_are_moved(rt: HostRuntime) -> Result<(), Fail> {
-    let log = until_moved(rt.alloc(), true)?;
-    let db = until_moved(rt.alloc(), false)?;
-    println!(rt; "{log} calls of the log, {db} of the database")?;
+fn each_file_may_stop(rt: HostRuntime) -> Result<(), Fail> {
+    for (name, run) in RUNS {
+        let log = until_done(rt.alloc(), run, true)?;
+        let db = until_done(rt.alloc(), run, false)?;
+        println!(rt; "{name}: {log} calls of the log, {db} of the database")?;
+    }
     Ok(())
 }

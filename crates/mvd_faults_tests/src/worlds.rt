@@ -1,10 +1,10 @@
 //! Steps of a world where one growth is refused, whichever it is.
-use super::memory::{Frame, Told, told_by};
+use super::calls::{DONE, Told};
+use super::memory::{request_of, told_by};
 use mvd_dots::Refusal;
 use mvd_keys::Key;
 use mvd_rows::Defs;
 use mvd_sync::SyncFault;
-use mvd_wire::{Request, decode_request, read_frame};
 use mvd_world::{Outcome, Step, World};
 use std::alloc::Global;
 use std::test::Fail;
@@ -17,8 +17,6 @@ enum Move {
     Receive(u32, u64),
     Session(u32, u32, u64),
 }
-
-const DONE: &str = "00000001a3";
 
 const MOVES: &[Move] = &[
     Move::Write(
@@ -67,15 +65,6 @@ const MOVES: &[Move] = &[
     ),
 ];
 
-fn request_of(alloc: Global, digits: &str) -> Result<Request, Refusal> {
-    let frame = Frame::new(digits);
-    let mut bytes = frame.bytes();
-    match read_frame(alloc, &mut bytes)? {
-        Some(frame) => decode_request(alloc, frame.kind, &frame.payload),
-        None => Err(Refusal::Truncated),
-    }
-}
-
 fn step_of(alloc: Global, one: &Move) -> Result<Step, Refusal> {
     Ok(match one {
         Move::Write(site, request, _) => Step::Write {
@@ -110,51 +99,67 @@ fn told_by_fault(fault: SyncFault) -> Told {
     }
 }
 
+/// What is wanted, or another outcome.
+fn told_if(is_wanted: bool) -> Told {
+    if is_wanted { Told::Wanted } else { Told::Other }
+}
+
 /// What an outcome tells. A session that goes on after a refusal finds fewer keys that differ.
-fn tells(alloc: Global, outcome: Outcome, one: &Move, is_second: bool) -> Result<Told, Refusal> {
-    let is_wanted = match (&outcome, one) {
+fn tells(alloc: Global, outcome: &Outcome, one: &Move, is_second: bool) -> Result<Told, Refusal> {
+    match (outcome, one) {
         (Outcome::Replied(reply), Move::Write(_, _, wanted) | Move::Ask(_, _, wanted)) => {
-            return told_by(alloc, reply, wanted);
+            told_by(alloc, reply, wanted)
         }
-        (Outcome::Replied(reply), _) => return told_by(alloc, reply, DONE),
-        (Outcome::Sent(number), Move::Send(_, wanted)) => number == wanted,
-        (Outcome::Met(report), Move::Session(_, _, wanted)) => {
-            report.keys == *wanted || (is_second && report.keys < *wanted)
-        }
-        (Outcome::Failed(fault), Move::Session(_, _, _)) => return Ok(told_by_fault(*fault)),
-        _ => false,
-    };
-    Ok(if is_wanted { Told::Wanted } else { Told::Other })
+        (Outcome::Replied(reply), _) => told_by(alloc, reply, DONE),
+        (Outcome::Sent(number), Move::Send(_, wanted)) => Ok(told_if(number == wanted)),
+        (Outcome::Met(report), Move::Session(_, _, wanted)) => Ok(told_if(
+            report.keys == *wanted || (is_second && report.keys < *wanted),
+        )),
+        (Outcome::Failed(fault), Move::Session(_, _, _)) => Ok(told_by_fault(*fault)),
+        _ => Ok(Told::Other),
+    }
 }
 
 fn taken(alloc: Global, world: &mut World, one: &Move, is_second: bool) -> Result<Told, Refusal> {
     let step = step_of(alloc, one)?;
     let outcome = world.step(&step);
-    tells(alloc, outcome, one, is_second)
+    let told = tells(alloc, &outcome, one, is_second);
+    drop(outcome);
+    drop(step);
+    told
+}
+
+/// What a step comes to, which is taken again where memory was refused.
+fn taken_again(alloc: Global, world: &mut World, one: &Move) -> Result<Told, Refusal> {
+    match taken(alloc, world, one, false) {
+        Ok(Told::Refused) | Err(_) => taken(alloc, world, one, true),
+        told => told,
+    }
+}
+
+/// Whether the steps come to what they should, up to one that breaks a site.
+fn steps_stand(alloc: Global, world: &mut World) -> Result<bool, Refusal> {
+    for one in MOVES {
+        match taken_again(alloc, world, one)? {
+            Told::Wanted => {}
+            told => return Ok(told == Told::Broken),
+        }
+    }
+    Ok(true)
 }
 
 fn new_world(alloc: Global) -> Result<World, Refusal> {
     World::new(alloc, 2, 100, Defs::new(alloc))
 }
 
-/// Whether the steps come to what they should, those refused for memory when taken again, up to one that breaks a site.
 fn world_stands(alloc: Global) -> Result<bool, Refusal> {
     let mut world = match new_world(alloc) {
         Ok(world) => world,
         Err(_) => new_world(alloc)?,
     };
-    for one in MOVES {
-        let told = match taken(alloc, &mut world, one, false) {
-            Ok(Told::Refused) | Err(_) => taken(alloc, &mut world, one, true)?,
-            Ok(told) => told,
-        };
-        match told {
-            Told::Wanted => {}
-            Told::Broken => return Ok(true),
-            _ => return Ok(false),
-        }
-    }
-    Ok(true)
+    let stands = steps_stand(alloc, &mut world);
+    drop(world);
+    stands
 }
 
 #[test]

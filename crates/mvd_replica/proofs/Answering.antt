@@ -16,10 +16,11 @@ use Rattle.mvd_site.specs.Prepared.{PreparesChange}
 use Rattle.mvd_site.specs.Sites.{AnswersOne, SiteStands, SiteValue}
 use Rattle.mvd_site.proofs.Outcomes.{memory_or_not, refused_fits}
 use Rattle.mvd_site.proofs.Prepare.{answers_by_breaking, refuses_all}
+use Rattle.mvd_site.proofs.Pushes.{refusal_is}
 use Rattle.mvd_site.proofs.Steps.{Adds-nothing, Stands-nothing}
 use Rattle.mvd_replica.specs.Kept.{PutsIn}
 use Rattle.mvd_replica.specs.Sides.{AnswersFromStored}
-use Rattle.mvd_replica.specs.Turns.{AnswersStored, MayTell}
+use Rattle.mvd_replica.specs.Turns.{AnswersStored, IsToldElse, MayTell}
 use Rattle.mvd_replica.specs.Steps.{RepliesTo}
 use Rattle.mvd_replica.proofs.Sides.{broke_by}
 use Rattle.mvd_replica.proofs.Replying.{AddsAt-Refused, AddsAt-Refused-none, MayTell-memory}
@@ -66,6 +67,14 @@ may_refuse config known broken asked refusal exact (inr other) =
     let fault : asked ≡ Err refusal = exact other in
     subst (λ a. MayTell config known broken a (Refused refusal) broken) (sym fault) (inl (refl, refl))
 
+-- one that does not decode is no request that is told 22
+refused_else : (asked : Result Request Refusal) (refusal : Refusal) → (refusal ≢ Memory → asked ≡ Err refusal) → IsToldElse (record { asked = asked; reply = Refused refusal })
+refused_else asked refusal exact request told =
+    let is : refusal ≡ Broken = refusal_is refusal Broken told.1 in
+    let other : refusal ≢ Memory = λ memory. (let bad : Broken ≡ Memory = sym is ∙ memory in absurd cc) in
+    let bad : ◌≡◌ {A = Result Request Refusal} (Ok request) (Err refusal) = sym told.0 ∙ exact other in
+    absurd cc
+
 -- one that does not decode
 pub refused_frame : (site : SiteValue) (asked : Result Request Refusal) (refusal : Refusal) → (refusal ≢ Memory → asked ≡ Err refusal) → (asked ≡ Ok Bye → ◌≡◌ {A = Result Request Refusal} (Err refusal) (Ok Bye)) →
     RepliesTo asked site site (Refused refusal)
@@ -80,6 +89,8 @@ refused_frame site asked refusal exact bye = record {
   choice = ([], AddsAt-Refused-none asked refusal);
   config = refl;
   long = λ _. refl;
+  told = λ _. refused_else asked refusal exact;
+  breaks = λ whole broken. absurd (true≢false (sym broken ∙ whole));
 }
 
 -- a reply that takes memory is told by a site that is not broken, and was not
@@ -104,8 +115,8 @@ keeps_states old new request reply true is one answers told stays known added st
 
 -- and one that does
 pub replied : (old new : SiteValue) (asked : Result Request Refusal) (request : Request) (reply : Reply) → asked ≡ Ok request → AnswersStored old new request reply → AnswersFromStored old new request reply → CanBeSent reply → (request ≡ Bye → ⊥) →
-    ((added : List Write) × Adds request reply added) → new.config ≡ old.config → (new.broken ≡ true → reply ≡ Refused Broken) → (old.broken ≡ true → new ≡ old) → RepliesTo asked old new reply
-replied old new asked request reply is one answers fits no_bye some config told stays =
+    ((added : List Write) × Adds request reply added) → new.config ≡ old.config → (new.broken ≡ true → reply ≡ Refused Broken) → (reply ≡ Refused Broken → new.broken ≡ true) → (old.broken ≡ true → new ≡ old) → RepliesTo asked old new reply
+replied old new asked request reply is one answers fits no_bye some config told breaks stays =
     subst (λ a. RepliesTo a old new reply) (sym is) (record {
       one = record { replies = λ known stands. inl (one.replies known stands); stands = one.stands; keeps = keeps_states old new request reply new.broken refl one answers told stays };
       fits = fits;
@@ -113,6 +124,8 @@ replied old new asked request reply is one answers fits no_bye some config told 
       choice = some;
       config = config;
       long = long_is_whole old new reply old.broken new.broken refl refl told stays;
+      told = λ whole other bad. true≢false (sym (breaks bad.1) ∙ whole);
+      breaks = λ _. told;
     })
 
 -- the request that a frame decoded to

@@ -4,7 +4,6 @@ use Rattle.std.specs.Result.{IfErr, OnErr, OnOk}
 use Rattle.std.specs.Io.KnownBytes.{Appends}
 use Rattle.mvd_dots.specs.declared.refusals.Refusal.{Refusal}
 use Rattle.mvd_dots.specs.declared.refusals.Refusal.TheVariants.{Memory, Broken, ReadFailed, WriteFailed, TooManyRequests}
-use Rattle.mvd_wire.specs.declared.request.Request.{Request}
 use Rattle.mvd_wire.specs.declared.request.Request.TheVariants.{Bye}
 use Rattle.mvd_wire.specs.declared.reply.Reply.{Reply}
 use Rattle.mvd_wire.specs.declared.reply.Reply.TheVariants.{Done, Refused}
@@ -16,24 +15,29 @@ use Rattle.mvd_wire.specs.Replies.{reply_bytes}
 use Rattle.mvd_wire.proofs.FramesRead.{no_frame_taken}
 use Rattle.mvd_replica.specs.declared.serving.Ended.{Ended}
 use Rattle.mvd_replica.specs.declared.serving.Ended.TheVariants as ended
-use Rattle.mvd_replica.specs.Turns.{IsAskedAtOnce, AreFrames, Replies, StandsOn, Turn}
+use Rattle.mvd_replica.specs.Sides.{ReplicaFollows, replica_follows_self}
+use Rattle.mvd_replica.specs.Turns.{AreFrames, IsFirstBroken, Replies, StandsOn, Turn}
 use Rattle.mvd_replica.specs.Served.{AtBye, AtEnd, AtRefusal, AtWriter, Stops, GoesOut, Went}
 use Rattle.mvd_replica.specs.Steps.{Ends, IsSent, RepliesTo}
 use Rattle.std.proofs.KnownBytes.{Appends-nil}
 use Rattle.mvd_replica.proofs.Whole.{GoesOut-err}
+use Rattle.mvd_replica.proofs.Breaking.{follows_bye, follows_sent, told_sent}
+use Rattle.sqlite.specs.State.{State}
 use Rattle.mvd_replica.proofs.Replying.{Replies-none, Replies-one, RepliesOne-sent, StandsOn-none, StandsOn-one, HasChoice-none, HasChoice-sent}
 
 -- ---- the ends
 
-pub at_end : (site : SiteValue) (before after output : Option (List ℕ)) → Reads (option_map frame_value) before after (Ok None) frame_at →
-    Ends (record { site = site; input = before; output = output }) (record { site = site; input = after; output = output }) (Ok ended.End)
-at_end site before after output came = record {
+pub at_end : (site : SiteValue) (store : State) (before after output : Option (List ℕ)) → Reads (option_map frame_value) before after (Ok None) frame_at →
+    Ends (record { site = site; store = store; input = before; output = output }) (record { site = site; store = store; input = after; output = output }) (Ok ended.End)
+at_end site store before after output came = record {
   turns = [];
   ending = AtEnd;
   replies = Replies-none site;
   stands = StandsOn-none site;
   choice = HasChoice-none;
   goes_on = tt;
+  told = λ _. tt;
+  follows = replica_follows_self site store;
   count = refl;
   read = λ bytes known.
       let p : (rest : List ℕ) × (after ≡ Some rest) × (frame_at bytes ≡ Ok (None, rest)) = came bytes known in
@@ -54,16 +58,18 @@ few e (inr (inl is)) h = cc
 few e (inr (inr (inl is))) h = cc
 few e (inr (inr (inr is))) h = cc
 
-pub at_refusal : (site : SiteValue) (before after output out : Option (List ℕ)) (e : Refusal) (fault : Refusal) → Reads (option_map frame_value) before after (Err e) frame_at → EndsReading e →
+pub at_refusal : (site : SiteValue) (store : State) (before after output out : Option (List ℕ)) (e : Refusal) (fault : Refusal) → Reads (option_map frame_value) before after (Err e) frame_at → EndsReading e →
     GoesOut output out (reply_bytes (Refused e)) WriteFailed fault e →
-    Ends (record { site = site; input = before; output = output }) (record { site = site; input = after; output = out }) (Err fault)
-at_refusal site before after output out e fault came which wrote = record {
+    Ends (record { site = site; store = store; input = before; output = output }) (record { site = site; store = store; input = after; output = out }) (Err fault)
+at_refusal site store before after output out e fault came which wrote = record {
   turns = [];
   ending = AtRefusal e;
   replies = Replies-none site;
   stands = StandsOn-none site;
   choice = HasChoice-none;
   goes_on = tt;
+  told = λ _. tt;
+  follows = replica_follows_self site store;
   count = (refl, few e which);
   read = λ bytes known. (bytes, refl, told e bytes after which (came bytes known));
   wrote = GoesOut-err output out (reply_bytes (Refused e)) WriteFailed fault e wrote;
@@ -75,27 +81,29 @@ bye_stops before after frame came asked bytes known =
     let p : (rest : List ℕ) × (after ≡ Some rest) × (frame_at bytes ≡ Ok (Some (frame_value frame), rest)) = came bytes known in
     (bytes, refl, (frame_value frame, p.0, p.2, asked, p.1))
 
-pub at_bye : (old site : SiteValue) (before after output out : Option (List ℕ)) (frame : Frame) (result : Result Ended Refusal) → Reads (option_map frame_value) before after (Ok (Some frame)) frame_at →
-    request_of frame.kind frame.payload.items ≡ Ok Bye → site ≡ old →
+at_bye : (old site : SiteValue) (was store : State) (before after output out : Option (List ℕ)) (frame : Frame) (result : Result Ended Refusal) → Reads (option_map frame_value) before after (Ok (Some frame)) frame_at →
+    request_of frame.kind frame.payload.items ≡ Ok Bye → site ≡ old → ReplicaFollows (IsFirstBroken []) old site was store →
     GoesOut output out (reply_bytes (if site.broken then Refused Broken else Done)) (Err WriteFailed) result (Ok ended.Bye) →
-    Ends (record { site = old; input = before; output = output }) (record { site = site; input = after; output = out }) result
-at_bye old site before after output out frame result came asked same wrote = record {
+    Ends (record { site = old; store = was; input = before; output = output }) (record { site = site; store = store; input = after; output = out }) result
+at_bye old site was store before after output out frame result came asked same follows wrote = record {
   turns = [];
   ending = AtBye;
   replies = subst (λ s. Replies s site []) same (Replies-none site);
   stands = subst (λ s. StandsOn s site []) same (StandsOn-none site);
   choice = HasChoice-none;
   goes_on = tt;
+  told = λ _. tt;
+  follows = follows;
   count = refl;
   read = bye_stops before after frame came asked;
   wrote = wrote;
 }
 
-pub goes_on : (old new : SiteValue) (before after output out : Option (List ℕ)) (frame : Frame) (reply sent : Reply) → Reads (option_map frame_value) before after (Ok (Some frame)) frame_at →
-    RepliesTo (request_of frame.kind frame.payload.items) old new reply → IsSent reply sent →
+goes_on : (old new : SiteValue) (was store : State) (before after output out : Option (List ℕ)) (frame : Frame) (reply sent : Reply) → Reads (option_map frame_value) before after (Ok (Some frame)) frame_at →
+    RepliesTo (request_of frame.kind frame.payload.items) old new reply → ReplicaFollows (λ request. request_of frame.kind frame.payload.items ≡ Ok request) old new was store → IsSent reply sent →
     Appends output out (reply_bytes sent) →
-    (turn : Turn) × Went (turn ∷ []) (record { site = old; input = before; output = output }) (record { site = new; input = after; output = out })
-goes_on old new before after output out frame reply sent came replied is wrote =
+    (turn : Turn) × Went (turn ∷ []) (record { site = old; store = was; input = before; output = output }) (record { site = new; store = store; input = after; output = out })
+goes_on old new was store before after output out frame reply sent came replied follows is wrote =
     let asked = request_of frame.kind frame.payload.items in
     let turn : Turn = record { asked = asked; reply = sent } in (
       turn,
@@ -105,6 +113,8 @@ goes_on old new before after output out frame reply sent came replied is wrote =
         config = replied.config;
         choice = HasChoice-sent asked reply sent is replied.choice;
         goes_on = (replied.goes_on, tt);
+        told = told_sent asked old new reply sent is replied;
+        follows = follows_sent asked old new was store reply sent is replied follows;
         read = λ bytes known.
             let p : (rest : List ℕ) × (after ≡ Some rest) × (frame_at bytes ≡ Ok (Some (frame_value frame), rest)) = came bytes known in
             (p.0, p.1, (frame_value frame, p.0, p.2, refl, refl));
@@ -112,11 +122,11 @@ goes_on old new before after output out frame reply sent came replied is wrote =
       },
     )
 
-pub at_writer : (old new : SiteValue) (before after output out : Option (List ℕ)) (frame : Frame) (reply sent : Reply) → Reads (option_map frame_value) before after (Ok (Some frame)) frame_at →
-    RepliesTo (request_of frame.kind frame.payload.items) old new reply → IsSent reply sent →
+at_writer : (old new : SiteValue) (was store : State) (before after output out : Option (List ℕ)) (frame : Frame) (reply sent : Reply) → Reads (option_map frame_value) before after (Ok (Some frame)) frame_at →
+    RepliesTo (request_of frame.kind frame.payload.items) old new reply → ReplicaFollows (λ request. request_of frame.kind frame.payload.items ≡ Ok request) old new was store → IsSent reply sent →
     AppendsFront output out (reply_bytes sent) →
-    Ends (record { site = old; input = before; output = output }) (record { site = new; input = after; output = out }) (Err WriteFailed)
-at_writer old new before after output out frame reply sent came replied is wrote =
+    Ends (record { site = old; store = was; input = before; output = output }) (record { site = new; store = store; input = after; output = out }) (Err WriteFailed)
+at_writer old new was store before after output out frame reply sent came replied follows is wrote =
     let asked = request_of frame.kind frame.payload.items in
     let turn : Turn = record { asked = asked; reply = sent } in
     let same : reply_bytes sent ≡ (reply_bytes sent ++ []) ++ [] = sym (append-nil (reply_bytes sent)) ∙ sym (append-nil (reply_bytes sent ++ [])) in record {
@@ -126,6 +136,8 @@ at_writer old new before after output out frame reply sent came replied is wrote
       stands = StandsOn-one old new turn (RepliesOne-sent old new asked reply sent is replied.long replied.one);
       choice = HasChoice-sent asked reply sent is replied.choice;
       goes_on = (replied.goes_on, tt);
+      told = told_sent asked old new reply sent is replied;
+      follows = follows_sent asked old new was store reply sent is replied follows;
       count = refl;
       read = λ bytes known.
           let p : (rest : List ℕ) × (after ≡ Some rest) × (frame_at bytes ≡ Ok (Some (frame_value frame), rest)) = came bytes known in
@@ -141,17 +153,19 @@ came {before} {after} same reads = subst (λ o. Reads (option_map frame_value) b
 last_is : (site : SiteValue) (broken : Bool) (bytes : List ℕ) → broken ≡ site.broken → bytes ≡ reply_bytes (if broken then Refused Broken else Done) → bytes ≡ reply_bytes (if site.broken then Refused Broken else Done)
 last_is site broken bytes same is = is ∙ ap (λ b. reply_bytes (if b then Refused Broken else Done)) same
 
-pub at_bye_ok : (old site : SiteValue) (before after output out : Option (List ℕ)) (frame : Frame) (broken : Bool) (bytes : List ℕ) → Reads (option_map frame_value) before after (Ok (Some frame)) frame_at →
-    request_of frame.kind frame.payload.items ≡ Ok Bye → site ≡ old → broken ≡ site.broken → bytes ≡ reply_bytes (if broken then Refused Broken else Done) → Appends output out bytes →
-    Ends (record { site = old; input = before; output = output }) (record { site = site; input = after; output = out }) (Ok ended.Bye)
-at_bye_ok old site before after output out frame broken bytes came asked same is last wrote =
-    at_bye old site before after output out frame (Ok ended.Bye) came asked same (inl (refl, subst (Appends output out) (last_is site broken bytes is last) wrote))
+pub at_bye_ok : (old site : SiteValue) (was store : State) (before after output out : Option (List ℕ)) (frame : Frame) (broken : Bool) (bytes : List ℕ) → Reads (option_map frame_value) before after (Ok (Some frame)) frame_at →
+    request_of frame.kind frame.payload.items ≡ Ok Bye → site ≡ old → ReplicaFollows (λ request. request_of frame.kind frame.payload.items ≡ Ok request) old site was store →
+    broken ≡ site.broken → bytes ≡ reply_bytes (if broken then Refused Broken else Done) → Appends output out bytes →
+    Ends (record { site = old; store = was; input = before; output = output }) (record { site = site; store = store; input = after; output = out }) (Ok ended.Bye)
+at_bye_ok old site was store before after output out frame broken bytes came asked same follows is last wrote =
+    at_bye old site was store before after output out frame (Ok ended.Bye) came asked same (follows_bye _ old site was store same follows) (inl (refl, subst (Appends output out) (last_is site broken bytes is last) wrote))
 
-pub at_bye_failed : (old site : SiteValue) (before after output out : Option (List ℕ)) (frame : Frame) (broken : Bool) (bytes : List ℕ) (failed : Refusal) → Reads (option_map frame_value) before after (Ok (Some frame)) frame_at →
-    request_of frame.kind frame.payload.items ≡ Ok Bye → site ≡ old → broken ≡ site.broken → bytes ≡ reply_bytes (if broken then Refused Broken else Done) → failed ≡ WriteFailed → AppendsFront output out bytes →
-    Ends (record { site = old; input = before; output = output }) (record { site = site; input = after; output = out }) (Err failed)
-at_bye_failed old site before after output out frame broken bytes failed came asked same is last why wrote =
-    at_bye old site before after output out frame (Err failed) came asked same (inr (ap (λ (r : Refusal). Err r) why, subst (AppendsFront output out) (last_is site broken bytes is last) wrote))
+pub at_bye_failed : (old site : SiteValue) (was store : State) (before after output out : Option (List ℕ)) (frame : Frame) (broken : Bool) (bytes : List ℕ) (failed : Refusal) → Reads (option_map frame_value) before after (Ok (Some frame)) frame_at →
+    request_of frame.kind frame.payload.items ≡ Ok Bye → site ≡ old → ReplicaFollows (λ request. request_of frame.kind frame.payload.items ≡ Ok request) old site was store →
+    broken ≡ site.broken → bytes ≡ reply_bytes (if broken then Refused Broken else Done) → failed ≡ WriteFailed → AppendsFront output out bytes →
+    Ends (record { site = old; store = was; input = before; output = output }) (record { site = site; store = store; input = after; output = out }) (Err failed)
+at_bye_failed old site was store before after output out frame broken bytes failed came asked same follows is last why wrote =
+    at_bye old site was store before after output out frame (Err failed) came asked same (follows_bye _ old site was store same follows) (inr (ap (λ (r : Refusal). Err r) why, subst (AppendsFront output out) (last_is site broken bytes is last) wrote))
 
 appended : (output out : Option (List ℕ)) (bytes : List ℕ) → GoesOut {X = Result (Unit {0}) Refusal} output out bytes (Err WriteFailed) (Ok tt) (Ok tt) → Appends output out bytes
 appended output out bytes (inl h) = h.1
@@ -161,30 +175,24 @@ fronted : (output out : Option (List ℕ)) (bytes : List ℕ) (failed : Refusal)
 fronted output out bytes failed (inl h) = let no : ◌≡◌ {A = Result (Unit {0}) Refusal} (Err failed) (Ok tt) = h.0 in absurd cc
 fronted output out bytes failed (inr h) = let is : ◌≡◌ {A = Result (Unit {0}) Refusal} (Err failed) (Err WriteFailed) = h.0 in (cc, h.1)
 
-pub goes_on_sent : (old new : SiteValue) (before after output out : Option (List ℕ)) (frame : Frame) (reply : Reply) → Reads (option_map frame_value) before after (Ok (Some frame)) frame_at →
-    RepliesTo (request_of frame.kind frame.payload.items) old new reply →
+pub goes_on_sent : (old new : SiteValue) (was store : State) (before after output out : Option (List ℕ)) (frame : Frame) (reply : Reply) → Reads (option_map frame_value) before after (Ok (Some frame)) frame_at →
+    RepliesTo (request_of frame.kind frame.payload.items) old new reply → ReplicaFollows (λ request. request_of frame.kind frame.payload.items ≡ Ok request) old new was store →
     ((sent : Reply) × IsSent reply sent × GoesOut {X = Result (Unit {0}) Refusal} output out (reply_bytes sent) (Err WriteFailed) (Ok tt) (Ok tt)) →
-    (turn : Turn) × Went (turn ∷ []) (record { site = old; input = before; output = output }) (record { site = new; input = after; output = out })
-goes_on_sent old new before after output out frame reply came replied sent =
-    goes_on old new before after output out frame reply sent.0 came replied sent.1 (appended output out (reply_bytes sent.0) sent.2)
+    (turn : Turn) × Went (turn ∷ []) (record { site = old; store = was; input = before; output = output }) (record { site = new; store = store; input = after; output = out })
+goes_on_sent old new was store before after output out frame reply came replied follows sent =
+    goes_on old new was store before after output out frame reply sent.0 came replied follows sent.1 (appended output out (reply_bytes sent.0) sent.2)
 
-pub at_writer_sent : (old new : SiteValue) (before after output out : Option (List ℕ)) (frame : Frame) (reply : Reply) (failed : Refusal) → Reads (option_map frame_value) before after (Ok (Some frame)) frame_at →
-    RepliesTo (request_of frame.kind frame.payload.items) old new reply →
+pub at_writer_sent : (old new : SiteValue) (was store : State) (before after output out : Option (List ℕ)) (frame : Frame) (reply : Reply) (failed : Refusal) → Reads (option_map frame_value) before after (Ok (Some frame)) frame_at →
+    RepliesTo (request_of frame.kind frame.payload.items) old new reply → ReplicaFollows (λ request. request_of frame.kind frame.payload.items ≡ Ok request) old new was store →
     ((sent : Reply) × IsSent reply sent × GoesOut {X = Result (Unit {0}) Refusal} output out (reply_bytes sent) (Err WriteFailed) (Err failed) (Ok tt)) →
-    Ends (record { site = old; input = before; output = output }) (record { site = new; input = after; output = out }) (Err failed)
-at_writer_sent old new before after output out frame reply failed came replied sent =
+    Ends (record { site = old; store = was; input = before; output = output }) (record { site = new; store = store; input = after; output = out }) (Err failed)
+at_writer_sent old new was store before after output out frame reply failed came replied follows sent =
     let why : (failed ≡ WriteFailed) × AppendsFront output out (reply_bytes sent.0) = fronted output out (reply_bytes sent.0) failed sent.2 in
-    subst (λ (r : Refusal). Ends (record { site = old; input = before; output = output }) (record { site = new; input = after; output = out }) (Err r)) (sym why.0)
-    (at_writer old new before after output out frame reply sent.0 came replied sent.1 why.1)
+    subst (λ (r : Refusal). Ends (record { site = old; store = was; input = before; output = output }) (record { site = new; store = store; input = after; output = out }) (Err r)) (sym why.0)
+    (at_writer old new was store before after output out frame reply sent.0 came replied follows sent.1 why.1)
 
 -- a frame that was written, or a front of it
 pub goes_out : (output out : Option (List ℕ)) (bytes wanted : List ℕ) (result : Result (Unit {0}) Refusal) → bytes ≡ wanted → OnOk result (Appends output out bytes) → OnErr result (AppendsFront output out bytes) →
     IfErr result (λ e. e ≡ WriteFailed) → GoesOut {X = Result (Unit {0}) Refusal} output out wanted (Err WriteFailed) result (Ok tt)
 goes_out output out bytes wanted (Ok done) is ok front err = inl (refl, subst (Appends output out) is ok)
 goes_out output out bytes wanted (Err e) is ok front err = inr (ap (λ (r : Refusal). Err r) err, subst (AppendsFront output out) is front)
-
--- the request of a frame that was read
-pub asked_first : (before after : Option (List ℕ)) (frame : Frame) (request : Request) → Reads (option_map frame_value) before after (Ok (Some frame)) frame_at → request_of frame.kind frame.payload.items ≡ Ok request → IsAskedAtOnce before request
-asked_first before after frame request came asked bytes known =
-    let p : (rest : List ℕ) × (after ≡ Some rest) × (frame_at bytes ≡ Ok (Some (frame_value frame), rest)) = came bytes known in
-    (frame_value frame, p.0, p.2, asked)

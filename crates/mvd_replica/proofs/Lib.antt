@@ -6,4 +6,5 @@ pub mod Ending
 pub mod Loading
 pub mod Moving
 pub mod Sides
+pub mod Breaking
 pub mod Ordered

@@ -147,9 +147,10 @@ pub follows_made : (made asked : Request) (old new : SiteValue) (before after : 
     ReplicaFollows (λ request. request ≡ asked) old new before after
 follows_made made asked old new before after same it = subst (λ r. ReplicaFollows (λ request. request ≡ r) old new before after) (sym (the_request asked made same)) it
 
--- the same of any requests of which it holds
-pub follows_wider : (asks wider : Request → Type 0) (old new : SiteValue) (before after : Shown) → ((request : Request) → asks request → wider request) → ReplicaFollows asks old new before after → ReplicaFollows wider old new before after
-follows_wider asks wider old new before after widens it = record {
+-- the same of any requests of which it holds where the site broke
+pub follows_where : (asks wider : Request → Type 0) (old new : SiteValue) (before after : Shown) → (old.broken ≡ false → new.broken ≡ true → (request : Request) → asks request → wider request) →
+    ReplicaFollows asks old new before after → ReplicaFollows wider old new before after
+follows_where asks wider old new before after widens it = record {
   site = it.site;
   store = record {
     sound = it.store.sound;
@@ -157,8 +158,11 @@ follows_wider asks wider old new before after widens it = record {
     stays = it.store.stays;
     stored = λ sound holds whole broken.
         let was = it.store.stored sound holds whole broken in
-        record { request = was.request; asked = widens was.request was.asked; changes = was.changes; holds = was.holds };
+        record { request = was.request; asked = widens whole broken was.request was.asked; changes = was.changes; holds = was.holds };
     clean = it.store.clean;
     shut = it.store.shut;
   };
 }
+
+pub follows_wider : (asks wider : Request → Type 0) (old new : SiteValue) (before after : Shown) → ((request : Request) → asks request → wider request) → ReplicaFollows asks old new before after → ReplicaFollows wider old new before after
+follows_wider asks wider old new before after widens it = follows_where asks wider old new before after (λ _ _. widens) it

@@ -10,10 +10,11 @@ use Rattle.mvd_wire.specs.declared.reply.Reply.TheVariants.{Refused}
 use Rattle.mvd_wire.specs.Replies.{reply_bytes}
 use Rattle.mvd_replica.specs.declared.serving.Ended.{Ended}
 use Rattle.mvd_replica.specs.declared.serving.TheConstants.{FRAMES_MAX}
-use Rattle.mvd_wire.specs.declared.request.Request.{Request}
-use Rattle.mvd_replica.specs.Turns.{IsAsked, IsAskedAtOnce, Turn, AreFrames}
+use Rattle.mvd_replica.specs.Sides.{replica_follows_self}
+use Rattle.mvd_replica.specs.Turns.{AreFrames, Turn}
 use Rattle.mvd_replica.specs.Served.{Side, Ending, AtBye, AtEnd, AtRefusal, AtWriter, Stops, GoesOut, GoesOutAfter, IsCount, IsCutCount, Served, Went, frames_most, replies_bytes, last_bytes, result_of}
 use Rattle.mvd_replica.specs.Steps.{Ends, IsLastCount, TakesTurn}
+use Rattle.mvd_replica.proofs.Breaking.{follows_both, told_both}
 use Rattle.mvd_replica.proofs.Replying.{Replies-append, Replies-none, StandsOn-append, StandsOn-none, AreFrames-append, GoesOn-append, HasChoice-none, HasChoice-append}
 
 replies_bytes-append : (first second : List Turn) → replies_bytes (first ++ second) ≡ replies_bytes first ++ replies_bytes second
@@ -27,6 +28,8 @@ Went-none side = record {
   config = refl;
   choice = HasChoice-none;
   goes_on = tt;
+  told = λ _. tt;
+  follows = replica_follows_self side.site side.store;
   read = λ bytes known. (bytes, known, refl);
   wrote = Appends-nil side.output;
 }
@@ -38,6 +41,8 @@ Went-append first second a b c one other = record {
   config = other.config ∙ one.config;
   choice = HasChoice-append first second one.choice other.choice;
   goes_on = GoesOn-append first second one.goes_on other.goes_on;
+  told = told_both first second a.site b.site c.site a.store b.store c.store one.follows other.follows one.told other.told;
+  follows = follows_both first second a.site b.site c.site a.store b.store c.store one.follows other.follows one.told;
   read = λ bytes known.
       let p : (rest : List ℕ) × (b.input ≡ Some rest) × AreFrames first bytes rest = one.read bytes known in
       let q : (rest : List ℕ) × (c.input ≡ Some rest) × AreFrames second p.0 rest = other.read p.0 p.1 in
@@ -83,6 +88,8 @@ Served-after turns a b c result one room last = record {
   stands = StandsOn-append a.site b.site c.site turns last.turns one.stands last.stands;
   choice = HasChoice-append turns last.turns one.choice last.choice;
   goes_on = GoesOn-append turns last.turns one.goes_on last.goes_on;
+  told = told_both turns last.turns a.site b.site c.site a.store b.store c.store one.follows last.follows one.told last.told;
+  follows = follows_both turns last.turns a.site b.site c.site a.store b.store c.store one.follows last.follows one.told;
   count = subst (λ n. IsCount n last.ending) (sym (length-append turns last.turns)) (counted (length turns) (length last.turns) last.ending (subst (λ m. length turns < m) most room) last.count);
   read = λ bytes known.
       let p : (rest : List ℕ) × (b.input ≡ Some rest) × AreFrames turns bytes rest = one.read bytes known in
@@ -107,7 +114,7 @@ GoesOut-err a b bytes failed fault wanted (inr h) = inr (ap (λ (f : Refusal). E
 -- as many turns as there may be
 pub Served-full : (turns : List Turn) (a b : Side) (output : Option (List ℕ)) (fault : Refusal) → Went turns a b → length turns ≡ FRAMES_MAX →
     GoesOut b.output output (reply_bytes (Refused TooManyRequests)) WriteFailed fault TooManyRequests →
-    Served a (record { site = b.site; input = b.input; output = output }) (Err fault)
+    Served a (record { site = b.site; store = b.store; input = b.input; output = output }) (Err fault)
 Served-full turns a b output fault one full told = record {
   turns = turns;
   ending = AtRefusal TooManyRequests;
@@ -115,6 +122,8 @@ Served-full turns a b output fault one full told = record {
   stands = one.stands;
   choice = one.choice;
   goes_on = one.goes_on;
+  told = one.told;
+  follows = one.follows;
   count = inr (full ∙ most, refl);
   read = λ bytes known.
       let p : (rest : List ℕ) × (b.input ≡ Some rest) × AreFrames turns bytes rest = one.read bytes known in
@@ -142,9 +151,3 @@ pub Went-more : (turns : List Turn) (a b c : Side) (found : Option Ended) (n : �
 Went-more turns a b c found n count one same taken =
     let next : (turn : Turn) × Went (turn ∷ []) b c = subst (λ o. TakesTurn b c (Ok o)) same taken in
     (turns ++ next.0 ∷ [], length-append turns (next.0 ∷ []) ∙ ap (λ k. k + 1) count, Went-append turns (next.0 ∷ []) a b c one next.1)
-
--- a request after the turns
-pub asked_later : (turns : List Turn) (a b : Side) → Went turns a b → (request : Request) → IsAskedAtOnce b.input request → IsAsked a.input request
-asked_later turns a b one request asked bytes known =
-    let p : (rest : List ℕ) × (b.input ≡ Some rest) × AreFrames turns bytes rest = one.read bytes known in
-    (turns, p.0, p.2, asked p.0 p.1)

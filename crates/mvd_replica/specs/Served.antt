@@ -1,5 +1,5 @@
 -- A whole connection: from the bytes that came to the bytes that went out.
-use Rattle.std.specs.Prelude.{◌≡◌, ◌≢◌, ◌⊎◌, ℕ, ◌<◌, ◌≤◌, Bool, if◌then◌else◌, List, [], ◌++◌, length, take, flat_map, Option, Some, Result, Ok, Err}
+use Rattle.std.specs.Prelude.{◌≡◌, ◌≢◌, ◌⊎◌, ℕ, ◌<◌, ◌≤◌, Bool, false, if◌then◌else◌, List, [], ◌++◌, length, take, flat_map, Option, Some, Result, Ok, Err}
 use Rattle.std.specs.List.{AllByRecursion}
 use Rattle.std.specs.Io.KnownBytes.{Appends}
 use Rattle.mvd_dots.specs.declared.refusals.Refusal.{Refusal}
@@ -12,11 +12,14 @@ use Rattle.mvd_wire.specs.Replies.{reply_bytes}
 use Rattle.mvd_site.specs.Sites.{SiteValue}
 use Rattle.mvd_replica.specs.declared.serving.Ended.{Ended}
 use Rattle.mvd_replica.specs.declared.serving.Ended.TheVariants as ended
-use Rattle.mvd_replica.specs.Turns.{AreFrames, Event, GoesOn, Replies, StandsOn, Tells, Turn}
+use Rattle.mvd_replica.specs.Sides.{ReplicaFollows}
+use Rattle.mvd_replica.specs.Turns.{AreFrames, Event, GoesOn, IsFirstBroken, IsToldElse, Replies, StandsOn, Tells, Turn}
+use Rattle.sqlite.specs.State.{State}
 
--- a site between a reader and a writer, whose bytes may not be known
-pub record Side : Type 0 where
+-- a site with its store, between a reader and a writer, whose bytes may not be known
+pub record Side : Type 1 where
   pub site : SiteValue
+  pub store : State
   pub input : Option (List ℕ)
   pub output : Option (List ℕ)
 
@@ -88,7 +91,8 @@ pub record WentOut (old new : Option (List ℕ)) (turns : List Turn) (ending : E
   pub count : IsCutCount (length cut) ending
   pub wrote : GoesOutAfter old new (replies_bytes whole) (replies_bytes cut ++ last_bytes broken ending) (Err WriteFailed) result (result_of ending)
 
--- Every frame was answered from the writes known then, and the connection ended so
+-- Every frame was answered from the writes known then, and the connection ended so. The records follow the states; where the site
+-- broke, no request had been told 22 before, and they hold the change of the first that was
 pub record Served (old new : Side) (result : Result Ended Refusal) : Type 0 where
   pub turns : List Turn
   pub ending : Ending
@@ -96,6 +100,8 @@ pub record Served (old new : Side) (result : Result Ended Refusal) : Type 0 wher
   pub stands : StandsOn old.site new.site turns
   pub choice : (events : List Event) × Tells events turns
   pub goes_on : AllByRecursion GoesOn turns
+  pub told : new.site.broken ≡ false → AllByRecursion IsToldElse turns
+  pub follows : ReplicaFollows (IsFirstBroken turns) old.site new.site old.store new.store
   pub count : IsCount (length turns) ending
   pub read : (bytes : List ℕ) → old.input ≡ Some bytes → (rest : List ℕ) × AreFrames turns bytes rest × Stops rest new.input ending
   pub wrote : GoesOut old.output new.output (replies_bytes turns ++ last_bytes new.site.broken ending) (Err WriteFailed) result (result_of ending)
@@ -108,5 +114,7 @@ pub record Went (turns : List Turn) (old new : Side) : Type 0 where
   pub config : new.site.config ≡ old.site.config
   pub choice : (events : List Event) × Tells events turns
   pub goes_on : AllByRecursion GoesOn turns
+  pub told : new.site.broken ≡ false → AllByRecursion IsToldElse turns
+  pub follows : ReplicaFollows (IsFirstBroken turns) old.site new.site old.store new.store
   pub read : (bytes : List ℕ) → old.input ≡ Some bytes → (rest : List ℕ) × (new.input ≡ Some rest) × AreFrames turns bytes rest
   pub wrote : Appends old.output new.output (replies_bytes turns)

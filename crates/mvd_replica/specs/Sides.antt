@@ -11,6 +11,7 @@ use Rattle.mvd_wire.specs.declared.reply.Reply.{Reply}
 use Rattle.mvd_wire.specs.declared.reply.Reply.TheVariants.{Refused}
 use Rattle.mvd_records.specs.Records.{IsSound}
 use Rattle.mvd_site.specs.FromStates.{AnswersFrom, after_from}
+use Rattle.mvd_site.specs.Held.{AreHeld}
 use Rattle.mvd_site.specs.Sites.{SiteValue}
 use Rattle.mvd_sync.specs.Sides.{SiteFollows, SiteRefuses, site_follows_on, site_follows_self}
 use Rattle.mvd_replica.specs.Kept.{HoldsSite, HoldsStates}
@@ -50,6 +51,10 @@ pub record StoreFollows (asks : Request → Type 0) (old new : SiteValue) (befor
 pub record ReplicaFollows (asks : Request → Type 0) (old new : SiteValue) (before after : State) : Type 0 where
   pub site : SiteFollows old new
   pub store : StoreFollows asks old new before after
+
+-- a site is true to its states as long as it is not broken; they are in form
+abbrev pub IsTrueSite : SiteValue → Type 0
+IsTrueSite site = (site.broken ≡ false) × AreHeld site.states
 
 -- the request pushes a state
 abbrev pub IsPush : Request → Type 0

@@ -1,8 +1,8 @@
 -- One frame of a connection.
-use Rattle.std.specs.Prelude.{◌≡◌, ◌≢◌, ◌⊎◌, ℕ, false, List, [], ◌∷◌, ◌++◌, length, Option, Some, None, Result, Ok, Err}
+use Rattle.std.specs.Prelude.{◌≡◌, ◌≢◌, ◌⊎◌, ℕ, false, true, List, [], ◌∷◌, ◌++◌, length, Option, Some, None, Result, Ok, Err}
 use Rattle.std.specs.List.{AllByRecursion}
 use Rattle.mvd_dots.specs.declared.refusals.Refusal.{Refusal}
-use Rattle.mvd_dots.specs.declared.refusals.Refusal.TheVariants.{Memory, WriteFailed, TooManyRequests}
+use Rattle.mvd_dots.specs.declared.refusals.Refusal.TheVariants.{Broken, Memory, WriteFailed, TooManyRequests}
 use Rattle.mvd_keys.specs.Writes.{Write}
 use Rattle.mvd_wire.specs.declared.request.Request.{Request}
 use Rattle.mvd_wire.specs.declared.request.Request.TheVariants.{Bye}
@@ -11,7 +11,8 @@ use Rattle.mvd_wire.specs.declared.reply.Reply.TheVariants.{Refused}
 use Rattle.mvd_wire.specs.Replies.{CanBeSent, is_short}
 use Rattle.mvd_site.specs.Sites.{SiteValue}
 use Rattle.mvd_replica.specs.declared.serving.Ended.{Ended}
-use Rattle.mvd_replica.specs.Turns.{AddsAt, AreFrames, Event, GoesOn, Replies, RepliesOne, StandsOn, Tells, Turn}
+use Rattle.mvd_replica.specs.Sides.{ReplicaFollows}
+use Rattle.mvd_replica.specs.Turns.{AddsAt, AreFrames, Event, GoesOn, IsFirstBroken, IsToldElse, Replies, RepliesOne, StandsOn, Tells, Turn}
 use Rattle.mvd_replica.specs.Served.{AtBye, AtEnd, AtRefusal, AtWriter, Ending, GoesOut, Side, Stops, Went, last_bytes, replies_bytes, result_of}
 
 -- the reply that goes out: want of memory may stand in place of one that needs memory
@@ -27,6 +28,9 @@ pub record RepliesTo (asked : Result Request Refusal) (old new : SiteValue) (rep
   pub config : new.config ≡ old.config
   -- a reply that takes memory told nothing but what was asked for
   pub long : is_short reply ≡ false → new.broken ≡ old.broken
+  -- a request is told 22 where the site is broken, and one that breaks it is
+  pub told : new.broken ≡ false → IsToldElse (record { asked = asked; reply = reply })
+  pub breaks : old.broken ≡ false → new.broken ≡ true → reply ≡ Refused Broken
 
 -- the same, or nothing where the frame is a Bye
 abbrev pub TellsFrame : Result Request Refusal → SiteValue → SiteValue → Option Reply → Type 0
@@ -47,6 +51,8 @@ pub record Ends (old new : Side) (result : Result Ended Refusal) : Type 0 where
   pub stands : StandsOn old.site new.site turns
   pub choice : (events : List Event) × Tells events turns
   pub goes_on : AllByRecursion GoesOn turns
+  pub told : new.site.broken ≡ false → AllByRecursion IsToldElse turns
+  pub follows : ReplicaFollows (IsFirstBroken turns) old.site new.site old.store new.store
   pub count : IsLastCount (length turns) ending
   pub read : (bytes : List ℕ) → old.input ≡ Some bytes → (rest : List ℕ) × AreFrames turns bytes rest × Stops rest new.input ending
   pub wrote : GoesOut old.output new.output (replies_bytes turns ++ last_bytes new.site.broken ending) (Err WriteFailed) result (result_of ending)

@@ -1,8 +1,8 @@
 -- What a connection asked and was answered, frame by frame.
-use Rattle.std.specs.Prelude.{◌≡◌, ◌⊎◌, Bool, false, ℕ, List, [], ◌∷◌, ◌++◌, map, flat_map, Option, Some, Result, Ok, Err}
+use Rattle.std.specs.Prelude.{◌≡◌, ◌⊎◌, Bool, false, ℕ, List, [], ◌∷◌, ◌++◌, map, flat_map, Some, Result, Ok, Err}
 use Rattle.std.specs.List.{AllByRecursion}
 use Rattle.mvd_dots.specs.declared.refusals.Refusal.{Refusal}
-use Rattle.mvd_dots.specs.declared.refusals.Refusal.TheVariants.{Memory, Store}
+use Rattle.mvd_dots.specs.declared.refusals.Refusal.TheVariants.{Broken, Memory, Store}
 use Rattle.mvd_keys.specs.Writes.{Stands, Write}
 use Rattle.mvd_wire.specs.declared.request.Request.{Request}
 use Rattle.mvd_wire.specs.declared.request.Request.TheVariants.{Bye}
@@ -94,17 +94,18 @@ AreFrames [] bytes rest = bytes ≡ rest
 AreFrames (turn ∷ turns) bytes rest = (frame : FrameValue) × (next : List ℕ) × (frame_at bytes ≡ Ok (Some frame, next))
     × (turn.asked ≡ request_of frame.kind frame.payload) × AreFrames turns next rest
 
--- the first frame of the bytes is this request
-abbrev pub IsAskedFirst : List ℕ → Request → Type 0
-IsAskedFirst bytes request = (frame : FrameValue) × (next : List ℕ) × (frame_at bytes ≡ Ok (Some frame, next)) × (request_of frame.kind frame.payload ≡ Ok request)
+-- the turn asked this request, and was told 22
+abbrev pub IsToldBroken : Request → Turn → Type 0
+IsToldBroken request turn = (turn.asked ≡ Ok request) × (turn.reply ≡ Refused Broken)
 
--- the same of bytes that may not be known
-abbrev pub IsAskedAtOnce : Option (List ℕ) → Request → Type 0
-IsAskedAtOnce input request = (bytes : List ℕ) → input ≡ Some bytes → IsAskedFirst bytes request
+-- the turn asked no request that was told 22
+abbrev pub IsToldElse : Turn → Type 0
+IsToldElse turn = (request : Request) → ¬ IsToldBroken request turn
 
--- a frame of the input is this request
-abbrev pub IsAsked : Option (List ℕ) → Request → Type 0
-IsAsked input request = (bytes : List ℕ) → input ≡ Some bytes → (turns : List Turn) × (rest : List ℕ) × AreFrames turns bytes rest × IsAskedFirst rest request
+-- of the turns, the first whose request was told 22 asked this one
+abbrev pub IsFirstBroken : List Turn → Request → Type 0
+IsFirstBroken [] request = ⊥
+IsFirstBroken (turn ∷ turns) request = IsToldBroken request turn ⊎ (IsToldElse turn × IsFirstBroken turns request)
 
 -- the turn is no Bye
 abbrev pub GoesOn : Turn → Type 0

@@ -2,8 +2,6 @@
 ghost use Rattle.std.specs.Prelude.{◌≡◌};
 ghost use Rattle.mvd_records.specs.Records.{IsSound};
 ghost use Rattle.mvd_replica.specs.Kept.{HoldsSite};
-ghost use Rattle.mvd_replica.specs.Sides.{ReplicaFollows};
-ghost use Rattle.mvd_replica.specs.Turns.{IsAsked};
 ghost use Rattle.mvd_replica.specs.Served.{Served, Side};
 ghost use Rattle.sqlite.specs.Held.{state};
 
@@ -36,14 +34,12 @@ pub fn serve<R: Read, W: Write, S: Alter>(
     replica: &mut Replica<S>,
 ) -> Result<Ended, Refusal>
     ensures served { Served
-        (record { site = replica.old.site; input = R.remaining reader.old; output = W.contents writer.old })
-        (record { site = replica.new.site; input = R.remaining reader.new; output = W.contents writer.new }) result }
+        (record { site = replica.old.site; store = state S.Store replica.old.records.conn; input = R.remaining reader.old; output = W.contents writer.old })
+        (record { site = replica.new.site; store = state S.Store replica.new.records.conn; input = R.remaining reader.new; output = W.contents writer.new }) result }
     // The records follow the states.
     ensures before { IsSound (state S.Store replica.new.records.conn) → IsSound (state S.Store replica.old.records.conn) }
     ensures records { IsSound (state S.Store replica.new.records.conn) → HoldsSite replica.old.site (state S.Store replica.old.records.conn).committed → HoldsSite replica.new.site (state S.Store replica.new.records.conn).committed }
     ensures config { replica.new.site.config ≡ replica.old.site.config }
-    // Once the site is broken all stays as it is, and if a change broke it here the records hold that as well. A shut store takes none.
-    ensures follows { ReplicaFollows (λ request. IsAsked (R.remaining reader.old) request) replica.old.site replica.new.site (state S.Store replica.old.records.conn) (state S.Store replica.new.records.conn) }
 {
     for _frame in 0..FRAMES_MAX {
         match take_turn(alloc, reader, writer, replica) {

@@ -1,7 +1,15 @@
 //! A replica as a side of a session.
-ghost use Rattle.std.specs.Prelude.{◌≡◌, false};
-ghost use Rattle.mvd_site.specs.Held.{AreHeld};
-ghost use Rattle.sqlite.specs.Held.{state};
+ghost use Rattle.std.specs.Prelude.{◌≡◌, ◌≢◌, false, true, Ok, Err, IfErr, IfOk, OnOk};
+ghost use Rattle.std.specs.Option.{option_copied};
+ghost use Rattle.mvd_dots.specs.declared.refusals.Refusal.TheVariants.{Broken, DotClash, Memory};
+ghost use Rattle.mvd_keys.specs.State.{clashes};
+ghost use Rattle.mvd_tree.specs.Page.{is_more_after_page, page_of};
+ghost use Rattle.mvd_wire.specs.declared.request.Request.TheVariants.{Push};
+ghost use Rattle.mvd_site.specs.Answer.{digests, node_digests};
+ghost use Rattle.mvd_site.specs.FromStates.{bucket_refusal, push_reply, unless_broken};
+ghost use Rattle.mvd_site.specs.Held.{state_at};
+ghost use Rattle.mvd_sync.specs.Session.{pushed};
+ghost use Rattle.sqlite.specs.Held.{state as store};
 
 use crate::replica::Replica;
 use mvd_dots::Refusal;
@@ -13,15 +21,15 @@ use sqlite::Alter;
 /// A replica is true to the states of its keys as long as it is not broken. What `follows` says of its records holds after any
 /// calls of a session.
 impl<S: Alter> Peer for Replica<S> {
-    ghost use Rattle.mvd_replica.specs.Sides.{IsPush, ReplicaFollows, ReplicaRefuses, replica_follows_on, replica_follows_self};
+    ghost use Rattle.mvd_replica.specs.Sides.{AnswersFromStored, IsPush, IsTrueSite, ReplicaFollows, ReplicaRefuses, replica_follows_on, replica_follows_self};
 
     ghost states = { λ replica. replica.site.states };
 
-    ghost is_true = { λ replica. (replica.site.broken ≡ false) × AreHeld replica.site.states };
+    ghost is_true = { λ replica. IsTrueSite replica.site };
 
     ghost can_give = { λ _ _. Unit {0} };
 
-    ghost follows = { λ old new. ReplicaFollows IsPush old.site new.site (state S.Store old.records.conn) (state S.Store new.records.conn) };
+    ghost follows = { λ old new. ReplicaFollows IsPush old.site new.site (store S.Store old.records.conn) (store S.Store new.records.conn) };
 
     ghost can_refuse = { λ replica refusal. ReplicaRefuses replica.site refusal };
 
@@ -33,7 +41,10 @@ impl<S: Alter> Peer for Replica<S> {
 
     ghost follows_on = { λ old mid new p q. replica_follows_on _ _ _ _ _ _ _ p q };
 
-    fn node(&mut self, path: &Path) -> Result<Digests, Refusal> {
+    fn node(&mut self, path: &Path) -> Result<Digests, Refusal>
+        ensures told { result ≡ unless_broken self.old.site.broken (Err Broken) (Ok (node_digests (digests self.old.site.states) path.now)) }
+        ensures same { self.new ≡ self.old }
+    {
         Replica::node(self, path)
     }
 
@@ -41,15 +52,37 @@ impl<S: Alter> Peer for Replica<S> {
         &mut self,
         path: &Path,
         after: Option<&Key>,
-    ) -> Result<(Vec<(Key, [u8; 32])>, bool), Refusal> {
+    ) -> Result<(Vec<(Key, [u8; 32])>, bool), Refusal>
+        ensures whole { IfOk result (λ _. self.old.site.broken ≡ false) }
+        ensures page { IfOk result (λ page. page.0.items ≡ page_of (digests self.old.site.states) path.now (option_copied after.entry)) }
+        ensures more { IfOk result (λ page. page.1 ≡ is_more_after_page (digests self.old.site.states) path.now (option_copied after.entry)) }
+        ensures refused { IfErr result (λ refusal. refusal ≡ bucket_refusal self.old.site.broken path.now) }
+        ensures same { self.new ≡ self.old }
+    {
         Replica::bucket(self, path, after)
     }
 
-    fn get(&mut self, key: &Key) -> Result<KeyState, Refusal> {
+    fn get(&mut self, key: &Key) -> Result<KeyState, Refusal>
+        ensures whole { IfOk result (λ _. self.old.site.broken ≡ false) }
+        ensures state { IfOk result (λ state. state ≡ state_at self.old.site.states key.now) }
+        ensures refused { IfErr result (λ refusal. refusal ≡ unless_broken self.old.site.broken Broken Memory) }
+        ensures same { self.new ≡ self.old }
+    {
         Replica::get(self, key)
     }
 
-    fn push(&mut self, key: &Key, state: &KeyState) -> Result<(), Refusal> {
+    fn push(&mut self, key: &Key, state: &KeyState) -> Result<(), Refusal>
+        ensures answer { AnswersFromStored self.old.site self.new.site (Push key.now state.now) (push_reply result) }
+        ensures stays { self.old.site.broken ≡ true → (result ≡ Err Broken) × (self.new ≡ self.old) }
+        ensures ok { IsTrueSite self.old.site → OnOk result (IsTrueSite self.new.site × (self.new.site.states ≡ pushed self.old.site.states key.now state.now)) }
+        ensures apart { IsTrueSite self.old.site → OnOk result (clashes (state_at self.old.site.states key.now) state.now ≡ false) }
+        ensures refused { IsTrueSite self.old.site → IsTrueSite self.new.site → IfErr result (λ _. self.new.site.states ≡ self.old.site.states) }
+        ensures unbroken { IsTrueSite self.old.site → IfErr result (λ refusal. refusal ≢ Broken → IsTrueSite self.new.site) }
+        ensures clash { IsTrueSite self.old.site → IfErr result (λ refusal. refusal ≡ DotClash → clashes (state_at self.old.site.states key.now) state.now ≡ true) }
+        ensures follows { ReplicaFollows IsPush self.old.site self.new.site (store S.Store self.old.records.conn) (store S.Store self.new.records.conn) }
+        ensures refuses { IfErr result (ReplicaRefuses self.new.site) }
+        ensures answers { OnOk result (self.new.site.broken ≡ false) }
+    {
         // Here it is known that the pushed state's siblings have been seen, and then what holds of any site.
         let _seen = state.context();
         let pushed = Replica::push(self, key, state);

@@ -10,7 +10,6 @@ ghost use Rattle.mvd_records.specs.Records.{IsSound};
 ghost use Rattle.mvd_replica.specs.Kept.{HoldsSite};
 ghost use Rattle.mvd_replica.specs.Sides.{ReplicaFollows};
 ghost use Rattle.mvd_replica.specs.Served.{GoesOut, Side};
-ghost use Rattle.mvd_replica.specs.Turns.{IsAskedAtOnce};
 ghost use Rattle.mvd_replica.specs.Steps.{IsSent, TakesTurn, TellsFrame};
 ghost use Rattle.sqlite.specs.Held.{state};
 
@@ -96,12 +95,11 @@ pub fn take_turn<R: Read, W: Write, S: Alter>(
     replica: &mut Replica<S>,
 ) -> Result<Option<Ended>, Refusal>
     ensures taken { TakesTurn
-        (record { site = replica.old.site; input = R.remaining reader.old; output = W.contents writer.old })
-        (record { site = replica.new.site; input = R.remaining reader.new; output = W.contents writer.new }) result }
+        (record { site = replica.old.site; store = state S.Store replica.old.records.conn; input = R.remaining reader.old; output = W.contents writer.old })
+        (record { site = replica.new.site; store = state S.Store replica.new.records.conn; input = R.remaining reader.new; output = W.contents writer.new }) result }
     ensures before { IsSound (state S.Store replica.new.records.conn) → IsSound (state S.Store replica.old.records.conn) }
     ensures records { IsSound (state S.Store replica.new.records.conn) → HoldsSite replica.old.site (state S.Store replica.old.records.conn).committed → HoldsSite replica.new.site (state S.Store replica.new.records.conn).committed }
     ensures config { replica.new.site.config ≡ replica.old.site.config }
-    ensures follows { ReplicaFollows (λ request. IsAskedAtOnce (R.remaining reader.old) request) replica.old.site replica.new.site (state S.Store replica.old.records.conn) (state S.Store replica.new.records.conn) }
 {
     let frame = match read_frame(alloc, reader) {
         Ok(Some(frame)) => frame,

@@ -10,6 +10,8 @@ mod listing;
 #[cfg(test)]
 mod long;
 #[cfg(test)]
+mod memory;
+#[cfg(test)]
 mod random;
 #[cfg(test)]
 mod scripts;

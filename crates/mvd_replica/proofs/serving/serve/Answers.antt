@@ -1,11 +1,9 @@
 use Rattle.std.proofs.Common.{arith, refl, [], ◌∙◌}
-use Rattle.mvd_replica.proofs.Whole.{asked_later, Went-none, Went-more, Served-after, Served-some, Served-full}
-use Rattle.mvd_replica.proofs.Sides.{follows_wider}
-use Rattle.mvd_replica.specs.Sides.{replica_follows_on, replica_follows_self}
+use Rattle.mvd_replica.proofs.Whole.{Went-none, Went-more, Served-after, Served-some, Served-full}
 use Rattle.mvd_replica.proofs.serving.serve.Goals as goal
 
 pub loop-frame-init : goal.loop-frame-init
-loop-frame-init g c = record { went = ([], refl, Went-none _); before = λ s. s; records = λ s h. h; config = refl; follows = replica_follows_self _ _ }
+loop-frame-init g c = record { went = ([], refl, Went-none _); before = λ s. s; records = λ s h. h; config = refl }
 
 pub loop-frame-preserved : goal.loop-frame-preserved
 loop-frame-preserved g c = record {
@@ -13,7 +11,6 @@ loop-frame-preserved g c = record {
   before = λ s. c.loop-frame.invariant.before (c.in-Ok-None.ensures.before s);
   records = λ s h. c.in-Ok-None.ensures.records s (c.loop-frame.invariant.records (c.in-Ok-None.ensures.before s) h);
   config = c.in-Ok-None.ensures.config ∙ c.loop-frame.invariant.config;
-  follows = replica_follows_on _ _ _ _ _ _ _ c.loop-frame.invariant.follows (follows_wider _ _ _ _ _ _ (asked_later c.loop-frame.invariant.went.0 _ _ c.loop-frame.invariant.went.2) c.in-Ok-None.ensures.follows);
 }
 
 pub returns-in-Ok-Some-clause-served : goal.returns-in-Ok-Some-clause-served
@@ -27,9 +24,3 @@ returns-in-Err-clause-served g c =
 pub returns-clause-served : goal.returns-clause-served
 returns-clause-served g c =
     Served-full c.loop-frame.invariant.went.0 _ _ _ _ c.loop-frame.invariant.went.2 (omega (arith, c.loop-frame.invariant.went.1, c.loop-frame-test.false, c.loop-frame.auto._frame-end)) c.stop.ensures
-
-pub returns-in-Ok-Some-clause-follows : goal.returns-in-Ok-Some-clause-follows
-returns-in-Ok-Some-clause-follows g c = replica_follows_on _ _ _ _ _ _ _ c.loop-frame.invariant.follows (follows_wider _ _ _ _ _ _ (asked_later c.loop-frame.invariant.went.0 _ _ c.loop-frame.invariant.went.2) c.in-Ok-Some.ensures.follows)
-
-pub returns-in-Err-clause-follows : goal.returns-in-Err-clause-follows
-returns-in-Err-clause-follows g c = replica_follows_on _ _ _ _ _ _ _ c.loop-frame.invariant.follows (follows_wider _ _ _ _ _ _ (asked_later c.loop-frame.invariant.went.0 _ _ c.loop-frame.invariant.went.2) c.in-Err.ensures.follows)

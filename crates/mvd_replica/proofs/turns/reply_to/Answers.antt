@@ -15,7 +15,7 @@ pub returns-clause-told : goal.returns-clause-told
 returns-clause-told g c =
     let same : request_of c.args.frame.now.kind c.args.frame.now.payload.items ≡ request_of c.args.frame.now.kind c.deref.result.now = ap (request_of c.args.frame.now.kind) (sym c.deref.ensures.value) in
     replied c.args.replica.now.site c.answer.new.self.site (request_of c.args.frame.now.kind c.args.frame.now.payload.items) c.in-Ok.request c.answer.result (same ∙ c.in-Ok.ensures.exact)
-    c.answer.ensures.answer c.answer.ensures.states c.answer.ensures.fits (c.is_bye.ensures.no c.if-is_bye.false) c.answer.ensures.choice c.answer.ensures.config c.answer.ensures.broken
+    c.answer.ensures.answer c.answer.ensures.states c.answer.ensures.fits (c.is_bye.ensures.no c.if-is_bye.false) c.answer.ensures.choice c.answer.ensures.config c.answer.ensures.broken c.answer.ensures.told
     (λ broken. ap (λ r. r.site) (c.answer.ensures.stays broken))
 
 pub returns-in-Err-clause-follows : goal.returns-in-Err-clause-follows

@@ -1,57 +1,39 @@
 use Rattle.std.proofs.Common.{◌∙◌}
-use Rattle.mvd_replica.proofs.Ending.{at_end, at_refusal, at_bye_ok, at_bye_failed, goes_on_sent, asked_first, at_writer_sent, came}
-use Rattle.mvd_replica.proofs.Sides.{follows_wider}
-use Rattle.mvd_replica.specs.Sides.{replica_follows_self}
+use Rattle.sqlite.specs.Held.{state}
+use Rattle.mvd_replica.proofs.Ending.{at_end, at_refusal, at_bye_ok, at_bye_failed, goes_on_sent, at_writer_sent, came}
 use Rattle.mvd_replica.proofs.turns.take_turn.Goals as goal
 
 pub returns-in-Ok-None-clause-taken : goal.returns-in-Ok-None-clause-taken
 returns-in-Ok-None-clause-taken g c =
-    at_end c.args.replica.now.site (g.R.Read.remaining c.args.reader.now) (g.R.Read.remaining c.read_frame.new.reader) (g.W.Write.contents c.args.writer.now)
+    at_end c.args.replica.now.site (state g.S.Store c.args.replica.now.records.conn) (g.R.Read.remaining c.args.reader.now) (g.R.Read.remaining c.read_frame.new.reader) (g.W.Write.contents c.args.writer.now)
     (came c.in-Ok-None.field-0-is c.in-Ok-None.ensures.read)
 
 pub returns-in-Err-clause-taken : goal.returns-in-Err-clause-taken
 returns-in-Err-clause-taken g c =
-    at_refusal c.args.replica.now.site (g.R.Read.remaining c.args.reader.now) (g.R.Read.remaining c.read_frame.new.reader) (g.W.Write.contents c.args.writer.now) (g.W.Write.contents c.stop-stopped.new.writer) c.in-Err.refusal c.stop-stopped.result
-    c.in-Err.ensures.read c.in-Err.ensures.err c.stop-stopped.ensures
+    at_refusal c.args.replica.now.site (state g.S.Store c.args.replica.now.records.conn) (g.R.Read.remaining c.args.reader.now) (g.R.Read.remaining c.read_frame.new.reader) (g.W.Write.contents c.args.writer.now) (g.W.Write.contents c.stop-stopped.new.writer)
+    c.in-Err.refusal c.stop-stopped.result c.in-Err.ensures.read c.in-Err.ensures.err c.stop-stopped.ensures
 
 pub returns-in-Ok-clause-taken : goal.returns-in-Ok-clause-taken
 returns-in-Ok-clause-taken g c =
-    at_bye_ok c.args.replica.now.site c.reply_to.new.replica.site (g.R.Read.remaining c.args.reader.now) (g.R.Read.remaining c.read_frame.new.reader) (g.W.Write.contents c.args.writer.now) (g.W.Write.contents c.write_frame.new.writer) c.in-Ok-Some.frame c.is_broken.result c.bytes.result.now
-    (came c.in-Ok-Some.field-0-is c.in-Ok-Some.ensures.read) c.in-None.ensures.told.0 c.in-None.ensures.told.1 c.is_broken.ensures (c.bytes.ensures ∙ c.last-last.ensures) c.in-Ok.ensures.ok
+    at_bye_ok c.args.replica.now.site c.reply_to.new.replica.site (state g.S.Store c.args.replica.now.records.conn) (state g.S.Store c.reply_to.new.replica.records.conn)
+    (g.R.Read.remaining c.args.reader.now) (g.R.Read.remaining c.read_frame.new.reader) (g.W.Write.contents c.args.writer.now) (g.W.Write.contents c.write_frame.new.writer) c.in-Ok-Some.frame c.is_broken.result c.bytes.result.now
+    (came c.in-Ok-Some.field-0-is c.in-Ok-Some.ensures.read) c.in-None.ensures.told.0 c.in-None.ensures.told.1 c.in-None.ensures.follows c.is_broken.ensures (c.bytes.ensures ∙ c.last-last.ensures) c.in-Ok.ensures.ok
 
 pub returns-in-Err-write_frame-clause-taken : goal.returns-in-Err-write_frame-clause-taken
 returns-in-Err-write_frame-clause-taken g c =
-    at_bye_failed c.args.replica.now.site c.reply_to.new.replica.site (g.R.Read.remaining c.args.reader.now) (g.R.Read.remaining c.read_frame.new.reader) (g.W.Write.contents c.args.writer.now) (g.W.Write.contents c.write_frame.new.writer) c.in-Ok-Some.frame c.is_broken.result c.bytes.result.now c.in-Err-write_frame.failed
-    (came c.in-Ok-Some.field-0-is c.in-Ok-Some.ensures.read) c.in-None.ensures.told.0 c.in-None.ensures.told.1 c.is_broken.ensures (c.bytes.ensures ∙ c.last-last.ensures) c.in-Err-write_frame.ensures.err c.in-Err-write_frame.ensures.front
+    at_bye_failed c.args.replica.now.site c.reply_to.new.replica.site (state g.S.Store c.args.replica.now.records.conn) (state g.S.Store c.reply_to.new.replica.records.conn)
+    (g.R.Read.remaining c.args.reader.now) (g.R.Read.remaining c.read_frame.new.reader) (g.W.Write.contents c.args.writer.now) (g.W.Write.contents c.write_frame.new.writer) c.in-Ok-Some.frame c.is_broken.result c.bytes.result.now
+    c.in-Err-write_frame.failed (came c.in-Ok-Some.field-0-is c.in-Ok-Some.ensures.read) c.in-None.ensures.told.0 c.in-None.ensures.told.1 c.in-None.ensures.follows c.is_broken.ensures (c.bytes.ensures ∙ c.last-last.ensures)
+    c.in-Err-write_frame.ensures.err c.in-Err-write_frame.ensures.front
 
 pub returns-in-Ok-send-clause-taken : goal.returns-in-Ok-send-clause-taken
 returns-in-Ok-send-clause-taken g c =
-    goes_on_sent c.args.replica.now.site c.reply_to.new.replica.site (g.R.Read.remaining c.args.reader.now) (g.R.Read.remaining c.read_frame.new.reader) (g.W.Write.contents c.args.writer.now) (g.W.Write.contents c.send.new.writer) c.in-Ok-Some.frame c.in-Some.reply
-    (came c.in-Ok-Some.field-0-is c.in-Ok-Some.ensures.read) c.in-Some.ensures.told c.in-Ok-send.ensures
+    goes_on_sent c.args.replica.now.site c.reply_to.new.replica.site (state g.S.Store c.args.replica.now.records.conn) (state g.S.Store c.reply_to.new.replica.records.conn)
+    (g.R.Read.remaining c.args.reader.now) (g.R.Read.remaining c.read_frame.new.reader) (g.W.Write.contents c.args.writer.now) (g.W.Write.contents c.send.new.writer) c.in-Ok-Some.frame c.in-Some.reply
+    (came c.in-Ok-Some.field-0-is c.in-Ok-Some.ensures.read) c.in-Some.ensures.told c.in-Some.ensures.follows c.in-Ok-send.ensures
 
 pub returns-in-Err-send-clause-taken : goal.returns-in-Err-send-clause-taken
 returns-in-Err-send-clause-taken g c =
-    at_writer_sent c.args.replica.now.site c.reply_to.new.replica.site (g.R.Read.remaining c.args.reader.now) (g.R.Read.remaining c.read_frame.new.reader) (g.W.Write.contents c.args.writer.now) (g.W.Write.contents c.send.new.writer) c.in-Ok-Some.frame c.in-Some.reply c.in-Err-send.failed
-    (came c.in-Ok-Some.field-0-is c.in-Ok-Some.ensures.read) c.in-Some.ensures.told c.in-Err-send.ensures
-
-pub returns-in-Ok-None-clause-follows : goal.returns-in-Ok-None-clause-follows
-returns-in-Ok-None-clause-follows g c = replica_follows_self _ _
-
-pub returns-in-Err-clause-follows : goal.returns-in-Err-clause-follows
-returns-in-Err-clause-follows g c = replica_follows_self _ _
-
-pub returns-in-Ok-clause-follows : goal.returns-in-Ok-clause-follows
-returns-in-Ok-clause-follows g c =
-    follows_wider _ _ _ _ _ _ (λ request asked. asked_first (g.R.Read.remaining c.args.reader.now) (g.R.Read.remaining c.read_frame.new.reader) c.in-Ok-Some.frame request (came c.in-Ok-Some.field-0-is c.in-Ok-Some.ensures.read) asked) c.in-None.ensures.follows
-
-pub returns-in-Err-write_frame-clause-follows : goal.returns-in-Err-write_frame-clause-follows
-returns-in-Err-write_frame-clause-follows g c =
-    follows_wider _ _ _ _ _ _ (λ request asked. asked_first (g.R.Read.remaining c.args.reader.now) (g.R.Read.remaining c.read_frame.new.reader) c.in-Ok-Some.frame request (came c.in-Ok-Some.field-0-is c.in-Ok-Some.ensures.read) asked) c.in-None.ensures.follows
-
-pub returns-in-Ok-send-clause-follows : goal.returns-in-Ok-send-clause-follows
-returns-in-Ok-send-clause-follows g c =
-    follows_wider _ _ _ _ _ _ (λ request asked. asked_first (g.R.Read.remaining c.args.reader.now) (g.R.Read.remaining c.read_frame.new.reader) c.in-Ok-Some.frame request (came c.in-Ok-Some.field-0-is c.in-Ok-Some.ensures.read) asked) c.in-Some.ensures.follows
-
-pub returns-in-Err-send-clause-follows : goal.returns-in-Err-send-clause-follows
-returns-in-Err-send-clause-follows g c =
-    follows_wider _ _ _ _ _ _ (λ request asked. asked_first (g.R.Read.remaining c.args.reader.now) (g.R.Read.remaining c.read_frame.new.reader) c.in-Ok-Some.frame request (came c.in-Ok-Some.field-0-is c.in-Ok-Some.ensures.read) asked) c.in-Some.ensures.follows
+    at_writer_sent c.args.replica.now.site c.reply_to.new.replica.site (state g.S.Store c.args.replica.now.records.conn) (state g.S.Store c.reply_to.new.replica.records.conn)
+    (g.R.Read.remaining c.args.reader.now) (g.R.Read.remaining c.read_frame.new.reader) (g.W.Write.contents c.args.writer.now) (g.W.Write.contents c.send.new.writer) c.in-Ok-Some.frame c.in-Some.reply c.in-Err-send.failed
+    (came c.in-Ok-Some.field-0-is c.in-Ok-Some.ensures.read) c.in-Some.ensures.told c.in-Some.ensures.follows c.in-Err-send.ensures

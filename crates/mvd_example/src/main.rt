@@ -40,10 +40,7 @@ fn main(rt: HostRuntime) -> io::Result<ExitCode> {
 fn run(alloc: Global, out: &mut String) -> Result<(), Refusal> {
     let mut desk = opened(alloc, 1)?;
     let mut phone = opened(alloc, 2)?;
-    let ended = write_and_meet(alloc, &mut desk, &mut phone, out);
-    drop(desk);
-    drop(phone);
-    ended
+    write_and_meet(alloc, &mut desk, &mut phone, out)
 }
 
 fn write_and_meet<S: Alter>(

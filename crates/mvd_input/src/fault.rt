@@ -4,7 +4,7 @@ use std::alloc::{AllocError, AllocFailed};
 use thiserror::Error;
 
 /// Why a command ended before its end.
-#[derive(Debug, Drop, Error)]
+#[derive(Debug, Clone, Copy, Error)]
 pub enum Fault {
     /// It was refused: its reader, its writer, its store or its peer failed, memory was refused, or an input is too long.
     #[error("fault {0}")]

@@ -55,7 +55,7 @@ pub enum Hint<'a> {
 }
 
 /// Why a command was stopped, and what there is to do about it where something is known.
-#[derive(Debug, Drop)]
+#[derive(Debug, Clone, Copy)]
 pub struct Stop<'a> {
     pub fault: Fault,
     pub hint: Option<Hint<'a>>,

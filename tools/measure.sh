@@ -1,6 +1,6 @@
 #!/bin/sh
-# Measures the program on scripts that it makes: seconds of the processor, and the most memory held at one time (resident).
-# Then measure_stored.py measures stored sites and sessions.
+# Measures the program on scripts that it makes: seconds of the processor, the most memory held at one time (resident), and, with
+# Debian's `valgrind`, how often a put allocates. Then measure_stored.py measures stored sites and sessions.
 # usage: tools/measure.sh PROGRAM [FOLDER]
 # PROGRAM is `mvd` as built. FOLDER has other programs to compare with, each of which may be missing: target/release/twin, which
 # runs the same scripts, and target/release/yardstick (tools/yardstick). Each figure is the least of three runs, the programs in
@@ -19,6 +19,7 @@ trap 'rm -rf "$work"' EXIT
 # rows   as core with no messages, under two indexes and a view, which are asked
 # tree   as core, with a root after every 100 writes
 # small  one site, a key for each write, each document {}
+# one    one site writes to one key, with what it has read
 script() {
     awk -v kind="$1" -v n="$2" '
     function below(most) { seed = (seed * 16807) % 2147483647; return seed % most }
@@ -32,6 +33,11 @@ script() {
         if (kind == "small") {
             print "sites 1"
             for (i = 0; i < n; i++) print "put 1 k" i " - {}"
+            exit
+        }
+        if (kind == "one") {
+            print "sites 1"
+            for (i = 0; i < n; i++) print "put 1 k @ {\"city\":\"Oslo\",\"n\":" i % 10 "}"
             exit
         }
         print "sites 2"
@@ -77,6 +83,17 @@ measure() {
     if [ -n "$other" ] && ! cmp -s "$work/mvd.out" "$work/twin.out"; then echo "the two print differently"; fi
 }
 
+# allocated PROGRAM N: how often a program allocates in a run of so many puts at one key.
+allocated() {
+    script one "$2" > "$work/script"
+    valgrind --leak-check=no "$1" sim < "$work/script" 2>&1 > /dev/null | sed -n 's/.*total heap usage: \([0-9,]*\) allocs.*/\1/p' | tr -d ,
+}
+
+# a_put NAME PROGRAM: how often one put more at a key with one sibling allocates.
+a_put() {
+    echo "$1: $((($(allocated "$2" 3000) - $(allocated "$2" 2000)) / 1000)) allocations for a put at a key with one sibling"
+}
+
 echo "machine: $(uname -srm), $(nproc) processors, $(sed -n 's/^model name[^:]*: //p' /proc/cpuinfo | head -1)"
 echo "load at the start: $(cut -d ' ' -f 1-3 /proc/loadavg)"
 if grep -q -w sha_ni /proc/cpuinfo; then echo "the processor has instructions for SHA-256"; fi
@@ -86,5 +103,9 @@ for n in 10000 100000; do
     for kind in core blind rows tree; do measure $kind $n; done
 done
 for n in 10000 100000 800000; do measure small $n; done
+if command -v valgrind > /dev/null; then
+    a_put mvd "$program"
+    if [ -n "$other" ]; then a_put twin "$other"; fi
+fi
 "$(dirname "$0")/measure_stored.py" "$program" ${2:+"$2"}
 echo "load at the end: $(cut -d ' ' -f 1-3 /proc/loadavg)"

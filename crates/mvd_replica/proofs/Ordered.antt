@@ -270,15 +270,15 @@ pub order_same : (version : ℕ) (a b : Database) → b ≡ a → AreInOrder ver
 order_same version a b same = subst (λ d. AreInOrder version (old_states a) (new_states a) ↔ AreInOrder version (old_states d) (new_states d)) (sym same) (λ order. order, λ order. order)
 
 pub resumes_same : (version number : ℕ) (a b : Database) → b ≡ a → HoldsRecords version number a → Resumes version number a b
-resumes_same version number a b same holds = (version, subst (HoldsRecords version number) (sym same) holds, order_same version a b same)
+resumes_same version number a b same holds = (version, inl refl, subst (HoldsRecords version number) (sym same) holds, order_same version a b same)
 
 pub resumes_moved : (version number : ℕ) (a b c : Database) → c ≡ b → HoldsRecords 2 number b → Migrates version a b → Resumes version number a c
-resumes_moved version number a b c same holds migrates = subst (Resumes version number a) (sym same) (2, holds, (order_after version a b migrates, order_before version a b migrates))
+resumes_moved version number a b c same holds migrates = subst (Resumes version number a) (sym same) (2, inr refl, holds, (order_after version a b migrates, order_before version a b migrates))
 
 -- from the database before its tables were made
 pub resumes_opened : (version site number : ℕ) (a b c : Database) → number ≡ site → KeepsStates a b → Resumes version number b c → Resumes version site a c
 resumes_opened version site number a b c same keeps it = subst (λ n. Resumes version n a c) same
-    (it.0, it.1, (λ order. it.2.0 (order_kept version a b keeps order), λ order. order_back version a b keeps (it.2.1 order)))
+    (it.0, it.1, it.2, (λ order. it.3.0 (order_kept version a b keeps order), λ order. order_back version a b keeps (it.3.1 order)))
 
 -- ---- one pair more
 

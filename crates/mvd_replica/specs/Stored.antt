@@ -48,7 +48,7 @@ AreDamaged site db =
 -- they are found as they were
 abbrev pub Resumes : ℕ → ℕ → Database → Database → Type 0
 Resumes version site old new =
-    (now : ℕ) × HoldsRecords now site new × (AreInOrder version (old_states old) (new_states old) ↔ AreInOrder now (old_states new) (new_states new))
+    (now : ℕ) × ((now ≡ version) ⊎ (now ≡ 2)) × HoldsRecords now site new × (AreInOrder version (old_states old) (new_states old) ↔ AreInOrder now (old_states new) (new_states new))
 
 -- more keys are held than so many, and no old key is left
 pub record HoldsTooMany (most : ℕ) (db : Database) : Type 0 where

@@ -1,4 +1,4 @@
-use Rattle.std.proofs.Common.{arith, refl}
+use Rattle.std.proofs.Common.{arith, inl, refl}
 use Rattle.mvd_replica.proofs.Loading.{loaded_holds}
 use Rattle.mvd_replica.proofs.Moving.{same_then, same_unchanged}
 use Rattle.mvd_replica.proofs.Ordered.{alone_ordered, order_by, order_migrated, resumes_moved, resumes_same, too_many_after, too_many_moved}
@@ -63,4 +63,4 @@ returns-in-Ok-clause-resumes g c number sound holds =
     resumes_moved c.args.records.now.version number _ _ _ (c.load-in-Ok.ensures.unchanged 2 number sound moved) moved (c.in-Ok.ensures.order number before holds)
 
 pub returns-in-Err-clause-resumes : goal.returns-in-Err-clause-resumes
-returns-in-Err-clause-resumes g c number sound holds = (c.args.records.now.version, c.in-Err.ensures.moved number sound holds, c.in-Err.ensures.alike number sound holds)
+returns-in-Err-clause-resumes g c number sound holds = (c.args.records.now.version, inl refl, c.in-Err.ensures.moved number sound holds, c.in-Err.ensures.alike number sound holds)

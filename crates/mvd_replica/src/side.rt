@@ -1,12 +1,15 @@
 //! A replica as a side of a session.
-ghost use Rattle.std.specs.Prelude.{◌≡◌, ◌≢◌, false, true, Ok, Err, IfErr, IfOk, OnOk};
+ghost use Rattle.std.specs.Prelude.{◌≡◌, ◌≢◌, ◌⊎◌, false, true, Ok, Err, IfErr, IfOk, IsTrue, OnOk};
 ghost use Rattle.std.specs.Option.{option_copied};
 ghost use Rattle.mvd_dots.specs.declared.refusals.Refusal.TheVariants.{Broken, DotClash, Memory};
 ghost use Rattle.mvd_keys.specs.State.{clashes};
 ghost use Rattle.mvd_tree.specs.Page.{is_more_after_page, page_of};
 ghost use Rattle.mvd_wire.specs.declared.request.Request.TheVariants.{Push};
 ghost use Rattle.mvd_site.specs.Answer.{digests, node_digests};
-ghost use Rattle.mvd_site.specs.FromStates.{bucket_refusal, push_reply, unless_broken};
+ghost use Rattle.mvd_records.specs.Records.{IsSound};
+ghost use Rattle.mvd_replica.specs.Kept.{HoldsSite, HoldsStates};
+ghost use Rattle.sqlite.specs.State.{HasCleanDisk};
+ghost use Rattle.mvd_site.specs.FromStates.{after_from, bucket_refusal, push_reply, unless_broken};
 ghost use Rattle.mvd_site.specs.Held.{state_at};
 ghost use Rattle.mvd_sync.specs.Session.{pushed};
 ghost use Rattle.sqlite.specs.Held.{state as store};
@@ -74,6 +77,11 @@ impl<S: Alter> Peer for Replica<S> {
     fn push(&mut self, key: &Key, state: &KeyState) -> Result<(), Refusal>
         ensures answer { AnswersFromStored self.old.site self.new.site (Push key.now state.now) (push_reply result) }
         ensures stays { self.old.site.broken ≡ true → (result ≡ Err Broken) × (self.new ≡ self.old) }
+        ensures still { after_from self.old.site.config self.old.site.states (Push key.now state.now) ≡ self.old.site.states → self.new ≡ self.old }
+        ensures taken { HasCleanDisk (store S.Store self.new.records.conn) → IsTrue (store S.Store self.new.records.conn).is_open ⊎ (self.new.site ≡ self.old.site) }
+        ensures unstored { IfErr result (λ refusal. refusal ≢ Broken → IsSound (store S.Store self.new.records.conn) → (store S.Store self.new.records.conn).committed ≡ (store S.Store self.old.records.conn).committed) }
+        ensures stored { IsSound (store S.Store self.new.records.conn) → HoldsSite self.old.site (store S.Store self.old.records.conn).committed → self.old.site.broken ≡ false → result ≡ Err Broken →
+            HoldsStates self.old.site.config.site (after_from self.old.site.config self.old.site.states (Push key.now state.now)) (store S.Store self.new.records.conn).committed }
         ensures ok { IsTrueSite self.old.site → OnOk result (IsTrueSite self.new.site × (self.new.site.states ≡ pushed self.old.site.states key.now state.now)) }
         ensures apart { IsTrueSite self.old.site → OnOk result (clashes (state_at self.old.site.states key.now) state.now ≡ false) }
         ensures refused { IsTrueSite self.old.site → IsTrueSite self.new.site → IfErr result (λ _. self.new.site.states ≡ self.old.site.states) }

@@ -1,5 +1,5 @@
 -- Keys of version 1, moved one after the other.
-use Rattle.std.proofs.Common.{◌≡◌, ◌∙◌, ◌<◌, Bool, true, false, cond, ℕ, suc, List, [], ◌∷◌, ◌++◌, length, take, drop, get_or, Option, Some, None, Result, Ok, Err, T, refl, sym, ap, subst, inl, inr}
+use Rattle.std.proofs.Common.{◌≡◌, ◌⊎◌, ◌∙◌, ◌<◌, Bool, true, false, cond, ℕ, suc, List, [], ◌∷◌, ◌++◌, length, take, drop, get_or, Option, Some, None, Result, Ok, Err, T, refl, sym, ap, subst, inl, inr}
 use Rattle.std.proofs.Math.Seq.{split_at}
 use Rattle.std.proofs.lemmas.List.{map-append}
 use Rattle.std.specs.Result.{OnErr, OnOk}
@@ -23,7 +23,7 @@ use Rattle.mvd_records.specs.Pairs.{Pair, entries_of}
 use Rattle.mvd_records.specs.States.{States as Stored}
 use Rattle.mvd_records.specs.Records.{AreDisjoint, EndsMove, KeepsStates, MovesState, new_states, old_states}
 use Rattle.sqlite.specs.Effect.{Database}
-use Rattle.mvd_replica.specs.Stored.{HasState, Respells, SameStates, SpelledIn}
+use Rattle.mvd_replica.specs.Stored.{HasState, IsOldStored, IsStored, Respells, SameStates, SpelledIn}
 
 -- ---- an entry of a map
 
@@ -114,19 +114,49 @@ module _ (a b : Database) (k : Key) (old new : List ℕ) (moves : MovesState a b
     only_at key s false is (inl h) = inl (h.0, sym (new_at key false is) ∙ h.1, h.2)
     only_at key s false is (inr h) = inr (h.0, sym (old_at key false is) ∙ h.1, h.2)
 
+    new_kept_at : (key : Key) (bytes : List ℕ) (tied : Bool) → eq_by_cmp key_cmp key k ≡ tied → get (new_states a) key ≡ Some bytes → get (new_states b) key ≡ Some bytes
+    new_kept_at key bytes true is found = absurd (apart key old bytes (was_at key is) found)
+    new_kept_at key bytes false is found = new_at key false is ∙ found
+
+    new_only_at : (key : Key) (bytes : List ℕ) (tied : Bool) → eq_by_cmp key_cmp key k ≡ tied → get (new_states b) key ≡ Some bytes → (get (new_states a) key ≡ Some bytes) ⊎ IsStored bytes
+    new_only_at key bytes true is found = inr (subst IsStored (some_is new bytes (sym (new_at key true is) ∙ found)) (spelled.0, spelled.2, spelled.3))
+    new_only_at key bytes false is found = inl (sym (new_at key false is) ∙ found)
+
+    old_kept_at : (key : Key) (bytes : List ℕ) (tied : Bool) → eq_by_cmp key_cmp key k ≡ tied → get (old_states a) key ≡ Some bytes → (get (old_states b) key ≡ Some bytes) ⊎ IsOldStored bytes
+    old_kept_at key bytes true is found = inr (subst IsOldStored (some_is old bytes (sym (was_at key is) ∙ found)) (spelled.0, spelled.1, spelled.3))
+    old_kept_at key bytes false is found = inl (old_at key false is ∙ found)
+
     pub move_keeps : SameStates a b
     move_keeps = record {
       kept = λ key s has. kept_at key s (eq_by_cmp key_cmp key k) refl has;
       only = λ key s has. only_at key s (eq_by_cmp key_cmp key k) refl has;
+      new_kept = λ key bytes found. new_kept_at key bytes (eq_by_cmp key_cmp key k) refl found;
+      new_only = λ key bytes found. new_only_at key bytes (eq_by_cmp key_cmp key k) refl found;
+      old_kept = λ key bytes found. old_kept_at key bytes (eq_by_cmp key_cmp key k) refl found;
+      old_only = old_shrinks;
     }
 
 -- ---- many keys
 
 pub same_none : (a : Database) → SameStates a a
-same_none a = record { kept = λ key s has. has; only = λ key s has. has }
+same_none a = record {
+  kept = λ key s has. has;
+  only = λ key s has. has;
+  new_kept = λ key bytes found. found;
+  new_only = λ key bytes found. inl found;
+  old_kept = λ key bytes found. inl found;
+  old_only = λ key bytes found. found;
+}
 
 pub same_then : (a b c : Database) → SameStates a b → SameStates b c → SameStates a c
-same_then a b c one other = record { kept = λ key s has. other.kept key s (one.kept key s has); only = λ key s has. one.only key s (other.only key s has) }
+same_then a b c one other = record {
+  kept = λ key s has. other.kept key s (one.kept key s has);
+  only = λ key s has. one.only key s (other.only key s has);
+  new_kept = λ key bytes found. other.new_kept key bytes (one.new_kept key bytes found);
+  new_only = λ key bytes found. elim (other.new_only key bytes found) [ inl there ↦ one.new_only key bytes there | inr stored ↦ inr stored ];
+  old_kept = λ key bytes found. elim (one.old_kept key bytes found) [ inl there ↦ other.old_kept key bytes there | inr stored ↦ inr stored ];
+  old_only = λ key bytes found. one.old_only key bytes (other.old_only key bytes found);
+}
 
 has_by : (x y : Stored) (layout : Layout) (key : Key) (s : State) → y ≡ x → SpelledIn layout x key s → SpelledIn layout y key s
 has_by x y layout key s same has = subst (λ m. SpelledIn layout m key s) (sym same) has
@@ -139,6 +169,10 @@ pub same_kept : (a b : Database) → KeepsStates a b → SameStates a b
 same_kept a b keeps = record {
   kept = λ key s has. has_kept a b key s keeps.new_same keeps.old_same has;
   only = λ key s has. has_kept b a key s (sym keeps.new_same) (sym keeps.old_same) has;
+  new_kept = λ key bytes found. ap (λ m. get m key) keeps.new_same ∙ found;
+  new_only = λ key bytes found. inl (ap (λ m. get m key) (sym keeps.new_same) ∙ found);
+  old_kept = λ key bytes found. inl (ap (λ m. get m key) keeps.old_same ∙ found);
+  old_only = λ key bytes found. ap (λ m. get m key) (sym keeps.old_same) ∙ found;
 }
 
 pub same_unchanged : (a b : Database) → b ≡ a → SameStates a b

@@ -80,10 +80,15 @@ SpelledIn layout stored key s = (bytes : List ℕ) × (get stored key ≡ Some b
 abbrev pub HasState : Database → Key → State → Type 0
 HasState db key s = SpelledIn layout2 (new_states db) key s ⊎ SpelledIn layout1 (old_states db) key s
 
--- the two maps of both databases spell the same states of the same keys
+-- The two maps of both databases spell the same states of the same keys, and hold the same bytes, but where an old state became a
+-- new one: so what spells none stays as it is
 pub record SameStates (a b : Database) : Type 0 where
   pub kept : (key : Key) (s : State) → HasState a key s → HasState b key s
   pub only : (key : Key) (s : State) → HasState b key s → HasState a key s
+  pub new_kept : (key : Key) (bytes : List ℕ) → get (new_states a) key ≡ Some bytes → get (new_states b) key ≡ Some bytes
+  pub new_only : (key : Key) (bytes : List ℕ) → get (new_states b) key ≡ Some bytes → (get (new_states a) key ≡ Some bytes) ⊎ IsStored bytes
+  pub old_kept : (key : Key) (bytes : List ℕ) → get (old_states a) key ≡ Some bytes → (get (old_states b) key ≡ Some bytes) ⊎ IsOldStored bytes
+  pub old_only : (key : Key) (bytes : List ℕ) → get (old_states b) key ≡ Some bytes → get (old_states a) key ≡ Some bytes
 
 -- just these states are had, at just these keys
 abbrev pub HasJust : Database → States → Type 0

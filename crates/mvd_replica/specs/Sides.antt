@@ -13,6 +13,8 @@ use Rattle.mvd_records.specs.Records.{IsSound}
 use Rattle.mvd_site.specs.FromStates.{AnswersFrom, after_from}
 use Rattle.mvd_site.specs.Held.{AreHeld}
 use Rattle.mvd_site.specs.Sites.{SiteValue}
+use Rattle.mvd_sync.specs.Session.{ComesByPushes}
+use Rattle.mvd_sync.proofs.Steps.{more_pushes, no_pushes}
 use Rattle.mvd_sync.specs.Sides.{SiteFollows, SiteRefuses, site_follows_on, site_follows_self}
 use Rattle.mvd_replica.specs.Kept.{HoldsSite, HoldsStates}
 use Rattle.sqlite.specs.Effect.{Database}
@@ -98,6 +100,21 @@ module _ (asks : Request → Type 0) (old mid new : SiteValue) (before between a
       shut = shut_on between.is_open refl;
     };
   }
+
+-- What of a replica no call of a session changes; and its states, also once it is broken, are those that it had, after pushes of
+-- states in form
+pub record SideFollows (old new : SiteValue) (before after : State) : Type 0 where
+  pub replica : ReplicaFollows IsPush old new before after
+  pub comes : ComesByPushes (λ _ _. Unit {0}) old.states new.states
+
+pub side_follows_self : (site : SiteValue) (s : State) → SideFollows site site s s
+side_follows_self site s = record { replica = replica_follows_self site s; comes = no_pushes _ _ _ refl }
+
+pub side_follows_on : (old mid new : SiteValue) (before between after : State) → SideFollows old mid before between → SideFollows mid new between after → SideFollows old new before after
+side_follows_on old mid new before between after p q = record {
+  replica = replica_follows_on IsPush old mid new before between after p.replica q.replica;
+  comes = more_pushes _ _ _ _ p.comes q.comes;
+}
 
 -- a replica, as it is after that, may have refused so: as a site does, or the store did
 abbrev pub ReplicaRefuses : SiteValue → Refusal → Type 0

@@ -24,7 +24,7 @@ use sqlite::Alter;
 /// A replica is true to the states of its keys as long as it is not broken. What `follows` says of its records holds after any
 /// calls of a session.
 impl<S: Alter> Peer for Replica<S> {
-    ghost use Rattle.mvd_replica.specs.Sides.{AnswersFromStored, IsPush, IsTrueSite, ReplicaFollows, ReplicaRefuses, replica_follows_on, replica_follows_self};
+    ghost use Rattle.mvd_replica.specs.Sides.{AnswersFromStored, IsTrueSite, ReplicaRefuses, SideFollows, side_follows_on, side_follows_self};
 
     ghost states = { λ replica. replica.site.states };
 
@@ -32,7 +32,7 @@ impl<S: Alter> Peer for Replica<S> {
 
     ghost can_give = { λ _ _. Unit {0} };
 
-    ghost follows = { λ old new. ReplicaFollows IsPush old.site new.site (store S.Store old.records.conn) (store S.Store new.records.conn) };
+    ghost follows = { λ old new. SideFollows old.site new.site (store S.Store old.records.conn) (store S.Store new.records.conn) };
 
     ghost can_refuse = { λ replica refusal. ReplicaRefuses replica.site refusal };
 
@@ -40,9 +40,9 @@ impl<S: Alter> Peer for Replica<S> {
 
     ghost in_form = { λ _ whole. whole.1 };
 
-    ghost follows_self = { λ replica. replica_follows_self _ _ };
+    ghost follows_self = { λ replica. side_follows_self _ _ };
 
-    ghost follows_on = { λ old mid new p q. replica_follows_on _ _ _ _ _ _ _ p q };
+    ghost follows_on = { λ old mid new p q. side_follows_on _ _ _ _ _ _ p q };
 
     fn node(&mut self, path: &Path) -> Result<Digests, Refusal>
         ensures told { result ≡ unless_broken self.old.site.broken (Err Broken) (Ok (node_digests (digests self.old.site.states) path.now)) }
@@ -87,12 +87,13 @@ impl<S: Alter> Peer for Replica<S> {
         ensures refused { IsTrueSite self.old.site → IsTrueSite self.new.site → IfErr result (λ _. self.new.site.states ≡ self.old.site.states) }
         ensures unbroken { IsTrueSite self.old.site → IfErr result (λ refusal. refusal ≢ Broken → IsTrueSite self.new.site) }
         ensures clash { IsTrueSite self.old.site → IfErr result (λ refusal. refusal ≡ DotClash → clashes (state_at self.old.site.states key.now) state.now ≡ true) }
-        ensures follows { ReplicaFollows IsPush self.old.site self.new.site (store S.Store self.old.records.conn) (store S.Store self.new.records.conn) }
+        ensures follows { SideFollows self.old.site self.new.site (store S.Store self.old.records.conn) (store S.Store self.new.records.conn) }
         ensures refuses { IfErr result (ReplicaRefuses self.new.site) }
         ensures answers { OnOk result (self.new.site.broken ≡ false) }
     {
         // Here it is known that the pushed state's siblings have been seen, and then what holds of any site.
         let _seen = state.context();
+        let _held_before = self.key_count();
         let pushed = Replica::push(self, key, state);
         let _held = self.key_count();
         pushed

@@ -1,5 +1,5 @@
 use Rattle.mvd_sync.proofs.SiteSides.{push_ok}
-use Rattle.mvd_replica.proofs.Sides.{follows_wider, push_refuses}
+use Rattle.mvd_replica.proofs.Sides.{follows_wider, push_comes, push_refuses}
 use Rattle.mvd_replica.proofs.side.ReplicaPeer.push.Goals as goal
 
 pub returns-clause-ok : goal.returns-clause-ok
@@ -11,4 +11,8 @@ returns-clause-refuses g c =
     push_refuses c.args.self.now.site c.push-pushed.new.self.site c.args.key.now c.args.state.now c.push-pushed.result c.push-pushed.ensures.answer c.push-pushed.ensures.told (λ broken. (c.push-pushed.ensures.stays broken).0)
 
 pub returns-clause-follows : goal.returns-clause-follows
-returns-clause-follows g c = follows_wider _ _ _ _ _ _ (λ request is. (c.args.key.now, c.args.state.now, is)) c.push-pushed.ensures.follows
+returns-clause-follows g c = record {
+  replica = follows_wider _ _ _ _ _ _ (λ request is. (c.args.key.now, c.args.state.now, is)) c.push-pushed.ensures.follows;
+  comes = push_comes c.args.self.now.site c.push-pushed.new.self.site c.args.key.now c.args.state.now c.push-pushed.result c.key_count-held_before.ensures.held c.context-seen.ensures.valid c.push-pushed.ensures.joined
+      c.push-pushed.ensures.unchanged c.push-pushed.ensures.told;
+}

@@ -51,7 +51,7 @@ fn end_of(ended: Result<(), Fault>) -> End {
     }
 }
 
-fn ran(alloc: Global, script: &str) -> Ran {
+fn outcome_of(alloc: Global, script: &str) -> Ran {
     let mut room = [0; ROOM];
     let mut reader = script.as_bytes();
     let mut writer: &mut [u8] = &mut room;
@@ -101,7 +101,7 @@ fn is_but_refused(printed: &str, wanted: &str) -> bool {
 /// Whether a script tells what it did: what was refused was not done, and all else is as in a script without it. Where it stops, it
 /// has printed what it prints before.
 fn tells(alloc: Global) -> Result<bool, AllocError> {
-    let first = ran(alloc, SCRIPT);
+    let first = outcome_of(alloc, SCRIPT);
     if first.end == End::Stopped {
         return Ok(PRINTED.starts_with(first.text()));
     }
@@ -109,7 +109,7 @@ fn tells(alloc: Global) -> Result<bool, AllocError> {
         return Ok(first.end == End::Whole);
     }
     let script = without_refused(alloc, first.text())?;
-    let again = ran(alloc, script.as_str());
+    let again = outcome_of(alloc, script.as_str());
     Ok(first.end == End::Whole && is_but_refused(first.text(), again.text()))
 }
 

@@ -115,7 +115,8 @@ pub fn sync_run<'a, N: Net, S: Alter + Drop, W: Write, E: Write>(
     };
     match joined(alloc, stream, replica, told) {
         Ok(keys) => Ok(tell_joined(alloc, replica, keys, writer)?),
-        Err(fault) => Err(Stop::in_session(address, fault)),
+        Err(SyncFault::Local(refusal)) => Err(Stop::in_session(refusal)),
+        Err(SyncFault::Peer(refusal)) => Err(Stop::at_server(address, refusal)),
     }
 }
 

@@ -8,7 +8,7 @@ use crate::serving::tell;
 use crate::talk::answer;
 use mvd_dots::Refusal;
 use mvd_input::{Fault, Hint, Stop, Typed, text_of, typed_of};
-use mvd_sync::{Remote, SyncFault};
+use mvd_sync::Remote;
 use std::alloc::Global;
 use std::fmt::Write as Print;
 use std::io::{BufRead, Read, Write};
@@ -137,6 +137,6 @@ pub fn remote_shell_run<'a, N: Net, R: BufRead, W: Write>(
     }
     match remote.bye() {
         Ok(()) => Ok(()),
-        Err(refusal) => Err(Stop::in_session(address, SyncFault::Peer(refusal))),
+        Err(refusal) => Err(Stop::at_server(address, refusal)),
     }
 }

@@ -1,4 +1,3 @@
 pub mod Ends
 pub mod Hexadecimal
 pub mod Orders
-pub mod Stops

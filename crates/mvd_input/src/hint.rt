@@ -2,11 +2,9 @@
 ghost use Rattle.std.specs.Prelude.{◌≡◌, Some};
 ghost use Rattle.mvd_dots.specs.declared.refusals.Refusal.TheVariants.{ReadFailed, SiteMismatch, Store};
 ghost use Rattle.mvd_input.specs.declared.fault.Fault.TheVariants.{Stopped};
-ghost use Rattle.mvd_input.specs.Stops.{refusal_of};
 
 use crate::fault::Fault;
 use mvd_dots::Refusal;
-use mvd_sync::SyncFault;
 use sqlite::ErrorCode;
 use std::fmt;
 use std::io::{self, ErrorKind};
@@ -176,20 +174,26 @@ impl<'a> Stop<'a> {
         Stop::new(Refusal::ReadFailed, Hint::NoServer(address, error))
     }
 
-    /// A session with the server at an address ends early.
-    pub fn in_session(address: SocketAddr, fault: SyncFault) -> Stop<'a>
-        ensures { result.fault ≡ Stopped (refusal_of fault) }
+    /// This side of a session refuses.
+    pub fn in_session(refusal: Refusal) -> Stop<'a>
+        ensures { result.fault ≡ Stopped refusal }
     {
-        match fault {
-            SyncFault::Local(Refusal::DotClash) | SyncFault::Peer(Refusal::DotClash) => {
-                Stop::new(Refusal::DotClash, Hint::Clash)
-            }
-            SyncFault::Local(Refusal::Full) => Stop::new(Refusal::Full, Hint::Full),
-            SyncFault::Local(refusal) => Stop::from(refusal),
-            SyncFault::Peer(refusal) if refusal.number() < 30 => {
-                Stop::new(refusal, Hint::Refused(address))
-            }
-            SyncFault::Peer(refusal) => Stop::new(refusal, Hint::Broken(address)),
+        match refusal {
+            Refusal::DotClash => Stop::new(refusal, Hint::Clash),
+            Refusal::Full => Stop::new(refusal, Hint::Full),
+            _ => Stop::from(refusal),
         }
+    }
+
+    /// The server at an address refuses, or the connection with it breaks.
+    pub fn at_server(address: SocketAddr, refusal: Refusal) -> Stop<'a>
+        ensures { result.fault ≡ Stopped refusal }
+    {
+        let hint = match refusal {
+            Refusal::DotClash => Hint::Clash,
+            _ if refusal.number() < 30 => Hint::Refused(address),
+            _ => Hint::Broken(address),
+        };
+        Stop::new(refusal, hint)
     }
 }

@@ -1,4 +1,7 @@
 //! The lines of a script, and those that are typed.
+ghost use Rattle.std.specs.Prelude.{◌≡◌, ◌↔◌, ◌<◌, ◌^◌, ℕ, IfNone, IfSome, IsTrue, codes};
+ghost use Rattle.std.specs.Fmt.{decimal};
+ghost use Rattle.mvd_input.specs.Lines.{IsAsked, IsCommand, IsLine, IsPadded, IsTyped, IsView, IsWord, spaced};
 
 /// A line of a script, as it is written.
 #[derive(Clone, Copy)]
@@ -79,8 +82,10 @@ pub enum Ask<'a> {
 }
 
 /// The line that a text is, if it is one.
-pub fn line_of(text: &str) -> Option<Line<'_>> {
-    let (name, rest) = text.split_once(' ')?;
+pub fn line_of(text: &str) -> Option<Line<'_>>
+    ensures { IfSome result (λ line. IsLine line text.now) }
+{
+    let (name, rest) = parted(text)?;
     match name {
         "sites" => Some(Line::Sites(number_of(rest)?)),
         "max" => Some(Line::Max(number_of(rest)?)),
@@ -101,12 +106,14 @@ pub enum Typed<'a> {
 }
 
 /// The typed line that a text is, if it is one.
-pub fn typed_of(text: &str) -> Option<Typed<'_>> {
+pub fn typed_of(text: &str) -> Option<Typed<'_>>
+    ensures { IfSome result (λ typed. IsTyped typed text.now) }
+{
     match text {
         "help" => Some(Typed::Help),
         "root" => Some(Typed::Ask(ROOT)),
         _ => {
-            let (name, rest) = text.split_once(' ')?;
+            let (name, rest) = parted(text)?;
             Some(Typed::Ask(ask_of(name, rest)?))
         }
     }
@@ -116,19 +123,25 @@ pub fn typed_of(text: &str) -> Option<Typed<'_>> {
 const ROOT: Ask<'static> = Ask::Node { path: "-" };
 
 /// The command of a name on a site, which stands first.
-fn at_of<'a>(name: &str, rest: &'a str) -> Option<Line<'a>> {
-    let (site, rest) = rest.split_once(' ')?;
+fn at_of<'a>(name: &str, rest: &'a str) -> Option<Line<'a>>
+    ensures { IfSome result (λ line. IsLine line (spaced name.now rest.now)) }
+{
+    let (site, rest) = parted(rest)?;
     Some(Line::At(number_of(site)?, command_of(name, rest)?))
 }
 
-fn view_of(rest: &str) -> Option<View<'_>> {
-    let (name, rest) = rest.split_once(' ')?;
-    let (group, sum) = rest.split_once(' ')?;
+fn view_of(rest: &str) -> Option<View<'_>>
+    ensures { IfSome result (λ view. IsView view rest.now) }
+{
+    let (name, rest) = parted(rest)?;
+    let (group, sum) = parted(rest)?;
     Some(View { name, group, sum })
 }
 
 /// The command of a name, with what stands behind the site.
-fn command_of<'a>(name: &str, rest: &'a str) -> Option<Command<'a>> {
+fn command_of<'a>(name: &str, rest: &'a str) -> Option<Command<'a>>
+    ensures { IfSome result (λ command. IsCommand command name.now rest.now) }
+{
     match name {
         "send" => Some(Command::Send { key: last(rest)? }),
         "recv" => Some(Command::Receive {
@@ -142,7 +155,9 @@ fn command_of<'a>(name: &str, rest: &'a str) -> Option<Command<'a>> {
 }
 
 /// What is asked by a name, with what stands behind it.
-fn ask_of<'a>(name: &str, rest: &'a str) -> Option<Ask<'a>> {
+fn ask_of<'a>(name: &str, rest: &'a str) -> Option<Ask<'a>>
+    ensures { IfSome result (λ ask. IsAsked ask name.now rest.now) }
+{
     match name {
         "get" => Some(Ask::Get { key: last(rest)? }),
         "node" => Some(Ask::Node { path: last(rest)? }),
@@ -153,8 +168,10 @@ fn ask_of<'a>(name: &str, rest: &'a str) -> Option<Ask<'a>> {
 }
 
 /// What is asked by a name, with a word and the rest of the line.
-fn two_of<'a>(name: &str, rest: &'a str) -> Option<Ask<'a>> {
-    let (word, rest) = rest.split_once(' ')?;
+fn two_of<'a>(name: &str, rest: &'a str) -> Option<Ask<'a>>
+    ensures { IfSome result (λ ask. IsAsked ask name.now rest.now) }
+{
+    let (word, rest) = parted(rest)?;
     match name {
         "del" => Some(Ask::Delete {
             key: word,
@@ -177,9 +194,11 @@ fn two_of<'a>(name: &str, rest: &'a str) -> Option<Ask<'a>> {
 }
 
 /// A put, whose document is the rest of the line.
-fn put_of(rest: &str) -> Option<Ask<'_>> {
-    let (key, rest) = rest.split_once(' ')?;
-    let (context, document) = rest.split_once(' ')?;
+fn put_of(rest: &str) -> Option<Ask<'_>>
+    ensures { IfSome result (λ ask. IsAsked ask (codes "put") rest.now) }
+{
+    let (key, rest) = parted(rest)?;
+    let (context, document) = parted(rest)?;
     Some(Ask::Put {
         key,
         context,
@@ -187,19 +206,41 @@ fn put_of(rest: &str) -> Option<Ask<'_>> {
     })
 }
 
+/// What stands before the first space of a text, and behind it.
+fn parted(text: &str) -> Option<(&str, &str)>
+    ensures parts { IfSome result (λ parts. text.now ≡ spaced parts.0.now parts.1.now) }
+    ensures word { IfSome result (λ parts. IsWord parts.0.now) }
+{
+    text.split_once(' ')
+}
+
 /// The last word of a line.
-fn last(text: &str) -> Option<&str> {
+fn last(text: &str) -> Option<&str>
+    ensures { IfSome result (λ word. (word.now ≡ text.now) × IsWord word.now) }
+{
     if text.as_bytes().contains(&b' ') {
         return None;
     }
     Some(text)
 }
 
+/// Whether a plus stands first, or a zero that is not all.
+fn is_padded(digits: &[u8]) -> bool
+    ensures { IsTrue result ↔ IsPadded digits.now }
+{
+    match digits.first() {
+        Some(b'+') => true,
+        Some(b'0') => digits.len() > 1,
+        _ => false,
+    }
+}
+
 /// A decimal number without leading zeros.
-fn number_of(text: &str) -> Option<u64> {
-    let digits = text.as_bytes();
-    let is_plain = digits.iter().all(|digit| digit.is_ascii_digit());
-    if !is_plain || (digits.len() > 1 && digits[0] == b'0') {
+fn number_of(text: &str) -> Option<u64>
+    ensures found { IfSome result (λ number. text.now ≡ decimal number) }
+    ensures none { IfNone result ((number : ℕ) → number < 2 ^ 64 → text.now ≡ decimal number → ⊥) }
+{
+    if is_padded(text.as_bytes()) {
         return None;
     }
     text.parse::<u64>().ok()

@@ -1,8 +1,10 @@
 //! Files of definitions, by the rules of a script's head.
-ghost use Rattle.std.specs.Prelude.{◌≡◌, ◌<◌, ◌≤◌, length, Err, IfErr, IfOk};
+ghost use Rattle.std.specs.Prelude.{◌≡◌, ◌<◌, ◌≤◌, length, Err, IfErr, IfNone, IfOk, IfSome};
 ghost use Rattle.mvd_dots.specs.declared.refusals.Refusal.TheVariants.{FrameTooLong};
 ghost use Rattle.mvd_input.specs.declared.fault.Fault.TheVariants.{Stopped};
 ghost use Rattle.mvd_input.specs.Ends.{EndsEarly};
+ghost use Rattle.mvd_input.specs.Lines.{said};
+ghost use Rattle.std.specs.Str.{IsUtf8};
 
 use crate::command::{Line, View, line_of};
 use crate::fault::Fault;
@@ -58,7 +60,10 @@ fn define(alloc: Global, number: u64, line: &[u8], defs: &mut Defs) -> Result<()
 }
 
 /// The text of a line, where it is UTF-8. It is empty where the line says nothing.
-pub fn text_of(line: &[u8]) -> Option<&str> {
+pub fn text_of(line: &[u8]) -> Option<&str>
+    ensures found { IfSome result (λ text. text.now ≡ said line.now) }
+    ensures none { IfNone result (IsUtf8 line.now → ⊥) }
+{
     match str::from_utf8(line) {
         Ok(_) if line.starts_with(b"#") => Some(""),
         Ok(text) => Some(text),

@@ -1,0 +1,93 @@
+-- How the lines of scripts are spelled, and those that are typed (formats of this repository's own).
+use Rattle.std.specs.Prelude.{◌≡◌, ◌⊎◌, ◌==◌, ℕ, ◌<◌, false, if◌then◌else◌, List, [], ◌∷◌, ◌++◌, codes, get_or, length}
+use Rattle.std.specs.Fmt.{decimal}
+use Rattle.std.specs.List.{list_any}
+use Rattle.mvd_input.specs.declared.command.Ask.{Ask}
+use Rattle.mvd_input.specs.declared.command.Ask.TheVariants.{Put, Delete, Get, Row, Node, Find, Range, Rows}
+use Rattle.mvd_input.specs.declared.command.Command.{Command}
+use Rattle.mvd_input.specs.declared.command.Command.TheVariants as command
+use Rattle.mvd_input.specs.declared.command.Line.{Line}
+use Rattle.mvd_input.specs.declared.command.Line.TheVariants as line
+use Rattle.mvd_input.specs.declared.command.Typed.{Typed}
+use Rattle.mvd_input.specs.declared.command.View.{View}
+use Rattle.mvd_input.specs.declared.command.Typed.TheVariants as typed
+
+-- what a line says: nothing where a `#` (35) stands first
+abbrev pub said : List ℕ → List ℕ
+said line = if get_or line 0 0 == 35 then [] else line
+
+-- no space (32) is in the text
+abbrev pub IsWord : List ℕ → Type 0
+IsWord text = list_any (λ byte. byte == 32) text ≡ false
+
+-- two texts, parted by a space
+abbrev pub spaced : List ℕ → List ℕ → List ℕ
+spaced first rest = first ++ 32 ∷ rest
+
+-- the word of a question or a write, and what stands behind it, where a script has the site's number between the two
+abbrev pub word_of : Ask → List ℕ
+word_of (Put _ _ _) = codes "put"
+word_of (Delete _ _) = codes "del"
+word_of (Get _) = codes "get"
+word_of (Row _ _) = codes "row"
+word_of (Node _) = codes "node"
+word_of (Find _ _) = codes "find"
+word_of (Range _ _) = codes "range"
+word_of (Rows _) = codes "rows"
+
+abbrev pub rest_of : Ask → List ℕ
+rest_of (Put key context document) = spaced key.now (spaced context.now document.now)
+rest_of (Delete key context) = spaced key.now context.now
+rest_of (Get key) = key.now
+rest_of (Row view term) = spaced view.now term.now
+rest_of (Node path) = path.now
+rest_of (Find field term) = spaced field.now term.now
+rest_of (Range field terms) = spaced field.now terms.now
+rest_of (Rows view) = view.now
+
+-- each text in it that another follows, and each that may have no space, is a word
+abbrev pub HasWords : Ask → Type 0
+HasWords (Put key context _) = IsWord key.now × IsWord context.now
+HasWords (Delete key context) = IsWord key.now × IsWord context.now
+HasWords (Get key) = IsWord key.now
+HasWords (Row view _) = IsWord view.now
+HasWords (Node path) = IsWord path.now
+HasWords (Find field _) = IsWord field.now
+HasWords (Range field _) = IsWord field.now
+HasWords (Rows view) = IsWord view.now
+
+-- the question or write has this word, and this stands behind it
+abbrev pub IsAsked : Ask → List ℕ → List ℕ → Type 0
+IsAsked ask word rest = (word ≡ word_of ask) × (rest ≡ rest_of ask) × HasWords ask
+
+-- the same of a command
+abbrev pub IsCommand : Command → List ℕ → List ℕ → Type 0
+IsCommand (command.Ask ask) word rest = IsAsked ask word rest
+IsCommand (command.Send key) word rest = (word ≡ codes "send") × (rest ≡ key.now) × IsWord key.now
+IsCommand (command.Receive message) word rest = (word ≡ codes "recv") × (rest ≡ decimal message)
+IsCommand (command.Sync peer) word rest = (word ≡ codes "sync") × (rest ≡ decimal peer)
+
+-- it asks for the whole hash tree's digest, for which `root` stands, too
+abbrev pub IsRoot : Ask → Type 0
+IsRoot ask = IsAsked ask (codes "node") (codes "-")
+
+abbrev pub IsView : View → List ℕ → Type 0
+IsView view text = (text ≡ spaced view.name.now (spaced view.group.now view.sum.now)) × IsWord view.name.now × IsWord view.group.now
+
+-- the text spells the line: the site's number stands behind a command's word
+abbrev pub IsLine : Line → List ℕ → Type 0
+IsLine (line.Sites count) text = text ≡ spaced (codes "sites") (decimal count)
+IsLine (line.Max count) text = text ≡ spaced (codes "max") (decimal count)
+IsLine (line.Index field) text = text ≡ spaced (codes "index") field.now
+IsLine (line.View view) text = (rest : List ℕ) × (text ≡ spaced (codes "view") rest) × IsView view rest
+IsLine (line.At site command) text =
+    ((word : List ℕ) × (rest : List ℕ) × (text ≡ spaced word (spaced (decimal site) rest)) × IsCommand command word rest)
+    ⊎ ((text ≡ spaced (codes "root") (decimal site)) × IsCommand command (codes "node") (codes "-"))
+
+abbrev pub IsTyped : Typed → List ℕ → Type 0
+IsTyped typed.Help text = text ≡ codes "help"
+IsTyped (typed.Ask ask) text = ((word : List ℕ) × (rest : List ℕ) × (text ≡ spaced word rest) × IsAsked ask word rest) ⊎ ((text ≡ codes "root") × IsRoot ask)
+
+-- a `+` (43) stands first, or a zero (48) that is not all: so no number is spelled
+abbrev pub IsPadded : List ℕ → Type 0
+IsPadded digits = (get_or digits 0 0 ≡ 43) ⊎ ((get_or digits 0 0 ≡ 48) × (1 < length digits))

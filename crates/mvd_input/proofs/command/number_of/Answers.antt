@@ -1,4 +1,4 @@
-use Rattle.std.proofs.Common.{◌≡◌, ◌∙◌, subst, sym, true≢false}
+use Rattle.std.proofs.Common.{◌∙◌, subst, sym, true≢false}
 use Rattle.mvd_input.specs.Lines.{IsPadded}
 use Rattle.mvd_input.proofs.Numbers.{found_by, none_by, written_is_plain}
 use Rattle.mvd_input.proofs.command.number_of.Goals as goal

@@ -1,3 +1,6 @@
+mod Consumed
+mod Defined
 mod Lines
 mod Numbers
 mod Parting
+mod Refused

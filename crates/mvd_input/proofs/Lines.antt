@@ -80,7 +80,7 @@ pub starts : (text : List ℕ) → Reading text (Some text) 0 []
 unfolding Spell lines_after
 starts text = record { before = []; lines = refl; counted = refl; few = (refl, omega arith); room = omega arith }
 
-fits : (after : Option (Bor (List ℕ))) (lines : List ℕ) (number size : ℕ) → IfSome after (λ text. length text.now < length lines) → number + left (Some lines) ≤ size → number + 1 + left (option_copied after) ≤ size
+pub fits : (after : Option (Bor (List ℕ))) (lines : List ℕ) (number size : ℕ) → IfSome after (λ text. length text.now < length lines) → number + left (Some lines) ≤ size → number + 1 + left (option_copied after) ≤ size
 fits None lines number size p room = omega (arith, room)
 fits (Some after) lines number size p room = omega (arith, p, room)
 

@@ -1,7 +1,6 @@
 -- What lines define, one after the other.
-use Rattle.std.proofs.Common.{◌≡◌, ◌<◌, ◌≤◌, ◌+◌, ◌++◌, ◌∙◌, ℕ, List, [], ◌∷◌, Option, Some, None, Ok, Err, Bor, IfSome, inl, inr, length, suc, refl, sym, ap, subst, arith, codes, append_assoc}
+use Rattle.std.proofs.Common.{◌≡◌, ◌<◌, ◌+◌, ◌++◌, ◌∙◌, ℕ, List, [], ◌∷◌, Option, Some, Ok, Err, Bor, IfSome, inl, inr, length, refl, sym, subst, codes}
 use Rattle.std.specs.Option.{option_copied}
-use Rattle.std.proofs.lemmas.List.{append-nil, length-append}
 use Rattle.mvd_dots.specs.declared.refusals.Refusal.{Refusal}
 use Rattle.mvd_rows.specs.Defs.{Definitions, no_definitions}
 use Rattle.mvd_input.specs.declared.command.Line.TheVariants as line
@@ -9,7 +8,7 @@ use Rattle.mvd_input.specs.declared.command.View.{View}
 use Rattle.mvd_input.specs.Definitions.{DefineAll, Defines, DefinesNothing, FailsFirstAt, view_added}
 use Rattle.mvd_input.specs.Hexadecimal.{lines_after, lines_of}
 use Rattle.mvd_input.specs.Lines.{IsLine, IsView, said, spaced}
-use Rattle.mvd_input.proofs.Lines.{left, fits}
+use Rattle.mvd_input.proofs.Lines.{Taking, takes_next, takes_none, takes_on}
 use Rattle.mvd_input.proofs.Parting.{one_parting}
 use Rattle.mvd_input.proofs.Refused.{other_word}
 
@@ -37,16 +36,12 @@ view_nothing text view old refusal (rest, is, spelled) none new (utf8, inr (line
 view_nothing text view old refusal (rest, is, spelled) none new (utf8, inr (line.At _ _, same, ok)) = absurd cc
 
 -- of a text, so many lines were taken, which define these
-pub record Defining (text : List ℕ) (rest : Option (List ℕ)) (number : ℕ) (defs : Definitions) : Type 0 where
-  pub before : List (List ℕ)
-  pub lines : lines_of text ≡ before ++ lines_after rest
-  pub counted : number ≡ length before
-  pub defined : DefineAll before no_definitions defs
-  pub room : number + left rest ≤ suc (length text)
+abbrev pub Defining : List ℕ → Option (List ℕ) → ℕ → Definitions → Type 0
+Defining text rest number defs = Taking text rest number (λ before. DefineAll before no_definitions defs)
 
 pub begins : (text : List ℕ) → Defining text (Some text) 0 no_definitions
-unfolding lines_after DefineAll
-begins text = record { before = []; lines = refl; counted = refl; defined = refl; room = omega arith }
+unfolding DefineAll
+begins text = takes_none text (λ before. DefineAll before no_definitions no_definitions) refl
 
 define_more : (lines : List (List ℕ)) (line : List ℕ) (old middle new : Definitions) → DefineAll lines old middle → Defines line middle new → DefineAll (lines ++ line ∷ []) old new
 unfolding DefineAll
@@ -55,20 +50,10 @@ define_more (first ∷ lines) line old middle new (next, one, others) defines = 
 
 pub goes_on : (text lines line : List ℕ) (old new : Definitions) (after : Option (Bor (List ℕ))) (number : ℕ) → Defining text (Some lines) number old → lines_of lines ≡ line ∷ lines_after (option_copied after) → IfSome after (λ a. length a.now < length lines)
     → Defines line old new → Defining text (option_copied after) (number + 1) new
-unfolding lines_after
-goes_on text lines line old new after number so_far cut shorter defines = record {
-  before = so_far.before ++ line ∷ [];
-  lines = so_far.lines ∙ ap (λ (ls : List (List ℕ)). so_far.before ++ ls) cut ∙ sym (append_assoc so_far.before (line ∷ []) (lines_after (option_copied after)));
-  counted = omega (arith, so_far.counted, length-append so_far.before (line ∷ []));
-  defined = define_more so_far.before line no_definitions old new so_far.defined defines;
-  room = fits after lines number (suc (length text)) shorter so_far.room;
-}
+goes_on text lines line old new after number so_far cut shorter defines =
+    takes_on text lines line after number (λ before. DefineAll before no_definitions old) (λ before. DefineAll before no_definitions new) so_far cut shorter (λ before defined. define_more before line no_definitions old new defined defines)
 
 pub fails_at : (text lines line : List ℕ) (defs : Definitions) (after : Option (List ℕ)) (number : ℕ) → Defining text (Some lines) number defs → lines_of lines ≡ line ∷ lines_after after → DefinesNothing line defs → FailsFirstAt (lines_of text) (number + 1)
-unfolding lines_after
 fails_at text lines line defs after number so_far cut nothing =
-    (so_far.before, line, lines_after after, defs, so_far.lines ∙ ap (λ (ls : List (List ℕ)). so_far.before ++ ls) cut, ap (λ (n : ℕ). n + 1) so_far.counted, so_far.defined, nothing)
-
-pub all_defined : (text : List ℕ) (defs : Definitions) (number : ℕ) → Defining text None number defs → DefineAll (lines_of text) no_definitions defs
-unfolding lines_after
-all_defined text defs number so_far = subst (λ (ls : List (List ℕ)). DefineAll ls no_definitions defs) (sym (so_far.lines ∙ append-nil so_far.before)) so_far.defined
+    let (before, others, is, counted, defined) = takes_next text lines line after number (λ before. DefineAll before no_definitions defs) so_far cut in
+    (before, line, others, defs, is, counted, defined, nothing)

@@ -3,4 +3,5 @@ mod Defined
 mod Lines
 mod Numbers
 mod Parting
+mod Reading
 mod Refused

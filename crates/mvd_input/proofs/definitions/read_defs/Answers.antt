@@ -1,6 +1,9 @@
 use Rattle.std.proofs.Common.{Some, None, Ok, Option, Bor, List, ℕ, ap, subst, ◌∙◌}
 use Rattle.std.specs.Option.{option_copied}
-use Rattle.mvd_input.proofs.Defined.{Defining, all_defined, begins, fails_at, goes_on}
+use Rattle.mvd_rows.specs.Defs.{no_definitions}
+use Rattle.mvd_input.specs.Definitions.{DefineAll}
+use Rattle.mvd_input.proofs.Lines.{takes_all}
+use Rattle.mvd_input.proofs.Defined.{Defining, begins, fails_at, goes_on}
 use Rattle.mvd_input.proofs.definitions.read_defs.Goals as goal
 
 pub loop-rest-init : goal.loop-rest-init
@@ -21,4 +24,4 @@ returns-in-Ok-false-clause-fault c =
 pub returns-clause-defined : goal.returns-clause-defined
 returns-clause-defined c =
     let so_far : Defining c.args.text.now None c.loop-rest.number c.loop-rest.defs = subst (λ (r : Option (Bor (List ℕ))). Defining c.args.text.now (option_copied r) c.loop-rest.number c.loop-rest.defs) c.in_default.is c.loop-rest.invariant in
-    all_defined c.args.text.now c.loop-rest.defs c.loop-rest.number so_far
+    takes_all c.args.text.now c.loop-rest.number (λ before. DefineAll before no_definitions c.loop-rest.defs) so_far

@@ -1,14 +1,10 @@
 -- The lines of a text, one after the other.
-use Rattle.std.proofs.Common.{◌≡◌, ℕ, List, [], ◌∷◌, ◌++◌, ◌+◌, ◌<◌, ◌≤◌, ◌==◌, Bool, true, false, Option, Some, None, Ok, IfSome, Bor, ◌⊎◌, inl, inr, length, take, drop, refl, sym, ap, ◌∙◌, subst, arith, suc, append_assoc, nat_lt, cond, ltb-true}
+use Rattle.std.proofs.Common.{◌≡◌, ℕ, List, [], ◌∷◌, ◌++◌, ◌+◌, ◌<◌, ◌≤◌, ◌==◌, Bool, true, false, Option, Some, None, IfSome, Bor, length, take, drop, refl, sym, ap, ◌∙◌, subst, arith, suc, append_assoc, nat_lt, cond, ltb-true}
 use Rattle.std.specs.List.{position_or_len}
 use Rattle.std.specs.Option.{option_copied}
 use Rattle.std.proofs.lemmas.Bool.{ltb-false}
 use Rattle.std.proofs.lemmas.List.{append-nil, length-append}
-use Rattle.mvd_dots.specs.declared.refusals.Refusal.TheVariants.{Memory, FrameTooLong}
-use Rattle.mvd_input.specs.declared.fault.Fault.{Fault}
-use Rattle.mvd_input.specs.declared.fault.Fault.TheVariants.{Stopped, Line}
-use Rattle.mvd_input.specs.Hexadecimal.{lines_of, onto_first, lines_after, Spell, SpellFew, FailsAt, HasFault, IsNoHexadecimal, SpellsTooMany}
-use Rattle.hex.specs.Hex.{decode_of}
+use Rattle.mvd_input.specs.Hexadecimal.{lines_of, onto_first, lines_after}
 
 -- where the first line feed stands, or the length
 abbrev pub feed_in : List ℕ → ℕ
@@ -57,57 +53,47 @@ nowhere_on false text e h = (is_cut text).1 (ltb-false (feed_in text) (length te
 pub cut_nowhere : (text : List ℕ) → feed_at text ≡ None → lines_of text ≡ text ∷ []
 cut_nowhere text h = nowhere_on (nat_lt (feed_in text) (length text)) text refl h
 
-spell_more : (lines : List (List ℕ)) (bytes : List ℕ) (line more : List ℕ) → Spell lines bytes → decode_of line ≡ Ok more → Spell (lines ++ line ∷ []) (bytes ++ more)
-unfolding Spell
-spell_more [] bytes line more p q = (more, [], q, refl, ap (λ (l : List ℕ). l ++ more) p ∙ sym (append-nil more))
-spell_more (first ∷ lines) bytes line more (front, rest, decodes, others, is) q =
-    (front, rest ++ more, decodes, spell_more lines rest line more others q, ap (λ (l : List ℕ). l ++ more) is ∙ append_assoc front rest more)
-
 -- how much of a text is left, its line feeds counted
 abbrev pub left : Option (List ℕ) → ℕ
 left None = 0
 left (Some text) = suc (length text)
 
--- of a text, so many lines were read, which spell these bytes
-pub record Reading (text : List ℕ) (rest : Option (List ℕ)) (number : ℕ) (bytes : List ℕ) : Type 0 where
+-- of a text, so many lines were taken, of which this holds
+pub record Taking (text : List ℕ) (rest : Option (List ℕ)) (number : ℕ) (Holds : List (List ℕ) → Type 0) : Type 0 where
   pub before : List (List ℕ)
   pub lines : lines_of text ≡ before ++ lines_after rest
   pub counted : number ≡ length before
-  pub few : SpellFew before bytes
+  pub holds : Holds before
   pub room : number + left rest ≤ suc (length text)
 
-pub starts : (text : List ℕ) → Reading text (Some text) 0 []
-unfolding Spell lines_after
-starts text = record { before = []; lines = refl; counted = refl; few = (refl, omega arith); room = omega arith }
+pub takes_none : (text : List ℕ) (Holds : List (List ℕ) → Type 0) → Holds [] → Taking text (Some text) 0 Holds
+unfolding lines_after
+takes_none text Holds none = record { before = []; lines = refl; counted = refl; holds = none; room = omega arith }
 
 fits : (after : Option (Bor (List ℕ))) (lines : List ℕ) (number size : ℕ) → IfSome after (λ text. length text.now < length lines) → number + left (Some lines) ≤ size → number + 1 + left (option_copied after) ≤ size
 fits None lines number size p room = omega (arith, room)
 fits (Some after) lines number size p room = omega (arith, p, room)
 
-pub reads_on : (text lines line more bytes : List ℕ) (after : Option (Bor (List ℕ))) (number : ℕ) → Reading text (Some lines) number bytes → lines_of lines ≡ line ∷ lines_after (option_copied after) → IfSome after (λ a. length a.now < length lines)
-    → decode_of line ≡ Ok more → length (bytes ++ more) ≤ 32768 → Reading text (option_copied after) (number + 1) (bytes ++ more)
+pub takes_on : (text lines line : List ℕ) (after : Option (Bor (List ℕ))) (number : ℕ) (Holds More : List (List ℕ) → Type 0) → Taking text (Some lines) number Holds → lines_of lines ≡ line ∷ lines_after (option_copied after)
+    → IfSome after (λ a. length a.now < length lines) → ((before : List (List ℕ)) → Holds before → More (before ++ line ∷ [])) → Taking text (option_copied after) (number + 1) More
 unfolding lines_after
-reads_on text lines line more bytes after number so_far cut shorter decodes fit = record {
+takes_on text lines line after number Holds More so_far cut shorter more = record {
   before = so_far.before ++ line ∷ [];
   lines = so_far.lines ∙ ap (λ (ls : List (List ℕ)). so_far.before ++ ls) cut ∙ sym (append_assoc so_far.before (line ∷ []) (lines_after (option_copied after)));
   counted = omega (arith, so_far.counted, length-append so_far.before (line ∷ []));
-  few = (spell_more so_far.before bytes line more so_far.few.0 decodes, fit);
+  holds = more so_far.before so_far.holds;
   room = fits after lines number (suc (length text)) shorter so_far.room;
 }
 
-fails : (text lines line bytes : List ℕ) (after : Option (List ℕ)) (number : ℕ) (IsAtFault : List ℕ → List ℕ → Type 0) → Reading text (Some lines) number bytes → lines_of lines ≡ line ∷ lines_after after → IsAtFault line bytes → FailsAt (lines_of text) (number + 1) IsAtFault
-unfolding lines_after
-fails text lines line bytes after number IsAtFault so_far cut fault =
-    (so_far.before, line, lines_after after, bytes, so_far.lines ∙ ap (λ (ls : List (List ℕ)). so_far.before ++ ls) cut, ap (λ (n : ℕ). n + 1) so_far.counted, so_far.few, fault)
+-- the line that is taken next
+abbrev pub IsNext : List ℕ → ℕ → List ℕ → (List (List ℕ) → Type 0) → Type 0
+IsNext text number line Holds = (before : List (List ℕ)) × (after : List (List ℕ)) × (lines_of text ≡ before ++ line ∷ after) × (number ≡ length before + 1) × Holds before
 
-pub is_read : (text bytes : List ℕ) (number : ℕ) → Reading text None number bytes → SpellFew (lines_of text) bytes
+pub takes_next : (text lines line : List ℕ) (after : Option (List ℕ)) (number : ℕ) (Holds : List (List ℕ) → Type 0) → Taking text (Some lines) number Holds → lines_of lines ≡ line ∷ lines_after after → IsNext text (number + 1) line Holds
 unfolding lines_after
-is_read text bytes number so_far =
-    let all : lines_of text ≡ so_far.before = so_far.lines ∙ append-nil so_far.before in
-    (subst (λ (ls : List (List ℕ)). Spell ls bytes) (sym all) so_far.few.0, so_far.few.1)
+takes_next text lines line after number Holds so_far cut =
+    (so_far.before, lines_after after, so_far.lines ∙ ap (λ (ls : List (List ℕ)). so_far.before ++ ls) cut, ap (λ (n : ℕ). n + 1) so_far.counted, so_far.holds)
 
-pub told : (text lines line bytes : List ℕ) (after : Option (List ℕ)) (number : ℕ) (fault : Fault) → length text ≤ 131072 → Reading text (Some lines) number bytes → lines_of lines ≡ line ∷ lines_after after
-    → (fault ≡ Stopped Memory) ⊎ (((fault ≡ Line (number + 1)) × IsNoHexadecimal line) ⊎ ((fault ≡ Stopped FrameTooLong) × SpellsTooMany line bytes)) → HasFault text fault
-told text lines line bytes after number fault few so_far cut (inl is) = subst (HasFault text) (sym is) (inl refl)
-told text lines line bytes after number fault few so_far cut (inr (inl (is, bad))) = subst (HasFault text) (sym is) (few, fails text lines line bytes after number (λ line _. IsNoHexadecimal line) so_far cut bad)
-told text lines line bytes after number fault few so_far cut (inr (inr (is, many))) = subst (HasFault text) (sym is) (inr (refl, inr (number + 1, fails text lines line bytes after number SpellsTooMany so_far cut many)))
+pub takes_all : (text : List ℕ) (number : ℕ) (Holds : List (List ℕ) → Type 0) → Taking text None number Holds → Holds (lines_of text)
+unfolding lines_after
+takes_all text number Holds so_far = subst Holds (sym (so_far.lines ∙ append-nil so_far.before)) so_far.holds

@@ -1,5 +1,5 @@
 -- How the lines of scripts are spelled, and those that are typed (formats of this repository's own).
-use Rattle.std.specs.Prelude.{◌≡◌, ◌⊎◌, ◌==◌, ℕ, ◌<◌, false, if◌then◌else◌, List, [], ◌∷◌, ◌++◌, codes, get_or, length}
+use Rattle.std.specs.Prelude.{◌≡◌, ◌⊎◌, ◌==◌, ℕ, ◌<◌, ◌^◌, false, if◌then◌else◌, List, [], ◌∷◌, ◌++◌, codes, get_or, length}
 use Rattle.std.specs.Fmt.{decimal}
 use Rattle.std.specs.List.{list_any}
 use Rattle.mvd_input.specs.declared.command.Ask.{Ask}
@@ -23,6 +23,10 @@ IsWord text = list_any (λ byte. byte == 32) text ≡ false
 -- two texts, parted by a space
 abbrev pub spaced : List ℕ → List ℕ → List ℕ
 spaced first rest = first ++ 32 ∷ rest
+
+-- the digits of a number of 64 bits
+abbrev pub IsNumber : ℕ → List ℕ → Type 0
+IsNumber number digits = (digits ≡ decimal number) × (number < 2 ^ 64)
 
 -- the word of a question or a write, and what stands behind it, where a script has the site's number between the two
 abbrev pub word_of : Ask → List ℕ
@@ -64,8 +68,12 @@ IsAsked ask word rest = (word ≡ word_of ask) × (rest ≡ rest_of ask) × HasW
 abbrev pub IsCommand : Command → List ℕ → List ℕ → Type 0
 IsCommand (command.Ask ask) word rest = IsAsked ask word rest
 IsCommand (command.Send key) word rest = (word ≡ codes "send") × (rest ≡ key.now) × IsWord key.now
-IsCommand (command.Receive message) word rest = (word ≡ codes "recv") × (rest ≡ decimal message)
-IsCommand (command.Sync peer) word rest = (word ≡ codes "sync") × (rest ≡ decimal peer)
+IsCommand (command.Receive message) word rest = (word ≡ codes "recv") × IsNumber message rest
+IsCommand (command.Sync peer) word rest = (word ≡ codes "sync") × IsNumber peer rest
+
+-- behind a command's word stand the site's number and what the command is about
+abbrev pub IsAt : ℕ → Command → List ℕ → List ℕ → Type 0
+IsAt site command word behind = (digits : List ℕ) × (rest : List ℕ) × (behind ≡ spaced digits rest) × IsNumber site digits × IsCommand command word rest
 
 -- it asks for the whole hash tree's digest, for which `root` stands, too
 abbrev pub IsRoot : Ask → Type 0
@@ -74,19 +82,41 @@ IsRoot ask = IsAsked ask (codes "node") (codes "-")
 abbrev pub IsView : View → List ℕ → Type 0
 IsView view text = (text ≡ spaced view.name.now (spaced view.group.now view.sum.now)) × IsWord view.name.now × IsWord view.group.now
 
--- the text spells the line: the site's number stands behind a command's word
+-- the text spells the line
 abbrev pub IsLine : Line → List ℕ → Type 0
-IsLine (line.Sites count) text = text ≡ spaced (codes "sites") (decimal count)
-IsLine (line.Max count) text = text ≡ spaced (codes "max") (decimal count)
+IsLine (line.Sites count) text = (digits : List ℕ) × (text ≡ spaced (codes "sites") digits) × IsNumber count digits
+IsLine (line.Max count) text = (digits : List ℕ) × (text ≡ spaced (codes "max") digits) × IsNumber count digits
 IsLine (line.Index field) text = text ≡ spaced (codes "index") field.now
 IsLine (line.View view) text = (rest : List ℕ) × (text ≡ spaced (codes "view") rest) × IsView view rest
 IsLine (line.At site command) text =
-    ((word : List ℕ) × (rest : List ℕ) × (text ≡ spaced word (spaced (decimal site) rest)) × IsCommand command word rest)
-    ⊎ ((text ≡ spaced (codes "root") (decimal site)) × IsCommand command (codes "node") (codes "-"))
+    ((word : List ℕ) × (behind : List ℕ) × (text ≡ spaced word behind) × IsAt site command word behind)
+    ⊎ ((digits : List ℕ) × (text ≡ spaced (codes "root") digits) × IsNumber site digits × IsCommand command (codes "node") (codes "-"))
 
 abbrev pub IsTyped : Typed → List ℕ → Type 0
 IsTyped typed.Help text = text ≡ codes "help"
 IsTyped (typed.Ask ask) text = ((word : List ℕ) × (rest : List ℕ) × (text ≡ spaced word rest) × IsAsked ask word rest) ⊎ ((text ≡ codes "root") × IsRoot ask)
+
+-- the texts that spell nothing
+abbrev pub IsNoNumber : List ℕ → Type 0
+IsNoNumber text = (number : ℕ) → IsNumber number text → ⊥
+
+abbrev pub IsNoView : List ℕ → Type 0
+IsNoView text = (view : View) → IsView view text → ⊥
+
+abbrev pub IsNoAsk : List ℕ → List ℕ → Type 0
+IsNoAsk word rest = (ask : Ask) → IsAsked ask word rest → ⊥
+
+abbrev pub IsNoCommand : List ℕ → List ℕ → Type 0
+IsNoCommand word rest = (command : Command) → IsCommand command word rest → ⊥
+
+abbrev pub IsNoAt : List ℕ → List ℕ → Type 0
+IsNoAt word behind = (site : ℕ) (command : Command) → IsAt site command word behind → ⊥
+
+abbrev pub IsNoLine : List ℕ → Type 0
+IsNoLine text = (line : Line) → IsLine line text → ⊥
+
+abbrev pub IsNotTyped : List ℕ → Type 0
+IsNotTyped text = (typed : Typed) → IsTyped typed text → ⊥
 
 -- a `+` (43) stands first, or a zero (48) that is not all: so no number is spelled
 abbrev pub IsPadded : List ℕ → Type 0

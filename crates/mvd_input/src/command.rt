@@ -1,7 +1,6 @@
 //! The lines of a script, and those that are typed.
-ghost use Rattle.std.specs.Prelude.{◌≡◌, ◌↔◌, ◌<◌, ◌^◌, ℕ, IfNone, IfSome, IsTrue, codes};
-ghost use Rattle.std.specs.Fmt.{decimal};
-ghost use Rattle.mvd_input.specs.Lines.{IsAsked, IsCommand, IsLine, IsPadded, IsTyped, IsView, IsWord, spaced};
+ghost use Rattle.std.specs.Prelude.{◌≡◌, ◌↔◌, IfNone, IfSome, IsTrue, codes};
+ghost use Rattle.mvd_input.specs.Lines.{IsAsked, IsAt, IsCommand, IsLine, IsNoAsk, IsNoAt, IsNoCommand, IsNoLine, IsNoNumber, IsNoView, IsNotTyped, IsNumber, IsPadded, IsTyped, IsView, IsWord, spaced};
 
 /// A line of a script, as it is written.
 #[derive(Clone, Copy)]
@@ -82,8 +81,10 @@ pub enum Ask<'a> {
 }
 
 /// The line that a text is, if it is one.
+#[tactic(auto, using(crate::proofs::Parting::one_parting))]
 pub fn line_of(text: &str) -> Option<Line<'_>>
-    ensures { IfSome result (λ line. IsLine line text.now) }
+    ensures found { IfSome result (λ line. IsLine line text.now) }
+    ensures none { IfNone result (IsNoLine text.now) }
 {
     let (name, rest) = parted(text)?;
     match name {
@@ -92,7 +93,10 @@ pub fn line_of(text: &str) -> Option<Line<'_>>
         "index" => Some(Line::Index(rest)),
         "view" => Some(Line::View(view_of(rest)?)),
         "root" => Some(Line::At(number_of(rest)?, Command::Ask(ROOT))),
-        _ => at_of(name, rest),
+        _ => {
+            let (site, command) = at_of(name, rest)?;
+            Some(Line::At(site, command))
+        }
     }
 }
 
@@ -107,7 +111,8 @@ pub enum Typed<'a> {
 
 /// The typed line that a text is, if it is one.
 pub fn typed_of(text: &str) -> Option<Typed<'_>>
-    ensures { IfSome result (λ typed. IsTyped typed text.now) }
+    ensures found { IfSome result (λ typed. IsTyped typed text.now) }
+    ensures none { IfNone result (IsNotTyped text.now) }
 {
     match text {
         "help" => Some(Typed::Help),
@@ -122,16 +127,18 @@ pub fn typed_of(text: &str) -> Option<Typed<'_>>
 /// The digest of the whole hash tree.
 const ROOT: Ask<'static> = Ask::Node { path: "-" };
 
-/// The command of a name on a site, which stands first.
-fn at_of<'a>(name: &str, rest: &'a str) -> Option<Line<'a>>
-    ensures { IfSome result (λ line. IsLine line (spaced name.now rest.now)) }
+/// The command of a name, and the number of its site, which stands first.
+fn at_of<'a>(name: &str, rest: &'a str) -> Option<(u64, Command<'a>)>
+    ensures found { IfSome result (λ at. IsAt at.0 at.1 name.now rest.now) }
+    ensures none { IfNone result (IsNoAt name.now rest.now) }
 {
     let (site, rest) = parted(rest)?;
-    Some(Line::At(number_of(site)?, command_of(name, rest)?))
+    Some((number_of(site)?, command_of(name, rest)?))
 }
 
 fn view_of(rest: &str) -> Option<View<'_>>
-    ensures { IfSome result (λ view. IsView view rest.now) }
+    ensures found { IfSome result (λ view. IsView view rest.now) }
+    ensures none { IfNone result (IsNoView rest.now) }
 {
     let (name, rest) = parted(rest)?;
     let (group, sum) = parted(rest)?;
@@ -140,7 +147,8 @@ fn view_of(rest: &str) -> Option<View<'_>>
 
 /// The command of a name, with what stands behind the site.
 fn command_of<'a>(name: &str, rest: &'a str) -> Option<Command<'a>>
-    ensures { IfSome result (λ command. IsCommand command name.now rest.now) }
+    ensures found { IfSome result (λ command. IsCommand command name.now rest.now) }
+    ensures none { IfNone result (IsNoCommand name.now rest.now) }
 {
     match name {
         "send" => Some(Command::Send { key: last(rest)? }),
@@ -156,46 +164,47 @@ fn command_of<'a>(name: &str, rest: &'a str) -> Option<Command<'a>>
 
 /// What is asked by a name, with what stands behind it.
 fn ask_of<'a>(name: &str, rest: &'a str) -> Option<Ask<'a>>
-    ensures { IfSome result (λ ask. IsAsked ask name.now rest.now) }
+    ensures found { IfSome result (λ ask. IsAsked ask name.now rest.now) }
+    ensures none { IfNone result (IsNoAsk name.now rest.now) }
 {
     match name {
         "get" => Some(Ask::Get { key: last(rest)? }),
         "node" => Some(Ask::Node { path: last(rest)? }),
         "rows" => Some(Ask::Rows { view: last(rest)? }),
         "put" => put_of(rest),
-        _ => two_of(name, rest),
-    }
-}
-
-/// What is asked by a name, with a word and the rest of the line.
-fn two_of<'a>(name: &str, rest: &'a str) -> Option<Ask<'a>>
-    ensures { IfSome result (λ ask. IsAsked ask name.now rest.now) }
-{
-    let (word, rest) = parted(rest)?;
-    match name {
-        "del" => Some(Ask::Delete {
-            key: word,
-            context: last(rest)?,
-        }),
-        "row" => Some(Ask::Row {
-            view: word,
-            term: rest,
-        }),
-        "find" => Some(Ask::Find {
-            field: word,
-            term: rest,
-        }),
-        "range" => Some(Ask::Range {
-            field: word,
-            terms: rest,
-        }),
+        "del" => delete_of(rest),
+        "row" => {
+            let (view, term) = parted(rest)?;
+            Some(Ask::Row { view, term })
+        }
+        "find" => {
+            let (field, term) = parted(rest)?;
+            Some(Ask::Find { field, term })
+        }
+        "range" => {
+            let (field, terms) = parted(rest)?;
+            Some(Ask::Range { field, terms })
+        }
         _ => None,
     }
 }
 
+/// A delete, whose context ends the line.
+fn delete_of(rest: &str) -> Option<Ask<'_>>
+    ensures found { IfSome result (λ ask. IsAsked ask (codes "del") rest.now) }
+    ensures none { IfNone result (IsNoAsk (codes "del") rest.now) }
+{
+    let (key, rest) = parted(rest)?;
+    Some(Ask::Delete {
+        key,
+        context: last(rest)?,
+    })
+}
+
 /// A put, whose document is the rest of the line.
 fn put_of(rest: &str) -> Option<Ask<'_>>
-    ensures { IfSome result (λ ask. IsAsked ask (codes "put") rest.now) }
+    ensures found { IfSome result (λ ask. IsAsked ask (codes "put") rest.now) }
+    ensures none { IfNone result (IsNoAsk (codes "put") rest.now) }
 {
     let (key, rest) = parted(rest)?;
     let (context, document) = parted(rest)?;
@@ -210,13 +219,15 @@ fn put_of(rest: &str) -> Option<Ask<'_>>
 fn parted(text: &str) -> Option<(&str, &str)>
     ensures parts { IfSome result (λ parts. text.now ≡ spaced parts.0.now parts.1.now) }
     ensures word { IfSome result (λ parts. IsWord parts.0.now) }
+    ensures none { IfNone result (IsWord text.now) }
 {
     text.split_once(' ')
 }
 
 /// The last word of a line.
 fn last(text: &str) -> Option<&str>
-    ensures { IfSome result (λ word. (word.now ≡ text.now) × IsWord word.now) }
+    ensures found { IfSome result (λ word. (word.now ≡ text.now) × IsWord word.now) }
+    ensures none { IfNone result (IsWord text.now → ⊥) }
 {
     if text.as_bytes().contains(&b' ') {
         return None;
@@ -237,8 +248,8 @@ fn is_padded(digits: &[u8]) -> bool
 
 /// A decimal number without leading zeros.
 fn number_of(text: &str) -> Option<u64>
-    ensures found { IfSome result (λ number. text.now ≡ decimal number) }
-    ensures none { IfNone result ((number : ℕ) → number < 2 ^ 64 → text.now ≡ decimal number → ⊥) }
+    ensures found { IfSome result (λ number. IsNumber number text.now) }
+    ensures none { IfNone result (IsNoNumber text.now) }
 {
     if is_padded(text.as_bytes()) {
         return None;

@@ -1,7 +1,8 @@
 //! A fault, and what there is to do about it.
-ghost use Rattle.std.specs.Prelude.{◌≡◌, Some};
-ghost use Rattle.mvd_dots.specs.declared.refusals.Refusal.TheVariants.{ReadFailed, SiteMismatch, Store};
+ghost use Rattle.std.specs.Prelude.{◌≡◌, ℕ, Some};
+ghost use Rattle.mvd_dots.specs.declared.refusals.Refusal.TheVariants.{Damaged, DotClash, FrameTooLong, Full, ReadFailed, SiteMismatch, Store};
 ghost use Rattle.mvd_input.specs.declared.fault.Fault.TheVariants.{Stopped};
+ghost use Rattle.mvd_input.specs.declared.fault.Fault.TheVariants as faults;
 
 use crate::fault::Fault;
 use mvd_dots::Refusal;
@@ -104,7 +105,10 @@ impl<'a> Stop<'a> {
 
     /// The lines of standard input are at fault, which should be of this form.
     pub fn in_input(fault: Fault, form: Hint<'a>) -> Stop<'a>
-        ensures { result.fault ≡ fault }
+        ensures fault { result.fault ≡ fault }
+        ensures line { (number : ℕ) → fault ≡ faults.Line number → result.hint ≡ Some form.entry }
+        ensures unread { fault ≡ Stopped ReadFailed → result.hint ≡ Some Hint.NoInput }
+        ensures long { fault ≡ Stopped FrameTooLong → result.hint ≡ Some Hint.TooLong }
     {
         let hint = match fault {
             Fault::Line(_) => Some(form),
@@ -117,7 +121,10 @@ impl<'a> Stop<'a> {
 
     /// A file of definitions is at fault.
     pub fn in_defs(file: &'a str, fault: Fault) -> Stop<'a>
-        ensures { result.fault ≡ fault }
+        ensures fault { result.fault ≡ fault }
+        ensures line { (number : ℕ) → fault ≡ faults.Line number → result.hint ≡ Some (Hint.BadDefs file.entry) }
+        ensures unread { fault ≡ Stopped ReadFailed → result.hint ≡ Some (Hint.NoDefs file.entry) }
+        ensures long { fault ≡ Stopped FrameTooLong → result.hint ≡ Some Hint.TooLong }
     {
         let hint = match fault {
             Fault::Line(_) => Some(Hint::BadDefs(file)),
@@ -145,6 +152,9 @@ impl<'a> Stop<'a> {
     /// The records of a file are refused. Their marks name this site, where they can be read.
     pub fn in_records(file: &'a str, refusal: Refusal, owner: Option<u32>) -> Stop<'a>
         ensures fault { result.fault ≡ Stopped refusal }
+        ensures damaged { refusal ≡ Damaged → result.hint ≡ Some (Hint.Damaged file.entry) }
+        ensures full { refusal ≡ Full → result.hint ≡ Some Hint.Full }
+        ensures store { refusal ≡ Store → result.hint ≡ Some (Hint.NoDatabase file.entry) }
         ensures owner { (site : _) → refusal ≡ SiteMismatch → owner ≡ Some site → result.hint ≡ Some (Hint.OtherSite file.entry site) }
     {
         match (refusal, owner) {
@@ -176,7 +186,9 @@ impl<'a> Stop<'a> {
 
     /// This side of a session refuses.
     pub fn in_session(refusal: Refusal) -> Stop<'a>
-        ensures { result.fault ≡ Stopped refusal }
+        ensures fault { result.fault ≡ Stopped refusal }
+        ensures clash { refusal ≡ DotClash → result.hint ≡ Some Hint.Clash }
+        ensures full { refusal ≡ Full → result.hint ≡ Some Hint.Full }
     {
         match refusal {
             Refusal::DotClash => Stop::new(refusal, Hint::Clash),
@@ -187,7 +199,8 @@ impl<'a> Stop<'a> {
 
     /// The server at an address refuses, or the connection with it breaks.
     pub fn at_server(address: SocketAddr, refusal: Refusal) -> Stop<'a>
-        ensures { result.fault ≡ Stopped refusal }
+        ensures fault { result.fault ≡ Stopped refusal }
+        ensures clash { refusal ≡ DotClash → result.hint ≡ Some Hint.Clash }
     {
         let hint = match refusal {
             Refusal::DotClash => Hint::Clash,

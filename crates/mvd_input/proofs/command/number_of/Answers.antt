@@ -4,8 +4,8 @@ use Rattle.mvd_input.proofs.Numbers.{found_by, none_by, written_is_plain}
 use Rattle.mvd_input.proofs.command.number_of.Goals as goal
 
 pub returns-then-is_padded-clause-none : goal.returns-then-is_padded-clause-none
-returns-then-is_padded-clause-none c number fits spelled =
-    written_is_plain c.args.text.now number fits spelled (subst IsPadded c.as_bytes.ensures.value (c.is_padded.ensures.0 c.if-is_padded.true))
+returns-then-is_padded-clause-none c number spelled =
+    written_is_plain c.args.text.now number spelled.1 spelled.0 (subst IsPadded c.as_bytes.ensures.value (c.is_padded.ensures.0 c.if-is_padded.true))
 
 pub returns-clause-found : goal.returns-clause-found
 returns-clause-found c = found_by c.args.text.now c.parse.result c.ok.result

@@ -1,14 +1,16 @@
 use Rattle.std.proofs.Common.{◌≡◌, ◌≤◌, ◌+◌, ◌++◌, Ok, List, ℕ, Option, Some, None, Bor, length, arith, sym, subst}
 use Rattle.std.specs.Option.{option_copied}
 use Rattle.hex.specs.Hex.{decode_of}
-use Rattle.mvd_input.proofs.Lines.{Reading, starts, reads_on, told, is_read}
+use Rattle.mvd_input.specs.Hexadecimal.{SpellFew}
+use Rattle.mvd_input.proofs.Lines.{takes_all}
+use Rattle.mvd_input.proofs.Reading.{Reading, starts, reads_on, told}
 use Rattle.mvd_input.proofs.hexadecimal.hex_bytes.Goals as goal
 
 pub loop-rest-init : goal.loop-rest-init
 loop-rest-init c = rw c.new-bytes.ensures.items (starts c.args.text.now)
 
 pub add_line-requires : goal.add_line-requires
-add_line-requires c = c.loop-rest.invariant.few.1
+add_line-requires c = c.loop-rest.invariant.holds.1
 
 pub loop-rest-preserved : goal.loop-rest-preserved
 loop-rest-preserved c =
@@ -31,4 +33,4 @@ returns-in-Err-clause-fault c =
 pub returns-clause-joined : goal.returns-clause-joined
 returns-clause-joined c =
     let so_far : Reading c.args.text.now None c.loop-rest.number c.loop-rest.bytes.items = subst (λ (r : Option (Bor (List ℕ))). Reading c.args.text.now (option_copied r) c.loop-rest.number c.loop-rest.bytes.items) c.in_default.is c.loop-rest.invariant in
-    (omega (arith, c.if-text-gt-HEX_MAX.false), is_read c.args.text.now c.loop-rest.bytes.items c.loop-rest.number so_far)
+    (omega (arith, c.if-text-gt-HEX_MAX.false), takes_all c.args.text.now c.loop-rest.number (λ before. SpellFew before c.loop-rest.bytes.items) so_far)

@@ -1,5 +1,6 @@
 use Rattle.std.specs.Option.{option_copied}
-use Rattle.mvd_input.proofs.Lines.{Reading, left}
+use Rattle.mvd_input.proofs.Lines.{left}
+use Rattle.mvd_input.proofs.Reading.{Reading}
 use Rattle.mvd_input.proofs.hexadecimal.hex_bytes.Given as goal
 
 abbrev pub invariant-loop-rest : goal.invariant-loop-rest

@@ -33,13 +33,13 @@ at_three (a ∷ b ∷ c ∷ []) p n =
     record { within = omega arith; is = λ t. one t ∷ two t ∷ three t ∷ [] }
 at_three (a ∷ b ∷ c ∷ d ∷ path) p n = let s = p.short in absurd (omega arith)
 
-pub kept_three : (held : KeyDigests) (nodes : List (Option (List ℕ))) (path : List ℕ) (x : Option (List ℕ)) → KeepsLevel 0 path_of_three 4096 held nodes → IsPath path → 3 ≤ length path
-    → x ≡ get_or nodes ((get_or path 0 0 * 16 + get_or path 1 0) * 16 + get_or path 2 0) x → x ≡ kept_node (3 - length path) held path
-kept_three held nodes path x kept p n e =
+pub kept_three : (held : KeyDigests) (nodes : List (Option (List ℕ))) (path : List ℕ) → KeepsLevel 0 path_of_three 4096 held nodes → IsPath path → 3 ≤ length path
+    → get_or nodes ((get_or path 0 0 * 16 + get_or path 1 0) * 16 + get_or path 2 0) None ≡ kept_node (3 - length path) held path
+kept_three held nodes path kept p n =
     let at = at_three path p n in
     let s = p.short in
     let none : 0 ≡ 3 - length path = omega arith in
-    e ∙ any_default nodes _ x None (omega (arith, kept.all, at.within)) ∙ kept.each _ at.within ∙ ap (kept_node 0 held) (sym at.is) ∙ ap (λ levels. kept_node levels held path) none
+    kept.each _ at.within ∙ ap (kept_node 0 held) (sym at.is) ∙ ap (λ levels. kept_node levels held path) none
 
 map_twice : {X Y Z : Type 0} (f : X → Y) (g : Y → Z) (h : X → Z) (xs : List X) → ((x : X) → g (f x) ≡ h x) → map g (map f xs) ≡ map h xs
 map_twice f g h [] e = refl

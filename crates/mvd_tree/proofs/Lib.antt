@@ -9,4 +9,5 @@ pub mod Gathered
 pub mod Changes
 pub mod Opened
 pub mod Answers
+pub mod Midstates
 pub mod Held

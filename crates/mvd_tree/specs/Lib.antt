@@ -5,4 +5,5 @@ pub mod Hashed
 pub mod Kept
 pub mod Page
 pub mod Layout
+pub mod Midstates
 pub mod Split

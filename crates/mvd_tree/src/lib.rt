@@ -6,6 +6,7 @@ mod buckets;
 pub mod counted;
 mod digest;
 pub mod laws;
+mod level;
 mod nodes;
 mod tree;
 

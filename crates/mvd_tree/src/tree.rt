@@ -12,7 +12,8 @@ use crate::bucket::{Bucket, copies};
 use crate::buckets::{bucket_number, change_bucket, filled};
 use crate::counted;
 use crate::digest::bucket_digest;
-use crate::nodes::{all_or_zeros, bucket_nodes, node_over, nodes_over};
+use crate::level::Level;
+use crate::nodes::{all_or_zeros, bucket_nodes};
 use mvd_dots::Refusal;
 use mvd_keys::{Key, Path};
 use std::alloc::Global;
@@ -29,9 +30,9 @@ const PAGE: usize = 1000;
 pub struct Tree {
     alloc: Global,
     buckets: Vec<Bucket>,
-    lowest: Vec<Option<[u8; 32]>>,
-    middle: Vec<Option<[u8; 32]>>,
-    upper: Vec<Option<[u8; 32]>>,
+    lowest: Level,
+    middle: Level,
+    upper: Level,
     root: Option<[u8; 32]>,
 }
 
@@ -48,7 +49,7 @@ impl Model for Tree {
 
     ghost view = { λ t. gathered t.buckets.items };
 
-    ghost invariant = { λ t. KeepsTree t.buckets.items t.lowest.items t.middle.items t.upper.items t.root };
+    ghost invariant = { λ t. KeepsTree t.buckets.items t.lowest t.middle t.upper t.root };
 }
 
 /// The digits of a path.
@@ -91,10 +92,10 @@ impl Tree {
         ensures at_least { count.old ≤ count.new }
     {
         let buckets = filled(alloc, entries, count)?;
-        let lowest = bucket_nodes(alloc, &buckets, count)?;
-        let middle = nodes_over(alloc, &lowest, 256, count)?;
-        let upper = nodes_over(alloc, &middle, 16, count)?;
-        let root = node_over(&upper, 0, count);
+        let lowest = Level::new(alloc, bucket_nodes(alloc, &buckets, count)?)?;
+        let middle = Level::new(alloc, lowest.all_over(alloc, 256, count)?)?;
+        let upper = Level::new(alloc, middle.all_over(alloc, 16, count)?)?;
+        let root = upper.over(0, count);
         Ok(Tree {
             alloc,
             buckets,
@@ -126,10 +127,10 @@ impl Tree {
         if change_bucket(&mut self.buckets, self.alloc, lowest, key, digest).is_err() {
             return Err(Refusal::Broken);
         }
-        self.lowest[lowest] = bucket_digest(self.buckets[lowest].entries(), count);
-        self.middle[middle] = node_over(&self.lowest, middle, count);
-        self.upper[upper] = node_over(&self.middle, upper, count);
-        self.root = node_over(&self.upper, 0, count);
+        let kept = bucket_digest(self.buckets[lowest].entries(), count);
+        let over = self.lowest.set(lowest, kept, count);
+        let over = self.middle.set(middle, over, count);
+        self.root = self.upper.set(upper, over, count);
         Ok(())
     }
 
@@ -150,9 +151,11 @@ impl Tree {
     {
         match digits_of(path) {
             [] => self.root,
-            [a] => self.upper[*a as usize],
-            [a, b] => self.middle[*a as usize * 16 + *b as usize],
-            [a, b, c, ..] => { self.lowest[(*a as usize * 16 + *b as usize) * 16 + *c as usize] }
+            [a] => self.upper.nodes()[*a as usize],
+            [a, b] => self.middle.nodes()[*a as usize * 16 + *b as usize],
+            [a, b, c, ..] => {
+                self.lowest.nodes()[(*a as usize * 16 + *b as usize) * 16 + *c as usize]
+            }
         }
     }
 
@@ -180,14 +183,14 @@ impl Tree {
         ensures bucket { 3 ≤ length path.now → result ≡ None }
     {
         match digits_of(path) {
-            [] => Some(all_or_zeros(&self.upper)),
+            [] => Some(all_or_zeros(self.upper.nodes())),
             [a] => {
                 let first = *a as usize * 16;
-                Some(all_or_zeros(&self.middle[first..first + 16]))
+                Some(all_or_zeros(&self.middle.nodes()[first..first + 16]))
             }
             [a, b] => {
                 let first = (*a as usize * 16 + *b as usize) * 16;
-                Some(all_or_zeros(&self.lowest[first..first + 16]))
+                Some(all_or_zeros(&self.lowest.nodes()[first..first + 16]))
             }
             _ => None,
         }

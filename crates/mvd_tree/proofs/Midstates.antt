@@ -1,0 +1,73 @@
+-- A node's SHA-256 computation goes on from a midstate.
+use Rattle.std.proofs.Common.{◌≡◌, ◌≢◌, ℕ, ◌+◌, ◌-◌, ◌*◌, ◌/◌, ◌%◌, ◌<◌, ◌≤◌, List, ◌++◌, take, drop, get_or, set, sym, ap, subst, ◌∙◌, arith, Option}
+use Rattle.std.specs.Prelude.{slice_range, flat_map}
+use Rattle.std.proofs.Math.Seq.{take-add}
+use Rattle.std.proofs.lemmas.List.{drop-drop, take-set-le, drop-set-lt, drop-set-add}
+use Rattle.std.proofs.lemmas.Grind.{flat_map-append}
+use Rattle.sha2.specs.Hashers.{Holds256}
+use Rattle.mvd_tree.specs.Kept.{digest_or_zeros}
+use Rattle.mvd_tree.specs.Midstates.{IsMidstate, AreMidstatesBut, HasMidstates}
+use Rattle.mvd_tree.specs.declared.digest.CountedHasher.{CountedHasher}
+
+-- two parts of a list, one after the other
+slices-join : {X : Type 0} (xs : List X) (a b c : ℕ) → a ≤ b → b ≤ c → slice_range xs a b ++ slice_range xs b c ≡ slice_range xs a c
+slices-join xs a b c low high =
+    let back : a + (b - a) ≡ b = omega arith in
+    let whole : (b - a) + (c - b) ≡ c - a = omega arith in
+    ap (λ rest. take (b - a) (drop a xs) ++ take (c - b) rest) (ap (λ n. drop n xs) (sym back) ∙ sym (drop-drop (b - a) a xs))
+    ∙ sym (take-add (b - a) (c - b) (drop a xs)) ∙ ap (λ n. take n (drop a xs)) whole
+
+-- a part of a list is the same once something outside of it was set
+slice-set_after : {X : Type 0} (xs : List X) (a b n : ℕ) (x : X) → a ≤ b → b ≤ n → slice_range (set xs n x) a b ≡ slice_range xs a b
+slice-set_after xs a b n x low high =
+    let at : a + (n - a) ≡ n = omega arith in
+    ap (λ k. take (b - a) (drop a (set xs k x))) (sym at) ∙ ap (take (b - a)) (drop-set-add a xs (n - a) x) ∙ take-set-le (b - a) (drop a xs) (n - a) x (omega arith)
+
+slice-set_before : {X : Type 0} (xs : List X) (a b n : ℕ) (x : X) → n < a → slice_range (set xs n x) a b ≡ slice_range xs a b
+slice-set_before xs a b n x h = ap (take (b - a)) (drop-set-lt a xs n x h)
+
+-- once a group has been read, the next one is at hand
+read_on : (nodes : List (Option (List ℕ))) (group to : ℕ) (midstate after : CountedHasher)
+    → IsMidstate nodes group midstate
+    → ((m : List ℕ) → Holds256 midstate.hasher m → Holds256 after.hasher (m ++ flat_map digest_or_zeros (slice_range nodes (group * 4) to)))
+    → group * 4 ≤ to
+    → Holds256 after.hasher (flat_map digest_or_zeros (slice_range nodes (group / 4 * 16) to))
+read_on nodes group to midstate after is reads on =
+    subst (Holds256 after.hasher)
+    (sym (flat_map-append digest_or_zeros (slice_range nodes (group / 4 * 16) (group * 4)) (slice_range nodes (group * 4) to))
+    ∙ ap (flat_map digest_or_zeros) (slices-join nodes (group / 4 * 16) (group * 4) to (omega arith) on))
+    (reads _ is)
+
+pub next_midstate : (nodes : List (Option (List ℕ))) (group : ℕ) (midstate after : CountedHasher)
+    → group % 4 ≢ 0
+    → IsMidstate nodes (group - 1) midstate
+    → ((m : List ℕ) → Holds256 midstate.hasher m → Holds256 after.hasher (m ++ flat_map digest_or_zeros (slice_range nodes (group * 4 - 4) (group * 4))))
+    → IsMidstate nodes group after
+next_midstate nodes group midstate after within is reads =
+    let same : (group - 1) / 4 ≡ group / 4 = omega (arith, within) in
+    let start : group * 4 - 4 ≡ (group - 1) * 4 = omega arith in
+    subst (λ n. Holds256 after.hasher (flat_map digest_or_zeros (slice_range nodes (n * 16) (group * 4)))) same
+    (read_on nodes (group - 1) (group * 4) midstate after is
+    (λ m h. subst (λ n. Holds256 after.hasher (m ++ flat_map digest_or_zeros (slice_range nodes n (group * 4)))) start (reads m h)) (omega arith))
+
+-- after the last group of a node all its children have been read
+pub last_read : (nodes : List (Option (List ℕ))) (number : ℕ) (midstate after : CountedHasher)
+    → IsMidstate nodes (number * 4 + 3) midstate
+    → ((m : List ℕ) → Holds256 midstate.hasher m → Holds256 after.hasher (m ++ flat_map digest_or_zeros (slice_range nodes (number * 16 + 12) (number * 16 + 16))))
+    → Holds256 after.hasher (flat_map digest_or_zeros (slice_range nodes (number * 16) (number * 16 + 16)))
+last_read nodes number midstate after is reads =
+    let first : (number * 4 + 3) / 4 * 16 ≡ number * 16 = omega arith in
+    let start : number * 16 + 12 ≡ (number * 4 + 3) * 4 = omega arith in
+    subst (λ n. Holds256 after.hasher (flat_map digest_or_zeros (slice_range nodes n (number * 16 + 16)))) first
+    (read_on nodes (number * 4 + 3) (number * 16 + 16) midstate after is
+    (λ m h. subst (λ n. Holds256 after.hasher (m ++ flat_map digest_or_zeros (slice_range nodes n (number * 16 + 16)))) start (reads m h)) (omega arith))
+
+-- once a node was set, the midstates stay but for those after its group of the same node above
+pub midstates-set : (nodes : List (Option (List ℕ))) (midstates : List CountedHasher) (number : ℕ) (kept : Option (List ℕ)) → HasMidstates nodes midstates
+    → AreMidstatesBut (set nodes number kept) midstates (number / 4 + 1) (number / 4 / 4 * 4 + 4)
+midstates-set nodes midstates number kept has = record {
+  below = λ group d low within.
+      subst (λ part. Holds256 (get_or midstates group d).hasher (flat_map digest_or_zeros part)) (sym (slice-set_after nodes (group / 4 * 16) (group * 4) number kept (omega arith) (omega arith))) (has.each group d within);
+  above = λ group d high within.
+      subst (λ part. Holds256 (get_or midstates group d).hasher (flat_map digest_or_zeros part)) (sym (slice-set_before nodes (group / 4 * 16) (group * 4) number kept (omega arith))) (has.each group d within);
+}

@@ -1,0 +1,6 @@
+use Rattle.std.proofs.Common.{◌≤◌, ◌+◌}
+use Rattle.mvd_tree.specs.Layout.{AreOver}
+use Rattle.mvd_tree.proofs.level.Level.all_over.Given as goal
+
+abbrev pub invariant-loop-n : goal.invariant-loop-n
+invariant-loop-n l = AreOver l.fn.self l.n l.above.items × (l.count ≤ l.fn.count + l.n) × (l.fn.count ≤ l.count)

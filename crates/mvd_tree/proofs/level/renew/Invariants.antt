@@ -1,0 +1,8 @@
+use Rattle.std.proofs.Common.{◌≡◌, ◌+◌, ◌*◌, ◌/◌, length}
+use Rattle.mvd_tree.specs.Midstates.{AreMidstatesBut}
+use Rattle.mvd_tree.proofs.level.renew.Given as goal
+
+abbrev pub invariant-loop-next : goal.invariant-loop-next
+invariant-loop-next l =
+    (length l.midstates.items ≡ length l.fn.midstates.items)
+    × AreMidstatesBut l.nodes l.midstates.items l.next (l.group / 4 * 4 + 4)

@@ -1,6 +1,0 @@
-use Rattle.std.proofs.Common.{◌≤◌, ◌+◌}
-use Rattle.mvd_tree.specs.Layout.{AreOver}
-use Rattle.mvd_tree.proofs.nodes.nodes_over.Given as goal
-
-abbrev pub invariant-loop-n : goal.invariant-loop-n
-invariant-loop-n l = AreOver l.nodes l.n l.above.items × (l.count ≤ l.fn.count + l.n) × (l.fn.count ≤ l.count)

@@ -1,7 +1,9 @@
 #!/bin/bash
-# Refuses each growth of memory in turn, in each test that is made for it: each run must pass. docs/FAULTS.md has the counts.
-# It runs the proved tests (`rt test` in their crates first), and needs a C compiler.
-# usage: tools/faults.sh [CRATE TEST]
+# Refuses growths of memory, one a run, in each test that is made for it: each run must pass. docs/FAULTS.md has the counts.
+# It runs the proved tests (`rt test` in their crates, or `rt ci`, first), and needs a C compiler.
+# usage: tools/faults.sh                each growth of each test
+#        tools/faults.sh --short        each growth of the cheapest test, and each 50th of the others: what the gate runs
+#        tools/faults.sh CRATE TEST     each growth of one test
 set -eu
 top=$(cd "$(dirname "$0")/.." && pwd)
 room=$(mktemp -d)
@@ -60,22 +62,31 @@ one() { # BINARY TEST NUMBER: prints the number where the test does not pass
 export -f one
 export room
 
-sweep() { # CRATE TEST
-    local binary=$top/crates/$1/out/$1_tests count failed
+sweep() { # CRATE TEST [STEP]: refuses growth 1, 1 + STEP and so on, each by itself
+    local binary=$top/crates/$1/out/$1_tests step=${3:-1} count failed
     [ -x "$binary" ] || { echo "$1: no tests are built: run rt test there" >&2; exit 2; }
     count=$(REFUSE=0 LD_PRELOAD=$room/refuse.so "$binary" "$2" 2>&1 >/dev/null | sed -n 's/^allocations //p')
-    failed=$(seq 1 "$count" | xargs -P "$(nproc)" -I N bash -c "one '$binary' '$2' N" | sort -n | tr '\n' ' ')
-    echo "$1 $2: $count growths, not passed: ${failed:-none}"
+    [ "${count:-0}" -gt 0 ] || { echo "$1 $2: no growth was counted" >&2; exit 2; }
+    failed=$(seq 1 "$step" "$count" | xargs -P "$(nproc)" -I N bash -c "one '$binary' '$2' N" | sort -n | tr '\n' ' ')
+    echo "$1 $2: $(seq 1 "$step" "$count" | wc -l) of $count growths, not passed: ${failed:-none}"
+    [ -z "$failed" ] || well=1
 }
 
-if [ $# = 2 ]; then
-    sweep "$1" "$2"
-else
+sweep_all() { # STEP: that of all tests but the cheapest
+    local test
     for test in a_site_is_asked_again a_replica_is_asked_again a_connection_tells_what_is_there a_fresh_replica_is_opened_again \
         an_old_replica_is_opened_again; do
-        sweep mvd_faults_tests memory::$test
+        sweep mvd_faults_tests memory::$test "$1"
     done
     sweep mvd_faults_tests worlds::a_world_is_asked_again
-    sweep mvd_tests memory::a_script_tells_what_it_did
-    sweep mvd_sync_tests faults::a_refused_allocation_leaves_old_states_or_joins
-fi
+    sweep mvd_tests memory::a_script_tells_what_it_did "$1"
+    sweep mvd_sync_tests faults::a_refused_allocation_leaves_old_states_or_joins "$1"
+}
+
+well=0
+case $# in
+2) sweep "$1" "$2" ;;
+1) [ "$1" = --short ] || { echo "faults.sh: $1 is no option" >&2; exit 2; }; sweep_all 50 ;;
+*) sweep_all 1 ;;
+esac
+exit "$well"

@@ -1,0 +1,82 @@
+#!/usr/bin/env python3
+"""What the gate takes, crate by crate: runs a command, the gate if none is given, and samples its processes.
+
+usage, at the repository's top: tools/gate_costs.py FILE [COMMAND..]
+
+FILE gets a line `CRATE PROOF EDITS TESTS` for each crate, in processor seconds (a program's proof with its two compilers, the tests with
+their compiler), as tools/lanes.py reads it. At the end the totals are printed: processor minutes, wall minutes, and the most memory that
+all processes took together. A process is looked at twice a second, so of each its last half second may be missing."""
+import os
+import resource
+import subprocess
+import sys
+import time
+
+TICK = os.sysconf("SC_CLK_TCK")
+PAGE = os.sysconf("SC_PAGE_SIZE")
+
+
+def children(root):
+    """The processes below `root`: of each its start, its processor seconds and its bytes of memory."""
+    under, found = {}, {}
+    for name in filter(str.isdigit, os.listdir("/proc")):
+        try:
+            with open(f"/proc/{name}/stat") as it:
+                words = it.read().rpartition(")")[2].split()
+        except OSError:
+            continue
+        under.setdefault(int(words[1]), []).append(int(name))
+        found[int(name)] = words[19], (int(words[11]) + int(words[12])) / TICK, int(words[21]) * PAGE
+    todo, below = [root], {}
+    while todo:
+        for pid in under.get(todo.pop(), []):
+            below[pid] = found[pid]
+            todo.append(pid)
+    return below
+
+
+def job(pid):
+    """Which crate a process works for, and at what: 0 a proof, 1 edits, 2 tests. None for any other process."""
+    try:
+        with open(f"/proc/{pid}/cmdline", "rb") as it:
+            words = it.read().decode(errors="replace").split("\0")
+        where = os.readlink(f"/proc/{pid}/cwd")
+    except OSError:
+        return None
+    if "--crate-name" not in words:
+        return None
+    crate = words[words.index("--crate-name") + 1]
+    return crate, 1 if "rt-edit-" in where else 2 if "--test" in words else 0
+
+
+def main(file, command):
+    jobs, spent, most, began = {}, {}, 0, time.time()
+    gate = subprocess.Popen(command)
+    while gate.poll() is None:
+        below = children(gate.pid)
+        most = max(most, sum(size for _, _, size in below.values()))
+        for pid, (start, seconds, _) in below.items():
+            # (a number is given again to a later process)
+            each = pid, start
+            jobs[each] = jobs.get(each) or job(pid)
+            spent[each] = max(seconds, spent.get(each, 0.0))
+        time.sleep(0.5)
+    costs = {}
+    for each, at in jobs.items():
+        if at:
+            costs.setdefault(at[0], [0.0, 0.0, 0.0])[at[1]] += spent[each]
+    with open(file, "w") as out:
+        print("# crate, processor seconds of its proof, its edits, its tests", file=out)
+        for crate, row in costs.items():
+            print(crate, *(f"{it:.0f}" for it in row), file=out)
+    used = resource.getrusage(resource.RUSAGE_CHILDREN)
+    total, wall = used.ru_utime + used.ru_stime, time.time() - began
+    told = sum(sum(row) for row in costs.values())
+    print(f"{total / 60:.0f} processor minutes, {told / 60:.0f} of them of crates; {wall / 60:.0f} minutes; {most / 1e9:.1f} GB", file=sys.stderr)
+    return gate.returncode
+
+
+if __name__ == "__main__":
+    if len(sys.argv) < 2:
+        sys.exit(__doc__)
+    sys.exit(main(sys.argv[1], sys.argv[2:] or [".ci/run"]))

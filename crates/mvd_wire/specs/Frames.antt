@@ -5,7 +5,6 @@ use Rattle.std.specs.Io.KnownBytes.{Appends}
 use Rattle.mvd_dots.specs.declared.refusals.Refusal.{Refusal}
 use Rattle.mvd_dots.specs.declared.refusals.Refusal.TheVariants.{Memory, ReadFailed, Truncated, FrameTooLong}
 use Rattle.mvd_wire.specs.declared.frame.Frame.{Frame}
-use Rattle.mvd_wire.specs.declared.limits.TheConstants.{FRAME_LIMIT}
 use Rattle.mvd_wire.specs.Kind.{◌>>=◌, number}
 
 -- the known bytes grew by a front of the frame
@@ -35,8 +34,9 @@ frame_value f = record { kind = f.kind; payload = f.payload.items }
 abbrev pub spell_frame : FrameValue → List ℕ
 spell_frame f = (number w32).spell (length f.payload + 1) ++ f.kind ∷ f.payload
 
+-- the greatest length of a frame's kind and payload, in bytes
 abbrev pub frame_limit : ℕ
-frame_limit = FRAME_LIMIT
+frame_limit = 1200000
 
 -- the length of a frame, or nothing where the bytes end before its first
 unfoldable pub length_at : List ℕ → Result (Option ℕ × List ℕ) Refusal

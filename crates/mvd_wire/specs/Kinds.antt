@@ -17,23 +17,22 @@ use Rattle.mvd_docs.specs.Document.{IsDocument, canonical_document_of}
 use Rattle.mvd_keys.specs.Key.{key_of_text}
 use Rattle.mvd_keys.specs.Path.{path_of}
 use Rattle.mvd_keys.specs.State.{State, Text, IsValid}
-use Rattle.mvd_wire.specs.declared.limits.TheConstants.{DOCUMENT_LIMIT, OLD_STATE_LIMIT, STATE_LIMIT}
 use Rattle.mvd_wire.specs.declared.version.Version.{Version}
 use Rattle.mvd_wire.specs.declared.version.Version.TheVariants.{First, Second}
 use Rattle.mvd_wire.specs.Kind.{Kind, ◌>>=◌, byte, number, raw, followed, checked, accepted, named, counted}
 
--- the greatest length of a spelled state
+-- the greatest length of a spelled state, in bytes
 abbrev pub state_limit : ℕ
-state_limit = STATE_LIMIT
+state_limit = 1150000
 
--- what differs between the versions of the format
+-- what differs between the versions of the format: the widths of sites and counts, and the greatest length
 pub record Layout : Type 0 where
   pub site : Width
   pub entries : Width
   pub limit : ℕ
 
 abbrev pub layout1 : Layout
-layout1 = record { site = w16; entries = w16; limit = OLD_STATE_LIMIT }
+layout1 = record { site = w16; entries = w16; limit = 1000000 }
 
 abbrev pub layout2 : Layout
 layout2 = record { site = w32; entries = w32; limit = state_limit }
@@ -94,7 +93,7 @@ document_of_bytes bytes = if is_utf8 bytes then canonical_document_of bytes else
 
 unfoldable pub document : Kind Text
 document = named (λ d. (length d, d)) (λ p. p.1) (followed
-    (checked DocumentTooLong (λ n. nat_le n DOCUMENT_LIMIT) (number w32)) (λ n.
+    (checked DocumentTooLong (λ n. nat_le n 65536) (number w32)) (λ n.
     accepted document_of_bytes (raw n)))
 
 unfoldable pub path : Kind (List ℕ)
@@ -136,7 +135,7 @@ spell_state = (state layout2).spell
 pub record IsInForm (s : State) : Type 0 where
   pub valid : IsValid s
   pub in_range : AreInRange s.context
-  pub documents : (d : DotValue) (text : Text) → get s.siblings d ≡ Some text → IsDocument text × (length text ≤ DOCUMENT_LIMIT)
+  pub documents : (d : DotValue) (text : Text) → get s.siblings d ≡ Some text → IsDocument text × (length text ≤ 65536)
   pub short : length (spell_state s) ≤ state_limit
 
 -- ---- the spelling alone, which does not depend on what came before

@@ -11,7 +11,6 @@ use Rattle.mvd_docs.specs.declared.term.Term.TheVariants.{Null, False, True, Who
 use Rattle.mvd_docs.specs.Name.{is_field, is_view_name}
 use Rattle.mvd_docs.specs.TermText.{term_text_of}
 use Rattle.mvd_keys.specs.declared.places.Place.{Place}
-use Rattle.mvd_wire.specs.declared.limits.TheConstants.{PAGE_LIMIT}
 use Rattle.mvd_wire.specs.declared.reply.RowValue.{RowValue}
 use Rattle.mvd_wire.specs.declared.reply.Digests.{Digests}
 use Rattle.mvd_wire.specs.Kind.{Kind, ◌>>=◌, byte, number, raw, followed, checked, accepted, named, named_where, counted, nothing, optional, variant}
@@ -136,7 +135,7 @@ abbrev pub flag : Kind Bool
 flag = named (λ b. if b then 1 else 0) (λ n. n == 1) (checked BadBody (λ n. nat_le n 1) byte)
 
 abbrev pub page_limit : ℕ
-page_limit = PAGE_LIMIT
+page_limit = 1000
 
 abbrev pub item_count : Kind ℕ
 item_count = checked BadBody (λ n. nat_le n page_limit) (number w16)

@@ -61,8 +61,8 @@ fn node_is(alloc: Global, tree: &Tree, path: &[u8], digest: &[u8; 32]) -> Result
     Ok(found == *digest)
 }
 
-/// Gives a key a digest, or lets it be held no more: whether that took so many computations. Nothing is claimed of the tree,
-/// so that a test's proof carries no tree.
+/// Gives a key a digest, or lets it be held no more: whether that took so many computations.
+/// Nothing is claimed of the tree, so that a test's proof carries none.
 fn changes_by(
     tree: &mut Tree,
     key: &Key,

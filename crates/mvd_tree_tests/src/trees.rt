@@ -39,80 +39,90 @@ fn digest(number: u64) -> [u8; 32] {
     digest
 }
 
-fn root(alloc: Global, tree: &Tree) -> Result<[u8; 32], Refusal> {
-    let path = Path::new(alloc, &[])?;
-    Ok(tree.node(&path))
+/// Whether the key has this place.
+fn stands_at(alloc: Global, name: &str, digits: &[u8]) -> Result<bool, Refusal> {
+    let key = Key::read(alloc, name)?;
+    let place = place(alloc, &key)?;
+    Ok(place.digits() == digits)
 }
 
 #[test]
 fn keys_have_their_places(rt: HostRuntime) -> Result<(), Fail> {
-    let alloc = rt.alloc();
-    let a = place(alloc, &Key::read(alloc, "a")?)?;
-    assert_eq!(rt; a.digits(), [12u8, 10, 9].as_slice());
-    let b = place(alloc, &Key::read(alloc, "b")?)?;
-    assert_eq!(rt; b.digits(), [3u8, 14, 2].as_slice());
-    let abc = place(alloc, &Key::read(alloc, "abc")?)?;
-    assert_eq!(rt; abc.digits(), [11u8, 10, 7].as_slice());
+    assert!(rt; stands_at(rt.alloc(), "a", &[12, 10, 9])?);
+    assert!(rt; stands_at(rt.alloc(), "b", &[3, 14, 2])?);
+    assert!(rt; stands_at(rt.alloc(), "abc", &[11, 10, 7])?);
     Ok(())
 }
 
-#[test]
-fn one_key_makes_its_bucket_and_the_root(rt: HostRuntime) -> Result<(), Fail> {
-    let alloc = rt.alloc();
-    let mut tree = Tree::new(alloc)?;
-    assert_eq!(rt; root(alloc, &tree)?, [0; 32]);
+/// Whether the node has this digest.
+fn node_is(alloc: Global, tree: &Tree, path: &[u8], digest: &[u8; 32]) -> Result<bool, Refusal> {
+    let path = Path::new(alloc, path)?;
+    let found = tree.node(&path);
+    Ok(found == *digest)
+}
+
+/// Gives a key a digest, or lets it be held no more: whether that took so many computations.
+/// Nothing is claimed of the tree, so that a test's proof carries none.
+fn changes_by(
+    tree: &mut Tree,
+    key: &Key,
+    digest: Option<[u8; 32]>,
+    most: u64,
+) -> Result<bool, Refusal> {
+    let mut count = 0;
+    counted::change(tree, key, digest, &mut count)?;
+    Ok(count == most)
+}
+
+/// Whether the tree is that of no key.
+fn is_bare(alloc: Global, tree: &Tree) -> Result<bool, Refusal> {
+    let bucket = node_is(alloc, tree, &[11, 10, 7], &[0; 32])?;
+    Ok(bucket && node_is(alloc, tree, &[], &[0; 32])?)
+}
+
+/// Whether the tree is that of `abc` alone.
+fn is_of_abc(alloc: Global, tree: &Tree) -> Result<bool, Refusal> {
+    let bucket = node_is(alloc, tree, &[11, 10, 7], &BUCKET)?;
+    let other = node_is(alloc, tree, &[11, 10, 8], &[0; 32])?;
+    Ok(bucket && other && node_is(alloc, tree, &[], &ROOT)?)
+}
+
+/// Whether `abc` comes to the tree of no key, and goes.
+fn takes_abc(alloc: Global, tree: &mut Tree) -> Result<bool, Refusal> {
     let abc = Key::read(alloc, "abc")?;
-    let bucket = Path::new(alloc, &[11, 10, 7])?;
-    let mut count = 0;
-    counted::change(&mut tree, &abc, Some(key_digest(&SPELLED)), &mut count)?;
-    assert_eq!(rt; count, 5);
-    assert_eq!(rt; tree.node(&bucket), BUCKET);
-    assert_eq!(rt; root(alloc, &tree)?, ROOT);
-    let other = Path::new(alloc, &[11, 10, 8])?;
-    assert_eq!(rt; tree.node(&other), [0; 32]);
-    tree.change(&abc, None)?;
-    assert_eq!(rt; tree.node(&bucket), [0; 32]);
-    assert_eq!(rt; root(alloc, &tree)?, [0; 32]);
+    let bare = is_bare(alloc, tree)?;
+    let came = changes_by(tree, &abc, Some(key_digest(&SPELLED)), 5)?;
+    let held = is_of_abc(alloc, tree)?;
+    changes_by(tree, &abc, None, 5)?;
+    Ok(bare && came && held && is_bare(alloc, tree)?)
+}
+
+/// Gives the key of a number its digest, or lets it be held no more.
+fn change(alloc: Global, tree: &mut Tree, number: u64, is_held: bool) -> Result<(), Refusal> {
+    let key = key(alloc, number)?;
+    let digest = if is_held { Some(digest(number)) } else { None };
+    tree.change(&key, digest)
+}
+
+fn change_many(alloc: Global, tree: &mut Tree, is_held: bool) -> Result<(), Refusal> {
+    for number in 0..3000u64 {
+        change(alloc, tree, number, is_held)?;
+    }
     Ok(())
 }
 
-#[test]
-fn many_keys_come_and_go(rt: HostRuntime) -> Result<(), Fail> {
-    let alloc = rt.alloc();
-    let mut tree = Tree::new(alloc)?;
-    for number in 0..3000u64 {
-        tree.change(&key(alloc, number)?, Some(digest(number)))?;
-    }
-    assert_eq!(rt; root(alloc, &tree)?, MANY);
-    for number in 0..3000u64 {
-        tree.change(&key(alloc, number)?, None)?;
-    }
-    assert_eq!(rt; root(alloc, &tree)?, [0; 32]);
-    Ok(())
+/// Whether three thousand keys come to the tree of no key, and go.
+fn takes_many(alloc: Global, tree: &mut Tree) -> Result<bool, Refusal> {
+    change_many(alloc, tree, true)?;
+    let held = node_is(alloc, tree, &[], &MANY)?;
+    change_many(alloc, tree, false)?;
+    Ok(held && is_bare(alloc, tree)?)
 }
 
-#[test]
-fn a_tree_is_opened_at_once(rt: HostRuntime) -> Result<(), Fail> {
-    let alloc = rt.alloc();
-    let mut entries = Vec::new(alloc);
-    for number in 0..3000u64 {
-        entries.push((key(alloc, number)?, digest(number)))?;
-    }
-    entries.sort_by(|a, b| a.0.cmp(&b.0))?;
-    assert!(rt; rises(&entries));
-    let mut count = 0;
-    let tree = counted::open(alloc, entries, &mut count)?;
-    assert_eq!(rt; root(alloc, &tree)?, MANY);
-    assert!(rt; count <= 7369);
-    Ok(())
-}
-
-// The keys of `477` that come after one, or all, as a text.
-fn shown(alloc: Global, tree: &Tree, after: Option<&Key>) -> Result<String, Refusal> {
-    let path = Path::new(alloc, &[4, 7, 7])?;
-    let (page, more) = tree.bucket(&path, after)?;
+/// The keys of a page, and whether more follow, as a text.
+fn shown(alloc: Global, page: &[(Key, [u8; 32])], more: bool) -> Result<String, Refusal> {
     let mut text = String::new(alloc);
-    for entry in &page {
+    for entry in page {
         text.push_str(entry.0.text())?;
         text.push_str(" ")?;
     }
@@ -122,33 +132,114 @@ fn shown(alloc: Global, tree: &Tree, after: Option<&Key>) -> Result<String, Refu
     Ok(text)
 }
 
+/// Whether a page of the bucket `477` shows this.
+fn shows(alloc: Global, tree: &Tree, after: Option<&Key>, wanted: &str) -> Result<bool, Refusal> {
+    let path = Path::new(alloc, &[4, 7, 7])?;
+    let (page, more) = tree.bucket(&path, after)?;
+    let text = shown(alloc, &page, more)?;
+    Ok(text.as_str() == wanted)
+}
+
+/// Whether a page of that bucket after the key of a number shows this.
+fn shows_after(alloc: Global, tree: &Tree, number: u64, wanted: &str) -> Result<bool, Refusal> {
+    let key = key(alloc, number)?;
+    shows(alloc, tree, Some(&key), wanted)
+}
+
+/// Whether four keys of that bucket are told in order.
+fn takes_four(alloc: Global, tree: &mut Tree) -> Result<bool, Refusal> {
+    for number in [813u64, 516, 918, 802] {
+        change(alloc, tree, number, true)?;
+    }
+    let all = shows(alloc, tree, None, "516 802 813 918 ")?;
+    let held = shows_after(alloc, tree, 802, "813 918 ")?;
+    Ok(all && held && shows_after(alloc, tree, 803, "813 918 ")?)
+}
+
+/// Whether a bucket has no children, and no other node has keys.
+fn knows_its_buckets(alloc: Global, tree: &Tree) -> Result<bool, Refusal> {
+    let bucket = Path::new(alloc, &[0, 0, 0])?;
+    let top = Path::new(alloc, &[])?;
+    let has_none = tree.children(&bucket).is_none();
+    let children = tree.children(&top);
+    Ok(has_none && children == Some([[0; 32]; 16]) && tree.bucket(&top, None).is_err())
+}
+
+/// What is tried of a tree that begins with no key.
+#[derive(Clone, Copy)]
+enum Trial {
+    Abc,
+    Many,
+    Four,
+    Buckets,
+}
+
+/// Tries it of a tree that is lent, since a function that owns one has a dear proof.
+fn holds_of(alloc: Global, tree: &mut Tree, trial: Trial) -> Result<bool, Refusal> {
+    match trial {
+        Trial::Abc => takes_abc(alloc, tree),
+        Trial::Many => takes_many(alloc, tree),
+        Trial::Four => takes_four(alloc, tree),
+        Trial::Buckets => knows_its_buckets(alloc, tree),
+    }
+}
+
+fn holds(alloc: Global, trial: Trial) -> Result<bool, Refusal> {
+    match Tree::new(alloc) {
+        Ok(mut tree) => holds_of(alloc, &mut tree, trial),
+        Err(refusal) => Err(refusal),
+    }
+}
+
+#[test]
+fn one_key_makes_its_bucket_and_the_root(rt: HostRuntime) -> Result<(), Fail> {
+    assert!(rt; holds(rt.alloc(), Trial::Abc)?);
+    Ok(())
+}
+
+#[test]
+fn many_keys_come_and_go(rt: HostRuntime) -> Result<(), Fail> {
+    assert!(rt; holds(rt.alloc(), Trial::Many)?);
+    Ok(())
+}
+
 #[test]
 fn a_bucket_is_told_in_order(rt: HostRuntime) -> Result<(), Fail> {
-    let alloc = rt.alloc();
-    let mut tree = Tree::new(alloc)?;
-    for number in [813u64, 516, 918, 802] {
-        tree.change(&key(alloc, number)?, Some(digest(number)))?;
-    }
-    assert_eq!(rt; shown(alloc, &tree, None)?.as_str(), "516 802 813 918 ");
-    assert_eq!(rt;
-        shown(alloc, &tree, Some(&key(alloc, 802)?))?.as_str(),
-        "813 918 "
-    );
-    assert_eq!(rt;
-        shown(alloc, &tree, Some(&key(alloc, 803)?))?.as_str(),
-        "813 918 "
-    );
+    assert!(rt; holds(rt.alloc(), Trial::Four)?);
     Ok(())
 }
 
 #[test]
 fn a_bucket_has_no_children_and_no_other_node_has_keys(rt: HostRuntime) -> Result<(), Fail> {
-    let alloc = rt.alloc();
-    let tree = Tree::new(alloc)?;
-    let bucket = Path::new(alloc, &[0, 0, 0])?;
-    assert!(rt; tree.children(&bucket).is_none());
-    let top = Path::new(alloc, &[])?;
-    assert_eq!(rt; tree.children(&top), Some([[0; 32]; 16]));
-    assert!(rt; tree.bucket(&top, None).is_err());
+    assert!(rt; holds(rt.alloc(), Trial::Buckets)?);
+    Ok(())
+}
+
+/// Three thousand keys in order, with their digests.
+fn many(alloc: Global) -> Result<Vec<(Key, [u8; 32])>, Refusal> {
+    let mut entries = Vec::new(alloc);
+    for number in 0..3000u64 {
+        entries.push((key(alloc, number)?, digest(number)))?;
+    }
+    entries.sort_by(|a, b| a.0.cmp(&b.0))?;
+    Ok(entries)
+}
+
+/// Whether a tree of these keys, made in at most so many computations, is that of the three thousand.
+fn opens(alloc: Global, entries: Vec<(Key, [u8; 32])>, most: u64) -> Result<bool, Refusal> {
+    if !rises(&entries) {
+        return Ok(false);
+    }
+    let mut count = 0;
+    match counted::open(alloc, entries, &mut count) {
+        Ok(tree) => Ok(count <= most && node_is(alloc, &tree, &[], &MANY)?),
+        Err(refusal) => Err(refusal),
+    }
+}
+
+#[test]
+fn a_tree_is_opened_at_once(rt: HostRuntime) -> Result<(), Fail> {
+    let entries = many(rt.alloc())?;
+    assert!(rt; opens(rt.alloc(), entries, 7369)?);
     Ok(())
 }

@@ -1,135 +1,57 @@
-//! What is found, and what the rows of a view are.
-use crate::benches::{Bench, Line, changed, defs, run, steps};
-use crate::shown::{found, ranged, row_of, rows_of, shown_places};
-use mvd_docs::{Document, Field, Term};
+//! One change of one key, and each question after it. The plain calls go through those of `counted`.
+use crate::definitions::defs;
+use mvd_docs::{Document, Field, Term, ViewName};
 use mvd_dots::{Context, Refusal};
 use mvd_keys::{Key, KeyState};
+use mvd_rows::{Defs, Rows};
 use std::alloc::Global;
 use std::test::Fail;
 
-/// Three siblings of two keys.
-const SPENT: [Line<'static>; 3] = [
-    ("a", "-", "{\"amount\":5,\"city\":\"Oslo\"}"),
-    ("a", "-", "{\"amount\":-7,\"city\":\"Oslo\"}"),
-    ("b", "-", "{\"city\":\"Oslo\"}"),
-];
-
-fn spent(alloc: Global, indexes: &[&str], more: &[Line<'_>]) -> Result<Bench, Refusal> {
-    let defs = defs(alloc, indexes, &[("spend", "city", "amount")])?;
-    let mut all = steps(alloc, &SPENT)?;
-    for step in steps(alloc, more)? {
-        all.push(step)?;
-    }
-    run(alloc, defs, all)
-}
-
-#[test]
-fn all_siblings_count(rt: HostRuntime) -> Result<(), Fail> {
-    let bench = spent(rt.alloc(), &[], &[])?;
-    assert_eq!(rt; rows_of(&bench, "spend")?.as_str(), "\"Oslo\" 3 -2 -7 5 | ");
-    assert_eq!(rt; row_of(&bench, "spend", "\"Oslo\"")?.as_str(), "3 -2 -7 5");
-    assert_eq!(rt; row_of(&bench, "v", "1").err(), Some(Refusal::NoView));
-    assert_eq!(rt; rows_of(&bench, "v").err(), Some(Refusal::NoView));
-    Ok(())
-}
-
-#[test]
-fn what_is_superseded_leaves_its_rows(rt: HostRuntime) -> Result<(), Fail> {
-    let rome = "{\"city\":\"Rome\"}";
-    let bench = spent(rt.alloc(), &[], &[("a", "@", rome), ("b", "@", rome)])?;
-    assert_eq!(rt; rows_of(&bench, "spend")?.as_str(), "\"Rome\" 2 0 - - | ");
-    assert_eq!(rt; row_of(&bench, "spend", "\"Oslo\"")?.as_str(), "0 0 - -");
-    Ok(())
-}
-
-#[test]
-fn changes_cost_what_differs(rt: HostRuntime) -> Result<(), Fail> {
-    let oslo = "{\"city\":\"Oslo\"}";
-    let bench = spent(rt.alloc(), &["city"], &[("a", "@", oslo)])?;
-    assert_eq!(rt; rows_of(&bench, "spend")?.as_str(), "\"Oslo\" 2 0 - - | ");
-    assert!(rt; bench.meter.updates() <= 9);
-    assert_eq!(rt;
-        found(&bench, "city", "\"Oslo\"")?.as_str(),
-        "\"Oslo\" a 1:3 | \"Oslo\" b 1:1 | "
-    );
-    Ok(())
-}
-
-#[test]
-fn ends_follow_what_stands(rt: HostRuntime) -> Result<(), Fail> {
-    let alloc = rt.alloc();
-    let lines = [
-        ("a", "-", "{\"city\":\"Oslo\",\"n\":5}"),
-        ("b", "-", "{\"city\":\"Oslo\",\"n\":9}"),
-        ("c", "-", "{\"city\":\"Oslo\",\"n\":7}"),
-        ("b", "@", ""),
-        ("d", "-", "{\"city\":\"Oslo\",\"n\":5}"),
-        ("a", "@", ""),
-    ];
-    for (taken, want) in [
-        (3usize, "\"Oslo\" 3 21 5 9 | "),
-        (4, "\"Oslo\" 2 12 5 7 | "),
-        (5, "\"Oslo\" 3 17 5 7 | "),
-        (6, "\"Oslo\" 2 12 5 7 | "),
-    ] {
-        let defs = defs(alloc, &[], &[("v", "city", "n")])?;
-        let bench = run(alloc, defs, steps(alloc, &lines[..taken])?)?;
-        assert_eq!(rt; rows_of(&bench, "v")?.as_str(), want);
-    }
-    Ok(())
-}
-
-#[test]
-fn terms_are_found_in_order(rt: HostRuntime) -> Result<(), Fail> {
-    let alloc = rt.alloc();
-    let lines = [
-        ("a", "-", "{\"n\":null}"),
-        ("b", "-", "{\"n\":true}"),
-        ("c", "-", "{\"n\":-1}"),
-        ("d", "-", "{\"n\":10}"),
-        ("e", "-", "{\"n\":\"10\"}"),
-        ("f", "-", "{\"n\":[1]}"),
-        ("g", "-", "{}"),
-    ];
-    let bench = run(alloc, defs(alloc, &["n"], &[])?, steps(alloc, &lines)?)?;
-    assert_eq!(rt; found(&bench, "n", "10")?.as_str(), "10 d 1:1 | ");
-    assert_eq!(rt; found(&bench, "n", "false")?.as_str(), "");
-    assert_eq!(rt;
-        ranged(&bench, "n", "[null,10]")?.as_str(),
-        "null a 1:1 | true b 1:1 | -1 c 1:1 | 10 d 1:1 | "
-    );
-    assert_eq!(rt; ranged(&bench, "n", "[10,null]")?.as_str(), "");
-    assert_eq!(rt; found(&bench, "m", "1").err(), Some(Refusal::NoIndex));
-    assert_eq!(rt; ranged(&bench, "m", "[1,1]").err(), Some(Refusal::NoIndex));
-    Ok(())
-}
-
-#[test]
-fn fields_go_through_objects(rt: HostRuntime) -> Result<(), Fail> {
-    let alloc = rt.alloc();
-    let lines = [
-        ("a", "-", "{\"addr\":{\"city\":\"Oslo\"}}"),
-        ("b", "-", "{\"addr\":\"Oslo\"}"),
-        ("c", "-", "{\"addr.city\":\"Oslo\"}"),
-    ];
-    let defs = defs(alloc, &["addr.city"], &[])?;
-    let bench = run(alloc, defs, steps(alloc, &lines)?)?;
-    assert_eq!(rt;
-        found(&bench, "addr.city", "\"Oslo\"")?.as_str(),
-        "\"Oslo\" a 1:1 | "
-    );
-    Ok(())
-}
-
-#[test]
-fn a_change_needs_no_count(rt: HostRuntime) -> Result<(), Fail> {
-    let alloc = rt.alloc();
+/// The state of a key with one sibling, `{"n":1}`.
+fn one_sibling(alloc: Global) -> Result<KeyState, Refusal> {
     let document = Document::read(alloc, "{\"n\":1}")?;
-    let seen = Context::new(alloc);
-    let (state, _) = KeyState::empty(alloc).put(alloc, 1, &seen, document)?;
-    let key = Key::read(alloc, "a")?;
-    let rows = changed(alloc, defs(alloc, &["n"], &[])?, &key, &state)?;
-    let page = rows.find(&Field::read(alloc, "n")?, &Term::Whole(1), None)?;
-    assert_eq!(rt; shown_places(alloc, &page)?.as_str(), "1 a 1:1 | ");
+    let (state, _) = KeyState::empty(alloc).put(alloc, 1, &Context::new(alloc), document)?;
+    Ok(state)
+}
+
+/// Rows that one change of one key left.
+fn changed(alloc: Global, defs: Defs, key: &Key, new: &KeyState) -> Result<Rows, Refusal> {
+    let mut rows = Rows::new(alloc, defs)?;
+    if new.siblings().len() > 65_536 {
+        return Err(Refusal::StateTooLarge);
+    }
+    rows.change(key, &KeyState::empty(alloc), new)?;
+    Ok(rows)
+}
+
+fn is_found(rows: &Rows, field: &Field) -> Result<bool, Refusal> {
+    let (places, more) = rows.find(field, &Term::Whole(1), None)?;
+    Ok(places.len() == 1 && !more)
+}
+
+fn is_in_range(rows: &Rows, field: &Field) -> Result<bool, Refusal> {
+    let (places, more) = rows.range(field, &Term::Null, &Term::Whole(1), None)?;
+    Ok(places.len() == 1 && !more)
+}
+
+fn is_counted(rows: &Rows, name: &ViewName) -> Result<bool, Refusal> {
+    Ok(rows.row(name, &Term::Whole(1))? == (1, 1, Some((1, 1))))
+}
+
+fn is_listed(rows: &Rows, name: &ViewName) -> Result<bool, Refusal> {
+    let (shown, more) = rows.rows(name, None)?;
+    Ok(shown.len() == 1 && !more)
+}
+
+#[test]
+fn each_question_is_answered(rt: HostRuntime) -> Result<(), Fail> {
+    let alloc = rt.alloc();
+    let key = Key::read(alloc, "k")?;
+    let rows = changed(alloc, defs(alloc)?, &key, &one_sibling(alloc)?)?;
+    let (field, name) = (Field::read(alloc, "n")?, ViewName::read(alloc, "v")?);
+    assert!(rt; is_found(&rows, &field)?);
+    assert!(rt; is_in_range(&rows, &field)?);
+    assert!(rt; is_counted(&rows, &name)?);
+    assert!(rt; is_listed(&rows, &name)?);
     Ok(())
 }

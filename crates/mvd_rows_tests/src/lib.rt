@@ -1,13 +1,7 @@
-//! Tests of the indexes and views.
+//! Tests of the indexes and views: that each call succeeds. What it answers is in its contract.
 #![tactic(auto)]
 
 #[cfg(test)]
 mod answers;
 #[cfg(test)]
-mod benches;
-#[cfg(test)]
 mod definitions;
-#[cfg(test)]
-mod pages;
-#[cfg(test)]
-mod shown;

@@ -1,4 +1,4 @@
-use Rattle.std.proofs.Common.{◌∙◌, ◌&&◌, ap, is_gt, is_lt, not, refl, sym}
+use Rattle.std.proofs.Common.{◌∙◌, ◌&&◌, ap, is_gt, not, refl, sym}
 use Rattle.std.proofs.lemmas.Result.{IfOk-weaker}
 use Rattle.mvd_docs.specs.Term.{term_cmp}
 use Rattle.mvd_rows.specs.Answers.{is_after_place}
@@ -16,12 +16,12 @@ returns-in-None-clause-start c = IfOk-weaker c.first_of.result _ _ (λ mark told
 pub returns-then-is_lt-clause-start : goal.returns-then-is_lt-clause-start
 returns-then-is_lt-clause-start c = IfOk-weaker c.first_of-then-is_lt.result _ _ (λ mark told p.
     ap (λ o. not (is_gt (term_cmp c.args.from.now p.term)) && is_after_place o p) c.in-Some.is
-    ∙ start_before c.args.from.now c.args.from.now c.in-Some.place refl (sym (ap is_lt c.cmp.ensures) ∙ sym c.if-is_lt.ensures) p
+    ∙ start_before c.args.from.now c.args.from.now c.in-Some.place refl (cc) p
     ∙ ap (λ (m : Mark). is_past m p) (sym told))
     c.first_of-then-is_lt.ensures.mark
 
 pub returns-else-is_lt-clause-start : goal.returns-else-is_lt-clause-start
 returns-else-is_lt-clause-start c = λ p.
     ap (λ o. not (is_gt (term_cmp c.args.from.now p.term)) && is_after_place o p) c.in-Some.is
-    ∙ start_at c.args.from.now c.in-Some.place (sym (ap is_lt c.cmp.ensures) ∙ sym c.if-is_lt.ensures) p
+    ∙ start_at c.args.from.now c.in-Some.place (cc) p
     ∙ ap (λ (m : Mark). is_past m p) (sym c.mark_of.ensures)

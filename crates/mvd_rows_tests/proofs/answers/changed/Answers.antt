@@ -1,7 +1,7 @@
 use Rattle.std.proofs.Common.{sym, ◌∙◌}
 use Rattle.std.specs.FinMap.{empty}
 use Rattle.mvd_rows_tests.proofs.KeyStates.{few_siblings, no_state, roomy_empty}
-use Rattle.mvd_rows_tests.proofs.benches.changed.Goals as goal
+use Rattle.mvd_rows_tests.proofs.answers.changed.Goals as goal
 
 pub change-requires : goal.change-requires
 change-requires c =

@@ -78,30 +78,37 @@ fn serve_command<'a>(alloc: Global) -> Result<Command<'a>, AllocError> {
 }
 
 fn shell_command<'a>(alloc: Global) -> Result<Command<'a>, AllocError> {
-    let port = port(
-        alloc,
-        "The port of a server, 1 to 65535, in place of a database.",
-    );
-    named(
+    let command = named(
         alloc,
         "shell",
         SHELL,
         "Example: echo 'put k - {\"a\":1}' | mvd shell --db a.db --site 1",
-    )
-    .arg(instead_of_port(db(alloc))?)?
-    .arg(instead_of_port(site(alloc))?)?
-    .arg(defs(alloc).conflicts_with("port")?)?
-    .arg(max_keys(alloc).conflicts_with("port")?)?
-    .arg(port.required(false))?
-    .arg(address(alloc).conflicts_with("db")?)
+    );
+    let command = instead_of_port(command, db(alloc))?;
+    let command = instead_of_port(command, site(alloc))?;
+    let command = apart_from(command, defs(alloc), "port")?;
+    let command = apart_from(command, max_keys(alloc), "port")?;
+    let port = port(
+        alloc,
+        "The port of a server, 1 to 65535, in place of a database.",
+    );
+    let command = command.arg(port.required(false))?;
+    apart_from(command, address(alloc), "db")
 }
 
-/// An option that is given where no port is.
-fn instead_of_port<'a>(option: Arg<'a>) -> Result<Arg<'a>, AllocError> {
-    option
-        .required(false)
-        .required_unless_present("port")?
-        .conflicts_with("port")
+/// Adds an option that is given where no port is.
+fn instead_of_port<'a>(command: Command<'a>, option: Arg<'a>) -> Result<Command<'a>, AllocError> {
+    let option = option.required(false).required_unless_present("port")?;
+    apart_from(command, option, "port")
+}
+
+/// Adds an option that is not given beside the other one.
+fn apart_from<'a>(
+    command: Command<'a>,
+    option: Arg<'a>,
+    other: &'a str,
+) -> Result<Command<'a>, AllocError> {
+    command.arg(option.conflicts_with(other)?)
 }
 
 fn sync_command<'a>(alloc: Global) -> Result<Command<'a>, AllocError> {

@@ -1,11 +1,11 @@
 //! The program `mvd`.
 #![tactic(auto)]
 
-ghost use Rattle.mvd_input.specs.Orders.{IsInRange};
+ghost use Rattle.mvd_input.specs.Orders.{IsInRange, IsSetUp};
 
-use mvd_app::{loop_run, remote_shell_run, replica_in, serve_run, shell_run, sim, sync_run};
+use mvd_app::{Hint, Stop, loop_run, remote_shell_run, replica_in, serve_run, shell_run, sim, sync_run};
 use mvd_dots::Refusal;
-use mvd_input::{DEFS_MAX, Fault, Hint, Order, OrderFault, Stop, order_of, read_defs, read_input};
+use mvd_input::{DEFS_MAX, Fault, Order, OrderFault, Setup, order_of, read_defs, read_input};
 use mvd_replica::Replica;
 use mvd_rows::Defs;
 use mvd_site::Config;
@@ -48,44 +48,21 @@ fn run<'a>(rt: &HostRuntime, order: Order<'a>) -> Result<(), Stop<'a>>
 {
     match order {
         Order::Sim => run_sim(rt),
-        Order::Loop {
-            site,
-            defs,
-            max_keys,
-        } => run_loop(rt, Config::new(site, max_keys, defs_in(rt, defs)?)),
+        Order::Loop(setup) => run_loop(rt, setup),
         Order::Serve {
             db,
-            site,
-            port,
-            conns,
-            defs,
-            max_keys,
+            setup,
             address,
-        } => {
-            let config = Config::new(site, max_keys, defs_in(rt, defs)?);
-            run_serve(rt, db, config, SocketAddr::new(address, port), conns)
-        }
-        Order::Shell {
-            db,
-            site,
-            defs,
-            max_keys,
-        } => run_shell(rt, db, Config::new(site, max_keys, defs_in(rt, defs)?)),
-        Order::RemoteShell { port, address } => {
-            run_remote_shell(rt, SocketAddr::new(address, port))
-        }
+            conns,
+        } => run_serve(rt, db, setup, address, conns),
+        Order::Shell { db, setup } => run_shell(rt, db, setup),
+        Order::RemoteShell(address) => run_remote_shell(rt, address),
         Order::Sync {
             db,
-            site,
-            port,
-            defs,
-            max_keys,
+            setup,
             address,
             verbose,
-        } => {
-            let config = Config::new(site, max_keys, defs_in(rt, defs)?);
-            run_sync(rt, db, config, SocketAddr::new(address, port), verbose)
-        }
+        } => run_sync(rt, db, setup, address, verbose),
     }
 }
 
@@ -97,7 +74,10 @@ fn run_sim<'a>(rt: &HostRuntime) -> Result<(), Stop<'a>> {
     }
 }
 
-fn run_loop<'a>(rt: &HostRuntime, config: Config) -> Result<(), Stop<'a>> {
+fn run_loop<'a>(rt: &HostRuntime, setup: Setup<'a>) -> Result<(), Stop<'a>>
+    requires { IsSetUp setup }
+{
+    let config = config_in(rt, setup)?;
     let mut reader = input(rt)?;
     match loop_run(rt, rt.alloc(), &mut reader, &mut io::writer(rt), config) {
         Ok(()) => Ok(()),
@@ -110,18 +90,22 @@ fn run_loop<'a>(rt: &HostRuntime, config: Config) -> Result<(), Stop<'a>> {
 fn run_serve<'a>(
     rt: &HostRuntime,
     db: &'a str,
-    config: Config,
+    setup: Setup<'a>,
     address: SocketAddr,
     conns: Option<u32>,
-) -> Result<(), Stop<'a>> {
-    let mut replica = stored(rt, db, config)?;
+) -> Result<(), Stop<'a>>
+    requires { IsSetUp setup }
+{
+    let mut replica = stored(rt, db, setup)?;
     let mut writer = io::writer(rt);
     serve_run(rt, rt.alloc(), &mut replica, address, conns, &mut writer)?;
     closed(replica, db)
 }
 
-fn run_shell<'a>(rt: &HostRuntime, db: &'a str, config: Config) -> Result<(), Stop<'a>> {
-    let mut replica = stored(rt, db, config)?;
+fn run_shell<'a>(rt: &HostRuntime, db: &'a str, setup: Setup<'a>) -> Result<(), Stop<'a>>
+    requires { IsSetUp setup }
+{
+    let mut replica = stored(rt, db, setup)?;
     let mut reader = input(rt)?;
     match shell_run(rt.alloc(), &mut replica, &mut reader, &mut io::writer(rt)) {
         Ok(()) => closed(replica, db),
@@ -137,11 +121,13 @@ fn run_remote_shell<'a>(rt: &HostRuntime, address: SocketAddr) -> Result<(), Sto
 fn run_sync<'a>(
     rt: &HostRuntime,
     db: &'a str,
-    config: Config,
+    setup: Setup<'a>,
     address: SocketAddr,
     verbose: bool,
-) -> Result<(), Stop<'a>> {
-    let mut replica = stored(rt, db, config)?;
+) -> Result<(), Stop<'a>>
+    requires { IsSetUp setup }
+{
+    let mut replica = stored(rt, db, setup)?;
     let mut writer = io::writer(rt);
     let mut errors = rt.stderr();
     let told = if verbose { Some(&mut errors) } else { None };
@@ -155,6 +141,14 @@ fn input(rt: &HostRuntime) -> Result<BufReader<<HostRuntime as Input>::Reader>, 
         Ok(reader) => Ok(reader),
         Err(_) => Err(Fault::Stopped(Refusal::Memory)),
     }
+}
+
+/// What a site is set up with.
+fn config_in<'a>(rt: &HostRuntime, setup: Setup<'a>) -> Result<Config, Stop<'a>>
+    requires { IsSetUp setup }
+{
+    let defs = defs_in(rt, setup.defs)?;
+    Ok(Config::new(setup.site, setup.max_keys, defs))
 }
 
 /// The indexes and views of a file of definitions, or none.
@@ -180,8 +174,11 @@ fn defs_of(rt: &HostRuntime, file: &str) -> Result<Defs, Fault> {
 fn stored<'a>(
     rt: &HostRuntime,
     db: &'a str,
-    config: Config,
-) -> Result<Replica<FileStore<File>>, Stop<'a>> {
+    setup: Setup<'a>,
+) -> Result<Replica<FileStore<File>>, Stop<'a>>
+    requires { IsSetUp setup }
+{
+    let config = config_in(rt, setup)?;
     match Connection::open(rt, db) {
         Ok(conn) => replica_in(rt.alloc(), conn, config, db),
         Err(error) => Err(Stop::in_file(db, error)),

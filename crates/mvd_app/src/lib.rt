@@ -3,6 +3,7 @@
 
 mod asked;
 mod ending;
+mod hint;
 mod link;
 mod looping;
 mod pages;
@@ -16,6 +17,7 @@ mod shell;
 mod talk;
 
 pub use asked::Asked;
+pub use hint::{Hint, Stop};
 pub use link::{Incoming, Link, Outgoing};
 pub use looping::loop_run;
 pub use script::sim;

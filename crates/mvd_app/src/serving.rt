@@ -3,10 +3,11 @@ ghost use Rattle.std.specs.Prelude.{IfErr};
 ghost use Rattle.mvd_input.specs.Ends.{EndsEarly};
 
 use crate::ending::How;
+use crate::hint::Stop;
 use crate::link::Link;
 use crate::progress::Watched;
 use mvd_dots::Refusal;
-use mvd_input::{Fault, Stop, write_out};
+use mvd_input::{Fault, write_out};
 use mvd_keys::Path;
 use mvd_replica::{Ended, Replica, serve};
 use mvd_site::Config;

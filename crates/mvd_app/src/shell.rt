@@ -3,11 +3,12 @@ ghost use Rattle.std.specs.Prelude.{◌≤◌, ◌<◌, length, IfErr};
 ghost use Rattle.mvd_input.specs.Ends.{EndsEarly};
 
 use crate::asked::Asked;
+use crate::hint::{Hint, Stop};
 use crate::link::Link;
 use crate::serving::tell;
 use crate::talk::answer;
 use mvd_dots::Refusal;
-use mvd_input::{Fault, Hint, Stop, Typed, text_of, typed_of};
+use mvd_input::{Fault, Typed, text_of, typed_of};
 use mvd_sync::Remote;
 use std::alloc::Global;
 use std::fmt::Write as Print;

@@ -1,9 +1,9 @@
 //! What is told of a fault.
 ghost use Rattle.std.specs.Prelude.{◌<◌};
 
-use mvd_app::replica_in;
+use mvd_app::{Hint, Stop, replica_in};
 use mvd_dots::Refusal;
-use mvd_input::{Fault, Hint, Stop};
+use mvd_input::Fault;
 use mvd_replica::Replica;
 use mvd_rows::Defs;
 use mvd_site::Config;

@@ -1,7 +1,7 @@
 //! What command lines ask for.
-use mvd_input::{Order, OrderFault, order_of};
+use mvd_input::{Order, OrderFault, Setup, order_of};
 use std::alloc::Global;
-use std::net::{IpAddr, Ipv4Addr};
+use std::net::{IpAddr, Ipv4Addr, SocketAddr};
 use std::test::Fail;
 
 /// The words of a line, parted by spaces.
@@ -11,6 +11,18 @@ fn words_of<'a>(alloc: Global, line: &'a str) -> Result<Vec<&'a str>, Fail> {
         words.push(word)?;
     }
     Ok(words)
+}
+
+fn set_up(site: u32, defs: Option<&str>, max_keys: u32) -> Setup<'_> {
+    Setup {
+        site,
+        defs,
+        max_keys,
+    }
+}
+
+fn address(ip: Ipv4Addr, port: u16) -> SocketAddr {
+    SocketAddr::new(IpAddr::V4(ip), port)
 }
 
 /// Whether a line asks for this.
@@ -36,31 +48,21 @@ fn an_order_has_its_options(rt: HostRuntime) -> Result<(), Fail> {
     let alloc = rt.alloc();
     let least = Order::Serve {
         db: "f",
-        site: 1,
-        port: 1,
+        setup: set_up(1, None, 1_000_000),
+        address: address(Ipv4Addr::LOCALHOST, 1),
         conns: Some(1),
-        defs: None,
-        max_keys: 1_000_000,
-        address: IpAddr::V4(Ipv4Addr::LOCALHOST),
     };
     assert!(rt; asks(alloc, "mvd serve --db f --site 1 --port 1 --conns 1", least)?);
     let most = Order::Sync {
         db: "f",
-        site: u32::MAX,
-        port: 65_535,
-        defs: Some("d"),
-        max_keys: 1,
-        address: IpAddr::V4(Ipv4Addr::new(10, 0, 0, 1)),
+        setup: set_up(u32::MAX, Some("d"), 1),
+        address: address(Ipv4Addr::new(10, 0, 0, 1), 65_535),
         verbose: true,
     };
     let line =
         "mvd sync --db f --site 4294967295 --port 65535 --defs d --max-keys 1 --address 10.0.0.1 --verbose";
     assert!(rt; asks(alloc, line, most)?);
-    let looped = Order::Loop {
-        site: 7,
-        defs: None,
-        max_keys: 1_000_000,
-    };
+    let looped = Order::Loop(set_up(7, None, 1_000_000));
     assert!(rt; asks(alloc, "mvd loop --site 7", looped)?);
     assert!(rt; asks(alloc, "mvd sim", Order::Sim)?);
     Ok(())
@@ -107,15 +109,10 @@ fn a_shell_is_on_a_database_or_a_server(rt: HostRuntime) -> Result<(), Fail> {
     let alloc = rt.alloc();
     let file = Order::Shell {
         db: "f",
-        site: 2,
-        defs: None,
-        max_keys: 9,
+        setup: set_up(2, None, 9),
     };
     assert!(rt; asks(alloc, "mvd shell --db f --site 2 --max-keys 9", file)?);
-    let server = Order::RemoteShell {
-        port: 7,
-        address: IpAddr::V4(Ipv4Addr::LOCALHOST),
-    };
+    let server = Order::RemoteShell(address(Ipv4Addr::LOCALHOST, 7));
     assert!(rt; asks(alloc, "mvd shell --port 7", server)?);
     assert!(rt; is_out_of_range(alloc, "mvd shell --db f --site 0")?);
     assert!(rt; is_no_order(alloc, "mvd shell")?);

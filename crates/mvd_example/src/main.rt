@@ -5,7 +5,7 @@ ghost use Rattle.std.specs.Prelude.{◌<◌};
 
 use mvd_docs::{Document, Field, Term};
 use mvd_dots::{Context, Refusal};
-use mvd_keys::Key;
+use mvd_keys::{Key, KeyState, Place};
 use mvd_replica::Replica;
 use mvd_rows::Defs;
 use mvd_site::Config;
@@ -84,8 +84,22 @@ fn put<S: Alter>(
 ) -> Result<(), Refusal> {
     let document = Document::read(alloc, text)?;
     let request = Request::Put(Key::read(alloc, key)?, seen, document);
-    match replica.answer(&request) {
-        Reply::Refused(refusal) => Err(refusal),
+    let reply = ask(replica, request);
+    let ended = refusal_of(&reply);
+    drop(reply);
+    ended
+}
+
+/// The reply to a request.
+fn ask<S: Alter>(replica: &mut Replica<S>, request: Request) -> Reply {
+    let reply = replica.answer(&request);
+    drop(request);
+    reply
+}
+
+fn refusal_of(reply: &Reply) -> Result<(), Refusal> {
+    match reply {
+        Reply::Refused(refusal) => Err(*refusal),
         _ => Ok(()),
     }
 }
@@ -98,6 +112,13 @@ fn show<S: Alter>(
     out: &mut String,
 ) -> Result<Context, Refusal> {
     let state = replica.get(&Key::read(alloc, key)?)?;
+    let seen = print_state(key, &state, out);
+    drop(state);
+    seen
+}
+
+/// Prints the documents of a state, and gives its context.
+fn print_state(key: &str, state: &KeyState, out: &mut String) -> Result<Context, Refusal> {
     for sibling in state.siblings() {
         let document = sibling.document.text();
         writeln!(out, "{key} {document}")?;
@@ -114,18 +135,28 @@ fn find<S: Alter>(
     out: &mut String,
 ) -> Result<(), Refusal> {
     let field = Field::read(alloc, field)?;
-    let question = Request::Find(field, Term::read(alloc, term)?, None);
-    match replica.answer(&question) {
-        Reply::Places(places, _) => {
-            for place in places.as_slice() {
-                let key = place.key.text();
-                writeln!(out, "found {key}")?;
-            }
-            Ok(())
-        }
-        Reply::Refused(refusal) => Err(refusal),
-        _ => Ok(()),
+    let reply = ask(
+        replica,
+        Request::Find(field, Term::read(alloc, term)?, None),
+    );
+    let ended = print_found(&reply, out);
+    drop(reply);
+    ended
+}
+
+fn print_found(reply: &Reply, out: &mut String) -> Result<(), Refusal> {
+    match reply {
+        Reply::Places(places, _) => print_places(places.as_slice(), out),
+        reply => refusal_of(reply),
     }
+}
+
+fn print_places(places: &[Place], out: &mut String) -> Result<(), Refusal> {
+    for place in places {
+        let key = place.key.text();
+        writeln!(out, "found {key}")?;
+    }
+    Ok(())
 }
 
 /// A session: afterwards both hold all that one of them held.

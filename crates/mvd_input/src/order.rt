@@ -1,13 +1,13 @@
 //! The command line.
 ghost use Rattle.std.specs.Prelude.{◌<◌, ◌≤◌, ◌^◌, IfOk, IfSome};
-ghost use Rattle.mvd_input.specs.Orders.{IsInRange};
+ghost use Rattle.mvd_input.specs.Orders.{HasPort, IsInRange, IsSetUp};
 
 use crate::words::command;
 use clap::error::ErrorKind;
 use clap::{ArgMatches, Error};
 use mvd_dots::Refusal;
 use std::alloc::{AllocError, Global};
-use std::net::IpAddr;
+use std::net::{IpAddr, SocketAddr};
 
 /// The most keys that a site may hold, and how many it may where no option says.
 pub const MOST_KEYS: u32 = 1_000_000;
@@ -15,48 +15,42 @@ pub const MOST_KEYS: u32 = 1_000_000;
 /// The most connections that a server may be asked to serve.
 const MOST_CONNECTIONS: u64 = 1_000;
 
-/// What a command line asks for. Numbers are in their ranges: a site is at least 1, `max_keys` 1 to 1,000,000, a port at least
-/// 1, and `conns` 1 to 1,000.
+/// What a site is set up with: its number is at least 1, and it may hold 1 to 1,000,000 keys. A file may define its indexes and
+/// views.
+#[derive(Debug, Clone, Copy, PartialEq, Eq)]
+pub struct Setup<'a> {
+    pub site: u32,
+    pub defs: Option<&'a str>,
+    pub max_keys: u32,
+}
+
+/// What a command line asks for. Numbers are in their ranges: those of a site as told there, a port at least 1, and `conns` 1 to
+/// 1,000.
 #[derive(Debug, Clone, Copy, PartialEq, Eq)]
 pub enum Order<'a> {
     /// Run a script from standard input.
     Sim,
     /// Answer the requests that stand in hexadecimal on standard input, over a connection within one process.
-    Loop {
-        site: u32,
-        defs: Option<&'a str>,
-        max_keys: u32,
-    },
+    Loop(Setup<'a>),
     /// Serve a database to peers, one connection after the other.
     Serve {
         db: &'a str,
-        site: u32,
-        port: u16,
+        setup: Setup<'a>,
+        address: SocketAddr,
         conns: Option<u32>,
-        defs: Option<&'a str>,
-        max_keys: u32,
-        address: IpAddr,
     },
     /// Answer the lines of standard input on a database.
     Shell {
         db: &'a str,
-        site: u32,
-        defs: Option<&'a str>,
-        max_keys: u32,
+        setup: Setup<'a>,
     },
     /// Answer the lines of standard input through a server.
-    RemoteShell {
-        port: u16,
-        address: IpAddr,
-    },
+    RemoteShell(SocketAddr),
     /// Run a session of a database with a server.
     Sync {
         db: &'a str,
-        site: u32,
-        port: u16,
-        defs: Option<&'a str>,
-        max_keys: u32,
-        address: IpAddr,
+        setup: Setup<'a>,
+        address: SocketAddr,
         verbose: bool,
     },
 }
@@ -93,7 +87,7 @@ pub fn order_of<'a>(alloc: Global, words: &'a [&'a str]) -> Result<Order<'a>, Or
 {
     let matches = command(alloc)?.try_get_matches_from(words)?;
     match matches.subcommand() {
-        Some(("loop", matches)) => loop_of(alloc, matches),
+        Some(("loop", matches)) => Ok(Order::Loop(setup_in(matches)?)),
         Some(("serve", matches)) => serve_of(alloc, matches),
         Some(("shell", matches)) => shell_of(alloc, matches),
         Some(("sync", matches)) => sync_of(alloc, matches),
@@ -101,26 +95,13 @@ pub fn order_of<'a>(alloc: Global, words: &'a [&'a str]) -> Result<Order<'a>, Or
     }
 }
 
-fn loop_of<'a>(alloc: Global, matches: &ArgMatches<'a>) -> Result<Order<'a>, OrderFault>
-    ensures { IfOk result IsInRange }
-{
-    Ok(Order::Loop {
-        site: site_in(matches)?,
-        defs: matches.get_str("defs"),
-        max_keys: max_keys_in(matches)?,
-    })
-}
-
 fn serve_of<'a>(alloc: Global, matches: &ArgMatches<'a>) -> Result<Order<'a>, OrderFault>
     ensures { IfOk result IsInRange }
 {
     Ok(Order::Serve {
         db: matches.get_str("db").unwrap_or(""),
-        site: site_in(matches)?,
-        port: port_in(matches)?,
+        setup: setup_in(matches)?,
         conns: conns_in(matches)?,
-        defs: matches.get_str("defs"),
-        max_keys: max_keys_in(matches)?,
         address: address_in(alloc, matches)?,
     })
 }
@@ -130,10 +111,7 @@ fn sync_of<'a>(alloc: Global, matches: &ArgMatches<'a>) -> Result<Order<'a>, Ord
 {
     Ok(Order::Sync {
         db: matches.get_str("db").unwrap_or(""),
-        site: site_in(matches)?,
-        port: port_in(matches)?,
-        defs: matches.get_str("defs"),
-        max_keys: max_keys_in(matches)?,
+        setup: setup_in(matches)?,
         address: address_in(alloc, matches)?,
         verbose: matches.get_flag("verbose"),
     })
@@ -145,15 +123,21 @@ fn shell_of<'a>(alloc: Global, matches: &ArgMatches<'a>) -> Result<Order<'a>, Or
     match matches.get_str("db") {
         Some(db) => Ok(Order::Shell {
             db,
-            site: site_in(matches)?,
-            defs: matches.get_str("defs"),
-            max_keys: max_keys_in(matches)?,
+            setup: setup_in(matches)?,
         }),
-        None => Ok(Order::RemoteShell {
-            port: port_in(matches)?,
-            address: address_in(alloc, matches)?,
-        }),
+        None => Ok(Order::RemoteShell(address_in(alloc, matches)?)),
     }
+}
+
+/// What the options of a site say.
+fn setup_in<'a>(matches: &ArgMatches<'a>) -> Result<Setup<'a>, OrderFault>
+    ensures { IfOk result IsSetUp }
+{
+    Ok(Setup {
+        site: site_in(matches)?,
+        defs: matches.get_str("defs"),
+        max_keys: max_keys_in(matches)?,
+    })
 }
 
 /// The number of an option, where it is given: `Range` where it is 0 or too great.
@@ -203,16 +187,27 @@ fn conns_in(matches: &ArgMatches<'_>) -> Result<Option<u32>, OrderFault>
     }
 }
 
-/// The address of a server. Its text is read here, since `clap` reads numbers alone.
-fn address_in(alloc: Global, matches: &ArgMatches<'_>) -> Result<IpAddr, OrderFault> {
+/// The address of a server, with its port.
+fn address_in(alloc: Global, matches: &ArgMatches<'_>) -> Result<SocketAddr, OrderFault>
+    ensures { IfOk result HasPort }
+{
+    let port = port_in(matches)?;
+    Ok(SocketAddr::new(ip_in(alloc, matches)?, port))
+}
+
+/// The IP address of a server. Its text is read here, since `clap` reads numbers alone.
+fn ip_in(alloc: Global, matches: &ArgMatches<'_>) -> Result<IpAddr, OrderFault> {
     match matches.get_one::<IpAddr>("address") {
         Some(address) => Ok(address),
-        None => {
-            let error = command(alloc)?.error(
-                ErrorKind::ValueValidation,
-                "invalid value for '--address <IP>': it is no IP address",
-            )?;
-            Err(OrderFault::Words(error))
-        }
+        None => Err(no_address(alloc)?),
     }
+}
+
+/// What is told of an address that is none.
+fn no_address(alloc: Global) -> Result<OrderFault, AllocError> {
+    let error = command(alloc)?.error(
+        ErrorKind::ValueValidation,
+        "invalid value for '--address <IP>': it is no IP address",
+    )?;
+    Ok(OrderFault::Words(error))
 }

@@ -34,9 +34,12 @@ const SYNC: &str =
 
 /// The program's command, with one command below it for each order.
 pub fn command<'a>(alloc: Global) -> Result<Command<'a>, AllocError> {
-    let sim = Command::new(alloc, "sim")
-        .about(SIM)
-        .after_help("Example: mvd sim < examples/siblings.mvd");
+    let sim = named(
+        alloc,
+        "sim",
+        SIM,
+        "Example: mvd sim < examples/siblings.mvd",
+    );
     Command::new(alloc, "mvd")
         .about("A multi-value JSON document map with causal contexts.")
         .after_help(FIRST)
@@ -51,66 +54,78 @@ pub fn command<'a>(alloc: Global) -> Result<Command<'a>, AllocError> {
 }
 
 fn loop_command<'a>(alloc: Global) -> Result<Command<'a>, AllocError> {
-    Command::new(alloc, "loop")
-        .about(LOOP)
-        .after_help("Example: echo 00000003210161 | mvd loop --site 1")
-        .arg(site(alloc))?
-        .arg(defs(alloc))?
-        .arg(max_keys(alloc))
+    named(
+        alloc,
+        "loop",
+        LOOP,
+        "Example: echo 00000003210161 | mvd loop --site 1",
+    )
+    .arg(site(alloc))?
+    .arg(defs(alloc))?
+    .arg(max_keys(alloc))
 }
 
 fn serve_command<'a>(alloc: Global) -> Result<Command<'a>, AllocError> {
-    let conns = Arg::new(alloc, "conns")
-        .long("conns")
-        .value_name("C")
-        .value_parser(value_parser!(u64))
-        .help(
-            "How many connections are served, 1 to 1000. It goes on until it is stopped where this is left out.",
-        );
-    let command = Command::new(alloc, "serve")
-        .about(SERVE)
-        .after_help("Example: mvd serve --db a.db --site 1 --port 7007");
+    let command = named(
+        alloc,
+        "serve",
+        SERVE,
+        "Example: mvd serve --db a.db --site 1 --port 7007",
+    );
     stored(alloc, command)?
         .arg(port(alloc, "The port to listen at, 1 to 65535."))?
-        .arg(conns)
+        .arg(conns(alloc))
 }
 
 fn shell_command<'a>(alloc: Global) -> Result<Command<'a>, AllocError> {
+    let command = named(
+        alloc,
+        "shell",
+        SHELL,
+        "Example: echo 'put k - {\"a\":1}' | mvd shell --db a.db --site 1",
+    );
+    let command = instead_of_port(command, db(alloc))?;
+    let command = instead_of_port(command, site(alloc))?;
+    let command = apart_from(command, defs(alloc), "port")?;
+    let command = apart_from(command, max_keys(alloc), "port")?;
     let port = port(
         alloc,
         "The port of a server, 1 to 65535, in place of a database.",
-    )
-    .required(false);
-    Command::new(alloc, "shell")
-        .about(SHELL)
-        .after_help("Example: echo 'put k - {\"a\":1}' | mvd shell --db a.db --site 1")
-        .arg(instead_of_port(db(alloc))?)?
-        .arg(instead_of_port(site(alloc))?)?
-        .arg(defs(alloc).conflicts_with("port")?)?
-        .arg(max_keys(alloc).conflicts_with("port")?)?
-        .arg(port)?
-        .arg(address(alloc).conflicts_with("db")?)
+    );
+    let command = command.arg(port.required(false))?;
+    apart_from(command, address(alloc), "db")
 }
 
-/// An option that is given where no port is.
-fn instead_of_port<'a>(option: Arg<'a>) -> Result<Arg<'a>, AllocError> {
-    option
-        .required(false)
-        .required_unless_present("port")?
-        .conflicts_with("port")
+/// Adds an option that is given where no port is.
+fn instead_of_port<'a>(command: Command<'a>, option: Arg<'a>) -> Result<Command<'a>, AllocError> {
+    let option = option.required(false).required_unless_present("port")?;
+    apart_from(command, option, "port")
+}
+
+/// Adds an option that is not given beside the other one.
+fn apart_from<'a>(
+    command: Command<'a>,
+    option: Arg<'a>,
+    other: &'a str,
+) -> Result<Command<'a>, AllocError> {
+    command.arg(option.conflicts_with(other)?)
 }
 
 fn sync_command<'a>(alloc: Global) -> Result<Command<'a>, AllocError> {
-    let command = Command::new(alloc, "sync")
-        .about(SYNC)
-        .after_help("Example: mvd sync --db b.db --site 2 --port 7007");
-    let verbose = Arg::new(alloc, "verbose")
-        .long("verbose")
-        .action(ArgAction::SetTrue)
-        .help("Tell on standard error, after each thousand keys, how many were exchanged so far.");
+    let command = named(
+        alloc,
+        "sync",
+        SYNC,
+        "Example: mvd sync --db b.db --site 2 --port 7007",
+    );
     stored(alloc, command)?
         .arg(port(alloc, "The port of the server, 1 to 65535."))?
-        .arg(verbose)
+        .arg(verbose(alloc))
+}
+
+/// A command below the program's: what it does, and an example of it.
+fn named<'a>(alloc: Global, name: &'a str, about: &'a str, example: &'a str) -> Command<'a> {
+    Command::new(alloc, name).about(about).after_help(example)
 }
 
 /// The options of a command on a database that meets a peer.
@@ -124,53 +139,83 @@ fn stored<'a>(alloc: Global, command: Command<'a>) -> Result<Command<'a>, AllocE
 }
 
 fn db<'a>(alloc: Global) -> Arg<'a> {
-    Arg::new(alloc, "db")
-        .long("db")
-        .value_name("FILE")
-        .required(true)
-        .help("The file of the database, which is made where it is missing.")
+    text(
+        alloc,
+        "db",
+        "FILE",
+        "The file of the database, which is made where it is missing.",
+    )
+    .required(true)
 }
 
 fn address<'a>(alloc: Global) -> Arg<'a> {
-    Arg::new(alloc, "address")
-        .long("address")
-        .value_name("IP")
-        .default_value("127.0.0.1")
-        .help(
-            "The IP address of the server. Nothing is encrypted, and nobody is asked who they are: put it behind a tunnel.",
-        )
+    text(
+        alloc,
+        "address",
+        "IP",
+        "The IP address of the server. Nothing is encrypted, and nobody is asked who they are: put it behind a tunnel.",
+    )
+    .default_value("127.0.0.1")
 }
 
 fn site<'a>(alloc: Global) -> Arg<'a> {
-    Arg::new(alloc, "site")
-        .long("site")
-        .value_name("N")
-        .required(true)
-        .value_parser(value_parser!(u64))
-        .help("The number of this site, 1 to 4294967295, which no other site has.")
+    number(
+        alloc,
+        "site",
+        "N",
+        "The number of this site, 1 to 4294967295, which no other site has.",
+    )
+    .required(true)
 }
 
 fn port<'a>(alloc: Global, help: &'a str) -> Arg<'a> {
-    Arg::new(alloc, "port")
-        .long("port")
-        .value_name("P")
-        .required(true)
-        .value_parser(value_parser!(u64))
-        .help(help)
+    number(alloc, "port", "P", help).required(true)
 }
 
 fn defs<'a>(alloc: Global) -> Arg<'a> {
-    Arg::new(alloc, "defs")
-        .long("defs")
-        .value_name("FILE")
-        .help("A file with a script's `index` and `view` lines.")
+    text(
+        alloc,
+        "defs",
+        "FILE",
+        "A file with a script's `index` and `view` lines.",
+    )
 }
 
 fn max_keys<'a>(alloc: Global) -> Arg<'a> {
-    Arg::new(alloc, "max-keys")
-        .long("max-keys")
-        .value_name("N")
-        .default_value("1000000")
-        .value_parser(value_parser!(u64))
-        .help("The most keys that the site may hold, 1 to 1000000.")
+    number(
+        alloc,
+        "max-keys",
+        "N",
+        "The most keys that the site may hold, 1 to 1000000.",
+    )
+    .default_value("1000000")
+}
+
+fn conns<'a>(alloc: Global) -> Arg<'a> {
+    number(
+        alloc,
+        "conns",
+        "C",
+        "How many connections are served, 1 to 1000. It goes on until it is stopped where this is left out.",
+    )
+}
+
+fn verbose<'a>(alloc: Global) -> Arg<'a> {
+    Arg::new(alloc, "verbose")
+        .long("verbose")
+        .action(ArgAction::SetTrue)
+        .help("Tell on standard error, after each thousand keys, how many were exchanged so far.")
+}
+
+/// An option whose value is a text.
+fn text<'a>(alloc: Global, name: &'a str, value: &'a str, help: &'a str) -> Arg<'a> {
+    Arg::new(alloc, name)
+        .long(name)
+        .value_name(value)
+        .help(help)
+}
+
+/// An option whose value is a number.
+fn number<'a>(alloc: Global, name: &'a str, value: &'a str, help: &'a str) -> Arg<'a> {
+    text(alloc, name, value, help).value_parser(value_parser!(u64))
 }

@@ -4,8 +4,8 @@ ghost use Rattle.mvd_dots.specs.declared.refusals.Refusal.TheVariants.{Damaged, 
 ghost use Rattle.mvd_input.specs.declared.fault.Fault.TheVariants.{Stopped};
 ghost use Rattle.mvd_input.specs.declared.fault.Fault.TheVariants as faults;
 
-use crate::fault::Fault;
 use mvd_dots::Refusal;
+use mvd_input::Fault;
 use sqlite::ErrorCode;
 use std::fmt;
 use std::io::{self, ErrorKind};

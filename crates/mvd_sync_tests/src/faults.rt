@@ -1,41 +1,20 @@
-//! A session in which one allocation is refused, whichever it is: `rt try --test --fail-alloc N` refuses the one of that number.
+//! A session in which one allocation is refused, whichever it is: `rt try --test --fail-alloc N` refuses the Nth.
 use crate::peers::Counting;
-use crate::sessions::pair;
+use crate::sessions::{ended, pair};
 use mvd_dots::Refusal;
-use mvd_keys::{Key, KeyState};
 use mvd_sync::{Report, SyncFault, sync};
 use std::alloc::Global;
 use std::test::Fail;
 
-/// The states of a key on both sides before a session, and their join.
-#[derive(Drop)]
-struct Before {
-    key: Key,
-    one: KeyState,
-    two: KeyState,
-    joined: KeyState,
-}
+/// A key's context on a side, and how many siblings it has there.
+type Shown = (&'static str, usize);
 
-fn states_before(one: &Counting, two: &Counting, key: &str) -> Result<Before, Refusal> {
-    let key = Key::read(one.alloc, key)?;
-    let first = one.site.get(&key)?;
-    let second = two.site.get(&key)?;
-    let joined = first.join(one.alloc, &second)?;
-    Ok(Before {
-        key,
-        one: first,
-        two: second,
-        joined,
-    })
-}
-
-/// Two sides before a session, and the states of their keys.
-#[derive(Drop)]
-struct Start {
-    one: Counting,
-    two: Counting,
-    keys: Vec<Before>,
-}
+/// A key, what the first side shows of it before a session, what the second does, and what both do after it.
+const KEYS: [(&str, Shown, Shown, Shown); 3] = [
+    ("a", ("1:1", 1), ("-", 0), ("1:1", 1)),
+    ("b", ("-", 0), ("2:1", 1), ("2:1", 1)),
+    ("c", ("1:1", 1), ("2:1", 1), ("1:1,2:1", 2)),
+];
 
 /// Whether a key came to be on each side alone, and a third on both.
 fn put_all(one: &mut Counting, two: &mut Counting) -> Result<bool, Refusal> {
@@ -47,57 +26,44 @@ fn put_all(one: &mut Counting, two: &mut Counting) -> Result<bool, Refusal> {
     )
 }
 
-fn begin(alloc: Global) -> Result<Start, Refusal> {
-    let (mut one, mut two) = pair(alloc, 10)?;
-    if !put_all(&mut one, &mut two)? {
-        return Err(Refusal::Memory);
+fn begin(alloc: Global) -> Result<(Counting, Counting), Refusal> {
+    let (mut one, mut two) = pair(alloc, (1, 2), 10)?;
+    if put_all(&mut one, &mut two)? {
+        Ok((one, two))
+    } else {
+        Err(Refusal::Memory)
     }
-    let mut keys = Vec::new(alloc);
-    for key in ["a", "b", "c"] {
-        keys.push(states_before(&one, &two, key)?)?;
-    }
-    Ok(Start { one, two, keys })
 }
 
-/// The state that a side has of a key: one allocation alone is refused, so a second answer comes.
-fn state_of(side: &Counting, key: &Key) -> Result<KeyState, Refusal> {
-    match side.site.get(key) {
-        Err(Refusal::Memory) => side.site.get(key),
+/// Whether a side shows one of these two at a key; unless it is broken, and then it tells that.
+fn shows(side: &Counting, key: &str, old: Shown, joined: Shown) -> Result<bool, Refusal> {
+    if side.site.is_broken() {
+        return Ok(side.shows(key, "-", 0) == Err(Refusal::Broken));
+    }
+    Ok(side.shows(key, joined.0, joined.1)? || side.shows(key, old.0, old.1)?)
+}
+
+/// Whether each side shows of each key the join of both, or, where that is not asked for, what it did before.
+fn all_show(one: &Counting, two: &Counting, joined_alone: bool) -> Result<bool, Refusal> {
+    for (key, first, second, joined) in KEYS {
+        let (first, second) = if joined_alone {
+            (joined, joined)
+        } else {
+            (first, second)
+        };
+        if !shows(one, key, first, joined)? || !shows(two, key, second, joined)? {
+            return Ok(false);
+        }
+    }
+    Ok(true)
+}
+
+/// Whether each side shows of each key the join. One allocation alone is refused, so a second look is had.
+fn are_joined(one: &Counting, two: &Counting) -> Result<bool, Refusal> {
+    match all_show(one, two, true) {
+        Err(Refusal::Memory) => all_show(one, two, true),
         answer => answer,
     }
-}
-
-/// Whether a side has this state of a key, or the other; unless it is broken, and then it tells that.
-fn has(side: &Counting, key: &Key, one: &KeyState, other: &KeyState) -> Result<bool, Refusal> {
-    if side.site.is_broken() {
-        return Ok(matches!(&side.site.get(key), Err(Refusal::Broken)));
-    }
-    let found = state_of(side, key)?;
-    Ok(found.same(one) || found.same(other))
-}
-
-/// Whether each side has of each key its old state, or the join of the old ones.
-fn are_old_or_joined(start: &Start) -> Result<bool, Refusal> {
-    for key in &start.keys {
-        if !has(&start.one, &key.key, &key.one, &key.joined)?
-            || !has(&start.two, &key.key, &key.two, &key.joined)?
-        {
-            return Ok(false);
-        }
-    }
-    Ok(true)
-}
-
-/// Whether each side has of each key the join.
-fn are_joined(start: &Start) -> Result<bool, Refusal> {
-    for key in &start.keys {
-        if !has(&start.one, &key.key, &key.joined, &key.joined)?
-            || !has(&start.two, &key.key, &key.joined, &key.joined)?
-        {
-            return Ok(false);
-        }
-    }
-    Ok(true)
 }
 
 /// Whether a session told that memory was refused, or that a side is broken.
@@ -109,39 +75,33 @@ fn is_of_memory(fault: SyncFault) -> bool {
     }
 }
 
-/// Whether a session, asked again, ends with what a broken side tells, or else well.
-fn ends_then(alloc: Global, one: &mut Counting, two: &mut Counting) -> bool {
-    let ended = sync(alloc, one, two);
+/// Whether a session, asked again, ends with what a broken side tells, or else well, with all joined.
+fn ends_then(alloc: Global, one: &mut Counting, two: &mut Counting) -> Result<bool, Refusal> {
     if one.site.is_broken() {
-        return ended == Err(SyncFault::Local(Refusal::Broken));
+        return Ok(ended(alloc, one, two, Err(SyncFault::Local(Refusal::Broken))));
     }
     if two.site.is_broken() {
-        return ended == Err(SyncFault::Peer(Refusal::Broken));
+        return Ok(ended(alloc, one, two, Err(SyncFault::Peer(Refusal::Broken))));
     }
-    matches!(&ended, Ok(_))
+    Ok(sync(alloc, one, two).is_ok() && are_joined(one, two)?)
 }
 
-fn stands(alloc: Global, start: &mut Start) -> Result<bool, Refusal> {
-    let ended = sync(alloc, &mut start.one, &mut start.two);
-    if !are_old_or_joined(start)? {
-        return Ok(false);
-    }
-    match ended {
-        Ok(report) => Ok(report == Report { keys: 3 } && are_joined(start)?),
-        Err(fault) => Ok(
-            is_of_memory(fault)
-                && ends_then(alloc, &mut start.one, &mut start.two)
-                && (start.one.site.is_broken() || start.two.site.is_broken() || are_joined(start)?),
-        ),
+/// Whether a session ends with all joined, or else, where memory was refused, leaves old states and joins alone.
+fn stands(alloc: Global, one: &mut Counting, two: &mut Counting) -> Result<bool, Refusal> {
+    match sync(alloc, one, two) {
+        Ok(report) => Ok(report == Report { keys: 3 } && are_joined(one, two)?),
+        Err(fault) => {
+            Ok(is_of_memory(fault) && all_show(one, two, false)? && ends_then(alloc, one, two)?)
+        }
     }
 }
 
 fn session_stands(alloc: Global) -> Result<bool, Refusal> {
-    let mut begun = match begin(alloc) {
+    let (mut one, mut two) = match begin(alloc) {
         Ok(begun) => begun,
         Err(_) => begin(alloc)?,
     };
-    stands(alloc, &mut begun)
+    stands(alloc, &mut one, &mut two)
 }
 
 #[test]

@@ -24,7 +24,7 @@ enum Lie {
     SamePage,
     /// More is to come after no key.
     MoreWithoutKey,
-    /// Pages of one key that never end.
+    /// Pages of one key, each after the last, that never end.
     OneKeyForEver,
     /// Two pages in each of a few buckets, and its question of this number is refused.
     RefusesAt(u64),
@@ -72,6 +72,13 @@ impl Liar {
         children
     }
 
+    /// A page of one key, which comes after all that it gave.
+    fn next_page(&self) -> Result<(Vec<(Key, [u8; 32])>, bool), Refusal> {
+        let number = self.questions.saturating_add(10_000_000);
+        let key = format!(in self.alloc; "{number}")?;
+        self.page(&[key.as_str()], true)
+    }
+
     /// A page of these keys.
     fn page(&self, keys: &[&str], more: bool) -> Result<(Vec<(Key, [u8; 32])>, bool), Refusal> {
         let mut page = Vec::new(self.alloc);
@@ -80,12 +87,6 @@ impl Liar {
         }
         Ok((page, more))
     }
-}
-
-/// A key that comes after this one.
-fn longer(alloc: Global, key: &Key) -> Result<Key, Refusal> {
-    let text = format!(in alloc; "{}!", key.text())?;
-    Key::read(alloc, &text)
 }
 
 impl Peer for Liar {
@@ -139,13 +140,7 @@ impl Peer for Liar {
                 None => self.page(&["k"], true),
                 Some(_) => self.page(&["l"], false),
             },
-            Lie::OneKeyForEver => match after {
-                None => self.page(&["k"], true),
-                Some(key) => {
-                    let next = longer(self.alloc, key)?;
-                    self.page(&[next.text()], true)
-                }
-            },
+            Lie::OneKeyForEver => self.next_page(),
         }
     }
 
@@ -211,7 +206,7 @@ fn digests_alone_change_nothing(rt: HostRuntime) -> Result<(), Fail> {
 /// What a session comes to where none of its questions is refused.
 const WHOLE: Report = Report { keys: 128 };
 
-/// How many questions of a session may be refused: each ends it as that side's refusal, and past the last one it ends well.
+/// How many questions of a session may be refused: each ends it as that side's refusal; past the last it ends well.
 fn refusals(alloc: Global) -> Result<u64, Refusal> {
     for n in 0..1_000u64 {
         let ended = with_liar(alloc, Lie::RefusesAt(n.saturating_add(1)))?;
@@ -234,18 +229,32 @@ fn each_question_may_be_refused(rt: HostRuntime) -> Result<(), Fail> {
     Ok(())
 }
 
+/// Whether pages without end stop a session of at most a hundred questions to each side, on either side.
+fn stops_at_100(alloc: Global, site: &mut Counting) -> bool {
+    let mut peer = Liar::new(alloc, Lie::OneKeyForEver);
+    let mut local = Liar::new(alloc, Lie::OneKeyForEver);
+    let other = sync_within(alloc, site, &mut peer, 100);
+    let own = sync_within(alloc, &mut local, site, 100);
+    other == Err(SyncFault::Peer(Refusal::TooManyRequests))
+        && own == Err(SyncFault::Local(Refusal::TooManyRequests))
+        && (peer.questions, local.questions) == (100, 100)
+}
+
+/// Whether they stop a session of which no number is said at ten million.
+fn stops_at_most(alloc: Global, site: &mut Counting) -> bool {
+    let mut peer = Liar::new(alloc, Lie::OneKeyForEver);
+    sync(alloc, site, &mut peer) == Err(SyncFault::Peer(Refusal::TooManyRequests))
+        && peer.questions == 10_000_000
+}
+
+fn stops(alloc: Global) -> Result<bool, Refusal> {
+    let mut site = Counting::new(alloc, 1, 10)?;
+    Ok(stops_at_100(alloc, &mut site) && stops_at_most(alloc, &mut site))
+}
+
 #[test]
 fn pages_without_end_are_36(rt: HostRuntime) -> Result<(), Fail> {
-    let alloc = rt.alloc();
-    let mut site = Counting::new(alloc, 1, 10)?;
-    let mut liar = Liar::new(alloc, Lie::OneKeyForEver);
-    let ended = sync_within(alloc, &mut site, &mut liar, 100);
-    assert_eq!(rt; ended, Err(SyncFault::Peer(Refusal::TooManyRequests)));
-    assert_eq!(rt; liar.questions, 100);
-    let mut liar = Liar::new(alloc, Lie::OneKeyForEver);
-    let ended = sync_within(alloc, &mut liar, &mut site, 100);
-    assert_eq!(rt; ended, Err(SyncFault::Local(Refusal::TooManyRequests)));
-    assert_eq!(rt; liar.questions, 100);
+    assert!(rt; stops(rt.alloc())?);
     Ok(())
 }
 

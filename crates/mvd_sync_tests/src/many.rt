@@ -58,7 +58,7 @@ fn ask_few(alloc: Global, one: &mut Counting, two: &mut Counting) -> Result<bool
 }
 
 fn two_ask_few(alloc: Global) -> Result<bool, Refusal> {
-    let (mut one, mut two) = pair(alloc, 20_000)?;
+    let (mut one, mut two) = pair(alloc, (1, 2), 20_000)?;
     ask_few(alloc, &mut one, &mut two)
 }
 

@@ -19,16 +19,6 @@ pub struct Asked {
     pub pushes: u64,
 }
 
-impl Asked {
-    /// The same, and one node more.
-    pub fn with_node(self) -> Asked {
-        Asked {
-            nodes: self.nodes.saturating_add(1),
-            ..self
-        }
-    }
-}
-
 /// A site, and how often it was asked. Nothing is claimed of it.
 #[derive(Drop)]
 pub struct Counting {
@@ -65,15 +55,6 @@ impl Counting {
             Document::read(self.alloc, document)?,
         );
         Ok(matches!(&self.site.answer(&request), Reply::Written(_)))
-    }
-
-    /// Deletes what the context has seen at a key.
-    pub fn delete(&mut self, key: &str, seen: &str) -> Result<bool, Refusal> {
-        let request = Request::Delete(
-            Key::read(self.alloc, key)?,
-            Context::read(self.alloc, seen)?,
-        );
-        Ok(matches!(&self.site.answer(&request), Reply::Done))
     }
 
     /// The root's digest.

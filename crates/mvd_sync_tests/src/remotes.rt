@@ -3,84 +3,90 @@ use crate::peers::Counting;
 use mvd_dots::Refusal;
 use mvd_keys::Key;
 use mvd_sync::{Remote, Report, SyncFault, sync};
-use mvd_wire::{Reply, Request, decode_request};
+use mvd_wire::{Request, decode_request};
 use std::alloc::Global;
 use std::test::Fail;
 
-/// The reply to a question about the root of a site with no key: 32 zeros, sixteen children, and their zeros.
-fn empty_root() -> [u8; 550] {
-    let mut reply = [0; 550];
-    reply[2] = 2;
-    reply[3] = 0x22;
-    reply[4] = 0xA7;
-    reply[37] = 16;
-    reply
+/// A site at the other end that gives these bytes, and keeps what it is sent.
+type Link<'a> = Remote<&'a [u8], Vec<u8>>;
+
+/// The question about the root, and a Bye.
+const ASKED: [u8; 11] = [0, 0, 0, 2, 0x27, 0, 0, 0, 0, 1, 0x2F];
+
+/// Whether just so many bytes of these two went out.
+fn are_sent(remote: Link, bytes: usize) -> bool {
+    let (_, written) = remote.into_parts();
+    written.len() == bytes && ASKED.starts_with(&written)
+}
+
+/// Whether a session of a site with no key over a link that gives these bytes ends so, and a Bye, with so much sent.
+fn ends(
+    alloc: Global,
+    replies: &[u8],
+    session: Result<Report, SyncFault>,
+    bye: Result<(), Refusal>,
+    bytes: usize,
+) -> Result<bool, Refusal> {
+    let mut local = Counting::new(alloc, 1, 10)?;
+    let mut remote = Remote::new(alloc, replies, Vec::new(alloc));
+    Ok(
+        sync(alloc, &mut local, &mut remote) == session
+            && remote.bye() == bye
+            && are_sent(remote, bytes),
+    )
+}
+
+/// What a site with no key replies about its root, 32 zeros, sixteen children, and their zeros, and then to a Bye.
+fn empty_root() -> [u8; 555] {
+    let mut replies = [0; 555];
+    replies[2] = 2;
+    replies[3] = 0x22;
+    replies[4] = 0xA7;
+    replies[37] = 16;
+    replies[553] = 1;
+    replies[554] = 0xA3;
+    replies
 }
 
 #[test]
 fn a_session_with_an_empty_site(rt: HostRuntime) -> Result<(), Fail> {
-    let alloc = rt.alloc();
-    let mut local = Counting::new(alloc, 1, 10)?;
-    let reply = empty_root();
-    let mut remote = Remote::new(alloc, reply.as_slice(), Vec::new(alloc));
-    let ended = sync(alloc, &mut local, &mut remote);
-    assert_eq!(rt; ended, Ok(Report { keys: 0 }));
-    let (_, written) = remote.into_parts();
-    assert_eq!(rt; written.as_slice(), [0, 0, 0, 2, 0x27, 0].as_slice());
+    let met = Ok(Report { keys: 0 });
+    assert!(rt; ends(rt.alloc(), &empty_root(), met, Ok(()), 11)?);
     Ok(())
 }
 
 #[test]
 fn a_link_that_ends_stays_refused(rt: HostRuntime) -> Result<(), Fail> {
-    let alloc = rt.alloc();
-    let mut local = Counting::new(alloc, 1, 10)?;
-    let none: [u8; 0] = [];
-    let mut remote = Remote::new(alloc, none.as_slice(), Vec::new(alloc));
-    let ended = sync(alloc, &mut local, &mut remote);
-    assert_eq!(rt; ended, Err(SyncFault::Peer(Refusal::Truncated)));
-    let key = Key::read(alloc, "k")?;
-    assert!(rt; matches!(remote.get(&key), Err(Refusal::Truncated)));
-    assert!(rt; matches!(remote.bye(), Err(Refusal::Truncated)));
-    let (_, written) = remote.into_parts();
-    assert_eq!(rt; written.len(), 6);
+    let ended = Refusal::Truncated;
+    assert!(rt; ends(rt.alloc(), &[], Err(SyncFault::Peer(ended)), Err(ended), 6)?);
     Ok(())
 }
 
 #[test]
 fn a_refusal_that_the_peer_tells(rt: HostRuntime) -> Result<(), Fail> {
-    let alloc = rt.alloc();
-    let mut local = Counting::new(alloc, 1, 10)?;
     let replies = [0, 0, 0, 2, 0xEE, 0x15, 0, 0, 0, 1, 0xA3];
-    let mut remote = Remote::new(alloc, replies.as_slice(), Vec::new(alloc));
-    let ended = sync(alloc, &mut local, &mut remote);
-    assert_eq!(rt; ended, Err(SyncFault::Peer(Refusal::Store)));
-    assert!(rt; remote.bye().is_ok());
+    let told = Err(SyncFault::Peer(Refusal::Store));
+    assert!(rt; ends(rt.alloc(), &replies, told, Ok(()), 11)?);
     Ok(())
+}
+
+fn shows_nothing(alloc: Global, remote: &mut Link) -> Result<bool, Refusal> {
+    let state = remote.get(&Key::read(alloc, "k")?)?;
+    Ok(state.siblings().is_empty())
+}
+
+/// Whether the question about a key is answered by an empty state, and just that was asked.
+fn asks_for_a_key(alloc: Global) -> Result<bool, Refusal> {
+    let replies = [0, 0, 0, 7, 0xA1, 0, 0, 0, 0, 0, 0];
+    let mut remote = Remote::new(alloc, replies.as_slice(), Vec::new(alloc));
+    let shown = shows_nothing(alloc, &mut remote)?;
+    let (_, written) = remote.into_parts();
+    Ok(shown && written.as_slice() == [0, 0, 0, 3, 0x21, 1, 0x6B].as_slice())
 }
 
 #[test]
 fn the_state_of_a_key(rt: HostRuntime) -> Result<(), Fail> {
-    let alloc = rt.alloc();
-    let replies = [0, 0, 0, 7, 0xA1, 0, 0, 0, 0, 0, 0];
-    let mut remote = Remote::new(alloc, replies.as_slice(), Vec::new(alloc));
-    let state = remote.get(&Key::read(alloc, "k")?)?;
-    assert!(rt; state.siblings().is_empty());
-    let (_, written) = remote.into_parts();
-    assert_eq!(rt; written.as_slice(), [0, 0, 0, 3, 0x21, 1, 0x6B].as_slice());
-    Ok(())
-}
-
-#[test]
-fn a_reply_of_another_kind_is_32(rt: HostRuntime) -> Result<(), Fail> {
-    let alloc = rt.alloc();
-    let replies = [0, 0, 0, 1, 0xA3, 0, 0, 0, 1, 0xA3];
-    let mut remote = Remote::new(alloc, replies.as_slice(), Vec::new(alloc));
-    let asked = remote.ask(&Request::Get(Key::read(alloc, "k")?));
-    assert!(rt; matches!(asked, Err(Refusal::BadKind)));
-    assert!(rt; matches!(remote.bye(), Err(Refusal::BadKind)));
-    let mut remote = Remote::new(alloc, replies.as_slice(), Vec::new(alloc));
-    assert!(rt; matches!(remote.ask(&Request::Bye), Ok(Reply::Done)));
-    assert!(rt; remote.bye().is_ok());
+    assert!(rt; asks_for_a_key(rt.alloc())?);
     Ok(())
 }
 
@@ -122,6 +128,14 @@ fn frame_of(reply: (u8, u8)) -> [u8; 38] {
     frame
 }
 
+/// Whether a question is answered, or why it is not.
+fn takes(remote: &mut Link, asked: &Request) -> Result<(), Refusal> {
+    match remote.ask(asked) {
+        Ok(_) => Ok(()),
+        Err(refusal) => Err(refusal),
+    }
+}
+
 /// Whether a request takes a reply of its kind, and is refused one of another kind for good.
 fn takes_its_kind(
     alloc: Global,
@@ -129,16 +143,13 @@ fn takes_its_kind(
     reply: (u8, u8),
 ) -> Result<bool, Refusal> {
     let frame = frame_of(reply);
-    let mut remote = Remote::new(alloc, frame.as_slice(), Vec::new(alloc));
     let asked = decode_request(alloc, request.0, request.1)?;
-    match remote.ask(&asked) {
-        Ok(_) => Ok(request.2 == reply.0),
-        Err(refusal) => Ok(
-            request.2 != reply.0
-                && refusal == Refusal::BadKind
-                && matches!(remote.bye(), Err(Refusal::BadKind)),
-        ),
+    let mut remote = Remote::new(alloc, frame.as_slice(), Vec::new(alloc));
+    if request.2 == reply.0 {
+        return Ok(takes(&mut remote, &asked) == Ok(()));
     }
+    let refused = Err(Refusal::BadKind);
+    Ok(takes(&mut remote, &asked) == refused && remote.bye() == refused)
 }
 
 #[test]
@@ -154,19 +165,15 @@ fn a_reply_of_every_other_kind_is_32(rt: HostRuntime) -> Result<(), Fail> {
 
 #[test]
 fn a_session_with_replies_of_another_kind_is_32(rt: HostRuntime) -> Result<(), Fail> {
-    let alloc = rt.alloc();
     for reply in REPLIES {
-        let frame = frame_of(reply);
-        let mut local = Counting::new(alloc, 1, 10)?;
-        let mut remote = Remote::new(alloc, frame.as_slice(), Vec::new(alloc));
-        let ended = sync(alloc, &mut local, &mut remote);
-        // The reply of a node's kind is that of a bucket.
-        let wanted = if reply.0 == 0xA7 {
-            Refusal::BadBody
+        // The reply of a node's kind is that of a bucket; the link goes on, and has no byte more.
+        let (refusal, bye, bytes) = if reply.0 == 0xA7 {
+            (Refusal::BadBody, Refusal::Truncated, 11)
         } else {
-            Refusal::BadKind
+            (Refusal::BadKind, Refusal::BadKind, 6)
         };
-        assert_eq!(rt; ended, Err(SyncFault::Peer(wanted)));
+        let told = Err(SyncFault::Peer(refusal));
+        assert!(rt; ends(rt.alloc(), &frame_of(reply), told, Err(bye), bytes)?);
     }
     Ok(())
 }

@@ -1,5 +1,7 @@
 //! Texts at their limits, and long scripts.
-use crate::scripts::{prints, prints_lines};
+use crate::scripts::{printed, prints, prints_lines};
+use mvd_dots::Refusal;
+use mvd_input::Fault;
 use std::alloc::{AllocError, Global};
 use std::test::Fail;
 
@@ -66,6 +68,32 @@ fn a_state_at_its_limit(rt: HostRuntime) -> Result<(), Fail> {
     let script = siblings(rt.alloc())?;
     let wanted = siblings_printed(rt.alloc())?;
     prints(rt.alloc(), "siblings", script.as_str(), wanted.as_str())
+}
+
+/// A comment of 64 bytes, with its line feed.
+const COMMENT: &str = "# 16,777,216 bytes are a script still, and one byte more is not\n";
+
+/// Comments of 16,777,216 bytes.
+fn comments(alloc: Global) -> Result<String, AllocError> {
+    let mut script = String::new(alloc);
+    for _ in 0..262_144u32 {
+        script.push_str(COMMENT)?;
+    }
+    Ok(script)
+}
+
+fn is_too_long(alloc: Global, script: &str) -> bool {
+    let ended = printed(alloc, script);
+    matches!(&ended, Err(Fault::Stopped(Refusal::FrameTooLong)))
+}
+
+#[test]
+fn a_script_at_its_limit(rt: HostRuntime) -> Result<(), Fail> {
+    let mut script = comments(rt.alloc())?;
+    prints(rt.alloc(), "comments", script.as_str(), "")?;
+    script.push_str("#")?;
+    assert!(rt; is_too_long(rt.alloc(), script.as_str()));
+    Ok(())
 }
 
 /// Adds a put at one site, and a get at another once it is told.

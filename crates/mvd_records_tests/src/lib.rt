@@ -1,9 +1,7 @@
-//! Tests of the records: calls in memory, and files that stop before some call.
+//! Tests of the records: calls in memory.
 #![tactic(auto)]
 
 #[cfg(test)]
 mod calls;
 #[cfg(test)]
 mod memory;
-#[cfg(test)]
-mod stops;

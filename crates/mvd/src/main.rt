@@ -3,7 +3,9 @@
 
 ghost use Rattle.mvd_input.specs.Orders.{IsInRange, IsSetUp};
 
-use mvd_app::{Hint, Stop, loop_run, remote_shell_run, replica_in, serve_run, shell_run, sim, sync_run};
+use mvd_app::{
+    Hint, Stop, loop_run, remote_shell_run, replica_in, serve_run, shell_run, sim, sync_run,
+};
 use mvd_dots::Refusal;
 use mvd_input::{DEFS_MAX, Fault, Order, OrderFault, Setup, order_of, read_defs, read_input};
 use mvd_replica::Replica;

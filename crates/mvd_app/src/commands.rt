@@ -11,7 +11,7 @@ use mvd_input::{DEFS_MAX, Fault, Order, Setup, read_defs, read_input};
 use mvd_replica::Replica;
 use mvd_rows::Defs;
 use mvd_site::Config;
-use sqlite::{Connection, File, FileStore};
+use sqlite::{Alter, Connection, File, FileStore};
 use std::fs;
 use std::io::{self, BufReader};
 use std::net::SocketAddr;
@@ -70,19 +70,37 @@ fn run_serve<'a>(
 ) -> Result<(), Stop<'a>>
     requires { IsSetUp setup }
 {
-    let mut replica = stored(rt, db, setup)?;
+    let replica = stored(rt, db, setup)?;
+    closed(served(rt, replica, address, conns)?, db)
+}
+
+/// Serves a replica, and gives it back where all its connections came to their ends.
+fn served<'a, S: Alter + Drop>(
+    rt: &HostRuntime,
+    mut replica: Replica<S>,
+    address: SocketAddr,
+    conns: Option<u32>,
+) -> Result<Replica<S>, Stop<'a>> {
     let mut writer = io::writer(rt);
     serve_run(rt, rt.alloc(), &mut replica, address, conns, &mut writer)?;
-    closed(replica, db)
+    Ok(replica)
 }
 
 fn run_shell<'a>(rt: &HostRuntime, db: &'a str, setup: Setup<'a>) -> Result<(), Stop<'a>>
     requires { IsSetUp setup }
 {
-    let mut replica = stored(rt, db, setup)?;
+    let replica = stored(rt, db, setup)?;
+    closed(typed(rt, replica)?, db)
+}
+
+/// Answers the lines of standard input on a replica, and gives it back where all were answered.
+fn typed<'a, S: Alter + Drop>(
+    rt: &HostRuntime,
+    mut replica: Replica<S>,
+) -> Result<Replica<S>, Stop<'a>> {
     let mut reader = input(rt)?;
     match shell_run(rt.alloc(), &mut replica, &mut reader, &mut io::writer(rt)) {
-        Ok(()) => closed(replica, db),
+        Ok(()) => Ok(replica),
         Err(fault) => Err(Stop::in_input(fault, Hint::Script)),
     }
 }
@@ -101,12 +119,22 @@ fn run_sync<'a>(
 ) -> Result<(), Stop<'a>>
     requires { IsSetUp setup }
 {
-    let mut replica = stored(rt, db, setup)?;
+    let replica = stored(rt, db, setup)?;
+    closed(synced(rt, replica, address, verbose)?, db)
+}
+
+/// Runs a session of a replica, and gives it back where the session ended well.
+fn synced<'a, S: Alter + Drop>(
+    rt: &HostRuntime,
+    mut replica: Replica<S>,
+    address: SocketAddr,
+    verbose: bool,
+) -> Result<Replica<S>, Stop<'a>> {
     let mut writer = io::writer(rt);
     let mut errors = rt.stderr();
     let told = if verbose { Some(&mut errors) } else { None };
     sync_run(rt, rt.alloc(), &mut replica, address, told, &mut writer)?;
-    closed(replica, db)
+    Ok(replica)
 }
 
 /// Standard input.

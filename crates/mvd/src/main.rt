@@ -1,198 +1,50 @@
 //! The program `mvd`.
 #![tactic(auto)]
 
-ghost use Rattle.mvd_input.specs.Orders.{IsInRange, IsSetUp};
-
-use mvd_app::{
-    Hint, Stop, loop_run, remote_shell_run, replica_in, serve_run, shell_run, sim, sync_run,
-};
-use mvd_dots::Refusal;
-use mvd_input::{DEFS_MAX, Fault, Order, OrderFault, Setup, order_of, read_defs, read_input};
-use mvd_replica::Replica;
-use mvd_rows::Defs;
-use mvd_site::Config;
-use sqlite::{Connection, File, FileStore};
-use std::io::{self, BufReader};
-use std::net::SocketAddr;
+use mvd_app::{Stop, run};
+use mvd_input::{Fault, OrderFault, order_of};
 use std::process::ExitCode;
-use std::{env, fs};
+use std::{env, io};
 
 fn main(rt: HostRuntime) -> io::Result<ExitCode> {
-    let alloc = rt.alloc();
-    let mut words = Vec::new(alloc);
-    for word in env::args(&rt)? {
-        words.push(word)?;
-    }
-    let mut texts = Vec::new(alloc);
-    for word in &words {
-        texts.push(word.as_str())?;
-    }
-    match order_of(alloc, &texts) {
+    let words = words(&rt)?;
+    let texts = texts(&rt, &words)?;
+    match order_of(rt.alloc(), &texts) {
         Ok(order) => match run(&rt, order) {
             Ok(()) => Ok(ExitCode::SUCCESS),
             Err(stop) => told(&rt, &stop),
         },
-        Err(OrderFault::Words(error)) => {
-            rt.eprint(&error)?;
-            Ok(ExitCode::from(2))
+        Err(fault) => refused(&rt, &fault),
+    }
+}
+
+/// The words of the command line, of which the first is the program's own name.
+fn words(rt: &HostRuntime) -> io::Result<Vec<String>> {
+    let mut words = Vec::new(rt.alloc());
+    for word in env::args(rt)? {
+        words.push(word)?;
+    }
+    Ok(words)
+}
+
+fn texts<'a>(rt: &HostRuntime, words: &'a [String]) -> io::Result<Vec<&'a str>> {
+    let mut texts = Vec::new(rt.alloc());
+    for word in words {
+        texts.push(word.as_str())?;
+    }
+    Ok(texts)
+}
+
+/// Tells on standard error why a command line asks for nothing, and gives its status.
+fn refused(rt: &impl Eprint, fault: &OrderFault) -> io::Result<ExitCode> {
+    match fault {
+        OrderFault::Words(error) => rt.eprint(error)?,
+        OrderFault::Range => {
+            eprintln!(rt; "mvd: bad number\nmvd: `mvd help COMMAND` tells the range of each")?
         }
-        Err(OrderFault::Range) => {
-            eprintln!(rt; "mvd: bad number\nmvd: `mvd help COMMAND` tells the range of each")?;
-            Ok(ExitCode::from(2))
-        }
-        Err(OrderFault::Stopped(refusal)) => told(&rt, &Stop::from(refusal)),
+        OrderFault::Stopped(refusal) => return told(rt, &Stop::from(*refusal)),
     }
-}
-
-/// Runs an order, from standard input where it reads, and to standard output.
-fn run<'a>(rt: &HostRuntime, order: Order<'a>) -> Result<(), Stop<'a>>
-    requires { IsInRange order }
-{
-    match order {
-        Order::Sim => run_sim(rt),
-        Order::Loop(setup) => run_loop(rt, setup),
-        Order::Serve {
-            db,
-            setup,
-            address,
-            conns,
-        } => run_serve(rt, db, setup, address, conns),
-        Order::Shell { db, setup } => run_shell(rt, db, setup),
-        Order::RemoteShell(address) => run_remote_shell(rt, address),
-        Order::Sync {
-            db,
-            setup,
-            address,
-            verbose,
-        } => run_sync(rt, db, setup, address, verbose),
-    }
-}
-
-fn run_sim<'a>(rt: &HostRuntime) -> Result<(), Stop<'a>> {
-    let mut reader = input(rt)?;
-    match sim(rt.alloc(), &mut reader, &mut io::writer(rt)) {
-        Ok(()) => Ok(()),
-        Err(fault) => Err(Stop::in_input(fault, Hint::Script)),
-    }
-}
-
-fn run_loop<'a>(rt: &HostRuntime, setup: Setup<'a>) -> Result<(), Stop<'a>>
-    requires { IsSetUp setup }
-{
-    let config = config_in(rt, setup)?;
-    let mut reader = input(rt)?;
-    match loop_run(rt, rt.alloc(), &mut reader, &mut io::writer(rt), config) {
-        Ok(()) => Ok(()),
-        // This is of the connection, too, and then not of the input.
-        Err(Fault::Stopped(Refusal::ReadFailed)) => Err(Stop::from(Refusal::ReadFailed)),
-        Err(fault) => Err(Stop::in_input(fault, Hint::Hexadecimal)),
-    }
-}
-
-fn run_serve<'a>(
-    rt: &HostRuntime,
-    db: &'a str,
-    setup: Setup<'a>,
-    address: SocketAddr,
-    conns: Option<u32>,
-) -> Result<(), Stop<'a>>
-    requires { IsSetUp setup }
-{
-    let mut replica = stored(rt, db, setup)?;
-    let mut writer = io::writer(rt);
-    serve_run(rt, rt.alloc(), &mut replica, address, conns, &mut writer)?;
-    closed(replica, db)
-}
-
-fn run_shell<'a>(rt: &HostRuntime, db: &'a str, setup: Setup<'a>) -> Result<(), Stop<'a>>
-    requires { IsSetUp setup }
-{
-    let mut replica = stored(rt, db, setup)?;
-    let mut reader = input(rt)?;
-    match shell_run(rt.alloc(), &mut replica, &mut reader, &mut io::writer(rt)) {
-        Ok(()) => closed(replica, db),
-        Err(fault) => Err(Stop::in_input(fault, Hint::Script)),
-    }
-}
-
-fn run_remote_shell<'a>(rt: &HostRuntime, address: SocketAddr) -> Result<(), Stop<'a>> {
-    let mut reader = input(rt)?;
-    remote_shell_run(rt, rt.alloc(), address, &mut reader, &mut io::writer(rt))
-}
-
-fn run_sync<'a>(
-    rt: &HostRuntime,
-    db: &'a str,
-    setup: Setup<'a>,
-    address: SocketAddr,
-    verbose: bool,
-) -> Result<(), Stop<'a>>
-    requires { IsSetUp setup }
-{
-    let mut replica = stored(rt, db, setup)?;
-    let mut writer = io::writer(rt);
-    let mut errors = rt.stderr();
-    let told = if verbose { Some(&mut errors) } else { None };
-    sync_run(rt, rt.alloc(), &mut replica, address, told, &mut writer)?;
-    closed(replica, db)
-}
-
-/// Standard input.
-fn input(rt: &HostRuntime) -> Result<BufReader<<HostRuntime as Input>::Reader>, Fault> {
-    match BufReader::new(rt.alloc(), rt.reader()) {
-        Ok(reader) => Ok(reader),
-        Err(_) => Err(Fault::Stopped(Refusal::Memory)),
-    }
-}
-
-/// What a site is set up with.
-fn config_in<'a>(rt: &HostRuntime, setup: Setup<'a>) -> Result<Config, Stop<'a>>
-    requires { IsSetUp setup }
-{
-    let defs = defs_in(rt, setup.defs)?;
-    Ok(Config::new(setup.site, setup.max_keys, defs))
-}
-
-/// The indexes and views of a file of definitions, or none.
-fn defs_in<'a>(rt: &HostRuntime, file: Option<&'a str>) -> Result<Defs, Stop<'a>> {
-    let Some(file) = file else {
-        return Ok(Defs::new(rt.alloc()));
-    };
-    match defs_of(rt, file) {
-        Ok(defs) => Ok(defs),
-        Err(fault) => Err(Stop::in_defs(file, fault)),
-    }
-}
-
-fn defs_of(rt: &HostRuntime, file: &str) -> Result<Defs, Fault> {
-    let Ok(mut file) = fs::open(rt, file) else {
-        return Err(Fault::Stopped(Refusal::ReadFailed));
-    };
-    let text = read_input(rt.alloc(), &mut file, DEFS_MAX)?;
-    read_defs(rt.alloc(), &text)
-}
-
-/// The replica that a database file holds. The file is made where it is missing.
-fn stored<'a>(
-    rt: &HostRuntime,
-    db: &'a str,
-    setup: Setup<'a>,
-) -> Result<Replica<FileStore<File>>, Stop<'a>>
-    requires { IsSetUp setup }
-{
-    let config = config_in(rt, setup)?;
-    match Connection::open(rt, db) {
-        Ok(conn) => replica_in(rt.alloc(), conn, config, db),
-        Err(error) => Err(Stop::in_file(db, error)),
-    }
-}
-
-/// Closes a replica's database: what its log holds is copied into the file.
-fn closed<'a>(replica: Replica<FileStore<File>>, db: &'a str) -> Result<(), Stop<'a>> {
-    match replica.into_connection().close() {
-        Ok(()) => Ok(()),
-        Err(error) => Err(Stop::in_file(db, error)),
-    }
+    Ok(ExitCode::from(2))
 }
 
 /// Tells on standard error why a command was stopped, and gives its status.

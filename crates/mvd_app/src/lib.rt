@@ -2,6 +2,7 @@
 #![tactic(auto)]
 
 mod asked;
+mod commands;
 mod ending;
 mod hint;
 mod link;
@@ -17,6 +18,7 @@ mod shell;
 mod talk;
 
 pub use asked::Asked;
+pub use commands::run;
 pub use hint::{Hint, Stop};
 pub use link::{Incoming, Link, Outgoing};
 pub use looping::loop_run;

@@ -1,0 +1,196 @@
+//! What a command line asks for, done: with standard input and output, files and sockets.
+ghost use Rattle.mvd_input.specs.Orders.{IsInRange, IsSetUp};
+
+use crate::hint::{Hint, Stop};
+use crate::looping::loop_run;
+use crate::script::sim;
+use crate::serving::{replica_in, serve_run, sync_run};
+use crate::shell::{remote_shell_run, shell_run};
+use mvd_dots::Refusal;
+use mvd_input::{DEFS_MAX, Fault, Order, Setup, read_defs, read_input};
+use mvd_replica::Replica;
+use mvd_rows::Defs;
+use mvd_site::Config;
+use sqlite::{Alter, Connection, File, FileStore};
+use std::fs;
+use std::io::{self, BufReader};
+use std::net::SocketAddr;
+
+/// Runs an order, from standard input where it reads, and to standard output.
+pub fn run<'a>(rt: &HostRuntime, order: Order<'a>) -> Result<(), Stop<'a>>
+    requires { IsInRange order }
+{
+    match order {
+        Order::Sim => run_sim(rt),
+        Order::Loop(setup) => run_loop(rt, setup),
+        Order::Serve {
+            db,
+            setup,
+            address,
+            conns,
+        } => run_serve(rt, db, setup, address, conns),
+        Order::Shell { db, setup } => run_shell(rt, db, setup),
+        Order::RemoteShell(address) => run_remote_shell(rt, address),
+        Order::Sync {
+            db,
+            setup,
+            address,
+            verbose,
+        } => run_sync(rt, db, setup, address, verbose),
+    }
+}
+
+fn run_sim<'a>(rt: &HostRuntime) -> Result<(), Stop<'a>> {
+    let mut reader = input(rt)?;
+    match sim(rt.alloc(), &mut reader, &mut io::writer(rt)) {
+        Ok(()) => Ok(()),
+        Err(fault) => Err(Stop::in_input(fault, Hint::Script)),
+    }
+}
+
+fn run_loop<'a>(rt: &HostRuntime, setup: Setup<'a>) -> Result<(), Stop<'a>>
+    requires { IsSetUp setup }
+{
+    let config = config_in(rt, setup)?;
+    let mut reader = input(rt)?;
+    match loop_run(rt, rt.alloc(), &mut reader, &mut io::writer(rt), config) {
+        Ok(()) => Ok(()),
+        // This is of the connection, too, and then not of the input.
+        Err(Fault::Stopped(Refusal::ReadFailed)) => Err(Stop::from(Refusal::ReadFailed)),
+        Err(fault) => Err(Stop::in_input(fault, Hint::Hexadecimal)),
+    }
+}
+
+fn run_serve<'a>(
+    rt: &HostRuntime,
+    db: &'a str,
+    setup: Setup<'a>,
+    address: SocketAddr,
+    conns: Option<u32>,
+) -> Result<(), Stop<'a>>
+    requires { IsSetUp setup }
+{
+    let replica = stored(rt, db, setup)?;
+    closed(served(rt, replica, address, conns)?, db)
+}
+
+/// Serves a replica, and gives it back where all its connections came to their ends.
+fn served<'a, S: Alter + Drop>(
+    rt: &HostRuntime,
+    mut replica: Replica<S>,
+    address: SocketAddr,
+    conns: Option<u32>,
+) -> Result<Replica<S>, Stop<'a>> {
+    let mut writer = io::writer(rt);
+    serve_run(rt, rt.alloc(), &mut replica, address, conns, &mut writer)?;
+    Ok(replica)
+}
+
+fn run_shell<'a>(rt: &HostRuntime, db: &'a str, setup: Setup<'a>) -> Result<(), Stop<'a>>
+    requires { IsSetUp setup }
+{
+    let replica = stored(rt, db, setup)?;
+    closed(typed(rt, replica)?, db)
+}
+
+/// Answers the lines of standard input on a replica, and gives it back where all were answered.
+fn typed<'a, S: Alter + Drop>(
+    rt: &HostRuntime,
+    mut replica: Replica<S>,
+) -> Result<Replica<S>, Stop<'a>> {
+    let mut reader = input(rt)?;
+    match shell_run(rt.alloc(), &mut replica, &mut reader, &mut io::writer(rt)) {
+        Ok(()) => Ok(replica),
+        Err(fault) => Err(Stop::in_input(fault, Hint::Script)),
+    }
+}
+
+fn run_remote_shell<'a>(rt: &HostRuntime, address: SocketAddr) -> Result<(), Stop<'a>> {
+    let mut reader = input(rt)?;
+    remote_shell_run(rt, rt.alloc(), address, &mut reader, &mut io::writer(rt))
+}
+
+fn run_sync<'a>(
+    rt: &HostRuntime,
+    db: &'a str,
+    setup: Setup<'a>,
+    address: SocketAddr,
+    verbose: bool,
+) -> Result<(), Stop<'a>>
+    requires { IsSetUp setup }
+{
+    let replica = stored(rt, db, setup)?;
+    closed(synced(rt, replica, address, verbose)?, db)
+}
+
+/// Runs a session of a replica, and gives it back where the session ended well.
+fn synced<'a, S: Alter + Drop>(
+    rt: &HostRuntime,
+    mut replica: Replica<S>,
+    address: SocketAddr,
+    verbose: bool,
+) -> Result<Replica<S>, Stop<'a>> {
+    let mut writer = io::writer(rt);
+    let mut errors = rt.stderr();
+    let told = if verbose { Some(&mut errors) } else { None };
+    sync_run(rt, rt.alloc(), &mut replica, address, told, &mut writer)?;
+    Ok(replica)
+}
+
+/// Standard input.
+fn input(rt: &HostRuntime) -> Result<BufReader<<HostRuntime as Input>::Reader>, Fault> {
+    match BufReader::new(rt.alloc(), rt.reader()) {
+        Ok(reader) => Ok(reader),
+        Err(_) => Err(Fault::Stopped(Refusal::Memory)),
+    }
+}
+
+/// What a site is set up with.
+fn config_in<'a>(rt: &HostRuntime, setup: Setup<'a>) -> Result<Config, Stop<'a>>
+    requires { IsSetUp setup }
+{
+    let defs = defs_in(rt, setup.defs)?;
+    Ok(Config::new(setup.site, setup.max_keys, defs))
+}
+
+/// The indexes and views of a file of definitions, or none.
+fn defs_in<'a>(rt: &HostRuntime, file: Option<&'a str>) -> Result<Defs, Stop<'a>> {
+    let Some(file) = file else {
+        return Ok(Defs::new(rt.alloc()));
+    };
+    match defs_of(rt, file) {
+        Ok(defs) => Ok(defs),
+        Err(fault) => Err(Stop::in_defs(file, fault)),
+    }
+}
+
+fn defs_of(rt: &HostRuntime, file: &str) -> Result<Defs, Fault> {
+    let Ok(mut file) = fs::open(rt, file) else {
+        return Err(Fault::Stopped(Refusal::ReadFailed));
+    };
+    let text = read_input(rt.alloc(), &mut file, DEFS_MAX)?;
+    read_defs(rt.alloc(), &text)
+}
+
+/// The replica that a database file holds. The file is made where it is missing.
+fn stored<'a>(
+    rt: &HostRuntime,
+    db: &'a str,
+    setup: Setup<'a>,
+) -> Result<Replica<FileStore<File>>, Stop<'a>>
+    requires { IsSetUp setup }
+{
+    let config = config_in(rt, setup)?;
+    match Connection::open(rt, db) {
+        Ok(conn) => replica_in(rt.alloc(), conn, config, db),
+        Err(error) => Err(Stop::in_file(db, error)),
+    }
+}
+
+/// Closes a replica's database: what its log holds is copied into the file.
+fn closed<'a>(replica: Replica<FileStore<File>>, db: &'a str) -> Result<(), Stop<'a>> {
+    match replica.into_connection().close() {
+        Ok(()) => Ok(()),
+        Err(error) => Err(Stop::in_file(db, error)),
+    }
+}

@@ -1,5 +1,5 @@
 //! What comes in from outside, as it is written: the command line, the lines of a script, files of definitions, and lines of
-//! hexadecimal digits, each within its limit; and what is told where something is at fault.
+//! hexadecimal digits, each within its limit.
 #![tactic(auto)]
 
 mod command;

@@ -11,10 +11,18 @@ use mvd_input::{DEFS_MAX, Fault, Order, Setup, read_defs, read_input};
 use mvd_replica::Replica;
 use mvd_rows::Defs;
 use mvd_site::Config;
-use sqlite::{Alter, Connection, File, FileStore};
+use sqlite::{Alter, Connection};
 use std::fs;
 use std::io::{self, BufReader};
 use std::net::SocketAddr;
+
+/// What is done with a stored site.
+#[derive(Clone, Copy)]
+enum Work {
+    Serve(SocketAddr, Option<u32>),
+    Shell,
+    Sync(SocketAddr, bool),
+}
 
 /// Runs an order, from standard input where it reads, and to standard output.
 pub fn run<'a>(rt: &HostRuntime, order: Order<'a>) -> Result<(), Stop<'a>>
@@ -28,15 +36,15 @@ pub fn run<'a>(rt: &HostRuntime, order: Order<'a>) -> Result<(), Stop<'a>>
             setup,
             address,
             conns,
-        } => run_serve(rt, db, setup, address, conns),
-        Order::Shell { db, setup } => run_shell(rt, db, setup),
+        } => run_stored(rt, db, setup, Work::Serve(address, conns)),
+        Order::Shell { db, setup } => run_stored(rt, db, setup, Work::Shell),
         Order::RemoteShell(address) => run_remote_shell(rt, address),
         Order::Sync {
             db,
             setup,
             address,
             verbose,
-        } => run_sync(rt, db, setup, address, verbose),
+        } => run_stored(rt, db, setup, Work::Sync(address, verbose)),
     }
 }
 
@@ -61,46 +69,67 @@ fn run_loop<'a>(rt: &HostRuntime, setup: Setup<'a>) -> Result<(), Stop<'a>>
     }
 }
 
-fn run_serve<'a>(
+/// Opens the database of a file, which is made where it is missing, works on its replica, and closes it: what its log holds is
+/// copied into the file.
+fn run_stored<'a>(
     rt: &HostRuntime,
     db: &'a str,
     setup: Setup<'a>,
-    address: SocketAddr,
-    conns: Option<u32>,
+    work: Work,
 ) -> Result<(), Stop<'a>>
     requires { IsSetUp setup }
 {
-    let replica = stored(rt, db, setup)?;
-    closed(served(rt, replica, address, conns)?, db)
+    let config = config_in(rt, setup)?;
+    let conn = match Connection::open(rt, db) {
+        Ok(conn) => conn,
+        Err(error) => return Err(Stop::in_file(db, error)),
+    };
+    let conn = worked(rt, conn, config, db, work)?;
+    match conn.close() {
+        Ok(()) => Ok(()),
+        Err(error) => Err(Stop::in_file(db, error)),
+    }
 }
 
-/// Serves a replica, and gives it back where all its connections came to their ends.
-fn served<'a, S: Alter + Drop>(
+/// Works on the replica of a database, and gives the database back where all ended well.
+fn worked<'a, S: Alter + Drop>(
     rt: &HostRuntime,
-    mut replica: Replica<S>,
-    address: SocketAddr,
-    conns: Option<u32>,
-) -> Result<Replica<S>, Stop<'a>> {
+    conn: Connection<S>,
+    config: Config,
+    db: &'a str,
+    work: Work,
+) -> Result<Connection<S>, Stop<'a>> {
+    let mut replica = replica_in(rt.alloc(), conn, config, db)?;
+    match work_on(rt, &mut replica, work) {
+        Ok(()) => Ok(replica.into_connection()),
+        Err(stop) => Err(stop),
+    }
+}
+
+fn work_on<'a, S: Alter + Drop>(
+    rt: &HostRuntime,
+    replica: &mut Replica<S>,
+    work: Work,
+) -> Result<(), Stop<'a>> {
     let mut writer = io::writer(rt);
-    serve_run(rt, rt.alloc(), &mut replica, address, conns, &mut writer)?;
-    Ok(replica)
+    match work {
+        Work::Serve(address, conns) => {
+            serve_run(rt, rt.alloc(), replica, address, conns, &mut writer)
+        }
+        Work::Shell => typed(rt, replica),
+        Work::Sync(address, verbose) => {
+            let mut errors = rt.stderr();
+            let told = if verbose { Some(&mut errors) } else { None };
+            sync_run(rt, rt.alloc(), replica, address, told, &mut writer)
+        }
+    }
 }
 
-fn run_shell<'a>(rt: &HostRuntime, db: &'a str, setup: Setup<'a>) -> Result<(), Stop<'a>>
-    requires { IsSetUp setup }
-{
-    let replica = stored(rt, db, setup)?;
-    closed(typed(rt, replica)?, db)
-}
-
-/// Answers the lines of standard input on a replica, and gives it back where all were answered.
-fn typed<'a, S: Alter + Drop>(
-    rt: &HostRuntime,
-    mut replica: Replica<S>,
-) -> Result<Replica<S>, Stop<'a>> {
+/// Answers the lines of standard input on a replica.
+fn typed<'a, S: Alter + Drop>(rt: &HostRuntime, replica: &mut Replica<S>) -> Result<(), Stop<'a>> {
     let mut reader = input(rt)?;
-    match shell_run(rt.alloc(), &mut replica, &mut reader, &mut io::writer(rt)) {
-        Ok(()) => Ok(replica),
+    match shell_run(rt.alloc(), replica, &mut reader, &mut io::writer(rt)) {
+        Ok(()) => Ok(()),
         Err(fault) => Err(Stop::in_input(fault, Hint::Script)),
     }
 }
@@ -108,33 +137,6 @@ fn typed<'a, S: Alter + Drop>(
 fn run_remote_shell<'a>(rt: &HostRuntime, address: SocketAddr) -> Result<(), Stop<'a>> {
     let mut reader = input(rt)?;
     remote_shell_run(rt, rt.alloc(), address, &mut reader, &mut io::writer(rt))
-}
-
-fn run_sync<'a>(
-    rt: &HostRuntime,
-    db: &'a str,
-    setup: Setup<'a>,
-    address: SocketAddr,
-    verbose: bool,
-) -> Result<(), Stop<'a>>
-    requires { IsSetUp setup }
-{
-    let replica = stored(rt, db, setup)?;
-    closed(synced(rt, replica, address, verbose)?, db)
-}
-
-/// Runs a session of a replica, and gives it back where the session ended well.
-fn synced<'a, S: Alter + Drop>(
-    rt: &HostRuntime,
-    mut replica: Replica<S>,
-    address: SocketAddr,
-    verbose: bool,
-) -> Result<Replica<S>, Stop<'a>> {
-    let mut writer = io::writer(rt);
-    let mut errors = rt.stderr();
-    let told = if verbose { Some(&mut errors) } else { None };
-    sync_run(rt, rt.alloc(), &mut replica, address, told, &mut writer)?;
-    Ok(replica)
 }
 
 /// Standard input.
@@ -170,27 +172,4 @@ fn defs_of(rt: &HostRuntime, file: &str) -> Result<Defs, Fault> {
     };
     let text = read_input(rt.alloc(), &mut file, DEFS_MAX)?;
     read_defs(rt.alloc(), &text)
-}
-
-/// The replica that a database file holds. The file is made where it is missing.
-fn stored<'a>(
-    rt: &HostRuntime,
-    db: &'a str,
-    setup: Setup<'a>,
-) -> Result<Replica<FileStore<File>>, Stop<'a>>
-    requires { IsSetUp setup }
-{
-    let config = config_in(rt, setup)?;
-    match Connection::open(rt, db) {
-        Ok(conn) => replica_in(rt.alloc(), conn, config, db),
-        Err(error) => Err(Stop::in_file(db, error)),
-    }
-}
-
-/// Closes a replica's database: what its log holds is copied into the file.
-fn closed<'a>(replica: Replica<FileStore<File>>, db: &'a str) -> Result<(), Stop<'a>> {
-    match replica.into_connection().close() {
-        Ok(()) => Ok(()),
-        Err(error) => Err(Stop::in_file(db, error)),
-    }
 }

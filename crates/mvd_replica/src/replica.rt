@@ -192,8 +192,7 @@ impl<S: Alter> Replica<S> {
         }
     }
 
-    /// The digests of a node and, above the buckets, of its children. It looks at no held state and takes no memory; a broken
-    /// replica refuses it.
+    /// The digests of a node and, above the buckets, of its children. It takes no memory; a broken replica refuses it.
     pub fn node(&self, path: &Path) -> Result<Digests, Refusal>
         ensures { result ≡ unless_broken self.now.site.broken (Err Broken) (Ok (node_digests (digests self.now.site.states) path.now)) }
     {
@@ -201,7 +200,7 @@ impl<S: Alter> Replica<S> {
     }
 
     /// A page of at most 1,000 of a bucket's keys with their digests, those after a key if one is given, and whether more
-    /// follow. It looks at no held state. `BadPath` where the path has not three digits; a broken replica refuses it.
+    /// follow. `BadPath` where the path has not three digits; a broken replica refuses it.
     pub fn bucket(
         &self,
         path: &Path,

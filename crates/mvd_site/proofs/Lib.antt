@@ -6,11 +6,13 @@ pub mod HeldMaps
 pub mod KnownKeys
 pub mod Listed
 pub mod Lengths
+pub mod OfTheSet
 pub mod Opened
 pub mod Outcomes
 pub mod Prepare
 pub mod Room
 pub mod Runs
 pub mod Pushes
+pub mod SideBySide
 pub mod Steps
 pub mod Texts

@@ -1,14 +1,14 @@
 -- What a request comes to before anything is changed.
-use Rattle.std.specs.Prelude.{◌≡◌, ◌≢◌, ◌⊎◌, Bool, List, Option, Some, Result, Ok, Err, false, true, IfSome}
+use Rattle.std.specs.Prelude.{◌≡◌, ◌≢◌, ◌⊎◌, ⊤, Bool, List, Option, Some, Result, Ok, Err, false, true, IfSome}
 use Rattle.std.specs.FinMap.{insert}
 use Rattle.mvd_dots.specs.Dot.{DotValue}
 use Rattle.mvd_dots.specs.declared.refusals.Refusal.{Refusal}
 use Rattle.mvd_dots.specs.declared.refusals.Refusal.TheVariants.{Memory}
-use Rattle.mvd_keys.specs.State.{State}
+use Rattle.mvd_keys.specs.State.{State, join_answer}
 use Rattle.mvd_keys.specs.Writes.{Key, Stands, Write, is_empty, state}
 use Rattle.mvd_wire.specs.Replies.{CanBeSent}
 use Rattle.mvd_wire.specs.declared.request.Request.{Request}
-use Rattle.mvd_wire.specs.declared.request.Request.TheVariants.{Get, Put, Delete, Push}
+use Rattle.mvd_wire.specs.declared.request.Request.TheVariants.{Get, Put, Delete, Push, Node, Row, Bye}
 use Rattle.mvd_wire.specs.declared.reply.Reply.{Reply}
 use Rattle.mvd_wire.specs.declared.reply.Reply.TheVariants.{Refused}
 use Rattle.mvd_site.specs.Answer.{answer, change_of}
@@ -89,6 +89,14 @@ is_of_state request = false
 abbrev pub IsReady : SiteValue → Prepared → Type 0
 IsReady site (Answer reply) = IsPlain reply
 IsReady site (Change change) = (has_no_room site.config site.states change.key ≡ false) × IsHeldState change.state
+
+-- the request takes no memory: it asks for the digests of a node or for the row of a group, ends a connection, or pushes what the key's state holds already
+abbrev pub IsFrugal : States → Request → Type 0
+IsFrugal states (Node path) = ⊤
+IsFrugal states (Row view term) = ⊤
+IsFrugal states Bye = ⊤
+IsFrugal states (Push key pushed) = join_answer (state_at states key) pushed ≡ Ok (state_at states key)
+IsFrugal states request = ⊥
 
 -- an answer with nothing to change, or that refusal, or memory was refused
 abbrev pub PreparesReply : Reply → Result Prepared Refusal → Type 0

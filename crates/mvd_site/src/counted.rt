@@ -4,7 +4,7 @@ ghost use Rattle.mvd_dots.specs.declared.refusals.Refusal.TheVariants.{Broken, D
 ghost use Rattle.mvd_site.specs.FromStates.{AnswersFrom, push_reply, unless_broken, with_state};
 ghost use Rattle.mvd_site.specs.Held.{state_at};
 ghost use Rattle.mvd_site.specs.Known.{IsValidRequest};
-ghost use Rattle.mvd_site.specs.Prepared.{IsReady, PreparesAt, PreparesFromStates, is_of_state};
+ghost use Rattle.mvd_site.specs.Prepared.{IsFrugal, IsReady, PreparesAt, PreparesFromStates, is_of_state};
 ghost use Rattle.mvd_keys.specs.State.{IsValid, clashes, join};
 ghost use Rattle.mvd_wire.specs.declared.request.Request.TheVariants.{Push};
 
@@ -64,6 +64,8 @@ pub fn prepare(site: &Site, request: &Request, looks: &mut u64) -> Result<Prepar
     ensures valid { IfOk result (λ _. IsValidRequest request.now) }
     ensures broken { site.now.broken ≡ true → result ≡ Err Broken }
     ensures whole { IfErr result (λ refusal. refusal ≡ Broken → site.now.broken ≡ true) }
+    // A question of a node or of a row, Bye, and a push of what is held already take no memory.
+    ensures frugal { IsFrugal site.now.states request.now → IfErr result (λ refusal. refusal ≢ Memory) }
     // At most one look, and none for a question to the hash tree, an index or a view.
     ensures none { is_of_state request.now ≡ false → looks.new ≡ looks.old }
     ensures from { looks.old ≤ looks.new }

@@ -9,7 +9,7 @@ ghost use Rattle.mvd_wire.specs.declared.request.Request.TheVariants.{Get, Put, 
 ghost use Rattle.mvd_wire.specs.declared.reply.Reply.TheVariants.{State as Shown};
 ghost use Rattle.mvd_site.specs.Held.{IsHeldState, IsKept, state_at};
 ghost use Rattle.mvd_site.specs.Known.{IsValidRequest};
-ghost use Rattle.mvd_site.specs.Prepared.{IsReady, LimitsTo, PreparesFrom, PreparesFromStates, PreparesReply, is_of_state};
+ghost use Rattle.mvd_site.specs.Prepared.{IsFrugal, IsReady, LimitsTo, PreparesFrom, PreparesFromStates, PreparesReply, is_of_state};
 ghost use Rattle.mvd_site.specs.Sites.{SiteValue, has_no_room};
 
 use crate::changes::{Change, Prepared, reply_of};
@@ -58,6 +58,7 @@ impl Kept {
         ensures valid { IfOk result (λ _. IsValidRequest request.now) }
         ensures broken { self.now.broken ≡ true → result ≡ Err Broken }
         ensures whole { IfErr result (λ refusal. refusal ≡ Broken → self.now.broken ≡ true) }
+        ensures frugal { IsFrugal self.now.states request.now → IfErr result (λ refusal. refusal ≢ Memory) }
         ensures none { is_of_state request.now ≡ false → looks.new ≡ looks.old }
         ensures from { looks.old ≤ looks.new }
         ensures to { looks.new ≤ looks.old + 1 }
@@ -158,6 +159,7 @@ impl Kept {
         ensures ready { IfOk result (IsReady self.now) }
         ensures valid { IfOk result (λ _. IsValid pushed.now) }
         ensures whole { IfErr result (λ refusal. refusal ≢ Broken) }
+        ensures frugal { IsFrugal self.now.states (Push key.now pushed.now) → IfErr result (λ refusal. refusal ≢ Memory) }
         ensures from { looks.old ≤ looks.new }
         ensures to { looks.new ≤ looks.old + 1 }
     {

@@ -1,16 +1,20 @@
 //! What holds of a site's states and of its answers, each law as the contract of an empty function.
-ghost use Rattle.std.specs.Prelude.{◌≡◌, ◌≤◌, ℕ, List, ◌++◌, length, true};
+ghost use Rattle.std.specs.Prelude.{◌≡◌, ◌≢◌, ◌≤◌, ℕ, List, ◌++◌, length, true, false};
+ghost use Rattle.std.specs.FinMap.{insert};
 ghost use Rattle.mvd_dots.specs.declared.refusals.Refusal.TheVariants.{DotClash};
-ghost use Rattle.mvd_keys.specs.Writes.{Stands, Write};
+ghost use Rattle.mvd_keys.specs.Writes.{Agree, SameWrites, Stands, Write};
 ghost use Rattle.mvd_tree.specs.Hashed.{HashesTellApart, HaveOneText, SameUnder};
 ghost use Rattle.mvd_tree.specs.HashTree.{node_digest};
 ghost use Rattle.mvd_wire.specs.declared.request.Request.{Request};
 ghost use Rattle.mvd_wire.specs.declared.reply.Reply.TheVariants.{Refused};
-ghost use Rattle.mvd_site.specs.Answer.{answer, digests, is_question, spelled};
+ghost use Rattle.mvd_site.specs.Answer.{answer, digests, is_question, spelled, states_of};
+ghost use Rattle.mvd_site.specs.Change.{ChangeValue};
 ghost use Rattle.mvd_site.specs.Config.{ConfigValue};
 ghost use Rattle.mvd_site.specs.FromStates.{IsClash, after_from, answer_from};
 ghost use Rattle.mvd_site.specs.Held.{AreHeld, States};
 ghost use Rattle.mvd_site.specs.Known.{Adds};
+ghost use Rattle.mvd_site.specs.Prepared.{IsChangeNow};
+ghost use Rattle.mvd_site.specs.Sites.{SiteValue, has_no_room};
 
 /// Where states stand for a set of writes, the answer from the states is that from the writes, and the states afterwards
 /// stand for the writes with what the request added.
@@ -34,6 +38,23 @@ pub fn questions_are_answered_alike()
     ensures known { (a b : ConfigValue) (states : States) (V W : List Write) (request : Request) → a.defs ≡ b.defs → is_question request ≡ true → Stands states V → Stands states W → answer a V request ≡ answer b W request }
     // A question changes nothing.
     ensures still { (config : ConfigValue) (states : States) (request : Request) → is_question request ≡ true → after_from config states request ≡ states }
+{}
+
+/// An answer is a function of the set of writes: where they agree, order and repeats do not matter, to a question or to a change.
+pub fn answers_are_of_the_set()
+    ensures answers { (config : ConfigValue) (V W : List Write) (request : Request)
+        → SameWrites V W → Agree V → answer config V request ≡ answer config W request }
+    // Each list of writes has a map of states that stands for it.
+    ensures states { (W : List Write) → Stands (states_of W) W }
+{}
+
+/// Changes of two keys that were prepared on one site may both be installed, one after the other, where there is still room:
+/// what one installs does not make the other stale.
+pub fn changes_stand_side_by_side()
+    ensures { (site : SiteValue) (first second : ChangeValue)
+        → IsChangeNow site first → IsChangeNow site second → first.key ≢ second.key
+        → has_no_room site.config (insert site.states first.key first.state) second.key ≡ false
+        → IsChangeNow (record { config = site.config; states = insert site.states first.key first.state; broken = false }) second }
 {}
 
 /// A map of states that a site may hold stands for a set of writes.

@@ -2,7 +2,7 @@
 ghost use Rattle.std.specs.Prelude.{◌≡◌, ◌≢◌, false, length, IfErr, IfOk, Ok, Err};
 ghost use Rattle.std.specs.Option.{option_copied};
 ghost use Rattle.mvd_dots.specs.Answer.{IsAnswer};
-ghost use Rattle.mvd_dots.specs.declared.refusals.Refusal.TheVariants.{Broken};
+ghost use Rattle.mvd_dots.specs.declared.refusals.Refusal.TheVariants.{Broken, Memory};
 ghost use Rattle.mvd_rows.specs.Answers.{find_answer, range_answer, row_answer, rows_answer};
 ghost use Rattle.mvd_rows.specs.Visible.{visible_in};
 ghost use Rattle.mvd_tree.specs.Page.{is_more_after_page, page_of};
@@ -20,8 +20,7 @@ use mvd_wire::{Digests, Items, Reply, RowValue};
 use std::alloc::Global;
 
 impl Kept {
-    /// The digests of a node and, above the buckets, of its children. It looks at no held state and takes no memory;
-    /// a broken site refuses it.
+    /// The digests of a node and, above the buckets, of its children. It takes no memory; a broken site refuses it.
     pub fn node(&self, path: &Path) -> Result<Digests, Refusal>
         ensures { result ≡ unless_broken self.now.broken (Err Broken) (Ok (node_digests (digests self.now.states) path.now)) }
     {
@@ -36,7 +35,7 @@ impl Kept {
     }
 
     /// A page of at most 1,000 of a bucket's keys with their digests, those after a key if one is given, and whether more
-    /// follow. It looks at no held state. `BadPath` where the path has not three digits; a broken site refuses it.
+    /// follow. `BadPath` where the path has not three digits; a broken site refuses it.
     pub fn bucket(
         &self,
         path: &Path,
@@ -59,6 +58,7 @@ impl Kept {
         ensures answer { PreparesReply (Told (node_digests (digests self.now.states) path.now)) result }
         ensures ready { IfOk result (IsReady self.now) }
         ensures whole { IfErr result (λ refusal. refusal ≢ Broken) }
+        ensures frugal { IfErr result (λ refusal. refusal ≢ Memory) }
     {
         let digests = self.node(path)?;
         Ok(Prepared::Answer(Reply::Digests(digests)))
@@ -125,6 +125,7 @@ impl Kept {
         ensures answer { PreparesReply (row_reply (row_answer self.now.config.defs (visible_in self.now.states) view.now term.now)) result }
         ensures ready { IfOk result (IsReady self.now) }
         ensures whole { IfErr result (λ refusal. refusal ≢ Broken) }
+        ensures frugal { IfErr result (λ refusal. refusal ≢ Memory) }
     {
         let (count, sum, ends) = self.rows.row(view, term)?;
         Ok(Prepared::Answer(Reply::Row(RowValue { count, sum, ends })))

@@ -15,7 +15,7 @@ ghost use Rattle.mvd_site.specs.Answer.{digests, node_digests};
 ghost use Rattle.mvd_site.specs.FromStates.{AnswersFrom, bucket_refusal, unless_broken};
 ghost use Rattle.mvd_site.specs.Held.{AreHeld, IsHeldState, state_at};
 ghost use Rattle.mvd_site.specs.Known.{Adds, Event, IsValidRequest, Tells};
-ghost use Rattle.mvd_site.specs.Prepared.{IsChangeNow, IsReady, PreparesAt, PreparesFromStates};
+ghost use Rattle.mvd_site.specs.Prepared.{IsChangeNow, IsFrugal, IsReady, PreparesAt, PreparesFromStates};
 ghost use Rattle.mvd_site.specs.Sites.{AnswersAll, AnswersOne, SiteValue, has_no_room, opened};
 
 use crate::changes::{Change, Prepared};
@@ -125,8 +125,7 @@ impl Site {
         kept.broken
     }
 
-    /// The digests of a node and, above the buckets, of its children. It looks at no held state and takes no memory;
-    /// a broken site refuses it.
+    /// The digests of a node and, above the buckets, of its children. It takes no memory; a broken site refuses it.
     pub fn node(&self, path: &Path) -> Result<Digests, Refusal>
         ensures { result ≡ unless_broken self.now.broken (Err Broken) (Ok (node_digests (digests self.now.states) path.now)) }
     {
@@ -134,7 +133,7 @@ impl Site {
     }
 
     /// A page of at most 1,000 of a bucket's keys with their digests, those after a key if one is given, and whether more
-    /// follow. It looks at no held state. `BadPath` where the path has not three digits; a broken site refuses it.
+    /// follow. `BadPath` where the path has not three digits; a broken site refuses it.
     pub fn bucket(
         &self,
         path: &Path,
@@ -157,6 +156,8 @@ impl Site {
         ensures valid { IfOk result (λ _. IsValidRequest request.now) }
         ensures broken { self.now.broken ≡ true → result ≡ Err Broken }
         ensures whole { IfErr result (λ refusal. refusal ≡ Broken → self.now.broken ≡ true) }
+        // A question of a node or of a row, Bye, and a push of what is held already take no memory.
+        ensures frugal { IsFrugal self.now.states request.now → IfErr result (λ refusal. refusal ≢ Memory) }
     {
         let mut looks = 0;
         counted::prepare(self, request, &mut looks)
@@ -197,6 +198,8 @@ impl Site {
         ensures broken { self.new.broken ≡ true → result ≡ Refused Broken }
         ensures stays { self.old.broken ≡ true → self.new ≡ self.old }
         ensures unchanged { (refusal : Refusal) → result ≡ Refused refusal → refusal ≢ Broken → self.new ≡ self.old }
+        // A question of a node or of a row, Bye, and a push of what is held already take no memory.
+        ensures frugal { IsFrugal self.old.states request.now → result ≢ Refused Memory }
         // It is not too long for its frame.
         ensures fits { CanBeSent result }
     {

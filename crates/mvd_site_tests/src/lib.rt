@@ -9,3 +9,5 @@ mod changes;
 mod listing;
 #[cfg(test)]
 mod opening;
+#[cfg(test)]
+mod side_by_side;

@@ -1,16 +1,9 @@
 -- In a sound world no two states clash.
-use Rattle.std.proofs.Common.{◌≡◌, ◌≢◌, ℕ, Bool, true, false, not, ◌||◌, cond, MatchBool, List, [], ◌∷◌, ◌++◌, map, length, Contains, Some, None, refl, sym, ap, ◌∙◌, subst, ⊎_elim, true≢false}
-use Rattle.std.specs.List.{list_any}
-use Rattle.std.specs.Ordering.{eq_by_cmp}
-use Rattle.std.specs.FinMap.{find, get-from_entries}
-use Rattle.std.specs.FinSet.{items, contains-items}
+use Rattle.std.proofs.Common.{◌≡◌, ◌≢◌, ℕ, Bool, true, false, MatchBool, List, [], ◌∷◌, ◌++◌, length, Contains, Some, None, refl, sym, ap, ◌∙◌, subst, ⊎_elim, true≢false}
 use Rattle.std.proofs.lemmas.List.Elements.{Contains-append_cases}
 use Rattle.mvd_dots.specs.declared.refusals.Refusal.TheVariants.{Broken, DotClash, Memory}
-use Rattle.mvd_keys.specs.Key.{key_cmp}
 use Rattle.mvd_keys.specs.State.{State, clashes}
-use Rattle.mvd_keys.specs.Writes.{Key, Agree, Stands, Write, context, is_empty, keys, state}
-use Rattle.mvd_keys.proofs.Held.{contains-keys}
-use Rattle.mvd_keys.proofs.KeyOrder.{key_total, same_where_tied}
+use Rattle.mvd_keys.specs.Writes.{Key, Agree, Write, state}
 use Rattle.mvd_keys.proofs.Sets.{Agree-part, clashes-state}
 use Rattle.mvd_wire.specs.declared.request.Request.{Request}
 use Rattle.mvd_wire.specs.declared.request.Request.TheVariants.{Push}
@@ -23,6 +16,7 @@ use Rattle.mvd_site.specs.Held.{States, state_at}
 use Rattle.mvd_site.specs.Known.{MayReply}
 use Rattle.mvd_site.proofs.Answered.{answered}
 use Rattle.mvd_site.proofs.Clashes.{clash_alone}
+use Rattle.mvd_site.proofs.OfTheSet.{states_of-stands}
 use Rattle.mvd_site.proofs.Steps.{state_at-stands}
 use Rattle.mvd_sync.specs.Session.{IsClash}
 use Rattle.mvd_sync.specs.declared.session.SyncFault.{SyncFault}
@@ -32,29 +26,6 @@ use Rattle.mvd_world.specs.declared.steps.Outcome.{Outcome}
 use Rattle.mvd_world.specs.declared.steps.Outcome.TheVariants.{Replied, Sent as Sent_as, Met, Failed, NoSuch}
 use Rattle.mvd_world.specs.Machine.{Answers, IsNoClash, IsOwn, IsSound, Knowledge, MayStep, Receives, Setting, StatesClash, Takes, config_of, may_be}
 use Rattle.mvd_world.proofs.Sound.{asked_step, found, own_step}
-
--- ---- the states that follow from writes stand for them
-
-find_states : (W : List Write) (ks : List Key) (q : Key) → find key_cmp q (map (λ k. (k, state k W)) ks) ≡ cond (list_any (eq_by_cmp key_cmp q) ks) (Some (state q W)) None
-find_states W [] q = refl
-find_states W (k ∷ ks) q =
-    elim (eq_by_cmp key_cmp q k) as (λ b. eq_by_cmp key_cmp q k ≡ b → cond b (Some (state k W)) (find key_cmp q (map (λ k. (k, state k W)) ks)) ≡ cond (b || list_any (eq_by_cmp key_cmp q) ks) (Some (state q W)) None) [
-      | true ↦ λ tied. ap (λ x. Some (state x W)) (sym (same_where_tied q k tied))
-      | false ↦ λ _. find_states W ks q
-    ] refl
-
-turned : (b : Bool) (s : State) → cond (not b) (Some s) None ≡ cond b None (Some s)
-turned true s = refl
-turned false s = refl
-
-pub states_of-stands : (W : List Write) → Stands (states_of W) W
-unfolding states_of
-states_of-stands W = record {
-  at = λ q.
-      get-from_entries key_total (map (λ k. (k, state k W)) (items (keys W))) q ∙ find_states W (items (keys W)) q
-      ∙ ap (λ b. cond b (Some (state q W)) None) (sym (contains-items (keys W) q) ∙ contains-keys W q)
-      ∙ turned (is_empty (context q W)) (state q W);
-}
 
 -- ---- what was made agrees
 

@@ -77,7 +77,7 @@ under_three n key h =
     let three : n % 16 ≡ b / 16 = (unsigned_Decides (n % 16) (b / 16)).0 (left _ _ (right _ _ (right _ _ h))) in
     omega arith
 
-path_of_bucket : (key : List ℕ) → path_of_three (bucket_of key) ≡ place_of key
+pub path_of_bucket : (key : List ℕ) → path_of_three (bucket_of key) ≡ place_of key
 unfolding place_of bucket_of
 path_of_bucket key =
     let small : slice_index (sha256 key) 1 < 256 = byte_small key 1 (omega arith) in

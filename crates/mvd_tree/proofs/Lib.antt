@@ -7,6 +7,7 @@ pub mod KeptNodes
 pub mod Entries
 pub mod Gathered
 pub mod Changes
+pub mod Counts
 pub mod Opened
 pub mod Answers
 pub mod Midstates

@@ -7,3 +7,4 @@ pub mod Page
 pub mod Layout
 pub mod Midstates
 pub mod Split
+pub mod Counted

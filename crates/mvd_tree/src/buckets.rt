@@ -1,24 +1,24 @@
 //! The buckets of a tree, by number.
-ghost use Rattle.std.specs.Prelude.{◌≡◌, ℕ, ◌<◌, ◌≤◌, ◌+◌, ◌^◌, T, slice_index_or, slice_set, length, IfOk, OnOk, OnErr, List};
+ghost use Rattle.std.specs.Prelude.{◌≡◌, ℕ, ◌<◌, ◌≤◌, T, slice_index_or, slice_set, length, IfOk, OnOk, OnErr, List};
 ghost use Rattle.std.specs.FinMap.{empty, insert, is_sorted, from_entries};
 ghost use Rattle.mvd_keys.specs.Key.{key_cmp};
 ghost use Rattle.mvd_tree.specs.Change.{changed};
+ghost use Rattle.mvd_tree.specs.Counted.{Hashes, all_keys, key_bytes};
 ghost use Rattle.mvd_tree.specs.Layout.{HoldApart, bucket_of};
 
 use crate::bucket::Bucket;
-use crate::digest::text_digest;
+use crate::digest::{Hashed, text_digest};
 use mvd_dots::Refusal;
 use mvd_keys::Key;
 use std::alloc::{AllocError, Global};
 
 /// The number of a key's bucket.
-pub(crate) fn bucket_number(key: &Key, count: &mut u64) -> usize
-    requires { count.old + 1 < 2 ^ 64 }
+pub(crate) fn bucket_number(key: &Key, hashed: &mut Hashed) -> usize
     ensures number { result ≡ bucket_of key.now }
     ensures limit { result < 4096 }
-    ensures counted { count.new ≡ count.old + 1 }
+    ensures counts { Hashes 1 (length key.now) hashed.old hashed.new }
 {
-    let digest = text_digest(key.text().as_bytes(), count);
+    let digest = text_digest(key.text().as_bytes(), hashed);
     digest[0] as usize * 16 + digest[1] as usize / 16
 }
 
@@ -63,17 +63,16 @@ fn empty_buckets(alloc: Global, count: usize) -> Result<Vec<Bucket>, AllocError>
 pub(crate) fn filled(
     alloc: Global,
     entries: Vec<(Key, [u8; 32])>,
-    count: &mut u64,
+    hashed: &mut Hashed,
 ) -> Result<Vec<Bucket>, Refusal>
-    requires rising { T (is_sorted key_cmp entries.items) }
-    requires room { count.old + length entries.items < 2 ^ 64 }
+    requires { T (is_sorted key_cmp entries.items) }
     ensures holds { IfOk result (λ buckets. HoldApart buckets.items (from_entries entries.items)) }
-    ensures counted { count.new ≤ count.old + length entries.items }
-    ensures at_least { count.old ≤ count.new }
+    ensures few { IfOk result (λ buckets. all_keys buckets.items ≤ length entries.items) }
+    ensures counts { Hashes (length entries.items) (key_bytes entries.items) hashed.old hashed.new }
 {
     let mut buckets = empty_buckets(alloc, 4096)?;
     for (key, digest) in entries {
-        let number = bucket_number(&key, count);
+        let number = bucket_number(&key, hashed);
         put_in(&mut buckets, number, key, digest)?;
     }
     Ok(buckets)

@@ -1,10 +1,11 @@
 //! What is kept of the nodes of one depth, and of the SHA-256 computations of the nodes over them.
-ghost use Rattle.std.specs.Prelude.{◌≡◌, ◌<◌, ◌≤◌, ◌+◌, ◌-◌, ◌*◌, ◌/◌, ◌%◌, ◌^◌, slice_index_or, slice_range, slice_set, length, IfOk};
+ghost use Rattle.std.specs.Prelude.{◌≡◌, ◌<◌, ◌≤◌, ◌+◌, ◌-◌, ◌*◌, ◌/◌, ◌%◌, slice_index_or, slice_range, slice_set, length, IfOk};
+ghost use Rattle.mvd_tree.specs.Counted.{Hashes};
 ghost use Rattle.mvd_tree.specs.Kept.{kept_inner};
 ghost use Rattle.mvd_tree.specs.Layout.{AreOver};
 ghost use Rattle.mvd_tree.specs.Midstates.{AreMidstatesBut, HasMidstates, IsMidstate};
 
-use crate::digest::{CountedHasher, none_held};
+use crate::digest::{CountedHasher, Hashed, none_held};
 use mvd_dots::Refusal;
 use std::alloc::Global;
 use std::marker::Model;
@@ -36,42 +37,59 @@ impl Model for Level {
 
 /// The midstate before a group of four nodes, from the one before the group below it, which must be there where that
 /// group is of the same node above.
-fn midstate(nodes: &[Option<[u8; 32]>], midstates: &[CountedHasher], group: usize) -> CountedHasher
+fn midstate(
+    nodes: &[Option<[u8; 32]>],
+    midstates: &[CountedHasher],
+    group: usize,
+    hashed: &mut Hashed,
+) -> CountedHasher
     requires within { group * 4 ≤ length nodes.now }
     requires there { group ≤ length midstates.now }
     requires below { (d : CountedHasher) → 0 < group → IsMidstate nodes.now (group - 1) (slice_index_or midstates.now (group - 1) d) }
-    ensures { IsMidstate nodes.now group result }
+    ensures midstate { IsMidstate nodes.now group result }
+    ensures counts { Hashes 0 128 hashed.old hashed.new }
 {
     if group % 4 == 0 {
         CountedHasher::new()
     } else {
-        midstates[group - 1].with(&nodes[group * 4 - 4..group * 4])
+        midstates[group - 1].with(&nodes[group * 4 - 4..group * 4], hashed)
     }
 }
 
 /// Makes the midstates after a group of four anew, up to the last one of the same node above.
-fn renew(nodes: &[Option<[u8; 32]>], midstates: &mut Vec<CountedHasher>, group: usize)
+fn renew(
+    nodes: &[Option<[u8; 32]>],
+    midstates: &mut Vec<CountedHasher>,
+    group: usize,
+    hashed: &mut Hashed,
+)
     requires within { group < length midstates.old.items }
     requires all { length nodes.now ≡ length midstates.old.items * 4 }
     requires whole { length midstates.old.items % 4 ≡ 0 }
     requires others { AreMidstatesBut nodes.now midstates.old.items (group + 1) (group / 4 * 4 + 4) }
-    ensures { HasMidstates nodes.now midstates.new.items }
+    ensures midstates { HasMidstates nodes.now midstates.new.items }
+    ensures counts { Hashes 0 384 hashed.old hashed.new }
 {
     for next in group + 1..group / 4 * 4 + 4 {
-        midstates[next] = midstate(nodes, midstates, next);
+        midstates[next] = midstate(nodes, midstates, next, hashed);
     }
 }
 
 impl Level {
     /// These nodes, and the midstates before each four of them.
-    pub(crate) fn new(alloc: Global, nodes: Vec<Option<[u8; 32]>>) -> Result<Self, Refusal>
+    pub(crate) fn new(
+        alloc: Global,
+        nodes: Vec<Option<[u8; 32]>>,
+        hashed: &mut Hashed,
+    ) -> Result<Self, Refusal>
         requires { length nodes.items % 16 ≡ 0 }
-        ensures { IfOk result (λ level. level ≡ nodes.items) }
+        ensures nodes { IfOk result (λ level. level ≡ nodes.items) }
+        ensures counts { Hashes 0 (32 * length nodes.items) hashed.old hashed.new }
     {
         let groups = nodes.len() / 4;
         let mut midstates: Vec<CountedHasher> = Vec::with_capacity(alloc, groups)?;
         for group in 0..groups {
-            midstates.push(midstate(&nodes, &midstates, group))?;
+            midstates.push(midstate(&nodes, &midstates, group, hashed))?;
         }
         Ok(Level { nodes, midstates })
     }
@@ -84,20 +102,18 @@ impl Level {
     }
 
     /// What is kept of the node over sixteen of these, from its number.
-    pub(crate) fn over(&self, number: usize, count: &mut u64) -> Option<[u8; 32]>
-        requires children { number * 16 + 16 ≤ length self.now }
-        requires room { count.old + 1 < 2 ^ 64 }
+    pub(crate) fn over(&self, number: usize, hashed: &mut Hashed) -> Option<[u8; 32]>
+        requires { number * 16 + 16 ≤ length self.now }
         ensures digest { result ≡ kept_inner (slice_range self.now (number * 16) (number * 16 + 16)) }
-        ensures counted { count.new ≤ count.old + 1 }
-        ensures at_least { count.old ≤ count.new }
+        ensures counts { Hashes 1 128 hashed.old hashed.new }
     {
         let nodes = self.nodes();
         let first = number * 16;
         if none_held(&nodes[first..first + 16]) {
             return None;
         }
-        let hasher = self.midstates[number * 4 + 3].with(&nodes[first + 12..first + 16]);
-        Some(hasher.finish(count))
+        let hasher = self.midstates[number * 4 + 3].with(&nodes[first + 12..first + 16], hashed);
+        Some(hasher.finish(hashed))
     }
 
     /// What is kept of so many nodes, each of which has sixteen of these as its children.
@@ -105,17 +121,15 @@ impl Level {
         &self,
         alloc: Global,
         number: usize,
-        count: &mut u64,
+        hashed: &mut Hashed,
     ) -> Result<Vec<Option<[u8; 32]>>, Refusal>
-        requires children { number * 16 ≤ length self.now }
-        requires room { count.old + number < 2 ^ 64 }
+        requires { number * 16 ≤ length self.now }
         ensures nodes { IfOk result (λ above. AreOver self.now number above.items) }
-        ensures counted { count.new ≤ count.old + number }
-        ensures at_least { count.old ≤ count.new }
+        ensures counts { Hashes number (128 * number) hashed.old hashed.new }
     {
         let mut above = Vec::with_capacity(alloc, number)?;
         for n in 0..number {
-            above.push(self.over(n, count))?;
+            above.push(self.over(n, hashed))?;
         }
         Ok(above)
     }
@@ -125,17 +139,15 @@ impl Level {
         &mut self,
         number: usize,
         kept: Option<[u8; 32]>,
-        count: &mut u64,
+        hashed: &mut Hashed,
     ) -> Option<[u8; 32]>
-        requires within { number < length self.old }
-        requires room { count.old + 1 < 2 ^ 64 }
+        requires { number < length self.old }
         ensures nodes { self.new ≡ slice_set self.old number kept }
         ensures over { result ≡ kept_inner (slice_range self.new (number / 16 * 16) (number / 16 * 16 + 16)) }
-        ensures counted { count.new ≤ count.old + 1 }
-        ensures at_least { count.old ≤ count.new }
+        ensures counts { Hashes 1 512 hashed.old hashed.new }
     {
         self.nodes[number] = kept;
-        renew(&self.nodes, &mut self.midstates, number / 4);
-        self.over(number / 16, count)
+        renew(&self.nodes, &mut self.midstates, number / 4, hashed);
+        self.over(number / 16, hashed)
     }
 }

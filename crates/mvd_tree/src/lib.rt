@@ -3,40 +3,43 @@
 
 mod bucket;
 mod buckets;
-pub mod counted;
 mod digest;
 pub mod laws;
 mod level;
 mod nodes;
 mod tree;
 
-ghost use Rattle.std.specs.Prelude.{◌≡◌, Ok};
+ghost use Rattle.std.specs.Prelude.{◌≡◌, Ok, length};
 ghost use Rattle.sha2.specs.Sha256.{sha256};
 ghost use Rattle.std.specs.FinMap.{is_sorted};
 ghost use Rattle.std.specs.Ordering.{is_lt};
 ghost use Rattle.mvd_dots.specs.Answer.{IsAnswer};
 ghost use Rattle.mvd_keys.specs.Key.{key_cmp};
+ghost use Rattle.mvd_tree.specs.Counted.{Hashes};
 ghost use Rattle.mvd_tree.specs.HashTree.{place_of};
 
+pub use digest::Hashed;
+use digest::text_digest;
 use mvd_dots::Refusal;
 use mvd_keys::{Key, Path};
 use std::alloc::Global;
 pub use tree::Tree;
 
-/// Where a key stands in the tree: the first three hexadecimal digits of its bytes' SHA-256.
-pub fn place(alloc: Global, key: &Key) -> Result<Path, Refusal>
-    ensures { IsAnswer result (Ok (place_of key.now)) }
+/// Where a key stands in the tree: the first three hexadecimal digits of its bytes' SHA-256, which is one computation.
+pub fn place(alloc: Global, key: &Key, hashed: &mut Hashed) -> Result<Path, Refusal>
+    ensures place { IsAnswer result (Ok (place_of key.now)) }
+    ensures counts { Hashes 1 (length key.now) hashed.old hashed.new }
 {
-    let mut count = 0;
-    counted::place(alloc, key, &mut count)
+    let digest = text_digest(key.text().as_bytes(), hashed);
+    Path::new(alloc, &[digest[0] / 16, digest[0] % 16, digest[1] / 16])
 }
 
-/// The digest of a key, from the bytes of the key and of its state as they are spelled.
-pub fn key_digest(spelled: &[u8]) -> [u8; 32]
-    ensures { result ≡ sha256 spelled.now }
+/// The digest of a key, from the bytes of the key and of its state as they are spelled, by one computation.
+pub fn key_digest(spelled: &[u8], hashed: &mut Hashed) -> [u8; 32]
+    ensures digest { result ≡ sha256 spelled.now }
+    ensures counts { Hashes 1 (length spelled.now) hashed.old hashed.new }
 {
-    let mut count = 0;
-    counted::key_digest(spelled, &mut count)
+    text_digest(spelled, hashed)
 }
 
 /// Whether the keys of these entries rise, as `Tree::open` asks.

@@ -1,10 +1,11 @@
 //! What is kept of nodes, by number.
-ghost use Rattle.std.specs.Prelude.{◌≡◌, ◌<◌, ◌≤◌, ◌+◌, ◌^◌, length, map, IfOk};
+ghost use Rattle.std.specs.Prelude.{◌≡◌, ◌*◌, length, map, IfOk};
 ghost use Rattle.std.specs.FinMap.{entries};
+ghost use Rattle.mvd_tree.specs.Counted.{Hashes, all_keys};
 ghost use Rattle.mvd_tree.specs.Kept.{kept_bucket, digest_or_zeros};
 
 use crate::bucket::Bucket;
-use crate::digest::{bucket_digest, or_zeros};
+use crate::digest::{Hashed, bucket_digest, or_zeros};
 use mvd_dots::Refusal;
 use std::alloc::Global;
 
@@ -12,16 +13,14 @@ use std::alloc::Global;
 pub(crate) fn bucket_nodes(
     alloc: Global,
     buckets: &[Bucket],
-    count: &mut u64,
+    hashed: &mut Hashed,
 ) -> Result<Vec<Option<[u8; 32]>>, Refusal>
-    requires { count.old + length buckets.now < 2 ^ 64 }
     ensures nodes { IfOk result (λ nodes. nodes.items ≡ map (λ bucket. kept_bucket (entries bucket)) buckets.now) }
-    ensures counted { count.new ≤ count.old + length buckets.now }
-    ensures at_least { count.old ≤ count.new }
+    ensures counts { Hashes (length buckets.now) (32 * all_keys buckets.now) hashed.old hashed.new }
 {
     let mut nodes = Vec::with_capacity(alloc, buckets.len())?;
     for bucket in buckets {
-        nodes.push(bucket_digest(bucket.entries(), count))?;
+        nodes.push(bucket_digest(bucket.entries(), hashed))?;
     }
     Ok(nodes)
 }

@@ -1,17 +1,17 @@
 //! The tree that is kept: the digests of the held keys, and those of the nodes over them.
-ghost use Rattle.std.specs.Prelude.{◌≡◌, ◌≢◌, ◌<◌, ◌≤◌, ◌+◌, ◌-◌, ◌^◌, T, length, IfOk, IfErr, OnOk, OnErr, option_copied, Some, None, Err};
+ghost use Rattle.std.specs.Prelude.{◌≡◌, ◌≢◌, ◌<◌, ◌≤◌, ◌+◌, ◌-◌, ◌*◌, T, length, IfOk, IfErr, OnOk, OnErr, option_copied, Some, None, Err};
 ghost use Rattle.std.specs.FinMap.{empty, entries, is_sorted, from_entries};
 ghost use Rattle.mvd_keys.specs.Key.{key_cmp};
 ghost use Rattle.mvd_tree.specs.HashTree.{node_digest};
 ghost use Rattle.mvd_tree.specs.Kept.{kept_node};
 ghost use Rattle.mvd_tree.specs.Change.{changed};
+ghost use Rattle.mvd_tree.specs.Counted.{Hashes, key_bytes, keys_beside};
 ghost use Rattle.mvd_tree.specs.Page.{children_digests, rest_of, page_of, is_more_after_page};
 ghost use Rattle.mvd_tree.specs.Layout.{IsPath};
 
 use crate::bucket::{Bucket, copies};
 use crate::buckets::{bucket_number, change_bucket, filled};
-use crate::counted;
-use crate::digest::bucket_digest;
+use crate::digest::{Hashed, bucket_digest, or_zeros};
 use crate::level::Level;
 use crate::nodes::{all_or_zeros, bucket_nodes};
 use mvd_dots::Refusal;
@@ -62,40 +62,47 @@ fn digits_of(path: &Path) -> &[u8]
 
 impl Tree {
     /// A tree with no key.
-    pub fn new(alloc: Global) -> Result<Self, Refusal>
+    pub fn new(alloc: Global, hashed: &mut Hashed) -> Result<Self, Refusal>
         ensures ok { IfOk result (λ tree. tree ≡ empty) }
         ensures err { IfErr result (λ refusal. refusal ≡ Refusal.Memory) }
+        ensures counts { Hashes 4369 174720 hashed.old hashed.new }
     {
-        Self::open(alloc, Vec::new(alloc))
+        Self::open(alloc, Vec::new(alloc), hashed)
     }
 
     /// The tree of these keys with their digests. It computes each node once. The keys must rise,
     /// which `rises` tests.
-    pub fn open(alloc: Global, entries: Vec<(Key, [u8; 32])>) -> Result<Self, Refusal>
+    pub fn open(
+        alloc: Global,
+        entries: Vec<(Key, [u8; 32])>,
+        hashed: &mut Hashed,
+    ) -> Result<Self, Refusal>
         requires { T (is_sorted key_cmp entries.items) }
         ensures ok { IfOk result (λ tree. tree ≡ from_entries entries.items) }
         ensures err { IfErr result (λ refusal. refusal ≡ Refusal.Memory) }
+        // One computation for each key and at most one for each node.
+        ensures counts { Hashes (length entries.items + 4369) (key_bytes entries.items + 32 * length entries.items + 174720) hashed.old hashed.new }
     {
-        let mut count = 0;
-        counted::open(alloc, entries, &mut count)
+        match Self::opened(alloc, entries, hashed) {
+            Ok(tree) => Ok(tree),
+            Err(_) => Err(Refusal::Memory),
+        }
     }
 
-    pub(crate) fn opened(
+    fn opened(
         alloc: Global,
         entries: Vec<(Key, [u8; 32])>,
-        count: &mut u64,
+        hashed: &mut Hashed,
     ) -> Result<Self, Refusal>
-        requires rising { T (is_sorted key_cmp entries.items) }
-        requires room { count.old + length entries.items ≤ 2 ^ 63 }
+        requires { T (is_sorted key_cmp entries.items) }
         ensures ok { IfOk result (λ tree. tree ≡ from_entries entries.items) }
-        ensures counted { count.new ≤ count.old + length entries.items + 4369 }
-        ensures at_least { count.old ≤ count.new }
+        ensures counts { Hashes (length entries.items + 4369) (key_bytes entries.items + 32 * length entries.items + 174720) hashed.old hashed.new }
     {
-        let buckets = filled(alloc, entries, count)?;
-        let lowest = Level::new(alloc, bucket_nodes(alloc, &buckets, count)?)?;
-        let middle = Level::new(alloc, lowest.all_over(alloc, 256, count)?)?;
-        let upper = Level::new(alloc, middle.all_over(alloc, 16, count)?)?;
-        let root = upper.over(0, count);
+        let buckets = filled(alloc, entries, hashed)?;
+        let lowest = Level::new(alloc, bucket_nodes(alloc, &buckets, hashed)?, hashed)?;
+        let middle = Level::new(alloc, lowest.all_over(alloc, 256, hashed)?, hashed)?;
+        let upper = Level::new(alloc, middle.all_over(alloc, 16, hashed)?, hashed)?;
+        let root = upper.over(0, hashed);
         Ok(Tree {
             alloc,
             buckets,
@@ -106,47 +113,35 @@ impl Tree {
         })
     }
 
-    /// Gives a key a digest, or lets it be held no more, with at most five SHA-256 computations:
-    /// those of its place, its bucket and the three nodes above.
-    pub(crate) fn change_counted(
+    /// Gives a key a digest, or lets it be held no more. Where memory is refused, which is `Broken`, the tree is as before.
+    pub fn change(
         &mut self,
         key: &Key,
         digest: Option<[u8; 32]>,
-        count: &mut u64,
+        hashed: &mut Hashed,
     ) -> Result<(), Refusal>
-        requires { count.old ≤ 2 ^ 63 }
         ensures ok { OnOk result (self.new ≡ changed self.old key.now digest) }
         ensures err { IfErr result (λ refusal. refusal ≡ Refusal.Broken) }
         ensures unchanged { OnErr result (self.new ≡ self.old) }
-        ensures counted { count.new ≤ count.old + 5 }
-        ensures at_least { count.old ≤ count.new }
+        // The computations of its place, its bucket and the three nodes above. They read the key, the digests of the keys
+        // with its place, and at most sixteen digests of each node.
+        ensures counts { Hashes 5 (length key.now + 32 * keys_beside self.new key.now + 3 * 512) hashed.old hashed.new }
     {
-        let lowest = bucket_number(key, count);
+        let lowest = bucket_number(key, hashed);
         let middle = lowest / 16;
         let upper = middle / 16;
         if change_bucket(&mut self.buckets, self.alloc, lowest, key, digest).is_err() {
             return Err(Refusal::Broken);
         }
-        let kept = bucket_digest(self.buckets[lowest].entries(), count);
-        let over = self.lowest.set(lowest, kept, count);
-        let over = self.middle.set(middle, over, count);
-        self.root = self.upper.set(upper, over, count);
+        let kept = bucket_digest(self.buckets[lowest].entries(), hashed);
+        let over = self.lowest.set(lowest, kept, hashed);
+        let over = self.middle.set(middle, over, hashed);
+        self.root = self.upper.set(upper, over, hashed);
         Ok(())
     }
 
-    /// Gives a key a digest, or lets it be held no more. Where memory is refused, which is
-    /// `Broken`, the tree is as before.
-    pub fn change(&mut self, key: &Key, digest: Option<[u8; 32]>) -> Result<(), Refusal>
-        ensures ok { OnOk result (self.new ≡ changed self.old key.now digest) }
-        ensures err { IfErr result (λ refusal. refusal ≡ Refusal.Broken) }
-        ensures unchanged { OnErr result (self.new ≡ self.old) }
-    {
-        let mut count = 0;
-        counted::change(self, key, digest, &mut count)
-    }
-
     /// What is kept of a node.
-    pub(crate) fn kept(&self, path: &Path) -> Option<[u8; 32]>
+    fn kept(&self, path: &Path) -> Option<[u8; 32]>
         ensures { result ≡ kept_node (3 - length path.now) self.now path.now }
     {
         match digits_of(path) {
@@ -159,26 +154,15 @@ impl Tree {
         }
     }
 
-    /// The digest of a node. It takes no memory and makes no SHA-256 computation.
+    /// The digest of a node. It takes no memory, and hashes nothing: it is handed no count.
     pub fn node(&self, path: &Path) -> [u8; 32]
         ensures { result ≡ node_digest self.now path.now }
     {
-        let mut count = 0;
-        counted::node(self, path, &mut count)
+        or_zeros(self.kept(path))
     }
 
-    /// The digests of a node's sixteen children, or `None` for a bucket. It takes no memory and makes
-    /// no SHA-256 computation.
+    /// The digests of a node's sixteen children, or `None` for a bucket. It takes no memory, and hashes nothing.
     pub fn children(&self, path: &Path) -> Option<[[u8; 32]; 16]>
-        ensures inner { length path.now < 3 → result ≡ Some (children_digests self.now path.now) }
-        ensures bucket { 3 ≤ length path.now → result ≡ None }
-    {
-        let mut count = 0;
-        counted::children(self, path, &mut count)
-    }
-
-    /// What is kept of a node's sixteen children.
-    pub(crate) fn kept_children(&self, path: &Path) -> Option<[[u8; 32]; 16]>
         ensures inner { length path.now < 3 → result ≡ Some (children_digests self.now path.now) }
         ensures bucket { 3 ≤ length path.now → result ≡ None }
     {
@@ -207,25 +191,8 @@ impl Tree {
     }
 
     /// The first thousand keys of a bucket after a key, or of all its keys, with their digests, and
-    /// whether more are left. A path without just three digits is `BadPath`. It makes no SHA-256
-    /// computation.
+    /// whether more are left. A path without just three digits is `BadPath`. It hashes nothing.
     pub fn bucket(
-        &self,
-        path: &Path,
-        after: Option<&Key>,
-    ) -> Result<(Vec<(Key, [u8; 32])>, bool), Refusal>
-        ensures path { IfOk result (λ _. length path.now ≡ 3) }
-        ensures page { IfOk result (λ page. page.0.items ≡ page_of self.now path.now (option_copied after.entry)) }
-        ensures more { IfOk result (λ page. page.1 ≡ is_more_after_page self.now path.now (option_copied after.entry)) }
-        ensures bad_path { length path.now ≢ 3 → result ≡ Err Refusal.BadPath }
-        ensures err { length path.now ≡ 3 → IfErr result (λ refusal. refusal ≡ Refusal.Memory) }
-    {
-        let mut count = 0;
-        counted::bucket(self, path, after, &mut count)
-    }
-
-    /// The first thousand entries of a bucket after a key, and whether more are left.
-    pub(crate) fn kept_page(
         &self,
         path: &Path,
         after: Option<&Key>,

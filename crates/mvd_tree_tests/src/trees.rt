@@ -1,7 +1,9 @@
 //! Trees against digests that another program made.
+use mvd_count::Count;
 use mvd_dots::Refusal;
 use mvd_keys::{Key, Path};
-use mvd_tree::{Tree, counted, key_digest, place, rises};
+use mvd_start::Start;
+use mvd_tree::{Hashed, Tree, key_digest, place, rises};
 use std::alloc::Global;
 use std::test::Fail;
 
@@ -39,10 +41,19 @@ fn digest(number: u64) -> [u8; 32] {
     digest
 }
 
+/// Nothing was hashed yet.
+fn nothing() -> Hashed {
+    let start = Start::new();
+    Hashed {
+        computations: Count::new(&start),
+        bytes: Count::new(&start),
+    }
+}
+
 /// Whether the key has this place.
 fn stands_at(alloc: Global, name: &str, digits: &[u8]) -> Result<bool, Refusal> {
     let key = Key::read(alloc, name)?;
-    let place = place(alloc, &key)?;
+    let place = place(alloc, &key, &mut nothing())?;
     Ok(place.digits() == digits)
 }
 
@@ -61,17 +72,17 @@ fn node_is(alloc: Global, tree: &Tree, path: &[u8], digest: &[u8; 32]) -> Result
     Ok(found == *digest)
 }
 
-/// Gives a key a digest, or lets it be held no more: whether that took so many computations.
+/// Gives a key a digest, or lets it be held no more: whether that took five computations, which read so many bytes.
 /// Nothing is claimed of the tree, so that a test's proof carries none.
 fn changes_by(
     tree: &mut Tree,
     key: &Key,
     digest: Option<[u8; 32]>,
-    most: u64,
+    bytes: u64,
 ) -> Result<bool, Refusal> {
-    let mut count = 0;
-    counted::change(tree, key, digest, &mut count)?;
-    Ok(count == most)
+    let mut hashed = nothing();
+    tree.change(key, digest, &mut hashed)?;
+    Ok(hashed.computations.made() == 5 && hashed.bytes.made() == bytes)
 }
 
 /// Whether the tree is that of no key.
@@ -87,13 +98,18 @@ fn is_of_abc(alloc: Global, tree: &Tree) -> Result<bool, Refusal> {
     Ok(bucket && other && node_is(alloc, tree, &[], &ROOT)?)
 }
 
+fn digest_of_abc() -> [u8; 32] {
+    key_digest(&SPELLED, &mut nothing())
+}
+
 /// Whether `abc` comes to the tree of no key, and goes.
 fn takes_abc(alloc: Global, tree: &mut Tree) -> Result<bool, Refusal> {
     let abc = Key::read(alloc, "abc")?;
     let bare = is_bare(alloc, tree)?;
-    let came = changes_by(tree, &abc, Some(key_digest(&SPELLED)), 5)?;
+    // The key, its digest, and of the three nodes above four digests of each group from that of the place `ba7` on.
+    let came = changes_by(tree, &abc, Some(digest_of_abc()), 3 + 32 + 384 + 256 + 256)?;
     let held = is_of_abc(alloc, tree)?;
-    changes_by(tree, &abc, None, 5)?;
+    tree.change(&abc, None, &mut nothing())?;
     Ok(bare && came && held && is_bare(alloc, tree)?)
 }
 
@@ -101,7 +117,7 @@ fn takes_abc(alloc: Global, tree: &mut Tree) -> Result<bool, Refusal> {
 fn change(alloc: Global, tree: &mut Tree, number: u64, is_held: bool) -> Result<(), Refusal> {
     let key = key(alloc, number)?;
     let digest = if is_held { Some(digest(number)) } else { None };
-    tree.change(&key, digest)
+    tree.change(&key, digest, &mut nothing())
 }
 
 fn change_many(alloc: Global, tree: &mut Tree, is_held: bool) -> Result<(), Refusal> {
@@ -185,7 +201,7 @@ fn holds_of(alloc: Global, tree: &mut Tree, trial: Trial) -> Result<bool, Refusa
 }
 
 fn holds(alloc: Global, trial: Trial) -> Result<bool, Refusal> {
-    match Tree::new(alloc) {
+    match Tree::new(alloc, &mut nothing()) {
         Ok(mut tree) => holds_of(alloc, &mut tree, trial),
         Err(refusal) => Err(refusal),
     }
@@ -230,9 +246,9 @@ fn opens(alloc: Global, entries: Vec<(Key, [u8; 32])>, most: u64) -> Result<bool
     if !rises(&entries) {
         return Ok(false);
     }
-    let mut count = 0;
-    match counted::open(alloc, entries, &mut count) {
-        Ok(tree) => Ok(count <= most && node_is(alloc, &tree, &[], &MANY)?),
+    let mut hashed = nothing();
+    match Tree::open(alloc, entries, &mut hashed) {
+        Ok(tree) => Ok(hashed.computations.made() <= most && node_is(alloc, &tree, &[], &MANY)?),
         Err(refusal) => Err(refusal),
     }
 }

@@ -1,6 +1,7 @@
-use Rattle.std.proofs.Common.{◌≡◌, ◌≤◌, ◌+◌, ◌++◌, length}
+use Rattle.std.proofs.Common.{◌≡◌, ◌≤◌, ◌++◌, length}
 use Rattle.std.specs.FinMap.{from_entries}
 use Rattle.std.specs.Vec.Iter.{into_iter_items}
+use Rattle.mvd_tree.specs.Counted.{Hashes, all_keys, key_bytes}
 use Rattle.mvd_tree.specs.Layout.{HoldApart}
 use Rattle.mvd_tree.proofs.buckets.filled.Given as goal
 
@@ -10,5 +11,5 @@ invariant-loop-key l =
     × (goal.iterator-loop-key).is_finite l.key-iterator
     × (l.yielded ++ into_iter_items l.key-iterator ≡ l.fn.entries.items)
     × HoldApart l.buckets.items (from_entries l.yielded)
-    × (l.count ≤ l.fn.count + length l.yielded)
-    × (l.fn.count ≤ l.count)
+    × (all_keys l.buckets.items ≤ length l.yielded)
+    × Hashes (length l.yielded) (key_bytes l.yielded) l.fn.hashed l.hashed

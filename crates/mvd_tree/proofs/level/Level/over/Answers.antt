@@ -14,8 +14,8 @@ returns-clause-digest c =
     let is : IsMidstate nodes (number * 4 + 3) c.index.result.now =
     subst (λ nodes. IsMidstate nodes (number * 4 + 3) c.index.result.now) (c.self.view_is ∙ sym c.nodes-nodes.ensures)
     (subst (IsMidstate c.self.inside.nodes.items (number * 4 + 3)) (sym c.index.ensures)
-    (c.self.invariant.each (number * 4 + 3) c.index.result.now (omega (arith, c.self.invariant.all, ap length c.self.view_is, c.requires.children)))) in
+    (c.self.invariant.each (number * 4 + 3) c.index.result.now (omega (arith, c.self.invariant.all, ap length c.self.view_is, c.requires)))) in
     let held : list_all is_none (slice_range nodes (number * 16) (number * 16 + 16)) ≡ false = sym c.none_held.ensures ∙ c.if-none_held.false in
-    ap Some (c.finish.ensures.digest _ (last_read nodes number c.index.result.now c.with-hasher.result is c.with-hasher.ensures))
+    ap Some (c.finish.ensures.digest _ (last_read nodes number c.index.result.now c.with-hasher.result is c.with-hasher.ensures.reads))
     ∙ ap (λ b. cond b None (Some (sha256 (flat_map digest_or_zeros (slice_range nodes (number * 16) (number * 16 + 16)))))) (sym held)
     ∙ ap (λ nodes. kept_inner (slice_range nodes (number * 16) (number * 16 + 16))) c.nodes-nodes.ensures

@@ -9,7 +9,7 @@ pub invariant_of-result : goal.invariant_of-result
 invariant_of-result c =
     opened_tree c.in_ok-buckets.buckets.items c.in_ok-lowest.lowest c.in_ok-middle.middle c.in_ok-upper.upper c.over-root.result _
     c.in_ok-buckets.ensures.holds
-    (c.in_ok-lowest.ensures ∙ c.in_ok-bucket_nodes.ensures.nodes ∙ ap (map (λ b. kept_bucket (entries b))) c.deref.ensures.value)
-    (subst (AreOver c.in_ok-lowest.lowest 256) (sym c.in_ok-middle.ensures) c.in_ok-all_over.ensures.nodes)
-    (subst (AreOver c.in_ok-middle.middle 16) (sym c.in_ok-upper.ensures) c.in_ok-all_over-2.ensures.nodes)
+    (c.in_ok-lowest.ensures.nodes ∙ c.in_ok-bucket_nodes.ensures.nodes ∙ ap (map (λ b. kept_bucket (entries b))) c.deref.ensures.value)
+    (subst (AreOver c.in_ok-lowest.lowest 256) (sym c.in_ok-middle.ensures.nodes) c.in_ok-all_over.ensures.nodes)
+    (subst (AreOver c.in_ok-middle.middle 16) (sym c.in_ok-upper.ensures.nodes) c.in_ok-all_over-2.ensures.nodes)
     c.over-root.ensures.digest

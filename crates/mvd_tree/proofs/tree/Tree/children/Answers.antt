@@ -4,7 +4,7 @@ use Rattle.mvd_tree.specs.Kept.{digest_or_zeros}
 use Rattle.mvd_tree.specs.Page.{children_digests}
 use Rattle.mvd_tree.specs.Layout.{IsPath, gathered}
 use Rattle.mvd_tree.proofs.Answers.{children_none, children_one, children_two}
-use Rattle.mvd_tree.proofs.tree.Tree.kept_children.Goals as goal
+use Rattle.mvd_tree.proofs.tree.Tree.children.Goals as goal
 
 pub returns-in-empty-clause-inner : goal.returns-in-empty-clause-inner
 returns-in-empty-clause-inner c = λ _. ap Some (

@@ -1,6 +1,6 @@
 //! One count.
 ghost use Rattle.std.specs.Prelude.{◌≡◌};
-ghost use Rattle.mvd_count.specs.Counted.{counted};
+ghost use Rattle.mvd_count.specs.Counted.{RoseBy, counted};
 
 use mvd_start::Start;
 use std::marker::Model;
@@ -39,7 +39,8 @@ impl Count {
 
     /// So much more was done.
     pub fn add(&mut self, more: u64)
-        ensures { self.new ≡ counted self.old more }
+        ensures counted { self.new ≡ counted self.old more }
+        ensures rose { RoseBy more self.old self.new }
     {
         self.made = self.made.saturating_add(more);
     }

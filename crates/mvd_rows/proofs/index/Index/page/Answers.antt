@@ -1,5 +1,4 @@
-use Rattle.std.proofs.Common.{◌+◌, subst, sym}
-use Rattle.mvd_rows.specs.Counted.{Within}
+use Rattle.mvd_rows.proofs.Counting.{within_given}
 use Rattle.mvd_rows.proofs.InOrder.{page_as_long, page_is}
 use Rattle.mvd_rows.proofs.index.Index.page.Goals as goal
 
@@ -8,5 +7,5 @@ returns-clause-page c = λ visible is. page_is c.args.self.now visible c.args.st
 
 pub returns-clause-given : goal.returns-clause-given
 returns-clause-given c = λ visible is.
-    subst (λ n. Within 0 (n + 2) _ _) (sym (page_as_long c.args.self.now visible c.args.start.now c.args.to.now _ _ _ is c.marks.ensures.ordered c.in_ok-marks.ensures.page c.in_ok-places.ensures.places))
+    within_given _ _ _ _ (page_as_long c.args.self.now visible c.args.start.now c.args.to.now _ _ _ is c.marks.ensures.ordered c.in_ok-marks.ensures.page c.in_ok-places.ensures.places)
     c.in_ok-marks.ensures.given

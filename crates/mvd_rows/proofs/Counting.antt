@@ -1,5 +1,5 @@
 -- Counts of work that is done in steps.
-use Rattle.std.proofs.Common.{◌≡◌, ℕ, ◌+◌, ◌*◌, ◌≤◌, ap, subst, arith}
+use Rattle.std.proofs.Common.{◌≡◌, ℕ, ◌+◌, ◌*◌, ◌≤◌, ap, subst, sym, arith}
 use Rattle.mvd_rows.specs.Counted.{Within}
 use Rattle.mvd_rows.specs.declared.meters.Meter.{Meter}
 
@@ -27,6 +27,10 @@ within_less a b m n x y updates looks is = record {
   where
     more : (x y a m : ℕ) → a ≤ m → y ≤ x + a → y ≤ x + m
     more x y a m h e = omega arith
+
+-- what is given is as long as what was looked at
+pub within_given : (looked given : ℕ) (x y : Meter) → given ≡ looked → Within 0 (looked + 2) x y → Within 0 (given + 2) x y
+within_given looked given x y e is = subst (λ n. Within 0 (n + 2) x y) (sym e) is
 
 pub within_next : (i u l : ℕ) (x y z : Meter) → Within (u * i) (l * i) x y → Within u l y z → Within (u * (i + 1)) (l * (i + 1)) x z
 within_next i u l x y z first second = within_then (u * i) (l * i) u l _ _ x y z (next u i) (next l i) first second

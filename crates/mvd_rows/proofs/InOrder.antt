@@ -229,6 +229,22 @@ take_places zero ms h = refl
 take_places (suc n) [] h = refl
 take_places (suc n) (m ∷ ms) h = take_by m.term m.spot n (filter_map place_of_mark (take n ms)) (filter_map place_of_mark ms) h.0 (take_places n ms h.1)
 
+all_taken : (n : ℕ) (ms : List Mark) → AllByRecursion (λ m. is_some m.spot ≡ true) ms → AllByRecursion (λ m. is_some m.spot ≡ true) (take n ms)
+all_taken zero ms h = tt
+all_taken (suc n) [] h = tt
+all_taken (suc n) (m ∷ ms) h = (h.0, all_taken n ms h.1)
+
+-- the places of a page of marks are as many as the marks
+pub page_as_long : (index : Index) (visible : Visible) (start : Mark) (to : Term) (marks : List Mark) (places : List Place) (more : Bool) → IsIndexOf index visible → tree.IsOrdered mark_cmp index.places.map →
+    IsPageOf (up_to to (entries_between mark_cmp (Excluded start) Unbounded index.places.map.entries)) marks more → places ≡ filter_map place_of_mark marks →
+    length places ≡ length marks
+page_as_long index visible start to marks places more is ordered page made =
+    let es = index.places.map.entries in
+    let ms = map (λ e. e.0) (filter (within start to) es) in
+    let have : AllByRecursion (λ m. is_some m.spot ≡ true) ms = all_filtered (within start to) es (all_spotted es (λ m found. place_spotted index.field visible m (sym (ap is_some (is.at m)) ∙ found))) in
+    let first : marks ≡ take 1000 ms = page.first ∙ ap (take 1000) (up_to_within start to es ordered) in
+    ap length (made ∙ ap (filter_map place_of_mark) first) ∙ as_many (take 1000 ms) (all_taken 1000 ms have) ∙ sym (ap length first)
+
 -- the places of a page of marks are a page of the places
 pub page_is : (index : Index) (visible : Visible) (start : Mark) (to : Term) (marks : List Mark) (places : List Place) (more : Bool) → IsIndexOf index visible → tree.IsOrdered mark_cmp index.places.map →
     IsPageOf (up_to to (entries_between mark_cmp (Excluded start) Unbounded index.places.map.entries)) marks more → places ≡ filter_map place_of_mark marks →

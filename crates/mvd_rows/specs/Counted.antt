@@ -1,18 +1,16 @@
--- The counts of updates and looks. A count that is full stays full.
-use Rattle.std.specs.Prelude.{◌≡◌, ℕ, ◌+◌, ◌^◌, ◌-◌, ◌≤◌, min}
+-- The counts of updates and looks.
+use Rattle.std.specs.Prelude.{◌≡◌, ℕ, ◌+◌, ◌≤◌}
+use Rattle.mvd_count.specs.Counted.{counted}
 use Rattle.mvd_rows.specs.declared.meters.Meter.{Meter}
 
-abbrev pub counted : ℕ → ℕ
-counted n = min (n + 1) (2 ^ 64 - 1)
-
 pub record CountsUpdate (old new : Meter) : Type 0 where
-  pub updates : new.updates ≡ counted old.updates
+  pub updates : new.updates ≡ counted old.updates 1
   pub looks : new.looks ≡ old.looks
   pub rises : old.updates ≤ new.updates
 
 pub record CountsLook (old new : Meter) : Type 0 where
   pub updates : new.updates ≡ old.updates
-  pub looks : new.looks ≡ counted old.looks
+  pub looks : new.looks ≡ counted old.looks 1
   pub rises : old.looks ≤ new.looks
 
 -- at most so many updates and looks more, and no fewer than before

@@ -1,5 +1,5 @@
-//! What `Rows` do, with the work that it took: how many entries of the kept rows were put in, taken
-//! out or altered, and how many looks were made at them. Each count handed in is at most `2^63`.
+//! What `Rows` do. Each call adds the work that it took to the counts handed in: how many entries of the kept rows were
+//! put in, taken out or altered, and how many looks were made at them. Each count handed in is at most `2^63`.
 ghost use Rattle.std.specs.Prelude.{◌≡◌, ◌≢◌, ◌≤◌, ◌^◌, ◌+◌, ◌*◌, Ok, Err, OnOk, IfOk, IfErr, length};
 ghost use Rattle.std.specs.FinMap.{FinMap, insert, len};
 ghost use Rattle.mvd_dots.specs.declared.refusals.Refusal.TheVariants.{Broken, Memory};
@@ -21,8 +21,11 @@ use mvd_docs::{Field, Term, ViewName};
 use mvd_dots::{Dot, Refusal};
 use mvd_keys::{Key, KeyState, Place};
 
-/// `Rows::change`. For each sibling that stands in one of the two states alone it makes at most one update for each index
-/// and two for each view, and at most four looks for each view; one that stands in both costs none.
+/// From standing for a map in which the key has the old state, empty where it is not held, to standing for that map
+/// with the new state there. The map has at most `2^20` keys, and each state at most `2^17` siblings. The one refusal
+/// is `Broken`, for want of memory: after it the rows stand for nothing. For each sibling that stands in one of the two
+/// states alone it makes at most one update for each index and two for each view, and at most four looks for each view;
+/// one that stands in both is not touched and costs none.
 pub fn change(
     rows: &mut Rows,
     key: &Key,
@@ -45,7 +48,8 @@ pub fn change(
     }
 }
 
-/// `Rows::find`, by no update and at most 1,100 looks.
+/// The first thousand places of a term, in their order, strictly after a key and a dot, and whether more are left: by
+/// no update and at most as many looks as the page has places, and two more. `NoIndex` where the field has no index.
 pub fn find(
     rows: &Rows,
     field: &Field,
@@ -58,7 +62,9 @@ pub fn find(
         find_answer defs (visible_in states) field.now term.now after ≡ Ok (page.0.items, page.1)) }
     ensures refused { IfErr result (λ refusal. refusal ≢ Memory → (defs : Definitions) (states : FinMap key_cmp State) → IsRowsOf rows.now defs states →
         find_answer defs (visible_in states) field.now term.now after ≡ Err refusal) }
-    ensures counts { Within 0 1100 meter.old meter.new }
+    ensures counts { Within 0 1002 meter.old meter.new }
+    ensures given { IfOk result (λ page. (defs : Definitions) (states : FinMap key_cmp State) → IsRowsOf rows.now defs states →
+        Within 0 (length page.0.items + 2) meter.old meter.new) }
 {
     let Some(index) = rows.index_of(field) else {
         return Err(Refusal::NoIndex);
@@ -70,7 +76,9 @@ pub fn find(
     index.page(rows.alloc, &start, term, meter)
 }
 
-/// `Rows::range`, by no update and at most 1,100 looks.
+/// The first thousand places of the terms from one to another, both included, in their order, strictly after a place,
+/// and whether more are left: by no update and at most as many looks as the page has places, and two more. None where
+/// `from` is greater than `to`. `NoIndex` where the field has no index.
 pub fn range(
     rows: &Rows,
     field: &Field,
@@ -84,7 +92,9 @@ pub fn range(
         range_answer defs (visible_in states) field.now from.now to.now after ≡ Ok (page.0.items, page.1)) }
     ensures refused { IfErr result (λ refusal. refusal ≢ Memory → (defs : Definitions) (states : FinMap key_cmp State) → IsRowsOf rows.now defs states →
         range_answer defs (visible_in states) field.now from.now to.now after ≡ Err refusal) }
-    ensures counts { Within 0 1100 meter.old meter.new }
+    ensures counts { Within 0 1002 meter.old meter.new }
+    ensures given { IfOk result (λ page. (defs : Definitions) (states : FinMap key_cmp State) → IsRowsOf rows.now defs states →
+        Within 0 (length page.0.items + 2) meter.old meter.new) }
 {
     let Some(index) = rows.index_of(field) else {
         return Err(Refusal::NoIndex);
@@ -93,7 +103,9 @@ pub fn range(
     index.page(rows.alloc, &start, to, meter)
 }
 
-/// `Rows::row`, by no update and at most 64 looks.
+/// A group's count of siblings, the sum of their whole numbers, and the least and the greatest of these, if any, by no
+/// update and at most one look: 0, 0 and none for a group in which nothing stands. `NoView` where no view has the name.
+/// It takes no memory.
 pub fn row(
     rows: &Rows,
     name: &ViewName,
@@ -102,7 +114,7 @@ pub fn row(
 ) -> Result<(u64, i128, Option<(i64, i64)>), Refusal>
     requires counts { (meter.old.updates ≤ 2 ^ 63) × (meter.old.looks ≤ 2 ^ 63) }
     ensures row { (defs : Definitions) (states : FinMap key_cmp State) → IsRowsOf rows.now defs states → result ≡ row_answer defs (visible_in states) name.now term.now }
-    ensures counts { Within 0 64 meter.old meter.new }
+    ensures counts { Within 0 1 meter.old meter.new }
 {
     let Some(view) = rows.view_of(name) else {
         return Err(Refusal::NoView);
@@ -111,7 +123,8 @@ pub fn row(
     Ok((row.count, row.sum, row.ends))
 }
 
-/// `Rows::rows`, by no update and at most 1,100 looks.
+/// The first thousand rows of a view, by rising term, strictly after a term, and whether more are left: by no update
+/// and at most as many looks as the page has rows, and two more. `NoView` where no view has the name.
 pub fn rows(
     rows: &Rows,
     name: &ViewName,
@@ -123,7 +136,8 @@ pub fn rows(
         rows_answer defs (visible_in states) name.now after ≡ Ok (page.0.items, page.1)) }
     ensures refused { IfErr result (λ refusal. refusal ≢ Memory → (defs : Definitions) (states : FinMap key_cmp State) → IsRowsOf rows.now defs states →
         rows_answer defs (visible_in states) name.now after ≡ Err refusal) }
-    ensures counts { Within 0 1100 meter.old meter.new }
+    ensures counts { Within 0 1002 meter.old meter.new }
+    ensures given { IfOk result (λ page. Within 0 (length page.0.items + 2) meter.old meter.new) }
 {
     let Some(view) = rows.view_of(name) else {
         return Err(Refusal::NoView);

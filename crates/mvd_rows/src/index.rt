@@ -1,5 +1,5 @@
 //! The places of one field.
-ghost use Rattle.std.specs.Prelude.{◌≡◌, Bool, List, ◌&&◌, not, filter, filter_map, None, Some, OnOk, IfErr, IfOk};
+ghost use Rattle.std.specs.Prelude.{◌≡◌, ◌+◌, Bool, List, ◌&&◌, length, not, filter, filter_map, None, Some, OnOk, IfErr, IfOk};
 ghost use Rattle.std.specs.BTreeMap.Range.{entries_between};
 ghost use Rattle.std.specs.declared.ops.Bound.TheVariants.{Excluded, Unbounded};
 ghost use Rattle.mvd_rows.specs.Marks.{mark_cmp};
@@ -105,7 +105,8 @@ impl Index {
         Ok(())
     }
 
-    /// The first thousand marks that stand after `start`, up to a term, and whether more are left.
+    /// The first thousand marks that stand after `start`, up to a term, and whether more are left: by one look for
+    /// each, and at most two more.
     fn marks(
         &self,
         alloc: Global,
@@ -117,6 +118,7 @@ impl Index {
         ensures page { IfOk result (λ page. IsPageOf (up_to to.now (entries_between mark_cmp (Excluded start.now) Unbounded self.now.places.map.entries)) page.0.items page.1) }
         ensures memory { IfErr result (λ refusal. refusal ≡ Memory) }
         ensures counts { Within 0 1002 meter.old meter.new }
+        ensures given { IfOk result (λ page. Within 0 (length page.0.items + 2) meter.old meter.new) }
     {
         let mut marks = Vec::new(alloc);
         let mut walk = self.places.after(start, meter);
@@ -136,7 +138,8 @@ impl Index {
         Ok((marks, more))
     }
 
-    /// The first thousand places that stand after `start`, up to a term, and whether more are left.
+    /// The first thousand places that stand after `start`, up to a term, and whether more are left: by one look for
+    /// each, and at most two more.
     pub(crate) fn page(
         &self,
         alloc: Global,
@@ -148,6 +151,7 @@ impl Index {
             ◌≡◌ {A = List PlaceValue × Bool} (page.0.items, page.1) (page_of (filter (λ p. is_past start.now p && not (is_gt (term_cmp p.term to.now))) (places_in self.now.field visible)))) }
         ensures memory { IfErr result (λ refusal. refusal ≡ Memory) }
         ensures counts { Within 0 1002 meter.old meter.new }
+        ensures given { IfOk result (λ page. (visible : Visible) → IsIndexOf self.now visible → Within 0 (length page.0.items + 2) meter.old meter.new) }
     {
         let (marks, more) = self.marks(alloc, start, to, meter)?;
         let places = places_of(alloc, marks)?;

@@ -1,6 +1,6 @@
 //! The rows of one view.
 ghost use Rattle.std.specs.BTreeMap as tree;
-ghost use Rattle.std.specs.Prelude.{◌≡◌, ℕ, ℤ, Bool, List, Option, filter, map as list_map, unwrap_or, None, Some, OnOk, IfErr, IfOk};
+ghost use Rattle.std.specs.Prelude.{◌≡◌, ◌+◌, ℕ, ℤ, Bool, List, Option, filter, length, map as list_map, unwrap_or, None, Some, OnOk, IfErr, IfOk};
 ghost use Rattle.std.specs.FinMap as map;
 ghost use Rattle.std.specs.BTreeMap.Range.{entries_between};
 ghost use Rattle.std.specs.declared.ops.Bound.TheVariants.{Unbounded};
@@ -194,7 +194,7 @@ impl View {
         }
     }
 
-    /// The first thousand rows after a term, and whether more are left.
+    /// The first thousand rows after a term, and whether more are left: by one look for each, and at most two more.
     fn some_rows(
         &self,
         alloc: Global,
@@ -205,6 +205,7 @@ impl View {
         ensures page { IfOk result (λ page. IsPageOf (list_map shown_entry (entries_between term_cmp (start_of after.now) Unbounded self.now.rows.map.entries)) page.0.items page.1) }
         ensures memory { IfErr result (λ refusal. refusal ≡ Memory) }
         ensures counts { Within 0 1002 meter.old meter.new }
+        ensures given { IfOk result (λ page. Within 0 (length page.0.items + 2) meter.old meter.new) }
     {
         let mut rows = Vec::new(alloc);
         let mut walk = self.walk_after(after, meter);
@@ -218,7 +219,7 @@ impl View {
         Ok((rows, more))
     }
 
-    /// The first thousand rows after a term, and whether more are left.
+    /// The first thousand rows after a term, and whether more are left: by one look for each, and at most two more.
     pub(crate) fn page(
         &self,
         alloc: Global,
@@ -229,6 +230,7 @@ impl View {
             ◌≡◌ {A = List (TermValue × ℕ × ℤ × Option (ℤ × ℤ)) × Bool} (page.0.items, page.1) (page_of (filter (λ r. is_after_term after.now r.0) (view_in (definition_of self.now) visible)))) }
         ensures memory { IfErr result (λ refusal. refusal ≡ Memory) }
         ensures counts { Within 0 1002 meter.old meter.new }
+        ensures given { IfOk result (λ page. Within 0 (length page.0.items + 2) meter.old meter.new) }
     {
         self.some_rows(alloc, after, meter)
     }

@@ -18,3 +18,6 @@ returns-clause-found c = IfOk-weaker c.page.result _ _ (λ page told defs states
 
 pub returns-clause-refused : goal.returns-clause-refused
 returns-clause-refused c = IfErr-weaker c.page.result _ _ (λ refusal memory other. absurd (other memory)) c.page.ensures.memory
+
+pub returns-clause-given : goal.returns-clause-given
+returns-clause-given c = IfOk-weaker c.page.result _ _ (λ page told defs states stands. told (visible_in states) (c.in-Some.ensures.places (visible_in states) stands.rows)) c.page.ensures.given

@@ -1,5 +1,5 @@
 //! What `Rows` do. Each call adds the work that it took to the counts handed in: how many entries of the kept rows were
-//! put in, taken out or altered, and how many looks were made at them. Each count handed in is at most `2^63`.
+//! put in, taken out or altered, and how many looks were made at them.
 ghost use Rattle.std.specs.Prelude.{◌≡◌, ◌≢◌, ◌≤◌, ◌^◌, ◌+◌, ◌*◌, Ok, Err, OnOk, IfOk, IfErr, length};
 ghost use Rattle.std.specs.FinMap.{FinMap, insert, len};
 ghost use Rattle.mvd_dots.specs.declared.refusals.Refusal.TheVariants.{Broken, Memory};
@@ -34,7 +34,6 @@ pub fn change(
     meter: &mut Meter,
 ) -> Result<(), Refusal>
     requires room { (defs : Definitions) × (states : FinMap key_cmp State) × (IsRowsOf rows.old defs states × (state_in states key.now ≡ old.now) × IsRoomy states × (len new.now.siblings ≤ 2 ^ 17)) }
-    requires counts { (meter.old.updates ≤ 2 ^ 63) × (meter.old.looks ≤ 2 ^ 63) }
     ensures stands { OnOk result ((defs : Definitions) (states : FinMap key_cmp State) → IsRowsOf rows.old defs states → state_in states key.now ≡ old.now →
         IsRowsOf rows.new defs (insert states key.now new.now)) }
     ensures broken { IfErr result (λ refusal. refusal ≡ Broken) }
@@ -57,7 +56,6 @@ pub fn find(
     after: Option<(Key, Dot)>,
     meter: &mut Meter,
 ) -> Result<(Vec<Place>, bool), Refusal>
-    requires counts { (meter.old.updates ≤ 2 ^ 63) × (meter.old.looks ≤ 2 ^ 63) }
     ensures found { IfOk result (λ page. (defs : Definitions) (states : FinMap key_cmp State) → IsRowsOf rows.now defs states →
         find_answer defs (visible_in states) field.now term.now after ≡ Ok (page.0.items, page.1)) }
     ensures refused { IfErr result (λ refusal. refusal ≢ Memory → (defs : Definitions) (states : FinMap key_cmp State) → IsRowsOf rows.now defs states →
@@ -87,7 +85,6 @@ pub fn range(
     after: Option<Place>,
     meter: &mut Meter,
 ) -> Result<(Vec<Place>, bool), Refusal>
-    requires counts { (meter.old.updates ≤ 2 ^ 63) × (meter.old.looks ≤ 2 ^ 63) }
     ensures found { IfOk result (λ page. (defs : Definitions) (states : FinMap key_cmp State) → IsRowsOf rows.now defs states →
         range_answer defs (visible_in states) field.now from.now to.now after ≡ Ok (page.0.items, page.1)) }
     ensures refused { IfErr result (λ refusal. refusal ≢ Memory → (defs : Definitions) (states : FinMap key_cmp State) → IsRowsOf rows.now defs states →
@@ -112,7 +109,6 @@ pub fn row(
     term: &Term,
     meter: &mut Meter,
 ) -> Result<(u64, i128, Option<(i64, i64)>), Refusal>
-    requires counts { (meter.old.updates ≤ 2 ^ 63) × (meter.old.looks ≤ 2 ^ 63) }
     ensures row { (defs : Definitions) (states : FinMap key_cmp State) → IsRowsOf rows.now defs states → result ≡ row_answer defs (visible_in states) name.now term.now }
     ensures counts { Within 0 1 meter.old meter.new }
 {
@@ -131,7 +127,6 @@ pub fn rows(
     after: Option<Term>,
     meter: &mut Meter,
 ) -> Result<(Vec<ShownRow>, bool), Refusal>
-    requires counts { (meter.old.updates ≤ 2 ^ 63) × (meter.old.looks ≤ 2 ^ 63) }
     ensures found { IfOk result (λ page. (defs : Definitions) (states : FinMap key_cmp State) → IsRowsOf rows.now defs states →
         rows_answer defs (visible_in states) name.now after ≡ Ok (page.0.items, page.1)) }
     ensures refused { IfErr result (λ refusal. refusal ≢ Memory → (defs : Definitions) (states : FinMap key_cmp State) → IsRowsOf rows.now defs states →

@@ -14,5 +14,6 @@ pub mod Room
 pub mod Runs
 pub mod Pushes
 pub mod SideBySide
+pub mod Spent
 pub mod Steps
 pub mod Texts

@@ -1,6 +1,7 @@
 pub mod Answer
 pub mod Change
 pub mod Config
+pub mod Costs
 pub mod FromStates
 pub mod Held
 pub mod Known

@@ -6,7 +6,7 @@ ghost use Rattle.mvd_site.specs.Held.{IsSpelled};
 
 use mvd_dots::{Dot, Refusal};
 use mvd_keys::{Key, KeyState};
-use mvd_tree::key_digest;
+use mvd_tree::{Hashed, key_digest};
 use mvd_wire::{Reply, encode_key, encode_state};
 use std::alloc::Global;
 use std::marker::Model;
@@ -36,6 +36,7 @@ impl Model for Change {
 impl Change {
     ghost use Rattle.std.specs.Prelude.{◌≡◌, ◌≤◌, Ok, length};
     ghost use Rattle.mvd_dots.specs.Answer.{IsAnswer};
+    ghost use Rattle.mvd_tree.specs.Counted.{Hashes};
     ghost use Rattle.mvd_tree.specs.States.{key_digest};
     ghost use Rattle.mvd_wire.specs.Kinds.{spell_state, state_limit};
     ghost use Rattle.mvd_site.specs.Answer.{spelled};
@@ -84,10 +85,11 @@ impl Change {
     }
 
     /// The digest of the key in that state.
-    pub(crate) fn digest(&self) -> [u8; 32]
-        ensures { result ≡ key_digest spelled self.now.key self.now.state }
+    pub(crate) fn digest(&self, hashed: &mut Hashed) -> [u8; 32]
+        ensures digest { result ≡ key_digest spelled self.now.key self.now.state }
+        ensures counts { Hashes 1 (length (spelled self.now.key self.now.state)) hashed.old hashed.new }
     {
-        key_digest(&self.spelled)
+        key_digest(&self.spelled, hashed)
     }
 
     /// The reply once the change is made: `Written` for a put, `Done` for a delete or a push.

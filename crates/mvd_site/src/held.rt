@@ -1,23 +1,25 @@
 //! The key states that a site holds, and the only way to them.
-ghost use Rattle.std.specs.Prelude.{◌≡◌, ◌<◌, ◌+◌, ◌-◌, ◌^◌, IfErr, IfSome, OnErr, OnOk};
+ghost use Rattle.std.specs.Prelude.{◌≡◌, ◌*◌, IfErr, IfSome, OnErr, OnOk};
 ghost use Rattle.std.specs.Option.{option_copied};
 ghost use Rattle.std.specs.FinMap as map;
+ghost use Rattle.mvd_count.specs.Counted.{RoseBy, counted};
 ghost use Rattle.mvd_dots.specs.declared.refusals.Refusal.TheVariants.{Broken};
-ghost use Rattle.mvd_rows.specs.Changes.{IsRoomy};
+ghost use Rattle.mvd_rows.specs.Changes.{IsRoomy, differing, looks_each, updates_each};
+ghost use Rattle.mvd_rows.specs.Counted.{Within};
 ghost use Rattle.mvd_rows.specs.Defs.{Definitions};
-ghost use Rattle.mvd_rows.specs.Stands.{IsRowsOf};
-ghost use Rattle.mvd_site.specs.Held.{AreHeld, IsHeldState, IsKept, IsSpelled, States};
+ghost use Rattle.mvd_rows.specs.Stands.{IsRowsOf, definitions_of};
+ghost use Rattle.mvd_site.specs.Held.{AreHeld, IsHeldState, IsKept, IsSpelled, States, state_at};
 
-use crate::counted::Looks;
+use crate::work::Work;
+use mvd_count::Count;
 use mvd_dots::Refusal;
 use mvd_keys::{Key, KeyState};
-use mvd_rows::Rows;
+use mvd_rows::{Rows, counted};
 use std::alloc::{AllocError, Global};
 use std::collections::BTreeMap;
 use std::marker::Model;
 
-/// The states of the keys that are held. Each look-up of a key is a look, and adds one to a count that is handed in; only
-/// a change, by which a question cannot come here, finds the state before it uncounted.
+/// The states of the keys that are held. Each look-up of a key is a look, and adds one to a count that is handed in.
 #[derive(Drop)]
 pub struct Held {
     states: BTreeMap<Key, KeyState>,
@@ -48,20 +50,13 @@ impl Held {
     }
 
     /// The state of a key, if it is held. This is one look.
-    pub fn get(&self, key: &Key, looks: &mut Looks) -> Option<&KeyState>
-        requires { looks.old < 2 ^ 64 - 1 }
+    pub fn get(&self, key: &Key, looks: &mut Count) -> Option<&KeyState>
         ensures found { option_copied result ≡ map.get self.now key.now }
-        ensures looked { looks.new ≡ looks.old + 1 }
+        ensures exact { looks.new ≡ counted looks.old 1 }
+        ensures looked { RoseBy 1 looks.old looks.new }
         ensures kept { IfSome result (λ state. IsKept state.now) }
     {
-        looks.add();
-        self.found(key)
-    }
-
-    fn found(&self, key: &Key) -> Option<&KeyState>
-        ensures found { option_copied result ≡ map.get self.now key.now }
-        ensures kept { IfSome result (λ state. IsKept state.now) }
-    {
+        looks.add(1);
         self.states.get(key)
     }
 
@@ -88,13 +83,14 @@ impl Held {
     }
 
     /// Puts in the state of a key, and the rows follow it. The one refusal is `Broken`: the states are as before, and the
-    /// rows may be of no states.
+    /// rows may be of no states. It takes a look, and the work on the rows of what differs between the key's two states.
     pub fn replace(
         &mut self,
         alloc: Global,
         rows: &mut Rows,
         key: Key,
         state: KeyState,
+        work: &mut Work,
     ) -> Result<(), Refusal>
         requires stand { (defs : Definitions) × IsRowsOf rows.old defs self.old }
         requires few { IsRoomy self.old }
@@ -104,8 +100,12 @@ impl Held {
         ensures stand { OnOk result ((defs : Definitions) → IsRowsOf rows.old defs self.old → IsRowsOf rows.new defs (map.insert self.old key state)) }
         ensures broken { IfErr result (λ refusal. refusal ≡ Broken) }
         ensures err { OnErr result (self.new ≡ self.old) }
+        ensures looked { RoseBy 1 work.old.looks work.new.looks }
+        ensures rows { let moved = differing (state_at self.old key) state in let defs = definitions_of rows.old in
+            Within (moved * updates_each defs) (moved * looks_each defs) work.old.rows work.new.rows }
+        ensures hashed { work.new.hashed ≡ work.old.hashed }
     {
-        self.change_rows(alloc, rows, &key, &state)?;
+        self.change_rows(alloc, rows, &key, &state, work)?;
         match self.insert(key, state) {
             Ok(()) => Ok(()),
             Err(_) => Err(Refusal::Broken),
@@ -119,17 +119,22 @@ impl Held {
         rows: &mut Rows,
         key: &Key,
         state: &KeyState,
+        work: &mut Work,
     ) -> Result<(), Refusal>
         requires stand { (defs : Definitions) × IsRowsOf rows.old defs self.now }
         requires few { IsRoomy self.now }
         requires held { IsHeldState state.now }
         ensures stand { OnOk result ((defs : Definitions) → IsRowsOf rows.old defs self.now → IsRowsOf rows.new defs (map.insert self.now key.now state.now)) }
         ensures broken { IfErr result (λ refusal. refusal ≡ Broken) }
+        ensures looked { RoseBy 1 work.old.looks work.new.looks }
+        ensures rows { let moved = differing (state_at self.now key.now) state.now in let defs = definitions_of rows.old in
+            Within (moved * updates_each defs) (moved * looks_each defs) work.old.rows work.new.rows }
+        ensures hashed { work.new.hashed ≡ work.old.hashed }
     {
         let empty = KeyState::empty(alloc);
-        match self.found(key) {
-            Some(old) => rows.change(key, old, state),
-            None => rows.change(key, &empty, state),
+        match self.get(key, &mut work.looks) {
+            Some(old) => counted::change(rows, key, old, state, &mut work.rows),
+            None => counted::change(rows, key, &empty, state, &mut work.rows),
         }
     }
 }

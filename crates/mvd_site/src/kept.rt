@@ -1,21 +1,24 @@
-//! What a site keeps, and the answers to requests from that, for a count of looks that is handed in.
-ghost use Rattle.std.specs.Prelude.{◌≡◌, ◌≢◌, ◌≤◌, ◌+◌, ◌^◌, false, true, None, Some, Err, Ok, is_some, IfOk, IfErr, OnOk};
+//! What a site keeps, and the answers to requests from that. The work is added to counts that are handed in.
+ghost use Rattle.std.specs.Prelude.{◌≡◌, ◌≢◌, false, true, None, Some, Err, Ok, is_some, IfOk, IfErr, OnOk};
 ghost use Rattle.std.specs.FinMap as map;
+ghost use Rattle.mvd_count.specs.Counted.{RoseBy};
 ghost use Rattle.mvd_dots.specs.declared.refusals.Refusal.TheVariants.{Broken, Memory};
 ghost use Rattle.mvd_keys.specs.State.{IsValid, empty_state};
 ghost use Rattle.mvd_keys.specs.Writes.{is_empty};
 ghost use Rattle.mvd_rows.specs.Changes.{IsRoomy};
 ghost use Rattle.mvd_wire.specs.declared.request.Request.TheVariants.{Get, Put, Delete, Push};
 ghost use Rattle.mvd_wire.specs.declared.reply.Reply.TheVariants.{State as Shown};
+ghost use Rattle.mvd_site.specs.Costs.{ChangeCosts, PrepareCosts};
 ghost use Rattle.mvd_site.specs.Held.{IsHeldState, IsKept, state_at};
 ghost use Rattle.mvd_site.specs.Known.{IsValidRequest};
-ghost use Rattle.mvd_site.specs.Prepared.{IsFrugal, IsReady, LimitsTo, PreparesFrom, PreparesFromStates, PreparesReply, is_of_state};
+ghost use Rattle.mvd_site.specs.Prepared.{IsFrugal, IsReady, LimitsTo, PreparesFrom, PreparesFromStates, PreparesReply};
 ghost use Rattle.mvd_site.specs.Sites.{SiteValue, has_no_room};
 
 use crate::changes::{Change, Prepared, reply_of};
 use crate::config::Config;
-use crate::counted::Looks;
 use crate::held::Held;
+use crate::work::Work;
+use mvd_count::Count;
 use mvd_docs::Document;
 use mvd_dots::{Context, Dot, Refusal};
 use mvd_keys::{Key, KeyState};
@@ -26,7 +29,7 @@ use std::alloc::Global;
 use std::marker::Model;
 
 /// The states of the keys that one site holds, with what is kept of them, and the answers to requests from them. What
-/// answers has this and a count that is handed in, and no way to make another.
+/// answers has this and the counts that are handed in.
 #[derive(Drop)]
 pub struct Kept {
     pub(crate) alloc: Global,
@@ -50,55 +53,67 @@ impl Model for Kept {
 }
 
 impl Kept {
-    /// What a request comes to, with at most one look at a held key state.
-    pub fn prepare(&self, request: &Request, looks: &mut Looks) -> Result<Prepared, Refusal>
-        requires { looks.old ≤ 2 ^ 63 }
+    /// What a request comes to, with at most one look at a held key state, and as many looks at kept rows as its page has
+    /// entries, and two more.
+    pub fn prepare(&self, request: &Request, work: &mut Work) -> Result<Prepared, Refusal>
         ensures states { PreparesFromStates self.now request.now result }
         ensures ready { IfOk result (IsReady self.now) }
         ensures valid { IfOk result (λ _. IsValidRequest request.now) }
         ensures broken { self.now.broken ≡ true → result ≡ Err Broken }
         ensures whole { IfErr result (λ refusal. refusal ≡ Broken → self.now.broken ≡ true) }
         ensures frugal { IsFrugal self.now.states request.now → IfErr result (λ refusal. refusal ≢ Memory) }
-        ensures none { is_of_state request.now ≡ false → looks.new ≡ looks.old }
-        ensures from { looks.old ≤ looks.new }
-        ensures to { looks.new ≤ looks.old + 1 }
+        ensures costs { PrepareCosts request.now result work.old work.new }
     {
         if self.broken {
             return Err(Refusal::Broken);
         }
         match request {
-            Request::Get(key) => self.prepare_get(key, looks),
-            Request::Put(key, seen, document) => self.prepare_put(key, seen, document, looks),
-            Request::Delete(key, seen) => self.prepare_delete(key, seen, looks),
-            Request::Push(key, pushed) => self.prepare_push(key, pushed, looks),
-            Request::Find(field, term, after) => self.prepare_find(field, term, after),
-            Request::Range(field, from, to, after) => self.prepare_range(field, from, to, after),
-            Request::Row(view, term) => self.prepare_row(view, term),
-            Request::Rows(view, after) => self.prepare_rows(view, after),
+            Request::Get(key) => self.prepare_get(key, &mut work.looks),
+            Request::Put(key, seen, document) => self.prepare_put(
+                key,
+                seen,
+                document,
+                &mut work.looks,
+            ),
+            Request::Delete(key, seen) => self.prepare_delete(key, seen, &mut work.looks),
+            Request::Push(key, pushed) => self.prepare_push(key, pushed, &mut work.looks),
+            Request::Find(field, term, after) => self.prepare_find(
+                field,
+                term,
+                after,
+                &mut work.rows,
+            ),
+            Request::Range(field, from, to, after) => self.prepare_range(
+                field,
+                from,
+                to,
+                after,
+                &mut work.rows,
+            ),
+            Request::Row(view, term) => self.prepare_row(view, term, &mut work.rows),
+            Request::Rows(view, after) => self.prepare_rows(view, after, &mut work.rows),
             Request::Node(path) => self.prepare_node(path),
             Request::Bucket(path, after) => self.prepare_bucket(path, after.as_ref()),
             Request::Bye => Ok(Prepared::Answer(Reply::Done)),
         }
     }
 
-    fn prepare_get(&self, key: &Key, looks: &mut Looks) -> Result<Prepared, Refusal>
-        requires { looks.old ≤ 2 ^ 63 }
+    fn prepare_get(&self, key: &Key, looks: &mut Count) -> Result<Prepared, Refusal>
         ensures answer { PreparesReply (Shown (state_at self.now.states key.now)) result }
         ensures ready { IfOk result (IsReady self.now) }
         ensures whole { IfErr result (λ refusal. refusal ≢ Broken) }
-        ensures looked { looks.new ≡ looks.old + 1 }
+        ensures looked { RoseBy 1 looks.old looks.new }
     {
         let state = self.get(key, looks)?;
         Ok(Prepared::Answer(Reply::State(state)))
     }
 
     /// The state of a key, empty where the key is not held. This is one look.
-    pub fn get(&self, key: &Key, looks: &mut Looks) -> Result<KeyState, Refusal>
-        requires { looks.old ≤ 2 ^ 63 }
+    pub fn get(&self, key: &Key, looks: &mut Count) -> Result<KeyState, Refusal>
         ensures state { IfOk result (λ state. state ≡ state_at self.now.states key.now) }
         ensures kept { IfOk result IsKept }
         ensures only { IfErr result (λ refusal. refusal ≡ Memory) }
-        ensures looked { looks.new ≡ looks.old + 1 }
+        ensures looked { RoseBy 1 looks.old looks.new }
     {
         let empty = KeyState::empty(self.alloc);
         let (_, old) = self.look(key, &empty, looks);
@@ -110,13 +125,12 @@ impl Kept {
         key: &Key,
         seen: &Context,
         document: &Document,
-        looks: &mut Looks,
+        looks: &mut Count,
     ) -> Result<Prepared, Refusal>
-        requires { looks.old ≤ 2 ^ 63 }
         ensures answer { PreparesFrom self.now.config self.now.states (Put key.now seen.now document.now) result }
         ensures ready { IfOk result (IsReady self.now) }
         ensures whole { IfErr result (λ refusal. refusal ≢ Broken) }
-        ensures looked { looks.new ≡ looks.old + 1 }
+        ensures looked { RoseBy 1 looks.old looks.new }
     {
         let empty = KeyState::empty(self.alloc);
         let (is_held, old) = self.look(key, &empty, looks);
@@ -131,13 +145,12 @@ impl Kept {
         &self,
         key: &Key,
         seen: &Context,
-        looks: &mut Looks,
+        looks: &mut Count,
     ) -> Result<Prepared, Refusal>
-        requires { looks.old ≤ 2 ^ 63 }
         ensures answer { PreparesFrom self.now.config self.now.states (Delete key.now seen.now) result }
         ensures ready { IfOk result (IsReady self.now) }
         ensures whole { IfErr result (λ refusal. refusal ≢ Broken) }
-        ensures looked { looks.new ≡ looks.old + 1 }
+        ensures looked { RoseBy 1 looks.old looks.new }
     {
         let empty = KeyState::empty(self.alloc);
         let (is_held, old) = self.look(key, &empty, looks);
@@ -152,16 +165,14 @@ impl Kept {
         &self,
         key: &Key,
         pushed: &KeyState,
-        looks: &mut Looks,
+        looks: &mut Count,
     ) -> Result<Prepared, Refusal>
-        requires { looks.old ≤ 2 ^ 63 }
         ensures answer { PreparesFrom self.now.config self.now.states (Push key.now pushed.now) result }
         ensures ready { IfOk result (IsReady self.now) }
         ensures valid { IfOk result (λ _. IsValid pushed.now) }
         ensures whole { IfErr result (λ refusal. refusal ≢ Broken) }
         ensures frugal { IsFrugal self.now.states (Push key.now pushed.now) → IfErr result (λ refusal. refusal ≢ Memory) }
-        ensures from { looks.old ≤ looks.new }
-        ensures to { looks.new ≤ looks.old + 1 }
+        ensures looked { RoseBy 1 looks.old looks.new }
     {
         if state_length(pushed) > STATE_LIMIT {
             return Err(Refusal::StateTooLarge);
@@ -178,13 +189,12 @@ impl Kept {
     }
 
     /// Whether the key is held, and its state or the empty one. This is one look.
-    fn look<'a>(&'a self, key: &Key, empty: &'a KeyState, looks: &mut Looks) -> (bool, &'a KeyState)
-        requires few { looks.old ≤ 2 ^ 63 }
-        requires empty { empty.now ≡ empty_state }
+    fn look<'a>(&'a self, key: &Key, empty: &'a KeyState, looks: &mut Count) -> (bool, &'a KeyState)
+        requires { empty.now ≡ empty_state }
         ensures is_held { result.0 ≡ is_some (map.get self.now.states key.now) }
         ensures state { result.1.now ≡ state_at self.now.states key.now }
         ensures kept { IsKept result.1.now }
-        ensures looked { looks.new ≡ looks.old + 1 }
+        ensures looked { RoseBy 1 looks.old looks.new }
     {
         match self.states.get(key, looks) {
             Some(state) => (true, state),
@@ -231,24 +241,31 @@ impl Kept {
 
     /// Puts in the change of one key, and changes no other: its state, its digest and its rows. Where memory is refused, what
     /// is kept is broken from then on.
-    pub fn install(&mut self, change: Change) -> Result<(), Refusal>
+    pub fn install(&mut self, change: Change, work: &mut Work) -> Result<(), Refusal>
         requires room { has_no_room self.old.config self.old.states change.key ≡ false }
         requires held { IsHeldState change.state }
         ensures ok { OnOk result ((self.old.broken ≡ false) × (self.new ≡ record { config = self.old.config; states = map.insert self.old.states change.key change.state; broken = false })) }
         ensures err { IfErr result (λ refusal. (refusal ≡ Broken) × (self.new ≡ record { config = self.old.config; states = self.old.states; broken = true })) }
+        ensures costs { ChangeCosts 0 self.old change.key change.state work.old work.new }
     {
         if self.broken {
             return Err(Refusal::Broken);
         }
         self.few();
-        let digest = change.digest();
+        let digest = change.digest(&mut work.hashed);
         let (key, state) = change.into_parts();
-        let digested = self.tree.change(&key, Some(digest)).is_ok();
+        let digested = self
+            .tree
+            .change(&key, Some(digest), &mut work.hashed)
+            .is_ok();
         if !digested {
             self.broken = true;
             return Err(Refusal::Broken);
         }
-        match self.states.replace(self.alloc, &mut self.rows, key, state) {
+        match self
+            .states
+            .replace(self.alloc, &mut self.rows, key, state, work)
+        {
             Ok(()) => Ok(()),
             Err(_) => {
                 self.broken = true;

@@ -11,8 +11,10 @@ mod listing;
 mod opening;
 mod questions;
 pub mod sites;
+mod work;
 
 pub use changes::{Change, Prepared};
 pub use config::Config;
 pub use opening::may_be_held;
 pub use sites::Site;
+pub use work::Work;

@@ -9,11 +9,16 @@ ghost use Rattle.mvd_site.specs.Held.{IsHeldState};
 
 use mvd_dots::Refusal;
 use mvd_keys::{Key, KeyState};
-use mvd_rows::{Defs, Rows};
+use mvd_rows::{Defs, Meter, Rows, counted};
 use std::alloc::Global;
 
 /// The rows of these definitions for just these states.
-pub fn rows_of(alloc: Global, defs: &Defs, states: &[(Key, KeyState)]) -> Result<Rows, Refusal>
+pub fn rows_of(
+    alloc: Global,
+    defs: &Defs,
+    states: &[(Key, KeyState)],
+    meter: &mut Meter,
+) -> Result<Rows, Refusal>
     requires rising { IsTrue (is_sorted key_cmp states.now) }
     requires held { AllByRecursion (λ entry. IsHeldState entry.1) states.now }
     requires few { length states.now ≤ 1000000 }
@@ -23,7 +28,7 @@ pub fn rows_of(alloc: Global, defs: &Defs, states: &[(Key, KeyState)]) -> Result
     let empty = KeyState::empty(alloc);
     let mut rows = Rows::new(alloc, defs.copy()?)?;
     for entry in states {
-        if rows.change(&entry.0, &empty, &entry.1).is_err() {
+        if counted::change(&mut rows, &entry.0, &empty, &entry.1, meter).is_err() {
             return Err(Refusal::Memory);
         }
     }

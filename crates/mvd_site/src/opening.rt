@@ -13,7 +13,7 @@ use crate::changes::spelled_key_state;
 use crate::held::Held;
 use mvd_dots::Refusal;
 use mvd_keys::{Key, KeyState};
-use mvd_tree::key_digest;
+use mvd_tree::{Hashed, key_digest};
 use mvd_wire::{STATE_LIMIT, state_length};
 use std::alloc::Global;
 
@@ -47,6 +47,7 @@ pub fn held_of(alloc: Global, states: Vec<(Key, KeyState)>) -> Result<Held, Refu
 pub fn digests_of(
     alloc: Global,
     states: &[(Key, KeyState)],
+    hashed: &mut Hashed,
 ) -> Result<Vec<(Key, [u8; 32])>, Refusal>
     requires { AllByRecursion (λ entry. IsHeldState entry.1) states.now }
     ensures digests { IfOk result (λ digests. digests.items ≡ key_digests states.now) }
@@ -55,18 +56,23 @@ pub fn digests_of(
 {
     let mut digests = Vec::new(alloc);
     for entry in states {
-        let digest = digest_of(alloc, &entry.0, &entry.1)?;
+        let digest = digest_of(alloc, &entry.0, &entry.1, hashed)?;
         digests.push((entry.0.copy(alloc)?, digest))?;
     }
     Ok(digests)
 }
 
-fn digest_of(alloc: Global, key: &Key, state: &KeyState) -> Result<[u8; 32], Refusal>
+fn digest_of(
+    alloc: Global,
+    key: &Key,
+    state: &KeyState,
+    hashed: &mut Hashed,
+) -> Result<[u8; 32], Refusal>
     requires { length (spell_state state.now) ≤ state_limit }
     ensures digest { IfOk result (λ digest. digest ≡ key_digest spelled key.now state.now) }
     ensures spelled { IfOk result (λ _. IsSpelled state.now) }
     ensures only { IfErr result (λ refusal. refusal ≡ Memory) }
 {
     let (_, bytes) = spelled_key_state(alloc, key, state)?;
-    Ok(key_digest(&bytes))
+    Ok(key_digest(&bytes, hashed))
 }

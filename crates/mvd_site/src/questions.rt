@@ -1,13 +1,16 @@
-//! Questions to the hash tree, the indexes and the views: they change nothing, and make no look at the held states.
+//! Questions to the hash tree, the indexes and the views: they change nothing, look at no held state and hash nothing, since
+//! they are handed the counts of kept rows alone.
 ghost use Rattle.std.specs.Prelude.{◌≡◌, ◌≢◌, false, length, IfErr, IfOk, Ok, Err};
 ghost use Rattle.std.specs.Option.{option_copied};
 ghost use Rattle.mvd_dots.specs.Answer.{IsAnswer};
 ghost use Rattle.mvd_dots.specs.declared.refusals.Refusal.TheVariants.{Broken, Memory};
 ghost use Rattle.mvd_rows.specs.Answers.{find_answer, range_answer, row_answer, rows_answer};
+ghost use Rattle.mvd_rows.specs.Counted.{Within};
 ghost use Rattle.mvd_rows.specs.Visible.{visible_in};
 ghost use Rattle.mvd_tree.specs.Page.{is_more_after_page, page_of};
 ghost use Rattle.mvd_wire.specs.declared.reply.Reply.TheVariants.{Digests as Told};
 ghost use Rattle.mvd_site.specs.Answer.{bucket_answer, digests, node_digests, places_reply, row_reply, rows_reply};
+ghost use Rattle.mvd_site.specs.Costs.{prepared_looks};
 ghost use Rattle.mvd_site.specs.FromStates.{bucket_refusal, unless_broken};
 ghost use Rattle.mvd_site.specs.Prepared.{IsReady, PreparesReply};
 
@@ -16,6 +19,7 @@ use crate::kept::Kept;
 use mvd_docs::{Field, Term, ViewName};
 use mvd_dots::{Dot, Refusal};
 use mvd_keys::{Key, Path, Place};
+use mvd_rows::{Meter, counted};
 use mvd_wire::{Digests, Items, Reply, RowValue};
 use std::alloc::Global;
 
@@ -86,16 +90,18 @@ impl Kept {
         field: &Field,
         term: &Term,
         after: &Option<(Key, Dot)>,
+        meter: &mut Meter,
     ) -> Result<Prepared, Refusal>
         requires { self.now.broken ≡ false }
         ensures answer { PreparesReply (places_reply (find_answer self.now.config.defs (visible_in self.now.states) field.now term.now after.now)) result }
         ensures ready { IfOk result (IsReady self.now) }
         ensures whole { IfErr result (λ refusal. refusal ≢ Broken) }
+        ensures looks { Within 0 (prepared_looks result) meter.old meter.new }
     {
         // Here it is known that what is held are keys.
         let _held = self.states.len();
         let after = copy_spot(self.alloc, after)?;
-        let (places, is_more) = self.rows.find(field, term, after)?;
+        let (places, is_more) = counted::find(&self.rows, field, term, after, meter)?;
         Ok(Prepared::Answer(Reply::Places(Items::new(places), is_more)))
     }
 
@@ -106,28 +112,36 @@ impl Kept {
         from: &Term,
         to: &Term,
         after: &Option<Place>,
+        meter: &mut Meter,
     ) -> Result<Prepared, Refusal>
         requires { self.now.broken ≡ false }
         ensures answer { PreparesReply (places_reply (range_answer self.now.config.defs (visible_in self.now.states) field.now from.now to.now after.now)) result }
         ensures ready { IfOk result (IsReady self.now) }
         ensures whole { IfErr result (λ refusal. refusal ≢ Broken) }
+        ensures looks { Within 0 (prepared_looks result) meter.old meter.new }
     {
         // Here it is known that what is held are keys.
         let _held = self.states.len();
         let after = copy_place(self.alloc, after)?;
-        let (places, is_more) = self.rows.range(field, from, to, after)?;
+        let (places, is_more) = counted::range(&self.rows, field, from, to, after, meter)?;
         Ok(Prepared::Answer(Reply::Places(Items::new(places), is_more)))
     }
 
     /// A row of a view.
-    pub(crate) fn prepare_row(&self, view: &ViewName, term: &Term) -> Result<Prepared, Refusal>
+    pub(crate) fn prepare_row(
+        &self,
+        view: &ViewName,
+        term: &Term,
+        meter: &mut Meter,
+    ) -> Result<Prepared, Refusal>
         requires { self.now.broken ≡ false }
         ensures answer { PreparesReply (row_reply (row_answer self.now.config.defs (visible_in self.now.states) view.now term.now)) result }
         ensures ready { IfOk result (IsReady self.now) }
         ensures whole { IfErr result (λ refusal. refusal ≢ Broken) }
         ensures frugal { IfErr result (λ refusal. refusal ≢ Memory) }
+        ensures looks { Within 0 1 meter.old meter.new }
     {
-        let (count, sum, ends) = self.rows.row(view, term)?;
+        let (count, sum, ends) = counted::row(&self.rows, view, term, meter)?;
         Ok(Prepared::Answer(Reply::Row(RowValue { count, sum, ends })))
     }
 
@@ -136,14 +150,16 @@ impl Kept {
         &self,
         view: &ViewName,
         after: &Option<Term>,
+        meter: &mut Meter,
     ) -> Result<Prepared, Refusal>
         requires { self.now.broken ≡ false }
         ensures answer { PreparesReply (rows_reply (rows_answer self.now.config.defs (visible_in self.now.states) view.now after.now)) result }
         ensures ready { IfOk result (IsReady self.now) }
         ensures whole { IfErr result (λ refusal. refusal ≢ Broken) }
+        ensures looks { Within 0 (prepared_looks result) meter.old meter.new }
     {
         let after = copy_term(self.alloc, after)?;
-        let (rows, is_more) = self.rows.rows(view, after)?;
+        let (rows, is_more) = counted::rows(&self.rows, view, after, meter)?;
         Ok(Prepared::Answer(Reply::Rows(Items::new(rows), is_more)))
     }
 }

@@ -5,14 +5,16 @@ ghost use Rattle.std.specs.Option.{option_copied};
 ghost use Rattle.std.specs.FinMap as map;
 ghost use Rattle.mvd_dots.specs.Answer.{IsAnswer};
 ghost use Rattle.mvd_dots.specs.declared.refusals.Refusal.{Refusal};
-ghost use Rattle.mvd_dots.specs.declared.refusals.Refusal.TheVariants.{Broken, Memory};
+ghost use Rattle.mvd_dots.specs.declared.refusals.Refusal.TheVariants.{Broken, DotClash, Memory};
 ghost use Rattle.mvd_keys.specs.Key.{key_cmp};
+ghost use Rattle.mvd_keys.specs.State.{IsValid, clashes, join};
 ghost use Rattle.mvd_keys.specs.Writes.{Write, Stands};
 ghost use Rattle.mvd_tree.specs.Page.{is_more_after_page, page_of};
 ghost use Rattle.mvd_wire.specs.declared.reply.Reply.TheVariants.{Refused};
+ghost use Rattle.mvd_wire.specs.declared.request.Request.TheVariants.{Push};
 ghost use Rattle.mvd_wire.specs.Replies.{CanBeSent};
 ghost use Rattle.mvd_site.specs.Answer.{digests, node_digests};
-ghost use Rattle.mvd_site.specs.FromStates.{AnswersFrom, bucket_refusal, unless_broken};
+ghost use Rattle.mvd_site.specs.FromStates.{AnswersFrom, bucket_refusal, push_reply, unless_broken, with_state};
 ghost use Rattle.mvd_site.specs.Held.{AreHeld, IsHeldState, state_at};
 ghost use Rattle.mvd_site.specs.Known.{Adds, Event, IsValidRequest, Tells};
 ghost use Rattle.mvd_site.specs.Prepared.{IsChangeNow, IsFrugal, IsReady, PreparesAt, PreparesFromStates};
@@ -25,9 +27,11 @@ use crate::held::Held;
 use crate::kept::Kept;
 use crate::listing::rows_of;
 use crate::opening::{digests_of, held_of};
+use crate::work::Work;
 use mvd_dots::Refusal;
 use mvd_keys::{Key, KeyState, Path};
 use mvd_rows::Rows;
+use mvd_start::Start;
 use mvd_tree::Tree;
 use mvd_wire::{Digests, Reply, Request};
 use std::alloc::Global;
@@ -49,12 +53,18 @@ impl Model for Site {
     ghost view = { λ s. s.kept };
 }
 
+/// Work that nobody reads. No other function of the crate begins one.
+fn begun() -> Work {
+    Work::new(&Start::new())
+}
+
 impl Site {
     /// A site with no key.
     pub fn new(alloc: Global, config: Config) -> Result<Site, Refusal>
         ensures { IsAnswer result (Ok (record { config = config; states = map.empty; broken = false })) }
     {
-        let tree = Tree::new(alloc)?;
+        let mut work = begun();
+        let tree = Tree::new(alloc, &mut work.hashed)?;
         let rows = Rows::new(alloc, config.defs().copy()?)?;
         let kept = Kept {
             alloc,
@@ -82,8 +92,10 @@ impl Site {
         if states.len() > config.max_keys() as usize {
             return Err(Refusal::Full);
         }
-        let tree = Tree::open(alloc, digests_of(alloc, &states)?)?;
-        let rows = rows_of(alloc, config.defs(), &states)?;
+        let mut work = begun();
+        let digests = digests_of(alloc, &states, &mut work.hashed)?;
+        let tree = Tree::open(alloc, digests, &mut work.hashed)?;
+        let rows = rows_of(alloc, config.defs(), &states, &mut work.rows)?;
         let held = held_of(alloc, states)?;
         let kept = Kept {
             alloc,
@@ -159,8 +171,7 @@ impl Site {
         // A question of a node or of a row, Bye, and a push of what is held already take no memory.
         ensures frugal { IsFrugal self.now.states request.now → IfErr result (λ refusal. refusal ≢ Memory) }
     {
-        let mut looks = 0;
-        counted::prepare(self, request, &mut looks)
+        counted::prepare(self, request, &mut begun())
     }
 
     /// The state of a key, empty where the key is not held. A broken site refuses it.
@@ -169,8 +180,7 @@ impl Site {
         ensures state { IfOk result (λ state. state ≡ state_at self.now.states key.now) }
         ensures refused { IfErr result (λ refusal. refusal ≡ unless_broken self.now.broken Broken Memory) }
     {
-        let mut looks = 0;
-        counted::get(self, key, &mut looks)
+        counted::get(self, key, &mut begun())
     }
 
     /// Puts in the change of one key, and changes no other. Where memory is refused the site is broken from then on. The
@@ -183,7 +193,7 @@ impl Site {
         ensures ok { OnOk result ((self.old.broken ≡ false) × (self.new ≡ record { config = self.old.config; states = map.insert self.old.states change.key change.state; broken = false })) }
         ensures err { IfErr result (λ refusal. (refusal ≡ Broken) × (self.new ≡ record { config = self.old.config; states = self.old.states; broken = true })) }
     {
-        self.kept.install(change)
+        counted::install(self, change, &mut begun())
     }
 
     /// Answers one request. A refusal other than `Broken` leaves the site as it was.
@@ -203,16 +213,31 @@ impl Site {
         // It is not too long for its frame.
         ensures fits { CanBeSent result }
     {
-        match self.prepare(request) {
-            Err(refusal) => Reply::Refused(refusal),
-            Ok(Prepared::Answer(reply)) => reply,
-            Ok(Prepared::Change(change)) => {
-                let reply = change.reply();
-                match self.install(change) {
-                    Ok(()) => reply,
-                    Err(broken) => Reply::Refused(broken),
-                }
-            }
+        counted::answer(self, request, &mut begun())
+    }
+
+    /// Joins a state to that of a key, as a request to push it does, without a request: done; or the first refusal that
+    /// applies, after which the site is as it was, unless it is broken.
+    pub fn push(&mut self, key: &Key, pushed: &KeyState) -> Result<(), Refusal>
+        ensures answer { AnswersFrom self.old self.new (Push key.now pushed.now) (push_reply result) }
+        ensures joined { OnOk result (self.new ≡ record { config = self.old.config; states = with_state self.old.states key.now (join (state_at self.old.states key.now) pushed.now); broken = false }) }
+        ensures agreed { OnOk result (clashes (state_at self.old.states key.now) pushed.now ≡ false) }
+        ensures clash { IfErr result (λ refusal. refusal ≡ DotClash → clashes (state_at self.old.states key.now) pushed.now ≡ true) }
+        ensures unchanged { IfErr result (λ refusal. refusal ≢ Broken → self.new ≡ self.old) }
+        // Whether it is broken, and for good.
+        ensures told { IfErr result (λ refusal. refusal ≡ Broken → self.new ≡ record { config = self.old.config; states = self.old.states; broken = true }) }
+        ensures stays { self.old.broken ≡ true → result ≡ Err Broken }
+        // A state that was joined is that of some set of writes.
+        ensures valid { OnOk result (IsValid pushed.now) }
+    {
+        if self.is_broken() {
+            return Err(Refusal::Broken);
+        }
+        let mut work = begun();
+        match self.kept.prepare_push(key, pushed, &mut work.looks) {
+            Err(refusal) => Err(refusal),
+            Ok(Prepared::Answer(_)) => Ok(()),
+            Ok(Prepared::Change(change)) => counted::install(self, change, &mut work),
         }
     }
 

@@ -1,12 +1,12 @@
 //! A site to ask, requests, and what replies show.
-ghost use Rattle.std.specs.Prelude.{◌≤◌, ◌^◌};
 ghost use Rattle.mvd_site.specs.Config.{IsConfig};
 
 use mvd_docs::Document;
 use mvd_dots::{Context, Dot, Refusal};
 use mvd_keys::{Key, KeyState};
 use mvd_rows::Defs;
-use mvd_site::{Config, Prepared, Site, counted};
+use mvd_site::{Config, Prepared, Site, Work, counted};
+use mvd_start::Start;
 use mvd_wire::{Reply, Request};
 use std::alloc::Global;
 
@@ -30,11 +30,14 @@ pub fn answered(site: &mut Site, request: &Request) -> Reply {
     site.answer(request)
 }
 
+/// No work yet.
+pub fn no_work() -> Work {
+    Work::new(&Start::new())
+}
+
 /// What the request comes to, in the same way. Each look at a held state adds one to the count.
-fn prepared(site: &Site, request: &Request, looks: &mut u64) -> Result<Prepared, Refusal>
-    requires { looks.old ≤ 2 ^ 63 }
-{
-    counted::prepare(site, request, looks)
+fn prepared(site: &Site, request: &Request, work: &mut Work) -> Result<Prepared, Refusal> {
+    counted::prepare(site, request, work)
 }
 
 /// What a request comes to, in a word.
@@ -51,9 +54,9 @@ fn kind(prepared: &Prepared) -> &'static str {
 
 /// Whether the request comes to this, with at most so many looks at held states.
 pub fn comes_to(site: &Site, request: Request, wanted: &str, most: u64) -> Result<bool, Refusal> {
-    let mut looks = 0;
-    let prepared = prepared(site, &request, &mut looks)?;
-    Ok(looks <= most && kind(&prepared) == wanted)
+    let mut work = no_work();
+    let prepared = prepared(site, &request, &mut work)?;
+    Ok(work.looks.made() <= most && kind(&prepared) == wanted)
 }
 
 /// The dot of the write that the reply tells.

@@ -1,11 +1,12 @@
 //! Changes that are prepared, and installed or not.
-ghost use Rattle.std.specs.Prelude.{◌≤◌, ◌^◌};
 
-use crate::asked::{answered, comes_to, dot_of, has, holds, put, site, state_at, write, written};
+use crate::asked::{
+    answered, comes_to, dot_of, has, holds, no_work, put, site, state_at, write, written,
+};
 use mvd_dots::{Context, Dot, Refusal};
 use mvd_keys::{Key, KeyState};
 use mvd_rows::Defs;
-use mvd_site::{Change, Config, Prepared, Site, counted};
+use mvd_site::{Change, Config, Prepared, Site, Work, counted};
 use mvd_wire::{Reply, Request, encode_state};
 use std::alloc::Global;
 use std::test::Fail;
@@ -23,13 +24,13 @@ fn is_told(alloc: Global, change: &Change) -> Result<bool, Refusal> {
 /// Prepares a request and installs the change that it comes to: whether that took one look, and it tells what it was made
 /// of.
 fn is_installed(alloc: Global, site: &mut Site, request: &Request) -> Result<bool, Refusal> {
-    let mut looks = 0;
-    match counted::prepare(site, request, &mut looks)? {
+    let mut work = no_work();
+    match counted::prepare(site, request, &mut work)? {
         Prepared::Answer(_) => Ok(false),
         Prepared::Change(change) => {
             let is_told = is_told(alloc, &change)?;
             site.install(change)?;
-            Ok(is_told && looks == 1)
+            Ok(is_told && work.looks.made() == 1)
         }
     }
 }
@@ -120,16 +121,14 @@ fn a_state_is_pushed_to_another_site(rt: HostRuntime) -> Result<(), Fail> {
 /// Whether one look gives the state at `a`.
 fn gives_by_one_look(alloc: Global, site: &Site) -> Result<bool, Refusal> {
     let key = Key::read(alloc, "a")?;
-    let mut looks = 0;
-    let state = got(site, &key, &mut looks)?;
-    Ok(looks == 1 && has(&state, "1:1", 1)?)
+    let mut work = no_work();
+    let state = got(site, &key, &mut work)?;
+    Ok(work.looks.made() == 1 && has(&state, "1:1", 1)?)
 }
 
 /// The state of a key. Nothing is claimed of it, as with an answer.
-fn got(site: &Site, key: &Key, looks: &mut u64) -> Result<KeyState, Refusal>
-    requires { looks.old ≤ 2 ^ 63 }
-{
-    counted::get(site, key, looks)
+fn got(site: &Site, key: &Key, work: &mut Work) -> Result<KeyState, Refusal> {
+    counted::get(site, key, work)
 }
 
 fn is_given_by_one_look(alloc: Global) -> Result<bool, Refusal> {
@@ -223,5 +222,30 @@ fn talks(alloc: Global) -> Result<bool, Refusal> {
 #[test]
 fn a_site_answers(rt: HostRuntime) -> Result<(), Fail> {
     assert!(rt; talks(rt.alloc())?);
+    Ok(())
+}
+
+/// Whether an answer took so many looks at held states, and so many SHA-256 computations. Nothing is claimed of the answer.
+fn answer_takes(site: &mut Site, request: &Request, looks: u64, computations: u64) -> bool {
+    let mut work = no_work();
+    let _reply = counted::answer(site, request, &mut work);
+    work.looks.made() == looks && work.hashed.computations.made() == computations
+}
+
+/// Whether a put takes two looks and six computations, and a get one look and none.
+fn is_counted(alloc: Global, site: &mut Site) -> Result<bool, Refusal> {
+    let puts = answer_takes(site, &put(alloc, "k", "-", "{\"a\":1}")?, 2, 6);
+    let get = Request::Get(Key::read(alloc, "k")?);
+    Ok(puts && answer_takes(site, &get, 1, 0))
+}
+
+fn counts_its_work(alloc: Global) -> Result<bool, Refusal> {
+    let mut site = site(alloc, 1, 10)?;
+    is_counted(alloc, &mut site)
+}
+
+#[test]
+fn an_answer_counts_its_work(rt: HostRuntime) -> Result<(), Fail> {
+    assert!(rt; counts_its_work(rt.alloc())?);
     Ok(())
 }

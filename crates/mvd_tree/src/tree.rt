@@ -126,6 +126,7 @@ impl Tree {
         // The computations of its place, its bucket and the three nodes above. They read the key, the digests of the keys
         // with its place, and at most sixteen digests of each node.
         ensures counts { Hashes 5 (length key.now + 32 * keys_beside self.new key.now + 3 * 512) hashed.old hashed.new }
+        ensures refused { IfErr result (λ _. Hashes 1 (length key.now) hashed.old hashed.new) }
     {
         let lowest = bucket_number(key, hashed);
         let middle = lowest / 16;

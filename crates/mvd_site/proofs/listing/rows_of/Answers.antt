@@ -15,16 +15,19 @@ change-requires c =
     let i = c.loop-entry.entry-index in
     let e = c.entry-item.result in
     let at : state_in (from_entries (take i es)) e.0 ≡ c.empty-empty.result =
-    ap (λ o. unwrap_or o empty_state) (fresh_at es i e (holds _ c.requires.rising) c.loop-entry-test.true c.entry-item.is) ∙ sym c.empty-empty.ensures in (
-      c.args.defs.now,
-      from_entries (take i es),
-      (
-        c.loop-entry.invariant.rows,
-        at,
-        roomy_entries es i c.requires.held c.requires.few,
-        few_siblings e.1 (each_at _ es i e c.requires.held c.loop-entry-test.true c.entry-item.is).short,
-      ),
-    )
+    ap (λ o. unwrap_or o empty_state) (fresh_at es i e (holds _ c.requires.rising) c.loop-entry-test.true c.entry-item.is) ∙ sym c.empty-empty.ensures in
+    record {
+      room = (
+        c.args.defs.now,
+        from_entries (take i es),
+        (
+          c.loop-entry.invariant.rows,
+          at,
+          roomy_entries es i c.requires.held c.requires.few,
+          few_siblings e.1 (each_at _ es i e c.requires.held c.loop-entry-test.true c.entry-item.is).short,
+        ),
+      );
+    }
 
 pub loop-entry-init : goal.loop-entry-init
 loop-entry-init c =
@@ -39,6 +42,6 @@ loop-entry-preserved c =
     let at : state_in (from_entries (take i es)) e.0 ≡ c.empty-empty.result =
     ap (λ o. unwrap_or o empty_state) (fresh_at es i e (holds _ c.requires.rising) c.loop-entry-test.true c.entry-item.is) ∙ sym c.empty-empty.ensures in
     record {
-      rows = subst (IsRowsOf c.change.new.self c.args.defs.now) (next_at es i e (holds _ c.requires.rising) c.loop-entry-test.true c.entry-item.is)
+      rows = subst (IsRowsOf c.change.new.rows c.args.defs.now) (next_at es i e (holds _ c.requires.rising) c.loop-entry-test.true c.entry-item.is)
           (where_ok c.change.result _ c.change.ensures.stands c.if-is_err.ensures.value c.args.defs.now (from_entries (take i es)) c.loop-entry.invariant.rows at);
     }

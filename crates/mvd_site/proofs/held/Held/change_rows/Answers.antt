@@ -8,7 +8,7 @@ use Rattle.mvd_site.proofs.held.Held.change_rows.Goals as goal
 pub change-requires : goal.change-requires
 change-requires c =
     let at : state_in c.args.self.now c.args.key.now ≡ c.in-Some.old.now = ap (λ o. unwrap_or o empty_state) (sym c.in-Some.ensures.found) in
-    (c.requires.stand.0, c.args.self.now, (c.requires.stand.1, at, c.requires.few, few_siblings c.args.state.now c.requires.held.short))
+    record { room = (c.requires.stand.0, c.args.self.now, (c.requires.stand.1, at, c.requires.few, few_siblings c.args.state.now c.requires.held.short)) }
 
 pub returns-in-Some-clause-stand : goal.returns-in-Some-clause-stand
 returns-in-Some-clause-stand c =
@@ -18,7 +18,7 @@ returns-in-Some-clause-stand c =
 pub change-requires-in-None : goal.change-requires-in-None
 change-requires-in-None c =
     let at : state_in c.args.self.now c.args.key.now ≡ c.empty-empty.result = ap (λ o. unwrap_or o empty_state) (sym c.in-None.ensures.found) ∙ sym c.empty-empty.ensures in
-    (c.requires.stand.0, c.args.self.now, (c.requires.stand.1, at, c.requires.few, few_siblings c.args.state.now c.requires.held.short))
+    record { room = (c.requires.stand.0, c.args.self.now, (c.requires.stand.1, at, c.requires.few, few_siblings c.args.state.now c.requires.held.short)) }
 
 pub returns-clause-stand : goal.returns-clause-stand
 returns-clause-stand c =

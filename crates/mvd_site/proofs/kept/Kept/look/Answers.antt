@@ -4,4 +4,4 @@ use Rattle.mvd_site.proofs.Lengths.{kept_empty}
 use Rattle.mvd_site.proofs.kept.Kept.look.Goals as goal
 
 pub returns-in-None-clause-kept : goal.returns-in-None-clause-kept
-returns-in-None-clause-kept c = subst IsKept (sym c.requires.empty) kept_empty
+returns-in-None-clause-kept c = subst IsKept (sym c.requires) kept_empty

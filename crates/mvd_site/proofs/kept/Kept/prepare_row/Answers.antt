@@ -15,7 +15,7 @@ returns-in_err-count-clause-whole c =
     let p = err_from_is_err_and c.from_residual.result c.from_residual.ensures.1 in
     subst (λ r. IfErr r (λ refusal. refusal ≢ Broken)) (sym p.1)
     (λ broken. row_refuses defs (visible_in states) c.args.view.now c.args.term.now Broken (λ e. cc)
-    (sym (c.row.ensures defs states (c.self.invariant.listed unbroken)) ∙ c.in_err-count.was ∙ ap Err (sym p.2 ∙ broken)))
+    (sym (c.row.ensures.row defs states (c.self.invariant.listed unbroken)) ∙ c.in_err-count.was ∙ ap Err (sym p.2 ∙ broken)))
 
 pub returns-in_err-count-clause-frugal : goal.returns-in_err-count-clause-frugal
 returns-in_err-count-clause-frugal c =
@@ -25,7 +25,7 @@ returns-in_err-count-clause-frugal c =
     let p = err_from_is_err_and c.from_residual.result c.from_residual.ensures.1 in
     subst (λ r. IfErr r (λ refusal. refusal ≢ Memory)) (sym p.1)
     (λ memory. row_refuses defs (visible_in states) c.args.view.now c.args.term.now Memory (λ e. cc)
-    (sym (c.row.ensures defs states (c.self.invariant.listed unbroken)) ∙ c.in_err-count.was ∙ ap Err (sym p.2 ∙ memory)))
+    (sym (c.row.ensures.row defs states (c.self.invariant.listed unbroken)) ∙ c.in_err-count.was ∙ ap Err (sym p.2 ∙ memory)))
 
 pub returns-clause-ready : goal.returns-clause-ready
 returns-clause-ready c = record { accepts = refl; fits = row_can_be_sent _ }

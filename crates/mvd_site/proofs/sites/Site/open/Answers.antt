@@ -13,7 +13,7 @@ use Rattle.mvd_site.proofs.sites.Site.open.Goals as goal
 pub open-requires : goal.open-requires
 open-requires c =
     let entries = c.args.states.items in
-    let are : c.in_ok-digests_of.field-0.items ≡ key_digests entries = c.in_ok-digests_of.ensures.digests ∙ ap key_digests c.deref.ensures.value in
+    let are : c.in_ok-digests.digests.items ≡ key_digests entries = c.in_ok-digests.ensures.digests ∙ ap key_digests c.deref.ensures.value in
     subst (λ l. T (is_sorted key_cmp l)) (sym are) (digests_rise spelled entries (holds _ c.requires.rising))
 
 pub invariant_of-kept : goal.invariant_of-kept
@@ -21,7 +21,7 @@ invariant_of-kept c =
     let entries = c.args.states.items in
     let size : len c.in_ok-held.held ≡ length entries = ap len c.in_ok-held.ensures.held ∙ rising_len entries (holds _ c.requires.rising) in
     let digested : c.in_ok-tree.tree ≡ from_entries (key_digests entries) =
-    c.in_ok-tree.ensures.ok ∙ ap from_entries (c.in_ok-digests_of.ensures.digests ∙ ap key_digests c.deref.ensures.value) in
+    c.in_ok-tree.ensures.ok ∙ ap from_entries (c.in_ok-digests.ensures.digests ∙ ap key_digests c.deref.ensures.value) in
     keeps_opened c.args.config entries c.in_ok-held.held c.in_ok-tree.tree c.in_ok-rows.rows _ c.in_ok-held.ensures.held digested (subst₂ (λ d es. IsRowsOf c.in_ok-rows.rows d (from_entries es)) c.defs.ensures c.deref-2.ensures.value c.in_ok-rows.ensures.rows) (omega (arith, size, c.len.ensures, c.max_keys.ensures.max_keys))
 
 pub returns-clause-stands : goal.returns-clause-stands

@@ -35,7 +35,7 @@ returns-in-Ok-Answer c =
 pub returns : goal.returns
 returns c =
     let old = c.args.self.now in
-    let new = c.install.new.self in
+    let new = c.install.new.site in
     let key = c.args.key.now in
     let pushed = c.args.pushed.now in
     let result = c.install.result in

@@ -3,7 +3,7 @@ use Rattle.std.specs.Option.{option_copied}
 use Rattle.std.specs.FinMap.{from_entries, get}
 use Rattle.mvd_site.specs.Held.{IsKept}
 use Rattle.mvd_site.proofs.HeldMaps.{get_key}
-use Rattle.mvd_site.proofs.held.Held.found.Goals as goal
+use Rattle.mvd_site.proofs.held.Held.get.Goals as goal
 
 pub returns-clause-found : goal.returns-clause-found
 returns-clause-found c =

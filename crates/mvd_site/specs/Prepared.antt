@@ -8,7 +8,7 @@ use Rattle.mvd_keys.specs.State.{State, join_answer}
 use Rattle.mvd_keys.specs.Writes.{Key, Stands, Write, is_empty, state}
 use Rattle.mvd_wire.specs.Replies.{CanBeSent}
 use Rattle.mvd_wire.specs.declared.request.Request.{Request}
-use Rattle.mvd_wire.specs.declared.request.Request.TheVariants.{Get, Put, Delete, Push, Node, Row, Bye}
+use Rattle.mvd_wire.specs.declared.request.Request.TheVariants.{Push, Node, Row, Bye}
 use Rattle.mvd_wire.specs.declared.reply.Reply.{Reply}
 use Rattle.mvd_wire.specs.declared.reply.Reply.TheVariants.{Refused}
 use Rattle.mvd_site.specs.Answer.{answer, change_of}
@@ -76,14 +76,6 @@ is_refusal reply = false
 pub record IsPlain (reply : Reply) : Type 0 where
   pub accepts : is_refusal reply ≡ false
   pub fits : CanBeSent reply
-
--- whether the request is about the state of a key, and not about the hash tree, an index or a view
-abbrev pub is_of_state : Request → Bool
-is_of_state (Get key) = true
-is_of_state (Put key seen document) = true
-is_of_state (Delete key seen) = true
-is_of_state (Push key pushed) = true
-is_of_state request = false
 
 -- a change is one that may be put in, and a reply refuses nothing
 abbrev pub IsReady : SiteValue → Prepared → Type 0

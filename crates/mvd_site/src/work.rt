@@ -6,8 +6,7 @@ use mvd_rows::Meter;
 use mvd_start::Start;
 use mvd_tree::Hashed;
 
-/// Looks at held states, work on kept rows, and what was hashed. What answers is handed one; `counted` alone, and who calls
-/// it, begins one.
+/// Looks at held states, work on kept rows, and what was hashed. What answers is handed one, and adds to it.
 #[derive(Drop)]
 pub struct Work {
     pub looks: Count,

@@ -1,5 +1,5 @@
 -- What a request costs a site at most: looks at held states, looks at kept rows and updates of them, and what is hashed.
-use Rattle.std.specs.Prelude.{◌≡◌, ℕ, ◌+◌, ◌*◌, length, Some, Result, Ok}
+use Rattle.std.specs.Prelude.{◌≡◌, ℕ, ◌+◌, ◌*◌, length, Some, Result, Ok, Err}
 use Rattle.std.specs.FinMap.{insert}
 use Rattle.mvd_count.specs.Counted.{RoseBy}
 use Rattle.mvd_dots.specs.declared.refusals.Refusal.{Refusal}

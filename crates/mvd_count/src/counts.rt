@@ -3,15 +3,17 @@ ghost use Rattle.std.specs.Prelude.{◌≡◌};
 ghost use Rattle.mvd_count.specs.Counted.{RoseBy, counted};
 
 use mvd_start::Start;
-use std::marker::Model;
+use std::marker::{Model, PhantomData};
 
-/// How much was done. A count that is full, at `2^64 - 1`, stays there.
+/// How much of a kind of work was done. A count that is full, at `2^64 - 1`, stays there. No count can stand in the place
+/// of one of another kind.
 #[derive(Drop)]
-pub struct Count {
+pub struct Count<K> {
     made: u64,
+    kind: PhantomData<K>,
 }
 
-impl Model for Count {
+impl<K> Model for Count<K> {
     ghost use Rattle.std.specs.Prelude.{ℕ};
     ghost use Rattle.std.specs.Coded.{coded_ℕ};
 
@@ -22,12 +24,15 @@ impl Model for Count {
     ghost view = { λ c. c.made };
 }
 
-impl Count {
+impl<K> Count<K> {
     /// Nothing was done yet.
-    pub fn new(_start: &Start) -> Count
+    pub fn new(_start: &Start) -> Count<K>
         ensures { result ≡ 0 }
     {
-        Count { made: 0 }
+        Count {
+            made: 0,
+            kind: PhantomData,
+        }
     }
 
     /// How much was done.

@@ -61,6 +61,7 @@ pub fn find(
     ensures refused { IfErr result (λ refusal. refusal ≢ Memory → (defs : Definitions) (states : FinMap key_cmp State) → IsRowsOf rows.now defs states →
         find_answer defs (visible_in states) field.now term.now after ≡ Err refusal) }
     ensures counts { Within 0 1002 meter.old meter.new }
+    ensures none { IfErr result (λ refusal. refusal ≢ Memory → Within 0 0 meter.old meter.new) }
     ensures given { IfOk result (λ page. (defs : Definitions) (states : FinMap key_cmp State) → IsRowsOf rows.now defs states →
         Within 0 (length page.0.items + 2) meter.old meter.new) }
 {
@@ -90,6 +91,7 @@ pub fn range(
     ensures refused { IfErr result (λ refusal. refusal ≢ Memory → (defs : Definitions) (states : FinMap key_cmp State) → IsRowsOf rows.now defs states →
         range_answer defs (visible_in states) field.now from.now to.now after ≡ Err refusal) }
     ensures counts { Within 0 1002 meter.old meter.new }
+    ensures none { IfErr result (λ refusal. refusal ≢ Memory → Within 0 0 meter.old meter.new) }
     ensures given { IfOk result (λ page. (defs : Definitions) (states : FinMap key_cmp State) → IsRowsOf rows.now defs states →
         Within 0 (length page.0.items + 2) meter.old meter.new) }
 {
@@ -132,6 +134,7 @@ pub fn rows(
     ensures refused { IfErr result (λ refusal. refusal ≢ Memory → (defs : Definitions) (states : FinMap key_cmp State) → IsRowsOf rows.now defs states →
         rows_answer defs (visible_in states) name.now after ≡ Err refusal) }
     ensures counts { Within 0 1002 meter.old meter.new }
+    ensures none { IfErr result (λ refusal. refusal ≢ Memory → Within 0 0 meter.old meter.new) }
     ensures given { IfOk result (λ page. Within 0 (length page.0.items + 2) meter.old meter.new) }
 {
     let Some(view) = rows.view_of(name) else {

@@ -1,8 +1,9 @@
 -- What a request costs a site at most: looks at held states, looks at kept rows and updates of them, and what is hashed.
-use Rattle.std.specs.Prelude.{◌≡◌, ℕ, ◌+◌, ◌*◌, length, Some, Result, Ok}
+use Rattle.std.specs.Prelude.{◌≡◌, ℕ, ◌+◌, ◌*◌, length, Some, Result, Ok, Err}
 use Rattle.std.specs.FinMap.{insert}
 use Rattle.mvd_count.specs.Counted.{RoseBy}
 use Rattle.mvd_dots.specs.declared.refusals.Refusal.{Refusal}
+use Rattle.mvd_dots.specs.declared.refusals.Refusal.TheVariants.{Memory}
 use Rattle.mvd_keys.specs.State.{State}
 use Rattle.mvd_keys.specs.Writes.{Key}
 use Rattle.mvd_rows.specs.Changes.{differing, looks_each, updates_each}
@@ -11,7 +12,7 @@ use Rattle.mvd_tree.specs.Counted.{Hashes, keys_beside}
 use Rattle.mvd_wire.specs.declared.request.Request.{Request}
 use Rattle.mvd_wire.specs.declared.request.Request.TheVariants.{Get, Put, Delete, Find, Row, Rows, Node, Bucket, Push, Range, Bye}
 use Rattle.mvd_wire.specs.declared.reply.Reply.{Reply}
-use Rattle.mvd_wire.specs.declared.reply.Reply.TheVariants.{Places, Rows as RowsTold}
+use Rattle.mvd_wire.specs.declared.reply.Reply.TheVariants.{Places, Rows as RowsTold, Refused}
 use Rattle.mvd_site.specs.Answer.{digests, spelled}
 use Rattle.mvd_site.specs.FromStates.{after_from, answer_from, change_from}
 use Rattle.mvd_site.specs.Held.{state_at}
@@ -34,15 +35,17 @@ pub record Costs (held looks updates computations bytes : ℕ) (old new : Work) 
   pub on_rows : Within updates looks old.rows new.rows
   pub hashes : Hashes computations bytes old.hashed new.hashed
 
--- a page takes as many looks at kept rows as it has entries, and two more; one that is refused may take those of a whole page
+-- a page takes as many looks at kept rows as it has entries, and two more; one for which memory is refused may take those of a whole page
 abbrev pub page_looks : Reply → ℕ
 page_looks (Places page more) = length page + 2
 page_looks (RowsTold page more) = length page + 2
-page_looks reply = 1002
+page_looks (Refused Memory) = 1002
+page_looks reply = 0
 
 abbrev pub prepared_looks : Result Prepared Refusal → ℕ
 prepared_looks (Ok (Answer reply)) = page_looks reply
-prepared_looks prepared = 1002
+prepared_looks (Err refusal) = page_looks (Refused refusal)
+prepared_looks (Ok (Change change)) = 0
 
 -- what it takes to prepare a request: a look at the key's state, or those of its page
 abbrev pub PrepareCosts : Request → Result Prepared Refusal → Work → Work → Type 0

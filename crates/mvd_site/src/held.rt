@@ -10,7 +10,7 @@ ghost use Rattle.mvd_rows.specs.Defs.{Definitions};
 ghost use Rattle.mvd_rows.specs.Stands.{IsRowsOf, definitions_of};
 ghost use Rattle.mvd_site.specs.Held.{AreHeld, IsHeldState, IsKept, IsSpelled, States, state_at};
 
-use crate::work::Work;
+use crate::work::{HeldLook, Work};
 use mvd_count::Count;
 use mvd_dots::Refusal;
 use mvd_keys::{Key, KeyState};
@@ -50,7 +50,7 @@ impl Held {
     }
 
     /// The state of a key, if it is held. This is one look.
-    pub fn get(&self, key: &Key, looks: &mut Count) -> Option<&KeyState>
+    pub fn get(&self, key: &Key, looks: &mut Count<HeldLook>) -> Option<&KeyState>
         ensures found { option_copied result ≡ map.get self.now key.now }
         ensures exact { looks.new ≡ counted looks.old 1 }
         ensures looked { RoseBy 1 looks.old looks.new }

@@ -17,7 +17,7 @@ ghost use Rattle.mvd_site.specs.Sites.{SiteValue, has_no_room};
 use crate::changes::{Change, Prepared, reply_of};
 use crate::config::Config;
 use crate::held::Held;
-use crate::work::Work;
+use crate::work::{HeldLook, Work};
 use mvd_count::Count;
 use mvd_docs::Document;
 use mvd_dots::{Context, Dot, Refusal};
@@ -98,7 +98,7 @@ impl Kept {
         }
     }
 
-    fn prepare_get(&self, key: &Key, looks: &mut Count) -> Result<Prepared, Refusal>
+    fn prepare_get(&self, key: &Key, looks: &mut Count<HeldLook>) -> Result<Prepared, Refusal>
         ensures answer { PreparesReply (Shown (state_at self.now.states key.now)) result }
         ensures ready { IfOk result (IsReady self.now) }
         ensures whole { IfErr result (λ refusal. refusal ≢ Broken) }
@@ -109,7 +109,7 @@ impl Kept {
     }
 
     /// The state of a key, empty where the key is not held. This is one look.
-    pub fn get(&self, key: &Key, looks: &mut Count) -> Result<KeyState, Refusal>
+    pub fn get(&self, key: &Key, looks: &mut Count<HeldLook>) -> Result<KeyState, Refusal>
         ensures state { IfOk result (λ state. state ≡ state_at self.now.states key.now) }
         ensures kept { IfOk result IsKept }
         ensures only { IfErr result (λ refusal. refusal ≡ Memory) }
@@ -125,7 +125,7 @@ impl Kept {
         key: &Key,
         seen: &Context,
         document: &Document,
-        looks: &mut Count,
+        looks: &mut Count<HeldLook>,
     ) -> Result<Prepared, Refusal>
         ensures answer { PreparesFrom self.now.config self.now.states (Put key.now seen.now document.now) result }
         ensures ready { IfOk result (IsReady self.now) }
@@ -145,7 +145,7 @@ impl Kept {
         &self,
         key: &Key,
         seen: &Context,
-        looks: &mut Count,
+        looks: &mut Count<HeldLook>,
     ) -> Result<Prepared, Refusal>
         ensures answer { PreparesFrom self.now.config self.now.states (Delete key.now seen.now) result }
         ensures ready { IfOk result (IsReady self.now) }
@@ -165,7 +165,7 @@ impl Kept {
         &self,
         key: &Key,
         pushed: &KeyState,
-        looks: &mut Count,
+        looks: &mut Count<HeldLook>,
     ) -> Result<Prepared, Refusal>
         ensures answer { PreparesFrom self.now.config self.now.states (Push key.now pushed.now) result }
         ensures ready { IfOk result (IsReady self.now) }
@@ -189,7 +189,7 @@ impl Kept {
     }
 
     /// Whether the key is held, and its state or the empty one. This is one look.
-    fn look<'a>(&'a self, key: &Key, empty: &'a KeyState, looks: &mut Count) -> (bool, &'a KeyState)
+    fn look<'a>(&'a self, key: &Key, empty: &'a KeyState, looks: &mut Count<HeldLook>) -> (bool, &'a KeyState)
         requires { empty.now ≡ empty_state }
         ensures is_held { result.0 ≡ is_some (map.get self.now.states key.now) }
         ensures state { result.1.now ≡ state_at self.now.states key.now }

@@ -1,8 +1,10 @@
 -- Counts of what is hashed in steps, and of the keys that the buckets have.
-use Rattle.std.proofs.Common.{◌≡◌, ℕ, zero, suc, ◌+◌, ◌<◌, ◌≤◌, true, false, cond, List, [], ◌∷◌, ◌++◌, length, length-append, get_or, set, take, refl, sym, ap, subst, ◌∙◌, arith}
+use Rattle.std.proofs.Common.{◌≡◌, ℕ, zero, suc, ◌+◌, ◌<◌, ◌≤◌, true, false, cond, List, [], ◌∷◌, ◌++◌, length, length-append, get_or, set, take, map, refl, sym, ap, subst, ◌∙◌, arith, add-one}
 use Rattle.std.specs.Prelude.{flat_map}
 use Rattle.std.specs.FinMap.{empty, entries, insert, len, len-entries, len-empty, len-insert, contains_key}
 use Rattle.std.specs.Cmp.Lexicographic.{nat_list_cmp_total}
+use Rattle.std.proofs.Math.Seq.{take-suc}
+use Rattle.std.proofs.lemmas.List.{map-append}
 use Rattle.std.proofs.lemmas.Grind.{flat_map-append}
 use Rattle.mvd_tree.specs.HashTree.{KeyDigests, under}
 use Rattle.mvd_tree.specs.Counted.{Hashes, all_keys, key_bytes, keys_beside}
@@ -79,3 +81,21 @@ beside_in_bucket bs key n own apart within at is =
     ∙ ap (λ path. length (entries (under path (gathered bs)))) (sym (path_of_bucket key) ∙ ap path_of_three (sym at))
     ∙ ap length (entries_under bs apart n)
     ∙ ap (λ b. length (entries b)) (sym (is ∙ any_default bs n own empty within))
+
+-- the keys of one bucket more
+pub keys_next : (bs : List KeyDigests) (n : ℕ) (d : KeyDigests) → n < length bs → all_keys (take (n + 1) bs) ≡ all_keys (take n bs) + len (get_or bs n d)
+keys_next bs n d within =
+    let next = ap all_keys (ap (λ k. take k bs) (add-one n) ∙ take-suc bs n d within) in
+    let joined = ap length (flat_map-append entries (take n bs) (get_or bs n d ∷ [])) in
+    let both = length-append (flat_map entries (take n bs)) (flat_map entries (get_or bs n d ∷ [])) in
+    let one = all_more (get_or bs n d) [] in omega (arith, next, joined, both, one)
+
+-- what is made of one thing more
+pub map_next : {X Y : Type 0} (f : X → Y) (xs : List X) (n : ℕ) (d : X) → n < length xs → map f (take (n + 1) xs) ≡ map f (take n xs) ++ f (get_or xs n d) ∷ []
+map_next f xs n d within = ap (map f) (ap (λ k. take k xs) (add-one n) ∙ take-suc xs n d within) ∙ map-append f (take n xs) (get_or xs n d ∷ [])
+
+-- a list in which a thing is set to what it was
+pub set_own : {X : Type 0} (xs : List X) (n : ℕ) (x : X) → x ≡ get_or xs n x → set xs n x ≡ xs
+set_own [] n x is = refl
+set_own (y ∷ xs) zero x is = ap (λ z. z ∷ xs) is
+set_own (y ∷ xs) (suc n) x is = ap (λ ys. y ∷ ys) (set_own xs n x is)

@@ -1,12 +1,16 @@
--- A node's SHA-256 computation goes on from a midstate.
-use Rattle.std.proofs.Common.{◌≡◌, ◌≢◌, ℕ, ◌+◌, ◌-◌, ◌*◌, ◌/◌, ◌%◌, ◌<◌, ◌≤◌, List, ◌++◌, take, drop, get_or, set, sym, ap, subst, ◌∙◌, arith, Option}
+-- The SHA-256 computation of a node, or of a bucket, goes on from a midstate.
+use Rattle.std.proofs.Common.{◌≡◌, ◌≢◌, ℕ, zero, suc, ◌+◌, ◌-◌, ◌*◌, ◌/◌, ◌%◌, ◌<◌, ◌≤◌, List, [], ◌∷◌, ◌++◌, length, take, drop, get_or, set, refl, sym, ap, subst, subst₂, ◌∙◌, arith, add-one, Option}
+use Rattle.std.specs.List.{insert, remove}
+use Rattle.std.proofs.lemmas.List.{append-nil, get_or-take, length-set, length-take, take-take}
+use Rattle.std.proofs.lemmas.List.Edits.{length-insert}
 use Rattle.std.specs.Prelude.{slice_range, flat_map}
-use Rattle.std.proofs.Math.Seq.{take-add}
+use Rattle.std.proofs.Math.Seq.{take-add, take-suc}
 use Rattle.std.proofs.lemmas.List.{drop-drop, take-set-le, drop-set-lt, drop-set-add}
 use Rattle.std.proofs.lemmas.Grind.{flat_map-append}
 use Rattle.sha2.specs.Hashers.{Holds256}
 use Rattle.mvd_tree.specs.Kept.{digest_or_zeros}
-use Rattle.mvd_tree.specs.Midstates.{IsMidstate, AreMidstatesBut, HasMidstates}
+use Rattle.mvd_tree.specs.Midstates.{AreMidstatesBut, AreRead, HasMidstates, HasRead, IsMidstate}
+use Rattle.mvd_tree.proofs.Entries.{Entry}
 use Rattle.mvd_tree.specs.declared.digest.CountedHasher.{CountedHasher}
 
 -- two parts of a list, one after the other
@@ -71,3 +75,57 @@ midstates-set nodes midstates number kept has = record {
   above = λ group d high within.
       subst (λ part. Holds256 (get_or midstates group d).hasher (flat_map digest_or_zeros part)) (sym (slice-set_before nodes (group / 4 * 16) (group * 4) number kept (omega arith))) (has.each group d within);
 }
+
+-- ---- of a bucket
+
+take-insert : {X : Type 0} (n i : ℕ) (xs : List X) (x : X) → n ≤ i → i ≤ length xs → take n (insert xs i x) ≡ take n xs
+take-insert zero i xs x low within = refl
+take-insert (suc n) zero xs x low within = absurd (omega arith)
+take-insert (suc n) (suc i) [] x low within = absurd (omega arith)
+take-insert (suc n) (suc i) (y ∷ xs) x low within = ap (λ ys. y ∷ ys) (take-insert n i xs x (omega arith) (omega arith))
+
+take-remove : {X : Type 0} (n i : ℕ) (xs : List X) → n ≤ i → i < length xs → take n (remove xs i) ≡ take n xs
+take-remove zero i xs low within = refl
+take-remove (suc n) zero xs low within = absurd (omega arith)
+take-remove (suc n) (suc i) [] low within = absurd (omega arith)
+take-remove (suc n) (suc i) (y ∷ xs) low within = ap (λ ys. y ∷ ys) (take-remove n i xs (omega arith) (omega arith))
+
+length-remove : {X : Type 0} (i : ℕ) (xs : List X) → i < length xs → length (remove xs i) + 1 ≡ length xs
+length-remove i [] within = absurd (omega arith)
+length-remove zero (x ∷ xs) within = omega arith
+length-remove (suc i) (x ∷ xs) within = let rest = length-remove i xs (omega arith) in omega (arith, rest)
+
+-- the midstates of the keys in front of one are those of other keys that have the same in front
+read_front : (es fs : List Entry) (midstates : List CountedHasher) (n : ℕ) → AreRead es midstates → n ≤ length fs → take n fs ≡ take n es → AreRead fs (take (n / 16) midstates)
+read_front es fs midstates n are within same = record {
+  within = let few = length-take (n / 16) midstates in omega (arith, few);
+  each = λ i d inside.
+      let few = length-take (n / 16) midstates in
+      let low : i < n / 16 = omega (arith, few) in
+      let there : i < length midstates = omega (arith, few) in
+      let front : i * 16 + 16 ≤ n = omega arith in
+      subst₂ (λ part (m : CountedHasher). Holds256 m.hasher (flat_map (λ (e : Entry). e.1) part))
+      (sym (take-take (i * 16 + 16) n es front) ∙ ap (take (i * 16 + 16)) (sym same) ∙ take-take (i * 16 + 16) n fs front)
+      (sym (get_or-take (n / 16) midstates i d low)) (are.each i d there);
+}
+
+pub read_set : (es : List Entry) (midstates : List CountedHasher) (n : ℕ) (e : Entry) → AreRead es midstates → n ≤ length es → AreRead (set es n e) (take (n / 16) midstates)
+read_set es midstates n e are within = read_front es (set es n e) midstates n are (omega (arith, length-set es n e)) (take-set-le n es n e (omega arith))
+
+pub read_insert : (es : List Entry) (midstates : List CountedHasher) (n : ℕ) (e : Entry) → AreRead es midstates → n ≤ length es → AreRead (insert es n e) (take (n / 16) midstates)
+read_insert es midstates n e are within = read_front es (insert es n e) midstates n are (omega (arith, length-insert es n e within)) (take-insert n n es e (omega arith) within)
+
+pub read_remove : (es : List Entry) (midstates : List CountedHasher) (n : ℕ) → AreRead es midstates → n < length es → AreRead (remove es n) (take (n / 16) midstates)
+read_remove es midstates n are within = read_front es (remove es n) midstates n are (omega (arith, length-remove n es within)) (take-remove n n es (omega arith) within)
+
+pub read_still : (es : List Entry) (midstates : List CountedHasher) (n : ℕ) → AreRead es midstates → n ≤ length es → AreRead es (take (n / 16) midstates)
+read_still es midstates n are within = read_front es es midstates n are within refl
+
+-- one key more was read
+pub one_more_read : (es : List Entry) (n : ℕ) (d : Entry) (midstate after : CountedHasher) → n < length es → HasRead es n midstate
+    → ((m : List ℕ) → Holds256 midstate.hasher m → Holds256 after.hasher (m ++ (get_or es n d).1)) → HasRead es (n + 1) after
+one_more_read es n d midstate after within read reads =
+    subst (Holds256 after.hasher)
+    (sym (ap (flat_map (λ (e : Entry). e.1)) (ap (λ k. take k es) (add-one n) ∙ take-suc es n d within)
+    ∙ flat_map-append (λ (e : Entry). e.1) (take n es) (get_or es n d ∷ []) ∙ ap (λ l. flat_map (λ (e : Entry). e.1) (take n es) ++ l) (append-nil (get_or es n d).1)))
+    (reads _ read)

@@ -1,6 +1,8 @@
--- The states of the SHA-256 computations (FIPS 180-4) of the nodes over those of one depth: each node's digest is one
--- computation over its sixteen children's digests, whose state before each four of them is kept.
-use Rattle.std.specs.Prelude.{◌≡◌, ℕ, ◌*◌, ◌/◌, ◌%◌, ◌<◌, ◌≤◌, List, length, flat_map, slice_index_or, slice_range, Option}
+-- States of SHA-256 computations (FIPS 180-4) that are kept, so that a computation goes on from there: a node's digest is one
+-- over its sixteen children's digests, and a bucket's is one over the digests of its keys.
+use Rattle.std.specs.Prelude.{◌≡◌, ℕ, ◌+◌, ◌*◌, ◌/◌, ◌%◌, ◌<◌, ◌≤◌, List, T, length, flat_map, take, slice_index_or, slice_range, Option}
+use Rattle.std.specs.FinMap.{is_sorted}
+use Rattle.mvd_keys.specs.Key.{key_cmp}
 use Rattle.sha2.specs.Hashers.{Holds256}
 use Rattle.mvd_tree.specs.Kept.{digest_or_zeros}
 use Rattle.mvd_tree.specs.declared.digest.CountedHasher.{CountedHasher}
@@ -19,3 +21,17 @@ pub record HasMidstates (nodes : List (Option (List ℕ))) (midstates : List Cou
   pub all : length nodes ≡ length midstates * 4
   pub whole : length midstates % 4 ≡ 0
   pub each : (group : ℕ) (d : CountedHasher) → group < length midstates → IsMidstate nodes group (slice_index_or midstates group d)
+
+-- the computation has read the digests of so many keys of a bucket
+abbrev pub HasRead : List (List ℕ × List ℕ) → ℕ → CountedHasher → Type 0
+HasRead es n midstate = Holds256 midstate.hasher (flat_map (λ e. e.1) (take n es))
+
+-- these are the midstates of a bucket behind its first sixteen keys, behind its first thirty-two, and so on, as many as are kept
+pub record AreRead (es : List (List ℕ × List ℕ)) (midstates : List CountedHasher) : Type 0 where
+  pub within : length midstates * 16 ≤ length es
+  pub each : (i : ℕ) (d : CountedHasher) → i < length midstates → HasRead es (i * 16 + 16) (slice_index_or midstates i d)
+
+-- the keys of a bucket rise, and its midstates are of them
+pub record IsBucket (es : List (List ℕ × List ℕ)) (midstates : List CountedHasher) : Type 0 where
+  pub sorted : T (is_sorted key_cmp es)
+  pub read : AreRead es midstates

@@ -1,13 +1,17 @@
-//! The keys of one bucket, in order.
-ghost use Rattle.std.specs.Prelude.{◌≡◌, ◌≢◌, ℕ, ◌<◌, ◌≤◌, ◌+◌, true, false, slice_index_or, length, IfOk, OnOk, OnErr, T, option_copied, List};
+//! The keys of one bucket, in order, and the SHA-256 computation over their digests.
+ghost use Rattle.std.specs.Prelude.{◌≡◌, ◌≢◌, ℕ, ◌<◌, ◌≤◌, ◌+◌, ◌*◌, true, false, slice_index_or, length, IfOk, OnOk, OnErr, T, option_copied, List};
 ghost use Rattle.std.specs.Ordering.{is_lt};
-ghost use Rattle.std.specs.FinMap.{empty, entries, retain_keys, is_sorted};
+ghost use Rattle.std.specs.FinMap.{empty, entries, len, retain_keys, is_sorted};
 ghost use Rattle.std.specs.FinMap as map;
 ghost use Rattle.mvd_keys.specs.Key.{key_cmp};
 ghost use Rattle.mvd_tree.specs.Change.{changed};
+ghost use Rattle.mvd_tree.specs.Counted.{Hashes};
+ghost use Rattle.mvd_tree.specs.Kept.{kept_bucket};
+ghost use Rattle.mvd_tree.specs.Midstates.{AreRead, HasRead};
 ghost use Rattle.mvd_tree.specs.Page.{is_after};
 ghost use Rattle.mvd_tree.specs.Split.{Splits};
 
+use crate::digest::{CountedHasher, Hashed};
 use mvd_dots::Refusal;
 use mvd_keys::Key;
 use std::alloc::Global;
@@ -15,9 +19,13 @@ use std::cmp::Ordering;
 use std::marker::Model;
 
 /// The keys of a bucket with their digests.
+///
+/// The bucket's digest is one SHA-256 computation over those. Its state behind each sixteen of them is kept too (a
+/// midstate), so that it goes on from there once a later one has changed: on the average it reads half of them.
 #[derive(Drop)]
 pub(crate) struct Bucket {
     entries: Vec<(Key, [u8; 32])>,
+    midstates: Vec<CountedHasher>,
 }
 
 impl Model for Bucket {
@@ -25,6 +33,7 @@ impl Model for Bucket {
     ghost use Rattle.std.specs.Coded.{coded_ℕ, coded_list};
     ghost use Rattle.mvd_keys.specs.Key.{key_cmp};
     ghost use Rattle.std.specs.FinMap as map;
+    ghost use Rattle.mvd_tree.specs.Midstates.{IsBucket};
 
     ghost Value = { map.FinMap key_cmp (List ℕ) };
 
@@ -32,7 +41,7 @@ impl Model for Bucket {
 
     ghost view = { λ b. map.from_sorted b.entries.items };
 
-    ghost invariant = { λ b. T (map.is_sorted key_cmp b.entries.items) };
+    ghost invariant = { λ b. IsBucket b.entries.items b.midstates.items };
 }
 
 /// How many of the entries, whose keys rise, have a key below this one.
@@ -65,6 +74,44 @@ fn find(entries: &[(Key, [u8; 32])], key: &Key) -> (usize, bool)
     (below, is_at(entries, below, key))
 }
 
+/// The SHA-256 computation that has read the entries up to the last midstate.
+fn last_read(midstates: &[CountedHasher]) -> CountedHasher
+    ensures { (es : List (List ℕ × List ℕ)) → AreRead es midstates.now → HasRead es (length midstates.now * 16) result }
+{
+    match midstates.last() {
+        Some(midstate) => midstate.copy(),
+        None => CountedHasher::new(),
+    }
+}
+
+/// Keeps the computation that has read so many entries, if it is the next midstate, and unless memory is refused.
+fn keep(midstates: &mut Vec<CountedHasher>, read: usize, hasher: &CountedHasher)
+    ensures { (es : List (List ℕ × List ℕ)) → AreRead es midstates.old.items → HasRead es read hasher.now → read ≤ length es → AreRead es midstates.new.items }
+{
+    if read % 16 == 0 && read / 16 == midstates.len() + 1 {
+        let _kept = midstates.push(hasher.copy());
+    }
+}
+
+/// The computation over all these entries. It goes on from the last midstate that is kept, and keeps those behind it.
+fn read_all(
+    entries: &[(Key, [u8; 32])],
+    midstates: &mut Vec<CountedHasher>,
+    hashed: &mut Hashed,
+) -> CountedHasher
+    requires { AreRead entries.now midstates.old.items }
+    ensures read { HasRead entries.now (length entries.now) result }
+    ensures midstates { AreRead entries.now midstates.new.items }
+    ensures counts { Hashes 0 (32 * length entries.now) hashed.old hashed.new }
+{
+    let mut hasher = last_read(midstates);
+    for index in midstates.len() * 16..entries.len() {
+        hasher.update(&entries[index].1, hashed);
+        keep(midstates, index + 1, &hasher);
+    }
+    hasher
+}
+
 /// A copy of these entries.
 pub(crate) fn copies(
     alloc: Global,
@@ -85,6 +132,7 @@ impl Bucket {
     {
         Bucket {
             entries: Vec::new(alloc),
+            midstates: Vec::new(alloc),
         }
     }
 
@@ -112,12 +160,26 @@ impl Bucket {
         }
     }
 
+    /// What is kept of the bucket: its digest, or nothing where it has no key.
+    pub(crate) fn digest(&mut self, hashed: &mut Hashed) -> Option<[u8; 32]>
+        ensures same { self.new ≡ self.old }
+        ensures digest { result ≡ kept_bucket (entries self.old) }
+        ensures counts { Hashes 1 (32 * len self.old) hashed.old hashed.new }
+    {
+        if self.entries.is_empty() {
+            return None;
+        }
+        let hasher = read_all(&self.entries, &mut self.midstates, hashed);
+        Some(hasher.finish(hashed))
+    }
+
     /// Gives a key a digest, of which it keeps a copy if it is not there.
     fn put(&mut self, alloc: Global, key: &Key, digest: [u8; 32]) -> Result<(), Refusal>
         ensures ok { OnOk result (self.new ≡ map.insert self.old key.now digest) }
         ensures err { OnErr result (self.new ≡ self.old) }
     {
         let (below, held) = find(&self.entries, key);
+        self.midstates.truncate(below / 16);
         if held {
             self.entries[below].1 = digest;
             return Ok(());
@@ -132,6 +194,7 @@ impl Bucket {
         ensures { OnOk result (self.new ≡ map.insert self.old key digest) }
     {
         let (below, held) = find(&self.entries, &key);
+        self.midstates.truncate(below / 16);
         if held {
             let entry = &mut self.entries[below];
             entry.1 = digest;
@@ -146,6 +209,7 @@ impl Bucket {
         ensures { self.new ≡ map.remove self.old key.now }
     {
         let (below, held) = find(&self.entries, key);
+        self.midstates.truncate(below / 16);
         if held {
             self.entries.remove(below);
         }

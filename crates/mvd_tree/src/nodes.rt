@@ -5,22 +5,23 @@ ghost use Rattle.mvd_tree.specs.Counted.{Hashes, all_keys};
 ghost use Rattle.mvd_tree.specs.Kept.{kept_bucket, digest_or_zeros};
 
 use crate::bucket::Bucket;
-use crate::digest::{Hashed, bucket_digest, or_zeros};
+use crate::digest::{Hashed, or_zeros};
 use mvd_dots::Refusal;
 use std::alloc::Global;
 
 /// What is kept of each bucket.
 pub(crate) fn bucket_nodes(
     alloc: Global,
-    buckets: &[Bucket],
+    buckets: &mut Vec<Bucket>,
     hashed: &mut Hashed,
 ) -> Result<Vec<Option<[u8; 32]>>, Refusal>
-    ensures nodes { IfOk result (λ nodes. nodes.items ≡ map (λ bucket. kept_bucket (entries bucket)) buckets.now) }
-    ensures counts { Hashes (length buckets.now) (32 * all_keys buckets.now) hashed.old hashed.new }
+    ensures nodes { IfOk result (λ nodes. nodes.items ≡ map (λ bucket. kept_bucket (entries bucket)) buckets.old.items) }
+    ensures same { buckets.new.items ≡ buckets.old.items }
+    ensures counts { Hashes (length buckets.old.items) (32 * all_keys buckets.old.items) hashed.old hashed.new }
 {
     let mut nodes = Vec::with_capacity(alloc, buckets.len())?;
-    for bucket in buckets {
-        nodes.push(bucket_digest(bucket.entries(), hashed))?;
+    for number in 0..buckets.len() {
+        nodes.push(buckets[number].digest(hashed))?;
     }
     Ok(nodes)
 }

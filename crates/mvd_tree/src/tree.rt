@@ -11,7 +11,7 @@ ghost use Rattle.mvd_tree.specs.Layout.{IsPath};
 
 use crate::bucket::{Bucket, copies};
 use crate::buckets::{bucket_number, change_bucket, filled};
-use crate::digest::{Hashed, bucket_digest, or_zeros};
+use crate::digest::{Hashed, or_zeros};
 use crate::level::Level;
 use crate::nodes::{all_or_zeros, bucket_nodes};
 use mvd_dots::Refusal;
@@ -98,8 +98,8 @@ impl Tree {
         ensures ok { IfOk result (λ tree. tree ≡ from_entries entries.items) }
         ensures counts { Hashes (length entries.items + 4369) (key_bytes entries.items + 32 * length entries.items + 174720) hashed.old hashed.new }
     {
-        let buckets = filled(alloc, entries, hashed)?;
-        let lowest = Level::new(alloc, bucket_nodes(alloc, &buckets, hashed)?, hashed)?;
+        let mut buckets = filled(alloc, entries, hashed)?;
+        let lowest = Level::new(alloc, bucket_nodes(alloc, &mut buckets, hashed)?, hashed)?;
         let middle = Level::new(alloc, lowest.all_over(alloc, 256, hashed)?, hashed)?;
         let upper = Level::new(alloc, middle.all_over(alloc, 16, hashed)?, hashed)?;
         let root = upper.over(0, hashed);
@@ -134,7 +134,7 @@ impl Tree {
         if change_bucket(&mut self.buckets, self.alloc, lowest, key, digest).is_err() {
             return Err(Refusal::Broken);
         }
-        let kept = bucket_digest(self.buckets[lowest].entries(), hashed);
+        let kept = self.buckets[lowest].digest(hashed);
         let over = self.lowest.set(lowest, kept, hashed);
         let over = self.middle.set(middle, over, hashed);
         self.root = self.upper.set(upper, over, hashed);

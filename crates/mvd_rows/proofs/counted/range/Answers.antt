@@ -14,3 +14,6 @@ returns-clause-refused c = IfErr-weaker c.page.result _ _ (λ refusal memory oth
 
 pub returns-clause-given : goal.returns-clause-given
 returns-clause-given c = IfOk-weaker c.page.result _ _ (λ page told defs states stands. told (visible_in states) (c.in-Some.ensures.places (visible_in states) stands.rows)) c.page.ensures.given
+
+pub returns-clause-none : goal.returns-clause-none
+returns-clause-none c = IfErr-weaker c.page.result _ _ (λ refusal memory other. absurd (other memory)) c.page.ensures.memory

@@ -10,3 +10,6 @@ returns-clause-found c = IfOk-weaker c.page.result _ _ (λ page told defs states
 
 pub returns-clause-refused : goal.returns-clause-refused
 returns-clause-refused c = IfErr-weaker c.page.result _ _ (λ refusal memory other. absurd (other memory)) c.page.ensures.memory
+
+pub returns-clause-none : goal.returns-clause-none
+returns-clause-none c = IfErr-weaker c.page.result _ _ (λ refusal memory other. absurd (other memory)) c.page.ensures.memory

@@ -1,30 +1,38 @@
-use Rattle.std.proofs.Common.{◌≡◌, ap, sym, ◌∙◌}
+use Rattle.std.proofs.Common.{◌≡◌, length, ap, sym, subst, subst₂, ◌∙◌, arith}
 use Rattle.std.specs.List.{insert}
+use Rattle.mvd_tree.specs.Midstates.{AreRead}
 use Rattle.mvd_tree.proofs.Entries.{after_put, put_held, put_absent}
+use Rattle.mvd_tree.proofs.Midstates.{read_insert, read_set}
 use Rattle.mvd_tree.proofs.bucket.Bucket.put.Goals as goal
 
 pub invariant_of-self : goal.invariant_of-self
 invariant_of-self c =
     let at = rw c.if-held.true at c.find-below.ensures.splits in
-    (after_put c.self.inside.entries.items _ c.args.self.now c.args.key.now c.args.digest c.self.invariant c.self.view_is
-    (put_held c.args.key.now c.args.digest c.self.inside.entries.items c.find-below.result.0 c.index_mut.result.now c.index_mut.ensures.value (rw c.deref.ensures.value at at))).0
+    record {
+      read = subst (AreRead _) (sym c.truncate.ensures.items) (read_set c.self.inside.entries.items c.self.inside.midstates.items c.find-below.result.0 _ c.self.invariant.read (omega (arith, ap length c.deref.ensures.value, c.find-below.ensures.within)));
+      sorted = (after_put c.self.inside.entries.items _ c.args.self.now c.args.key.now c.args.digest c.self.invariant.sorted c.self.view_is
+    (put_held c.args.key.now c.args.digest c.self.inside.entries.items c.find-below.result.0 c.index_mut.result.now c.index_mut.ensures.value (rw c.deref.ensures.value at at))).0;
+    }
 
 pub returns-then-held-clause-ok : goal.returns-then-held-clause-ok
 returns-then-held-clause-ok c =
     let at = rw c.if-held.true at c.find-below.ensures.splits in
-    (after_put c.self.inside.entries.items _ c.args.self.now c.args.key.now c.args.digest c.self.invariant c.self.view_is
+    (after_put c.self.inside.entries.items _ c.args.self.now c.args.key.now c.args.digest c.self.invariant.sorted c.self.view_is
     (put_held c.args.key.now c.args.digest c.self.inside.entries.items c.find-below.result.0 c.index_mut.result.now c.index_mut.ensures.value (rw c.deref.ensures.value at at))).1
 
 pub invariant_of-self-2 : goal.invariant_of-self-2
 invariant_of-self-2 c =
     let at = rw c.if-held.false at c.find-below.ensures.splits in
     let copied : c.in_ok-key.key ≡ c.args.key.now = let h = c.in_ok-key.ensures in cc in
-    (after_put c.self.inside.entries.items c.insert.new.self.items c.args.self.now c.args.key.now c.args.digest c.self.invariant c.self.view_is
-    (put_absent c.args.key.now c.args.digest c.self.inside.entries.items c.find-below.result.0 (rw c.deref.ensures.value at at) ∙ sym (c.in_ok-insert.ensures.items ∙ ap (λ k. insert c.self.inside.entries.items c.find-below.result.0 (k, c.args.digest)) copied))).0
+    record {
+      read = subst₂ AreRead (sym c.in_ok-insert.ensures.items) (sym c.truncate.ensures.items) (read_insert c.self.inside.entries.items c.self.inside.midstates.items c.find-below.result.0 _ c.self.invariant.read (omega (arith, ap length c.deref.ensures.value, c.find-below.ensures.within)));
+      sorted = (after_put c.self.inside.entries.items c.insert.new.self.items c.args.self.now c.args.key.now c.args.digest c.self.invariant.sorted c.self.view_is
+          (put_absent c.args.key.now c.args.digest c.self.inside.entries.items c.find-below.result.0 (rw c.deref.ensures.value at at) ∙ sym (c.in_ok-insert.ensures.items ∙ ap (λ k. insert c.self.inside.entries.items c.find-below.result.0 (k, c.args.digest)) copied))).0;
+    }
 
 pub returns-clause-ok : goal.returns-clause-ok
 returns-clause-ok c =
     let at = rw c.if-held.false at c.find-below.ensures.splits in
     let copied : c.in_ok-key.key ≡ c.args.key.now = let h = c.in_ok-key.ensures in cc in
-    (after_put c.self.inside.entries.items c.insert.new.self.items c.args.self.now c.args.key.now c.args.digest c.self.invariant c.self.view_is
+    (after_put c.self.inside.entries.items c.insert.new.self.items c.args.self.now c.args.key.now c.args.digest c.self.invariant.sorted c.self.view_is
     (put_absent c.args.key.now c.args.digest c.self.inside.entries.items c.find-below.result.0 (rw c.deref.ensures.value at at) ∙ sym (c.in_ok-insert.ensures.items ∙ ap (λ k. insert c.self.inside.entries.items c.find-below.result.0 (k, c.args.digest)) copied))).1

@@ -1,7 +1,7 @@
 //! What the commands of the program do: a script over several sites, and a stored site and its peers.
 #![tactic(auto)]
 
-mod asked;
+mod endpoint;
 mod commands;
 mod ending;
 mod hint;
@@ -17,7 +17,7 @@ mod serving;
 mod shell;
 mod talk;
 
-pub use asked::Asked;
+pub use endpoint::Endpoint;
 pub use commands::run;
 pub use hint::{Hint, Stop};
 pub use link::{Incoming, Link, Outgoing};

@@ -37,7 +37,7 @@ impl<R: Read + Drop, W: Write + Drop, E: Write> Peer for Watched<'_, R, W, E> {
 
     ghost states = { λ _. empty };
 
-    ghost is_true = { λ _. ⊥ };
+    ghost is_faithful = { λ _. ⊥ };
 
     ghost can_give = { λ _ _. Unit {0} };
 

@@ -1,5 +1,5 @@
 //! The requests that texts are.
-use crate::asked::Asked;
+use crate::endpoint::Endpoint;
 use mvd_docs::{Document, Field, Term, ViewName};
 use mvd_dots::{Context, Dot, Refusal};
 use mvd_input::Ask;
@@ -8,7 +8,7 @@ use mvd_wire::{Reply, Request};
 use std::alloc::Global;
 
 /// The request that the texts are, for its first page where it asks for a list. They are read from left to right.
-pub fn request_of<A: Asked>(
+pub fn request_of<A: Endpoint>(
     alloc: Global,
     asked: &mut A,
     ask: Ask<'_>,
@@ -29,7 +29,7 @@ pub fn request_of<A: Asked>(
     }
 }
 
-fn put_of<A: Asked>(
+fn put_of<A: Endpoint>(
     alloc: Global,
     asked: &mut A,
     key: &str,
@@ -42,7 +42,7 @@ fn put_of<A: Asked>(
     Ok(Request::Put(key, seen, document))
 }
 
-fn delete_of<A: Asked>(
+fn delete_of<A: Endpoint>(
     alloc: Global,
     asked: &mut A,
     key: &str,
@@ -54,7 +54,7 @@ fn delete_of<A: Asked>(
 }
 
 /// The context of a text; `@` is the context that is shown for the key now.
-fn context_of<A: Asked>(
+fn context_of<A: Endpoint>(
     alloc: Global,
     asked: &mut A,
     key: &Key,

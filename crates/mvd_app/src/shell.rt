@@ -2,7 +2,7 @@
 ghost use Rattle.std.specs.Prelude.{◌≤◌, ◌<◌, length, IfErr};
 ghost use Rattle.mvd_input.specs.Ends.{EndsEarly};
 
-use crate::asked::Asked;
+use crate::endpoint::Endpoint;
 use crate::hint::{Hint, Stop};
 use crate::link::Link;
 use crate::serving::tell;
@@ -36,7 +36,7 @@ CTX is - where nothing was read, @ for all that `get K` shows now, or a context.
 ///
 /// It ends as `Stopped` where a line has over 16,777,216 bytes, the reader or the writer fails, or memory is refused for what is
 /// read or printed.
-pub fn shell_run<A: Asked, R: BufRead, W: Write>(
+pub fn shell_run<A: Endpoint, R: BufRead, W: Write>(
     alloc: Global,
     asked: &mut A,
     reader: &mut R,
@@ -57,7 +57,7 @@ pub fn shell_run<A: Asked, R: BufRead, W: Write>(
 }
 
 /// Answers the line of this number.
-fn take<A: Asked>(
+fn take<A: Endpoint>(
     alloc: Global,
     asked: &mut A,
     number: u64,

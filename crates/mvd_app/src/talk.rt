@@ -1,7 +1,7 @@
 //! What is asked by one line, and what is printed of it.
 ghost use Rattle.std.specs.Prelude.{◌≡◌, IfErr};
 
-use crate::asked::Asked;
+use crate::endpoint::Endpoint;
 use crate::pages::next_page;
 use crate::printing::{print_refusal, print_reply};
 use crate::requests::request_of;
@@ -14,7 +14,7 @@ use std::alloc::Global;
 pub const LINE: usize = 64;
 
 /// Asks, and prints what is answered, of a list page after page, or only how it is refused.
-pub fn answer<A: Asked>(
+pub fn answer<A: Endpoint>(
     alloc: Global,
     asked: &mut A,
     ask: Ask<'_>,
@@ -44,7 +44,7 @@ pub fn settle(said: Result<(), Refusal>, start: usize, out: &mut String) -> Resu
 }
 
 /// Asks, and prints what is answered. A refusal is not printed but given back.
-pub fn say<A: Asked>(
+pub fn say<A: Endpoint>(
     alloc: Global,
     asked: &mut A,
     ask: Ask<'_>,
@@ -62,7 +62,7 @@ pub fn say<A: Asked>(
 }
 
 /// Asks for one page, prints it, and gives the request for the next one where more is left.
-fn turn<A: Asked>(
+fn turn<A: Endpoint>(
     alloc: Global,
     asked: &mut A,
     ask: Ask<'_>,

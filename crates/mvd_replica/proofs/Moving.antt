@@ -15,9 +15,9 @@ use Rattle.mvd_keys.specs.State.{State}
 use Rattle.mvd_keys.specs.Writes.{Key}
 use Rattle.mvd_keys.proofs.KeyOrder.{key_total, same_where_tied, tied_itself_key}
 use Rattle.mvd_keys.proofs.Rising.{first_true, second_true}
-use Rattle.mvd_wire.specs.Kind.{IsPrefixFree, Spells}
-use Rattle.mvd_wire.specs.Kinds.{Layout, layout1, layout2, state}
-use Rattle.mvd_wire.proofs.KindLaws.{lawful_state, wide_layout1, wide_layout2}
+use Rattle.mvd_wire.specs.Codec.{IsPrefixFree, Spells}
+use Rattle.mvd_wire.specs.Codecs.{Layout, layout1, layout2, state}
+use Rattle.mvd_wire.proofs.CodecLaws.{lawful_state, wide_layout1, wide_layout2}
 use Rattle.mvd_wire.proofs.Laws.{prefix_free}
 use Rattle.mvd_records.specs.Pairs.{Pair, entries_of}
 use Rattle.mvd_records.specs.States.{States as Stored}

@@ -17,8 +17,8 @@ use Rattle.mvd_keys.specs.State.{State}
 use Rattle.mvd_keys.specs.Writes.{Key}
 use Rattle.mvd_keys.proofs.KeyOrder.{key_antisymmetric, key_total, same_where_tied}
 use Rattle.mvd_keys.proofs.Rising.{first_true, second_true}
-use Rattle.mvd_wire.specs.Kind.{Spells, spelled_within}
-use Rattle.mvd_wire.specs.Kinds.{layout2, spell_state, state, state_limit}
+use Rattle.mvd_wire.specs.Codec.{Spells, spelled_within}
+use Rattle.mvd_wire.specs.Codecs.{layout2, spell_state, state, state_limit}
 use Rattle.mvd_records.specs.Pairs.{Pair, entries_of}
 use Rattle.mvd_records.specs.States.{States as Stored}
 use Rattle.mvd_records.specs.Records.{AreDisjoint, EndsMove, HasNone, IsWhole, KeepsStates, LacksKey, HoldsRecords, MovesState, TellsVersion, marks_of, new_states, old_states}

@@ -9,7 +9,7 @@ use Rattle.mvd_keys.specs.Key.{key_cmp}
 use Rattle.mvd_keys.proofs.KeyOrder.{key_total}
 use Rattle.mvd_keys.specs.State.{State}
 use Rattle.mvd_keys.specs.Writes.{Key}
-use Rattle.mvd_wire.specs.Kinds.{spell_state}
+use Rattle.mvd_wire.specs.Codecs.{spell_state}
 use Rattle.mvd_records.specs.States.{States as Stored}
 use Rattle.mvd_records.specs.Records.{HasNone, HoldsRecords, SavesState, new_states}
 use Rattle.mvd_site.specs.Change.{ChangeValue}

@@ -4,8 +4,8 @@ use Rattle.std.specs.FinMap.{get, len}
 use Rattle.mvd_dots.specs.declared.refusals.Refusal.TheVariants.{Damaged}
 use Rattle.mvd_keys.specs.State.{State}
 use Rattle.mvd_keys.specs.Writes.{Key}
-use Rattle.mvd_wire.specs.Kind.{Spells}
-use Rattle.mvd_wire.specs.Kinds.{Layout, layout1, layout2, spell_state, state}
+use Rattle.mvd_wire.specs.Codec.{Spells}
+use Rattle.mvd_wire.specs.Codecs.{Layout, layout1, layout2, spell_state, state}
 use Rattle.mvd_records.specs.States.{States as Stored}
 use Rattle.mvd_records.specs.Records.{AreApart, AreKeys, HasNone, HoldsRecords, IsWhole, TellsVersion, marks_of, new_states, old_states}
 use Rattle.mvd_site.specs.Held.{IsHeldState, States}

@@ -4,7 +4,7 @@ ghost use Rattle.std.specs.List.{AllByRecursion};
 ghost use Rattle.std.specs.FinMap.{entries, is_sorted};
 ghost use Rattle.mvd_keys.specs.Key.{key_cmp};
 ghost use Rattle.mvd_keys.specs.Writes.{Stands, Write};
-ghost use Rattle.mvd_wire.specs.Kinds.{spell_state};
+ghost use Rattle.mvd_wire.specs.Codecs.{spell_state};
 ghost use Rattle.mvd_records.specs.Pairs.{entries_of};
 ghost use Rattle.mvd_records.specs.States.{States as Stored};
 ghost use Rattle.mvd_records.specs.Records.{IsSound, HasNone, HoldsRecords, new_states, old_states};

@@ -28,7 +28,7 @@ impl<S: Alter> Peer for Replica<S> {
 
     ghost states = { λ replica. replica.site.states };
 
-    ghost is_true = { λ replica. IsTrueSite replica.site };
+    ghost is_faithful = { λ replica. IsTrueSite replica.site };
 
     ghost can_give = { λ _ _. Unit {0} };
 

@@ -22,7 +22,7 @@ use Rattle.mvd_tree.specs.Page.{children_digests, is_after, page_of, rest_of}
 use Rattle.mvd_tree.specs.States.{key_digest}
 use Rattle.mvd_tree.proofs.Held.{digests_of-empty, digests_of-entries, digests_of-insert}
 use Rattle.mvd_tree.proofs.KeyDigests.{Each, get-digests_of, got_each}
-use Rattle.mvd_wire.specs.Kinds.{key as spelled_key, spell_state}
+use Rattle.mvd_wire.specs.Codecs.{key as spelled_key, spell_state}
 use Rattle.mvd_wire.specs.Replies.{CanBeSent}
 use Rattle.mvd_wire.specs.declared.reply.Digests.{Digests}
 use Rattle.mvd_wire.specs.declared.reply.Reply.TheVariants.{Digests as Told}

@@ -4,8 +4,8 @@ use Rattle.mvd_keys.specs.State.{State, empty_state}
 use Rattle.mvd_keys.proofs.Lists.{IsValid-empty}
 use Rattle.std.proofs.lemmas.Bool.Decides.{nat_tests}
 use Rattle.mvd_dots.specs.declared.refusals.Refusal.TheVariants.{StateTooLarge}
-use Rattle.mvd_wire.specs.Kind.{spelled_within}
-use Rattle.mvd_wire.specs.Kinds.{layout2, spell_state, state, state_limit}
+use Rattle.mvd_wire.specs.Codec.{spelled_within}
+use Rattle.mvd_wire.specs.Codecs.{layout2, spell_state, state, state_limit}
 use Rattle.mvd_wire.proofs.Spellings.{length_empty}
 use Rattle.mvd_site.specs.Answer.{is_too_large}
 use Rattle.mvd_site.specs.Held.{IsKept}

@@ -13,7 +13,7 @@ use Rattle.mvd_keys.specs.Key.{key_cmp}
 use Rattle.mvd_keys.specs.State.{State, Text}
 use Rattle.mvd_keys.specs.Writes.{Key}
 use Rattle.mvd_rows.specs.Changes.{IsRoomy}
-use Rattle.mvd_wire.specs.Kinds.{spell_state, spell_sibling, state_limit}
+use Rattle.mvd_wire.specs.Codecs.{spell_state, spell_sibling, state_limit}
 use Rattle.mvd_wire.proofs.Spellings.{length_sibling, length_state}
 use Rattle.mvd_site.specs.Answer.{is_too_large}
 use Rattle.mvd_site.specs.Held.{AreHeld, IsHeldState, States}

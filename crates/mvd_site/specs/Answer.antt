@@ -20,7 +20,7 @@ use Rattle.mvd_rows.specs.Visible.{visible}
 use Rattle.mvd_tree.specs.HashTree.{KeyDigests, node_digest}
 use Rattle.mvd_tree.specs.Page.{children_digests, is_more_after_page, page_of}
 use Rattle.mvd_tree.specs.States.{digests_of}
-use Rattle.mvd_wire.specs.Kinds.{key as spelled_key, spell_state, state_limit}
+use Rattle.mvd_wire.specs.Codecs.{key as spelled_key, spell_state, state_limit}
 use Rattle.mvd_wire.specs.declared.request.Request.{Request}
 use Rattle.mvd_wire.specs.declared.request.Request.TheVariants.{Get, Put, Delete, Find, Row, Rows, Node, Bucket, Push, Range, Bye}
 use Rattle.mvd_wire.specs.declared.reply.Reply.{Reply}

@@ -6,7 +6,7 @@ use Rattle.mvd_keys.specs.State.{IsValid, State}
 use Rattle.mvd_keys.specs.Writes.{Key, is_empty}
 use Rattle.mvd_rows.specs.Changes.{state_in}
 use Rattle.mvd_tree.specs.States.{key_digest}
-use Rattle.mvd_wire.specs.Kinds.{layout2, state}
+use Rattle.mvd_wire.specs.Codecs.{layout2, state}
 use Rattle.mvd_site.specs.Answer.{is_too_large, spelled}
 
 -- key states by key

@@ -1,6 +1,6 @@
 //! What a request comes to, before anything is changed.
 ghost use Rattle.std.specs.Prelude.{◌≡◌, ◌≤◌, IfErr, IfOk, length};
-ghost use Rattle.mvd_wire.specs.Kinds.{spell_state, state_limit};
+ghost use Rattle.mvd_wire.specs.Codecs.{spell_state, state_limit};
 ghost use Rattle.mvd_site.specs.Change.{SpellsChange, reply_of};
 ghost use Rattle.mvd_site.specs.Held.{IsSpelled};
 
@@ -38,7 +38,7 @@ impl Change {
     ghost use Rattle.mvd_dots.specs.Answer.{IsAnswer};
     ghost use Rattle.mvd_tree.specs.Counted.{Hashes};
     ghost use Rattle.mvd_tree.specs.States.{key_digest};
-    ghost use Rattle.mvd_wire.specs.Kinds.{spell_state, state_limit};
+    ghost use Rattle.mvd_wire.specs.Codecs.{spell_state, state_limit};
     ghost use Rattle.mvd_site.specs.Answer.{spelled};
     ghost use Rattle.mvd_site.specs.Held.{IsSpelled};
 

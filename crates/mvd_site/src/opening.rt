@@ -5,7 +5,7 @@ ghost use Rattle.std.specs.FinMap.{from_entries, is_sorted};
 ghost use Rattle.mvd_dots.specs.declared.refusals.Refusal.TheVariants.{Memory};
 ghost use Rattle.mvd_keys.specs.Key.{key_cmp};
 ghost use Rattle.mvd_tree.specs.States.{key_digest};
-ghost use Rattle.mvd_wire.specs.Kinds.{spell_state, state_limit};
+ghost use Rattle.mvd_wire.specs.Codecs.{spell_state, state_limit};
 ghost use Rattle.mvd_site.specs.Answer.{spelled};
 ghost use Rattle.mvd_site.specs.Held.{AreHeld, IsHeldState, IsSpelled, key_digests};
 

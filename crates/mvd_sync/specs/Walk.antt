@@ -76,8 +76,8 @@ WalkEnds tell part local_true peer_true a b a' b' (Err fault) = Stopped part loc
 
 -- a side changes by pushes alone, whatever the other, and is true unless the fault is that it is broken
 abbrev pub PushesAlone : {N : Type 0} → (Refusal → SyncFault) → (Key → State → Type 0) → Type 0 → States → States → Result N SyncFault → Type 0
-PushesAlone taker can_give is_true a a' (Ok n) = is_true × ComesByPushes can_give a a'
-PushesAlone taker can_give is_true a a' (Err fault) = (fault ≢ taker Broken → is_true) × (is_true → ComesByPushes can_give a a')
+PushesAlone taker can_give is_faithful a a' (Ok n) = is_faithful × ComesByPushes can_give a a'
+PushesAlone taker can_give is_faithful a a' (Err fault) = (fault ≢ taker Broken → is_faithful) × (is_faithful → ComesByPushes can_give a a')
 
 -- a side's answer for a key was pushed into another side
 pub record Carries (can_give : Key → State → Type 0) (from_true : Type 0) (from into : States) (key : Key) (into' : States) : Type 0 where

@@ -49,9 +49,9 @@ impl Listing {
         path: &Path,
         after: Option<&Key>,
     ) -> Result<Self, Refusal>
-        ensures kept { P.is_true side.old → P.is_true side.new × (P.states side.new ≡ P.states side.old) }
-        ensures page { P.is_true side.old → IfOk result (λ page. IsListing (digests (P.states side.old)) path.now (option_copied after.entry) page.0 page.1) }
-        ensures no_clash { P.is_true side.old → IfErr result (λ refusal. refusal ≢ Refusal.DotClash) }
+        ensures kept { P.is_faithful side.old → P.is_faithful side.new × (P.states side.new ≡ P.states side.old) }
+        ensures page { P.is_faithful side.old → IfOk result (λ page. IsListing (digests (P.states side.old)) path.now (option_copied after.entry) page.0 page.1) }
+        ensures no_clash { P.is_faithful side.old → IfErr result (λ refusal. refusal ≢ Refusal.DotClash) }
         ensures follows { P.follows side.old side.new }
         ensures refuses { IfErr result (Blames (P.can_refuse side.new)) }
         ensures answers { OnOk result (P.can_answer side.new) }
@@ -78,9 +78,9 @@ impl Listing {
         path: &Path,
         after: Option<&Key>,
     ) -> Result<(), Refusal>
-        ensures kept { P.is_true side.old → P.is_true side.new × (P.states side.new ≡ P.states side.old) }
-        ensures page { P.is_true side.old → IsListing (digests (P.states side.old)) path.now (option_copied after.entry) self.old.0 self.old.1 → OnOk result (IsListing (digests (P.states side.old)) path.now (option_copied after.entry) self.new.0 self.new.1) }
-        ensures no_clash { P.is_true side.old → IfErr result (λ refusal. refusal ≢ Refusal.DotClash) }
+        ensures kept { P.is_faithful side.old → P.is_faithful side.new × (P.states side.new ≡ P.states side.old) }
+        ensures page { P.is_faithful side.old → IsListing (digests (P.states side.old)) path.now (option_copied after.entry) self.old.0 self.old.1 → OnOk result (IsListing (digests (P.states side.old)) path.now (option_copied after.entry) self.new.0 self.new.1) }
+        ensures no_clash { P.is_faithful side.old → IfErr result (λ refusal. refusal ≢ Refusal.DotClash) }
         ensures follows { P.follows side.old side.new }
         ensures refuses { IfErr result (Blames (P.can_refuse side.new)) }
         ensures answers { P.can_answer side.old → OnOk result (P.can_answer side.new) }

@@ -22,7 +22,7 @@ pub trait Peer {
     ghost states: { Self → States };
 
     /// Whether it is true to them.
-    ghost is_true: { Self → Type 0 };
+    ghost is_faithful: { Self → Type 0 };
 
     /// What it may give as the state of a key, true or not.
     ghost can_give: { Key → State → Type 0 };
@@ -38,11 +38,11 @@ pub trait Peer {
 
     /// The digest of a node and, above the buckets, those of its sixteen children.
     fn node(&mut self, path: &Path) -> Result<Digests, Refusal>
-        ensures kept { is_true self.old → is_true self.new × (states self.new ≡ states self.old) }
-        ensures own { is_true self.old → IfOk result (λ d. d.own ≡ node_digest (digests (states self.old)) path.now) }
-        ensures inner { is_true self.old → length path.now < 3 → IfOk result (λ d. d.children ≡ Some (children_digests (digests (states self.old)) path.now)) }
-        ensures bucket { is_true self.old → 3 ≤ length path.now → IfOk result (λ d. d.children ≡ None) }
-        ensures no_clash { is_true self.old → IfErr result (λ refusal. refusal ≢ Refusal.DotClash) }
+        ensures kept { is_faithful self.old → is_faithful self.new × (states self.new ≡ states self.old) }
+        ensures own { is_faithful self.old → IfOk result (λ d. d.own ≡ node_digest (digests (states self.old)) path.now) }
+        ensures inner { is_faithful self.old → length path.now < 3 → IfOk result (λ d. d.children ≡ Some (children_digests (digests (states self.old)) path.now)) }
+        ensures bucket { is_faithful self.old → 3 ≤ length path.now → IfOk result (λ d. d.children ≡ None) }
+        ensures no_clash { is_faithful self.old → IfErr result (λ refusal. refusal ≢ Refusal.DotClash) }
         ensures follows { follows self.old self.new }
         ensures refuses { IfErr result (can_refuse self.new) }
         ensures answers { OnOk result (can_answer self.new) };
@@ -53,37 +53,37 @@ pub trait Peer {
         path: &Path,
         after: Option<&Key>,
     ) -> Result<(Vec<(Key, [u8; 32])>, bool), Refusal>
-        ensures kept { is_true self.old → is_true self.new × (states self.new ≡ states self.old) }
-        ensures page { is_true self.old → IfOk result (λ page. page.0.items ≡ page_of (digests (states self.old)) path.now (option_copied after.entry)) }
-        ensures more { is_true self.old → IfOk result (λ page. page.1 ≡ is_more_after_page (digests (states self.old)) path.now (option_copied after.entry)) }
-        ensures no_clash { is_true self.old → IfErr result (λ refusal. refusal ≢ Refusal.DotClash) }
+        ensures kept { is_faithful self.old → is_faithful self.new × (states self.new ≡ states self.old) }
+        ensures page { is_faithful self.old → IfOk result (λ page. page.0.items ≡ page_of (digests (states self.old)) path.now (option_copied after.entry)) }
+        ensures more { is_faithful self.old → IfOk result (λ page. page.1 ≡ is_more_after_page (digests (states self.old)) path.now (option_copied after.entry)) }
+        ensures no_clash { is_faithful self.old → IfErr result (λ refusal. refusal ≢ Refusal.DotClash) }
         ensures follows { follows self.old self.new }
         ensures refuses { IfErr result (can_refuse self.new) }
         ensures answers { OnOk result (can_answer self.new) };
 
     /// The state of a key, which is the empty one where the key is not held.
     fn get(&mut self, key: &Key) -> Result<KeyState, Refusal>
-        ensures kept { is_true self.old → is_true self.new × (states self.new ≡ states self.old) }
-        ensures answer { is_true self.old → IfOk result (λ state. state ≡ state_at (states self.old) key.now) }
+        ensures kept { is_faithful self.old → is_faithful self.new × (states self.new ≡ states self.old) }
+        ensures answer { is_faithful self.old → IfOk result (λ state. state ≡ state_at (states self.old) key.now) }
         ensures given { IfOk result (λ state. can_give key.now state) }
-        ensures no_clash { is_true self.old → IfErr result (λ refusal. refusal ≢ Refusal.DotClash) }
+        ensures no_clash { is_faithful self.old → IfErr result (λ refusal. refusal ≢ Refusal.DotClash) }
         ensures follows { follows self.old self.new }
         ensures refuses { IfErr result (can_refuse self.new) }
         ensures answers { OnOk result (can_answer self.new) };
 
     /// Joins a state to that of a key.
     fn push(&mut self, key: &Key, state: &KeyState) -> Result<(), Refusal>
-        ensures ok { is_true self.old → OnOk result (is_true self.new × (states self.new ≡ pushed (states self.old) key.now state.now)) }
-        ensures apart { is_true self.old → OnOk result (clashes (state_at (states self.old) key.now) state.now ≡ false) }
-        ensures refused { is_true self.old → is_true self.new → IfErr result (λ _. states self.new ≡ states self.old) }
-        ensures unbroken { is_true self.old → IfErr result (λ refusal. refusal ≢ Refusal.Broken → is_true self.new) }
-        ensures clash { is_true self.old → IfErr result (λ refusal. refusal ≡ Refusal.DotClash → clashes (state_at (states self.old) key.now) state.now ≡ true) }
+        ensures ok { is_faithful self.old → OnOk result (is_faithful self.new × (states self.new ≡ pushed (states self.old) key.now state.now)) }
+        ensures apart { is_faithful self.old → OnOk result (clashes (state_at (states self.old) key.now) state.now ≡ false) }
+        ensures refused { is_faithful self.old → is_faithful self.new → IfErr result (λ _. states self.new ≡ states self.old) }
+        ensures unbroken { is_faithful self.old → IfErr result (λ refusal. refusal ≢ Refusal.Broken → is_faithful self.new) }
+        ensures clash { is_faithful self.old → IfErr result (λ refusal. refusal ≡ Refusal.DotClash → clashes (state_at (states self.old) key.now) state.now ≡ true) }
         ensures follows { follows self.old self.new }
         ensures refuses { IfErr result (can_refuse self.new) }
         ensures answers { OnOk result (can_answer self.new) };
 
     /// A true side holds keys and states in form.
-    ghost in_form: { (side : Self) → is_true side → AreHeld (states side) };
+    ghost in_form: { (side : Self) → is_faithful side → AreHeld (states side) };
 
     /// No call is as good as some.
     ghost follows_self: { (side : Self) → follows side side };

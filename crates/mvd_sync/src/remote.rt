@@ -5,7 +5,7 @@ ghost use Rattle.mvd_wire.specs.declared.request.Request.TheVariants.{Get, Node,
 ghost use Rattle.mvd_wire.specs.declared.reply.Reply.TheVariants.{State as Shown, Done, Digests as Told, Keys, Refused};
 ghost use Rattle.mvd_sync.specs.Links.{Asks, Refuses, SendsFrame, Sends, answered_by, link};
 ghost use Rattle.mvd_sync.specs.Sides.{Stays, stays_on};
-ghost use Rattle.mvd_wire.specs.Kind.{Gives};
+ghost use Rattle.mvd_wire.specs.Codec.{Gives};
 ghost use Rattle.mvd_wire.specs.Replies.{kind_of};
 ghost use Rattle.mvd_wire.specs.Requests.{request_frame};
 ghost use Rattle.std.specs.FinMap.{empty};
@@ -251,7 +251,7 @@ impl<R: Read + Drop, W: Write + Drop> Peer for Remote<R, W> {
     ghost states = { λ _. empty };
 
     // No truth is claimed of what is told over a connection.
-    ghost is_true = { λ _. ⊥ };
+    ghost is_faithful = { λ _. ⊥ };
 
     ghost can_give = { λ _ _. Unit {0} };
 

@@ -41,8 +41,8 @@ pub fn sync_within<L: Peer, P: Peer>(
     requires limit { questions ≤ MOST_QUESTIONS }
 
     // Whatever the other side is, a side changes by pushes of states that the other may give, and by nothing else.
-    ensures pushes { L.is_true local.old → L.is_true local.new → ComesByPushes P.can_give (L.states local.old) (L.states local.new) }
-    ensures peer_pushes { P.is_true peer.old → P.is_true peer.new → ComesByPushes L.can_give (P.states peer.old) (P.states peer.new) }
+    ensures pushes { L.is_faithful local.old → L.is_faithful local.new → ComesByPushes P.can_give (L.states local.old) (L.states local.new) }
+    ensures peer_pushes { P.is_faithful peer.old → P.is_faithful peer.new → ComesByPushes L.can_give (P.states peer.old) (P.states peer.new) }
 
     // Of neither side a call changes more than its calls may, true or not.
     ensures follows { L.follows local.old local.new × P.follows peer.old peer.new }
@@ -52,19 +52,19 @@ pub fn sync_within<L: Peer, P: Peer>(
     ensures answers { OnOk result (L.can_answer local.new × P.can_answer peer.new) }
 
     // Beside a side that answers nothing the other keeps its states.
-    ensures silent_local { IsSilent L.follows L.can_answer local.old → P.is_true peer.old → P.is_true peer.new × (P.states peer.new ≡ P.states peer.old) }
-    ensures silent_peer { IsSilent P.follows P.can_answer peer.old → L.is_true local.old → L.is_true local.new × (L.states local.new ≡ L.states local.old) }
+    ensures silent_local { IsSilent L.follows L.can_answer local.old → P.is_faithful peer.old → P.is_faithful peer.new × (P.states peer.new ≡ P.states peer.old) }
+    ensures silent_peer { IsSilent P.follows P.can_answer peer.old → L.is_faithful local.old → L.is_faithful local.new × (L.states local.new ≡ L.states local.old) }
 
     // It stays true, unless it says that it is broken.
-    ensures local_unbroken { L.is_true local.old → MatchResult result (λ _. L.is_true local.new) (λ fault. fault ≢ SyncFault.Local Refusal.Broken → L.is_true local.new) }
-    ensures peer_unbroken { P.is_true peer.old → MatchResult result (λ _. P.is_true peer.new) (λ fault. fault ≢ SyncFault.Peer Refusal.Broken → P.is_true peer.new) }
+    ensures local_unbroken { L.is_faithful local.old → MatchResult result (λ _. L.is_faithful local.new) (λ fault. fault ≢ SyncFault.Local Refusal.Broken → L.is_faithful local.new) }
+    ensures peer_unbroken { P.is_faithful peer.old → MatchResult result (λ _. P.is_faithful peer.new) (λ fault. fault ≢ SyncFault.Peer Refusal.Broken → P.is_faithful peer.new) }
 
     // Between true sides states are joined, at a fault, too.
-    ensures session { L.is_true local.old → P.is_true peer.old → SessionEnds (λ report. report.keys) (L.is_true local.new) (P.is_true peer.new) (L.states local.old) (P.states peer.old) (L.states local.new) (P.states peer.new) result }
-    ensures clash { L.is_true local.old → P.is_true peer.old → IfErr result (λ fault. IsClash fault → HaveClash (L.states local.old) (P.states peer.old)) }
+    ensures session { L.is_faithful local.old → P.is_faithful peer.old → SessionEnds (λ report. report.keys) (L.is_faithful local.new) (P.is_faithful peer.new) (L.states local.old) (P.states peer.old) (L.states local.new) (P.states peer.new) result }
+    ensures clash { L.is_faithful local.old → P.is_faithful peer.old → IfErr result (λ fault. IsClash fault → HaveClash (L.states local.old) (P.states peer.old)) }
 
     // With no fault all is joined, where SHA-256 tells the texts of the two trees apart.
-    ensures complete { L.is_true local.old → P.is_true peer.old → HashesTellApart spelled (L.states local.old) (P.states peer.old) → IfOk result (λ report. SessionCompletes (L.states local.old) (P.states peer.old) (L.states local.new) (P.states peer.new) report.keys) }
+    ensures complete { L.is_faithful local.old → P.is_faithful peer.old → HashesTellApart spelled (L.states local.old) (P.states peer.old) → IfOk result (λ report. SessionCompletes (L.states local.old) (P.states peer.old) (L.states local.new) (P.states peer.new) report.keys) }
 {
     let mut left = Questions {
         local: questions,
@@ -86,18 +86,18 @@ pub fn sync<L: Peer, P: Peer>(
     local: &mut L,
     peer: &mut P,
 ) -> Result<Report, SyncFault>
-    ensures pushes { L.is_true local.old → L.is_true local.new → ComesByPushes P.can_give (L.states local.old) (L.states local.new) }
-    ensures peer_pushes { P.is_true peer.old → P.is_true peer.new → ComesByPushes L.can_give (P.states peer.old) (P.states peer.new) }
+    ensures pushes { L.is_faithful local.old → L.is_faithful local.new → ComesByPushes P.can_give (L.states local.old) (L.states local.new) }
+    ensures peer_pushes { P.is_faithful peer.old → P.is_faithful peer.new → ComesByPushes L.can_give (P.states peer.old) (P.states peer.new) }
     ensures follows { L.follows local.old local.new × P.follows peer.old peer.new }
     ensures blames { IfErr result (IsFaultOf (L.can_refuse local.new) (P.can_refuse peer.new)) }
     ensures answers { OnOk result (L.can_answer local.new × P.can_answer peer.new) }
-    ensures silent_local { IsSilent L.follows L.can_answer local.old → P.is_true peer.old → P.is_true peer.new × (P.states peer.new ≡ P.states peer.old) }
-    ensures silent_peer { IsSilent P.follows P.can_answer peer.old → L.is_true local.old → L.is_true local.new × (L.states local.new ≡ L.states local.old) }
-    ensures local_unbroken { L.is_true local.old → MatchResult result (λ _. L.is_true local.new) (λ fault. fault ≢ SyncFault.Local Refusal.Broken → L.is_true local.new) }
-    ensures peer_unbroken { P.is_true peer.old → MatchResult result (λ _. P.is_true peer.new) (λ fault. fault ≢ SyncFault.Peer Refusal.Broken → P.is_true peer.new) }
-    ensures session { L.is_true local.old → P.is_true peer.old → SessionEnds (λ report. report.keys) (L.is_true local.new) (P.is_true peer.new) (L.states local.old) (P.states peer.old) (L.states local.new) (P.states peer.new) result }
-    ensures clash { L.is_true local.old → P.is_true peer.old → IfErr result (λ fault. IsClash fault → HaveClash (L.states local.old) (P.states peer.old)) }
-    ensures complete { L.is_true local.old → P.is_true peer.old → HashesTellApart spelled (L.states local.old) (P.states peer.old) → IfOk result (λ report. SessionCompletes (L.states local.old) (P.states peer.old) (L.states local.new) (P.states peer.new) report.keys) }
+    ensures silent_local { IsSilent L.follows L.can_answer local.old → P.is_faithful peer.old → P.is_faithful peer.new × (P.states peer.new ≡ P.states peer.old) }
+    ensures silent_peer { IsSilent P.follows P.can_answer peer.old → L.is_faithful local.old → L.is_faithful local.new × (L.states local.new ≡ L.states local.old) }
+    ensures local_unbroken { L.is_faithful local.old → MatchResult result (λ _. L.is_faithful local.new) (λ fault. fault ≢ SyncFault.Local Refusal.Broken → L.is_faithful local.new) }
+    ensures peer_unbroken { P.is_faithful peer.old → MatchResult result (λ _. P.is_faithful peer.new) (λ fault. fault ≢ SyncFault.Peer Refusal.Broken → P.is_faithful peer.new) }
+    ensures session { L.is_faithful local.old → P.is_faithful peer.old → SessionEnds (λ report. report.keys) (L.is_faithful local.new) (P.is_faithful peer.new) (L.states local.old) (P.states peer.old) (L.states local.new) (P.states peer.new) result }
+    ensures clash { L.is_faithful local.old → P.is_faithful peer.old → IfErr result (λ fault. IsClash fault → HaveClash (L.states local.old) (P.states peer.old)) }
+    ensures complete { L.is_faithful local.old → P.is_faithful peer.old → HashesTellApart spelled (L.states local.old) (P.states peer.old) → IfOk result (λ report. SessionCompletes (L.states local.old) (P.states peer.old) (L.states local.new) (P.states peer.new) report.keys) }
 {
     sync_within(alloc, local, peer, MOST_QUESTIONS)
 }

@@ -14,7 +14,7 @@ use mvd_wire::Digests;
 impl Peer for Site {
     ghost states = { λ site. site.states };
 
-    ghost is_true = { λ site. (site.broken ≡ false) × AreHeld site.states };
+    ghost is_faithful = { λ site. (site.broken ≡ false) × AreHeld site.states };
 
     ghost can_give = { λ _ _. Unit {0} };
 

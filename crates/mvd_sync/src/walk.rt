@@ -54,10 +54,10 @@ struct Node {
 /// What a side answers for a node above the buckets; digests without children are 33.
 fn ask_node<P: Peer>(side: &mut P, left: &mut u64, path: &Path) -> Result<Node, Refusal>
     requires { length path.now < 3 }
-    ensures kept { P.is_true side.old → P.is_true side.new × (P.states side.new ≡ P.states side.old) }
-    ensures own { P.is_true side.old → IfOk result (λ n. n.own ≡ node_digest (digests (P.states side.old)) path.now) }
-    ensures children { P.is_true side.old → IfOk result (λ n. n.children ≡ children_digests (digests (P.states side.old)) path.now) }
-    ensures no_clash { P.is_true side.old → IfErr result (λ refusal. refusal ≢ Refusal.DotClash) }
+    ensures kept { P.is_faithful side.old → P.is_faithful side.new × (P.states side.new ≡ P.states side.old) }
+    ensures own { P.is_faithful side.old → IfOk result (λ n. n.own ≡ node_digest (digests (P.states side.old)) path.now) }
+    ensures children { P.is_faithful side.old → IfOk result (λ n. n.children ≡ children_digests (digests (P.states side.old)) path.now) }
+    ensures no_clash { P.is_faithful side.old → IfErr result (λ refusal. refusal ≢ Refusal.DotClash) }
     ensures left { left.new ≤ left.old }
     ensures follows { P.follows side.old side.new }
     ensures refuses { IfErr result (Blames (P.can_refuse side.new)) }
@@ -74,10 +74,10 @@ fn ask_node<P: Peer>(side: &mut P, left: &mut u64, path: &Path) -> Result<Node, 
 
 /// Asks a side for the state of a key.
 fn ask_get<P: Peer>(side: &mut P, left: &mut u64, key: &Key) -> Result<KeyState, Refusal>
-    ensures kept { P.is_true side.old → P.is_true side.new × (P.states side.new ≡ P.states side.old) }
-    ensures answer { P.is_true side.old → IfOk result (λ state. state ≡ state_at (P.states side.old) key.now) }
+    ensures kept { P.is_faithful side.old → P.is_faithful side.new × (P.states side.new ≡ P.states side.old) }
+    ensures answer { P.is_faithful side.old → IfOk result (λ state. state ≡ state_at (P.states side.old) key.now) }
     ensures given { IfOk result (λ state. P.can_give key.now state) }
-    ensures no_clash { P.is_true side.old → IfErr result (λ refusal. refusal ≢ Refusal.DotClash) }
+    ensures no_clash { P.is_faithful side.old → IfErr result (λ refusal. refusal ≢ Refusal.DotClash) }
     ensures left { OnOk result (left.new + 1 ≡ left.old) }
     ensures least { left.new ≤ left.old }
     ensures follows { P.follows side.old side.new }
@@ -95,11 +95,11 @@ fn ask_push<P: Peer>(
     key: &Key,
     state: &KeyState,
 ) -> Result<(), Refusal>
-    ensures ok { P.is_true side.old → OnOk result (P.is_true side.new × (P.states side.new ≡ pushed (P.states side.old) key.now state.now)) }
-    ensures apart { P.is_true side.old → OnOk result (clashes (state_at (P.states side.old) key.now) state.now ≡ false) }
-    ensures refused { P.is_true side.old → P.is_true side.new → OnErr result (P.states side.new ≡ P.states side.old) }
-    ensures unbroken { P.is_true side.old → IfErr result (λ refusal. refusal ≢ Refusal.Broken → P.is_true side.new) }
-    ensures clash { P.is_true side.old → IfErr result (λ refusal. refusal ≡ Refusal.DotClash → clashes (state_at (P.states side.old) key.now) state.now ≡ true) }
+    ensures ok { P.is_faithful side.old → OnOk result (P.is_faithful side.new × (P.states side.new ≡ pushed (P.states side.old) key.now state.now)) }
+    ensures apart { P.is_faithful side.old → OnOk result (clashes (state_at (P.states side.old) key.now) state.now ≡ false) }
+    ensures refused { P.is_faithful side.old → P.is_faithful side.new → OnErr result (P.states side.new ≡ P.states side.old) }
+    ensures unbroken { P.is_faithful side.old → IfErr result (λ refusal. refusal ≢ Refusal.Broken → P.is_faithful side.new) }
+    ensures clash { P.is_faithful side.old → IfErr result (λ refusal. refusal ≡ Refusal.DotClash → clashes (state_at (P.states side.old) key.now) state.now ≡ true) }
     ensures valid { IsValid state.now }
     ensures left { left.new ≤ left.old }
     ensures follows { P.follows side.old side.new }
@@ -119,9 +119,9 @@ fn pull<L: Peer, P: Peer>(
     left: &mut Questions,
     key: &Key,
 ) -> Result<(), SyncFault>
-    ensures peer { P.is_true peer.old → P.is_true peer.new × (P.states peer.new ≡ P.states peer.old) }
-    ensures no_clash { P.is_true peer.old → IfErr result (λ fault. fault ≢ SyncFault.Peer Refusal.DotClash) }
-    ensures local { L.is_true local.old → CarryEnds SyncFault.Local P.can_give (P.is_true peer.old) (P.states peer.old) (L.states local.old) key.now (L.is_true local.new) (L.states local.new) result }
+    ensures peer { P.is_faithful peer.old → P.is_faithful peer.new × (P.states peer.new ≡ P.states peer.old) }
+    ensures no_clash { P.is_faithful peer.old → IfErr result (λ fault. fault ≢ SyncFault.Peer Refusal.DotClash) }
+    ensures local { L.is_faithful local.old → CarryEnds SyncFault.Local P.can_give (P.is_faithful peer.old) (P.states peer.old) (L.states local.old) key.now (L.is_faithful local.new) (L.states local.new) result }
     ensures asked { OnOk result (left.new.peer + 1 ≡ left.old.peer) }
     ensures left_peer { left.new.peer ≤ left.old.peer }
     ensures left_local { left.new.local ≤ left.old.local }
@@ -146,9 +146,9 @@ fn give<L: Peer, P: Peer>(
     left: &mut Questions,
     key: &Key,
 ) -> Result<(), SyncFault>
-    ensures local { L.is_true local.old → L.is_true local.new × (L.states local.new ≡ L.states local.old) }
-    ensures no_clash { L.is_true local.old → IfErr result (λ fault. fault ≢ SyncFault.Local Refusal.DotClash) }
-    ensures peer { P.is_true peer.old → CarryEnds SyncFault.Peer L.can_give (L.is_true local.old) (L.states local.old) (P.states peer.old) key.now (P.is_true peer.new) (P.states peer.new) result }
+    ensures local { L.is_faithful local.old → L.is_faithful local.new × (L.states local.new ≡ L.states local.old) }
+    ensures no_clash { L.is_faithful local.old → IfErr result (λ fault. fault ≢ SyncFault.Local Refusal.DotClash) }
+    ensures peer { P.is_faithful peer.old → CarryEnds SyncFault.Peer L.can_give (L.is_faithful local.old) (L.states local.old) (P.states peer.old) key.now (P.is_faithful peer.new) (P.states peer.new) result }
     ensures left_peer { left.new.peer ≤ left.old.peer }
     ensures left_local { left.new.local ≤ left.old.local }
     ensures follows { L.follows local.old local.new × P.follows peer.old peer.new }
@@ -172,9 +172,9 @@ fn exchange<L: Peer, P: Peer>(
     left: &mut Questions,
     key: &Key,
 ) -> Result<u64, SyncFault>
-    ensures pushes { L.is_true local.old → PushesAlone SyncFault.Local P.can_give (L.is_true local.new) (L.states local.old) (L.states local.new) result }
-    ensures peer_pushes { P.is_true peer.old → PushesAlone SyncFault.Peer L.can_give (P.is_true peer.new) (P.states peer.old) (P.states peer.new) result }
-    ensures session { L.is_true local.old → P.is_true peer.old → get (L.states local.old) key.now ≢ get (P.states peer.old) key.now → WalkEnds (Unit {0}) (λ k. k ≡ key.now) (L.is_true local.new) (P.is_true peer.new) (L.states local.old) (P.states peer.old) (L.states local.new) (P.states peer.new) result }
+    ensures pushes { L.is_faithful local.old → PushesAlone SyncFault.Local P.can_give (L.is_faithful local.new) (L.states local.old) (L.states local.new) result }
+    ensures peer_pushes { P.is_faithful peer.old → PushesAlone SyncFault.Peer L.can_give (P.is_faithful peer.new) (P.states peer.old) (P.states peer.new) result }
+    ensures session { L.is_faithful local.old → P.is_faithful peer.old → get (L.states local.old) key.now ≢ get (P.states peer.old) key.now → WalkEnds (Unit {0}) (λ k. k ≡ key.now) (L.is_faithful local.new) (P.is_faithful peer.new) (L.states local.old) (P.states peer.old) (L.states local.new) (P.states peer.new) result }
     ensures left_local { left.new.local ≤ left.old.local }
     ensures left { left.new.peer ≤ left.old.peer }
     ensures keys { IfOk result (λ n. n + left.new.peer ≤ left.old.peer) }
@@ -200,9 +200,9 @@ fn settle<L: Peer, P: Peer>(
     key: &Key,
     differs: bool,
 ) -> Result<u64, SyncFault>
-    ensures pushes { L.is_true local.old → PushesAlone SyncFault.Local P.can_give (L.is_true local.new) (L.states local.old) (L.states local.new) result }
-    ensures peer_pushes { P.is_true peer.old → PushesAlone SyncFault.Peer L.can_give (P.is_true peer.new) (P.states peer.old) (P.states peer.new) result }
-    ensures session { L.is_true local.old → P.is_true peer.old → (IsTrue differs → get (L.states local.old) key.now ≢ get (P.states peer.old) key.now) → WalkEnds (Unit {0}) (λ k. (k ≡ key.now) × IsTrue differs) (L.is_true local.new) (P.is_true peer.new) (L.states local.old) (P.states peer.old) (L.states local.new) (P.states peer.new) result }
+    ensures pushes { L.is_faithful local.old → PushesAlone SyncFault.Local P.can_give (L.is_faithful local.new) (L.states local.old) (L.states local.new) result }
+    ensures peer_pushes { P.is_faithful peer.old → PushesAlone SyncFault.Peer L.can_give (P.is_faithful peer.new) (P.states peer.old) (P.states peer.new) result }
+    ensures session { L.is_faithful local.old → P.is_faithful peer.old → (IsTrue differs → get (L.states local.old) key.now ≢ get (P.states peer.old) key.now) → WalkEnds (Unit {0}) (λ k. (k ≡ key.now) × IsTrue differs) (L.is_faithful local.new) (P.is_faithful peer.new) (L.states local.old) (P.states peer.old) (L.states local.new) (P.states peer.new) result }
     ensures left_local { left.new.local ≤ left.old.local }
     ensures left { left.new.peer ≤ left.old.peer }
     ensures keys { IfOk result (λ n. n + left.new.peer ≤ left.old.peer) }
@@ -225,16 +225,16 @@ fn walk_bucket<L: Peer, P: Peer>(
     path: &Path,
 ) -> Result<u64, SyncFault>
     requires { length path.now ≡ 3 }
-    ensures pushes { L.is_true local.old → PushesAlone SyncFault.Local P.can_give (L.is_true local.new) (L.states local.old) (L.states local.new) result }
-    ensures peer_pushes { P.is_true peer.old → PushesAlone SyncFault.Peer L.can_give (P.is_true peer.new) (P.states peer.old) (P.states peer.new) result }
-    ensures session { L.is_true local.old → P.is_true peer.old → WalkEnds (DigestsTell path.now (L.states local.old) (P.states peer.old)) (IsBelow path.now) (L.is_true local.new) (P.is_true peer.new) (L.states local.old) (P.states peer.old) (L.states local.new) (P.states peer.new) result }
+    ensures pushes { L.is_faithful local.old → PushesAlone SyncFault.Local P.can_give (L.is_faithful local.new) (L.states local.old) (L.states local.new) result }
+    ensures peer_pushes { P.is_faithful peer.old → PushesAlone SyncFault.Peer L.can_give (P.is_faithful peer.new) (P.states peer.old) (P.states peer.new) result }
+    ensures session { L.is_faithful local.old → P.is_faithful peer.old → WalkEnds (DigestsTell path.now (L.states local.old) (P.states peer.old)) (IsBelow path.now) (L.is_faithful local.new) (P.is_faithful peer.new) (L.states local.old) (P.states peer.old) (L.states local.new) (P.states peer.new) result }
     ensures left { left.new.peer ≤ left.old.peer }
     ensures keys { IfOk result (λ n. n + left.new.peer ≤ left.old.peer) }
     ensures follows { L.follows local.old local.new × P.follows peer.old peer.new }
     ensures blames { IfErr result (IsFaultOf (L.can_refuse local.new) (P.can_refuse peer.new)) }
     ensures answers { OnOk result (L.can_answer local.new × P.can_answer peer.new) }
-    ensures silent_local { IsSilent L.follows L.can_answer local.old → P.is_true peer.old → P.is_true peer.new × (P.states peer.new ≡ P.states peer.old) }
-    ensures silent_peer { IsSilent P.follows P.can_answer peer.old → L.is_true local.old → L.is_true local.new × (L.states local.new ≡ L.states local.old) }
+    ensures silent_local { IsSilent L.follows L.can_answer local.old → P.is_faithful peer.old → P.is_faithful peer.new × (P.states peer.new ≡ P.states peer.old) }
+    ensures silent_peer { IsSilent P.follows P.can_answer peer.old → L.is_faithful local.old → L.is_faithful local.new × (L.states local.new ≡ L.states local.old) }
 {
     let mut mine = match Listing::fetch(local, &mut left.local, path, None) {
         Ok(page) => page,
@@ -298,16 +298,16 @@ pub fn walk<L: Peer, P: Peer>(
     path: &Path,
 ) -> Result<u64, SyncFault>
     requires { length path.now ≤ 3 }
-    ensures pushes { L.is_true local.old → PushesAlone SyncFault.Local P.can_give (L.is_true local.new) (L.states local.old) (L.states local.new) result }
-    ensures peer_pushes { P.is_true peer.old → PushesAlone SyncFault.Peer L.can_give (P.is_true peer.new) (P.states peer.old) (P.states peer.new) result }
-    ensures session { L.is_true local.old → P.is_true peer.old → WalkEnds (DigestsTell path.now (L.states local.old) (P.states peer.old)) (IsBelow path.now) (L.is_true local.new) (P.is_true peer.new) (L.states local.old) (P.states peer.old) (L.states local.new) (P.states peer.new) result }
+    ensures pushes { L.is_faithful local.old → PushesAlone SyncFault.Local P.can_give (L.is_faithful local.new) (L.states local.old) (L.states local.new) result }
+    ensures peer_pushes { P.is_faithful peer.old → PushesAlone SyncFault.Peer L.can_give (P.is_faithful peer.new) (P.states peer.old) (P.states peer.new) result }
+    ensures session { L.is_faithful local.old → P.is_faithful peer.old → WalkEnds (DigestsTell path.now (L.states local.old) (P.states peer.old)) (IsBelow path.now) (L.is_faithful local.new) (P.is_faithful peer.new) (L.states local.old) (P.states peer.old) (L.states local.new) (P.states peer.new) result }
     ensures left { left.new.peer ≤ left.old.peer }
     ensures keys { IfOk result (λ n. n + left.new.peer ≤ left.old.peer) }
     ensures follows { L.follows local.old local.new × P.follows peer.old peer.new }
     ensures blames { IfErr result (IsFaultOf (L.can_refuse local.new) (P.can_refuse peer.new)) }
     ensures answers { OnOk result (L.can_answer local.new × P.can_answer peer.new) }
-    ensures silent_local { IsSilent L.follows L.can_answer local.old → P.is_true peer.old → P.is_true peer.new × (P.states peer.new ≡ P.states peer.old) }
-    ensures silent_peer { IsSilent P.follows P.can_answer peer.old → L.is_true local.old → L.is_true local.new × (L.states local.new ≡ L.states local.old) }
+    ensures silent_local { IsSilent L.follows L.can_answer local.old → P.is_faithful peer.old → P.is_faithful peer.new × (P.states peer.new ≡ P.states peer.old) }
+    ensures silent_peer { IsSilent P.follows P.can_answer peer.old → L.is_faithful local.old → L.is_faithful local.new × (L.states local.new ≡ L.states local.old) }
 {
     if depth(path) == 3 {
         return walk_bucket(local, peer, left, path);

@@ -92,7 +92,7 @@ impl Liar {
 impl Peer for Liar {
     ghost states = { λ _. empty };
 
-    ghost is_true = { λ _. ⊥ };
+    ghost is_faithful = { λ _. ⊥ };
 
     ghost can_give = { λ _ _. Unit {0} };
 
@@ -268,7 +268,7 @@ struct Mistaken {
 impl Peer for Mistaken {
     ghost states = { λ _. empty };
 
-    ghost is_true = { λ _. ⊥ };
+    ghost is_faithful = { λ _. ⊥ };
 
     ghost can_give = { λ _ _. Unit {0} };
 

@@ -78,7 +78,7 @@ fn is_so(state: &KeyState, context: &str, siblings: usize) -> Result<bool, Refus
 impl Peer for Counting {
     ghost states = { λ _. empty };
 
-    ghost is_true = { λ _. ⊥ };
+    ghost is_faithful = { λ _. ⊥ };
 
     ghost can_give = { λ _ _. Unit {0} };
 

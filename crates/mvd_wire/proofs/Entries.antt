@@ -11,8 +11,8 @@ use Rattle.mvd_dots.specs.declared.refusals.Refusal.TheVariants.{Memory}
 use Rattle.mvd_dots.proofs.Sets.{union-empty, union_empty_left, union_assoc, holds_union}
 use Rattle.mvd_dots.proofs.Members.{set_of-nil, set_of-cons, holds_entry}
 use Rattle.mvd_keys.proofs.Lists.{and_true}
-use Rattle.mvd_wire.specs.Kind.{◌>>=◌, number, FitEach, read_each}
-use Rattle.mvd_wire.specs.Kinds.{Layout, entry, loose_from, loose_above, dots_read, entries, context}
+use Rattle.mvd_wire.specs.Codec.{◌>>=◌, number, FitEach, read_each}
+use Rattle.mvd_wire.specs.Codecs.{Layout, entry, loose_from, loose_above, dots_read, entries, context}
 
 -- ---- what fits is in the form of entries
 

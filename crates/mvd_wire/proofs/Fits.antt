@@ -30,8 +30,8 @@ use Rattle.mvd_keys.specs.declared.siblings.Sibling.{Sibling}
 use Rattle.mvd_keys.proofs.Parts.{is_true, holds, tests_of_parts}
 use Rattle.mvd_keys.proofs.Lists.{and_true}
 use Rattle.mvd_keys.proofs.Rising.{first_true, second_true}
-use Rattle.mvd_wire.specs.Kind.{number, raw, FitEach}
-use Rattle.mvd_wire.specs.Kinds.{layout2, state_limit, dot, key, document, loose_from, loose_above, entry, entries, context, comes_after, sibling, siblings, unlimited_state, state, spell_state, spell_entry, spell_sibling}
+use Rattle.mvd_wire.specs.Codec.{number, raw, FitEach}
+use Rattle.mvd_wire.specs.Codecs.{layout2, state_limit, dot, key, document, loose_from, loose_above, entry, entries, context, comes_after, sibling, siblings, unlimited_state, state, spell_state, spell_entry, spell_sibling}
 use Rattle.mvd_wire.proofs.Spellings.{length_entry, length_sibling, length_context, length_state}
 
 -- ---- keys

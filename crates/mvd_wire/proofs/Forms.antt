@@ -18,8 +18,8 @@ use Rattle.mvd_keys.specs.declared.siblings.Sibling.{Sibling}
 use Rattle.mvd_keys.proofs.Lists.{tied_itself_dot}
 use Rattle.mvd_keys.proofs.Parts.{is_true}
 use Rattle.mvd_keys.proofs.Rising.{Pair, first_true, second_true, none_found}
-use Rattle.mvd_wire.specs.Kind.{FitEach}
-use Rattle.mvd_wire.specs.Kinds.{layout2, document, context, sibling, siblings, unlimited_state, state, spell_state, IsInForm}
+use Rattle.mvd_wire.specs.Codec.{FitEach}
+use Rattle.mvd_wire.specs.Codecs.{layout2, document, context, sibling, siblings, unlimited_state, state, spell_state, IsInForm}
 use Rattle.mvd_wire.proofs.Fits.{document_fits, if_text, own_of_same, state_fits}
 use Rattle.mvd_wire.proofs.Siblings.{pairs_back as map_back, siblings_parts}
 

@@ -8,7 +8,7 @@ use Rattle.std.proofs.lemmas.List.Elements.{All-get_or}
 use Rattle.mvd_dots.specs.declared.refusals.Refusal.{Refusal}
 use Rattle.mvd_dots.specs.declared.refusals.Refusal.TheVariants.{Truncated, FrameTooLong}
 use Rattle.mvd_keys.proofs.Lists.{and_true}
-use Rattle.mvd_wire.specs.Kind.{number}
+use Rattle.mvd_wire.specs.Codec.{number}
 use Rattle.mvd_wire.specs.Frames.{FrameValue, body_at, length_at, frame_at, frame_behind, frame_limit, spell_frame}
 use Rattle.mvd_wire.specs.declared.request.Request.{Request}
 use Rattle.mvd_wire.specs.declared.reply.Reply.{Reply}

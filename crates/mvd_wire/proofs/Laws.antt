@@ -8,7 +8,7 @@ use Rattle.std.proofs.lemmas.Nat.{be_bytes_2, be_bytes_4, be_bytes_8, from_be_by
 use Rattle.mvd_dots.specs.declared.refusals.Refusal.{Refusal}
 use Rattle.mvd_dots.specs.declared.refusals.Refusal.TheVariants.{BadBody}
 use Rattle.mvd_dots.specs.Answer.{IsAnswer}
-use Rattle.mvd_wire.specs.Kind.{◌>>=◌, Kind, byte, number, raw, followed, checked, accepted, named, named_where, read_each, spell_each, FitEach, each, counted, whole, Gives, Spells, IsPrefixFree}
+use Rattle.mvd_wire.specs.Codec.{◌>>=◌, Codec, byte, number, raw, followed, checked, accepted, named, named_where, read_each, spell_each, FitEach, each, counted, whole, Gives, Spells, IsPrefixFree}
 
 abbrev pub IsBytes : List ℕ → Type 0
 IsBytes bytes = (i : ℕ) → get_or bytes i 0 < 256
@@ -54,18 +54,18 @@ pub record Takes (bytes text rest : List ℕ) : Type 0 where
 Takes-then : (a x b y c : List ℕ) → Takes a x b → Takes b y c → Takes a (x ++ y) c
 Takes-then a x b y c p q = record { parts = p.parts ∙ ap (λ (t : List ℕ). x ++ t) q.parts ∙ sym (append_assoc x y c); rest_fits = q.rest_fits }
 
-pub record IsLawful {X : Type 0} (kind : Kind X) : Type 0 where
+pub record IsLawful {X : Type 0} (kind : Codec X) : Type 0 where
   pub again : (x : X) (rest : List ℕ) → kind.Fits x → kind.read (kind.spell x ++ rest) ≡ Ok (x, rest)
   pub takes : (bytes : List ℕ) (x : X × List ℕ) → IsBytes bytes → kind.read bytes ≡ Ok x → Takes bytes (kind.spell x.0) x.1 × kind.Fits x.0
 
 -- ---- what follows for every lawful kind
 
-pub prefix_free : {X : Type 0} (kind : Kind X) → IsLawful kind → IsPrefixFree kind
+pub prefix_free : {X : Type 0} (kind : Codec X) → IsLawful kind → IsPrefixFree kind
 prefix_free {X} kind law x y a b fits_x fits_y e =
     let same : (x, a) ≡ (y, b) = ok_is (x, a) (y, b) (sym (law.again x a fits_x) ∙ ap kind.read e ∙ law.again y b fits_y) in
     (ap (λ (p : X × List ℕ). p.0) same, ap (λ (p : X × List ℕ). p.1) same)
 
-pub whole_takes : {X : Type 0} (kind : Kind X) → IsLawful kind → (bytes : List ℕ) (x : X) → IsBytes bytes → whole kind bytes ≡ Ok x → Spells kind x bytes
+pub whole_takes : {X : Type 0} (kind : Codec X) → IsLawful kind → (bytes : List ℕ) (x : X) → IsBytes bytes → whole kind bytes ≡ Ok x → Spells kind x bytes
 whole_takes {X} kind law bytes x fits e =
     let a = bind_ok (kind.read bytes) (λ y. cond (eqb (length y.1) 0) (Ok y.0) (Err BadBody)) x e in
     let g = passed_ok (eqb (length a.0.1) 0) BadBody a.0.0 x a.2 in
@@ -74,7 +74,7 @@ whole_takes {X} kind law bytes x fits e =
     let all : bytes ≡ kind.spell a.0.0 = t.0.parts ∙ ap (λ (r : List ℕ). kind.spell a.0.0 ++ r) nothing ∙ append-nil (kind.spell a.0.0) in
     subst (λ (y : X). Spells kind y bytes) g.1 (t.1, all)
 
-pub whole_again : {X : Type 0} (kind : Kind X) → IsLawful kind → (x : X) → kind.Fits x → whole kind (kind.spell x) ≡ Ok x
+pub whole_again : {X : Type 0} (kind : Codec X) → IsLawful kind → (x : X) → kind.Fits x → whole kind (kind.spell x) ≡ Ok x
 whole_again {X} kind law x fits =
     let e : kind.read (kind.spell x) ≡ Ok (x, []) = ap kind.read (sym (append-nil (kind.spell x))) ∙ law.again x [] fits in
     rw e refl
@@ -159,7 +159,7 @@ lawful_raw n = record {
 
 -- ---- kinds made of kinds
 
-pub lawful_followed : {X Y : Type 0} (first : Kind X) (second : X → Kind Y) → IsLawful first → ((x : X) → IsLawful (second x)) → IsLawful (followed first second)
+pub lawful_followed : {X Y : Type 0} (first : Codec X) (second : X → Codec Y) → IsLawful first → ((x : X) → IsLawful (second x)) → IsLawful (followed first second)
 lawful_followed {X} {Y} first second one two = record {
   again = λ p rest fits. rw (append_assoc (first.spell p.0) ((second p.0).spell p.1) rest, one.again p.0 ((second p.0).spell p.1 ++ rest) fits.0, (two p.0).again p.1 rest fits.1) refl;
   takes = λ bytes p fits e.
@@ -171,7 +171,7 @@ lawful_followed {X} {Y} first second one two = record {
       subst (λ (q : (X × Y) × List ℕ). Takes bytes ((followed first second).spell q.0) q.1 × (followed first second).Fits q.0) (ok_is ((a.0.0, b.0.0), b.0.1) p b.2) (both, (t1.1, t2.1));
 }
 
-pub lawful_checked : {X : Type 0} (refusal : Refusal) (test : X → Bool) (kind : Kind X) → IsLawful kind → IsLawful (checked refusal test kind)
+pub lawful_checked : {X : Type 0} (refusal : Refusal) (test : X → Bool) (kind : Codec X) → IsLawful kind → IsLawful (checked refusal test kind)
 lawful_checked {X} refusal test kind law = record {
   again = λ x rest fits. rw (law.again x rest fits.0, fits.1) refl;
   takes = λ bytes x fits e.
@@ -181,7 +181,7 @@ lawful_checked {X} refusal test kind law = record {
       subst (λ (y : X × List ℕ). Takes bytes (kind.spell y.0) y.1 × (checked refusal test kind).Fits y.0) g.1 (t.0, (t.1, g.0));
 }
 
-pub lawful_accepted : {X : Type 0} (accept : X → Result X Refusal) (kind : Kind X) → ((x y : X) → accept x ≡ Ok y → x ≡ y) → IsLawful kind → IsLawful (accepted accept kind)
+pub lawful_accepted : {X : Type 0} (accept : X → Result X Refusal) (kind : Codec X) → ((x y : X) → accept x ≡ Ok y → x ≡ y) → IsLawful kind → IsLawful (accepted accept kind)
 lawful_accepted {X} accept kind same law = record {
   again = λ x rest fits. rw (law.again x rest fits.0, fits.1) refl;
   takes = λ bytes x fits e.
@@ -193,7 +193,7 @@ lawful_accepted {X} accept kind same law = record {
       subst (λ (y : X × List ℕ). Takes bytes (kind.spell y.0) y.1 × (accepted accept kind).Fits y.0) (ok_is (b.0, a.0.1) x b.2) at;
 }
 
-pub lawful_named : {X Y : Type 0} (parts : Y → X) (made : X → Y) (kind : Kind X) → ((x : X) → kind.Fits x → parts (made x) ≡ x) → ((y : Y) → made (parts y) ≡ y) → IsLawful kind → IsLawful (named parts made kind)
+pub lawful_named : {X Y : Type 0} (parts : Y → X) (made : X → Y) (kind : Codec X) → ((x : X) → kind.Fits x → parts (made x) ≡ x) → ((y : Y) → made (parts y) ≡ y) → IsLawful kind → IsLawful (named parts made kind)
 lawful_named {X} {Y} parts made kind there back law = record {
   again = λ y rest fits. rw (law.again (parts y) rest fits, back y) refl;
   takes = λ bytes y fits e.
@@ -203,7 +203,7 @@ lawful_named {X} {Y} parts made kind there back law = record {
       subst (λ (z : Y × List ℕ). Takes bytes (kind.spell (parts z.0)) z.1 × kind.Fits (parts z.0)) (ok_is (made a.0.0, a.0.1) y a.2) at;
 }
 
-pub lawful_named_where : {X Y : Type 0} (Good : Y → Type 0) (parts : Y → X) (made : X → Y) (kind : Kind X) → ((x : X) → kind.Fits x → (parts (made x) ≡ x) × Good (made x)) → ((y : Y) → Good y → made (parts y) ≡ y) → IsLawful kind → IsLawful (named_where Good parts made kind)
+pub lawful_named_where : {X Y : Type 0} (Good : Y → Type 0) (parts : Y → X) (made : X → Y) (kind : Codec X) → ((x : X) → kind.Fits x → (parts (made x) ≡ x) × Good (made x)) → ((y : Y) → Good y → made (parts y) ≡ y) → IsLawful kind → IsLawful (named_where Good parts made kind)
 lawful_named_where {X} {Y} Good parts made kind there back law = record {
   again = λ y rest fits. rw (law.again (parts y) rest fits.1, back y fits.0) refl;
   takes = λ bytes y fits e.
@@ -216,7 +216,7 @@ lawful_named_where {X} {Y} Good parts made kind there back law = record {
 
 -- ---- values one after the other
 
-module _ {S X : Type 0} (kind : S → Kind X) (next : S → X → S) (law : (s : S) → IsLawful (kind s)) where
+module _ {S X : Type 0} (kind : S → Codec X) (next : S → X → S) (law : (s : S) → IsLawful (kind s)) where
   each_again : (s : S) (xs : List X) (rest : List ℕ) → FitEach kind next s xs → read_each kind next s (length xs) (spell_each kind next s xs ++ rest) ≡ Ok (xs, rest)
   unfolding read_each
   each_again s [] rest fits = refl
@@ -241,7 +241,7 @@ module _ {S X : Type 0} (kind : S → Kind X) (next : S → X → S) (law : (s :
     takes = λ bytes xs fits e. each_takes s n bytes xs fits e;
   }
 
-  pub lawful_counted : (count : Kind ℕ) (s : S) → IsLawful count → IsLawful (counted kind next count s)
+  pub lawful_counted : (count : Codec ℕ) (s : S) → IsLawful count → IsLawful (counted kind next count s)
   lawful_counted count s counts =
       lawful_named (λ xs. (length xs, xs)) (λ p. p.1) (followed count (each kind next s))
       (λ p fits. ap (λ (n : ℕ). (n, p.1)) fits.1.0) (λ xs. refl)
@@ -249,7 +249,7 @@ module _ {S X : Type 0} (kind : S → Kind X) (next : S → X → S) (law : (s :
 
 -- ---- what a function that reads a lawful kind found
 
-module _ {Y : Type 0} (kind : Kind Y) (law : IsLawful kind) (bytes : List ℕ) (fits : IsBytes bytes) where
+module _ {Y : Type 0} (kind : Codec Y) (law : IsLawful kind) (bytes : List ℕ) (fits : IsBytes bytes) where
   pub is_found : (r : Result Y Refusal) → IsAnswer r (whole kind bytes) → IfOk r (λ x. Spells kind x bytes)
   is_found (Ok x) given = whole_takes kind law bytes x fits given
   is_found (Err e) given = tt

@@ -3,7 +3,7 @@ pub mod Fits
 pub mod Forms
 pub mod FrameLemmas
 pub mod FramesRead
-pub mod KindLaws
+pub mod CodecLaws
 pub mod Laws
 pub mod Loops
 pub mod Names

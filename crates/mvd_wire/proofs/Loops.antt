@@ -3,7 +3,7 @@ use Rattle.std.proofs.Common.{◌≡◌, ◌≢◌, ℕ, suc, ◌-◌, ◌+◌, 
 use Rattle.std.proofs.lemmas.List.{append-nil}
 use Rattle.mvd_dots.specs.declared.refusals.Refusal.{Refusal}
 use Rattle.mvd_dots.specs.declared.refusals.Refusal.TheVariants.{Memory}
-use Rattle.mvd_wire.specs.Kind.{◌>>=◌, Kind, read_each}
+use Rattle.mvd_wire.specs.Codec.{◌>>=◌, Codec, read_each}
 
 -- what was read before, and what is still read
 abbrev pub with_front : {X : Type 0} → List X → Result (List X × List ℕ) Refusal → Result (List X × List ℕ) Refusal
@@ -17,7 +17,7 @@ regroup : {X : Type 0} (front : List X) (n : X) (read : Result (List X × List �
 regroup {X} front n (Ok x) = ap (λ (ns : List X). Ok (ns, x.1)) (simp append_assoc)
 regroup front n (Err f) = refl
 
-module _ {S X : Type 0} (kind : S → Kind X) (next : S → X → S) where
+module _ {S X : Type 0} (kind : S → Codec X) (next : S → X → S) where
   pub goes_on : (front : List X) (s : S) (count i : ℕ) (bytes : List ℕ) (x : X) (after : List ℕ) (total : Result (List X × List ℕ) Refusal) → i < count → (kind s).read bytes ≡ Ok (x, after)
       → with_front front (read_each kind next s (count - i) bytes) ≡ total → with_front (front ++ x ∷ []) (read_each kind next (next s x) (count - (i + 1)) after) ≡ total
   unfolding read_each

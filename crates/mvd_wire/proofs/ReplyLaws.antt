@@ -7,13 +7,13 @@ use Rattle.mvd_dots.specs.Answer.{IsAnswer}
 use Rattle.mvd_dots.specs.Refusal.{number_of}
 use Rattle.mvd_wire.specs.declared.reply.Reply.{Reply}
 use Rattle.mvd_wire.specs.declared.reply.Reply.TheVariants as reply
-use Rattle.mvd_wire.specs.Kind.{◌>>=◌, byte, nothing}
-use Rattle.mvd_wire.specs.Kinds.{layout2, dot, state, spell_state}
+use Rattle.mvd_wire.specs.Codec.{◌>>=◌, byte, nothing}
+use Rattle.mvd_wire.specs.Codecs.{layout2, dot, state, spell_state}
 use Rattle.mvd_wire.specs.Replies.{refusal, numbered, reply_of, SpellsReply, IsReply, kind_of, payload_of}
 use Rattle.mvd_wire.proofs.Laws.{IsBytes, IsLawful, Takes, bind_ok, ok_is, whole_again, lawful_byte}
 use Rattle.mvd_wire.specs.Rows.{digests, key_entry, page, place, row, view_row}
 use Rattle.mvd_wire.proofs.RowLaws.{lawful_digests, lawful_key_entry, lawful_page, lawful_place, lawful_row, lawful_view_row}
-use Rattle.mvd_wire.proofs.KindLaws.{wide_layout2, lawful_dot, lawful_state}
+use Rattle.mvd_wire.proofs.CodecLaws.{wide_layout2, lawful_dot, lawful_state}
 use Rattle.mvd_wire.proofs.RefusalNumbers.{own_number, number_back}
 use Rattle.mvd_wire.proofs.Tagged.{Decodes, decodes_tagged, lawful_nothing}
 

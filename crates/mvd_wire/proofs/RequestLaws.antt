@@ -6,12 +6,12 @@ use Rattle.mvd_dots.specs.declared.refusals.Refusal.TheVariants.{BadKind}
 use Rattle.mvd_dots.specs.Answer.{IsAnswer}
 use Rattle.mvd_wire.specs.declared.request.Request.{Request}
 use Rattle.mvd_wire.specs.declared.request.Request.TheVariants.{Get, Put, Delete, Find, Row, Rows, Node, Bucket, Push, Range, Bye}
-use Rattle.mvd_wire.specs.Kind.{followed, nothing, optional}
-use Rattle.mvd_wire.specs.Kinds.{layout2, key, context, document, path, state}
+use Rattle.mvd_wire.specs.Codec.{followed, nothing, optional}
+use Rattle.mvd_wire.specs.Codecs.{layout2, key, context, document, path, state}
 use Rattle.mvd_wire.specs.Rows.{field, view_name, term, spot, place}
 use Rattle.mvd_wire.specs.Requests.{request_of, put, delete, find, row_of_view, rows_of_view, bucket, push, range, SpellsRequest, IsRequest, kind_of, payload_of}
 use Rattle.mvd_wire.proofs.Laws.{IsBytes, IsLawful, whole_again, lawful_followed}
-use Rattle.mvd_wire.proofs.KindLaws.{wide_layout2, lawful_key, lawful_context, lawful_document, lawful_path, lawful_state}
+use Rattle.mvd_wire.proofs.CodecLaws.{wide_layout2, lawful_key, lawful_context, lawful_document, lawful_path, lawful_state}
 use Rattle.mvd_wire.proofs.RowLaws.{lawful_field, lawful_view_name, lawful_term, lawful_spot, lawful_place, lawful_optional}
 use Rattle.mvd_wire.proofs.Tagged.{Decodes, decodes_tagged, lawful_nothing}
 

@@ -15,8 +15,8 @@ use Rattle.mvd_dots.specs.Dot.{DotValue, IsDot}
 use Rattle.mvd_keys.specs.Key.{is_key}
 use Rattle.mvd_keys.specs.Path.{is_digit, is_path}
 use Rattle.mvd_keys.proofs.Lists.{and_true}
-use Rattle.mvd_wire.specs.Kind.{◌>>=◌, Kind, byte, number, raw, FitEach, read_each, spell_each}
-use Rattle.mvd_wire.specs.Kinds.{path}
+use Rattle.mvd_wire.specs.Codec.{◌>>=◌, Codec, byte, number, raw, FitEach, read_each, spell_each}
+use Rattle.mvd_wire.specs.Codecs.{path}
 use Rattle.mvd_wire.specs.Rows.{field, view_name, term_text, sum, ends, row, spot, key_entry, digest, children, children_of, flag, item_of, items, page, page_limit}
 use Rattle.mvd_wire.proofs.Fits.{key_fits, dot_fits}
 use Rattle.mvd_wire.proofs.Spellings.{spell_each-flat_map}
@@ -70,26 +70,26 @@ row_fits count z e few fits ends_fit = (few, (fits, ends_fit))
 
 -- ---- lists
 
-pub each_fit : {X : Type 0} (kind : Kind X) (xs : List X) → All kind.Fits xs → FitEach (item_of kind) (λ s _. s) tt xs
+pub each_fit : {X : Type 0} (kind : Codec X) (xs : List X) → All kind.Fits xs → FitEach (item_of kind) (λ s _. s) tt xs
 each_fit kind [] all = tt
 each_fit kind (x ∷ xs) all = (all 0 x (omega arith), each_fit kind xs (λ k d lt. all (suc k) d (omega arith)))
 
-pub each_is : {X : Type 0} (kind : Kind X) (xs : List X) → spell_each (item_of kind) (λ s _. s) tt xs ≡ flat_map kind.spell xs
+pub each_is : {X : Type 0} (kind : Codec X) (xs : List X) → spell_each (item_of kind) (λ s _. s) tt xs ≡ flat_map kind.spell xs
 each_is kind xs = spell_each-flat_map (item_of kind) (λ s _. s) kind.spell (λ s x. refl) tt xs
 
 flag_fits : (b : Bool) → flag.Fits b
 flag_fits true = (omega arith, refl)
 flag_fits false = (omega arith, refl)
 
-pub page_fits : {X : Type 0} (kind : Kind X) (xs : List X) (more : Bool) → All kind.Fits xs → length xs ≤ page_limit → (page kind).Fits (xs, more)
+pub page_fits : {X : Type 0} (kind : Codec X) (xs : List X) (more : Bool) → All kind.Fits xs → length xs ≤ page_limit → (page kind).Fits (xs, more)
 unfolding page items number
 page_fits kind xs more all few = (flag_fits more, ((omega arith, le-leb _ _ few), (refl, each_fit kind xs all)))
 
-pub page_is : {X : Type 0} (kind : Kind X) (xs : List X) (more : Bool) → (page kind).spell (xs, more) ≡ flag.spell more ++ ((number w16).spell (length xs) ++ flat_map kind.spell xs)
+pub page_is : {X : Type 0} (kind : Codec X) (xs : List X) (more : Bool) → (page kind).spell (xs, more) ≡ flag.spell more ++ ((number w16).spell (length xs) ++ flat_map kind.spell xs)
 unfolding page items
 page_is kind xs more = ap (λ (t : List ℕ). flag.spell more ++ ((number w16).spell (length xs) ++ t)) (each_is kind xs)
 
-pub page_put : {X : Type 0} (kind : Kind X) (xs : List X) (more : Bool) (a b c : List ℕ) → b ≡ a ++ (flag.spell more ++ (number w16).spell (length xs)) → c ≡ b ++ flat_map kind.spell xs → c ≡ a ++ (page kind).spell (xs, more)
+pub page_put : {X : Type 0} (kind : Codec X) (xs : List X) (more : Bool) (a b c : List ℕ) → b ≡ a ++ (flag.spell more ++ (number w16).spell (length xs)) → c ≡ b ++ flat_map kind.spell xs → c ≡ a ++ (page kind).spell (xs, more)
 page_put kind xs more a b c p q =
     rw page_is (q ∙ ap (λ (t : List ℕ). t ++ flat_map kind.spell xs) p ∙ simp append_assoc)
 

@@ -14,14 +14,14 @@ use Rattle.mvd_docs.specs.declared.term.Term.{Term}
 use Rattle.mvd_docs.specs.declared.term.Term.TheVariants.{Null, False, True, Whole, Text}
 use Rattle.mvd_docs.specs.Name.{is_field, is_view_name}
 use Rattle.mvd_docs.specs.TermText.{term_text_of}
-use Rattle.mvd_wire.specs.Kind.{◌>>=◌, Kind, byte, number, raw, followed, checked, accepted, read_optional, spell_optional, optional, counted, nothing, variant}
-use Rattle.mvd_wire.specs.Kinds.{layout2, dot, key}
+use Rattle.mvd_wire.specs.Codec.{◌>>=◌, Codec, byte, number, raw, followed, checked, accepted, read_optional, spell_optional, optional, counted, nothing, variant}
+use Rattle.mvd_wire.specs.Codecs.{layout2, dot, key}
 use Rattle.mvd_wire.specs.Rows.{field_of_bytes, field, view_name_of_bytes, view_name, whole_number, text_of_bytes, term_text, term, spot, place, sum, ends, row, view_row, digest, key_entry, list_of, children_of, children, digests, flag, item_of, items, page, page_limit}
 use Rattle.mvd_wire.proofs.Laws.{IsBytes, IsBytes-rest, IsLawful, Takes, bind_ok, ok_is, passed_ok, wide16, wide64, lawful_byte, lawful_number, lawful_raw, lawful_followed, lawful_checked, lawful_accepted, lawful_named, lawful_named_where, lawful_counted}
 use Rattle.mvd_wire.proofs.Tagged.{chosen, lawful_nothing}
-use Rattle.mvd_wire.proofs.KindLaws.{wide_layout2, lawful_sized, lawful_key, lawful_dot}
+use Rattle.mvd_wire.proofs.CodecLaws.{wide_layout2, lawful_sized, lawful_key, lawful_dot}
 
-pub lawful_optional : {X : Type 0} (kind : Kind X) → IsLawful kind → IsLawful (optional kind)
+pub lawful_optional : {X : Type 0} (kind : Codec X) → IsLawful kind → IsLawful (optional kind)
 unfolding read_optional
 lawful_optional {X} kind law = record { again = λ o rest fits. again o rest fits; takes = λ bytes x fits e. takes bytes x fits e } where
   again : (o : Option X) (rest : List ℕ) → (optional kind).Fits o → read_optional kind (spell_optional kind o ++ rest) ≡ Ok (o, rest)
@@ -89,10 +89,10 @@ lawful_term_text = lawful_sized (checked BadTerm (λ n. leb n 512) (number w16))
     (λ n t fits. fits.0)
 
 -- every value that is read behind a tag is spelled by the tag and what was taken
-abbrev ReadsBehind : {Y : Type 0} → Kind Y → (ℕ → List ℕ → Result (Y × List ℕ) Refusal) → Type 0
+abbrev ReadsBehind : {Y : Type 0} → Codec Y → (ℕ → List ℕ → Result (Y × List ℕ) Refusal) → Type 0
 ReadsBehind {Y} whole_kind read = (tag : ℕ) (rest : List ℕ) (y : Y × List ℕ) → IsBytes (tag ∷ rest) → read tag rest ≡ Ok y → Takes (tag ∷ rest) (whole_kind.spell y.0) y.1 × whole_kind.Fits y.0
 
-reads_variant : {X Y : Type 0} (outer : Kind Y) (tag : ℕ) (kind : Kind X) (made : X → Y) (otherwise : ℕ → List ℕ → Result (Y × List ℕ) Refusal)
+reads_variant : {X Y : Type 0} (outer : Codec Y) (tag : ℕ) (kind : Codec X) (made : X → Y) (otherwise : ℕ → List ℕ → Result (Y × List ℕ) Refusal)
     → IsLawful kind → ((x : X) → outer.spell (made x) ≡ tag ∷ kind.spell x) → ((x : X) → kind.Fits x → outer.Fits (made x)) → ReadsBehind outer otherwise → ReadsBehind outer (variant tag kind made otherwise)
 reads_variant {X} {Y} outer tag kind made otherwise law spelled fits others byte' rest y bytes e =
     chosen (eqb byte' tag) (kind.read rest >>= λ x. Ok (made x.0, x.1)) (otherwise byte' rest) (Ok y) (Takes (byte' ∷ rest) (outer.spell y.0) y.1 × outer.Fits y.0) e
@@ -222,13 +222,13 @@ lawful_flag = lawful_named (λ b. cond b 1 0) (λ n. eqb n 1) (checked BadBody (
     back true = refl
     back false = refl
 
-pub lawful_items : {X : Type 0} (kind : Kind X) → IsLawful kind → IsLawful (items kind)
+pub lawful_items : {X : Type 0} (kind : Codec X) → IsLawful kind → IsLawful (items kind)
 unfolding items
 lawful_items kind law =
     let count = checked BadBody (λ n. leb n page_limit) (number w16) in
     lawful_counted (item_of kind) (λ s _. s) (λ _. law) count tt (lawful_checked BadBody (λ n. leb n page_limit) (number w16) (lawful_number w16 wide16))
 
-pub lawful_page : {X : Type 0} (kind : Kind X) → IsLawful kind → IsLawful (page kind)
+pub lawful_page : {X : Type 0} (kind : Codec X) → IsLawful kind → IsLawful (page kind)
 unfolding page
 lawful_page kind law =
     lawful_named (λ p. (p.1, p.0)) (λ p. (p.1, p.0)) (followed flag (λ _. items kind)) (λ p fits. refl) (λ p. refl)

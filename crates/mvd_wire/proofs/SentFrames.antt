@@ -11,8 +11,8 @@ use Rattle.mvd_keys.specs.Key.{is_key}
 use Rattle.mvd_keys.specs.Path.{is_path}
 use Rattle.mvd_keys.specs.State.{State, Text}
 use Rattle.mvd_keys.proofs.Lists.{and_true}
-use Rattle.mvd_wire.specs.Kind.{number, optional, raw}
-use Rattle.mvd_wire.specs.Kinds.{layout2, state_limit, dot, key, document, context, path, state, spell_state}
+use Rattle.mvd_wire.specs.Codec.{number, optional, raw}
+use Rattle.mvd_wire.specs.Codecs.{layout2, state_limit, dot, key, document, context, path, state, spell_state}
 use Rattle.mvd_wire.specs.Frames.{frame_limit}
 use Rattle.mvd_wire.specs.declared.request.Request.TheVariants.{Get, Node, Bucket, Push}
 use Rattle.mvd_wire.specs.declared.reply.Reply.{Reply}

@@ -9,8 +9,8 @@ use Rattle.mvd_docs.specs.declared.term.Term.{Term}
 use Rattle.mvd_docs.specs.declared.term.Term.TheVariants.{Null, False, True, Whole, Text}
 use Rattle.mvd_keys.specs.Key.{is_key}
 use Rattle.mvd_keys.specs.declared.places.Place.{Place}
-use Rattle.mvd_wire.specs.Kind.{Kind, raw}
-use Rattle.mvd_wire.specs.Kinds.{dot}
+use Rattle.mvd_wire.specs.Codec.{Codec, raw}
+use Rattle.mvd_wire.specs.Codecs.{dot}
 use Rattle.mvd_wire.specs.Frames.{frame_limit}
 use Rattle.mvd_wire.specs.Rows.{children, digest, digests, ends, flag, key_entry, page, page_limit, place, row, spot, sum, term, term_text, view_row, whole_number}
 use Rattle.mvd_wire.specs.declared.reply.Digests.{Digests}
@@ -26,7 +26,7 @@ items_short : {X : Type 0} (f : X → List ℕ) (xs : List X) → AllByRecursion
 items_short f [] all = omega arith
 items_short f (x ∷ xs) all = rw (flat_map-cons, length-append) (omega (arith, all.0, items_short f xs all.1))
 
-page_short : {X : Type 0} (kind : Kind X) (xs : List X) (more : Bool) → AllByRecursion (λ x. length (kind.spell x) ≤ 700) xs → length xs ≤ page_limit → leb (length ((page kind).spell (xs, more)) + 1) frame_limit ≡ true
+page_short : {X : Type 0} (kind : Codec X) (xs : List X) (more : Bool) → AllByRecursion (λ x. length (kind.spell x) ≤ 700) xs → length xs ≤ page_limit → leb (length ((page kind).spell (xs, more)) + 1) frame_limit ≡ true
 page_short kind xs more all few =
     le-leb _ _ (rw (page_is kind xs more, length-append, length-append) (omega (arith, few, one more, (sized_number (length xs)).0, items_short kind.spell xs all)))
   where

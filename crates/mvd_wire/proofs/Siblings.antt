@@ -12,8 +12,8 @@ use Rattle.mvd_keys.specs.declared.siblings.Sibling.{Sibling}
 use Rattle.mvd_keys.proofs.Parts.{is_true, holds, entries_of_pairs, parts_of_tests}
 use Rattle.mvd_keys.proofs.Lists.{and_true}
 use Rattle.mvd_keys.proofs.Rising.{Pair, both_true, less_of, below_less}
-use Rattle.mvd_wire.specs.Kind.{FitEach}
-use Rattle.mvd_wire.specs.Kinds.{Layout, sibling, siblings, comes_after}
+use Rattle.mvd_wire.specs.Codec.{FitEach}
+use Rattle.mvd_wire.specs.Codecs.{Layout, sibling, siblings, comes_after}
 
 module _ (v : Layout) (dots : DotSet) where
   after_is : (previous : Option DotValue) (p : Pair) → (sibling v dots previous).Fits p → (comes_after previous p.0 ≡ true) × (contains dots p.0 ≡ true)

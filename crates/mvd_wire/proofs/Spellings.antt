@@ -13,10 +13,10 @@ use Rattle.mvd_keys.proofs.Parts.{entries_of_pairs}
 use Rattle.mvd_dots.proofs.Canonical.{entries_are}
 use Rattle.mvd_keys.specs.State.{State, Text, empty_state, pair_of, pairs_of}
 use Rattle.mvd_keys.specs.declared.siblings.Sibling.{Sibling}
-use Rattle.mvd_wire.specs.Kind.{Kind, number, raw, spell_each}
-use Rattle.mvd_wire.specs.Kinds.{layout2, dot, document, loose_from, loose_above, entry, entries, context, sibling, siblings, unlimited_state, state, spell_state, spell_entry, spell_sibling}
+use Rattle.mvd_wire.specs.Codec.{Codec, number, raw, spell_each}
+use Rattle.mvd_wire.specs.Codecs.{layout2, dot, document, loose_from, loose_above, entry, entries, context, sibling, siblings, unlimited_state, state, spell_state, spell_entry, spell_sibling}
 
-pub spell_each-flat_map : {S X : Type 0} (kind : S → Kind X) (next : S → X → S) (f : X → List ℕ) → ((s : S) (x : X) → (kind s).spell x ≡ f x) → (s : S) (xs : List X) → spell_each kind next s xs ≡ flat_map f xs
+pub spell_each-flat_map : {S X : Type 0} (kind : S → Codec X) (next : S → X → S) (f : X → List ℕ) → ((s : S) (x : X) → (kind s).spell x ≡ f x) → (s : S) (xs : List X) → spell_each kind next s xs ≡ flat_map f xs
 spell_each-flat_map kind next f same s [] = refl
 spell_each-flat_map kind next f same s (x ∷ xs) =
     rw (same s x, spell_each-flat_map kind next f same (next s x) xs, flat_map-cons) refl

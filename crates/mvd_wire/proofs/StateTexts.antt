@@ -3,10 +3,10 @@ use Rattle.std.proofs.Common.{◌≡◌, true, ◌++◌, [], sym, ◌∙◌}
 use Rattle.std.proofs.lemmas.List.{append-nil}
 use Rattle.mvd_keys.specs.Key.{is_key}
 use Rattle.mvd_keys.specs.State.{State, Text}
-use Rattle.mvd_wire.specs.Kinds.{layout2, key, state, spell_state}
+use Rattle.mvd_wire.specs.Codecs.{layout2, key, state, spell_state}
 use Rattle.mvd_wire.proofs.Fits.{key_fits}
 use Rattle.mvd_wire.proofs.Laws.{prefix_free}
-use Rattle.mvd_wire.proofs.KindLaws.{wide_layout2, lawful_key, lawful_state}
+use Rattle.mvd_wire.proofs.CodecLaws.{wide_layout2, lawful_key, lawful_state}
 
 one_state : (s t : State) → (state layout2).Fits s → (state layout2).Fits t → spell_state s ≡ spell_state t → s ≡ t
 unfolding spell_state

@@ -2,7 +2,7 @@
 use Rattle.std.proofs.Common.{◌≡◌, ℕ, Bool, true, false, cond, eqb, List, [], Result, Ok, refl, sym, subst}
 use Rattle.std.proofs.lemmas.Bool.{eqb-true}
 use Rattle.mvd_dots.specs.declared.refusals.Refusal.{Refusal}
-use Rattle.mvd_wire.specs.Kind.{◌>>=◌, Kind, nothing, whole, tagged}
+use Rattle.mvd_wire.specs.Codec.{◌>>=◌, Codec, nothing, whole, tagged}
 use Rattle.mvd_wire.proofs.Laws.{IsBytes, IsLawful, bind_ok, ok_is, whole_takes, Takes}
 
 pub lawful_nothing : IsLawful nothing
@@ -19,7 +19,7 @@ pub chosen : {A : Type 0} (b : Bool) (x y z : A) (P : Type 0) → cond b x y ≡
 chosen true x y z P e first second = first refl e
 chosen false x y z P e first second = second e
 
-pub decodes_tagged : {X Y : Type 0} (Spelled : Y → ℕ → List ℕ → Type 0) (tag : ℕ) (kind : Kind X) (made : X → Y) (otherwise : ℕ → List ℕ → Result Y Refusal)
+pub decodes_tagged : {X Y : Type 0} (Spelled : Y → ℕ → List ℕ → Type 0) (tag : ℕ) (kind : Codec X) (made : X → Y) (otherwise : ℕ → List ℕ → Result Y Refusal)
     → IsLawful kind → ((x : X) → kind.Fits x → Spelled (made x) tag (kind.spell x)) → Decodes Spelled otherwise → Decodes Spelled (tagged tag kind made otherwise)
 decodes_tagged {X} {Y} Spelled tag kind made otherwise law fits others byte payload y bytes e =
     chosen (eqb byte tag) (whole kind payload >>= λ x. Ok (made x)) (otherwise byte payload) (Ok y) (Spelled y byte payload) e

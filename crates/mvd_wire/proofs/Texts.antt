@@ -10,7 +10,7 @@ use Rattle.mvd_docs.specs.Name.{is_graphic}
 use Rattle.mvd_docs.specs.Document.{canonical_document_of}
 use Rattle.mvd_keys.specs.Key.{is_key, key_of_text}
 use Rattle.mvd_keys.proofs.Lists.{and_true}
-use Rattle.mvd_wire.specs.Kinds.{document_of_bytes}
+use Rattle.mvd_wire.specs.Codecs.{document_of_bytes}
 
 pub text_is_document : (bytes : List ℕ) → IsUtf8 bytes → document_of_bytes bytes ≡ canonical_document_of bytes
 text_is_document bytes h = rw (is_utf8-from_IsUtf8 bytes h) refl

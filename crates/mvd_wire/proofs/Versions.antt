@@ -10,8 +10,8 @@ use Rattle.mvd_dots.specs.Dot.{DotValue}
 use Rattle.mvd_dots.specs.Entry.{EntryValue}
 use Rattle.mvd_dots.specs.Context.{DotSet, entries_of}
 use Rattle.mvd_keys.specs.State.{State, Text}
-use Rattle.mvd_wire.specs.Kind.{Kind, Spells, number, spell_each, FitEach}
-use Rattle.mvd_wire.specs.Kinds.{layout1, layout2, state_limit, dot, document, loose_above, entry, entries, context, sibling, siblings, unlimited_state, state, spell_state}
+use Rattle.mvd_wire.specs.Codec.{Codec, Spells, number, spell_each, FitEach}
+use Rattle.mvd_wire.specs.Codecs.{layout1, layout2, state_limit, dot, document, loose_above, entry, entries, context, sibling, siblings, unlimited_state, state, spell_state}
 use Rattle.mvd_wire.proofs.Spellings.{sized_number}
 
 -- ---- what fits the first version fits the second
@@ -62,7 +62,7 @@ sibling_stretched dots previous p =
     let count = sized_number (length p.1) in
     simp length-append (omega (arith, site.0, site.1, counter.2, count.1))
 
-module _ {S X : Type 0} (old new : S → Kind X) (next : S → X → S) (one : (s : S) (x : X) → 7 * length ((new s).spell x) ≤ 8 * length ((old s).spell x)) where
+module _ {S X : Type 0} (old new : S → Codec X) (next : S → X → S) (one : (s : S) (x : X) → 7 * length ((new s).spell x) ≤ 8 * length ((old s).spell x)) where
   each_stretched : (s : S) (xs : List X) → 7 * length (spell_each new next s xs) ≤ 8 * length (spell_each old next s xs)
   each_stretched s [] = omega arith
   each_stretched s (x ∷ xs) =

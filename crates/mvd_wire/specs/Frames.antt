@@ -5,7 +5,7 @@ use Rattle.std.specs.Io.KnownBytes.{Appends}
 use Rattle.mvd_dots.specs.declared.refusals.Refusal.{Refusal}
 use Rattle.mvd_dots.specs.declared.refusals.Refusal.TheVariants.{Memory, ReadFailed, Truncated, FrameTooLong}
 use Rattle.mvd_wire.specs.declared.frame.Frame.{Frame}
-use Rattle.mvd_wire.specs.Kind.{◌>>=◌, number}
+use Rattle.mvd_wire.specs.Codec.{◌>>=◌, number}
 
 -- the known bytes grew by a front of the frame
 abbrev pub AppendsFront : Option (List ℕ) → Option (List ℕ) → List ℕ → Type 0

@@ -1,6 +1,6 @@
 pub mod Frames
-pub mod Kind
-pub mod Kinds
+pub mod Codec
+pub mod Codecs
 pub mod Replies
 pub mod Requests
 pub mod Rows

@@ -6,8 +6,8 @@ use Rattle.mvd_dots.specs.declared.refusals.Refusal.TheVariants.{BadKey, BadCont
 use Rattle.mvd_dots.specs.Refusal.{number_of}
 use Rattle.mvd_wire.specs.declared.reply.Reply.{Reply}
 use Rattle.mvd_wire.specs.declared.reply.Reply.TheVariants as reply
-use Rattle.mvd_wire.specs.Kind.{Kind, ◌>>=◌, byte, nothing, tagged}
-use Rattle.mvd_wire.specs.Kinds.{layout2, dot, state, spell_state}
+use Rattle.mvd_wire.specs.Codec.{Codec, ◌>>=◌, byte, nothing, tagged}
+use Rattle.mvd_wire.specs.Codecs.{layout2, dot, state, spell_state}
 use Rattle.mvd_wire.specs.Rows.{digests, key_entry, page, page_limit, place, row, view_row}
 use Rattle.mvd_wire.specs.Frames.{spell_frame}
 use Rattle.mvd_wire.specs.Requests.{framed, within_limit}
@@ -20,7 +20,7 @@ unfoldable pub numbered : ℕ → Option Refusal
 numbered n = find (λ r. number_of r == n) refusals
 
 -- a refusal, by its number
-unfoldable pub refusal : Kind Refusal
+unfoldable pub refusal : Codec Refusal
 refusal = record {
   spell = λ r. number_of r ∷ [];
   Fits = λ _. Unit {0};

@@ -9,33 +9,33 @@ use Rattle.mvd_wire.specs.declared.request.Request.TheVariants.{Get, Put, Delete
 use Rattle.mvd_dots.specs.Dot.{DotValue}
 use Rattle.mvd_docs.specs.declared.term.Term.{Term}
 use Rattle.mvd_keys.specs.declared.places.Place.{Place}
-use Rattle.mvd_wire.specs.Kind.{Kind, followed, nothing, optional, tagged}
-use Rattle.mvd_wire.specs.Kinds.{layout2, key, context, document, path, state, spell_state, state_limit}
+use Rattle.mvd_wire.specs.Codec.{Codec, followed, nothing, optional, tagged}
+use Rattle.mvd_wire.specs.Codecs.{layout2, key, context, document, path, state, spell_state, state_limit}
 use Rattle.mvd_wire.specs.Rows.{field, view_name, term, spot, place}
 use Rattle.mvd_wire.specs.Frames.{spell_frame, frame_limit}
 
-unfoldable pub put : Kind (Text × (DotSet × Text))
+unfoldable pub put : Codec (Text × (DotSet × Text))
 put = followed key (λ _. followed (context layout2) (λ _. document))
 
-unfoldable pub delete : Kind (Text × DotSet)
+unfoldable pub delete : Codec (Text × DotSet)
 delete = followed key (λ _. context layout2)
 
-unfoldable pub push : Kind (Text × State)
+unfoldable pub push : Codec (Text × State)
 push = followed key (λ _. state layout2)
 
-unfoldable pub find : Kind (Text × (Term × Option (Text × DotValue)))
+unfoldable pub find : Codec (Text × (Term × Option (Text × DotValue)))
 find = followed field (λ _. followed term (λ _. optional spot))
 
-unfoldable pub row_of_view : Kind (Text × Term)
+unfoldable pub row_of_view : Codec (Text × Term)
 row_of_view = followed view_name (λ _. term)
 
-unfoldable pub rows_of_view : Kind (Text × Option Term)
+unfoldable pub rows_of_view : Codec (Text × Option Term)
 rows_of_view = followed view_name (λ _. optional term)
 
-unfoldable pub bucket : Kind (List ℕ × Option Text)
+unfoldable pub bucket : Codec (List ℕ × Option Text)
 bucket = followed path (λ _. optional key)
 
-unfoldable pub range : Kind (Text × (Term × (Term × Option Place)))
+unfoldable pub range : Codec (Text × (Term × (Term × Option Place)))
 range = followed field (λ _. followed term (λ _. followed term (λ _. optional place)))
 
 abbrev pub kind_of : Request → ℕ

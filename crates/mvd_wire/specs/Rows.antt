@@ -13,27 +13,27 @@ use Rattle.mvd_docs.specs.TermText.{term_text_of}
 use Rattle.mvd_keys.specs.declared.places.Place.{Place}
 use Rattle.mvd_wire.specs.declared.reply.RowValue.{RowValue}
 use Rattle.mvd_wire.specs.declared.reply.Digests.{Digests}
-use Rattle.mvd_wire.specs.Kind.{Kind, ◌>>=◌, byte, number, raw, followed, checked, accepted, named, named_where, counted, nothing, optional, variant}
-use Rattle.mvd_wire.specs.Kinds.{layout2, dot, key}
+use Rattle.mvd_wire.specs.Codec.{Codec, ◌>>=◌, byte, number, raw, followed, checked, accepted, named, named_where, counted, nothing, optional, variant}
+use Rattle.mvd_wire.specs.Codecs.{layout2, dot, key}
 
 -- ---- names
 
 abbrev pub field_of_bytes : List ℕ → Result (List ℕ) Refusal
 field_of_bytes bytes = if is_field bytes then Ok bytes else Err BadBody
 
-unfoldable pub field : Kind (List ℕ)
+unfoldable pub field : Codec (List ℕ)
 field = named (λ f. (length f, f)) (λ p. p.1) (followed (number w16) (λ n. accepted field_of_bytes (raw n)))
 
 abbrev pub view_name_of_bytes : List ℕ → Result (List ℕ) Refusal
 view_name_of_bytes bytes = if is_view_name bytes then Ok bytes else Err BadBody
 
-unfoldable pub view_name : Kind (List ℕ)
+unfoldable pub view_name : Codec (List ℕ)
 view_name = named (λ v. (length v, v)) (λ p. p.1) (followed (number w16) (λ n. accepted view_name_of_bytes (raw n)))
 
 -- ---- terms
 
 -- a signed number of eight bytes, in two's complement
-unfoldable pub whole_number : Kind ℤ
+unfoldable pub whole_number : Codec ℤ
 whole_number = record {
   spell = λ z. (number w64).spell (cast_unsigned w64 z);
   Fits = λ z. FitsSigned w64 z;
@@ -44,7 +44,7 @@ whole_number = record {
 abbrev pub text_of_bytes : List ℕ → Result (List ℕ) Refusal
 text_of_bytes bytes = if is_utf8 bytes then term_text_of bytes else Err BadTerm
 
-unfoldable pub term_text : Kind (List ℕ)
+unfoldable pub term_text : Codec (List ℕ)
 term_text = named (λ t. (length t, t)) (λ p. p.1) (followed
     (checked BadTerm (λ n. nat_le n 512) (number w16)) (λ n.
     accepted text_of_bytes (raw n)))
@@ -71,7 +71,7 @@ term_behind =
     (variant 4 term_text Text
     (λ _ _. Err BadTerm)))))
 
-unfoldable pub term : Kind Term
+unfoldable pub term : Codec Term
 term = record {
   spell = spell_term;
   Fits = IsTerm;
@@ -80,34 +80,34 @@ term = record {
 
 -- ---- places
 
-unfoldable pub spot : Kind (List ℕ × DotValue)
+unfoldable pub spot : Codec (List ℕ × DotValue)
 spot = followed key (λ _. dot layout2)
 
-unfoldable pub place : Kind Place
+unfoldable pub place : Codec Place
 place = named (λ p. (p.term, (p.key, p.dot))) (λ p. record { term = p.0; key = p.1.0; dot = p.1.1 }) (followed term (λ _. spot))
 
 -- ---- rows of a view
 
 -- a sum, as the upper and the lower eight bytes of its two's complement
-unfoldable pub sum : Kind ℤ
+unfoldable pub sum : Codec ℤ
 sum = named_where (FitsSigned w128) (λ z. (cast_unsigned w128 z / 2 ^ 64, cast_unsigned w128 z % 2 ^ 64)) (λ p. cast_signed w128 (p.0 * 2 ^ 64 + p.1)) (followed (number w64) (λ _. number w64))
 
-unfoldable pub ends : Kind (Option (ℤ × ℤ))
+unfoldable pub ends : Codec (Option (ℤ × ℤ))
 ends = optional (followed whole_number (λ _. whole_number))
 
 -- how many, their sum, and the ends
-unfoldable pub row : Kind RowValue
+unfoldable pub row : Codec RowValue
 row = named (λ r. (r.count, (r.sum, r.ends))) (λ p. record { count = p.0; sum = p.1.0; ends = p.1.1 }) (followed (number w64) (λ _. followed sum (λ _. ends)))
 
-unfoldable pub view_row : Kind (Term × ℕ × ℤ × Option (ℤ × ℤ))
+unfoldable pub view_row : Codec (Term × ℕ × ℤ × Option (ℤ × ℤ))
 view_row = named (λ r. (r.0, record { count = r.1; sum = r.2; ends = r.3 })) (λ p. (p.0, p.1.count, p.1.sum, p.1.ends)) (followed term (λ _. row))
 
 -- ---- digests
 
-unfoldable pub digest : Kind (List ℕ)
+unfoldable pub digest : Codec (List ℕ)
 digest = raw 32
 
-unfoldable pub key_entry : Kind (List ℕ × List ℕ)
+unfoldable pub key_entry : Codec (List ℕ × List ℕ)
 key_entry = followed key (λ _. digest)
 
 abbrev pub list_of : Option (List (List ℕ)) → List (List ℕ)
@@ -118,31 +118,31 @@ abbrev pub children_of : List (List ℕ) → Option (List (List ℕ))
 children_of [] = None
 children_of (d ∷ ds) = Some (d ∷ ds)
 
-abbrev pub item_of : {X : Type 0} → Kind X → Unit {0} → Kind X
+abbrev pub item_of : {X : Type 0} → Codec X → Unit {0} → Codec X
 item_of kind _ = kind
 
 -- none for a bucket, else sixteen
-unfoldable pub children : Kind (Option (List (List ℕ)))
+unfoldable pub children : Codec (Option (List (List ℕ)))
 children = named_where (λ c. MatchOption c ⊤ (λ ds. length ds ≡ 16)) list_of children_of
     (counted (item_of digest) (λ s _. s) (checked BadBody (λ n. n == 0 || n == 16) byte) tt)
 
-unfoldable pub digests : Kind Digests
+unfoldable pub digests : Codec Digests
 digests = named (λ d. (d.own, d.children)) (λ p. record { own = p.0; children = p.1 }) (followed digest (λ _. children))
 
 -- ---- lists of a reply: whether more follow, at most 1,000 items, and the items
 
-abbrev pub flag : Kind Bool
+abbrev pub flag : Codec Bool
 flag = named (λ b. if b then 1 else 0) (λ n. n == 1) (checked BadBody (λ n. nat_le n 1) byte)
 
 abbrev pub page_limit : ℕ
 page_limit = 1000
 
-abbrev pub item_count : Kind ℕ
+abbrev pub item_count : Codec ℕ
 item_count = checked BadBody (λ n. nat_le n page_limit) (number w16)
 
-unfoldable pub items : {X : Type 0} → Kind X → Kind (List X)
+unfoldable pub items : {X : Type 0} → Codec X → Codec (List X)
 items kind = counted (item_of kind) (λ s _. s) item_count tt
 
 -- a list of items, and whether more follow
-unfoldable pub page : {X : Type 0} → Kind X → Kind (List X × Bool)
+unfoldable pub page : {X : Type 0} → Codec X → Codec (List X × Bool)
 page kind = named (λ p. (p.1, p.0)) (λ p. (p.1, p.0)) (followed flag (λ _. items kind))

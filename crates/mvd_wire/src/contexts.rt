@@ -2,8 +2,8 @@
 ghost use Rattle.std.specs.Prelude.{◌+◌, ◌<◌, ◌^◌, IfOk};
 ghost use Rattle.mvd_dots.specs.Entry.{EntryValue, IsEntry};
 ghost use Rattle.mvd_dots.specs.Context.{set_of};
-ghost use Rattle.mvd_wire.specs.Kind.{Gives, Kind, each, number};
-ghost use Rattle.mvd_wire.specs.Kinds.{loose_from, loose_above, entry, entries, context, dots_read, layout_of};
+ghost use Rattle.mvd_wire.specs.Codec.{Gives, Codec, each, number};
+ghost use Rattle.mvd_wire.specs.Codecs.{loose_from, loose_above, entry, entries, context, dots_read, layout_of};
 
 use crate::numbers::{u16_at, u32_at, u64_at};
 use crate::values::site_at;
@@ -12,7 +12,7 @@ use mvd_dots::{COUNTER_MAX, Context, Entry, Refusal};
 use std::alloc::Global;
 
 /// A loose counter, from the least that may come next.
-#[tactic(auto, unfolding(crate::specs::Kinds::loose_from))]
+#[tactic(auto, unfolding(crate::specs::Codecs::loose_from))]
 fn loose_at(least: u64, bytes: &[u8]) -> Result<(u64, &[u8]), Refusal>
     ensures read { Gives (λ x. (x.0, x.1.now)) result ((loose_from least).read bytes.now) }
     ensures below { IfOk result (λ x. x.0 < 2 ^ 48) }
@@ -45,7 +45,7 @@ fn each_loose_at(
     Ok((loose, rest))
 }
 
-#[tactic(auto, unfolding(crate::specs::Kinds::entry, crate::specs::Kinds::loose_above))]
+#[tactic(auto, unfolding(crate::specs::Codecs::entry, crate::specs::Codecs::loose_above))]
 fn parts_of_entry_at(
     alloc: Global,
     version: Version,
@@ -118,7 +118,7 @@ fn each_entry_at(
     Ok((context, rest))
 }
 
-#[tactic(auto, unfolding(crate::specs::Kinds::context, crate::specs::Kinds::entries))]
+#[tactic(auto, unfolding(crate::specs::Codecs::context, crate::specs::Codecs::entries))]
 pub fn context_at(
     alloc: Global,
     version: Version,

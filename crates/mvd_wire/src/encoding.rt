@@ -1,11 +1,11 @@
 //! Keys and the states of keys, spelled.
 ghost use Rattle.std.specs.Prelude.{Ok, IfOk};
-ghost use Rattle.mvd_wire.specs.Kind.{Gives, Kind, Spells, spelled_within};
-ghost use Rattle.mvd_wire.specs.Kinds.{layout2, key, state, state_limit};
+ghost use Rattle.mvd_wire.specs.Codec.{Gives, Codec, Spells, spelled_within};
+ghost use Rattle.mvd_wire.specs.Codecs.{layout2, key, state, state_limit};
 
 use crate::lengths::state_length;
 use crate::limits::STATE_LIMIT;
-use crate::writing::{put_key, put_state};
+use crate::writing::{write_key, write_state};
 use mvd_dots::Refusal;
 use mvd_keys::{Key, KeyState};
 use std::alloc::Global;
@@ -16,12 +16,12 @@ pub fn encode_key(alloc: Global, value: &Key) -> Result<Vec<u8>, Refusal>
     ensures spells { IfOk result (λ v. Spells key value.now v.items) }
 {
     let mut out = Vec::new(alloc);
-    put_key(&mut out, value)?;
+    write_key(&mut out, value)?;
     Ok(out)
 }
 
 /// The one spelling of a state, of at most 1,150,000 bytes.
-#[tactic(auto, unfolding(crate::specs::Kinds::spell_state))]
+#[tactic(auto, unfolding(crate::specs::Codecs::spell_state))]
 pub fn encode_state(alloc: Global, value: &KeyState) -> Result<Vec<u8>, Refusal>
     ensures exact { Gives (λ v. v.items) result (spelled_within Refusal.StateTooLarge state_limit (state layout2) value.now) }
     ensures spells { IfOk result (λ v. Spells (state layout2) value.now v.items) }
@@ -30,6 +30,6 @@ pub fn encode_state(alloc: Global, value: &KeyState) -> Result<Vec<u8>, Refusal>
         return Err(Refusal::StateTooLarge);
     }
     let mut out = Vec::new(alloc);
-    put_state(&mut out, value)?;
+    write_state(&mut out, value)?;
     Ok(out)
 }

@@ -3,8 +3,8 @@ ghost use Rattle.std.specs.Prelude.{◌≡◌, ◌≤◌, ◌-◌, ◌^◌, min,
 ghost use Rattle.std.specs.List.{All, flat_map};
 ghost use Rattle.mvd_dots.specs.Context.{AreInRange};
 ghost use Rattle.mvd_keys.specs.State.{pair_of, pairs_of};
-ghost use Rattle.mvd_wire.specs.Kind.{Kind};
-ghost use Rattle.mvd_wire.specs.Kinds.{layout2, context, document, spell_entry, spell_sibling, spell_state, state as spelled, state_limit};
+ghost use Rattle.mvd_wire.specs.Codec.{Codec};
+ghost use Rattle.mvd_wire.specs.Codecs.{layout2, context, document, spell_entry, spell_sibling, spell_state, state as spelled, state_limit};
 
 use mvd_dots::{Context, Entry};
 use mvd_keys::{KeyState, Sibling};

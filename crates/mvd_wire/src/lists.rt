@@ -1,6 +1,6 @@
 //! Digests and the items of lists, read at the front of a payload.
 ghost use Rattle.std.specs.Prelude.{◌≡◌, ◌<◌, ◌+◌, length, take};
-ghost use Rattle.mvd_wire.specs.Kind.{Gives, Kind, each};
+ghost use Rattle.mvd_wire.specs.Codec.{Gives, Codec, each};
 ghost use Rattle.mvd_wire.specs.Rows.{children, digest, digests, item_of, key_entry, view_row};
 
 use crate::numbers::byte_at;
@@ -12,7 +12,7 @@ use mvd_dots::Refusal;
 use mvd_keys::Key;
 use std::alloc::Global;
 
-#[tactic(auto, unfolding(crate::specs::Rows::digest, crate::specs::Kind::raw))]
+#[tactic(auto, unfolding(crate::specs::Rows::digest, crate::specs::Codec::raw))]
 fn digest_at(bytes: &[u8]) -> Result<([u8; 32], &[u8]), Refusal>
     ensures { Gives (λ x. (x.0, x.1.now)) result (digest.read bytes.now) }
 {

@@ -2,19 +2,19 @@
 ghost use Rattle.std.specs.Prelude.{◌≡◌, ◌≤◌, ◌++◌, length, OnOk};
 ghost use Rattle.std.specs.Int.{w16};
 ghost use Rattle.std.specs.List.{All, flat_map};
-ghost use Rattle.mvd_wire.specs.Kind.{Gives, Kind, each, number, optional};
+ghost use Rattle.mvd_wire.specs.Codec.{Gives, Codec, each, number, optional};
 ghost use Rattle.mvd_wire.specs.Rows.{flag, item_count, item_of, items, page, page_limit};
 
 use crate::items::Items;
 use crate::limits::PAGE_LIMIT;
 use crate::numbers::{byte_at, u16_at};
 use crate::spelled::Spelled;
-use crate::writing::put_len16;
+use crate::writing::write_len16;
 use mvd_dots::Refusal;
 use std::alloc::{AllocError, Global};
 
 /// 00, or 01 and a value.
-#[tactic(auto, unfolding(crate::specs::Kind::read_optional))]
+#[tactic(auto, unfolding(crate::specs::Codec::read_optional))]
 pub fn optional_at<T: Spelled + Drop>(
     alloc: Global,
     bytes: &[u8],
@@ -32,7 +32,7 @@ pub fn optional_at<T: Spelled + Drop>(
     }
 }
 
-pub fn put_optional<T: Spelled>(out: &mut Vec<u8>, value: &Option<T>) -> Result<(), AllocError>
+pub fn write_optional<T: Spelled>(out: &mut Vec<u8>, value: &Option<T>) -> Result<(), AllocError>
     ensures bytes { OnOk result (out.new.items ≡ out.old.items ++ (optional T.kind).spell value.now) }
     ensures fits { OnOk result ((optional T.kind).Fits value.now) }
 {
@@ -100,15 +100,15 @@ pub fn page_at<T: Spelled + Drop>(
 }
 
 /// Whether more items follow, and how many are here.
-fn put_page_head(out: &mut Vec<u8>, more: bool, len: usize) -> Result<(), AllocError>
+fn write_page_head(out: &mut Vec<u8>, more: bool, len: usize) -> Result<(), AllocError>
     ensures { OnOk result (out.new.items ≡ out.old.items ++ (flag.spell more ++ (number w16).spell len)) }
 {
     out.push(u8::from(more))?;
-    put_len16(out, len)?;
+    write_len16(out, len)?;
     Ok(())
 }
 
-fn put_each<T: Spelled>(out: &mut Vec<u8>, items: &[T]) -> Result<(), AllocError>
+fn write_each<T: Spelled>(out: &mut Vec<u8>, items: &[T]) -> Result<(), AllocError>
     ensures bytes { OnOk result (out.new.items ≡ out.old.items ++ flat_map T.kind.spell items.now) }
     ensures fit { OnOk result (All T.kind.Fits items.now) }
 {
@@ -119,11 +119,11 @@ fn put_each<T: Spelled>(out: &mut Vec<u8>, items: &[T]) -> Result<(), AllocError
 }
 
 /// A list, and whether more follow.
-pub fn put_page<T: Spelled>(out: &mut Vec<u8>, items: &[T], more: bool) -> Result<(), AllocError>
+pub fn write_page<T: Spelled>(out: &mut Vec<u8>, items: &[T], more: bool) -> Result<(), AllocError>
     ensures bytes { OnOk result (out.new.items ≡ out.old.items ++ (page T.kind).spell (items.now, more)) }
     ensures fits { OnOk result (length items.now ≤ page_limit → (page T.kind).Fits (items.now, more)) }
 {
-    put_page_head(out, more, items.len())?;
-    put_each(out, items)?;
+    write_page_head(out, more, items.len())?;
+    write_each(out, items)?;
     Ok(())
 }

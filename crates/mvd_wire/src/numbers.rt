@@ -1,10 +1,10 @@
 //! Numbers and bytes, read at the front of a payload.
 ghost use Rattle.std.specs.Int.{w16, w32, w64};
-ghost use Rattle.mvd_wire.specs.Kind.{Gives, Kind, byte, number, raw};
+ghost use Rattle.mvd_wire.specs.Codec.{Gives, Codec, byte, number, raw};
 
 use mvd_dots::Refusal;
 
-#[tactic(auto, unfolding(crate::specs::Kind::number))]
+#[tactic(auto, unfolding(crate::specs::Codec::number))]
 pub fn u16_at(bytes: &[u8]) -> Result<(u16, &[u8]), Refusal>
     ensures { Gives (λ x. (x.0, x.1.now)) result ((number w16).read bytes.now) }
 {
@@ -15,7 +15,7 @@ pub fn u16_at(bytes: &[u8]) -> Result<(u16, &[u8]), Refusal>
     Ok((u16::from_be_bytes([front[0], front[1]]), rest))
 }
 
-#[tactic(auto, unfolding(crate::specs::Kind::number))]
+#[tactic(auto, unfolding(crate::specs::Codec::number))]
 pub fn u32_at(bytes: &[u8]) -> Result<(u32, &[u8]), Refusal>
     ensures { Gives (λ x. (x.0, x.1.now)) result ((number w32).read bytes.now) }
 {
@@ -27,7 +27,7 @@ pub fn u32_at(bytes: &[u8]) -> Result<(u32, &[u8]), Refusal>
     Ok((number, rest))
 }
 
-#[tactic(auto, unfolding(crate::specs::Kind::number))]
+#[tactic(auto, unfolding(crate::specs::Codec::number))]
 pub fn u64_at(bytes: &[u8]) -> Result<(u64, &[u8]), Refusal>
     ensures { Gives (λ x. (x.0, x.1.now)) result ((number w64).read bytes.now) }
 {
@@ -50,7 +50,7 @@ pub fn byte_at(bytes: &[u8]) -> Result<(u8, &[u8]), Refusal>
     }
 }
 
-#[tactic(auto, unfolding(crate::specs::Kind::raw))]
+#[tactic(auto, unfolding(crate::specs::Codec::raw))]
 pub fn raw_at(count: usize, bytes: &[u8]) -> Result<(&[u8], &[u8]), Refusal>
     ensures { Gives (λ x. (x.0.now, x.1.now)) result ((raw count).read bytes.now) }
 {

@@ -1,8 +1,8 @@
 //! Replies, read.
 ghost use Rattle.std.specs.Prelude.{◌≡◌, ℕ, IfOk, Ok};
 ghost use Rattle.mvd_dots.specs.Answer.{IsAnswer};
-ghost use Rattle.mvd_wire.specs.Kind.{Gives, Kind, whole};
-ghost use Rattle.mvd_wire.specs.Kinds.{layout2, dot};
+ghost use Rattle.mvd_wire.specs.Codec.{Gives, Codec, whole};
+ghost use Rattle.mvd_wire.specs.Codecs.{layout2, dot};
 ghost use Rattle.mvd_wire.specs.Rows.{digests, key_entry, page, place, row, view_row};
 ghost use Rattle.mvd_wire.specs.Replies.{SpellsReply, numbered, refusal, reply_of};
 

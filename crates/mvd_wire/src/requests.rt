@@ -1,8 +1,8 @@
 //! Requests, read.
 ghost use Rattle.std.specs.Prelude.{◌≡◌, ℕ, IfOk, Ok};
 ghost use Rattle.mvd_dots.specs.Answer.{IsAnswer};
-ghost use Rattle.mvd_wire.specs.Kind.{Gives, Kind, whole, nothing};
-ghost use Rattle.mvd_wire.specs.Kinds.{key, path};
+ghost use Rattle.mvd_wire.specs.Codec.{Gives, Codec, whole, nothing};
+ghost use Rattle.mvd_wire.specs.Codecs.{key, path};
 ghost use Rattle.mvd_wire.specs.Requests.{SpellsRequest, request_of, put, delete, find, row_of_view, rows_of_view, bucket, push, range};
 
 use crate::contexts::context_at;

@@ -1,8 +1,8 @@
 //! Names, terms, places, rows and digests, read at the front of a payload.
 ghost use Rattle.std.specs.Prelude.{◌≡◌};
 ghost use Rattle.mvd_dots.specs.Answer.{IsAnswer};
-ghost use Rattle.mvd_wire.specs.Kind.{Gives, Kind};
-ghost use Rattle.mvd_wire.specs.Kinds.{path};
+ghost use Rattle.mvd_wire.specs.Codec.{Gives, Codec};
+ghost use Rattle.mvd_wire.specs.Codecs.{path};
 ghost use Rattle.mvd_wire.specs.Rows.{field_of_bytes, field, view_name_of_bytes, view_name, whole_number, text_of_bytes, term_text, term, term_behind, spot, place, sum, ends, row};
 
 use crate::numbers::{byte_at, raw_at, u16_at, u64_at};
@@ -119,7 +119,7 @@ pub fn term_at(alloc: Global, bytes: &[u8]) -> Result<(Term, &[u8]), Refusal>
 }
 
 /// The path that these bytes are.
-#[tactic(auto, unfolding(crate::specs::Kinds::path))]
+#[tactic(auto, unfolding(crate::specs::Codecs::path))]
 pub fn path_at(alloc: Global, bytes: &[u8]) -> Result<(Path, &[u8]), Refusal>
     ensures { Gives (λ x. (x.0, x.1.now)) result (path.read bytes.now) }
 {
@@ -152,7 +152,7 @@ pub fn place_at(alloc: Global, bytes: &[u8]) -> Result<(Place, &[u8]), Refusal>
     Ok((Place { term, key, dot }, rest))
 }
 
-#[tactic(auto, unfolding(crate::specs::Rows::ends, crate::specs::Kind::read_optional))]
+#[tactic(auto, unfolding(crate::specs::Rows::ends, crate::specs::Codec::read_optional))]
 fn ends_at(bytes: &[u8]) -> Result<(Option<(i64, i64)>, &[u8]), Refusal>
     ensures { Gives (λ x. (x.0, x.1.now)) result (ends.read bytes.now) }
 {

@@ -1,8 +1,8 @@
 //! Whole frames of requests and replies.
 ghost use Rattle.std.specs.Prelude.{◌≡◌, ◌≤◌, ◌<◌, ◌+◌, ◌++◌, [], drop, length, slice_index, true, Ok, IfOk, OnOk};
 ghost use Rattle.mvd_keys.specs.Key.{is_key};
-ghost use Rattle.mvd_wire.specs.Kind.{Gives, Kind};
-ghost use Rattle.mvd_wire.specs.Kinds.{layout2, key, spell_state, state_limit, state as spelled};
+ghost use Rattle.mvd_wire.specs.Codec.{Gives, Codec};
+ghost use Rattle.mvd_wire.specs.Codecs.{layout2, key, spell_state, state_limit, state as spelled};
 ghost use Rattle.mvd_wire.specs.Frames.{frame_limit};
 ghost use Rattle.mvd_wire.specs.Requests.{framed, unmeasured, within_limit, put, delete, find, row_of_view, rows_of_view, bucket, push, range, IsRequest, request_bytes, request_frame};
 ghost use Rattle.mvd_wire.specs.Replies.{IsReply, reply_frame, within_page};
@@ -11,13 +11,13 @@ ghost use Rattle.mvd_wire.specs.declared.request.Request.TheVariants as asked;
 
 use crate::lengths::state_length;
 use crate::limits::{FRAME_LIMIT, PAGE_LIMIT, STATE_LIMIT};
-use crate::many::{put_optional, put_page};
+use crate::many::{write_optional, write_page};
 use crate::reply::{Digests, Reply, RowValue};
 use crate::request::Request;
-use crate::row_writing::{put_digests, put_field, put_path, put_row, put_term, put_view_name};
+use crate::row_writing::{write_digests, write_field, write_path, write_row, write_term, write_view_name};
 use crate::short::Short;
 use crate::spelled::Spelled;
-use crate::writing::{put_context, put_document, put_key, put_state};
+use crate::writing::{write_context, write_document, write_key, write_state};
 use mvd_docs::{Document, Field, Term, ViewName};
 use mvd_dots::{Context, Dot, Refusal};
 use mvd_keys::{Key, KeyState, Path, Place};
@@ -59,7 +59,7 @@ fn measured(frame: Vec<u8>) -> Result<Vec<u8>, Refusal>
 }
 
 #[tactic(auto, unfolding(crate::specs::Requests::put))]
-fn put_put(
+fn write_put(
     out: &mut Vec<u8>,
     key: &Key,
     context: &Context,
@@ -68,29 +68,29 @@ fn put_put(
     ensures bytes { OnOk result (out.new.items ≡ out.old.items ++ put.spell (key.now, (context.now, document.now))) }
     ensures fits { OnOk result (length (put.spell (key.now, (context.now, document.now))) < frame_limit → put.Fits (key.now, (context.now, document.now))) }
 {
-    put_key(out, key)?;
-    put_context(out, context)?;
-    put_document(out, document)?;
+    write_key(out, key)?;
+    write_context(out, context)?;
+    write_document(out, document)?;
     Ok(())
 }
 
 #[tactic(auto, unfolding(crate::specs::Requests::delete))]
-fn put_delete(out: &mut Vec<u8>, key: &Key, context: &Context) -> Result<(), AllocError>
+fn write_delete(out: &mut Vec<u8>, key: &Key, context: &Context) -> Result<(), AllocError>
     ensures bytes { OnOk result (out.new.items ≡ out.old.items ++ delete.spell (key.now, context.now)) }
     ensures fits { OnOk result (length (delete.spell (key.now, context.now)) < frame_limit → delete.Fits (key.now, context.now)) }
 {
-    put_key(out, key)?;
-    put_context(out, context)?;
+    write_key(out, key)?;
+    write_context(out, context)?;
     Ok(())
 }
 
-#[tactic(auto, unfolding(crate::specs::Requests::push, crate::specs::Kinds::spell_state))]
-fn put_push(out: &mut Vec<u8>, key: &Key, state: &KeyState) -> Result<(), AllocError>
+#[tactic(auto, unfolding(crate::specs::Requests::push, crate::specs::Codecs::spell_state))]
+fn write_push(out: &mut Vec<u8>, key: &Key, state: &KeyState) -> Result<(), AllocError>
     ensures bytes { OnOk result (out.new.items ≡ out.old.items ++ push.spell (key.now, state.now)) }
     ensures key { is_key key.now ≡ true }
 {
-    put_key(out, key)?;
-    put_state(out, state)?;
+    write_key(out, key)?;
+    write_state(out, state)?;
     Ok(())
 }
 
@@ -101,7 +101,7 @@ pub fn encode_get(alloc: Global, key: &Key) -> Result<Vec<u8>, Refusal>
     ensures short { request_frame (asked.Get key.now) ≡ Ok (request_bytes (asked.Get key.now)) }
 {
     let mut frame = head_with_room(alloc, 0x21, key.text().len() + 1)?;
-    put_key(&mut frame, key)?;
+    write_key(&mut frame, key)?;
     measured(frame)
 }
 
@@ -116,7 +116,7 @@ pub fn encode_put(
     ensures fits { IfOk result (λ _. IsRequest (asked.Put key.now context.now document.now)) }
 {
     let mut frame = head_of(alloc, 0x22)?;
-    put_put(&mut frame, key, context, document)?;
+    write_put(&mut frame, key, context, document)?;
     measured(frame)
 }
 
@@ -126,7 +126,7 @@ pub fn encode_delete(alloc: Global, key: &Key, context: &Context) -> Result<Vec<
     ensures fits { IfOk result (λ _. IsRequest (asked.Delete key.now context.now)) }
 {
     let mut frame = head_of(alloc, 0x23)?;
-    put_delete(&mut frame, key, context)?;
+    write_delete(&mut frame, key, context)?;
     measured(frame)
 }
 
@@ -142,12 +142,12 @@ pub fn encode_push(alloc: Global, key: &Key, state: &KeyState) -> Result<Vec<u8>
     }
     let room = key.text().len() + 1 + length as usize;
     let mut frame = head_with_room(alloc, 0x29, room)?;
-    put_push(&mut frame, key, state)?;
+    write_push(&mut frame, key, state)?;
     measured(frame)
 }
 
 #[tactic(auto, unfolding(crate::specs::Requests::find))]
-fn put_find(
+fn write_find(
     out: &mut Vec<u8>,
     field: &Field,
     term: &Term,
@@ -156,9 +156,9 @@ fn put_find(
     ensures bytes { OnOk result (out.new.items ≡ out.old.items ++ find.spell (field.now, (term.now, after.now))) }
     ensures fits { OnOk result (find.Fits (field.now, (term.now, after.now))) }
 {
-    put_field(out, field)?;
-    put_term(out, term)?;
-    put_optional(out, after)?;
+    write_field(out, field)?;
+    write_term(out, term)?;
+    write_optional(out, after)?;
     Ok(())
 }
 
@@ -173,17 +173,17 @@ pub fn encode_find(
     ensures fits { IfOk result (λ _. IsRequest (asked.Find field.now term.now after.now)) }
 {
     let mut frame = head_of(alloc, 0x24)?;
-    put_find(&mut frame, field, term, after)?;
+    write_find(&mut frame, field, term, after)?;
     measured(frame)
 }
 
 #[tactic(auto, unfolding(crate::specs::Requests::row_of_view))]
-fn put_row_asked(out: &mut Vec<u8>, name: &ViewName, term: &Term) -> Result<(), AllocError>
+fn write_row_asked(out: &mut Vec<u8>, name: &ViewName, term: &Term) -> Result<(), AllocError>
     ensures bytes { OnOk result (out.new.items ≡ out.old.items ++ row_of_view.spell (name.now, term.now)) }
     ensures fits { OnOk result (row_of_view.Fits (name.now, term.now)) }
 {
-    put_view_name(out, name)?;
-    put_term(out, term)?;
+    write_view_name(out, name)?;
+    write_term(out, term)?;
     Ok(())
 }
 
@@ -193,12 +193,12 @@ pub fn encode_row(alloc: Global, name: &ViewName, term: &Term) -> Result<Vec<u8>
     ensures fits { IfOk result (λ _. IsRequest (asked.Row name.now term.now)) }
 {
     let mut frame = head_of(alloc, 0x25)?;
-    put_row_asked(&mut frame, name, term)?;
+    write_row_asked(&mut frame, name, term)?;
     measured(frame)
 }
 
 #[tactic(auto, unfolding(crate::specs::Requests::rows_of_view))]
-fn put_rows_asked(
+fn write_rows_asked(
     out: &mut Vec<u8>,
     name: &ViewName,
     after: &Option<Term>,
@@ -206,8 +206,8 @@ fn put_rows_asked(
     ensures bytes { OnOk result (out.new.items ≡ out.old.items ++ rows_of_view.spell (name.now, after.now)) }
     ensures fits { OnOk result (rows_of_view.Fits (name.now, after.now)) }
 {
-    put_view_name(out, name)?;
-    put_optional(out, after)?;
+    write_view_name(out, name)?;
+    write_optional(out, after)?;
     Ok(())
 }
 
@@ -217,17 +217,17 @@ pub fn encode_rows(alloc: Global, name: &ViewName, after: &Option<Term>) -> Resu
     ensures fits { IfOk result (λ _. IsRequest (asked.Rows name.now after.now)) }
 {
     let mut frame = head_of(alloc, 0x26)?;
-    put_rows_asked(&mut frame, name, after)?;
+    write_rows_asked(&mut frame, name, after)?;
     measured(frame)
 }
 
 #[tactic(auto, unfolding(crate::specs::Requests::bucket))]
-fn put_bucket(out: &mut Vec<u8>, path: &Path, after: &Option<Key>) -> Result<(), AllocError>
+fn write_bucket(out: &mut Vec<u8>, path: &Path, after: &Option<Key>) -> Result<(), AllocError>
     ensures bytes { OnOk result (out.new.items ≡ out.old.items ++ bucket.spell (path.now, after.now)) }
     ensures fits { OnOk result (bucket.Fits (path.now, after.now)) }
 {
-    put_path(out, path)?;
-    put_optional(out, after)?;
+    write_path(out, path)?;
+    write_optional(out, after)?;
     Ok(())
 }
 
@@ -237,12 +237,12 @@ pub fn encode_bucket(alloc: Global, path: &Path, after: &Option<Key>) -> Result<
     ensures fits { IfOk result (λ _. IsRequest (asked.Bucket path.now after.now)) }
 {
     let mut frame = head_of(alloc, 0x28)?;
-    put_bucket(&mut frame, path, after)?;
+    write_bucket(&mut frame, path, after)?;
     measured(frame)
 }
 
 #[tactic(auto, unfolding(crate::specs::Requests::range))]
-fn put_range(
+fn write_range(
     out: &mut Vec<u8>,
     field: &Field,
     from: &Term,
@@ -252,10 +252,10 @@ fn put_range(
     ensures bytes { OnOk result (out.new.items ≡ out.old.items ++ range.spell (field.now, (from.now, (to.now, after.now)))) }
     ensures fits { OnOk result (range.Fits (field.now, (from.now, (to.now, after.now)))) }
 {
-    put_field(out, field)?;
-    put_term(out, from)?;
-    put_term(out, to)?;
-    put_optional(out, after)?;
+    write_field(out, field)?;
+    write_term(out, from)?;
+    write_term(out, to)?;
+    write_optional(out, after)?;
     Ok(())
 }
 
@@ -271,7 +271,7 @@ pub fn encode_range(
     ensures fits { IfOk result (λ _. IsRequest (asked.Range field.now from.now to.now after.now)) }
 {
     let mut frame = head_of(alloc, 0x2A)?;
-    put_range(&mut frame, field, from, to, after)?;
+    write_range(&mut frame, field, from, to, after)?;
     measured(frame)
 }
 
@@ -281,7 +281,7 @@ pub fn encode_node(alloc: Global, path: &Path) -> Result<Vec<u8>, Refusal>
     ensures fits { IfOk result (λ _. IsRequest (asked.Node path.now)) }
 {
     let mut frame = head_of(alloc, 0x27)?;
-    put_path(&mut frame, path)?;
+    write_path(&mut frame, path)?;
     measured(frame)
 }
 
@@ -323,7 +323,7 @@ fn encode_state_reply(alloc: Global, state: &KeyState) -> Result<Vec<u8>, Refusa
         return Err(Refusal::StateTooLarge);
     }
     let mut frame = head_with_room(alloc, 0xA1, length as usize)?;
-    put_state(&mut frame, state)?;
+    write_state(&mut frame, state)?;
     measured(frame)
 }
 
@@ -333,7 +333,7 @@ fn encode_row_reply(alloc: Global, value: &RowValue) -> Result<Vec<u8>, Refusal>
     ensures fits { IfOk result (λ _. row.Fits value.now) }
 {
     let mut frame = head_of(alloc, 0xA5)?;
-    put_row(&mut frame, value.count, value.sum, value.ends)?;
+    write_row(&mut frame, value.count, value.sum, value.ends)?;
     measured(frame)
 }
 
@@ -343,7 +343,7 @@ fn encode_digests(alloc: Global, value: &Digests) -> Result<Vec<u8>, Refusal>
     ensures fits { IfOk result (λ _. digests.Fits value.now) }
 {
     let mut frame = head_of(alloc, 0xA7)?;
-    put_digests(&mut frame, value)?;
+    write_digests(&mut frame, value)?;
     measured(frame)
 }
 
@@ -361,7 +361,7 @@ fn encode_page<T: Spelled>(
         return Err(Refusal::BadBody);
     }
     let mut frame = head_of(alloc, kind)?;
-    put_page(&mut frame, items, more)?;
+    write_page(&mut frame, items, more)?;
     measured(frame)
 }
 

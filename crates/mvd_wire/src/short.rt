@@ -31,7 +31,7 @@ impl Short {
     }
 
     /// The frame of a Written.
-    #[tactic(auto, unfolding(crate::specs::Kinds::dot, crate::specs::Kind::number))]
+    #[tactic(auto, unfolding(crate::specs::Codecs::dot, crate::specs::Codec::number))]
     pub fn written(dot: Dot) -> Short
         ensures frame { result ≡ reply_bytes (reply_of.Written dot) }
         ensures valid { IsDot dot }
@@ -45,7 +45,7 @@ impl Short {
     }
 
     /// The frame of a Done.
-    #[tactic(auto, unfolding(crate::specs::Kind::number))]
+    #[tactic(auto, unfolding(crate::specs::Codec::number))]
     pub fn done() -> Short
         ensures { result ≡ reply_bytes reply_of.Done }
     {
@@ -56,7 +56,7 @@ impl Short {
     }
 
     /// The frame of a Refused.
-    #[tactic(auto, unfolding(crate::specs::Kind::number, crate::specs::Replies::refusal))]
+    #[tactic(auto, unfolding(crate::specs::Codec::number, crate::specs::Replies::refusal))]
     pub fn refused(refusal: Refusal) -> Short
         ensures { result ≡ reply_bytes (reply_of.Refused refusal) }
     {

@@ -1,12 +1,12 @@
 //! What options and lists are made of.
 ghost use Rattle.std.specs.Prelude.{◌≡◌, ◌++◌, OnOk};
-ghost use Rattle.mvd_wire.specs.Kind.{Gives, Kind};
+ghost use Rattle.mvd_wire.specs.Codec.{Gives, Codec};
 
 use crate::lists::{key_entry_at, view_row_at};
-use crate::row_writing::{put_key_entry, put_place, put_spot, put_term, put_view_row};
+use crate::row_writing::{write_key_entry, write_place, write_spot, write_term, write_view_row};
 use crate::rows::{place_at, spot_at, term_at};
 use crate::values::key_at;
-use crate::writing::put_key;
+use crate::writing::write_key;
 use mvd_docs::Term;
 use mvd_dots::{Dot, Refusal};
 use mvd_keys::{Key, Place};
@@ -14,7 +14,7 @@ use std::alloc::{AllocError, Global};
 
 /// A value of a kind that is spelled.
 pub trait Spelled: Sized {
-    ghost kind: { Kind Self };
+    ghost kind: { Codec Self };
 
     /// Reads one at the front of a payload.
     fn read_at(alloc: Global, bytes: &[u8]) -> Result<(Self, &[u8]), Refusal>
@@ -27,7 +27,7 @@ pub trait Spelled: Sized {
 }
 
 impl Spelled for Key {
-    ghost use Rattle.mvd_wire.specs.Kinds.{key};
+    ghost use Rattle.mvd_wire.specs.Codecs.{key};
 
     ghost kind = { key };
 
@@ -36,7 +36,7 @@ impl Spelled for Key {
     }
 
     fn put(&self, out: &mut Vec<u8>) -> Result<(), AllocError> {
-        put_key(out, self)
+        write_key(out, self)
     }
 }
 
@@ -50,7 +50,7 @@ impl Spelled for Term {
     }
 
     fn put(&self, out: &mut Vec<u8>) -> Result<(), AllocError> {
-        put_term(out, self)
+        write_term(out, self)
     }
 }
 
@@ -64,7 +64,7 @@ impl Spelled for Place {
     }
 
     fn put(&self, out: &mut Vec<u8>) -> Result<(), AllocError> {
-        put_place(out, self)
+        write_place(out, self)
     }
 }
 
@@ -78,7 +78,7 @@ impl Spelled for (Key, Dot) {
     }
 
     fn put(&self, out: &mut Vec<u8>) -> Result<(), AllocError> {
-        put_spot(out, &self.0, self.1)
+        write_spot(out, &self.0, self.1)
     }
 }
 
@@ -95,7 +95,7 @@ impl Spelled for (Term, u64, i128, Option<(i64, i64)>) {
     }
 
     fn put(&self, out: &mut Vec<u8>) -> Result<(), AllocError> {
-        put_view_row(out, self)
+        write_view_row(out, self)
     }
 }
 
@@ -109,6 +109,6 @@ impl Spelled for (Key, [u8; 32]) {
     }
 
     fn put(&self, out: &mut Vec<u8>) -> Result<(), AllocError> {
-        put_key_entry(out, self)
+        write_key_entry(out, self)
     }
 }

@@ -2,8 +2,8 @@
 ghost use Rattle.std.specs.Prelude.{◌≡◌, ◌≤◌, ◌+◌, length, IfOk, Some, None, Ok};
 ghost use Rattle.mvd_dots.specs.Answer.{IsAnswer};
 ghost use Rattle.mvd_keys.specs.State.{AreParts, State, pair_of, pairs_of};
-ghost use Rattle.mvd_wire.specs.Kind.{Gives, Kind, each, whole, Spells};
-ghost use Rattle.mvd_wire.specs.Kinds.{comes_after, sibling, siblings, unlimited_state, state, layout_of, layout1, layout2, Layout, spell_state, state_limit};
+ghost use Rattle.mvd_wire.specs.Codec.{Gives, Codec, each, whole, Spells};
+ghost use Rattle.mvd_wire.specs.Codecs.{comes_after, sibling, siblings, unlimited_state, state, layout_of, layout1, layout2, Layout, spell_state, state_limit};
 
 use crate::contexts::context_at;
 use crate::limits::{OLD_STATE_LIMIT, STATE_LIMIT};
@@ -24,7 +24,7 @@ fn is_after(previous: Option<Dot>, dot: Dot) -> bool
     }
 }
 
-#[tactic(auto, unfolding(crate::specs::Kinds::sibling))]
+#[tactic(auto, unfolding(crate::specs::Codecs::sibling))]
 fn sibling_at<'a>(
     alloc: Global,
     version: Version,
@@ -67,7 +67,7 @@ fn each_sibling_at<'a>(
     Ok((siblings, rest))
 }
 
-#[tactic(auto, unfolding(crate::specs::Kinds::siblings))]
+#[tactic(auto, unfolding(crate::specs::Codecs::siblings))]
 fn list_of_siblings_at<'a>(
     alloc: Global,
     version: Version,
@@ -93,7 +93,7 @@ fn siblings_at<'a>(
     list_of_siblings_at(alloc, version, context, bytes)
 }
 
-#[tactic(auto, unfolding(crate::specs::Kinds::unlimited_state))]
+#[tactic(auto, unfolding(crate::specs::Codecs::unlimited_state))]
 fn parts_of_state_at(
     alloc: Global,
     version: Version,
@@ -128,7 +128,7 @@ fn limit_of(version: Version) -> u64
     }
 }
 
-#[tactic(auto, unfolding(crate::specs::Kinds::state))]
+#[tactic(auto, unfolding(crate::specs::Codecs::state))]
 pub fn state_at(alloc: Global, version: Version, bytes: &[u8]) -> Result<(KeyState, &[u8]), Refusal>
     ensures { Gives (λ x. (x.0, x.1.now)) result ((state (layout_of version)).read bytes.now) }
 {

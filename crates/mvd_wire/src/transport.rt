@@ -3,7 +3,7 @@ ghost use Rattle.std.specs.Prelude.{◌≡◌, ◌≤◌, ◌<◌, ◌+◌, ◌�
 ghost use Rattle.std.specs.Int.{w32, from_be_bytes};
 ghost use Rattle.std.specs.Io.KnownBytes.{Appends, Consumes, IsAtEnd};
 ghost use Rattle.mvd_wire.specs.Frames.{AppendsFront, EndsReading, Reads, frame_value, frame_limit, spell_frame, length_at, body_at, frame_at};
-ghost use Rattle.mvd_wire.specs.Kind.{Kind, number};
+ghost use Rattle.mvd_wire.specs.Codec.{Codec, number};
 
 use crate::frame::Frame;
 use crate::limits::FRAME_LIMIT;

@@ -2,8 +2,8 @@
 ghost use Rattle.std.specs.Prelude.{◌≡◌};
 ghost use Rattle.mvd_dots.specs.Answer.{IsAnswer};
 ghost use Rattle.mvd_keys.specs.Key.{key_of_text};
-ghost use Rattle.mvd_wire.specs.Kind.{Gives, Kind, number};
-ghost use Rattle.mvd_wire.specs.Kinds.{dot, key, document, document_of_bytes, layout_of};
+ghost use Rattle.mvd_wire.specs.Codec.{Gives, Codec, number};
+ghost use Rattle.mvd_wire.specs.Codecs.{dot, key, document, document_of_bytes, layout_of};
 
 use crate::limits::DOCUMENT_LIMIT;
 use crate::numbers::{byte_at, raw_at, u16_at, u32_at, u64_at};
@@ -26,7 +26,7 @@ pub fn site_at(version: Version, bytes: &[u8]) -> Result<(u32, &[u8]), Refusal>
     }
 }
 
-#[tactic(auto, unfolding(crate::specs::Kinds::dot))]
+#[tactic(auto, unfolding(crate::specs::Codecs::dot))]
 pub fn dot_at(version: Version, bytes: &[u8]) -> Result<(Dot, &[u8]), Refusal>
     ensures { Gives (λ x. (x.0, x.1.now)) result ((dot (layout_of version)).read bytes.now) }
 {
@@ -54,7 +54,7 @@ fn key_of_bytes(alloc: Global, bytes: &[u8]) -> Result<Key, Refusal>
     }
 }
 
-#[tactic(auto, unfolding(crate::specs::Kinds::key))]
+#[tactic(auto, unfolding(crate::specs::Codecs::key))]
 pub fn key_at(alloc: Global, bytes: &[u8]) -> Result<(Key, &[u8]), Refusal>
     ensures { Gives (λ x. (x.0, x.1.now)) result (key.read bytes.now) }
 {
@@ -76,7 +76,7 @@ fn document_of_text(alloc: Global, bytes: &[u8]) -> Result<Document, Refusal>
     }
 }
 
-#[tactic(auto, unfolding(crate::specs::Kinds::document))]
+#[tactic(auto, unfolding(crate::specs::Codecs::document))]
 pub fn document_at(alloc: Global, bytes: &[u8]) -> Result<(Document, &[u8]), Refusal>
     ensures { Gives (λ x. (x.0, x.1.now)) result (document.read bytes.now) }
 {

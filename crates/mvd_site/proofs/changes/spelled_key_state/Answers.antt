@@ -1,7 +1,7 @@
 use Rattle.std.proofs.Common.{rules, ◌≡◌, ◌++◌, length, Err, IfErr, ap, sym, ◌∙◌, subst}
 use Rattle.std.proofs.lemmas.Result.{err_from_is_err_and}
 use Rattle.mvd_dots.specs.declared.refusals.Refusal.TheVariants.{Memory}
-use Rattle.mvd_wire.specs.Kinds.{spell_state}
+use Rattle.mvd_wire.specs.Codecs.{spell_state}
 use Rattle.mvd_site.specs.Change.{SpellsChange}
 use Rattle.mvd_site.proofs.Digested.{behind}
 use Rattle.mvd_site.proofs.Lengths.{spelled}

@@ -15,8 +15,8 @@ invariant-children g l =
     record {
       follows : L.follows l.fn.local l.local × P.follows l.fn.peer l.peer;
       answers : L.can_answer l.local × P.can_answer l.peer;
-      pushes : L.is_true l.fn.local → L.is_true l.local × ComesByPushes P.can_give a (L.states l.local);
-      peer_pushes : P.is_true l.fn.peer → P.is_true l.peer × ComesByPushes L.can_give b (P.states l.peer);
-      session : L.is_true l.fn.local → P.is_true l.fn.peer → P.is_true l.peer × Walked (DigestsTell l.path a b) (IsBelowBefore l.path l.digit) a b (L.states l.local) (P.states l.peer) l.keys;
+      pushes : L.is_faithful l.fn.local → L.is_faithful l.local × ComesByPushes P.can_give a (L.states l.local);
+      peer_pushes : P.is_faithful l.fn.peer → P.is_faithful l.peer × ComesByPushes L.can_give b (P.states l.peer);
+      session : L.is_faithful l.fn.local → P.is_faithful l.fn.peer → P.is_faithful l.peer × Walked (DigestsTell l.path a b) (IsBelowBefore l.path l.digit) a b (L.states l.local) (P.states l.peer) l.keys;
       keys : l.keys + l.left.peer ≤ l.fn.left.peer;
     }

@@ -29,7 +29,7 @@ returns-in-Err-give-clause-session g c t u differ =
     let second = c.in-Err-give.ensures.local first.0 in
     let failed = c.in-Err-give.ensures.peer asked.0 in
     let pulled = carries_kept _ _ _ _ _ _ _ second.1 first.1 in
-    only_pulled g.P.Peer.can_give _ _ _ (g.P.Peer.is_true c.args.peer.now) _ _ _ _ _ c.args.key.now refl u pulled
+    only_pulled g.P.Peer.can_give _ _ _ (g.P.Peer.is_faithful c.args.peer.now) _ _ _ _ _ c.args.key.now refl u pulled
     (λ still. failed.kept still ∙ asked.1)
     (give_clashes _ _ _ _ _ _ _ _ _ _ _ u first.0 first.1 asked.1 failed (c.in-Err-give.ensures.no_clash first.0))
 
@@ -48,7 +48,7 @@ returns-in-Ok-give-clause-session g c t u differ =
     let key = c.args.key.now in (
       second.0,
       given.0,
-      one_key g.P.Peer.can_give g.L.Peer.can_give (g.P.Peer.is_true c.args.peer.now) (g.L.Peer.is_true c.pull.new.local) _ _ _ _ key u first.0 differ
+      one_key g.P.Peer.can_give g.L.Peer.can_give (g.P.Peer.is_faithful c.args.peer.now) (g.L.Peer.is_faithful c.pull.new.local) _ _ _ _ key u first.0 differ
           (carries_kept _ _ _ _ _ _ _ second.1 first.1)
           (carries_from _ _ _ _ _ _ _ _ second.1 asked.1 given.1),
     )

@@ -15,9 +15,9 @@ invariant-entries g l =
     record {
       follows : L.follows l.fn.local l.local × P.follows l.fn.peer l.peer;
       answers : L.can_answer l.local × P.can_answer l.peer;
-      pushes : L.is_true l.fn.local → L.is_true l.local × ComesByPushes P.can_give a (L.states l.local);
-      peer_pushes : P.is_true l.fn.peer → P.is_true l.peer × ComesByPushes L.can_give b (P.states l.peer);
-      session : L.is_true l.fn.local → P.is_true l.fn.peer → P.is_true l.peer × AtKey l.path a b (L.states l.local) (P.states l.peer) l.mine l.theirs l.keys;
+      pushes : L.is_faithful l.fn.local → L.is_faithful l.local × ComesByPushes P.can_give a (L.states l.local);
+      peer_pushes : P.is_faithful l.fn.peer → P.is_faithful l.peer × ComesByPushes L.can_give b (P.states l.peer);
+      session : L.is_faithful l.fn.local → P.is_faithful l.fn.peer → P.is_faithful l.peer × AtKey l.path a b (L.states l.local) (P.states l.peer) l.mine l.theirs l.keys;
       mine_more : l.mine.0 ≡ [] → l.mine.1 ≡ false;
       theirs_more : l.theirs.0 ≡ [] → l.theirs.1 ≡ false;
       keys : l.keys + l.left.peer ≤ l.fn.left.peer;

@@ -1,4 +1,4 @@
-use Rattle.mvd_wire.specs.Kinds.{layout_of}
+use Rattle.mvd_wire.specs.Codecs.{layout_of}
 use Rattle.mvd_wire.proofs.Entries.{context_read}
 use Rattle.mvd_wire.proofs.contexts.context_at.Goals as goal
 

@@ -4,8 +4,8 @@ use Rattle.std.specs.FinSet as set
 use Rattle.mvd_dots.specs.Entry.{EntryValue}
 use Rattle.mvd_dots.specs.Context.{DotSet, Holds, entry_dots}
 use Rattle.mvd_dots.proofs.Sets.{empty_holds}
-use Rattle.mvd_wire.specs.Kind.{read_each}
-use Rattle.mvd_wire.specs.Kinds.{entry, layout_of, dots_read}
+use Rattle.mvd_wire.specs.Codec.{read_each}
+use Rattle.mvd_wire.specs.Codecs.{entry, layout_of, dots_read}
 use Rattle.mvd_wire.proofs.Entries.{dots_start, dots_go_on, dots_end, dots_done, sites_after}
 use Rattle.mvd_wire.proofs.contexts.each_entry_at.Goals as goal
 

@@ -1,7 +1,7 @@
 use Rattle.std.proofs.Common.{◌≡◌, ℕ, ◌≤◌, ◌-◌}
 use Rattle.mvd_dots.specs.Context.{Holds}
-use Rattle.mvd_wire.specs.Kind.{read_each}
-use Rattle.mvd_wire.specs.Kinds.{entry, layout_of, dots_read}
+use Rattle.mvd_wire.specs.Codec.{read_each}
+use Rattle.mvd_wire.specs.Codecs.{entry, layout_of, dots_read}
 use Rattle.mvd_wire.proofs.Entries.{with_dots}
 use Rattle.mvd_wire.proofs.contexts.each_entry_at.Given as goal
 

@@ -1,8 +1,8 @@
 use Rattle.std.proofs.Common.{◌<◌, arith}
 use Rattle.mvd_dots.specs.Entry.{IsEntry}
-use Rattle.mvd_wire.specs.Kinds.{entry, layout_of}
+use Rattle.mvd_wire.specs.Codecs.{entry, layout_of}
 use Rattle.mvd_wire.proofs.Laws.{is_read}
-use Rattle.mvd_wire.proofs.KindLaws.{wide_layout_of, lawful_entry}
+use Rattle.mvd_wire.proofs.CodecLaws.{wide_layout_of, lawful_entry}
 use Rattle.mvd_wire.proofs.Entries.{entry_form}
 use Rattle.mvd_wire.proofs.contexts.entry_at.Goals as goal
 

@@ -1,7 +1,7 @@
 use Rattle.std.proofs.Common.{◌≡◌, true, rules, arith, ltb, leb}
 use Rattle.std.proofs.lemmas.Bool.{le-leb, lt-ltb}
 use Rattle.mvd_dots.specs.declared.dots.TheConstants.{COUNTER_MAX}
-use Rattle.mvd_wire.specs.Kinds.{entry, loose_above}
+use Rattle.mvd_wire.specs.Codecs.{entry, loose_above}
 use Rattle.mvd_wire.proofs.contexts.parts_of_entry_at.Goals as goal
 
 pub returns : goal.returns

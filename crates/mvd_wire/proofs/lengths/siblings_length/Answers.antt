@@ -1,7 +1,7 @@
 use Rattle.std.proofs.Common.{◌≡◌, ◌++◌, ◌∷◌, ◌+◌, [], take, sym, ap, ◌∙◌, arith}
 use Rattle.std.proofs.lemmas.List.{take_more}
 use Rattle.std.proofs.lemmas.List.Elements.{All-push}
-use Rattle.mvd_wire.specs.Kinds.{document}
+use Rattle.mvd_wire.specs.Codecs.{document}
 use Rattle.mvd_wire.proofs.Spellings.{one_sibling_more}
 use Rattle.mvd_wire.proofs.lengths.siblings_length.Goals as goal
 

@@ -1,7 +1,7 @@
 use Rattle.std.proofs.Common.{◌≡◌, ◌-◌, ◌^◌, min, length, take}
 use Rattle.std.specs.List.{All, flat_map}
 use Rattle.mvd_keys.specs.State.{pairs_of}
-use Rattle.mvd_wire.specs.Kinds.{document, spell_sibling}
+use Rattle.mvd_wire.specs.Codecs.{document, spell_sibling}
 use Rattle.mvd_wire.proofs.lengths.siblings_length.Given as goal
 
 abbrev pub invariant-loop-sibling : goal.invariant-loop-sibling

@@ -1,7 +1,7 @@
 use Rattle.std.proofs.Common.{◌≡◌, ◌-◌, ◌^◌, min, arith, length, subst}
 use Rattle.std.specs.List.{flat_map}
 use Rattle.std.specs.FinMap.{entries as pairs}
-use Rattle.mvd_wire.specs.Kinds.{layout2, context, spell_sibling}
+use Rattle.mvd_wire.specs.Codecs.{layout2, context, spell_sibling}
 use Rattle.mvd_dots.specs.Context.{AreInRange}
 use Rattle.mvd_wire.proofs.Fits.{state_fits}
 use Rattle.mvd_wire.proofs.Spellings.{length_state}

@@ -1,7 +1,7 @@
 use Rattle.std.proofs.Common.{◌≡◌, ℕ, List, Ok, take, arith, ap, ◌∙◌}
 use Rattle.std.proofs.lemmas.Result.{err_from_is_err_and}
 use Rattle.std.proofs.lemmas.List.{length-set, take_all, take_more_set}
-use Rattle.mvd_wire.specs.Kind.{read_each}
+use Rattle.mvd_wire.specs.Codec.{read_each}
 use Rattle.mvd_wire.specs.Rows.{item_of, digest}
 use Rattle.mvd_wire.proofs.Loops.{goes_on, ends, is_done}
 use Rattle.mvd_wire.proofs.lists.sixteen_digests_at.Goals as goal

@@ -1,5 +1,5 @@
 use Rattle.std.proofs.Common.{◌≡◌, ◌-◌, length, take}
-use Rattle.mvd_wire.specs.Kind.{read_each}
+use Rattle.mvd_wire.specs.Codec.{read_each}
 use Rattle.mvd_wire.specs.Rows.{item_of, digest}
 use Rattle.mvd_wire.proofs.Loops.{with_front}
 use Rattle.mvd_wire.proofs.lists.sixteen_digests_at.Given as goal

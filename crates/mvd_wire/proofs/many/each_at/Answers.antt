@@ -1,6 +1,6 @@
 use Rattle.std.proofs.Common.{◌≡◌, ◌-◌, arith}
 use Rattle.std.proofs.lemmas.Result.{err_from_is_err_and}
-use Rattle.mvd_wire.specs.Kind.{read_each}
+use Rattle.mvd_wire.specs.Codec.{read_each}
 use Rattle.mvd_wire.specs.Rows.{item_of}
 use Rattle.mvd_wire.proofs.Loops.{starts, goes_on, ends, is_done}
 use Rattle.mvd_wire.proofs.many.each_at.Goals as goal

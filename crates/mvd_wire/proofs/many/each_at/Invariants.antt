@@ -1,5 +1,5 @@
 use Rattle.std.proofs.Common.{◌≡◌, ◌-◌}
-use Rattle.mvd_wire.specs.Kind.{read_each}
+use Rattle.mvd_wire.specs.Codec.{read_each}
 use Rattle.mvd_wire.specs.Rows.{item_of}
 use Rattle.mvd_wire.proofs.Loops.{with_front}
 use Rattle.mvd_wire.proofs.many.each_at.Given as goal

@@ -1,6 +1,6 @@
 use Rattle.std.proofs.Common.{◌≡◌, true, arith, leb, refl}
 use Rattle.std.proofs.lemmas.Bool.{le-leb}
-use Rattle.mvd_wire.specs.Kinds.{path}
+use Rattle.mvd_wire.specs.Codecs.{path}
 use Rattle.mvd_wire.proofs.rows.path_at.Goals as goal
 
 pub returns : goal.returns

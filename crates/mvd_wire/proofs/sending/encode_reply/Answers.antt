@@ -1,4 +1,4 @@
-use Rattle.mvd_wire.specs.Kinds.{layout2, dot}
+use Rattle.mvd_wire.specs.Codecs.{layout2, dot}
 use Rattle.mvd_wire.specs.Replies.{refusal}
 use Rattle.mvd_wire.proofs.Fits.{dot_fits}
 use Rattle.mvd_wire.proofs.SentFrames.{always}

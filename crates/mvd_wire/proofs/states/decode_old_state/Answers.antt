@@ -1,9 +1,9 @@
 use Rattle.std.proofs.Common.{arith}
 use Rattle.std.specs.Prelude.{IfOk}
-use Rattle.mvd_wire.specs.Kind.{Spells}
-use Rattle.mvd_wire.specs.Kinds.{state, layout1}
+use Rattle.mvd_wire.specs.Codec.{Spells}
+use Rattle.mvd_wire.specs.Codecs.{state, layout1}
 use Rattle.mvd_wire.proofs.Laws.{is_found, is_only}
-use Rattle.mvd_wire.proofs.KindLaws.{wide_layout1, lawful_state}
+use Rattle.mvd_wire.proofs.CodecLaws.{wide_layout1, lawful_state}
 use Rattle.mvd_wire.proofs.Versions.{was_short, was_spelled}
 use Rattle.mvd_wire.proofs.states.decode_old_state.Goals as goal
 

@@ -1,7 +1,7 @@
 use Rattle.std.proofs.Common.{arith}
-use Rattle.mvd_wire.specs.Kinds.{state, layout2}
+use Rattle.mvd_wire.specs.Codecs.{state, layout2}
 use Rattle.mvd_wire.proofs.Laws.{is_found, is_only}
-use Rattle.mvd_wire.proofs.KindLaws.{wide_layout2, lawful_state}
+use Rattle.mvd_wire.proofs.CodecLaws.{wide_layout2, lawful_state}
 use Rattle.mvd_wire.proofs.states.decode_state.Goals as goal
 
 pub returns-clause-found : goal.returns-clause-found

@@ -2,8 +2,8 @@ use Rattle.std.proofs.Common.{◌≡◌, ◌-◌, arith, ◌++◌, ◌∷◌, []
 use Rattle.std.proofs.lemmas.Result.{err_from_is_err_and}
 use Rattle.std.proofs.lemmas.List.{map_push}
 use Rattle.mvd_keys.specs.State.{pair_of, pairs_of}
-use Rattle.mvd_wire.specs.Kind.{read_each}
-use Rattle.mvd_wire.specs.Kinds.{sibling, layout_of}
+use Rattle.mvd_wire.specs.Codec.{read_each}
+use Rattle.mvd_wire.specs.Codecs.{sibling, layout_of}
 use Rattle.mvd_wire.proofs.Loops.{starts, goes_on, ends, is_done}
 use Rattle.mvd_wire.proofs.states.each_sibling_at.Goals as goal
 

@@ -1,7 +1,7 @@
 use Rattle.std.proofs.Common.{◌≡◌, ◌-◌, Some, None}
 use Rattle.mvd_keys.specs.State.{pairs_of}
-use Rattle.mvd_wire.specs.Kind.{read_each}
-use Rattle.mvd_wire.specs.Kinds.{sibling, layout_of}
+use Rattle.mvd_wire.specs.Codec.{read_each}
+use Rattle.mvd_wire.specs.Codecs.{sibling, layout_of}
 use Rattle.mvd_wire.proofs.Loops.{with_front}
 use Rattle.mvd_wire.proofs.states.each_sibling_at.Given as goal
 

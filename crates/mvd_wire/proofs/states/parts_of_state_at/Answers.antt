@@ -1,5 +1,5 @@
 use Rattle.std.proofs.Common.{rules}
-use Rattle.mvd_wire.specs.Kinds.{unlimited_state}
+use Rattle.mvd_wire.specs.Codecs.{unlimited_state}
 use Rattle.mvd_wire.proofs.states.parts_of_state_at.Goals as goal
 
 pub returns : goal.returns

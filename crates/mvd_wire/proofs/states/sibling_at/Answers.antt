@@ -1,6 +1,6 @@
 use Rattle.std.proofs.Common.{◌≡◌, ◌&&◌, true, refl, rules}
 use Rattle.std.specs.FinSet.{contains}
-use Rattle.mvd_wire.specs.Kinds.{comes_after, sibling}
+use Rattle.mvd_wire.specs.Codecs.{comes_after, sibling}
 use Rattle.mvd_wire.proofs.states.sibling_at.Goals as goal
 
 pub returns : goal.returns

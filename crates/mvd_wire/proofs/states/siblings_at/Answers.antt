@@ -1,8 +1,8 @@
 use Rattle.std.proofs.Common.{arith}
 use Rattle.mvd_keys.specs.State.{AreParts, pairs_of}
-use Rattle.mvd_wire.specs.Kinds.{siblings, layout_of}
+use Rattle.mvd_wire.specs.Codecs.{siblings, layout_of}
 use Rattle.mvd_wire.proofs.Laws.{is_read}
-use Rattle.mvd_wire.proofs.KindLaws.{wide_layout_of, lawful_siblings}
+use Rattle.mvd_wire.proofs.CodecLaws.{wide_layout_of, lawful_siblings}
 use Rattle.mvd_wire.proofs.Siblings.{siblings_parts}
 use Rattle.mvd_wire.proofs.states.siblings_at.Goals as goal
 

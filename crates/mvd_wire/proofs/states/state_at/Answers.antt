@@ -1,6 +1,6 @@
 use Rattle.std.proofs.Common.{◌≤◌, arith, length, refl}
 use Rattle.std.proofs.lemmas.Bool.{le-leb}
-use Rattle.mvd_wire.specs.Kinds.{state, unlimited_state, layout_of}
+use Rattle.mvd_wire.specs.Codecs.{state, unlimited_state, layout_of}
 use Rattle.mvd_wire.proofs.states.state_at.Goals as goal
 
 pub returns : goal.returns

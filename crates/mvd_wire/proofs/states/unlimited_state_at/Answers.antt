@@ -1,7 +1,7 @@
 use Rattle.std.proofs.Common.{arith}
-use Rattle.mvd_wire.specs.Kinds.{unlimited_state, layout_of}
+use Rattle.mvd_wire.specs.Codecs.{unlimited_state, layout_of}
 use Rattle.mvd_wire.proofs.Laws.{is_length}
-use Rattle.mvd_wire.proofs.KindLaws.{wide_layout_of, lawful_unlimited_state}
+use Rattle.mvd_wire.proofs.CodecLaws.{wide_layout_of, lawful_unlimited_state}
 use Rattle.mvd_wire.proofs.states.unlimited_state_at.Goals as goal
 
 pub returns-clause-len : goal.returns-clause-len

@@ -1,7 +1,7 @@
 use Rattle.std.proofs.Common.{arith, ap, ◌∙◌}
 use Rattle.std.specs.Int.{w32, to_be_bytes}
 use Rattle.mvd_wire.proofs.Laws.{wide32}
-use Rattle.mvd_wire.specs.Kind.{number}
+use Rattle.mvd_wire.specs.Codec.{number}
 use Rattle.mvd_wire.proofs.transport.number_of.Goals as goal
 
 pub returns-clause-spelled : goal.returns-clause-spelled

@@ -1,6 +1,6 @@
 use Rattle.std.proofs.Common.{rules}
 use Rattle.std.specs.Int.{w32}
-use Rattle.mvd_wire.specs.Kind.{number}
+use Rattle.mvd_wire.specs.Codec.{number}
 use Rattle.mvd_wire.proofs.FrameLemmas.{head_spelled}
 use Rattle.mvd_wire.proofs.transport.read_length.Goals as goal
 

@@ -1,11 +1,11 @@
-use Rattle.mvd_wire.specs.Kind.{optional}
-use Rattle.mvd_wire.specs.Kinds.{layout1, layout2, dot, entry, context, sibling, key, document, path, state}
+use Rattle.mvd_wire.specs.Codec.{optional}
+use Rattle.mvd_wire.specs.Codecs.{layout1, layout2, dot, entry, context, sibling, key, document, path, state}
 use Rattle.mvd_wire.specs.Rows.{digests, ends, field, key_entry, page, place, row, spot, sum, term, view_name, view_row}
 use Rattle.mvd_wire.proofs.RowLaws.{lawful_digests, lawful_ends, lawful_field, lawful_key_entry, lawful_optional, lawful_page, lawful_place, lawful_row, lawful_spot, lawful_sum, lawful_term, lawful_view_name, lawful_view_row}
 use Rattle.mvd_wire.proofs.FrameLemmas.{frame_again}
 use Rattle.mvd_wire.proofs.FramesRead.{frame_taken, no_frame_taken, frames_differ, requests_differ, replies_differ}
 use Rattle.mvd_wire.proofs.Laws.{prefix_free}
-use Rattle.mvd_wire.proofs.KindLaws.{wide_layout1, wide_layout2, lawful_dot, lawful_entry, lawful_context, lawful_sibling, lawful_key, lawful_document, lawful_path, lawful_state}
+use Rattle.mvd_wire.proofs.CodecLaws.{wide_layout1, wide_layout2, lawful_dot, lawful_entry, lawful_context, lawful_sibling, lawful_key, lawful_document, lawful_path, lawful_state}
 use Rattle.mvd_wire.proofs.unique.one_spelling.Goals as goal
 
 pub returns : goal.returns

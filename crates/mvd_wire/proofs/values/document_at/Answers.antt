@@ -1,6 +1,6 @@
 use Rattle.std.proofs.Common.{◌≡◌, true, leb, refl}
 use Rattle.std.proofs.lemmas.Bool.{le-leb}
-use Rattle.mvd_wire.specs.Kinds.{document}
+use Rattle.mvd_wire.specs.Codecs.{document}
 use Rattle.mvd_wire.proofs.values.document_at.Goals as goal
 
 pub returns : goal.returns

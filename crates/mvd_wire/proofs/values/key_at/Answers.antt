@@ -1,6 +1,6 @@
 use Rattle.std.proofs.Common.{◌≡◌, true, leb, refl, arith}
 use Rattle.std.proofs.lemmas.Bool.{le-leb}
-use Rattle.mvd_wire.specs.Kinds.{key}
+use Rattle.mvd_wire.specs.Codecs.{key}
 use Rattle.mvd_wire.proofs.values.key_at.Goals as goal
 
 pub returns : goal.returns

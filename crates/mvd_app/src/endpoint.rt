@@ -1,0 +1,67 @@
+//! What can be asked.
+use mvd_dots::Refusal;
+use mvd_replica::Replica;
+use mvd_sync::Remote;
+use mvd_wire::{Reply, Request};
+use mvd_world::{Outcome, Step, World};
+use sqlite::Alter;
+use std::io::{Read, Write};
+
+/// Something that answers requests: a site of a world, a stored one, or one at the other end of a connection. What its replies mean
+/// is its own promise, and nothing here rests on it.
+pub trait Endpoint {
+    /// The reply to a request.
+    fn ask(&mut self, request: Request) -> Reply;
+}
+
+/// A site of a world.
+#[derive(Drop)]
+pub struct Member<'a> {
+    pub world: &'a mut World,
+    pub site: u32,
+}
+
+impl Endpoint for Member<'_> {
+    fn ask(&mut self, request: Request) -> Reply {
+        let step = step_of(self.site, request);
+        let outcome = self.world.step(&step);
+        drop(step);
+        reply_of(outcome)
+    }
+}
+
+/// The step by which a site is asked.
+fn step_of(site: u32, request: Request) -> Step {
+    if matches!(request, Request::Put(..) | Request::Delete(..)) {
+        Step::Write { site, request }
+    } else {
+        Step::Ask { site, request }
+    }
+}
+
+/// The reply that an outcome is.
+fn reply_of(outcome: Outcome) -> Reply {
+    match outcome {
+        Outcome::Replied(reply) => reply,
+        _ => Reply::Refused(Refusal::BadKind),
+    }
+}
+
+impl<S: Alter> Endpoint for Replica<S> {
+    fn ask(&mut self, request: Request) -> Reply {
+        let reply = self.answer(&request);
+        drop(request);
+        reply
+    }
+}
+
+impl<R: Read + Drop, W: Write + Drop> Endpoint for Remote<R, W> {
+    fn ask(&mut self, request: Request) -> Reply {
+        let told = Remote::ask(self, &request);
+        drop(request);
+        match told {
+            Ok(reply) => reply,
+            Err(refusal) => Reply::Refused(refusal),
+        }
+    }
+}

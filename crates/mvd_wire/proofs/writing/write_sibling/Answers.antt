@@ -1,0 +1,5 @@
+use Rattle.std.proofs.Common.{append_assoc}
+use Rattle.mvd_wire.proofs.writing.write_sibling.Goals as goal
+
+pub returns : goal.returns
+returns c = rw (c.in_ok-write_document.ensures.bytes, c.in_ok-write_dot.ensures.bytes) (simp append_assoc)

@@ -11,10 +11,11 @@ use Rattle.mvd_rows.specs.Stands.{definitions_of}
 use Rattle.mvd_rows.specs.declared.changes.Rows.{Rows as Kept}
 use Rattle.mvd_rows.specs.declared.meters.Meter.{Meter}
 use Rattle.mvd_tree.specs.Change.{changed}
-use Rattle.mvd_tree.specs.Counted.{Hashes, keys_beside}
+use Rattle.mvd_digest.specs.Counted.{Hashes}
+use Rattle.mvd_tree.specs.Counted.{keys_beside}
 use Rattle.mvd_tree.specs.HashTree.{KeyDigests}
 use Rattle.mvd_tree.specs.States.{key_digest}
-use Rattle.mvd_tree.specs.declared.digest.Hashed.{Hashed}
+use Rattle.mvd_digest.specs.declared.digest.Hashed.{Hashed}
 use Rattle.mvd_tree.proofs.Counts.{hashes_then}
 use Rattle.mvd_tree.proofs.Held.{digests_of-insert}
 use Rattle.mvd_wire.specs.declared.request.Request.{Request}

@@ -8,7 +8,8 @@ use Rattle.mvd_keys.specs.State.{State}
 use Rattle.mvd_keys.specs.Writes.{Key}
 use Rattle.mvd_rows.specs.Changes.{differing, looks_each, updates_each}
 use Rattle.mvd_rows.specs.Counted.{Within}
-use Rattle.mvd_tree.specs.Counted.{Hashes, keys_beside}
+use Rattle.mvd_digest.specs.Counted.{Hashes}
+use Rattle.mvd_tree.specs.Counted.{keys_beside}
 use Rattle.mvd_wire.specs.declared.request.Request.{Request}
 use Rattle.mvd_wire.specs.declared.request.Request.TheVariants.{Get, Put, Delete, Find, Row, Rows, Node, Bucket, Push, Range, Bye}
 use Rattle.mvd_wire.specs.declared.reply.Reply.{Reply}

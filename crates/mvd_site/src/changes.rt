@@ -36,7 +36,7 @@ impl Model for Change {
 impl Change {
     ghost use Rattle.std.specs.Prelude.{◌≡◌, ◌≤◌, Ok, length};
     ghost use Rattle.mvd_dots.specs.Answer.{IsAnswer};
-    ghost use Rattle.mvd_tree.specs.Counted.{Hashes};
+    ghost use Rattle.mvd_digest.specs.Counted.{Hashes};
     ghost use Rattle.mvd_tree.specs.States.{key_digest};
     ghost use Rattle.mvd_wire.specs.Codecs.{spell_state, state_limit};
     ghost use Rattle.mvd_site.specs.Answer.{spelled};

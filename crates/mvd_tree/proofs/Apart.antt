@@ -5,8 +5,8 @@ use Rattle.std.specs.Ordering.{nat_cmp}
 use Rattle.std.specs.Cmp.{unsigned_Decides}
 use Rattle.std.specs.Cmp.Lexicographic.{slice_cmp, nat_list_cmp_total}
 use Rattle.std.specs.FinMap.{FinMap, get, entries, len, empty_of_len, same_entries_map}
-use Rattle.sha2.specs.Sha256.{sha256}
-use Rattle.sha2.proofs.Facts256.{length-sha256}
+use Rattle.mvd_digest.specs.Sha256.{sha256}
+use Rattle.mvd_digest.proofs.Facts256.{length-sha256}
 use Rattle.mvd_tree.specs.HashTree.{KeyDigests, place_of, is_under, under, digits, zero_digest, digest_unless_empty, digest_above, text_above}
 use Rattle.mvd_tree.specs.States.{key_digest, digests_of}
 use Rattle.mvd_tree.specs.Hashed.{IsNodeText, AreDigests, AreToldApart, HashesTellApart, HaveOneText, SameUnder}

@@ -7,11 +7,12 @@ use Rattle.std.proofs.Math.Seq.{take-suc}
 use Rattle.std.proofs.lemmas.List.{map-append}
 use Rattle.std.proofs.lemmas.Grind.{flat_map-append}
 use Rattle.mvd_tree.specs.HashTree.{KeyDigests, under}
-use Rattle.mvd_tree.specs.Counted.{Hashes, all_keys, key_bytes, keys_beside}
+use Rattle.mvd_digest.specs.Counted.{Hashes}
+use Rattle.mvd_tree.specs.Counted.{all_keys, key_bytes, keys_beside}
 use Rattle.mvd_tree.specs.Layout.{AreApart, bucket_of, gathered, path_of_three}
 use Rattle.mvd_tree.proofs.Changes.{any_default}
 use Rattle.mvd_tree.proofs.Gathered.{entries_under, path_of_bucket}
-use Rattle.mvd_tree.specs.declared.digest.Hashed.{Hashed}
+use Rattle.mvd_digest.specs.declared.digest.Hashed.{Hashed}
 
 pub hashes_then : (a b p q m n : ℕ) (x y z : Hashed) → a + p ≤ m → b + q ≤ n → Hashes a b x y → Hashes p q y z → Hashes m n x z
 hashes_then a b p q m n x y z ends reads first second = record {

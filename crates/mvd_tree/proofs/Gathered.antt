@@ -10,8 +10,8 @@ use Rattle.std.specs.Cmp.Lexicographic.{slice_cmp, nat_list_cmp_total}
 use Rattle.std.specs.FinMap.{get, entries, empty, find, get-empty, get-insert, get-remove, get-entries, get-from_entries, same_map, retain_keys, get-retain_keys}
 use Rattle.std.proofs.lemmas.List.{get_or-set_same, get_or-set_other}
 use Rattle.std.proofs.lemmas.Bool.{lt-ltb}
-use Rattle.sha2.specs.Sha256.{sha256}
-use Rattle.sha2.proofs.Facts256.{length-sha256}
+use Rattle.mvd_digest.specs.Sha256.{sha256}
+use Rattle.mvd_digest.proofs.Facts256.{length-sha256}
 use Rattle.mvd_dots.specs.declared.refusals.Refusal.TheVariants.{BadPath}
 use Rattle.mvd_keys.specs.Path.{path_of}
 use Rattle.mvd_tree.specs.HashTree.{KeyDigests, place_of, begins, is_under, under}

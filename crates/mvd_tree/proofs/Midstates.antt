@@ -7,11 +7,11 @@ use Rattle.std.specs.Prelude.{slice_range, flat_map}
 use Rattle.std.proofs.Math.Seq.{take-add, take-suc}
 use Rattle.std.proofs.lemmas.List.{drop-drop, take-set-le, drop-set-lt, drop-set-add}
 use Rattle.std.proofs.lemmas.Grind.{flat_map-append}
-use Rattle.sha2.specs.Hashers.{Holds256}
+use Rattle.mvd_digest.specs.Counted.{Absorbed}
 use Rattle.mvd_tree.specs.Kept.{digest_or_zeros}
 use Rattle.mvd_tree.specs.Midstates.{AreMidstatesBut, AreRead, HasMidstates, HasRead, IsMidstate}
 use Rattle.mvd_tree.proofs.Entries.{Entry}
-use Rattle.mvd_tree.specs.declared.digest.CountedHasher.{CountedHasher}
+use Rattle.mvd_digest.specs.declared.digest.CountedHasher.{CountedHasher}
 
 -- two parts of a list, one after the other
 slices-join : {X : Type 0} (xs : List X) (a b c : ℕ) → a ≤ b → b ≤ c → slice_range xs a b ++ slice_range xs b c ≡ slice_range xs a c
@@ -33,11 +33,11 @@ slice-set_before xs a b n x h = ap (take (b - a)) (drop-set-lt a xs n x h)
 -- once a group has been read, the next one is at hand
 read_on : (nodes : List (Option (List ℕ))) (group to : ℕ) (midstate after : CountedHasher)
     → IsMidstate nodes group midstate
-    → ((m : List ℕ) → Holds256 midstate.hasher m → Holds256 after.hasher (m ++ flat_map digest_or_zeros (slice_range nodes (group * 4) to)))
+    → ((m : List ℕ) → Absorbed midstate m → Absorbed after (m ++ flat_map digest_or_zeros (slice_range nodes (group * 4) to)))
     → group * 4 ≤ to
-    → Holds256 after.hasher (flat_map digest_or_zeros (slice_range nodes (group / 4 * 16) to))
+    → Absorbed after (flat_map digest_or_zeros (slice_range nodes (group / 4 * 16) to))
 read_on nodes group to midstate after is reads on =
-    subst (Holds256 after.hasher)
+    subst (Absorbed after)
     (sym (flat_map-append digest_or_zeros (slice_range nodes (group / 4 * 16) (group * 4)) (slice_range nodes (group * 4) to))
     ∙ ap (flat_map digest_or_zeros) (slices-join nodes (group / 4 * 16) (group * 4) to (omega arith) on))
     (reads _ is)
@@ -45,35 +45,35 @@ read_on nodes group to midstate after is reads on =
 pub next_midstate : (nodes : List (Option (List ℕ))) (group : ℕ) (midstate after : CountedHasher)
     → group % 4 ≢ 0
     → IsMidstate nodes (group - 1) midstate
-    → ((m : List ℕ) → Holds256 midstate.hasher m → Holds256 after.hasher (m ++ flat_map digest_or_zeros (slice_range nodes (group * 4 - 4) (group * 4))))
+    → ((m : List ℕ) → Absorbed midstate m → Absorbed after (m ++ flat_map digest_or_zeros (slice_range nodes (group * 4 - 4) (group * 4))))
     → IsMidstate nodes group after
 next_midstate nodes group midstate after within is reads =
     let same : (group - 1) / 4 ≡ group / 4 = omega (arith, within) in
     let start : group * 4 - 4 ≡ (group - 1) * 4 = omega arith in
-    subst (λ n. Holds256 after.hasher (flat_map digest_or_zeros (slice_range nodes (n * 16) (group * 4)))) same
+    subst (λ n. Absorbed after (flat_map digest_or_zeros (slice_range nodes (n * 16) (group * 4)))) same
     (read_on nodes (group - 1) (group * 4) midstate after is
-    (λ m h. subst (λ n. Holds256 after.hasher (m ++ flat_map digest_or_zeros (slice_range nodes n (group * 4)))) start (reads m h)) (omega arith))
+    (λ m h. subst (λ n. Absorbed after (m ++ flat_map digest_or_zeros (slice_range nodes n (group * 4)))) start (reads m h)) (omega arith))
 
 -- after the last group of a node all its children have been read
 pub last_read : (nodes : List (Option (List ℕ))) (number : ℕ) (midstate after : CountedHasher)
     → IsMidstate nodes (number * 4 + 3) midstate
-    → ((m : List ℕ) → Holds256 midstate.hasher m → Holds256 after.hasher (m ++ flat_map digest_or_zeros (slice_range nodes (number * 16 + 12) (number * 16 + 16))))
-    → Holds256 after.hasher (flat_map digest_or_zeros (slice_range nodes (number * 16) (number * 16 + 16)))
+    → ((m : List ℕ) → Absorbed midstate m → Absorbed after (m ++ flat_map digest_or_zeros (slice_range nodes (number * 16 + 12) (number * 16 + 16))))
+    → Absorbed after (flat_map digest_or_zeros (slice_range nodes (number * 16) (number * 16 + 16)))
 last_read nodes number midstate after is reads =
     let first : (number * 4 + 3) / 4 * 16 ≡ number * 16 = omega arith in
     let start : number * 16 + 12 ≡ (number * 4 + 3) * 4 = omega arith in
-    subst (λ n. Holds256 after.hasher (flat_map digest_or_zeros (slice_range nodes n (number * 16 + 16)))) first
+    subst (λ n. Absorbed after (flat_map digest_or_zeros (slice_range nodes n (number * 16 + 16)))) first
     (read_on nodes (number * 4 + 3) (number * 16 + 16) midstate after is
-    (λ m h. subst (λ n. Holds256 after.hasher (m ++ flat_map digest_or_zeros (slice_range nodes n (number * 16 + 16)))) start (reads m h)) (omega arith))
+    (λ m h. subst (λ n. Absorbed after (m ++ flat_map digest_or_zeros (slice_range nodes n (number * 16 + 16)))) start (reads m h)) (omega arith))
 
 -- once a node was set, the midstates stay but for those after its group of the same node above
 pub midstates-set : (nodes : List (Option (List ℕ))) (midstates : List CountedHasher) (number : ℕ) (kept : Option (List ℕ)) → HasMidstates nodes midstates
     → AreMidstatesBut (set nodes number kept) midstates (number / 4 + 1) (number / 4 / 4 * 4 + 4)
 midstates-set nodes midstates number kept has = record {
   below = λ group d low within.
-      subst (λ part. Holds256 (get_or midstates group d).hasher (flat_map digest_or_zeros part)) (sym (slice-set_after nodes (group / 4 * 16) (group * 4) number kept (omega arith) (omega arith))) (has.each group d within);
+      subst (λ part. Absorbed (get_or midstates group d) (flat_map digest_or_zeros part)) (sym (slice-set_after nodes (group / 4 * 16) (group * 4) number kept (omega arith) (omega arith))) (has.each group d within);
   above = λ group d high within.
-      subst (λ part. Holds256 (get_or midstates group d).hasher (flat_map digest_or_zeros part)) (sym (slice-set_before nodes (group / 4 * 16) (group * 4) number kept (omega arith))) (has.each group d within);
+      subst (λ part. Absorbed (get_or midstates group d) (flat_map digest_or_zeros part)) (sym (slice-set_before nodes (group / 4 * 16) (group * 4) number kept (omega arith))) (has.each group d within);
 }
 
 -- ---- of a bucket
@@ -104,7 +104,7 @@ read_front es fs midstates n are within same = record {
       let low : i < n / 16 = omega (arith, few) in
       let there : i < length midstates = omega (arith, few) in
       let front : i * 16 + 16 ≤ n = omega arith in
-      subst₂ (λ part (m : CountedHasher). Holds256 m.hasher (flat_map (λ (e : Entry). e.1) part))
+      subst₂ (λ part (m : CountedHasher). Absorbed m (flat_map (λ (e : Entry). e.1) part))
       (sym (take-take (i * 16 + 16) n es front) ∙ ap (take (i * 16 + 16)) (sym same) ∙ take-take (i * 16 + 16) n fs front)
       (sym (get_or-take (n / 16) midstates i d low)) (are.each i d there);
 }
@@ -123,9 +123,9 @@ read_still es midstates n are within = read_front es es midstates n are within r
 
 -- one key more was read
 pub one_more_read : (es : List Entry) (n : ℕ) (d : Entry) (midstate after : CountedHasher) → n < length es → HasRead es n midstate
-    → ((m : List ℕ) → Holds256 midstate.hasher m → Holds256 after.hasher (m ++ (get_or es n d).1)) → HasRead es (n + 1) after
+    → ((m : List ℕ) → Absorbed midstate m → Absorbed after (m ++ (get_or es n d).1)) → HasRead es (n + 1) after
 one_more_read es n d midstate after within read reads =
-    subst (Holds256 after.hasher)
+    subst (Absorbed after)
     (sym (ap (flat_map (λ (e : Entry). e.1)) (ap (λ k. take k es) (add-one n) ∙ take-suc es n d within)
     ∙ flat_map-append (λ (e : Entry). e.1) (take n es) (get_or es n d ∷ []) ∙ ap (λ l. flat_map (λ (e : Entry). e.1) (take n es) ++ l) (append-nil (get_or es n d).1)))
     (reads _ read)

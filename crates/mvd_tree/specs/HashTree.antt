@@ -2,7 +2,7 @@
 -- hold by it (DeCandia et al., Dynamo: Amazon's Highly Available Key-value Store, 2007, section 4.7). SHA-256 is that of FIPS 180-4.
 use Rattle.std.specs.Prelude.{ℕ, zero, suc, ◌-◌, ◌/◌, ◌%◌, Bool, true, false, cond, ◌&&◌, ◌==◌, List, [], ◌∷◌, ◌++◌, length, flat_map, replicate, slice_index, nat_eq}
 use Rattle.std.specs.FinMap.{FinMap, entries, len, retain_keys}
-use Rattle.sha2.specs.Sha256.{sha256}
+use Rattle.mvd_digest.specs.Sha256.{sha256}
 use Rattle.mvd_keys.specs.Key.{key_cmp}
 
 -- the digests of the keys that are held

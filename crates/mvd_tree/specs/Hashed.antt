@@ -2,7 +2,7 @@
 -- (DeCandia et al., Dynamo, 2007, section 4.7).
 use Rattle.std.specs.Prelude.{◌≡◌, ◌≢◌, ◌⊎◌, ℕ, ◌+◌, ◌≤◌, List, [], length, IsTrue, false, Option, Some}
 use Rattle.std.specs.FinMap.{FinMap, get, len}
-use Rattle.sha2.specs.Sha256.{sha256}
+use Rattle.mvd_digest.specs.Sha256.{sha256}
 use Rattle.mvd_keys.specs.Key.{key_cmp}
 use Rattle.mvd_tree.specs.HashTree.{KeyDigests, is_under, under, zero_digest, text_above, node_digest}
 use Rattle.mvd_tree.specs.States.{digests_of}

@@ -1,7 +1,7 @@
 -- How a hash tree lies in memory: buckets by number, and what is kept of the nodes of each depth by number.
 use Rattle.std.specs.Prelude.{◌≡◌, ◌≢◌, ℕ, ◌+◌, ◌*◌, ◌/◌, ◌%◌, ◌<◌, ◌≤◌, List, [], ◌∷◌, length, flat_map, slice_index, slice_index_or, slice_range, All, Option, None}
 use Rattle.std.specs.FinMap.{empty, get, entries, from_entries}
-use Rattle.sha2.specs.Sha256.{sha256}
+use Rattle.mvd_digest.specs.Sha256.{sha256}
 use Rattle.mvd_tree.specs.HashTree.{KeyDigests}
 use Rattle.mvd_tree.specs.Kept.{kept_node, kept_inner}
 

@@ -3,13 +3,13 @@
 use Rattle.std.specs.Prelude.{◌≡◌, ℕ, ◌+◌, ◌*◌, ◌/◌, ◌%◌, ◌<◌, ◌≤◌, List, T, length, flat_map, take, slice_index_or, slice_range, Option}
 use Rattle.std.specs.FinMap.{is_sorted}
 use Rattle.mvd_keys.specs.Key.{key_cmp}
-use Rattle.sha2.specs.Hashers.{Holds256}
+use Rattle.mvd_digest.specs.Counted.{Absorbed}
 use Rattle.mvd_tree.specs.Kept.{digest_or_zeros}
-use Rattle.mvd_tree.specs.declared.digest.CountedHasher.{CountedHasher}
+use Rattle.mvd_digest.specs.declared.digest.CountedHasher.{CountedHasher}
 
 -- the computation has read the digests of the node's children before this group of four
 abbrev pub IsMidstate : List (Option (List ℕ)) → ℕ → CountedHasher → Type 0
-IsMidstate nodes group midstate = Holds256 midstate.hasher (flat_map digest_or_zeros (slice_range nodes (group / 4 * 16) (group * 4)))
+IsMidstate nodes group midstate = Absorbed midstate (flat_map digest_or_zeros (slice_range nodes (group / 4 * 16) (group * 4)))
 
 -- these are the midstates before the groups of nodes, but for those from one to before another
 pub record AreMidstatesBut (nodes : List (Option (List ℕ))) (midstates : List CountedHasher) (from to : ℕ) : Type 0 where
@@ -24,7 +24,7 @@ pub record HasMidstates (nodes : List (Option (List ℕ))) (midstates : List Cou
 
 -- the computation has read the digests of so many keys of a bucket
 abbrev pub HasRead : List (List ℕ × List ℕ) → ℕ → CountedHasher → Type 0
-HasRead es n midstate = Holds256 midstate.hasher (flat_map (λ e. e.1) (take n es))
+HasRead es n midstate = Absorbed midstate (flat_map (λ e. e.1) (take n es))
 
 -- these are the midstates of a bucket behind its first sixteen keys, behind its first thirty-two, and so on, as many as are kept
 pub record AreRead (es : List (List ℕ × List ℕ)) (midstates : List CountedHasher) : Type 0 where

@@ -1,7 +1,7 @@
 -- The digests of keys in their states, by SHA-256 (FIPS 180-4), where a key in a state is spelled somehow.
 use Rattle.std.specs.Prelude.{ℕ, List, map}
 use Rattle.std.specs.FinMap.{FinMap, entries, from_entries}
-use Rattle.sha2.specs.Sha256.{sha256}
+use Rattle.mvd_digest.specs.Sha256.{sha256}
 use Rattle.mvd_keys.specs.Key.{key_cmp}
 use Rattle.mvd_tree.specs.HashTree.{KeyDigests}
 

@@ -5,13 +5,13 @@ ghost use Rattle.std.specs.FinMap.{empty, entries, len, retain_keys, is_sorted};
 ghost use Rattle.std.specs.FinMap as map;
 ghost use Rattle.mvd_keys.specs.Key.{key_cmp};
 ghost use Rattle.mvd_tree.specs.Change.{changed};
-ghost use Rattle.mvd_tree.specs.Counted.{Hashes};
+ghost use Rattle.mvd_digest.specs.Counted.{Hashes};
 ghost use Rattle.mvd_tree.specs.Kept.{kept_bucket};
 ghost use Rattle.mvd_tree.specs.Midstates.{AreRead, HasRead};
 ghost use Rattle.mvd_tree.specs.Page.{is_after};
 ghost use Rattle.mvd_tree.specs.Split.{Splits};
 
-use crate::digest::{CountedHasher, Hashed};
+use mvd_digest::{CountedHasher, Hashed};
 use mvd_dots::Refusal;
 use mvd_keys::Key;
 use std::alloc::Global;

@@ -3,11 +3,12 @@ ghost use Rattle.std.specs.Prelude.{◌≡◌, ℕ, ◌<◌, ◌≤◌, T, slice
 ghost use Rattle.std.specs.FinMap.{empty, insert, is_sorted, from_entries};
 ghost use Rattle.mvd_keys.specs.Key.{key_cmp};
 ghost use Rattle.mvd_tree.specs.Change.{changed};
-ghost use Rattle.mvd_tree.specs.Counted.{Hashes, all_keys, key_bytes};
+ghost use Rattle.mvd_digest.specs.Counted.{Hashes};
+ghost use Rattle.mvd_tree.specs.Counted.{all_keys, key_bytes};
 ghost use Rattle.mvd_tree.specs.Layout.{HoldApart, bucket_of};
 
 use crate::bucket::Bucket;
-use crate::digest::{Hashed, text_digest};
+use mvd_digest::{Hashed, text_digest};
 use mvd_dots::Refusal;
 use mvd_keys::Key;
 use std::alloc::{AllocError, Global};

@@ -1,11 +1,12 @@
 //! What is kept of the nodes of one depth, and of the SHA-256 computations of the nodes over them.
 ghost use Rattle.std.specs.Prelude.{◌≡◌, ◌<◌, ◌≤◌, ◌+◌, ◌-◌, ◌*◌, ◌/◌, ◌%◌, slice_index_or, slice_range, slice_set, length, IfOk};
-ghost use Rattle.mvd_tree.specs.Counted.{Hashes};
+ghost use Rattle.mvd_digest.specs.Counted.{Hashes};
 ghost use Rattle.mvd_tree.specs.Kept.{kept_inner};
 ghost use Rattle.mvd_tree.specs.Layout.{AreOver};
 ghost use Rattle.mvd_tree.specs.Midstates.{AreMidstatesBut, HasMidstates, IsMidstate};
 
-use crate::digest::{CountedHasher, Hashed, none_held};
+use crate::digest::{none_held, read_on};
+use mvd_digest::{CountedHasher, Hashed};
 use mvd_dots::Refusal;
 use std::alloc::Global;
 use std::marker::Model;
@@ -52,7 +53,11 @@ fn midstate(
     if group % 4 == 0 {
         CountedHasher::new()
     } else {
-        midstates[group - 1].with(&nodes[group * 4 - 4..group * 4], hashed)
+        read_on(
+            &midstates[group - 1],
+            &nodes[group * 4 - 4..group * 4],
+            hashed,
+        )
     }
 }
 
@@ -112,7 +117,11 @@ impl Level {
         if none_held(&nodes[first..first + 16]) {
             return None;
         }
-        let hasher = self.midstates[number * 4 + 3].with(&nodes[first + 12..first + 16], hashed);
+        let hasher = read_on(
+            &self.midstates[number * 4 + 3],
+            &nodes[first + 12..first + 16],
+            hashed,
+        );
         Some(hasher.finish(hashed))
     }
 

@@ -10,16 +10,16 @@ mod nodes;
 mod tree;
 
 ghost use Rattle.std.specs.Prelude.{◌≡◌, Ok, length};
-ghost use Rattle.sha2.specs.Sha256.{sha256};
+ghost use Rattle.mvd_digest.specs.Sha256.{sha256};
 ghost use Rattle.std.specs.FinMap.{is_sorted};
 ghost use Rattle.std.specs.Ordering.{is_lt};
 ghost use Rattle.mvd_dots.specs.Answer.{IsAnswer};
 ghost use Rattle.mvd_keys.specs.Key.{key_cmp};
-ghost use Rattle.mvd_tree.specs.Counted.{Hashes};
+ghost use Rattle.mvd_digest.specs.Counted.{Hashes};
 ghost use Rattle.mvd_tree.specs.HashTree.{place_of};
 
-pub use digest::Hashed;
-use digest::text_digest;
+pub use mvd_digest::Hashed;
+use mvd_digest::text_digest;
 use mvd_dots::Refusal;
 use mvd_keys::{Key, Path};
 use std::alloc::Global;

@@ -1,11 +1,13 @@
 //! What is kept of nodes, by number.
 ghost use Rattle.std.specs.Prelude.{◌≡◌, ◌*◌, length, map, IfOk};
 ghost use Rattle.std.specs.FinMap.{entries};
-ghost use Rattle.mvd_tree.specs.Counted.{Hashes, all_keys};
+ghost use Rattle.mvd_digest.specs.Counted.{Hashes};
+ghost use Rattle.mvd_tree.specs.Counted.{all_keys};
 ghost use Rattle.mvd_tree.specs.Kept.{kept_bucket, digest_or_zeros};
 
 use crate::bucket::Bucket;
-use crate::digest::{Hashed, or_zeros};
+use crate::digest::or_zeros;
+use mvd_digest::Hashed;
 use mvd_dots::Refusal;
 use std::alloc::Global;
 

@@ -5,13 +5,15 @@ ghost use Rattle.mvd_keys.specs.Key.{key_cmp};
 ghost use Rattle.mvd_tree.specs.HashTree.{node_digest};
 ghost use Rattle.mvd_tree.specs.Kept.{kept_node};
 ghost use Rattle.mvd_tree.specs.Change.{changed};
-ghost use Rattle.mvd_tree.specs.Counted.{Hashes, key_bytes, keys_beside};
+ghost use Rattle.mvd_digest.specs.Counted.{Hashes};
+ghost use Rattle.mvd_tree.specs.Counted.{key_bytes, keys_beside};
 ghost use Rattle.mvd_tree.specs.Page.{children_digests, rest_of, page_of, is_more_after_page};
 ghost use Rattle.mvd_tree.specs.Layout.{IsPath};
 
 use crate::bucket::{Bucket, copies};
 use crate::buckets::{bucket_number, change_bucket, filled};
-use crate::digest::{Hashed, or_zeros};
+use crate::digest::or_zeros;
+use mvd_digest::Hashed;
 use crate::level::Level;
 use crate::nodes::{all_or_zeros, bucket_nodes};
 use mvd_dots::Refusal;

@@ -1,5 +1,5 @@
 use Rattle.std.proofs.Common.{ap, subst, ◌∙◌}
-use Rattle.sha2.specs.Sha256.{sha256}
+use Rattle.mvd_digest.specs.Sha256.{sha256}
 use Rattle.mvd_dots.specs.Answer.{IsAnswer}
 use Rattle.mvd_tree.proofs.Gathered.{path_of_place}
 use Rattle.mvd_tree.proofs.place.Goals as goal

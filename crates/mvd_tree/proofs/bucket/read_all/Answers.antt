@@ -1,6 +1,6 @@
 use Rattle.std.proofs.Common.{rules, ◌≡◌, ◌+◌, take, sym, subst, arith}
 use Rattle.std.specs.Prelude.{flat_map}
-use Rattle.sha2.specs.Hashers.{Holds256}
+use Rattle.mvd_digest.specs.Counted.{Absorbed}
 use Rattle.mvd_tree.specs.Midstates.{HasRead}
 use Rattle.mvd_tree.proofs.Midstates.{one_more_read}
 use Rattle.mvd_tree.proofs.bucket.read_all.Goals as goal

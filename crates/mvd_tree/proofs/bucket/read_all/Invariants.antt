@@ -1,5 +1,5 @@
 use Rattle.std.proofs.Common.{◌*◌}
-use Rattle.mvd_tree.specs.Counted.{Hashes}
+use Rattle.mvd_digest.specs.Counted.{Hashes}
 use Rattle.mvd_tree.specs.Midstates.{AreRead, HasRead}
 use Rattle.mvd_tree.proofs.bucket.read_all.Given as goal
 

@@ -1,6 +1,6 @@
 use Rattle.std.proofs.Common.{ap, ◌∙◌, ◌+◌, ◌*◌, ◌/◌}
 use Rattle.std.specs.Prelude.{slice_index}
-use Rattle.sha2.specs.Sha256.{sha256}
+use Rattle.mvd_digest.specs.Sha256.{sha256}
 use Rattle.mvd_tree.specs.Layout.{bucket_of}
 use Rattle.mvd_tree.proofs.buckets.bucket_number.Goals as goal
 

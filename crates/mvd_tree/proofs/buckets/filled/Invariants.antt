@@ -1,7 +1,8 @@
 use Rattle.std.proofs.Common.{◌≡◌, ◌≤◌, ◌++◌, length}
 use Rattle.std.specs.FinMap.{from_entries}
 use Rattle.std.specs.Vec.Iter.{into_iter_items}
-use Rattle.mvd_tree.specs.Counted.{Hashes, all_keys, key_bytes}
+use Rattle.mvd_digest.specs.Counted.{Hashes}
+use Rattle.mvd_tree.specs.Counted.{all_keys, key_bytes}
 use Rattle.mvd_tree.specs.Layout.{HoldApart}
 use Rattle.mvd_tree.proofs.buckets.filled.Given as goal
 

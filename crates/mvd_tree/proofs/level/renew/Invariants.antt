@@ -1,5 +1,5 @@
 use Rattle.std.proofs.Common.{◌≡◌, ◌+◌, ◌-◌, ◌*◌, ◌/◌, length}
-use Rattle.mvd_tree.specs.Counted.{Hashes}
+use Rattle.mvd_digest.specs.Counted.{Hashes}
 use Rattle.mvd_tree.specs.Midstates.{AreMidstatesBut}
 use Rattle.mvd_tree.proofs.level.renew.Given as goal
 

@@ -1,6 +1,7 @@
 use Rattle.std.proofs.Common.{◌≡◌, ◌*◌, map, take}
 use Rattle.std.specs.FinMap.{entries}
-use Rattle.mvd_tree.specs.Counted.{Hashes, all_keys}
+use Rattle.mvd_digest.specs.Counted.{Hashes}
+use Rattle.mvd_tree.specs.Counted.{all_keys}
 use Rattle.mvd_tree.specs.Kept.{kept_bucket}
 use Rattle.mvd_tree.proofs.nodes.bucket_nodes.Given as goal
 

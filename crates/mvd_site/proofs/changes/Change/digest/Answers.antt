@@ -1,5 +1,5 @@
 use Rattle.std.proofs.Common.{ap, subst, length, ◌∙◌}
-use Rattle.mvd_tree.specs.Counted.{Hashes}
+use Rattle.mvd_digest.specs.Counted.{Hashes}
 use Rattle.mvd_tree.specs.States.{key_digest}
 use Rattle.mvd_site.specs.Answer.{spelled}
 use Rattle.mvd_site.specs.Change.{ChangeValue}

@@ -1,10 +1,10 @@
 use Rattle.std.proofs.Common.{rules, ◌≡◌, ◌*◌, List, ℕ, cond, length, ap, sym, subst, ◌∙◌, arith, Some, None}
 use Rattle.std.specs.Prelude.{flat_map}
 use Rattle.std.specs.FinMap.{entries, len, len-entries}
-use Rattle.sha2.specs.Sha256.{sha256}
-use Rattle.sha2.specs.Hashers.{Holds256}
+use Rattle.mvd_digest.specs.Sha256.{sha256}
+use Rattle.mvd_digest.specs.Counted.{Absorbed}
 use Rattle.std.proofs.Math.Seq.{take-length}
-use Rattle.mvd_tree.specs.Counted.{Hashes}
+use Rattle.mvd_digest.specs.Counted.{Hashes}
 use Rattle.mvd_tree.specs.Kept.{kept_bucket}
 use Rattle.mvd_tree.proofs.Counts.{hashes_then}
 use Rattle.mvd_tree.proofs.Entries.{Entry, entries_of}
@@ -20,7 +20,7 @@ pub returns-clause-digest : goal.returns-clause-digest
 returns-clause-digest c =
     let es = c.self.inside.entries.items in
     let some : Some (sha256 (flat_map (λ (e : Entry). e.1) es)) ≡ kept_bucket es = search rules in
-    ap Some (c.finish.ensures.digest _ (subst (λ (l : List Entry). Holds256 c.read_all-hasher.result.hasher (flat_map (λ (e : Entry). e.1) l)) (take-length c.deref.result.now ∙ c.deref.ensures.value) c.read_all-hasher.ensures.read))
+    ap Some (c.finish.ensures.digest _ (subst (λ (l : List Entry). Absorbed c.read_all-hasher.result (flat_map (λ (e : Entry). e.1) l)) (take-length c.deref.result.now ∙ c.deref.ensures.value) c.read_all-hasher.ensures.read))
     ∙ some
     ∙ ap kept_bucket (sym (entries_of es c.args.self.now c.self.invariant.sorted c.self.view_is))
 

@@ -1,5 +1,5 @@
 use Rattle.std.proofs.Common.{◌*◌}
-use Rattle.mvd_tree.specs.Counted.{Hashes}
+use Rattle.mvd_digest.specs.Counted.{Hashes}
 use Rattle.mvd_tree.specs.Layout.{AreOver}
 use Rattle.mvd_tree.proofs.level.Level.all_over.Given as goal
 

@@ -1,7 +1,7 @@
 use Rattle.std.proofs.Common.{◌≡◌, ℕ, ◌<◌, ◌*◌, length, get_or}
-use Rattle.mvd_tree.specs.Counted.{Hashes}
+use Rattle.mvd_digest.specs.Counted.{Hashes}
 use Rattle.mvd_tree.specs.Midstates.{IsMidstate}
-use Rattle.mvd_tree.specs.declared.digest.CountedHasher.{CountedHasher}
+use Rattle.mvd_digest.specs.declared.digest.CountedHasher.{CountedHasher}
 use Rattle.mvd_tree.proofs.level.Level.new.Given as goal
 
 abbrev pub invariant-loop-group : goal.invariant-loop-group

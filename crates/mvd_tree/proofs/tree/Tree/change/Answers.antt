@@ -1,7 +1,8 @@
 use Rattle.std.proofs.Common.{◌≡◌, ◌<◌, ◌+◌, ◌*◌, rules, ap, set, sym, subst, ◌∙◌, arith, length}
 use Rattle.std.specs.FinMap.{len, len-entries}
 use Rattle.mvd_tree.specs.Change.{changed}
-use Rattle.mvd_tree.specs.Counted.{Hashes, keys_beside}
+use Rattle.mvd_digest.specs.Counted.{Hashes}
+use Rattle.mvd_tree.specs.Counted.{keys_beside}
 use Rattle.mvd_tree.specs.HashTree.{KeyDigests}
 use Rattle.mvd_tree.specs.Layout.{KeepsTree, gathered}
 use Rattle.mvd_tree.proofs.Changes.{tree_after}

@@ -1,0 +1,1 @@
+pub use Rattle.sha2.proofs.Facts256

@@ -1,0 +1,2 @@
+pub mod Counted
+pub use Rattle.sha2.specs.Sha256

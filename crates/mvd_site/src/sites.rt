@@ -1,4 +1,4 @@
-//! One site.
+//! One site. What each of its calls does is said and counted in `mvd_kept`; here nobody reads the counts.
 ghost use Rattle.std.specs.Prelude.{◌≡◌, ◌≢◌, ◌≤◌, List, true, false, Some, Err, Ok, length, IfOk, IfErr, OnOk, IsTrue};
 ghost use Rattle.std.specs.List.{AllByRecursion};
 ghost use Rattle.std.specs.Option.{option_copied};
@@ -13,26 +13,18 @@ ghost use Rattle.mvd_tree.specs.Page.{is_more_after_page, page_of};
 ghost use Rattle.mvd_wire.specs.declared.reply.Reply.TheVariants.{Refused};
 ghost use Rattle.mvd_wire.specs.declared.request.Request.TheVariants.{Push};
 ghost use Rattle.mvd_wire.specs.Replies.{CanBeSent};
-ghost use Rattle.mvd_site.specs.Answer.{digests, node_digests};
-ghost use Rattle.mvd_site.specs.FromStates.{AnswersFrom, bucket_refusal, push_reply, unless_broken, with_state};
-ghost use Rattle.mvd_site.specs.Held.{AreHeld, IsHeldState, state_at};
-ghost use Rattle.mvd_site.specs.Known.{Adds, Event, IsValidRequest, Tells};
-ghost use Rattle.mvd_site.specs.Prepared.{IsChangeNow, IsFrugal, IsReady, PreparesAt, PreparesFromStates};
-ghost use Rattle.mvd_site.specs.Sites.{AnswersAll, AnswersOne, SiteValue, has_no_room, opened};
+ghost use Rattle.mvd_kept.specs.Answer.{digests, node_digests};
+ghost use Rattle.mvd_kept.specs.FromStates.{AnswersFrom, bucket_refusal, push_reply, unless_broken, with_state};
+ghost use Rattle.mvd_kept.specs.Held.{AreHeld, IsHeldState, state_at};
+ghost use Rattle.mvd_kept.specs.Known.{Adds, Event, IsValidRequest, Tells};
+ghost use Rattle.mvd_kept.specs.Prepared.{IsChangeNow, IsFrugal, IsReady, PreparesAt, PreparesFromStates};
+ghost use Rattle.mvd_kept.specs.Sites.{AnswersAll, AnswersOne, SiteValue, has_no_room, opened};
 
-use crate::changes::{Change, Prepared};
-use crate::config::Config;
-use crate::counted;
-use crate::held::Held;
-use crate::kept::Kept;
-use crate::listing::rows_of;
-use crate::opening::{digests_of, held_of};
-use crate::work::Work;
+use crate::work::no_work;
 use mvd_dots::Refusal;
 use mvd_keys::{Key, KeyState, Path};
-use mvd_rows::Rows;
+use mvd_kept::{Change, Config, Kept, Prepared, Work, counted};
 use mvd_start::Start;
-use mvd_tree::Tree;
 use mvd_wire::{Digests, Reply, Request};
 use std::alloc::Global;
 use std::marker::Model;
@@ -40,11 +32,11 @@ use std::marker::Model;
 /// The states of the keys that one site holds, and the answers to requests from them.
 #[derive(Drop)]
 pub struct Site {
-    pub(crate) kept: Kept,
+    kept: Kept,
 }
 
 impl Model for Site {
-    ghost use Rattle.mvd_site.specs.Sites.{SiteValue, site_code};
+    ghost use Rattle.mvd_kept.specs.Sites.{SiteValue, site_code};
 
     ghost Value = { SiteValue };
 
@@ -53,9 +45,9 @@ impl Model for Site {
     ghost view = { λ s. s.kept };
 }
 
-/// Work that nobody reads. No other function of the crate begins one.
+/// Work that nobody reads.
 fn begun() -> Work {
-    Work::new(&Start::new())
+    no_work(&Start::new())
 }
 
 impl Site {
@@ -63,17 +55,7 @@ impl Site {
     pub fn new(alloc: Global, config: Config) -> Result<Site, Refusal>
         ensures { IsAnswer result (Ok (record { config = config; states = map.empty; broken = false })) }
     {
-        let mut work = begun();
-        let tree = Tree::new(alloc, &mut work.hashed)?;
-        let rows = Rows::new(alloc, config.defs().copy()?)?;
-        let kept = Kept {
-            alloc,
-            config,
-            states: Held::new(alloc),
-            tree,
-            rows,
-            broken: false,
-        };
+        let kept = Kept::new(alloc, config, &mut begun())?;
         Ok(Site { kept })
     }
 
@@ -89,30 +71,14 @@ impl Site {
         // There is a set of writes that it stands for.
         ensures stands { IfOk result (λ site. (known : List Write) × Stands site.states known) }
     {
-        if states.len() > config.max_keys() as usize {
-            return Err(Refusal::Full);
-        }
-        let mut work = begun();
-        let digests = digests_of(alloc, &states, &mut work.hashed)?;
-        let tree = Tree::open(alloc, digests, &mut work.hashed)?;
-        let rows = rows_of(alloc, config.defs(), &states, &mut work.rows)?;
-        let held = held_of(alloc, states)?;
-        let kept = Kept {
-            alloc,
-            config,
-            states: held,
-            tree,
-            rows,
-            broken: false,
-        };
+        let kept = Kept::open(alloc, config, states, &mut begun())?;
         Ok(Site { kept })
     }
 
     pub fn config(&self) -> &Config
         ensures { result.now ≡ self.now.config }
     {
-        let kept = &self.kept;
-        &kept.config
+        self.kept.config()
     }
 
     /// The number of keys that are held.
@@ -122,19 +88,14 @@ impl Site {
         // Each key that is held is one, and each state has seen a dot and has a spelling within the limit.
         ensures held { AreHeld self.now.states }
     {
-        let kept = &self.kept;
-        let most = kept.config.max_keys();
-        let count = kept.states.len();
-        prove!(count <= most as usize);
-        count as u32
+        self.kept.key_count()
     }
 
     /// Whether an install was refused memory: the site then answers `Broken` to everything.
     pub fn is_broken(&self) -> bool
         ensures { result ≡ self.now.broken }
     {
-        let kept = &self.kept;
-        kept.broken
+        self.kept.is_broken()
     }
 
     /// The digests of a node and, above the buckets, of its children. It takes no memory; a broken site refuses it.
@@ -171,7 +132,7 @@ impl Site {
         // A question of a node or of a row, Bye, and a push of what is held already take no memory.
         ensures frugal { IsFrugal self.now.states request.now → IfErr result (λ refusal. refusal ≢ Memory) }
     {
-        counted::prepare(self, request, &mut begun())
+        counted::prepare(&self.kept, request, &mut begun())
     }
 
     /// The state of a key, empty where the key is not held. A broken site refuses it.
@@ -180,7 +141,7 @@ impl Site {
         ensures state { IfOk result (λ state. state ≡ state_at self.now.states key.now) }
         ensures refused { IfErr result (λ refusal. refusal ≡ unless_broken self.now.broken Broken Memory) }
     {
-        counted::get(self, key, &mut begun())
+        counted::get(&self.kept, key, &mut begun())
     }
 
     /// Puts in the change of one key, and changes no other. Where memory is refused the site is broken from then on. The
@@ -193,7 +154,7 @@ impl Site {
         ensures ok { OnOk result ((self.old.broken ≡ false) × (self.new ≡ record { config = self.old.config; states = map.insert self.old.states change.key change.state; broken = false })) }
         ensures err { IfErr result (λ refusal. (refusal ≡ Broken) × (self.new ≡ record { config = self.old.config; states = self.old.states; broken = true })) }
     {
-        counted::install(self, change, &mut begun())
+        counted::install(&mut self.kept, change, &mut begun())
     }
 
     /// Answers one request. A refusal other than `Broken` leaves the site as it was.
@@ -213,7 +174,7 @@ impl Site {
         // It is not too long for its frame.
         ensures fits { CanBeSent result }
     {
-        counted::answer(self, request, &mut begun())
+        counted::answer(&mut self.kept, request, &mut begun())
     }
 
     /// Joins a state to that of a key, as a request to push it does, without a request: done; or the first refusal that
@@ -230,15 +191,7 @@ impl Site {
         // A state that was joined is that of some set of writes.
         ensures valid { OnOk result (IsValid pushed.now) }
     {
-        if self.is_broken() {
-            return Err(Refusal::Broken);
-        }
-        let mut work = begun();
-        match self.kept.prepare_push(key, pushed, &mut work.looks) {
-            Err(refusal) => Err(refusal),
-            Ok(Prepared::Answer(_)) => Ok(()),
-            Ok(Prepared::Change(change)) => counted::install(self, change, &mut work),
-        }
+        counted::push(&mut self.kept, key, pushed, &mut begun())
     }
 
     /// Answers requests in order, beginning with no key.

@@ -1,9 +1,9 @@
 use Rattle.std.proofs.Common.{◌≡◌, false, ap, sym, ◌∙◌, subst, subst₂, take, refl, ◌++◌, ◌∷◌, [], arith, length-append, length}
 use Rattle.std.proofs.lemmas.List.{take_all, take_more}
 use Rattle.std.specs.FinMap.{empty}
-use Rattle.mvd_site.specs.Sites.{SiteValue, SiteStands, AnswersAll}
-use Rattle.mvd_site.proofs.Runs.{AnswersAll-none, AnswersAll-push, HasChoice, HasChoice-push}
-use Rattle.mvd_site.proofs.Prepare.{Stands-none}
+use Rattle.mvd_kept.specs.Sites.{SiteValue, SiteStands, AnswersAll}
+use Rattle.mvd_kept.proofs.Runs.{AnswersAll-none, AnswersAll-push, HasChoice, HasChoice-push}
+use Rattle.mvd_kept.proofs.Prepare.{Stands-none}
 use Rattle.mvd_site.proofs.sites.Site.run.Goals as goal
 
 pub loop-request-init : goal.loop-request-init

@@ -1,6 +1,6 @@
 use Rattle.std.proofs.Common.{◌≡◌, take, length}
-use Rattle.mvd_site.specs.Sites.{AnswersAll}
-use Rattle.mvd_site.proofs.Runs.{HasChoice}
+use Rattle.mvd_kept.specs.Sites.{AnswersAll}
+use Rattle.mvd_kept.proofs.Runs.{HasChoice}
 use Rattle.mvd_site.proofs.sites.Site.run.Given as goal
 
 -- what has been answered so far

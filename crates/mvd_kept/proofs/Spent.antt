@@ -1,0 +1,179 @@
+-- What work comes to.
+use Rattle.std.proofs.Common.{◌≡◌, ℕ, ◌+◌, ◌*◌, ◌≤◌, Bool, false, length, ap, sym, subst, subst₂, ◌∙◌, arith, Some, None, unwrap_or, Result, Ok, Err}
+use Rattle.std.specs.FinMap.{insert}
+use Rattle.mvd_count.specs.Counted.{RoseBy}
+use Rattle.mvd_dots.specs.declared.refusals.Refusal.{Refusal}
+use Rattle.mvd_keys.specs.State.{State}
+use Rattle.mvd_keys.specs.Writes.{Key}
+use Rattle.mvd_rows.specs.Changes.{differing, looks_each, updates_each}
+use Rattle.mvd_rows.specs.Counted.{Within}
+use Rattle.mvd_rows.specs.Stands.{definitions_of}
+use Rattle.mvd_rows.specs.declared.changes.Rows.{Rows as Kept}
+use Rattle.mvd_rows.specs.declared.meters.Meter.{Meter}
+use Rattle.mvd_tree.specs.Change.{changed}
+use Rattle.mvd_digest.specs.Counted.{Hashes}
+use Rattle.mvd_tree.specs.Counted.{keys_beside}
+use Rattle.mvd_tree.specs.HashTree.{KeyDigests}
+use Rattle.mvd_tree.specs.States.{key_digest}
+use Rattle.mvd_digest.specs.declared.digest.Hashed.{Hashed}
+use Rattle.mvd_tree.proofs.Counts.{hashes_then}
+use Rattle.mvd_tree.proofs.Held.{digests_of-insert}
+use Rattle.mvd_wire.specs.declared.request.Request.{Request}
+use Rattle.mvd_wire.specs.declared.request.Request.TheVariants.{Get, Put, Delete, Find, Row, Rows, Node, Bucket, Push, Range, Bye}
+use Rattle.mvd_wire.specs.declared.reply.Reply.{Reply}
+use Rattle.mvd_wire.specs.declared.reply.Reply.TheVariants.{Refused}
+use Rattle.mvd_kept.specs.Answer.{digests, spelled}
+use Rattle.mvd_kept.specs.Config.{ConfigValue}
+use Rattle.mvd_kept.specs.Costs.{AnswerCosts, ChangeCosts, Costs, PrepareCosts, WriteCosts}
+use Rattle.mvd_kept.specs.Held.{States, state_at}
+use Rattle.mvd_kept.specs.Prepared.{PreparesChangeFrom}
+use Rattle.mvd_kept.specs.Change.{ChangeValue}
+use Rattle.mvd_kept.specs.Sites.{KeepsKeys, SiteValue}
+use Rattle.mvd_kept.specs.declared.changes.Prepared.{Prepared}
+use Rattle.mvd_kept.specs.declared.changes.Prepared.TheVariants.{Answer, Change}
+use Rattle.mvd_kept.proofs.Answered.{insert_differs}
+use Rattle.mvd_kept.specs.declared.work.Work.{Work}
+
+same : (n : ℕ) → n ≤ n
+same n = omega arith
+
+no_more : (n m : ℕ) → n ≤ n + m
+no_more n m = omega arith
+
+-- no work is within any bounds
+pub free : (a b c d e : ℕ) (work : Work) → Costs a b c d e work work
+free a b c d e work = record {
+  on_states = record { least = same _; most = no_more _ a };
+  on_rows = record { updates = no_more _ c; looks = no_more _ b; least_updates = same _; least_looks = same _ };
+  hashes = record { ends = no_more _ d; reads = no_more _ e; least_ends = same _; least_reads = same _ };
+}
+
+pub free_request : (request : Request) (prepared : Result Prepared Refusal) (work : Work) → PrepareCosts request prepared work work
+free_request (Get key) prepared work = free _ _ _ _ _ work
+free_request (Put key seen document) prepared work = free _ _ _ _ _ work
+free_request (Delete key seen) prepared work = free _ _ _ _ _ work
+free_request (Push key pushed) prepared work = free _ _ _ _ _ work
+free_request (Find field term after) prepared work = free _ _ _ _ _ work
+free_request (Range field from to after) prepared work = free _ _ _ _ _ work
+free_request (Rows view after) prepared work = free _ _ _ _ _ work
+free_request (Row view term) prepared work = free _ _ _ _ _ work
+free_request (Node path) prepared work = free _ _ _ _ _ work
+free_request (Bucket path after) prepared work = free _ _ _ _ _ work
+free_request Bye prepared work = free _ _ _ _ _ work
+
+-- looks at held states alone
+pub looked : (work : Work) (looks : ℕ) → RoseBy 1 work.looks looks → Costs 1 0 0 0 0 work (record { looks = looks; rows = work.rows; hashed = work.hashed })
+looked work looks rose = record { on_states = rose; on_rows = (free 0 0 0 0 0 work).on_rows; hashes = (free 0 0 0 0 0 work).hashes }
+
+-- looks at kept rows alone
+pub paged : (work : Work) (rows : Meter) (n : ℕ) → Within 0 n work.rows rows → Costs 0 n 0 0 0 work (record { looks = work.looks; rows = rows; hashed = work.hashed })
+paged work rows n within = record { on_states = (free 0 0 0 0 0 work).on_states; on_rows = within; hashes = (free 0 0 0 0 0 work).hashes }
+
+-- a change was put in: the tree of the digests before has grown, and the rows have followed
+pub put_in_costs : (config : ConfigValue) (states : States) (broken : Bool) (tree grown : KeyDigests) (rows : Kept) (key k : Key) (s t : State) (old new : Work) (first then : Hashed)
+    → KeepsKeys config states tree rows broken → broken ≡ false → k ≡ key → t ≡ s
+    → grown ≡ changed tree key (Some (key_digest spelled key s))
+    → Hashes 1 (length (spelled key s)) old.hashed first
+    → Hashes 5 (length k + 32 * keys_beside grown k + 3 * 512) first then
+    → new.hashed ≡ then
+    → RoseBy 1 old.looks new.looks
+    → Within (differing (state_at states k) t * updates_each (definitions_of rows)) (differing (state_at states k) t * looks_each (definitions_of rows)) old.rows new.rows
+    → ChangeCosts 0 (record { config = config; states = states; broken = broken }) key s old new
+put_in_costs config states broken tree grown rows key k s t old new first then keeps whole one same grew digested changing hashed rose within =
+    let all : grown ≡ digests (insert states key s) =
+    grew ∙ ap (λ t. changed t key (Some (key_digest spelled key s))) (keeps.digested whole) ∙ sym (digests_of-insert spelled states key s) in
+    let beside : length k + 32 * keys_beside grown k ≡ length key + 32 * keys_beside (digests (insert states key s)) key = λ i. length (one i) + 32 * keys_beside (all i) (one i) in
+    let defs = (keeps.listed whole).defs in
+    let moved : differing (state_at states k) t ≡ differing (state_at states key) s = λ i. differing (state_at states (one i)) (same i) in
+    record {
+      on_states = rose;
+      on_rows = subst (λ p. Within p (differing (state_at states key) s * looks_each config.defs) old.rows new.rows) (λ i. moved i * updates_each (defs i))
+          (subst (λ p. Within (differing (state_at states k) t * updates_each (definitions_of rows)) p old.rows new.rows) (λ i. moved i * looks_each (defs i)) within);
+      hashes = subst (Hashes 6 (length (spelled key s) + length key + 32 * keys_beside (digests (insert states key s)) key + 1536) old.hashed) (sym hashed)
+          (hashes_then 1 (length (spelled key s)) 5 (length k + 32 * keys_beside grown k + 3 * 512) 6 _ old.hashed first then (omega arith) (omega (arith, beside)) digested changing);
+    }
+
+-- one look, and then other work
+look_then : (p q r t u : ℕ) (x y z : Work) → Costs 1 0 0 0 0 x y → Costs p q r t u y z → Costs (1 + p) q r t u x z
+look_then p q r t u x y z first second = record {
+  on_states = record { least = under _ _ _ first.on_states.least second.on_states.least; most = both _ _ _ 1 p first.on_states.most second.on_states.most };
+  on_rows = record {
+    updates = none _ _ _ r first.on_rows.updates second.on_rows.updates;
+    looks = none _ _ _ q first.on_rows.looks second.on_rows.looks;
+    least_updates = under _ _ _ first.on_rows.least_updates second.on_rows.least_updates;
+    least_looks = under _ _ _ first.on_rows.least_looks second.on_rows.least_looks;
+  };
+  hashes = hashes_then 0 0 t u t u x.hashed y.hashed z.hashed (nothing t) (nothing u) first.hashes second.hashes;
+}
+  where
+    under : (x y z : ℕ) → x ≤ y → y ≤ z → x ≤ z
+    under x y z e f = omega arith
+
+    both : (x y z a p : ℕ) → y ≤ x + a → z ≤ y + p → z ≤ x + (a + p)
+    both x y z a p e f = omega arith
+
+    none : (x y z p : ℕ) → y ≤ x + 0 → z ≤ y + p → z ≤ x + p
+    none x y z p e f = omega arith
+
+    nothing : (n : ℕ) → 0 + n ≤ n
+    nothing n = omega arith
+
+-- a look at a held state, and no change
+pub one_look : (site : SiteValue) (request : Request) (old new : Work) → Costs 1 0 0 0 0 old new → WriteCosts site request old new
+one_look site request old new look = record { still = λ _. look; change = λ key s _. look_then 1 _ _ _ _ old new new look (free 1 _ _ _ _ new) }
+
+-- a refusal, or an answer with nothing to change, takes no more than what prepared it
+pub refused_costs : (site : SiteValue) (request : Request) (refusal : Refusal) (old new : Work) → PrepareCosts request (Err refusal) old new → AnswerCosts site request (Refused refusal) old new
+refused_costs site (Get key) refusal old new costs = costs
+refused_costs site (Put key seen document) refusal old new costs = one_look site (Put key seen document) old new costs
+refused_costs site (Delete key seen) refusal old new costs = one_look site (Delete key seen) old new costs
+refused_costs site (Push key pushed) refusal old new costs = one_look site (Push key pushed) old new costs
+refused_costs site (Find field term after) refusal old new costs = costs
+refused_costs site (Range field from to after) refusal old new costs = costs
+refused_costs site (Rows view after) refusal old new costs = costs
+refused_costs site (Row view term) refusal old new costs = costs
+refused_costs site (Node path) refusal old new costs = costs
+refused_costs site (Bucket path after) refusal old new costs = costs
+refused_costs site Bye refusal old new costs = costs
+
+pub told_costs : (site : SiteValue) (request : Request) (reply : Reply) (old new : Work) → PrepareCosts request (Ok (Answer reply)) old new → AnswerCosts site request reply old new
+told_costs site (Get key) reply old new costs = costs
+told_costs site (Put key seen document) reply old new costs = one_look site (Put key seen document) old new costs
+told_costs site (Delete key seen) reply old new costs = one_look site (Delete key seen) old new costs
+told_costs site (Push key pushed) reply old new costs = one_look site (Push key pushed) old new costs
+told_costs site (Find field term after) reply old new costs = costs
+told_costs site (Range field from to after) reply old new costs = costs
+told_costs site (Rows view after) reply old new costs = costs
+told_costs site (Row view term) reply old new costs = costs
+told_costs site (Node path) reply old new costs = costs
+told_costs site (Bucket path after) reply old new costs = costs
+told_costs site Bye reply old new costs = costs
+
+-- a change that was put in, or broke the site, takes a look and what it costs
+pub wrote : (site : SiteValue) (request : Request) (change : ChangeValue) (old mid new : Work) → PreparesChangeFrom site.config site.states request change
+    → Costs 1 0 0 0 0 old mid → ChangeCosts 0 site change.key change.state mid new → WriteCosts site request old new
+wrote site request change old mid new prepared look costs = record {
+  still = λ stays. absurd (insert_differs site.states change.key change.state prepared.differs (sym prepared.after ∙ stays));
+  change = λ key s is.
+      let both : Some (change.key, change.state) ≡ Some (key, s) = sym prepared.leaves ∙ is in
+      let one : change.key ≡ key = ap (λ o. (unwrap_or {T = Key × State} o (key, s)).0) both in
+      let last : change.state ≡ s = ap (λ o. (unwrap_or {T = Key × State} o (key, s)).1) both in
+      subst₂ (λ k t. ChangeCosts 1 site k t old new) one last (look_then 1 _ _ _ _ old mid new look costs);
+}
+
+none_some : {X : Type 0} (x : X) → None ≡ Some x → ⊥
+none_some x is = cc
+
+pub changed_costs : (site : SiteValue) (request : Request) (change : ChangeValue) (reply : Reply) (old mid new : Work) → PreparesChangeFrom site.config site.states request change
+    → PrepareCosts request (Ok (Change change)) old mid → ChangeCosts 0 site change.key change.state mid new → AnswerCosts site request reply old new
+changed_costs site (Put key seen document) change reply old mid new prepared look costs = wrote site (Put key seen document) change old mid new prepared look costs
+changed_costs site (Delete key seen) change reply old mid new prepared look costs = wrote site (Delete key seen) change old mid new prepared look costs
+changed_costs site (Push key pushed) change reply old mid new prepared look costs = wrote site (Push key pushed) change old mid new prepared look costs
+changed_costs site (Get key) change reply old mid new prepared look costs = absurd (none_some _ prepared.leaves)
+changed_costs site (Find field term after) change reply old mid new prepared look costs = absurd (none_some _ prepared.leaves)
+changed_costs site (Range field from to after) change reply old mid new prepared look costs = absurd (none_some _ prepared.leaves)
+changed_costs site (Rows view after) change reply old mid new prepared look costs = absurd (none_some _ prepared.leaves)
+changed_costs site (Row view term) change reply old mid new prepared look costs = absurd (none_some _ prepared.leaves)
+changed_costs site (Node path) change reply old mid new prepared look costs = absurd (none_some _ prepared.leaves)
+changed_costs site (Bucket path after) change reply old mid new prepared look costs = absurd (none_some _ prepared.leaves)
+changed_costs site Bye change reply old mid new prepared look costs = absurd (none_some _ prepared.leaves)

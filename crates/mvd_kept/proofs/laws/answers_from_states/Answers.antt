@@ -1,0 +1,16 @@
+use Rattle.std.proofs.Common.{sym, ◌∙◌}
+use Rattle.mvd_kept.proofs.Answered.{after_stands, answered}
+use Rattle.mvd_kept.proofs.Clashes.{clash_alone}
+use Rattle.mvd_kept.proofs.laws.answers_from_states.Goals as goal
+
+pub returns-clause-answer : goal.returns-clause-answer
+returns-clause-answer c = λ config states known request stands. answered config states known request stands
+
+pub returns-clause-after : goal.returns-clause-after
+returns-clause-after c = λ config states known request added stands adds. after_stands config states known request added stands adds
+
+pub returns-clause-alike : goal.returns-clause-alike
+returns-clause-alike c = λ config states V W request left right. sym (answered config states V request left) ∙ answered config states W request right
+
+pub returns-clause-clash : goal.returns-clause-clash
+returns-clause-clash c = λ config states request is. clash_alone config states request is

@@ -1,0 +1,47 @@
+use Rattle.std.proofs.Common.{◌≡◌, take, ap, sym, ◌∙◌, subst, unwrap_or}
+use Rattle.std.specs.FinMap.{empty, from_entries}
+use Rattle.mvd_keys.specs.State.{empty_state}
+use Rattle.mvd_keys.proofs.Parts.{holds}
+use Rattle.mvd_rows.specs.Changes.{state_in}
+use Rattle.mvd_rows.specs.Stands.{IsRowsOf}
+use Rattle.mvd_kept.proofs.Opened.{each_at, fresh_at, next_at}
+use Rattle.mvd_kept.proofs.Outcomes.{where_ok}
+use Rattle.mvd_kept.proofs.Room.{few_siblings, roomy_entries}
+use Rattle.mvd_kept.proofs.listing.rows_of.Goals as goal
+
+pub change-requires : goal.change-requires
+change-requires c =
+    let es = c.args.states.now in
+    let i = c.loop-entry.entry-index in
+    let e = c.entry-item.result in
+    let at : state_in (from_entries (take i es)) e.0 ≡ c.empty-empty.result =
+    ap (λ o. unwrap_or o empty_state) (fresh_at es i e (holds _ c.requires.rising) c.loop-entry-test.true c.entry-item.is) ∙ sym c.empty-empty.ensures in
+    record {
+      room = (
+        c.args.defs.now,
+        from_entries (take i es),
+        (
+          c.loop-entry.invariant.rows,
+          at,
+          roomy_entries es i c.requires.held c.requires.few,
+          few_siblings e.1 (each_at _ es i e c.requires.held c.loop-entry-test.true c.entry-item.is).short,
+        ),
+      );
+    }
+
+pub loop-entry-init : goal.loop-entry-init
+loop-entry-init c =
+    let same : c.args.defs.now ≡ c.in_ok-copy.field-0 = cc (c.in_ok-copy.ensures) in
+    record { rows = subst (λ d. IsRowsOf c.in_ok-rows.rows d empty) (sym same) c.in_ok-rows.ensures.stands }
+
+pub loop-entry-preserved : goal.loop-entry-preserved
+loop-entry-preserved c =
+    let es = c.args.states.now in
+    let i = c.loop-entry.entry-index in
+    let e = c.entry-item.result in
+    let at : state_in (from_entries (take i es)) e.0 ≡ c.empty-empty.result =
+    ap (λ o. unwrap_or o empty_state) (fresh_at es i e (holds _ c.requires.rising) c.loop-entry-test.true c.entry-item.is) ∙ sym c.empty-empty.ensures in
+    record {
+      rows = subst (IsRowsOf c.change.new.rows c.args.defs.now) (next_at es i e (holds _ c.requires.rising) c.loop-entry-test.true c.entry-item.is)
+          (where_ok c.change.result _ c.change.ensures.stands c.if-is_err.ensures.value c.args.defs.now (from_entries (take i es)) c.loop-entry.invariant.rows at);
+    }

@@ -1,0 +1,129 @@
+-- The answer to a request, from the writes known.
+--
+-- The answers are those of a multi-value register at each key (Shapiro, Preguiça, Baquero, Zawirski, INRIA RR-7506):
+-- each is computed from the whole set of writes, and no state that a site keeps stands in it.
+use Rattle.std.specs.Prelude.{ℕ, ℤ, Bool, true, false, not, ◌&&◌, ◌==◌, nat_lt, if◌then◌else◌, List, [], ◌∷◌, ◌++◌, length, map, Option, Some, None, Result, Ok, Err}
+use Rattle.std.specs.FinMap.{FinMap, from_entries}
+use Rattle.std.specs.FinSet.{union, contains, items, len}
+use Rattle.mvd_dots.specs.Dot.{DotValue}
+use Rattle.mvd_dots.specs.Context.{DotSet}
+use Rattle.mvd_dots.specs.declared.refusals.Refusal.{Refusal}
+use Rattle.mvd_dots.specs.declared.refusals.Refusal.TheVariants.{Exhausted, StateTooLarge, Full, DotClash, BadPath}
+use Rattle.mvd_keys.specs.Key.{key_cmp}
+use Rattle.mvd_keys.specs.Minting.{mint}
+use Rattle.mvd_keys.specs.State.{State, Text, clashes, join}
+use Rattle.mvd_keys.specs.Writes.{Key, Write, Wrote, Deleted, context, is_empty, keys, state}
+use Rattle.mvd_docs.specs.declared.term.Term.{Term}
+use Rattle.mvd_keys.specs.declared.places.Place.{Place}
+use Rattle.mvd_rows.specs.Answers.{find_answer, range_answer, row_answer, rows_answer}
+use Rattle.mvd_rows.specs.Visible.{visible}
+use Rattle.mvd_tree.specs.HashTree.{KeyDigests, node_digest}
+use Rattle.mvd_tree.specs.Page.{children_digests, is_more_after_page, page_of}
+use Rattle.mvd_tree.specs.States.{digests_of}
+use Rattle.mvd_wire.specs.Codecs.{key as spelled_key, spell_state, state_limit}
+use Rattle.mvd_wire.specs.declared.request.Request.{Request}
+use Rattle.mvd_wire.specs.declared.request.Request.TheVariants.{Get, Put, Delete, Find, Row, Rows, Node, Bucket, Push, Range, Bye}
+use Rattle.mvd_wire.specs.declared.reply.Reply.{Reply}
+use Rattle.mvd_wire.specs.declared.reply.Reply.TheVariants.{State as Shown, Written, Done, Places, Row as RowTold, Rows as RowsTold, Digests as Told, Keys, Refused}
+use Rattle.mvd_wire.specs.declared.reply.Digests.{Digests}
+use Rattle.mvd_kept.specs.Config.{ConfigValue}
+
+-- the state's spelling is longer than it may be
+abbrev pub is_too_large : State → Bool
+is_too_large s = nat_lt state_limit (length (spell_state s))
+
+-- as many keys are held as may be, and this is none of them
+abbrev pub is_full : ConfigValue → Bool → ℕ → Bool
+is_full config is_held count = not is_held && (count == config.max_keys)
+
+-- The limits: the reply, where a key may have this state afterwards; whether it is held, and how many keys are, is told
+abbrev pub limited : ConfigValue → Bool → ℕ → State → Reply → Reply
+limited config is_held count after reply =
+    if is_too_large after then Refused StateTooLarge
+    else if is_full config is_held count && not (is_empty after.context) then Refused Full
+    else reply
+
+-- the limits, from the writes known
+abbrev pub within_limits : ConfigValue → List Write → Key → State → Reply → Reply
+within_limits config known key after reply = limited config (contains (keys known) key) (len (keys known)) after reply
+
+-- a put, with the dot that is minted for it
+abbrev pub put_answer : ConfigValue → List Write → Key → DotSet → Text → Option DotValue → Reply
+put_answer config known key seen document None = Refused Exhausted
+put_answer config known key seen document (Some dot) = within_limits config known key (state key (known ++ Wrote key dot seen document ∷ [])) (Written dot)
+
+-- ---- the hash tree (DeCandia et al. 2007)
+
+-- the states that follow from the writes, by key
+unfoldable pub states_of : List Write → FinMap key_cmp State
+states_of known = from_entries (map (λ key. (key, state key known)) (items (keys known)))
+
+-- a key in a state as it is spelled for its digest: the key, and then the state
+unfoldable pub spelled : Key → State → List ℕ
+spelled key s = spelled_key.spell key ++ spell_state s
+
+-- the digests of the keys that are held in these states
+abbrev pub digests : FinMap key_cmp State → KeyDigests
+digests states = digests_of spelled states
+
+-- the digest of a node and, above the buckets, those of its children
+abbrev pub node_digests : KeyDigests → List ℕ → Digests
+node_digests held path = record { own = node_digest held path; children = if nat_lt (length path) 3 then Some (children_digests held path) else None }
+
+-- a page of a bucket's keys, after a key if one is given
+abbrev pub bucket_answer : KeyDigests → List ℕ → Option Key → Reply
+bucket_answer held path after = if length path == 3 then Keys (page_of held path after) (is_more_after_page held path after) else Refused BadPath
+
+-- ---- indexes and views
+
+-- a page of places, or why there is none
+abbrev pub places_reply : Result (List Place × Bool) Refusal → Reply
+places_reply (Ok page) = Places page.0 page.1
+places_reply (Err refusal) = Refused refusal
+
+-- a row of a view, or why there is none
+abbrev pub row_reply : Result (ℕ × ℤ × Option (ℤ × ℤ)) Refusal → Reply
+row_reply (Ok row) = RowTold (record { count = row.0; sum = row.1; ends = row.2 })
+row_reply (Err refusal) = Refused refusal
+
+-- a page of a view's rows, or why there is none
+abbrev pub rows_reply : Result (List (Term × ℕ × ℤ × Option (ℤ × ℤ)) × Bool) Refusal → Reply
+rows_reply (Ok page) = RowsTold page.0 page.1
+rows_reply (Err refusal) = Refused refusal
+
+-- ---- all requests
+
+-- The answer to a request, from the writes known
+abbrev pub answer : ConfigValue → List Write → Request → Reply
+answer config known (Get key) = Shown (state key known)
+answer config known (Put key seen document) = put_answer config known key seen document (mint config.site (union (context key known) seen))
+answer config known (Delete key seen) = within_limits config known key (state key (known ++ Deleted key seen ∷ [])) Done
+answer config known (Push key pushed) =
+    if is_too_large pushed then Refused StateTooLarge
+    else if clashes (state key known) pushed then Refused DotClash
+    else within_limits config known key (join (state key known) pushed) Done
+answer config known (Find field term after) = places_reply (find_answer config.defs (visible known) field term after)
+answer config known (Range field from to after) = places_reply (range_answer config.defs (visible known) field from to after)
+answer config known (Row view term) = row_reply (row_answer config.defs (visible known) view term)
+answer config known (Rows view after) = rows_reply (rows_answer config.defs (visible known) view after)
+answer config known (Node path) = Told (node_digests (digests (states_of known)) path)
+answer config known (Bucket path after) = bucket_answer (digests (states_of known)) path after
+answer config known Bye = Done
+
+-- the request only asks: for the state of a key, for places, for rows of a view, or for digests of the hash tree
+abbrev pub is_question : Request → Bool
+is_question (Get key) = true
+is_question (Find field term after) = true
+is_question (Range field from to after) = true
+is_question (Row view term) = true
+is_question (Rows view after) = true
+is_question (Node path) = true
+is_question (Bucket path after) = true
+is_question request = false
+
+-- a key, and the state that it has after the request, where the reply accepts one
+abbrev pub change_of : List Write → Request → Reply → Option (Key × State)
+change_of known (Put key seen document) (Written dot) = Some (key, state key (known ++ Wrote key dot seen document ∷ []))
+change_of known (Delete key seen) Done = Some (key, state key (known ++ Deleted key seen ∷ []))
+change_of known (Push key pushed) Done = Some (key, join (state key known) pushed)
+change_of known request reply = None

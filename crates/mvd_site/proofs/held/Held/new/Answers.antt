@@ -1,5 +1,0 @@
-use Rattle.mvd_site.proofs.HeldMaps.{held_none}
-use Rattle.mvd_site.proofs.held.Held.new.Goals as goal
-
-pub invariant_of-result : goal.invariant_of-result
-invariant_of-result c = held_none c.new.result.entries c.new.ensures.empty

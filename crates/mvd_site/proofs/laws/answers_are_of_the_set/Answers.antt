@@ -1,5 +1,0 @@
-use Rattle.mvd_site.proofs.OfTheSet.{of_the_set, states_of-stands}
-use Rattle.mvd_site.proofs.laws.answers_are_of_the_set.Goals as goal
-
-pub returns : goal.returns
-returns c = record { answers = of_the_set; states = states_of-stands }

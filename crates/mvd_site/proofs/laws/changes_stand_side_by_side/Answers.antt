@@ -1,5 +1,0 @@
-use Rattle.mvd_site.proofs.SideBySide.{still_now}
-use Rattle.mvd_site.proofs.laws.changes_stand_side_by_side.Goals as goal
-
-pub returns : goal.returns
-returns c = still_now

@@ -1,5 +1,0 @@
-use Rattle.mvd_site.proofs.Opened.{stands_held}
-use Rattle.mvd_site.proofs.laws.held_states_stand.Goals as goal
-
-pub returns : goal.returns
-returns c = λ states kept. stands_held states kept

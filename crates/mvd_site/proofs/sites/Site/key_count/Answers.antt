@@ -1,7 +1,0 @@
-use Rattle.std.proofs.Common.{ap, ◌∙◌, subst}
-use Rattle.mvd_site.specs.Held.{AreHeld}
-use Rattle.mvd_site.specs.Sites.{SiteValue}
-use Rattle.mvd_site.proofs.sites.Site.key_count.Goals as goal
-
-pub returns-clause-held : goal.returns-clause-held
-returns-clause-held c = subst AreHeld (ap (λ (s : SiteValue). s.states) (c.kept.view_is ∙ c.self.view_is)) c.len-count.ensures.kept

@@ -1,8 +1,9 @@
 -- What work comes to.
-use Rattle.std.proofs.Common.{◌≡◌, ℕ, ◌+◌, ◌*◌, ◌≤◌, Bool, false, length, ap, sym, subst, subst₂, ◌∙◌, arith, Some, None, unwrap_or, Result, Ok, Err}
+use Rattle.std.proofs.Common.{◌≡◌, ◌≢◌, ℕ, ◌+◌, ◌*◌, ◌≤◌, Bool, false, length, ap, sym, subst, subst₂, ◌∙◌, arith, Some, None, unwrap_or, Result, Ok, Err}
 use Rattle.std.specs.FinMap.{insert}
 use Rattle.mvd_count.specs.Counted.{RoseBy}
 use Rattle.mvd_dots.specs.declared.refusals.Refusal.{Refusal}
+use Rattle.mvd_dots.specs.declared.refusals.Refusal.TheVariants.{Memory}
 use Rattle.mvd_keys.specs.State.{State}
 use Rattle.mvd_keys.specs.Writes.{Key}
 use Rattle.mvd_rows.specs.Changes.{differing, looks_each, updates_each}
@@ -24,7 +25,7 @@ use Rattle.mvd_wire.specs.declared.reply.Reply.{Reply}
 use Rattle.mvd_wire.specs.declared.reply.Reply.TheVariants.{Refused}
 use Rattle.mvd_kept.specs.Answer.{digests, spelled}
 use Rattle.mvd_kept.specs.Config.{ConfigValue}
-use Rattle.mvd_kept.specs.Costs.{AnswerCosts, ChangeCosts, Costs, PrepareCosts, WriteCosts}
+use Rattle.mvd_kept.specs.Costs.{AnswerCosts, ChangeCosts, Costs, PrepareCosts, WriteCosts, page_looks}
 use Rattle.mvd_kept.specs.Held.{States, state_at}
 use Rattle.mvd_kept.specs.Prepared.{PreparesChangeFrom}
 use Rattle.mvd_kept.specs.Change.{ChangeValue}
@@ -68,6 +69,15 @@ looked work looks rose = record { on_states = rose; on_rows = (free 0 0 0 0 0 wo
 -- looks at kept rows alone
 pub paged : (work : Work) (rows : Meter) (n : ℕ) → Within 0 n work.rows rows → Costs 0 n 0 0 0 work (record { looks = work.looks; rows = rows; hashed = work.hashed })
 paged work rows n within = record { on_states = (free 0 0 0 0 0 work).on_states; on_rows = within; hashes = (free 0 0 0 0 0 work).hashes }
+
+-- no look at kept rows
+pub unlooked : (n : ℕ) (rows : Meter) → Within 0 n rows rows
+unlooked n rows = record { updates = no_more _ 0; looks = no_more _ n; least_updates = same _; least_looks = same _ }
+
+-- a page that is refused looks at nothing, but for want of memory
+pub refused_looks : (refusal : Refusal) (old new : Meter) → Within 0 1002 old new → (refusal ≢ Memory → Within 0 0 old new) → Within 0 (page_looks (Refused refusal)) old new
+refused_looks Memory old new most none = most
+refused_looks refusal old new most none = none (λ is. cc)
 
 -- a change was put in: the tree of the digests before has grown, and the rows have followed
 pub put_in_costs : (config : ConfigValue) (states : States) (broken : Bool) (tree grown : KeyDigests) (rows : Kept) (key k : Key) (s t : State) (old new : Work) (first then : Hashed)

@@ -46,7 +46,7 @@ page_looks reply = 0
 abbrev pub prepared_looks : Result Prepared Refusal → ℕ
 prepared_looks (Ok (Answer reply)) = page_looks reply
 prepared_looks (Err refusal) = page_looks (Refused refusal)
-prepared_looks (Ok (Change change)) = 0
+prepared_looks prepared = 0
 
 -- what it takes to prepare a request: a look at the key's state, or those of its page
 abbrev pub PrepareCosts : Request → Result Prepared Refusal → Work → Work → Type 0

@@ -7,7 +7,9 @@ use Rattle.mvd_kept.proofs.Listed.{find_refuses, found_page, never_broken}
 use Rattle.mvd_rows.specs.Counted.{Within}
 use Rattle.mvd_rows.specs.Visible.{visible_in}
 use Rattle.mvd_wire.specs.Replies.{CanBeSent}
+use Rattle.mvd_kept.specs.Costs.{prepared_looks}
 use Rattle.mvd_kept.specs.Sites.{SiteValue}
+use Rattle.mvd_kept.proofs.Spent.{refused_looks, unlooked}
 use Rattle.mvd_kept.proofs.kept.Kept.prepare_find.Goals as goal
 
 pub returns-in_err-places-clause-whole : goal.returns-in_err-places-clause-whole
@@ -31,3 +33,12 @@ returns-clause-ready c =
 pub returns-clause-looks : goal.returns-clause-looks
 returns-clause-looks c =
     subst (λ n. Within 0 (n + 2) c.args.meter.now c.find.new.meter) (sym (ap length c.new.ensures)) (c.in_ok-places.ensures.given c.self.inside.config.defs c.self.inside.states (c.self.invariant.listed (ap (λ (s : SiteValue). s.broken) c.self.view_is ∙ c.requires)))
+
+pub returns-in_err-places-clause-looks : goal.returns-in_err-places-clause-looks
+returns-in_err-places-clause-looks c =
+    let p = err_from_is_err_and c.from_residual-in_err-places.result c.from_residual-in_err-places.ensures.1 in
+    subst (λ r. Within 0 (prepared_looks r) c.args.meter.now c.find.new.meter) (sym p.1)
+    (refused_looks p.0 c.args.meter.now c.find.new.meter c.find.ensures.counts (λ other. c.in_err-places.ensures.none (λ e. other (p.2 ∙ e))))
+
+pub returns-in_err-after-clause-looks : goal.returns-in_err-after-clause-looks
+returns-in_err-after-clause-looks c = unlooked _ c.args.meter.now

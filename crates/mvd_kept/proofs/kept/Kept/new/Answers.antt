@@ -2,7 +2,7 @@ use Rattle.std.proofs.Common.{◌≡◌, sym, subst, ◌∙◌}
 use Rattle.std.specs.FinMap.{empty}
 use Rattle.mvd_rows.specs.Stands.{IsRowsOf}
 use Rattle.mvd_kept.proofs.Digested.{keeps_none}
-use Rattle.mvd_kept.proofs.opening.Kept.new.Goals as goal
+use Rattle.mvd_kept.proofs.kept.Kept.new.Goals as goal
 
 pub invariant_of-kept : goal.invariant_of-kept
 invariant_of-kept c =

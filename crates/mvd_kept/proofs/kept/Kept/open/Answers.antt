@@ -8,7 +8,7 @@ use Rattle.mvd_kept.specs.Answer.{spelled}
 use Rattle.mvd_kept.proofs.Digested.{keeps_opened}
 use Rattle.mvd_rows.specs.Stands.{IsRowsOf}
 use Rattle.mvd_kept.proofs.Opened.{rising_len, stands_held}
-use Rattle.mvd_kept.proofs.opening.Kept.open.Goals as goal
+use Rattle.mvd_kept.proofs.kept.Kept.open.Goals as goal
 
 pub open-requires : goal.open-requires
 open-requires c =

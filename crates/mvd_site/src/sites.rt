@@ -75,6 +75,13 @@ impl Site {
         Ok(Site { kept })
     }
 
+    /// What it keeps, of which questions can be asked that count their work.
+    pub fn kept(&self) -> &Kept
+        ensures { result.now ≡ self.now }
+    {
+        &self.kept
+    }
+
     pub fn config(&self) -> &Config
         ensures { result.now ≡ self.now.config }
     {

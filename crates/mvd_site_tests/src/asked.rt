@@ -5,7 +5,8 @@ use mvd_docs::Document;
 use mvd_dots::{Context, Dot, Refusal};
 use mvd_keys::{Key, KeyState};
 use mvd_rows::Defs;
-use mvd_site::{Config, Prepared, Site, Work, counted};
+use mvd_kept::{Work, counted};
+use mvd_site::{Config, Prepared, Site};
 use mvd_start::Start;
 use mvd_wire::{Reply, Request};
 use std::alloc::Global;
@@ -32,12 +33,12 @@ pub fn answered(site: &mut Site, request: &Request) -> Reply {
 
 /// No work yet.
 pub fn no_work() -> Work {
-    Work::new(&Start::new())
+    mvd_site::no_work(&Start::new())
 }
 
 /// What the request comes to, in the same way. Each look at a held state adds one to the count.
 fn prepared(site: &Site, request: &Request, work: &mut Work) -> Result<Prepared, Refusal> {
-    counted::prepare(site, request, work)
+    counted::prepare(site.kept(), request, work)
 }
 
 /// What a request comes to, in a word.

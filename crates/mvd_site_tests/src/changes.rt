@@ -6,7 +6,8 @@ use crate::asked::{
 use mvd_dots::{Context, Dot, Refusal};
 use mvd_keys::{Key, KeyState};
 use mvd_rows::Defs;
-use mvd_site::{Change, Config, Prepared, Site, Work, counted};
+use mvd_kept::{Kept, Work, counted};
+use mvd_site::{Change, Config, Prepared, Site};
 use mvd_wire::{Reply, Request, encode_state};
 use std::alloc::Global;
 use std::test::Fail;
@@ -25,7 +26,7 @@ fn is_told(alloc: Global, change: &Change) -> Result<bool, Refusal> {
 /// of.
 fn is_installed(alloc: Global, site: &mut Site, request: &Request) -> Result<bool, Refusal> {
     let mut work = no_work();
-    match counted::prepare(site, request, &mut work)? {
+    match counted::prepare(site.kept(), request, &mut work)? {
         Prepared::Answer(_) => Ok(false),
         Prepared::Change(change) => {
             let is_told = is_told(alloc, &change)?;
@@ -128,7 +129,7 @@ fn gives_by_one_look(alloc: Global, site: &Site) -> Result<bool, Refusal> {
 
 /// The state of a key. Nothing is claimed of it, as with an answer.
 fn got(site: &Site, key: &Key, work: &mut Work) -> Result<KeyState, Refusal> {
-    counted::get(site, key, work)
+    counted::get(site.kept(), key, work)
 }
 
 fn is_given_by_one_look(alloc: Global) -> Result<bool, Refusal> {
@@ -226,22 +227,23 @@ fn a_site_answers(rt: HostRuntime) -> Result<(), Fail> {
 }
 
 /// Whether an answer took so many looks at held states, and so many SHA-256 computations. Nothing is claimed of the answer.
-fn answer_takes(site: &mut Site, request: &Request, looks: u64, computations: u64) -> bool {
+fn answer_takes(kept: &mut Kept, request: &Request, looks: u64, computations: u64) -> bool {
     let mut work = no_work();
-    let _reply = counted::answer(site, request, &mut work);
+    let _reply = counted::answer(kept, request, &mut work);
     work.looks.made() == looks && work.hashed.computations.made() == computations
 }
 
 /// Whether a put takes two looks and six computations, and a get one look and none.
-fn is_counted(alloc: Global, site: &mut Site) -> Result<bool, Refusal> {
-    let puts = answer_takes(site, &put(alloc, "k", "-", "{\"a\":1}")?, 2, 6);
+fn is_counted(alloc: Global, kept: &mut Kept) -> Result<bool, Refusal> {
+    let puts = answer_takes(kept, &put(alloc, "k", "-", "{\"a\":1}")?, 2, 6);
     let get = Request::Get(Key::read(alloc, "k")?);
-    Ok(puts && answer_takes(site, &get, 1, 0))
+    Ok(puts && answer_takes(kept, &get, 1, 0))
 }
 
 fn counts_its_work(alloc: Global) -> Result<bool, Refusal> {
-    let mut site = site(alloc, 1, 10)?;
-    is_counted(alloc, &mut site)
+    let config = Config::new(1, 10, Defs::new(alloc));
+    let mut kept = Kept::new(alloc, config, &mut no_work())?;
+    is_counted(alloc, &mut kept)
 }
 
 #[test]

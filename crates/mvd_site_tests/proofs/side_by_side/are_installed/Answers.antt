@@ -7,8 +7,8 @@ use Rattle.mvd_site.specs.Change.{ChangeValue}
 use Rattle.mvd_site.specs.Config.{ConfigValue}
 use Rattle.mvd_site.specs.Prepared.{IsChangeNow, PreparesFrom, PreparesFromStates}
 use Rattle.mvd_site.specs.Sites.{SiteValue, has_no_room}
-use Rattle.mvd_site.specs.declared.changes.Prepared.{Prepared}
-use Rattle.mvd_site.specs.declared.changes.Prepared.TheVariants.{Change}
+use Rattle.mvd_kept.specs.declared.changes.Prepared.{Prepared}
+use Rattle.mvd_kept.specs.declared.changes.Prepared.TheVariants.{Change}
 use Rattle.mvd_site.proofs.SideBySide.{room_for_both, still_now}
 use Rattle.mvd_site_tests.proofs.side_by_side.are_installed.Goals as goal
 

@@ -12,7 +12,7 @@ fn main(rt: HostRuntime) -> io::Result<ExitCode> {
     match order_of(rt.alloc(), &texts) {
         Ok(order) => match run(&rt, order) {
             Ok(()) => Ok(ExitCode::SUCCESS),
-            Err(stop) => told(&rt, &stop),
+            Err(stop) => tell_stop(&rt, &stop),
         },
         Err(fault) => refused(&rt, &fault),
     }
@@ -42,13 +42,13 @@ fn refused(rt: &impl Eprint, fault: &OrderFault) -> io::Result<ExitCode> {
         OrderFault::Range => {
             eprintln!(rt; "mvd: bad number\nmvd: `mvd help COMMAND` tells the range of each")?
         }
-        OrderFault::Stopped(refusal) => return told(rt, &Stop::from(*refusal)),
+        OrderFault::Stopped(refusal) => return tell_stop(rt, &Stop::from(*refusal)),
     }
     Ok(ExitCode::from(2))
 }
 
 /// Tells on standard error why a command was stopped, and gives its status.
-fn told(rt: &impl Eprint, stop: &Stop<'_>) -> io::Result<ExitCode> {
+fn tell_stop(rt: &impl Eprint, stop: &Stop<'_>) -> io::Result<ExitCode> {
     eprintln!(rt; "{stop}")?;
     Ok(status_of(&stop.fault))
 }

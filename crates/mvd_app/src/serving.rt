@@ -76,7 +76,7 @@ fn listen<N: Net, S: Alter + Drop, W: Write>(
         let Ok((stream, _)) = listener.accept() else {
             return Err(Fault::Stopped(Refusal::ReadFailed));
         };
-        let ended = How(met(alloc, stream, replica));
+        let ended = How(serve_stream(alloc, stream, replica));
         writeln!(line, "connection {number} {ended}")?;
         tell(writer, &mut line)?;
     }
@@ -85,7 +85,7 @@ fn listen<N: Net, S: Alter + Drop, W: Write>(
 }
 
 /// Serves one connection.
-fn met<T: Read + Write + Drop, S: Alter + Drop>(
+fn serve_stream<T: Read + Write + Drop, S: Alter + Drop>(
     alloc: Global,
     stream: T,
     replica: &mut Replica<S>,
@@ -114,15 +114,15 @@ pub fn sync_run<'a, N: Net, S: Alter + Drop, W: Write, E: Write>(
         Ok(stream) => stream,
         Err(error) => return Err(Stop::unanswered(address, error)),
     };
-    match joined(alloc, stream, replica, told) {
-        Ok(keys) => Ok(tell_joined(alloc, replica, keys, writer)?),
+    match sync_stream(alloc, stream, replica, told) {
+        Ok(keys) => Ok(tell_report(alloc, replica, keys, writer)?),
         Err(SyncFault::Local(refusal)) => Err(Stop::in_session(refusal)),
         Err(SyncFault::Peer(refusal)) => Err(Stop::at_server(address, refusal)),
     }
 }
 
 /// Tells how many keys differed, and the root digest.
-fn tell_joined<S: Alter + Drop, W: Write>(
+fn tell_report<S: Alter + Drop, W: Write>(
     alloc: Global,
     replica: &Replica<S>,
     keys: u64,
@@ -135,7 +135,7 @@ fn tell_joined<S: Alter + Drop, W: Write>(
 }
 
 /// Runs a session over a stream, and gives how many keys differed.
-fn joined<T: Read + Write + Drop, S: Alter + Drop, E: Write>(
+fn sync_stream<T: Read + Write + Drop, S: Alter + Drop, E: Write>(
     alloc: Global,
     stream: T,
     replica: &mut Replica<S>,

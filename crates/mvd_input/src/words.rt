@@ -72,7 +72,7 @@ fn serve_command<'a>(alloc: Global) -> Result<Command<'a>, AllocError> {
         SERVE,
         "Example: mvd serve --db a.db --site 1 --port 7007",
     );
-    stored(alloc, command)?
+    with_database(alloc, command)?
         .arg(port(alloc, "The port to listen at, 1 to 65535."))?
         .arg(conns(alloc))
 }
@@ -118,7 +118,7 @@ fn sync_command<'a>(alloc: Global) -> Result<Command<'a>, AllocError> {
         SYNC,
         "Example: mvd sync --db b.db --site 2 --port 7007",
     );
-    stored(alloc, command)?
+    with_database(alloc, command)?
         .arg(port(alloc, "The port of the server, 1 to 65535."))?
         .arg(verbose(alloc))
 }
@@ -129,7 +129,7 @@ fn named<'a>(alloc: Global, name: &'a str, about: &'a str, example: &'a str) -> 
 }
 
 /// The options of a command on a database that meets a peer.
-fn stored<'a>(alloc: Global, command: Command<'a>) -> Result<Command<'a>, AllocError> {
+fn with_database<'a>(alloc: Global, command: Command<'a>) -> Result<Command<'a>, AllocError> {
     command
         .arg(db(alloc))?
         .arg(site(alloc))?

@@ -1,5 +1,5 @@
 -- The texts that scripts and shells print, this repository's own (docs/FORMATS.md, Scripts): lines of words, as bytes.
-use Rattle.std.specs.Prelude.{ℕ, ℤ, Bool, List, [], ◌∷◌, ◌++◌, codes, Option, Some, None, Result, Ok, Err, if◌then◌else◌}
+use Rattle.std.specs.Prelude.{ℕ, ℤ, Bool, true, false, List, [], ◌∷◌, ◌++◌, codes, Option, Some, None, Result, Ok, Err}
 use Rattle.std.specs.Fmt.{decimal, signed_decimal}
 use Rattle.std.specs.List.{join_by, flat_map}
 use Rattle.std.specs.FinMap.{entries}
@@ -67,10 +67,13 @@ context_text context = line (codes "context" ∷ text_of context ∷ [])
 abbrev pub sibling_text : DotValue × Text → List ℕ
 sibling_text sibling = line (dot_text sibling.0 ∷ sibling.1 ∷ [])
 
--- where a term stands, and the term itself where others are asked for as well
+abbrev pub spot_words : Place → List (List ℕ)
+spot_words place = place.key ∷ dot_text place.dot ∷ []
+
+-- where a term stands, behind the term itself where there may be several terms
 abbrev pub place_text : Bool → Place → List ℕ
-place_text has_terms place =
-    line ((if has_terms then term_text place.term ∷ [] else []) ++ (place.key ∷ dot_text place.dot ∷ []))
+place_text false place = line (spot_words place)
+place_text true place = line (term_text place.term ∷ spot_words place)
 
 abbrev pub row_words : ℕ → ℤ → Option (ℤ × ℤ) → List (List ℕ)
 row_words count sum ends = decimal count ∷ signed_decimal sum ∷ ends_words ends

@@ -1,7 +1,8 @@
 //! Places of indexes and rows of views, a line each.
-ghost use Rattle.std.specs.Prelude.{◌≡◌, ℤ, ◌++◌, OnOk, IsOkUnless, Option, string_bytes};
+ghost use Rattle.std.specs.Prelude.{◌≡◌, ◌++◌, codes, OnOk, IsOkUnless, string_bytes};
+ghost use Rattle.std.specs.List.{flat_map};
 ghost use Rattle.mvd_print.specs.Added.{Extends};
-ghost use Rattle.mvd_print.specs.Text.{line, list_text, place_text, row_words, view_row_text};
+ghost use Rattle.mvd_print.specs.Text.{ends_words, line, list_text, place_text, row_words, spot_words, view_row_text};
 
 use crate::words::{push_dot, push_number, push_signed, push_term, push_word};
 use mvd_docs::Term;
@@ -12,7 +13,23 @@ use std::alloc::{AllocError, Global};
 /// A row of a view as it is told: its term, its count, its sum, and its ends.
 pub type ViewRow = (Term, u64, i128, Option<(i64, i64)>);
 
-/// The count, the sum, and the least and the greatest number of a row, or `- -` where it has none.
+/// The least and the greatest number, or `- -` where there is none, each behind a space.
+fn push_ends(out: &mut String, ends: Option<(i64, i64)>) -> Result<(), AllocError>
+    ensures text { OnOk result (string_bytes out.new ≡ string_bytes out.old ++ flat_map (λ word. codes " " ++ word) (ends_words ends)) }
+    ensures kept { Extends (string_bytes out.old) (string_bytes out.new) }
+{
+    match ends {
+        Some((least, greatest)) => {
+            push_word(out, " ")?;
+            push_signed(out, i128::from(least))?;
+            push_word(out, " ")?;
+            push_signed(out, i128::from(greatest))
+        }
+        None => push_word(out, " - -"),
+    }
+}
+
+/// The count, the sum, and the least and the greatest number of a row.
 pub fn print_row(
     count: u64,
     sum: i128,
@@ -25,16 +42,8 @@ pub fn print_row(
     push_number(out, count)?;
     push_word(out, " ")?;
     push_signed(out, sum)?;
-    match ends {
-        Some((least, greatest)) => {
-            push_word(out, " ")?;
-            push_signed(out, i128::from(least))?;
-            push_word(out, " ")?;
-            push_signed(out, i128::from(greatest))?;
-            push_word(out, "\n")
-        }
-        None => push_word(out, " - -\n"),
-    }
+    push_ends(out, ends)?;
+    push_word(out, "\n")
 }
 
 /// A row, behind its term.
@@ -63,7 +72,18 @@ pub fn print_rows(alloc: Global, rows: &[ViewRow], out: &mut String) -> Result<(
     Ok(())
 }
 
-/// The place's key and dot, behind its term where others are asked for as well.
+/// The place's key and dot.
+fn print_spot(place: &Place, out: &mut String) -> Result<(), AllocError>
+    ensures text { OnOk result (string_bytes out.new ≡ string_bytes out.old ++ line (spot_words place.now)) }
+    ensures kept { Extends (string_bytes out.old) (string_bytes out.new) }
+{
+    push_word(out, place.key.text())?;
+    push_word(out, " ")?;
+    push_dot(out, place.dot)?;
+    push_word(out, "\n")
+}
+
+/// The place, behind its term where there may be several terms.
 fn print_place(
     alloc: Global,
     has_terms: bool,
@@ -74,14 +94,12 @@ fn print_place(
     ensures kept { Extends (string_bytes out.old) (string_bytes out.new) }
     ensures memory { IsOkUnless result Refusal.Memory }
 {
-    if has_terms {
-        push_term(alloc, out, &place.term)?;
-        push_word(out, " ")?;
+    if !has_terms {
+        return Ok(print_spot(place, out)?);
     }
-    push_word(out, place.key.text())?;
+    push_term(alloc, out, &place.term)?;
     push_word(out, " ")?;
-    push_dot(out, place.dot)?;
-    Ok(push_word(out, "\n")?)
+    Ok(print_spot(place, out)?)
 }
 
 /// A line for each place, or `none`.

@@ -1,2 +1,2 @@
-pub mod Extending
 pub mod Siblings
+pub mod Rows

@@ -1,10 +1,11 @@
 //! Places of indexes and rows of views, a line each.
-ghost use Rattle.std.specs.Prelude.{◌≡◌, ◌++◌, codes, OnOk, IsOkUnless, string_bytes};
+ghost use Rattle.std.specs.Prelude.{◌≡◌, ◌++◌, ◌∷◌, codes, OnOk, IsOkUnless, string_bytes};
+ghost use Rattle.std.specs.Fmt.{signed_decimal};
 ghost use Rattle.std.specs.List.{flat_map};
 ghost use Rattle.mvd_print.specs.Added.{Extends};
 ghost use Rattle.mvd_print.specs.Text.{ends_words, line, list_text, place_text, row_words, spot_words, view_row_text};
 
-use crate::words::{push_dot, push_number, push_signed, push_term, push_word};
+use crate::words::{push_dot, push_number, push_signed, push_term, push_whole, push_word};
 use mvd_docs::Term;
 use mvd_dots::Refusal;
 use mvd_keys::Place;
@@ -13,20 +14,28 @@ use std::alloc::{AllocError, Global};
 /// A row of a view as it is told: its term, its count, its sum, and its ends.
 pub type ViewRow = (Term, u64, i128, Option<(i64, i64)>);
 
+/// Two numbers, each behind a space.
+fn push_two(out: &mut String, least: i64, greatest: i64) -> Result<(), AllocError>
+    ensures text { OnOk result (string_bytes out.new ≡ string_bytes out.old ++ (32 ∷ (signed_decimal least ++ (32 ∷ signed_decimal greatest)))) }
+    ensures kept { Extends (string_bytes out.old) (string_bytes out.new) }
+{
+    push_word(out, " ")?;
+    push_whole(out, least)?;
+    push_word(out, " ")?;
+    push_whole(out, greatest)?;
+    Ok(())
+}
+
 /// The least and the greatest number, or `- -` where there is none, each behind a space.
 fn push_ends(out: &mut String, ends: Option<(i64, i64)>) -> Result<(), AllocError>
     ensures text { OnOk result (string_bytes out.new ≡ string_bytes out.old ++ flat_map (λ word. codes " " ++ word) (ends_words ends)) }
     ensures kept { Extends (string_bytes out.old) (string_bytes out.new) }
 {
     match ends {
-        Some((least, greatest)) => {
-            push_word(out, " ")?;
-            push_signed(out, i128::from(least))?;
-            push_word(out, " ")?;
-            push_signed(out, i128::from(greatest))
-        }
-        None => push_word(out, " - -"),
+        Some((least, greatest)) => push_two(out, least, greatest)?,
+        None => push_word(out, " - -")?,
     }
+    Ok(())
 }
 
 /// The count, the sum, and the least and the greatest number of a row.
@@ -43,7 +52,8 @@ pub fn print_row(
     push_word(out, " ")?;
     push_signed(out, sum)?;
     push_ends(out, ends)?;
-    push_word(out, "\n")
+    push_word(out, "\n")?;
+    Ok(())
 }
 
 /// A row, behind its term.
@@ -80,7 +90,8 @@ fn print_spot(place: &Place, out: &mut String) -> Result<(), AllocError>
     push_word(out, place.key.text())?;
     push_word(out, " ")?;
     push_dot(out, place.dot)?;
-    push_word(out, "\n")
+    push_word(out, "\n")?;
+    Ok(())
 }
 
 /// The place, behind its term where there may be several terms.

@@ -32,6 +32,14 @@ pub fn push_signed(out: &mut String, number: i128) -> Result<(), AllocError>
     push_word(out, buffer.format(number))
 }
 
+pub fn push_whole(out: &mut String, number: i64) -> Result<(), AllocError>
+    ensures text { OnOk result (string_bytes out.new ≡ string_bytes out.old ++ signed_decimal number) }
+    ensures kept { Extends (string_bytes out.old) (string_bytes out.new) }
+{
+    let mut buffer = Buffer::new();
+    push_word(out, buffer.format(number))
+}
+
 /// The site, a `:`, and the counter.
 pub fn push_dot(out: &mut String, dot: Dot) -> Result<(), AllocError>
     ensures text { OnOk result (string_bytes out.new ≡ string_bytes out.old ++ dot_text dot) }

@@ -1,5 +1,5 @@
 -- The line of a row, from its parts.
-use Rattle.std.proofs.Common.{◌≡◌, ℕ, ℤ, List, ◌++◌, ◌∙◌, Option, codes, append_assoc}
+use Rattle.std.proofs.Common.{◌≡◌, ℕ, ℤ, List, ◌++◌, Option, codes, append_assoc}
 use Rattle.std.specs.Fmt.{decimal, signed_decimal}
 use Rattle.std.specs.List.{flat_map}
 use Rattle.mvd_print.specs.Text.{ends_words, line, row_words}

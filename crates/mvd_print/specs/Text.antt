@@ -1,4 +1,4 @@
--- The texts that scripts and shells print, this repository's own (docs/FORMATS.md, Scripts): lines of words, as bytes.
+-- The texts that scripts and shells print, this repository's own (docs/FORMATS.md, Script): lines of words, as bytes.
 use Rattle.std.specs.Prelude.{ℕ, ℤ, Bool, true, false, List, [], ◌∷◌, ◌++◌, codes, Option, Some, None, Result, Ok, Err}
 use Rattle.std.specs.Fmt.{decimal, signed_decimal}
 use Rattle.std.specs.List.{join_by, flat_map}

@@ -2,11 +2,12 @@
 ghost use Rattle.std.specs.Prelude.{◌≡◌, IfErr};
 
 use crate::endpoint::Member;
-use crate::printing::{print_none_such, print_outcome};
+use crate::printing::print_outcome;
 use crate::talk::{LINE, say, settle};
 use mvd_dots::Refusal;
 use mvd_input::Command;
 use mvd_keys::Key;
+use mvd_print::print_none_such;
 use mvd_world::{Step, World};
 use std::alloc::Global;
 

@@ -3,10 +3,11 @@ ghost use Rattle.std.specs.Prelude.{◌≡◌, IfErr};
 
 use crate::endpoint::Endpoint;
 use crate::pages::next_page;
-use crate::printing::{print_refusal, print_reply};
+use crate::printing::print_answer;
 use crate::requests::request_of;
 use mvd_dots::Refusal;
 use mvd_input::Ask;
+use mvd_print::print_refusal;
 use mvd_wire::{Reply, Request};
 use std::alloc::Global;
 
@@ -81,7 +82,7 @@ fn tell(
     reply: &Reply,
     out: &mut String,
 ) -> Result<Option<Request>, Refusal> {
-    print_reply(alloc, ask, reply, out)?;
+    print_answer(alloc, ask, reply, out)?;
     next_page(alloc, ask, reply)
 }
 

@@ -1,7 +1,7 @@
 //! The commands of a script.
 ghost use Rattle.std.specs.Prelude.{◌≡◌, IfErr};
 
-use crate::asked::Member;
+use crate::endpoint::Member;
 use crate::printing::print_outcome;
 use crate::talk::{LINE, say, settle};
 use mvd_dots::Refusal;

@@ -3,8 +3,9 @@ use Rattle.std.specs.Prelude.{ℕ, Bool, true, false, List, Result, Ok, Err}
 use Rattle.mvd_dots.specs.declared.refusals.Refusal.{Refusal}
 use Rattle.mvd_input.specs.declared.command.Ask.{Ask}
 use Rattle.mvd_input.specs.declared.command.Ask.TheVariants.{Put, Delete, Get, Row, Node, Find, Range, Rows}
-use Rattle.mvd_print.specs.Text.{keys_text, message_text, none_such_text, short_text}
+use Rattle.mvd_print.specs.Text.{keys_text, message_text, none_such_text, reply_text, short_text}
 use Rattle.mvd_sync.specs.declared.session.SyncFault.TheVariants.{Local, Peer}
+use Rattle.mvd_wire.specs.declared.reply.Reply.{Reply}
 use Rattle.mvd_world.specs.declared.steps.Outcome.{Outcome}
 use Rattle.mvd_world.specs.declared.steps.Outcome.TheVariants.{Replied, Sent, Met, Failed, NoSuch}
 
@@ -27,3 +28,7 @@ tells_terms (Node _) = false
 tells_terms (Find _ _) = false
 tells_terms (Range _ _) = true
 tells_terms (Rows _) = false
+
+-- the text of a reply to what was asked
+abbrev pub answer_text : Ask → Reply → Result (List ℕ) Refusal
+answer_text ask reply = reply_text (tells_terms ask) reply

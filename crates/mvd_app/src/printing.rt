@@ -1,8 +1,7 @@
 //! What the commands of a script print.
 ghost use Rattle.std.specs.Prelude.{◌≡◌, string_bytes};
 ghost use Rattle.mvd_print.specs.Added.{Prints};
-ghost use Rattle.mvd_print.specs.Text.{reply_text};
-ghost use Rattle.mvd_app.specs.Told.{outcome_text, tells_terms};
+ghost use Rattle.mvd_app.specs.Told.{answer_text, outcome_text, tells_terms};
 
 use mvd_dots::Refusal;
 use mvd_input::Ask;
@@ -32,7 +31,7 @@ pub fn print_answer(
     reply: &Reply,
     out: &mut String,
 ) -> Result<(), Refusal>
-    ensures { Prints (reply_text (tells_terms ask.entry) reply.now) (string_bytes out.old) (string_bytes out.new) result }
+    ensures { Prints (answer_text ask.entry reply.now) (string_bytes out.old) (string_bytes out.new) result }
 {
     print_reply(alloc, has_terms(ask), reply, out)
 }

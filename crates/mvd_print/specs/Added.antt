@@ -8,8 +8,8 @@ pub record Extends (old new : List ℕ) : Type 0 where
   pub more : List ℕ
   pub is : new ≡ old ++ more
 
--- The text came behind the old one, or memory was refused and the old one still stands first. Where there is a refusal in
--- place of a text, it is given back and nothing was printed.
+-- The text came behind the old one, or memory was refused and the old one still stands first. Where there is a
+-- refusal in place of a text, it is given back and nothing was printed.
 abbrev pub Prints : Result (List ℕ) Refusal → List ℕ → List ℕ → Result (Unit {0}) Refusal → Type 0
 Prints (Ok text) old new (Ok done) = new ≡ old ++ text
 Prints (Ok text) old new (Err refusal) = (refusal ≡ Memory) × Extends old new

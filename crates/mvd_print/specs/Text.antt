@@ -13,8 +13,9 @@ use Rattle.mvd_dots.specs.declared.refusals.Refusal.{Refusal}
 use Rattle.mvd_dots.specs.declared.refusals.Refusal.TheVariants.{BadKind}
 use Rattle.mvd_docs.specs.Term.{data_of_term}
 use Rattle.mvd_docs.specs.declared.term.Term.{Term}
-use Rattle.mvd_keys.specs.State.{State, Text}
+use Rattle.mvd_keys.specs.State.{State, Text, pair_of}
 use Rattle.mvd_keys.specs.declared.places.Place.{Place}
+use Rattle.mvd_keys.specs.declared.siblings.Sibling.{Sibling}
 use Rattle.mvd_wire.specs.declared.reply.RowValue.{RowValue}
 use Rattle.mvd_wire.specs.declared.reply.Reply.{Reply}
 use Rattle.mvd_wire.specs.declared.reply.Reply.TheVariants as reply
@@ -37,6 +38,13 @@ term_text term = compact_text (data_of_term term)
 abbrev pub ends_words : Option (ℤ × ℤ) → List (List ℕ)
 ends_words None = codes "-" ∷ codes "-" ∷ []
 ends_words (Some ends) = signed_decimal ends.0 ∷ signed_decimal ends.1 ∷ []
+
+-- the same, each behind a space
+abbrev pub two_text : ℤ → ℤ → List ℕ
+two_text least greatest = 32 ∷ (signed_decimal least ++ (32 ∷ signed_decimal greatest))
+
+abbrev pub ends_text : Option (ℤ × ℤ) → List ℕ
+ends_text ends = flat_map (λ word. codes " " ++ word) (ends_words ends)
 
 -- ---- lines
 
@@ -94,10 +102,17 @@ digest_text digest = line (encode_lower digest ∷ [])
 abbrev pub state_text : State → List ℕ
 state_text state = context_text state.context ++ flat_map sibling_text (entries state.siblings)
 
+-- siblings in a list
+abbrev pub siblings_text : List Sibling → List ℕ
+siblings_text siblings = flat_map (λ s. sibling_text (pair_of s)) siblings
+
 -- the text of each, or `none`
 abbrev pub list_text : {X : Type 0} → (X → List ℕ) → List X → List ℕ
 list_text text [] = line (codes "none" ∷ [])
 list_text text (x ∷ xs) = flat_map text (x ∷ xs)
+
+abbrev pub places_text : Bool → List Place → List ℕ
+places_text has_terms places = list_text (place_text has_terms) places
 
 -- ---- replies
 
@@ -106,7 +121,7 @@ abbrev pub reply_text : Bool → Reply → Result (List ℕ) Refusal
 reply_text has_terms (reply.State state) = Ok (state_text state)
 reply_text has_terms (reply.Written dot) = Ok (written_text dot)
 reply_text has_terms reply.Done = Ok done_text
-reply_text has_terms (reply.Places places more) = Ok (list_text (place_text has_terms) places)
+reply_text has_terms (reply.Places places more) = Ok (places_text has_terms places)
 reply_text has_terms (reply.Row row) = Ok (row_text row)
 reply_text has_terms (reply.Rows rows more) = Ok (list_text view_row_text rows)
 reply_text has_terms (reply.Digests digests) = Ok (digest_text digests.own)

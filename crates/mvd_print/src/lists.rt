@@ -1,9 +1,7 @@
 //! Places of indexes and rows of views, a line each.
-ghost use Rattle.std.specs.Prelude.{◌≡◌, ◌++◌, ◌∷◌, codes, OnOk, IsOkUnless, string_bytes};
-ghost use Rattle.std.specs.Fmt.{signed_decimal};
-ghost use Rattle.std.specs.List.{flat_map};
+ghost use Rattle.std.specs.Prelude.{◌≡◌, ◌++◌, OnOk, IsOkUnless, string_bytes};
 ghost use Rattle.mvd_print.specs.Added.{Extends};
-ghost use Rattle.mvd_print.specs.Text.{ends_words, line, list_text, place_text, row_words, spot_words, view_row_text};
+ghost use Rattle.mvd_print.specs.Text.{ends_text, line, list_text, place_text, places_text, row_words, spot_words, two_text, view_row_text};
 
 use crate::words::{push_dot, push_number, push_signed, push_term, push_whole, push_word};
 use mvd_docs::Term;
@@ -16,7 +14,7 @@ pub type ViewRow = (Term, u64, i128, Option<(i64, i64)>);
 
 /// Two numbers, each behind a space.
 fn push_two(out: &mut String, least: i64, greatest: i64) -> Result<(), AllocError>
-    ensures text { OnOk result (string_bytes out.new ≡ string_bytes out.old ++ (32 ∷ (signed_decimal least ++ (32 ∷ signed_decimal greatest)))) }
+    ensures text { OnOk result (string_bytes out.new ≡ string_bytes out.old ++ two_text least greatest) }
     ensures kept { Extends (string_bytes out.old) (string_bytes out.new) }
 {
     push_word(out, " ")?;
@@ -28,7 +26,7 @@ fn push_two(out: &mut String, least: i64, greatest: i64) -> Result<(), AllocErro
 
 /// The least and the greatest number, or `- -` where there is none, each behind a space.
 fn push_ends(out: &mut String, ends: Option<(i64, i64)>) -> Result<(), AllocError>
-    ensures text { OnOk result (string_bytes out.new ≡ string_bytes out.old ++ flat_map (λ word. codes " " ++ word) (ends_words ends)) }
+    ensures text { OnOk result (string_bytes out.new ≡ string_bytes out.old ++ ends_text ends) }
     ensures kept { Extends (string_bytes out.old) (string_bytes out.new) }
 {
     match ends {
@@ -120,7 +118,7 @@ pub fn print_places(
     places: &[Place],
     out: &mut String,
 ) -> Result<(), Refusal>
-    ensures text { OnOk result (string_bytes out.new ≡ string_bytes out.old ++ list_text (place_text has_terms) places.now) }
+    ensures text { OnOk result (string_bytes out.new ≡ string_bytes out.old ++ places_text has_terms places.now) }
     ensures kept { Extends (string_bytes out.old) (string_bytes out.new) }
     ensures memory { IsOkUnless result Refusal.Memory }
 {

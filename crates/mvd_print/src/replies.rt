@@ -10,8 +10,8 @@ use mvd_dots::Refusal;
 use mvd_wire::Reply;
 use std::alloc::Global;
 
-/// Prints a reply, its places with their terms or without. A refusal is not printed but given back, and so is `BadKind` for a
-/// page of a bucket, which has no text.
+/// Prints a reply, its places with their terms or without. A refusal is not printed but given back, and so is
+/// `BadKind` for a page of a bucket, which has no text.
 pub fn print_reply(
     alloc: Global,
     has_terms: bool,
@@ -33,8 +33,8 @@ pub fn print_reply(
     }
 }
 
-/// Prints a reply that tells no more than that something was done, or its dot. A refusal is not printed but given back, and so is
-/// `BadKind` for any other reply. It takes no memory but that of the text.
+/// Prints a reply that tells no more than that something was done, or its dot. A refusal is not printed but given
+/// back, and so is `BadKind` for any other reply. It takes no memory but that of the text.
 pub fn print_short(reply: &Reply, out: &mut String) -> Result<(), Refusal>
     ensures { Prints (short_text reply.now) (string_bytes out.old) (string_bytes out.new) result }
 {

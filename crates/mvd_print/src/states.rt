@@ -1,9 +1,8 @@
 //! Key states, and digests.
 ghost use Rattle.std.specs.Prelude.{◌≡◌, ◌++◌, OnOk, IsOkUnless, string_bytes};
-ghost use Rattle.std.specs.List.{flat_map};
 ghost use Rattle.mvd_keys.specs.State.{pair_of};
 ghost use Rattle.mvd_print.specs.Added.{Extends};
-ghost use Rattle.mvd_print.specs.Text.{digest_text, context_text, sibling_text, state_text};
+ghost use Rattle.mvd_print.specs.Text.{context_text, digest_text, sibling_text, siblings_text, state_text};
 
 use crate::words::{push_dot, push_word};
 use mvd_dots::{Context, Refusal};
@@ -32,7 +31,7 @@ fn print_context(context: &Context, out: &mut String) -> Result<(), Refusal>
 }
 
 fn print_siblings(siblings: &[Sibling], out: &mut String) -> Result<(), AllocError>
-    ensures text { OnOk result (string_bytes out.new ≡ string_bytes out.old ++ flat_map (λ s. sibling_text (pair_of s)) siblings.now) }
+    ensures text { OnOk result (string_bytes out.new ≡ string_bytes out.old ++ siblings_text siblings.now) }
     ensures kept { Extends (string_bytes out.old) (string_bytes out.new) }
 {
     for sibling in siblings {

@@ -3,12 +3,12 @@ ghost use Rattle.std.specs.Prelude.{◌≡◌, ◌⊎◌, ◌≤◌, MatchResult
 ghost use Rattle.std.specs.FinMap.{entries, is_sorted};
 ghost use Rattle.sqlite.specs.Held.{state};
 ghost use Rattle.sqlite.specs.State.{HasCleanDisk, Survives};
-ghost use Rattle.mvd_records.specs.Records.{IsSound, IsOurs, HoldsRecords, OpensRecords, EndsMove, SavesState, MovesState, HasNone, LacksKey, Leaves, LeavesOpened, LeavesRefused, IsWhole, IsOpenRefusal, TellsVersion, marks_of, old_states, new_states};
+ghost use Rattle.mvd_records.specs.Records.{IsSound, IsOurs, HoldsRecords, OpensRecords, EndsMove, SavesAll, SavesState, MovesState, HasNone, LacksKey, Leaves, LeavesOpened, LeavesRefused, IsWhole, IsOpenRefusal, TellsVersion, marks_of, old_states, new_states};
 ghost use Rattle.mvd_keys.specs.Key.{key_cmp};
 ghost use Rattle.mvd_records.specs.Pairs.{entries_of, rises};
 
 use crate::loading::Half;
-use crate::{loading, moving, open, statements};
+use crate::{loading, moving, open, statements, storing};
 use mvd_dots::Refusal;
 use mvd_keys::Key;
 use sqlite::{Alter, Connection};
@@ -67,6 +67,22 @@ impl<S: Alter> Records<S> {
         ensures survives { Survives (state S.Store self.old.conn) (state S.Store self.new.conn) (Leaves (state S.Store self.old.conn) (λ version site db. HoldsRecords version site db × SavesState (state S.Store self.old.conn).committed db key.now bytes.now)) }
     {
         statements::save(&mut self.conn, key.text(), bytes)
+    }
+
+    /// Sets the states of these keys in one transaction, one after the other: all of them, or none.
+    pub fn save_all(&mut self, pairs: &[(Key, Vec<u8>)]) -> Result<(), Refusal>
+        requires { self.old.version ≡ 2 }
+        ensures before { IsSound (state S.Store self.new.conn) → IsSound (state S.Store self.old.conn) }
+        ensures open { HasCleanDisk (state S.Store self.new.conn) → OnOk result (IsTrue (state S.Store self.new.conn).is_open) }
+        ensures kept { (version site : _) → IsSound (state S.Store self.new.conn) → HoldsRecords version site (state S.Store self.old.conn).committed → HoldsRecords version site (state S.Store self.new.conn).committed }
+        ensures saved { (version site : _) → IsSound (state S.Store self.new.conn) → HoldsRecords version site (state S.Store self.old.conn).committed → OnOk result (SavesAll (state S.Store self.old.conn).committed (state S.Store self.new.conn).committed (entries_of pairs.now)) }
+        ensures unchanged { IsSound (state S.Store self.new.conn) → OnErr result ((state S.Store self.new.conn).committed ≡ (state S.Store self.old.conn).committed) }
+        ensures refusal { IfErr result (λ e. e ≡ Refusal.Store) }
+        ensures version { self.new.version ≡ self.old.version }
+        // After a crash all of them have their states, or none.
+        ensures survives { Survives (state S.Store self.old.conn) (state S.Store self.new.conn) (Leaves (state S.Store self.old.conn) (λ version site db. HoldsRecords version site db × SavesAll (state S.Store self.old.conn).committed db (entries_of pairs.now))) }
+    {
+        storing::save_all(&mut self.conn, pairs)
     }
 
     /// The map of version 2, by rising key. 17 where a key is out of form or in both maps, or an old key is left in version 2.

@@ -12,7 +12,7 @@ use Rattle.sqlite.proofs.Callers.{runs_as, statement_of}
 use Rattle.sqlite_trees.specs.declared.store.Store.{Ghosts}
 use Rattle.mvd_records.specs.Tables.{all_tables}
 use Rattle.mvd_records.specs.States.{States}
-use Rattle.mvd_records.specs.Records.{HoldsRecords, IsSettled, Leaves, SavesAll, SavesState, StaysInside, with_pairs}
+use Rattle.mvd_records.specs.Records.{HoldsRecords, IsSettled, Leaves, SavesStates, SavesState, StaysInside, with_pairs}
 use Rattle.mvd_records.specs.Pairs.{Pair, entries_of}
 use Rattle.mvd_records.proofs.Opened.{begun}
 use Rattle.mvd_records.proofs.Saved.{saved}
@@ -29,10 +29,10 @@ with_more : (states : States) (pairs : List (List ℕ × List ℕ)) (p : List �
 with_more states [] p = refl
 with_more states (q ∷ pairs) p = with_more (insert states q.0 q.1) pairs p
 
-pub none_saved : (db : Database) → SavesAll db db []
+pub none_saved : (db : Database) → SavesStates db db []
 none_saved db = record { old_same = refl; saved = refl }
 
-pub one_more : (a b c : Database) (pairs : List (List ℕ × List ℕ)) (key bytes : List ℕ) → SavesAll a b pairs → SavesState b c key bytes → SavesAll a c (pairs ++ (key, bytes) ∷ [])
+pub one_more : (a b c : Database) (pairs : List (List ℕ × List ℕ)) (key bytes : List ℕ) → SavesStates a b pairs → SavesState b c key bytes → SavesStates a c (pairs ++ (key, bytes) ∷ [])
 one_more a b c pairs key bytes so_far one = record {
   old_same = one.old_same ∙ so_far.old_same;
   saved = one.saved ∙ (ap (λ (m : States). insert m key bytes) so_far.saved ∙ sym (with_more _ pairs (key, bytes)));
@@ -41,12 +41,12 @@ one_more a b c pairs key bytes so_far one = record {
 module _ {S : Type 0} (g : Ghosts S) (old mid : Held S) where
   -- what a crash may leave of the commit of many states
   pub all_leave : (pairs : List (List ℕ × List ℕ)) → IsSettled (state g old)
-      → ((version site : ℕ) → IsTrue (begun g old mid).in_transaction → IsDatabase (begun g old mid).now → HoldsRecords version site (begun g old mid).now → HoldsRecords version site (state g mid).now × SavesAll (begun g old mid).now (state g mid).now pairs)
-      → (db : Trees) → db ≡ (state g mid).now.trees → Leaves (state g old) (λ version site db. HoldsRecords version site db × SavesAll (state g old).committed db pairs) db
+      → ((version site : ℕ) → IsTrue (begun g old mid).in_transaction → IsDatabase (begun g old mid).now → HoldsRecords version site (begun g old mid).now → HoldsRecords version site (state g mid).now × SavesStates (begun g old mid).now (state g mid).now pairs)
+      → (db : Trees) → db ≡ (state g mid).now.trees → Leaves (state g old) (λ version site db. HoldsRecords version site db × SavesStates (state g old).committed db pairs) db
   all_leave pairs settled stored db is version site was holds =
       let now = settled.settled was in
       let it = stored version site refl (settled.live was).0 (subst (HoldsRecords version site) (sym now) holds) in
-      ((state g mid).now, (it.0, subst (λ (d : Database). SavesAll d (state g mid).now pairs) now it.1), is)
+      ((state g mid).now, (it.0, subst (λ (d : Database). SavesStates d (state g mid).now pairs) now it.1), is)
 
 -- nothing was done
 pub stays_self : (a : State) → StaysInside a a

@@ -3,7 +3,7 @@ ghost use Rattle.std.specs.Prelude.{◌≡◌, ◌⊎◌, ◌≤◌, MatchResult
 ghost use Rattle.std.specs.FinMap.{entries, is_sorted};
 ghost use Rattle.sqlite.specs.Held.{state};
 ghost use Rattle.sqlite.specs.State.{HasCleanDisk, Survives};
-ghost use Rattle.mvd_records.specs.Records.{IsSound, IsOurs, HoldsRecords, OpensRecords, EndsMove, SavesAll, SavesState, MovesState, HasNone, LacksKey, Leaves, LeavesOpened, LeavesRefused, IsWhole, IsOpenRefusal, TellsVersion, marks_of, old_states, new_states};
+ghost use Rattle.mvd_records.specs.Records.{IsSound, IsOurs, HoldsRecords, OpensRecords, EndsMove, SavesStates, SavesState, MovesState, HasNone, LacksKey, Leaves, LeavesOpened, LeavesRefused, IsWhole, IsOpenRefusal, TellsVersion, marks_of, old_states, new_states};
 ghost use Rattle.mvd_keys.specs.Key.{key_cmp};
 ghost use Rattle.mvd_records.specs.Pairs.{entries_of, rises};
 
@@ -13,6 +13,7 @@ use mvd_dots::Refusal;
 use mvd_keys::Key;
 use sqlite::{Alter, Connection};
 use std::alloc::Global;
+use std::marker::Model;
 
 /// The records of a site, in the tables of a database.
 #[derive(Drop)]
@@ -22,7 +23,20 @@ pub struct Records<S: Alter> {
     conn: Connection<S>,
 }
 
+impl<S: Alter> Model for Records<S> {
+    ghost use Rattle.mvd_records.specs.Seen.{RecordsValue, records_code};
+
+    ghost Value = { RecordsValue S };
+
+    ghost coded = { records_code S.code };
+
+    ghost view = { λ r. record { version = r.version; conn = r.conn } };
+}
+
 impl<S: Alter> Records<S> {
+    ghost use Rattle.mvd_records.specs.Calls.{Saves, SavesAll};
+    ghost use Rattle.mvd_records.specs.Seen.{seen};
+
     /// Opens the records of a site, and makes in one transaction what is missing. A refusal gives the connection back: 21, or 17 where the marks are none of ours, or 16 where they are another site's.
     pub fn open(
         alloc: Global,
@@ -57,6 +71,7 @@ impl<S: Alter> Records<S> {
     /// Sets the state of one key, in one statement.
     pub fn save(&mut self, key: &Key, bytes: &[u8]) -> Result<(), Refusal>
         requires { self.old.version ≡ 2 }
+        ensures saves { Saves (seen S.Store self.old) key.now bytes.now result (seen S.Store self.new) }
         ensures before { IsSound (state S.Store self.new.conn) → IsSound (state S.Store self.old.conn) }
         ensures open { HasCleanDisk (state S.Store self.new.conn) → OnOk result (IsTrue (state S.Store self.new.conn).is_open) }
         ensures kept { (version site : _) → IsSound (state S.Store self.new.conn) → HoldsRecords version site (state S.Store self.old.conn).committed → HoldsRecords version site (state S.Store self.new.conn).committed }
@@ -72,15 +87,16 @@ impl<S: Alter> Records<S> {
     /// Sets the states of these keys in one transaction, one after the other: all of them, or none.
     pub fn save_all(&mut self, pairs: &[(Key, Vec<u8>)]) -> Result<(), Refusal>
         requires { self.old.version ≡ 2 }
+        ensures saves { SavesAll (seen S.Store self.old) (entries_of pairs.now) result (seen S.Store self.new) }
         ensures before { IsSound (state S.Store self.new.conn) → IsSound (state S.Store self.old.conn) }
         ensures open { HasCleanDisk (state S.Store self.new.conn) → OnOk result (IsTrue (state S.Store self.new.conn).is_open) }
         ensures kept { (version site : _) → IsSound (state S.Store self.new.conn) → HoldsRecords version site (state S.Store self.old.conn).committed → HoldsRecords version site (state S.Store self.new.conn).committed }
-        ensures saved { (version site : _) → IsSound (state S.Store self.new.conn) → HoldsRecords version site (state S.Store self.old.conn).committed → OnOk result (SavesAll (state S.Store self.old.conn).committed (state S.Store self.new.conn).committed (entries_of pairs.now)) }
+        ensures saved { (version site : _) → IsSound (state S.Store self.new.conn) → HoldsRecords version site (state S.Store self.old.conn).committed → OnOk result (SavesStates (state S.Store self.old.conn).committed (state S.Store self.new.conn).committed (entries_of pairs.now)) }
         ensures unchanged { IsSound (state S.Store self.new.conn) → OnErr result ((state S.Store self.new.conn).committed ≡ (state S.Store self.old.conn).committed) }
         ensures refusal { IfErr result (λ e. e ≡ Refusal.Store) }
         ensures version { self.new.version ≡ self.old.version }
         // After a crash all of them have their states, or none.
-        ensures survives { Survives (state S.Store self.old.conn) (state S.Store self.new.conn) (Leaves (state S.Store self.old.conn) (λ version site db. HoldsRecords version site db × SavesAll (state S.Store self.old.conn).committed db (entries_of pairs.now))) }
+        ensures survives { Survives (state S.Store self.old.conn) (state S.Store self.new.conn) (Leaves (state S.Store self.old.conn) (λ version site db. HoldsRecords version site db × SavesStates (state S.Store self.old.conn).committed db (entries_of pairs.now))) }
     {
         storing::save_all(&mut self.conn, pairs)
     }

@@ -2,7 +2,7 @@ use Rattle.std.proofs.Common.{◌≡◌, ◌∙◌, ◌++◌, ◌∷◌, [], ap,
 use Rattle.std.proofs.lemmas.List.{take_all, take_more}
 use Rattle.sqlite.specs.Held.{state}
 use Rattle.mvd_records.specs.Pairs.{entries_of}
-use Rattle.mvd_records.specs.Records.{SavesAll}
+use Rattle.mvd_records.specs.Records.{SavesStates}
 use Rattle.mvd_records.proofs.AllSaved.{entries_more, none_saved, one_more, saves_as, stays_self}
 use Rattle.mvd_records.proofs.Inside.{early, stays_then}
 use Rattle.mvd_records.proofs.storing.set_states.Goals as goal
@@ -28,10 +28,10 @@ loop-pair-preserved g c =
           let mid = early _ _ c.set_state.ensures.stays clean in
           let was = c.loop-pair.invariant.set version site mid inside sound holds in
           let now = c.in-Ok.ensures.set version site clean (c.loop-pair.invariant.inside mid inside) was.0 was.1.0 in
-          (now.0, (now.1.0, subst (SavesAll _ _) (sym more) (one_more _ _ _ (entries_of (take i pairs)) _ _ was.1.1 (saves_as _ _ _ _ _ _ c.text.ensures.same c.deref.ensures.value now.1.1))));
+          (now.0, (now.1.0, subst (SavesStates _ _) (sym more) (one_more _ _ _ (entries_of (take i pairs)) _ _ was.1.1 (saves_as _ _ _ _ _ _ c.text.ensures.same c.deref.ensures.value now.1.1))));
     }
 
 pub returns-clause-set : goal.returns-clause-set
 returns-clause-set g c version site clean inside sound holds =
     let all = c.loop-pair.invariant.set version site clean inside sound holds in
-    (all.1.0, subst (λ l. SavesAll (state g.S.Store c.args.tx.now.conn.now).now (state g.S.Store c.loop-pair.tx.conn.now).now (entries_of l)) (take_all c.loop-pair.pair-index c.args.pairs.now c.loop-pair-test.false) all.1.1)
+    (all.1.0, subst (λ l. SavesStates (state g.S.Store c.args.tx.now.conn.now).now (state g.S.Store c.loop-pair.tx.conn.now).now (entries_of l)) (take_all c.loop-pair.pair-index c.args.pairs.now c.loop-pair-test.false) all.1.1)

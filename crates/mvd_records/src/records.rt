@@ -34,8 +34,9 @@ impl<S: Alter> Model for Records<S> {
 }
 
 impl<S: Alter> Records<S> {
-    ghost use Rattle.mvd_records.specs.Calls.{Saves, SavesAll};
+    ghost use Rattle.mvd_records.specs.Calls.{Finishes, Loads, Moves, Opens, Saves, SavesAll};
     ghost use Rattle.mvd_records.specs.Seen.{seen};
+    ghost use Rattle.mvd_records.specs.declared.loading.Half.TheVariants.{Old, New};
 
     /// Opens the records of a site, and makes in one transaction what is missing. A refusal gives the connection back: 21, or 17 where the marks are none of ours, or 16 where they are another site's.
     pub fn open(
@@ -44,6 +45,7 @@ impl<S: Alter> Records<S> {
         site: u32,
     ) -> Result<Records<S>, (Refusal, Connection<S>)>
         requires { 1 ≤ site }
+        ensures opens { Opens S.Store conn site result }
         ensures before { MatchResult result (λ r. IsSound (state S.Store r.conn) → IsSound (state S.Store conn)) (λ e. IsSound (state S.Store e.1) → IsSound (state S.Store conn)) }
         ensures opened { IfOk result (λ r. IsSound (state S.Store r.conn) → IsOurs (state S.Store conn).committed → OpensRecords r.version site (state S.Store conn).committed (state S.Store r.conn).committed) }
         ensures refused { IfErr result (λ e. IsSound (state S.Store e.1) → IsOurs (state S.Store conn).committed → TellsVersion (marks_of (state S.Store conn).committed) site (Err e.0)) }
@@ -88,21 +90,13 @@ impl<S: Alter> Records<S> {
     pub fn save_all(&mut self, pairs: &[(Key, Vec<u8>)]) -> Result<(), Refusal>
         requires { self.old.version ≡ 2 }
         ensures saves { SavesAll (seen S.Store self.old) (entries_of pairs.now) result (seen S.Store self.new) }
-        ensures before { IsSound (state S.Store self.new.conn) → IsSound (state S.Store self.old.conn) }
-        ensures open { HasCleanDisk (state S.Store self.new.conn) → OnOk result (IsTrue (state S.Store self.new.conn).is_open) }
-        ensures kept { (version site : _) → IsSound (state S.Store self.new.conn) → HoldsRecords version site (state S.Store self.old.conn).committed → HoldsRecords version site (state S.Store self.new.conn).committed }
-        ensures saved { (version site : _) → IsSound (state S.Store self.new.conn) → HoldsRecords version site (state S.Store self.old.conn).committed → OnOk result (SavesStates (state S.Store self.old.conn).committed (state S.Store self.new.conn).committed (entries_of pairs.now)) }
-        ensures unchanged { IsSound (state S.Store self.new.conn) → OnErr result ((state S.Store self.new.conn).committed ≡ (state S.Store self.old.conn).committed) }
-        ensures refusal { IfErr result (λ e. e ≡ Refusal.Store) }
-        ensures version { self.new.version ≡ self.old.version }
-        // After a crash all of them have their states, or none.
-        ensures survives { Survives (state S.Store self.old.conn) (state S.Store self.new.conn) (Leaves (state S.Store self.old.conn) (λ version site db. HoldsRecords version site db × SavesStates (state S.Store self.old.conn).committed db (entries_of pairs.now))) }
     {
         storing::save_all(&mut self.conn, pairs)
     }
 
     /// The map of version 2, by rising key. 17 where a key is out of form or in both maps, or an old key is left in version 2.
     pub fn load_all(&mut self) -> Result<Vec<(Key, Vec<u8>)>, Refusal>
+        ensures loads { Loads New (seen S.Store self.old) result (seen S.Store self.new) }
         ensures before { IsSound (state S.Store self.new.conn) → IsSound (state S.Store self.old.conn) }
         ensures unchanged { (version site : _) → IsSound (state S.Store self.new.conn) → HoldsRecords version site (state S.Store self.old.conn).committed → (state S.Store self.new.conn).committed ≡ (state S.Store self.old.conn).committed }
         ensures entries { (version site : _) → IsSound (state S.Store self.new.conn) → HoldsRecords version site (state S.Store self.old.conn).committed → IfOk result (λ pairs. entries_of pairs.items ≡ entries (new_states (state S.Store self.old.conn).committed)) }
@@ -120,6 +114,7 @@ impl<S: Alter> Records<S> {
 
     /// The map of version 1, whose keys are not moved yet, by rising key. 17 where a key is out of form or in both maps, or an old key is left in version 2.
     pub fn load_old(&mut self) -> Result<Vec<(Key, Vec<u8>)>, Refusal>
+        ensures loads { Loads Old (seen S.Store self.old) result (seen S.Store self.new) }
         ensures before { IsSound (state S.Store self.new.conn) → IsSound (state S.Store self.old.conn) }
         ensures unchanged { (version site : _) → IsSound (state S.Store self.new.conn) → HoldsRecords version site (state S.Store self.old.conn).committed → (state S.Store self.new.conn).committed ≡ (state S.Store self.old.conn).committed }
         ensures entries { (version site : _) → IsSound (state S.Store self.new.conn) → HoldsRecords version site (state S.Store self.old.conn).committed → IfOk result (λ pairs. entries_of pairs.items ≡ entries (old_states (state S.Store self.old.conn).committed)) }
@@ -137,6 +132,7 @@ impl<S: Alter> Records<S> {
 
     /// Moves a key of version 1, whose state is spelled anew, in one transaction. 17 where the key is no old one.
     pub fn move_key(&mut self, key: &Key, bytes: &[u8]) -> Result<(), Refusal>
+        ensures moves { Moves (seen S.Store self.old) key.now bytes.now result (seen S.Store self.new) }
         ensures before { IsSound (state S.Store self.new.conn) → IsSound (state S.Store self.old.conn) }
         ensures kept { (version site : _) → IsSound (state S.Store self.new.conn) → HoldsRecords version site (state S.Store self.old.conn).committed → HoldsRecords version site (state S.Store self.new.conn).committed }
         ensures moved { (version site : _) → IsSound (state S.Store self.new.conn) → HoldsRecords version site (state S.Store self.old.conn).committed → OnOk result (MovesState (state S.Store self.old.conn).committed (state S.Store self.new.conn).committed key.now bytes.now) }
@@ -151,6 +147,7 @@ impl<S: Alter> Records<S> {
 
     /// Ends the move: the version becomes 2. 17 where an old key is left.
     pub fn finish(&mut self) -> Result<(), Refusal>
+        ensures finishes { Finishes (seen S.Store self.old) result (seen S.Store self.new) }
         ensures before { IsSound (state S.Store self.new.conn) → IsSound (state S.Store self.old.conn) }
         ensures finished { (version site : _) → IsSound (state S.Store self.new.conn) → HoldsRecords version site (state S.Store self.old.conn).committed → OnOk result (EndsMove site (state S.Store self.old.conn).committed (state S.Store self.new.conn).committed) }
         ensures damaged { (version site : _) → IsSound (state S.Store self.new.conn) → HoldsRecords version site (state S.Store self.old.conn).committed → IfErr result (λ e. e ≡ Refusal.Damaged → ¬ HasNone (old_states (state S.Store self.old.conn).committed)) }

@@ -1,5 +1,6 @@
 use Rattle.std.proofs.Common.{refl}
 use Rattle.mvd_records.proofs.Contracts.{commits, on_ok_and, sets_one}
+use Rattle.mvd_records.proofs.Follows.{saves_kept, saves_saved, saves_survives}
 use Rattle.mvd_records.proofs.records.Records.save.Goals as goal
 
 pub returns-clause-saves : goal.returns-clause-saves
@@ -13,10 +14,10 @@ returns-clause-saves g c = rw (← c.self.view_is, ← c.text.ensures.same) reco
 }
 
 pub returns-clause-kept : goal.returns-clause-kept
-returns-clause-kept g c = rw (← c.self.view_is) c.save.ensures.kept
+returns-clause-kept g c = saves_kept _ _ _ c.save.result (returns-clause-saves g c)
 
 pub returns-clause-saved : goal.returns-clause-saved
-returns-clause-saved g c = rw (← c.self.view_is, ← c.text.ensures.same) c.save.ensures.saved
+returns-clause-saved g c = saves_saved _ _ _ _ c.save.result (returns-clause-saves g c)
 
 pub returns-clause-survives : goal.returns-clause-survives
-returns-clause-survives g c = rw (← c.self.view_is, ← c.text.ensures.same) c.save.ensures.survives
+returns-clause-survives g c = saves_survives _ _ _ _ c.save.result (returns-clause-saves g c)

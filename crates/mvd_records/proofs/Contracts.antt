@@ -54,36 +54,44 @@ on_ok_and (Err e) P Q p q = tt
 -- ---- the changes
 
 pub sets : (pairs : List (List ℕ × List ℕ)) → Follows (λ version site a b. HoldsRecords version site b × SavesStates a b pairs) (SetsStates pairs)
-sets pairs was a b holds it =
-    (record was { new_map = with_pairs was.new_map pairs }, refl, record {
-      records = it.0;
-      old_is = it.1.old_same ∙ holds.old_is;
-      new_is = it.1.saved ∙ ap (λ (m : States). with_pairs m pairs) holds.new_is;
-    })
+sets pairs was a b holds it = (
+  record was { new_map = with_pairs was.new_map pairs },
+  refl,
+  record {
+    records = it.0;
+    old_is = it.1.old_same ∙ holds.old_is;
+    new_is = it.1.saved ∙ ap (λ (m : States). with_pairs m pairs) holds.new_is;
+  },
+)
 
 pub sets_one : (key state : List ℕ) → Follows (λ version site a b. HoldsRecords version site b × SavesState a b key state) (SetsStates ((key, state) ∷ []))
-sets_one key state was a b holds it =
-    (record was { new_map = insert was.new_map key state }, refl, record {
-      records = it.0;
-      old_is = it.1.old_same ∙ holds.old_is;
-      new_is = it.1.saved ∙ ap (λ (m : States). insert m key state) holds.new_is;
-    })
+sets_one key state was a b holds it = (
+  record was { new_map = insert was.new_map key state },
+  refl,
+  record {
+    records = it.0;
+    old_is = it.1.old_same ∙ holds.old_is;
+    new_is = it.1.saved ∙ ap (λ (m : States). insert m key state) holds.new_is;
+  },
+)
 
 pub moves : (key state : List ℕ) → Follows (λ version site a b. HoldsRecords version site b × MovesState a b key state) (MovesKey key state)
-moves key state was a b holds it =
-    (record was { old_map = remove was.old_map key; new_map = insert was.new_map key state },
-      record { there = (it.1.was.0, subst (λ (m : States). get m key ≡ Some it.1.was.0) holds.old_is it.1.was.1); is = refl },
-      record {
-        records = it.0;
-        old_is = it.1.removed ∙ ap (λ (m : States). remove m key) holds.old_is;
-        new_is = it.1.saved ∙ ap (λ (m : States). insert m key state) holds.new_is;
-      })
+moves key state was a b holds it = (
+  record was { old_map = remove was.old_map key; new_map = insert was.new_map key state },
+  record { there = (it.1.was.0, subst (λ (m : States). get m key ≡ Some it.1.was.0) holds.old_is it.1.was.1); is = refl },
+  record {
+    records = it.0;
+    old_is = it.1.removed ∙ ap (λ (m : States). remove m key) holds.old_is;
+    new_is = it.1.saved ∙ ap (λ (m : States). insert m key state) holds.new_is;
+  },
+)
 
 pub ends : Follows (λ version site a b. EndsMove site a b) EndsMoves
-ends was a b holds it =
-    (record was { version = 2 },
-      record { none = subst HasNone (it.states.old_same ∙ holds.old_is) it.moved; is = refl },
-      record { records = it.holds; old_is = it.states.old_same ∙ holds.old_is; new_is = it.states.new_same ∙ holds.new_is })
+ends was a b holds it = (
+  record was { version = 2 },
+  record { none = subst HasNone (it.states.old_same ∙ holds.old_is) it.moved; is = refl },
+  record { records = it.holds; old_is = it.states.old_same ∙ holds.old_is; new_is = it.states.new_same ∙ holds.new_is },
+)
 
 -- why a call is refused, of what was held
 pub lacking : {A : Type 0} (result : Result A Refusal) (P : States → Type 0) (db : Database) (was : Contents) → Holds db was → IfErr result (λ e. e ≡ Damaged → P (old_states db)) → IfErr result (λ e. e ≡ Damaged → P was.old_map)

@@ -1,6 +1,7 @@
 -- What each call of the records does: one relation for a call, over what it was called on and with, what it returned,
 -- and what it left.
-use Rattle.std.specs.Prelude.{◌≡◌, ◌⊎◌, ℕ, List, [], ◌∷◌, Vec, Result, Ok, Err, IsTrue, OnOk, OnErr, IfOk, IfErr, MatchResult}
+use Rattle.std.specs.Prelude.{◌≡◌, ◌⊎◌, ℕ, List, [], ◌∷◌, Vec, Result, Ok, Err, IsTrue, OnOk, OnErr, IfOk, IfErr}
+use Rattle.std.specs.Prelude.{MatchResult}
 use Rattle.std.specs.FinMap.{entries, is_sorted}
 use Rattle.std.specs.declared.alloc.Global.{Global}
 use Rattle.sqlite.specs.Held.{Held, state}
@@ -77,7 +78,8 @@ pub record Finishes {A : Type 0} (old : Seen) (result : Result A Refusal) (new :
 
 pub record Loads (half : Half) (old : Seen) (result : Result (Vec Pair Global) Refusal) (new : Seen) : Type 0 where
   pub before : IsSound new.store → IsSound old.store
-  pub loaded : OfHeld old.store new.store (λ was. IfOk result (λ pairs. entries_of pairs.items ≡ entries (half_of half was)))
+  pub loaded : OfHeld old.store new.store (λ was. IfOk result (λ pairs. entries_of pairs.items ≡ entries
+      (half_of half was)))
   -- the keys rise, whatever the store returned: by their bytes, and in the order in which a site takes its states
   pub rising : IfOk result (λ pairs. rises (entries_of pairs.items))
   pub sorted : IfOk result (λ pairs. IsTrue (is_sorted key_cmp pairs.items))

@@ -1,6 +1,7 @@
 use Rattle.std.proofs.Common.{Err, Ok, refl}
 use Rattle.mvd_records.specs.Records.{HasNone}
 use Rattle.mvd_records.proofs.Contracts.{commits, ends, lacking}
+use Rattle.mvd_records.proofs.Follows.{finishes_damaged, finishes_finished, finishes_survives, finishes_unchanged}
 use Rattle.mvd_records.proofs.records.Records.finish.Goals as goal
 
 pub returns-in-Ok-clause-finishes : goal.returns-in-Ok-clause-finishes
@@ -13,10 +14,10 @@ returns-in-Ok-clause-finishes g c = rw (← c.self.view_is) record {
 }
 
 pub returns-in-Ok-clause-finished : goal.returns-in-Ok-clause-finished
-returns-in-Ok-clause-finished g c = rw (← c.self.view_is) c.in-Ok.ensures.finished
+returns-in-Ok-clause-finished g c = finishes_finished {A = Unit {0}} _ _ (Ok (tt {0})) (returns-in-Ok-clause-finishes g c)
 
 pub returns-in-Ok-clause-survives : goal.returns-in-Ok-clause-survives
-returns-in-Ok-clause-survives g c = rw (← c.self.view_is) c.in-Ok.ensures.survives
+returns-in-Ok-clause-survives g c = finishes_survives {A = Unit {0}} _ _ (Ok (tt {0})) (returns-in-Ok-clause-finishes g c)
 
 pub returns-in-Err-clause-finishes : goal.returns-in-Err-clause-finishes
 returns-in-Err-clause-finishes g c = rw (← c.self.view_is) record {
@@ -28,10 +29,10 @@ returns-in-Err-clause-finishes g c = rw (← c.self.view_is) record {
 }
 
 pub returns-in-Err-clause-damaged : goal.returns-in-Err-clause-damaged
-returns-in-Err-clause-damaged g c = rw (← c.self.view_is) c.in-Err.ensures.damaged
+returns-in-Err-clause-damaged g c = finishes_damaged {A = Unit {0}} _ _ (Err c.in-Err.refusal) (returns-in-Err-clause-finishes g c)
 
 pub returns-in-Err-clause-unchanged : goal.returns-in-Err-clause-unchanged
-returns-in-Err-clause-unchanged g c = rw (← c.self.view_is) c.in-Err.ensures.unchanged
+returns-in-Err-clause-unchanged g c = finishes_unchanged {A = Unit {0}} _ _ (Err c.in-Err.refusal) (returns-in-Err-clause-finishes g c)
 
 pub returns-in-Err-clause-survives : goal.returns-in-Err-clause-survives
-returns-in-Err-clause-survives g c = rw (← c.self.view_is) c.in-Err.ensures.survives
+returns-in-Err-clause-survives g c = finishes_survives {A = Unit {0}} _ _ (Err c.in-Err.refusal) (returns-in-Err-clause-finishes g c)

@@ -1,6 +1,7 @@
 use Rattle.std.proofs.Common.{refl}
 use Rattle.mvd_records.specs.Records.{LacksKey}
 use Rattle.mvd_records.proofs.Contracts.{commits, lacking, moves, on_ok_and}
+use Rattle.mvd_records.proofs.Follows.{moves_damaged, moves_kept, moves_moved, moves_survives}
 use Rattle.mvd_records.proofs.records.Records.move_key.Goals as goal
 
 pub returns-clause-moves : goal.returns-clause-moves
@@ -13,14 +14,15 @@ returns-clause-moves g c = rw (← c.self.view_is, ← c.text.ensures.same) reco
   version = refl;
 }
 
+-- the others follow from it
 pub returns-clause-kept : goal.returns-clause-kept
-returns-clause-kept g c = rw (← c.self.view_is) c.move_key.ensures.kept
+returns-clause-kept g c = moves_kept _ _ _ _ c.move_key.result (returns-clause-moves g c)
 
 pub returns-clause-moved : goal.returns-clause-moved
-returns-clause-moved g c = rw (← c.self.view_is, ← c.text.ensures.same) c.move_key.ensures.moved
+returns-clause-moved g c = moves_moved _ _ _ _ c.move_key.result (returns-clause-moves g c)
 
 pub returns-clause-damaged : goal.returns-clause-damaged
-returns-clause-damaged g c = rw (← c.self.view_is, ← c.text.ensures.same) c.move_key.ensures.missing
+returns-clause-damaged g c = moves_damaged _ _ _ _ c.move_key.result (returns-clause-moves g c)
 
 pub returns-clause-survives : goal.returns-clause-survives
-returns-clause-survives g c = rw (← c.self.view_is, ← c.text.ensures.same) c.move_key.ensures.survives
+returns-clause-survives g c = moves_survives _ _ _ _ c.move_key.result (returns-clause-moves g c)

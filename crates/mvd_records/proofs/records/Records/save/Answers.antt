@@ -13,6 +13,7 @@ returns-clause-saves g c = rw (← c.self.view_is, ← c.text.ensures.same) reco
   version = refl;
 }
 
+-- the others follow from it
 pub returns-clause-kept : goal.returns-clause-kept
 returns-clause-kept g c = saves_kept _ _ _ c.save.result (returns-clause-saves g c)
 

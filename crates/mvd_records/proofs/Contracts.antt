@@ -1,5 +1,5 @@
 -- The relation of each call, from what its clauses on databases say.
-use Rattle.std.proofs.Common.{◌≡◌, ◌⊎◌, ℕ, List, [], ◌∷◌, Vec, Some, Result, Ok, Err, IfOk, IfErr, OnOk, refl, sym, ap, subst, subst₂, ◌∙◌}
+use Rattle.std.proofs.Common.{◌≡◌, ◌⊎◌, ℕ, List, [], ◌∷◌, Vec, Some, Result, Ok, Err, IfOk, IfErr, OnOk, refl, ap, subst, subst₂, ◌∙◌}
 use Rattle.std.specs.FinMap.{entries, get, insert, remove}
 use Rattle.std.specs.declared.alloc.Global.{Global}
 use Rattle.sqlite.specs.Effect.{Database}

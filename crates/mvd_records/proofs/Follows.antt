@@ -15,7 +15,7 @@ use Rattle.mvd_records.specs.Records.{EndsMove, HasNone, HoldsRecords, IsSound, 
 use Rattle.mvd_records.specs.Records.{OnlyReads, SavesState, SavesStates, new_states, old_states, states_at}
 use Rattle.mvd_records.specs.Contents.{Contents, EndsMoves, Holds, MovesKey, SetsStates, half_of}
 use Rattle.mvd_records.specs.Seen.{Seen}
-use Rattle.mvd_records.specs.Calls.{Commits, Finishes, IsUncommitted, LeavesChange, Loads, Moves, OfHeld, Saves, SavesAll}
+use Rattle.mvd_records.specs.Calls.{Commits, Finishes, SameCommit, Loads, Moves, Saves, SavesAll}
 use Rattle.mvd_records.proofs.Contracts.{Change}
 
 abbrev pub contents_of : ℕ → ℕ → Database → Contents
@@ -147,7 +147,7 @@ module _ {A : Type 0} (old new : Seen) (result : Result A Refusal) (it : Finishe
   finishes_damaged version site sound holds = it.damaged (contents_of version site old.store.committed) sound (holds_all version site old.store.committed holds)
 
   pub finishes_unchanged : (version site : ℕ) → IsSound new.store → HoldsRecords version site old.store.committed →
-      OnErr result (IsUncommitted old.store new.store)
+      OnErr result (SameCommit old.store new.store)
   finishes_unchanged version site sound holds = it.unchanged (contents_of version site old.store.committed) sound (holds_all version site old.store.committed holds)
 
   pub finishes_survives : Survives old.store new.store (Leaves old.store (λ _ site db. EndsMove site old.store.committed db))

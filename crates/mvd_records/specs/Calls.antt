@@ -25,8 +25,8 @@ abbrev pub OfHeld : State → State → (Contents → Type 0) → Type 0
 OfHeld old new P = (was : Contents) → IsSound new → Holds old.committed was → P was
 
 -- the last commit is the same
-abbrev pub IsUncommitted : State → State → Type 0
-IsUncommitted old new = new.committed ≡ old.committed
+abbrev pub SameCommit : State → State → Type 0
+SameCommit old new = new.committed ≡ old.committed
 
 -- the trees are those of a database in which what was held is changed so
 abbrev pub LeavesChange : (Contents → Contents → Type 0) → State → Trees → Type 0
@@ -47,7 +47,7 @@ pub record SavesAll {A : Type 0} (old : Seen) (pairs : List (List ℕ × List �
   pub commits : Commits (SetsStates pairs) old.store result new.store
   -- the store alone refuses it, and then nothing is changed, also in a database that is none of ours
   pub refusal : IfErr result (λ e. e ≡ Store)
-  pub unchanged : IsSound new.store → OnErr result (IsUncommitted old.store new.store)
+  pub unchanged : IsSound new.store → OnErr result (SameCommit old.store new.store)
   pub stays_open : HasCleanDisk new.store → OnOk result (IsTrue new.store.is_open)
   pub version : new.version ≡ old.version
 
@@ -61,7 +61,7 @@ pub record Moves {A : Type 0} (old : Seen) (key state : List ℕ) (result : Resu
   -- 17 where the key is no old one, or 21, and then nothing is changed
   pub refusal : IfErr result (λ e. (e ≡ Damaged) ⊎ (e ≡ Store))
   pub damaged : OfHeld old.store new.store (λ was. IfErr result (λ e. e ≡ Damaged → LacksKey was.old_map key))
-  pub unchanged : IsSound new.store → OnErr result (IsUncommitted old.store new.store)
+  pub unchanged : IsSound new.store → OnErr result (SameCommit old.store new.store)
   pub version : new.version ≡ old.version
 
 -- ---- finish
@@ -71,7 +71,7 @@ pub record Finishes {A : Type 0} (old : Seen) (result : Result A Refusal) (new :
   -- 17 where an old key is left, or 21, and then nothing is changed
   pub refusal : IfErr result (λ e. (e ≡ Damaged) ⊎ (e ≡ Store))
   pub damaged : OfHeld old.store new.store (λ was. IfErr result (λ e. e ≡ Damaged → ¬ HasNone was.old_map))
-  pub unchanged : OfHeld old.store new.store (λ _. OnErr result (IsUncommitted old.store new.store))
+  pub unchanged : OfHeld old.store new.store (λ _. OnErr result (SameCommit old.store new.store))
   pub version : MatchResult result (λ _. new.version ≡ 2) (λ _. new.version ≡ old.version)
 
 -- ---- load_all, which reads the new map, and load_old, which reads the old one
@@ -88,7 +88,7 @@ pub record Loads (half : Half) (old : Seen) (result : Result (Vec Pair Global) R
   pub damaged : OfHeld old.store new.store (λ was. IfErr result (λ e. e ≡ Damaged → ¬ CanLoad old.version half was))
   pub refusal : IfErr result (λ e. (e ≡ Damaged) ⊎ ((e ≡ Memory) ⊎ (e ≡ Store)))
   -- nothing is changed
-  pub unchanged : OfHeld old.store new.store (λ _. IsUncommitted old.store new.store)
+  pub unchanged : OfHeld old.store new.store (λ _. SameCommit old.store new.store)
   pub survives : Survives old.store new.store (LeavesChange (λ _ _. ⊥) old.store)
   pub version : new.version ≡ old.version
 
@@ -105,7 +105,7 @@ pub record IsRefused (store : State) (site : ℕ) (e : Refusal) (after : State) 
   -- 16, 17 or 21: 17 where the marks are none of ours, 16 where they are another site's
   pub refusal : IsOpenRefusal e
   pub told : IsSound after → IsOurs store.committed → TellsVersion (marks_of store.committed) site (Err e)
-  pub unchanged : IsSound after → IsUncommitted store after
+  pub unchanged : IsSound after → SameCommit store after
   pub survives : Survives store after (LeavesRefused e store site)
 
 -- the records of the site, or a refusal with the connection

@@ -1,7 +1,7 @@
 -- What records hold, as one value, and what a call makes of it.
 --
 -- The tables and the marks are this project's own format (docs/FORMATS.md, "Records").
-use Rattle.std.specs.Prelude.{◌≡◌, ℕ, List, [], ◌∷◌, Some}
+use Rattle.std.specs.Prelude.{◌≡◌, ℕ, List, Some}
 use Rattle.std.specs.FinMap.{get, insert, remove}
 use Rattle.sqlite.specs.Effect.{Database}
 use Rattle.mvd_records.specs.declared.loading.Half.{Half}

@@ -1,10 +1,11 @@
 -- What stands at the front of bytes.
 use Rattle.std.proofs.Common.{◌≡◌, ℕ, zero, suc, Bool, false, true, ◌+◌, ◌-◌, ◌<◌, ◌≤◌, ◌&&◌, ◌⊎◌, ltb, leb, eqb, List, [], ◌∷◌, ◌++◌, length, get_or, slice_index, take, drop, Option, Some, None, Ok, Err, refl, sym, ap, subst, ◌∙◌, arith, inl, inr}
-use Rattle.std.proofs.lemmas.Bool.{le-ltb, lt-ltb, le-leb, lt-leb}
+use Rattle.std.proofs.lemmas.Bool.{le-ltb, lt-ltb, le-leb, lt-leb, leb-true, cases_Bool}
 use Rattle.std.proofs.lemmas.List.{take-append-drop, length-take, length-drop}
 use Rattle.std.proofs.Math.Dec.{eqb-suc-zero}
 use Rattle.std.specs.Int.{w32, to_be_bytes, from_be_bytes}
 use Rattle.mvd_dots.specs.declared.refusals.Refusal.TheVariants.{FrameTooLong, Truncated}
+use Rattle.mvd_keys.proofs.Lists.{and_true}
 use Rattle.mvd_wire.specs.Codec.{number}
 use Rattle.mvd_wire.specs.Frames.{FrameValue, body_at, length_at, frame_at, frame_limit, spell_frame}
 use Rattle.mvd_wire.proofs.Laws.{IsBytes, IsBytes-take, wide32}
@@ -78,3 +79,18 @@ long_front bytes long (inr over) =
     let least : leb 1 v ≡ true = le-leb _ _ (omega (arith, over)) in
     let most : leb v frame_limit ≡ false = lt-leb _ _ over in
     rw (not_empty bytes long, less, least, most) refl
+
+-- as many bytes as the longest frame has are no part of a frame
+pub full_front : (bytes : List ℕ) → 1200004 ≤ length bytes → ((f : FrameValue) × (rest : List ℕ) × (frame_at bytes ≡ Ok (Some f, rest))) ⊎ (frame_at bytes ≡ Err FrameTooLong)
+unfolding frame_at length_at body_at
+full_front bytes long =
+    let v = from_be_bytes w32 (take 4 bytes) in
+    let some = not_empty bytes (omega (arith, long)) in
+    let less : ltb (length bytes) 4 ≡ false = le-ltb _ _ (omega (arith, long)) in
+    elim (cases_Bool (leb 1 v && leb v frame_limit)) [
+      | inl within ↦
+          let few : v ≤ frame_limit = leb-true _ _ (and_true (leb 1 v) (leb v frame_limit) within).1 in
+          let fits : ltb (length (drop 4 bytes)) v ≡ false = le-ltb _ _ (omega (arith, length-drop 4 bytes, long, few)) in
+          inl (record { kind = slice_index (drop 4 bytes) 0; payload = take (v - 1) (drop 1 (drop 4 bytes)) }, drop v (drop 4 bytes), rw (some, less, within, fits) refl)
+      | inr over ↦ inr (rw (some, less, over) refl)
+    ]

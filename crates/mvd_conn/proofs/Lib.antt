@@ -1,1 +1,4 @@
 pub mod FrontLemmas
+pub mod KeptLemmas
+pub mod LengthLemmas
+pub mod StandLemmas

@@ -24,6 +24,7 @@ pub record IsKept (c : Inside) : Type 0 where
   pub count : c.count ≡ length (history_of c).taken
   pub due : c.due + length (history_of c).answers ≡ length (history_of c).taken
   pub hand : c.hand ≤ length c.input.items
+  pub whole_hand : (c.hand ≡ 0) ⊎ (5 ≤ c.hand)
   -- room for a short reply to each frame that is due, and for what tells of the end
   pub room : 17 * c.due ≤ c.output.spare
   pub last_room : c.last ≡ None → 17 * c.due + 6 ≤ c.output.spare

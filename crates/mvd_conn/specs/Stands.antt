@@ -57,8 +57,13 @@ held_most = 1265539
 abbrev pub queue_most : ℕ
 queue_most = 77062399
 
+-- the length of the frame in hand
+abbrev pub hand_length : Option FrameValue → ℕ
+hand_length None = 0
+hand_length (Some f) = 5 + length f.payload
+
 pub record IsBounded (h : History) : Type 0 where
-  pub few_held : length h.held ≤ held_most
+  pub few_held : hand_length h.hand + length h.held ≤ held_most
   pub few_due : due h ≤ due_most
   pub few_waiting : length h.waits + frame_most * due h ≤ queue_most
 

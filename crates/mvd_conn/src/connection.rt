@@ -5,7 +5,7 @@ ghost use Rattle.mvd_wire.specs.declared.reply.Reply.{Reply};
 ghost use Rattle.mvd_wire.specs.Replies.{CanBeSent, reply_bytes};
 
 use crate::ending::{Ending, Source};
-use crate::scan::{Found, Front, front_of, is_bye_frame};
+use crate::scan::{Found, Front, front_of, last_after};
 use bytes::BytesMut;
 use http_server::Log;
 use mvd_dots::Refusal;
@@ -286,9 +286,7 @@ impl Connection {
     {
         self.output.reserve(SHORT_MAX * (self.due as usize + 1) + LAST_MAX)?;
         let frame = &self.input.as_slice()[..size];
-        if is_bye_frame(frame[4], &frame[5..]) {
-            self.last = Some(Ending::Bye);
-        }
+        self.last = last_after(frame[4], &frame[5..], self.last);
         self.frames = self.frames.and(&self.input, &size);
         self.hand = size;
         self.count += 1;
@@ -339,8 +337,9 @@ impl Connection {
         ensures no { result ≡ false → self.new ≡ self.old }
     {
         let room = frame.len() + SHORT_MAX * self.due as usize + LAST_MAX;
-        if self.output.reserve(room).is_err() {
-            return false;
+        match self.output.reserve(room) {
+            Ok(()) => {}
+            Err(_) => return false,
         }
         let at = self.output.len();
         self.output.extend_reserved(frame);

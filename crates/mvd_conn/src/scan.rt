@@ -1,8 +1,10 @@
 //! What stands at the front of the input.
-ghost use Rattle.std.specs.Prelude.{◌≡◌};
+ghost use Rattle.std.specs.Prelude.{◌≡◌, if◌then◌else◌, Some};
+ghost use Rattle.mvd_conn.specs.declared.ending.Ending.TheVariants as Ending;
 ghost use Rattle.mvd_conn.specs.History.{is_bye};
 ghost use Rattle.mvd_conn.specs.Front.{IsFront};
 
+use crate::ending::Ending;
 use mvd_dots::Refusal;
 use mvd_wire::FRAME_LIMIT;
 
@@ -49,9 +51,13 @@ pub(crate) fn front_of(bytes: &[u8]) -> Front
     Front::Whole(4 + length)
 }
 
-/// Whether a frame is a Bye.
-pub(crate) fn is_bye_frame(kind: u8, payload: &[u8]) -> bool
-    ensures { result ≡ is_bye (record { kind = kind; payload = payload.now }) }
+/// Why no frame is taken after this one, or what was known of that before.
+pub(crate) fn last_after(kind: u8, payload: &[u8], last: Option<Ending>) -> Option<Ending>
+    ensures { result ≡ (if is_bye (record { kind = kind; payload = payload.now }) then Some Ending.Bye else last) }
 {
-    kind == 0x2F && payload.is_empty()
+    if kind == 0x2F && payload.is_empty() {
+        Some(Ending::Bye)
+    } else {
+        last
+    }
 }

@@ -1,10 +1,10 @@
 -- What stands at the front of bytes.
-use Rattle.std.proofs.Common.{◌≡◌, ℕ, zero, suc, Bool, false, true, ◌+◌, ◌-◌, ◌<◌, ◌≤◌, ◌&&◌, ◌⊎◌, ltb, leb, eqb, List, [], ◌∷◌, ◌++◌, length, get_or, slice_index, take, drop, Option, Some, None, Ok, Err, refl, sym, ap, subst, ◌∙◌, arith, inl, inr}
+use Rattle.std.proofs.Common.{◌≡◌, ℕ, zero, suc, false, true, ◌+◌, ◌-◌, ◌<◌, ◌≤◌, ◌&&◌, ◌⊎◌, ltb, leb, eqb, List, [], ◌∷◌, ◌++◌, length, slice_index, take, drop, Some, Ok, Err, refl, sym, ap, ◌∙◌, arith, inl, inr}
 use Rattle.std.proofs.lemmas.Bool.{le-ltb, lt-ltb, le-leb, lt-leb, leb-true, cases_Bool}
 use Rattle.std.proofs.lemmas.List.{take-append-drop, length-take, length-drop}
 use Rattle.std.proofs.Math.Dec.{eqb-suc-zero}
 use Rattle.std.specs.Int.{w32, to_be_bytes, from_be_bytes}
-use Rattle.mvd_dots.specs.declared.refusals.Refusal.TheVariants.{FrameTooLong, Truncated}
+use Rattle.mvd_dots.specs.declared.refusals.Refusal.TheVariants.{FrameTooLong}
 use Rattle.mvd_keys.proofs.Lists.{and_true}
 use Rattle.mvd_wire.specs.Codec.{number}
 use Rattle.mvd_wire.specs.Frames.{FrameValue, body_at, length_at, frame_at, frame_limit, spell_frame}

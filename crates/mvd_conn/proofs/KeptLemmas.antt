@@ -1,26 +1,25 @@
 -- What each call keeps of a connection.
-use Rattle.std.proofs.Common.{◌≡◌, ℕ, zero, suc, Bool, false, true, ◌+◌, ◌-◌, ◌*◌, ◌<◌, ◌≤◌, ◌⊎◌, eqb, cond, List, [], ◌∷◌, ◌++◌, length, map, take, drop, Option, Some, None, refl, sym, ap, subst, ◌∙◌, arith, append_assoc, append-nil, length-append, inl, inr, Global}
-use Rattle.std.specs.List.{flat_map}
+use Rattle.std.proofs.Common.{◌≡◌, ℕ, zero, suc, false, ◌+◌, ◌-◌, ◌*◌, ◌<◌, ◌≤◌, eqb, cond, List, [], ◌∷◌, ◌++◌, length, take, drop, Option, Some, None, refl, sym, ap, subst, ◌∙◌, arith, length-append, inl, inr, Global}
 use Rattle.bytes.specs.declared.unique.BytesMut.{BytesMut}
 use Rattle.http_server.specs.declared.log.Log.{Log}
 use Rattle.mvd_conn.specs.declared.connection.Connection.TheInside.{Inside}
 use Rattle.std.proofs.Math.Dec.{eqb-suc-zero}
 use Rattle.std.proofs.lemmas.List.{flat_map_more, map-append, length-drop, length-take, drop_at, take-append-drop}
 use Rattle.mvd_dots.specs.declared.refusals.Refusal.{Refusal}
-use Rattle.mvd_wire.specs.Frames.{FrameValue, frame_limit, spell_frame}
+use Rattle.mvd_wire.specs.Frames.{FrameValue, spell_frame}
 use Rattle.mvd_wire.specs.Replies.{reply_bytes}
 use Rattle.mvd_wire.specs.declared.reply.Reply.TheVariants.{Refused}
 use Rattle.mvd_conn.specs.declared.ending.Ending.{Ending}
 use Rattle.mvd_conn.specs.declared.ending.Ending.TheVariants as ending
 use Rattle.mvd_conn.specs.declared.ending.Source.{Source}
 use Rattle.mvd_conn.specs.declared.ending.Source.TheVariants as source
-use Rattle.mvd_conn.specs.History.{History, Stops, Waits, due, fed, frame_most, is_bye, is_held_up, last_bytes, next_of, piece_most, replied, stopped, taking}
+use Rattle.mvd_conn.specs.History.{History, Stops, Waits, due, fed, frame_most, is_bye, is_held_up, next_of, piece_most, replied, stopped, taking}
 use Rattle.mvd_conn.specs.Inside.{IsKept, history_of}
-use Rattle.mvd_conn.specs.Stands.{IsBounded, Stands, frame_of, hand_length}
+use Rattle.mvd_conn.specs.Stands.{IsBounded, Stands, frame_of}
 use Rattle.mvd_conn.specs.declared.scan.Found.TheVariants as found
 use Rattle.mvd_conn.specs.Front.{IsFound}
 use Rattle.mvd_conn.proofs.LengthLemmas.{refused_length}
-use Rattle.mvd_conn.proofs.StandLemmas.{Free, free_of, stands_closed, stands_fed, stands_replied, stands_stopped, stands_taking, waits_few}
+use Rattle.mvd_conn.proofs.StandLemmas.{free_of, stands_closed, stands_fed, stands_replied, stands_stopped, stands_taking, waits_few}
 
 pub kept_closed : (c : Inside) (new : Source) → c.source ≡ source.Open → IsKept c → IsKept (record c { source = new })
 kept_closed c new opened k = record {

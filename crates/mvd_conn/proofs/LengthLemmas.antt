@@ -1,5 +1,5 @@
 -- How long the frames of replies are.
-use Rattle.std.proofs.Common.{◌≡◌, ℕ, Bool, true, false, ◌+◌, ◌≤◌, ◌<◌, leb, cond, List, [], ◌∷◌, ◌++◌, length, Result, Ok, Err, refl, ◌∙◌, arith, length-append}
+use Rattle.std.proofs.Common.{◌≡◌, ℕ, Bool, true, false, ◌+◌, ◌≤◌, leb, cond, List, [], ◌∷◌, length, Result, Ok, Err, refl, arith, length-append}
 use Rattle.std.proofs.lemmas.Bool.{leb-true}
 use Rattle.std.specs.Int.{w32, to_be_bytes}
 use Rattle.mvd_dots.specs.declared.refusals.Refusal.{Refusal}

@@ -1,8 +1,8 @@
 -- What each call keeps of a connection's histories.
-use Rattle.std.proofs.Common.{◌≡◌, ℕ, zero, suc, Bool, false, true, ◌+◌, ◌-◌, ◌*◌, ◌<◌, ◌≤◌, ◌&&◌, ◌||◌, ◌⊎◌, ltb, leb, eqb, cond, List, [], ◌∷◌, ◌++◌, length, take, drop, Option, Some, None, is_some, Result, Ok, Err, refl, sym, ap, subst, ◌∙◌, arith, append_assoc, append-nil, length-append, inl, inr}
-use Rattle.std.specs.List.{AllByRecursion, concat, flat_map}
-use Rattle.std.proofs.lemmas.Bool.{cases_Bool, leb-false, le-leb, le-ltb, cases_lt}
-use Rattle.std.proofs.lemmas.List.{take-append-drop, flat_map_more, length-drop}
+use Rattle.std.proofs.Common.{◌≡◌, ℕ, Bool, false, true, ◌+◌, ◌<◌, ◌≤◌, ◌||◌, leb, eqb, cond, List, [], ◌∷◌, ◌++◌, length, Option, Some, None, is_some, Result, Ok, Err, refl, sym, ap, subst, ◌∙◌, arith, append_assoc, append-nil, length-append, inl, inr}
+use Rattle.std.specs.List.{AllByRecursion, concat}
+use Rattle.std.proofs.lemmas.Bool.{leb-false, cases_lt}
+use Rattle.std.proofs.lemmas.List.{flat_map_more}
 use Rattle.std.proofs.lemmas.List.Folds.{concat-append}
 use Rattle.mvd_dots.specs.declared.refusals.Refusal.{Refusal}
 use Rattle.mvd_dots.specs.declared.refusals.Refusal.TheVariants.{FrameTooLong, TooManyRequests}
@@ -14,8 +14,8 @@ use Rattle.mvd_conn.specs.declared.ending.Source.{Source}
 use Rattle.mvd_conn.specs.declared.ending.Source.TheVariants as source
 use Rattle.mvd_conn.specs.declared.ending.Ending.{Ending}
 use Rattle.mvd_conn.specs.declared.ending.Ending.TheVariants as ending
-use Rattle.mvd_conn.specs.History.{Gives, History, Next, Over, Stops, Waits, closed, due, fed, frame_most, frames_most, is_bye, is_held_up, last_bytes, next_held, next_of, next_of_source, over, piece_most, replied, stopped, taking, waits_most}
-use Rattle.mvd_conn.specs.Stands.{AreFirst, GoOn, IsBounded, IsLast, Stands, hand_length, spelled}
+use Rattle.mvd_conn.specs.History.{Gives, History, Next, Over, Stops, Waits, due, fed, frame_most, frames_most, is_bye, is_held_up, last_bytes, next_held, next_of, next_of_source, over, replied, stopped, taking, waits_most}
+use Rattle.mvd_conn.specs.Stands.{AreFirst, GoOn, IsLast, Stands, spelled}
 
 abbrev Fit : List FrameValue → Type 0
 Fit frames = AllByRecursion (λ (f : FrameValue). length f.payload + 1 ≤ frame_limit) frames

@@ -1,7 +1,7 @@
 -- What stands at the front of bytes.
-use Rattle.std.specs.Prelude.{◌≡◌, ℕ, ◌≤◌, ◌<◌, ◌⊎◌, List, [], length, take, drop, Option, Some, None, Ok, Err}
+use Rattle.std.specs.Prelude.{◌≡◌, ℕ, ◌≤◌, ◌<◌, ◌⊎◌, List, [], length, take, drop, Some, None, Ok, Err}
 use Rattle.mvd_dots.specs.declared.refusals.Refusal.TheVariants.{FrameTooLong, Truncated}
-use Rattle.mvd_wire.specs.Frames.{FrameValue, frame_at, spell_frame}
+use Rattle.mvd_wire.specs.Frames.{frame_at, spell_frame}
 use Rattle.mvd_conn.specs.declared.scan.Front.{Front}
 use Rattle.mvd_conn.specs.declared.scan.Front.TheVariants.{Whole, Part, TooLong}
 use Rattle.mvd_conn.specs.declared.scan.Found.{Found}

@@ -1,7 +1,7 @@
 -- What a connection keeps, and what of it is true.
-use Rattle.std.specs.Prelude.{◌≡◌, ℕ, ◌+◌, ◌*◌, ◌-◌, ◌≤◌, ◌⊎◌, ◌==◌, if◌then◌else◌, List, length, take, drop, map, flat_map, Option, Some, None}
+use Rattle.std.specs.Prelude.{◌≡◌, ◌+◌, ◌*◌, ◌≤◌, ◌⊎◌, ◌==◌, if◌then◌else◌, length, take, drop, map, flat_map, Some, None}
 use Rattle.mvd_conn.specs.declared.connection.Connection.TheInside.{Inside}
-use Rattle.mvd_conn.specs.History.{History, due}
+use Rattle.mvd_conn.specs.History.{History}
 use Rattle.mvd_conn.specs.Stands.{IsBounded, Stands, frame_of}
 
 abbrev pub history_of : Inside → History

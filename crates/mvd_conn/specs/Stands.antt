@@ -1,5 +1,5 @@
 -- What is true of every connection.
-use Rattle.std.specs.Prelude.{◌≡◌, ℕ, ◌+◌, ◌*◌, ◌≤◌, ◌⊎◌, Bool, true, false, List, [], ◌∷◌, ◌++◌, length, drop, slice_index, flat_map, Option, Some, None, Ok}
+use Rattle.std.specs.Prelude.{◌≡◌, ℕ, ◌+◌, ◌*◌, ◌≤◌, ◌⊎◌, true, false, List, [], ◌∷◌, ◌++◌, length, drop, slice_index, flat_map, Option, Some, None, Ok}
 use Rattle.std.specs.List.{AllByRecursion, concat}
 use Rattle.mvd_dots.specs.declared.refusals.Refusal.TheVariants.{Memory}
 use Rattle.mvd_wire.specs.declared.reply.Reply.{Reply}
@@ -8,7 +8,7 @@ use Rattle.mvd_wire.specs.Frames.{FrameValue, frame_at, frame_limit, spell_frame
 use Rattle.mvd_wire.specs.Replies.{is_short}
 use Rattle.mvd_conn.specs.declared.ending.Ending.{Ending}
 use Rattle.mvd_conn.specs.declared.ending.Ending.TheVariants as ending
-use Rattle.mvd_conn.specs.History.{History, Over, Stops, due, due_most, frame_most, frames_most, is_bye, last_bytes, next_of, waits_most}
+use Rattle.mvd_conn.specs.History.{History, Over, Stops, due, due_most, frame_most, frames_most, is_bye, last_bytes, next_of}
 
 -- the frame that these bytes spell
 abbrev pub frame_of : List ℕ → FrameValue

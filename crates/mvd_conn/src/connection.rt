@@ -284,7 +284,8 @@ impl Connection {
         ensures ok { IfOk result (λ more. (more ≡ true) × (self.new ≡ taking self.old (frame_of (take size self.old.held)) (drop size self.old.held))) }
         ensures err { IfErr result (λ e. (e ≡ Refusal.Memory) × (self.new ≡ self.old)) }
     {
-        self.output.reserve(SHORT_MAX * (self.due as usize + 1) + LAST_MAX)?;
+        self.output
+            .reserve(SHORT_MAX * (self.due as usize + 1) + LAST_MAX)?;
         let frame = &self.input.as_slice()[..size];
         self.last = last_after(frame[4], &frame[5..], self.last);
         self.frames = self.frames.and(&self.input, &size);

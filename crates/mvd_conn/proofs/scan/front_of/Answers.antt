@@ -1,4 +1,4 @@
-use Rattle.std.proofs.Common.{◌≡◌, ℕ, length, take, sym, ap, ◌∙◌, arith, inl, inr}
+use Rattle.std.proofs.Common.{◌≡◌, take, sym, ap, ◌∙◌, arith, inl, inr}
 use Rattle.std.specs.Int.{w32, from_be_bytes}
 use Rattle.mvd_conn.proofs.FrontLemmas.{cut_front, long_front, short_front, whole_front}
 use Rattle.mvd_conn.proofs.scan.front_of.Goals as goal

@@ -1,4 +1,4 @@
-use Rattle.std.proofs.Common.{◌≡◌, ◌<◌, length, sym, subst, arith}
+use Rattle.std.proofs.Common.{◌<◌, length, sym, subst, arith}
 use Rattle.mvd_conn.specs.History.{History}
 use Rattle.mvd_conn.specs.Inside.{history_of}
 use Rattle.mvd_conn.proofs.KeptLemmas.{kept_replied}

@@ -100,12 +100,12 @@ kept_replied c output replies frame some few grown logged room last_room k =
     }
 
 -- a refusal was told
-pub kept_stopped : (c : Inside) (output : BytesMut Global) (refusal : Refusal) → is_held_up (history_of c) ≡ false → next_of (history_of c) ≡ Stops refusal → c.due ≡ 0
+pub kept_stopped : (c : Inside) (output : BytesMut Global) (refusal : Refusal) → is_held_up (history_of c) ≡ false → next_of (history_of c) ≡ Stops refusal → due (history_of c) ≡ 0
     → output.items ≡ c.output.items ++ reply_bytes (Refused refusal) → IsKept c → IsKept (record c { output = output; last = Some (ending.Stopped refusal) })
-kept_stopped c output refusal free next none grown k =
+kept_stopped c output refusal free next all grown k =
     let h = history_of c in
     let open_ = free_of h free in
-    let all : due h ≡ 0 = omega (arith, k.due, none) in
+    let none : c.due ≡ 0 = omega (arith, k.due, all, k.stands.in_turn) in
     let same : history_of (record c { output = output; last = Some (ending.Stopped refusal) }) ≡ stopped h refusal = rw grown refl in
     let longer : length (h.waits ++ reply_bytes (Refused refusal)) ≡ length h.waits + 6 = length-append h.waits (reply_bytes (Refused refusal)) ∙ ap (λ n. length h.waits + n) (refused_length refusal) in
     record {

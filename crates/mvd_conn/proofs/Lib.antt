@@ -1,3 +1,4 @@
+pub mod CourseLemmas
 pub mod FrontLemmas
 pub mod KeptLemmas
 pub mod LengthLemmas

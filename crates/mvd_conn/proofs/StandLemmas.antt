@@ -17,7 +17,7 @@ use Rattle.mvd_conn.specs.declared.ending.Ending.TheVariants as ending
 use Rattle.mvd_conn.specs.History.{Gives, History, Next, Over, Stops, Waits, due, fed, frame_most, frames_most, is_bye, is_held_up, last_bytes, next_held, next_of, next_of_source, over, replied, stopped, taking, waits_most}
 use Rattle.mvd_conn.specs.Stands.{AreFirst, GoOn, IsLast, Stands, spelled}
 
-abbrev Fit : List FrameValue → Type 0
+abbrev pub Fit : List FrameValue → Type 0
 Fit frames = AllByRecursion (λ (f : FrameValue). length f.payload + 1 ≤ frame_limit) frames
 
 first_of : (fs : List FrameValue) (rest : List ℕ) → Fit fs → AreFirst fs (spelled fs ++ rest) rest
@@ -25,7 +25,7 @@ first_of [] rest fit = refl
 first_of (f ∷ fs) rest fit =
     (spelled fs ++ rest, ap frame_at (append_assoc (spell_frame f) (spelled fs) rest) ∙ frame_again f (spelled fs ++ rest) fit.0, first_of fs rest fit.1)
 
-first_in : (fs : List FrameValue) (bytes rest : List ℕ) → Fit fs → bytes ≡ spelled fs ++ rest → AreFirst fs bytes rest
+pub first_in : (fs : List FrameValue) (bytes rest : List ℕ) → Fit fs → bytes ≡ spelled fs ++ rest → AreFirst fs bytes rest
 first_in fs bytes rest fit e = subst (λ (b : List ℕ). AreFirst fs b rest) (sym e) (first_of fs rest fit)
 
 all_more : {X : Type 0} (P : X → Type 0) (xs : List X) (x : X) → AllByRecursion P xs → P x → AllByRecursion P (xs ++ x ∷ [])

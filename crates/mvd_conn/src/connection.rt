@@ -150,9 +150,9 @@ impl Connection {
         }
         match self.found() {
             Found::Frame(size) => return self.take(size),
-            Found::End => self.end(),
-            Found::Stops(refusal) => self.stop(refusal),
-            Found::Nothing => {}
+            Found::End if self.due == 0 => self.end(),
+            Found::Stops(refusal) if self.due == 0 => self.stop(refusal),
+            _ => {}
         }
         Ok(false)
     }
@@ -295,27 +295,25 @@ impl Connection {
         Ok(true)
     }
 
-    /// Tells the end after a frame, once all are answered.
+    /// Ends after a frame.
     fn end(&mut self)
         requires free { is_held_up self.old ≡ false }
+        requires answered { due self.old ≡ 0 }
         requires next { next_of self.old ≡ Over }
-        ensures { self.new ≡ (if due self.old == 0 then over self.old else self.old) }
+        ensures { self.new ≡ over self.old }
     {
-        if self.due == 0 {
-            self.last = Some(Ending::End);
-        }
+        self.last = Some(Ending::End);
     }
 
-    /// Tells a refusal, once all are answered.
+    /// Tells a refusal, and ends.
     fn stop(&mut self, refusal: Refusal)
         requires free { is_held_up self.old ≡ false }
+        requires answered { due self.old ≡ 0 }
         requires next { next_of self.old ≡ Stops refusal }
-        ensures { self.new ≡ (if due self.old == 0 then stopped self.old refusal else self.old) }
+        ensures { self.new ≡ stopped self.old refusal }
     {
-        if self.due == 0 {
-            self.output.extend_reserved(Short::refused(refusal).bytes());
-            self.last = Some(Ending::Stopped(refusal));
-        }
+        self.output.extend_reserved(Short::refused(refusal).bytes());
+        self.last = Some(Ending::Stopped(refusal));
     }
 
     /// Queues the frame of a short reply.

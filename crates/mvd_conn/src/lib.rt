@@ -3,6 +3,7 @@
 
 mod connection;
 pub mod ending;
+pub mod laws;
 mod scan;
 
 pub use connection::Connection;

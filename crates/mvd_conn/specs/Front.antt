@@ -6,7 +6,7 @@ use Rattle.mvd_conn.specs.declared.scan.Front.{Front}
 use Rattle.mvd_conn.specs.declared.scan.Front.TheVariants.{Whole, Part, TooLong}
 use Rattle.mvd_conn.specs.declared.scan.Found.{Found}
 use Rattle.mvd_conn.specs.declared.scan.Found.TheVariants as found
-use Rattle.mvd_conn.specs.History.{Gives, History, Over, Stops, Waits, frame_most, frames_most, next_of}
+use Rattle.mvd_conn.specs.History.{Gives, History, Over, Stops, Waits, frame_most, frames_most, next_of, taking}
 use Rattle.mvd_conn.specs.Stands.{frame_of}
 
 -- the first n bytes spell a frame
@@ -33,3 +33,7 @@ IsFound h (found.Frame size) = IsWhole h.held size × (next_of h ≡ Gives (fram
 IsFound h found.End = next_of h ≡ Over
 IsFound h (found.Stops refusal) = next_of h ≡ Stops refusal
 IsFound h found.Nothing = next_of h ≡ Waits
+
+-- the frame of the first bytes is taken in hand
+abbrev pub Takes : History → ℕ → History → Type 0
+Takes old size new = new ≡ taking old (frame_of (take size old.held)) (drop size old.held)

@@ -1,7 +1,7 @@
 -- What went through a connection, and what each call makes of it.
 use Rattle.std.specs.Prelude.{◌≡◌, ℕ, ◌-◌, Bool, true, false, ◌==◌, ◌&&◌, ◌||◌, nat_le, if◌then◌else◌, List, [], ◌∷◌, ◌++◌, length, take, drop, Option, Some, None, is_some, Result, Ok, Err}
 use Rattle.mvd_dots.specs.declared.refusals.Refusal.{Refusal}
-use Rattle.mvd_dots.specs.declared.refusals.Refusal.TheVariants.{FrameTooLong, Truncated, TooManyRequests, WriteFailed}
+use Rattle.mvd_dots.specs.declared.refusals.Refusal.TheVariants.{FrameTooLong, Memory, Truncated, TooManyRequests, WriteFailed}
 use Rattle.mvd_dots.specs.Refusal.{number_of}
 use Rattle.mvd_wire.specs.declared.request.Request.TheVariants.{Bye}
 use Rattle.mvd_wire.specs.declared.reply.Reply.TheVariants.{Refused}
@@ -81,7 +81,7 @@ next_held from held (Ok (Some f, rest)) = Gives f rest
 next_held from held (Ok (None, rest)) = next_of_source from held
 next_held from held (Err refusal) = if number_of refusal == number_of FrameTooLong then Stops FrameTooLong else next_of_source from held
 
--- the first cause decides: as many frames as there may be, a whole frame, a length that no frame has, the end of the input
+-- the first cause decides: as many frames as there may be, a whole frame, a length that no frame has, the source's end
 abbrev pub next_of : History → Next
 next_of h = if length h.taken == frames_most then Stops TooManyRequests else next_held h.source h.held (frame_at h.held)
 
@@ -145,6 +145,10 @@ stepped h Waits = (false, h)
 -- whether a frame is handed out, and what the connection is then
 abbrev pub after_next : History → Bool × History
 after_next h = if is_held_up h then (false, released h) else stepped (released h) (next_of h)
+
+-- want of memory where a frame would be handed out, and none is
+abbrev pub NextRefused : History → Refusal → History → Type 0
+NextRefused old refusal new = (refusal ≡ Memory) × ((after_next old).0 ≡ true) × (new ≡ released old)
 
 -- a reply is queued
 abbrev pub replied : History → List ℕ → History

@@ -5,6 +5,7 @@ ghost use Rattle.mvd_wire.specs.declared.reply.Reply.{Reply};
 ghost use Rattle.mvd_wire.specs.Replies.{CanBeSent, reply_bytes};
 
 use crate::ending::{Ending, Source};
+use crate::room::make_room;
 use crate::scan::{Found, Front, front_of, last_after};
 use bytes::BytesMut;
 use http_server::Log;
@@ -69,9 +70,9 @@ impl Model for Connection {
 }
 
 impl Connection {
-    ghost use Rattle.mvd_conn.specs.History.{Over, Stops, WantsInput, after_next, closed, cut, due, ending_of, fed, frame_most, is_done, is_held_up, new_history, next_of, over, piece_most, released, replied, sent, stopped, taking};
-    ghost use Rattle.mvd_conn.specs.Stands.{IsBounded, IsQueued, Stands, frame_of};
-    ghost use Rattle.mvd_conn.specs.Front.{IsFound};
+    ghost use Rattle.mvd_conn.specs.History.{NextRefused, Over, Stops, WantsInput, after_next, closed, cut, due, ending_of, fed, frame_most, is_done, is_held_up, new_history, next_of, over, piece_most, released, replied, sent, stopped};
+    ghost use Rattle.mvd_conn.specs.Stands.{IsBounded, IsQueued, Stands};
+    ghost use Rattle.mvd_conn.specs.Front.{IsFound, Takes};
     ghost use Rattle.mvd_conn.specs.declared.scan.Found.TheVariants as Found;
     ghost use Rattle.mvd_conn.specs.declared.ending.Source.TheVariants as Source;
 
@@ -109,7 +110,7 @@ impl Connection {
         matches!(self.found(), Found::Nothing)
     }
 
-    /// Takes bytes that came. The frame in hand can no longer be looked at. Where memory is refused, none of them is taken.
+    /// Takes bytes that came. The frame in hand can no longer be looked at. Where memory is refused, no byte is taken.
     pub fn feed(&mut self, bytes: &[u8]) -> Result<(), Refusal>
         requires wanted { WantsInput self.old }
         requires few { length bytes.now ≤ piece_most }
@@ -138,11 +139,11 @@ impl Connection {
         self.close(Source::Failed(refusal));
     }
 
-    /// Takes the next frame in hand, or tells an end where there is one. It is `false` where no frame is taken. Where memory is
-    /// refused for the room of a short reply, no frame is taken.
+    /// Takes the next frame in hand, or tells an end where there is one. It is `false` where no frame is taken. Where
+    /// memory is refused for the room of a short reply, no frame is taken.
     pub fn next(&mut self) -> Result<bool, Refusal>
         ensures ok { IfOk result (λ more. (more, self.new) ≡ after_next self.old) }
-        ensures err { IfErr result (λ e. (e ≡ Refusal.Memory) × ((after_next self.old).0 ≡ true) × (self.new ≡ released self.old)) }
+        ensures err { IfErr result (λ e. NextRefused self.old e self.new) }
     {
         self.release();
         if self.is_held_up() {
@@ -168,8 +169,8 @@ impl Connection {
         Some((bytes[4], &bytes[5..]))
     }
 
-    /// Queues the reply to the first frame that has none. A Written, a Done and a Refused need no memory; where it is refused for any
-    /// other reply, a Refused with that is queued in its place.
+    /// Queues the reply to the first frame that has none. A Written, a Done and a Refused need no memory; where it is
+    /// refused for any other reply, a Refused with that is queued in its place.
     pub fn reply(&mut self, reply: &Reply)
         requires due { length self.old.answers < length self.old.taken }
         requires fits { CanBeSent reply.now }
@@ -281,11 +282,11 @@ impl Connection {
         requires idle { self.old.hand ≡ None }
         requires free { is_held_up self.old ≡ false }
         requires found { IsFound self.old (Found.Frame size) }
-        ensures ok { IfOk result (λ more. (more ≡ true) × (self.new ≡ taking self.old (frame_of (take size self.old.held)) (drop size self.old.held))) }
+        ensures ok { IfOk result (λ more. (more ≡ true) × Takes self.old size self.new) }
         ensures err { IfErr result (λ e. (e ≡ Refusal.Memory) × (self.new ≡ self.old)) }
     {
-        self.output
-            .reserve(SHORT_MAX * (self.due as usize + 1) + LAST_MAX)?;
+        let room = SHORT_MAX * (self.due as usize + 1) + LAST_MAX;
+        make_room(&mut self.output, room)?;
         let frame = &self.input.as_slice()[..size];
         self.last = last_after(frame[4], &frame[5..], self.last);
         self.frames = self.frames.and(&self.input, &size);
@@ -336,7 +337,7 @@ impl Connection {
         ensures no { result ≡ false → self.new ≡ self.old }
     {
         let room = frame.len() + SHORT_MAX * self.due as usize + LAST_MAX;
-        match self.output.reserve(room) {
+        match make_room(&mut self.output, room) {
             Ok(()) => {}
             Err(_) => return false,
         }

@@ -4,6 +4,7 @@
 mod connection;
 pub mod ending;
 pub mod laws;
+mod room;
 mod scan;
 
 pub use connection::Connection;

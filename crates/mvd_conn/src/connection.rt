@@ -144,6 +144,8 @@ impl Connection {
     pub fn next(&mut self) -> Result<bool, Refusal>
         ensures ok { IfOk result (λ more. (more, self.new) ≡ after_next self.old) }
         ensures err { IfErr result (λ e. NextRefused self.old e self.new) }
+        // A frame that is handed out has no reply yet.
+        ensures due { IfOk result (λ more. more ≡ true → length self.new.answers < length self.new.taken) }
     {
         self.release();
         if self.is_held_up() {
@@ -283,6 +285,7 @@ impl Connection {
         requires free { is_held_up self.old ≡ false }
         requires found { IsFound self.old (Found.Frame size) }
         ensures ok { IfOk result (λ more. (more ≡ true) × Takes self.old size self.new) }
+        ensures due { IfOk result (λ _. length self.new.answers < length self.new.taken) }
         ensures err { IfErr result (λ e. (e ≡ Refusal.Memory) × (self.new ≡ self.old)) }
     {
         let room = SHORT_MAX * (self.due as usize + 1) + LAST_MAX;

@@ -1,9 +1,9 @@
 //! What the commands of the program do: a script over several sites, and a stored site and its peers.
 #![tactic(auto)]
 
-mod endpoint;
 mod commands;
 mod ending;
+mod endpoint;
 mod hint;
 mod link;
 mod looping;
@@ -17,8 +17,8 @@ mod serving;
 mod shell;
 mod talk;
 
-pub use endpoint::Endpoint;
 pub use commands::run;
+pub use endpoint::Endpoint;
 pub use hint::{Hint, Stop};
 pub use link::{Incoming, Link, Outgoing};
 pub use looping::loop_run;

@@ -100,12 +100,7 @@ pub fn answer(site: &mut Kept, request: &Request, work: &mut Work) -> Reply
 
 /// Joins a state to that of a key, as a request to push it does, without a request: done; or the first refusal that
 /// applies, after which the site is as it was, unless it is broken.
-pub fn push(
-    site: &mut Kept,
-    key: &Key,
-    pushed: &KeyState,
-    work: &mut Work,
-) -> Result<(), Refusal>
+pub fn push(site: &mut Kept, key: &Key, pushed: &KeyState, work: &mut Work) -> Result<(), Refusal>
     ensures answer { AnswersFrom site.old site.new (Push key.now pushed.now) (push_reply result) }
     ensures joined { OnOk result (site.new ≡ record { config = site.old.config; states = with_state site.old.states key.now (join (state_at site.old.states key.now) pushed.now); broken = false }) }
     ensures agreed { OnOk result (clashes (state_at site.old.states key.now) pushed.now ≡ false) }

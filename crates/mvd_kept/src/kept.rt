@@ -216,7 +216,12 @@ impl Kept {
     }
 
     /// Whether the key is held, and its state or the empty one. This is one look.
-    fn look<'a>(&'a self, key: &Key, empty: &'a KeyState, looks: &mut Count<HeldLook>) -> (bool, &'a KeyState)
+    fn look<'a>(
+        &'a self,
+        key: &Key,
+        empty: &'a KeyState,
+        looks: &mut Count<HeldLook>,
+    ) -> (bool, &'a KeyState)
         requires { empty.now ≡ empty_state }
         ensures is_held { result.0 ≡ is_some (map.get self.now.states key.now) }
         ensures state { result.1.now ≡ state_at self.now.states key.now }

@@ -22,8 +22,8 @@ ghost use Rattle.mvd_kept.specs.Sites.{AnswersAll, AnswersOne, SiteValue, has_no
 
 use crate::work::no_work;
 use mvd_dots::Refusal;
-use mvd_keys::{Key, KeyState, Path};
 use mvd_kept::{Change, Config, Kept, Prepared, Work, counted};
+use mvd_keys::{Key, KeyState, Path};
 use mvd_start::Start;
 use mvd_wire::{Digests, Reply, Request};
 use std::alloc::Global;

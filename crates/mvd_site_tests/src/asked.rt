@@ -3,9 +3,9 @@ ghost use Rattle.mvd_site.specs.Config.{IsConfig};
 
 use mvd_docs::Document;
 use mvd_dots::{Context, Dot, Refusal};
+use mvd_kept::{Work, counted};
 use mvd_keys::{Key, KeyState};
 use mvd_rows::Defs;
-use mvd_kept::{Work, counted};
 use mvd_site::{Config, Prepared, Site};
 use mvd_start::Start;
 use mvd_wire::{Reply, Request};

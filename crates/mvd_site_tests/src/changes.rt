@@ -4,9 +4,9 @@ use crate::asked::{
     answered, comes_to, dot_of, has, holds, no_work, put, site, state_at, write, written,
 };
 use mvd_dots::{Context, Dot, Refusal};
+use mvd_kept::{Kept, Work, counted};
 use mvd_keys::{Key, KeyState};
 use mvd_rows::Defs;
-use mvd_kept::{Kept, Work, counted};
 use mvd_site::{Change, Config, Prepared, Site};
 use mvd_start::Start;
 use mvd_wire::{Reply, Request, encode_state};

@@ -14,7 +14,9 @@ use crate::limits::{FRAME_LIMIT, PAGE_LIMIT, STATE_LIMIT};
 use crate::many::{write_optional, write_page};
 use crate::reply::{Digests, Reply, RowValue};
 use crate::request::Request;
-use crate::row_writing::{write_digests, write_field, write_path, write_row, write_term, write_view_name};
+use crate::row_writing::{
+    write_digests, write_field, write_path, write_row, write_term, write_view_name,
+};
 use crate::short::Short;
 use crate::spelled::Spelled;
 use crate::writing::{write_context, write_document, write_key, write_state};

@@ -45,5 +45,15 @@ returns c =
     let answers : AnswersFrom old new (Push key pushed) (push_reply result) =
     pushed_by_install old new key pushed c.in-Ok-Change.change result c.install.ensures.ok c.install.ensures.err (λ _. prepared) in
     let facts = push_facts old new key pushed result whole answers in
-    record { answer = answers; joined = facts.joined; agreed = facts.agreed; clash = facts.clash; unchanged = facts.unchanged; told = facts.told; stays = λ broken. absurd (not_broken old.broken whole broken); valid = on_ok result c.in-Ok-Change.ensures.valid; idle = λ broken. absurd (not_broken old.broken whole broken);
-        costs = wrote old (Push key pushed) c.in-Ok-Change.change _ _ _ prepared (looked c.args.work.now c.prepare_push.new.looks c.prepare_push.ensures.looked) c.install.ensures.costs }
+    record {
+      answer = answers;
+      joined = facts.joined;
+      agreed = facts.agreed;
+      clash = facts.clash;
+      unchanged = facts.unchanged;
+      told = facts.told;
+      stays = λ broken. absurd (not_broken old.broken whole broken);
+      valid = on_ok result c.in-Ok-Change.ensures.valid;
+      idle = λ broken. absurd (not_broken old.broken whole broken);
+      costs = wrote old (Push key pushed) c.in-Ok-Change.change _ _ _ prepared (looked c.args.work.now c.prepare_push.new.looks c.prepare_push.ensures.looked) c.install.ensures.costs;
+    }

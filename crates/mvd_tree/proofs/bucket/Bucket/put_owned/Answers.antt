@@ -10,7 +10,7 @@ invariant_of-self c =
     record {
       read = subst (AreRead _) (sym c.truncate.ensures.items) (read_set c.self.inside.entries.items c.self.inside.midstates.items c.find-below.result.0 _ c.self.invariant.read (omega (arith, ap length c.deref.ensures.value, c.find-below.ensures.within)));
       sorted = (after_put c.self.inside.entries.items _ c.args.self.now c.args.key c.args.digest c.self.invariant.sorted c.self.view_is
-    (put_held c.args.key c.args.digest c.self.inside.entries.items c.find-below.result.0 c.index_mut-entry.result.now c.index_mut-entry.ensures.value (rw c.deref.ensures.value at at))).0;
+          (put_held c.args.key c.args.digest c.self.inside.entries.items c.find-below.result.0 c.index_mut-entry.result.now c.index_mut-entry.ensures.value (rw c.deref.ensures.value at at))).0;
     }
 
 pub returns-then-held : goal.returns-then-held

@@ -10,7 +10,7 @@ invariant_of-self c =
     record {
       read = subst₂ AreRead (sym c.remove.ensures.items) (sym c.truncate.ensures.items) (read_remove c.self.inside.entries.items c.self.inside.midstates.items c.find-below.result.0 c.self.invariant.read (omega (arith, ap length c.deref.ensures.value, c.find-below.ensures.held c.if-held.true)));
       sorted = (after_remove c.self.inside.entries.items c.remove.new.self.items c.args.self.now c.args.key.now c.self.invariant.sorted c.self.view_is
-    (others_held c.args.key.now c.self.inside.entries.items c.find-below.result.0 (rw c.deref.ensures.value at at) ∙ sym c.remove.ensures.items)).0;
+          (others_held c.args.key.now c.self.inside.entries.items c.find-below.result.0 (rw c.deref.ensures.value at at) ∙ sym c.remove.ensures.items)).0;
     }
 
 pub returns-then-held : goal.returns-then-held

@@ -1,6 +1,6 @@
 -- What a session knows of a side.
 use Rattle.std.proofs.Common.{refl, sym, subst, ◌∙◌}
-use Rattle.std.specs.Prelude.{◌≡◌, ◌⊎◌, ◌+◌, ◌≤◌, ℕ, Bool, true, false, Option, List, Contains, Result, Ok, Err}
+use Rattle.std.specs.Prelude.{◌≡◌, ◌⊎◌, ◌+◌, ◌≤◌, ℕ, Bool, true, false, Option}
 use Rattle.mvd_dots.specs.declared.refusals.Refusal.{Refusal}
 use Rattle.mvd_dots.specs.declared.refusals.Refusal.TheVariants.{BadBody, BadPath, Broken, DotClash, Full, Memory, StateTooLarge, TooManyRequests}
 use Rattle.mvd_keys.specs.State.{State}
@@ -55,15 +55,6 @@ HasRefused {S} follows can_refuse old new refusal = (mid : S) × Reaches follows
 -- a side that answers nothing, and by no question comes to answer
 abbrev pub IsSilent : {S : Type 0} → (ℕ → S → S → Type 0) → (S → Type 0) → S → Type 0
 IsSilent {S} follows can_answer old = (after : S) → Reaches follows old after → can_answer after → ⊥
-
--- Many questions at once took no more than one each, and all of them where they were answered
-abbrev pub Takes : {S A : Type 0} → (ℕ → S → S → Type 0) → ℕ → S → S → Result (List A) Refusal → Type 0
-Takes follows count old new (Ok answers) = follows count old new
-Takes follows count old new (Err refusal) = Within follows count old new
-
--- a refusal of one of the answers
-abbrev pub TellsRefusal : {A : Type 0} → List (Result A Refusal) → Refusal → Type 0
-TellsRefusal answers refusal = Contains answers (Err refusal)
 
 -- a refusal of one key alone: 9, 10 or 11
 abbrev pub is_of_key : Refusal → Bool

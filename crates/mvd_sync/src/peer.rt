@@ -1,5 +1,5 @@
 //! What a session asks of a side.
-ghost use Rattle.std.specs.Prelude.{◌≡◌, ◌≢◌, ◌<◌, ◌≤◌, ◌+◌, ℕ, List, Option, Result, length, true, false, IfOk, IfErr, OnOk, Ok, Err, Some, None, map};
+ghost use Rattle.std.specs.Prelude.{◌≡◌, ◌≢◌, ◌<◌, ◌≤◌, ◌+◌, ℕ, List, Option, Result, length, true, false, IfOk, IfErr, OnOk, OnErr, Ok, Err, Some, None};
 ghost use Rattle.std.specs.Option.{option_copied};
 ghost use Rattle.mvd_dots.specs.declared.refusals.Refusal.{Refusal};
 ghost use Rattle.mvd_keys.specs.State.{State, clashes};
@@ -8,9 +8,8 @@ ghost use Rattle.mvd_tree.specs.HashTree.{node_digest};
 ghost use Rattle.mvd_tree.specs.Page.{children_digests, is_more_after_page, page_of};
 ghost use Rattle.mvd_site.specs.Held.{AreHeld, States, state_at};
 ghost use Rattle.mvd_site.specs.Answer.{digests};
-ghost use Rattle.mvd_sync.specs.Session.{Each, pushed};
-ghost use Rattle.mvd_sync.specs.Sides.{HasAnswered, HasRefused, Takes, TellsRefusal, Within};
-ghost use Rattle.mvd_sync.specs.Windows.{Answers, CannotTake, IsGiven, IsNode, IsPage, Pushes, PushesFirst, Told};
+ghost use Rattle.mvd_sync.specs.Session.{pushed};
+ghost use Rattle.mvd_sync.specs.Windows.{Asked, CannotTake, Ends, IsNode, Pushes, PushesFirst};
 
 use crate::windows::{is_over, room_for};
 use mvd_dots::Refusal;
@@ -101,13 +100,10 @@ pub trait Peer {
 
     /// The digests of several nodes.
     fn nodes(&mut self, paths: &[Path]) -> Result<Vec<Result<Digests, Refusal>>, Refusal>
-        ensures count { IfOk result (λ told. length told.items ≡ length paths.now) }
         ensures kept { is_faithful self.old → is_faithful self.new × (states self.new ≡ states self.old) }
-        ensures answer { is_faithful self.old → IfOk result (λ told. Answers (IsNode (digests (states self.old))) paths.now told.items) }
-        ensures follows { Takes follows (length paths.now) self.old self.new (Told result) }
-        ensures refuses { IfErr result (MayEnd follows can_refuse self.old self.new) }
-        ensures refused { IfOk result (λ told. (refusal : Refusal) → TellsRefusal told.items refusal → HasRefused follows can_refuse self.old self.new refusal) }
-        ensures answers { IfOk result (λ told. TellsAnswer told.items → HasAnswered follows can_answer self.old self.new) }
+        ensures told { IfOk result (λ told. Asked follows can_refuse can_answer (λ _ _. Unit {0}) (IsNode (digests (states self.old))) (is_faithful self.old) paths.now told.items self.old self.new) }
+        ensures ended { IfErr result (Ends follows can_refuse (length paths.now) self.old self.new) }
+        ensures no_clash { is_faithful self.old → IfErr result (λ refusal. refusal ≢ Refusal.DotClash) }
     {
         let mut told = room_for(self.alloc(), paths.len())?;
         for path in paths {
@@ -121,7 +117,12 @@ pub trait Peer {
     }
 
     /// Pages of several buckets, each after a key.
-    fn pages(&mut self, asked: &[(Path, Option<Key>)]) -> Result<Vec<Result<Page, Refusal>>, Refusal> {
+    fn pages(&mut self, asked: &[(Path, Option<Key>)]) -> Result<Vec<Result<Page, Refusal>>, Refusal>
+        ensures kept { is_faithful self.old → is_faithful self.new × (states self.new ≡ states self.old) }
+        ensures told { IfOk result (λ told. Asked follows can_refuse can_answer (λ _ _. Unit {0}) (λ q page. (page.0.items ≡ page_of (digests (states self.old)) q.0 q.1) × (page.1 ≡ is_more_after_page (digests (states self.old)) q.0 q.1)) (is_faithful self.old) asked.now told.items self.old self.new) }
+        ensures ended { IfErr result (Ends follows can_refuse (length asked.now) self.old self.new) }
+        ensures no_clash { is_faithful self.old → IfErr result (λ refusal. refusal ≢ Refusal.DotClash) }
+    {
         let mut told = room_for(self.alloc(), asked.len())?;
         for (path, after) in asked {
             let answer = self.bucket(path, after.as_ref());
@@ -134,7 +135,12 @@ pub trait Peer {
     }
 
     /// The states of several keys.
-    fn get_all(&mut self, keys: &[Key]) -> Result<Vec<Result<KeyState, Refusal>>, Refusal> {
+    fn get_all(&mut self, keys: &[Key]) -> Result<Vec<Result<KeyState, Refusal>>, Refusal>
+        ensures kept { is_faithful self.old → is_faithful self.new × (states self.new ≡ states self.old) }
+        ensures told { IfOk result (λ told. Asked follows can_refuse can_answer (can_give) (λ key state. state ≡ state_at (states self.old) key) (is_faithful self.old) keys.now told.items self.old self.new) }
+        ensures ended { IfErr result (Ends follows can_refuse (length keys.now) self.old self.new) }
+        ensures no_clash { is_faithful self.old → IfErr result (λ refusal. refusal ≢ Refusal.DotClash) }
+    {
         let mut told = room_for(self.alloc(), keys.len())?;
         for key in keys {
             let answer = self.get(key);
@@ -147,7 +153,14 @@ pub trait Peer {
     }
 
     /// Joins each state to that of its key.
-    fn push_all(&mut self, pairs: &[(Key, KeyState)]) -> Result<Vec<Result<(), Refusal>>, Refusal> {
+    fn push_all(&mut self, pairs: &[(Key, KeyState)]) -> Result<Vec<Result<(), Refusal>>, Refusal>
+        ensures told { IfOk result (λ told. Asked follows can_refuse can_answer (λ _ _. Unit {0}) (λ _ _. Unit {0}) ⊥ pairs.now told.items self.old self.new) }
+        ensures pushes { is_faithful self.old → IfOk result (λ told. is_faithful self.new × Pushes (most_keys self.old) (states self.old) pairs.now told.items (states self.new)) }
+        ensures ended { IfErr result (Ends follows can_refuse (length pairs.now) self.old self.new) }
+        ensures no_clash { is_faithful self.old → IfErr result (λ refusal. refusal ≢ Refusal.DotClash) }
+        ensures unbroken { is_faithful self.old → IfErr result (λ refusal. refusal ≢ Refusal.Broken → is_faithful self.new) }
+        ensures first { is_faithful self.old → is_faithful self.new → OnErr result (PushesFirst (most_keys self.old) (states self.old) pairs.now (states self.new)) }
+    {
         let mut told = room_for(self.alloc(), pairs.len())?;
         for (key, state) in pairs {
             let answer = self.push(key, state);

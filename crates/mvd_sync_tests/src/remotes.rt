@@ -218,7 +218,7 @@ fn window_ends(alloc: Global) -> Result<bool, Refusal> {
     Ok(
         ended == Err(Refusal::Truncated)
             && again == Err(Refusal::Truncated)
-            && written.len() == 3 * 49,
+            && written.len() == 3 * 47,
     )
 }
 

@@ -4,5 +4,5 @@ pub mod Keys
 pub mod Below
 pub mod Pages
 pub mod Rest
-pub mod Windows
+pub mod OneByOne
 pub mod SiteSides

@@ -16,15 +16,15 @@ use Rattle.mvd_sync.specs.Sides.{HasAnswered, HasRefused, Within}
 -- each question with its answer, and this of each answer that is no refusal
 abbrev pub EachAnswer : {Q A : Type 0} → (Q → A → Type 0) → List Q → List (Result A Refusal) → Type 0
 EachAnswer P [] [] = Unit {0}
-EachAnswer P (q ∷ qs) (Ok a ∷ as) = P q a × EachAnswer P qs as
-EachAnswer P (q ∷ qs) (Err refusal ∷ as) = EachAnswer P qs as
-EachAnswer P qs as = ⊥
+EachAnswer P (q ∷ qs) (Ok a ∷ ts) = P q a × EachAnswer P qs ts
+EachAnswer P (q ∷ qs) (Err refusal ∷ ts) = EachAnswer P qs ts
+EachAnswer P qs ts = ⊥
 
 -- this of each answer, and that of each refusal
 abbrev pub EachTold : {A : Type 0} → Type 0 → (Refusal → Type 0) → List (Result A Refusal) → Type 0
 EachTold P R [] = Unit {0}
-EachTold P R (Ok a ∷ as) = P × EachTold P R as
-EachTold P R (Err refusal ∷ as) = R refusal × EachTold P R as
+EachTold P R (Ok a ∷ ts) = P × EachTold P R ts
+EachTold P R (Err refusal ∷ ts) = R refusal × EachTold P R ts
 
 -- a node's digest and, above the buckets, those of its children
 abbrev pub IsNode : KeyDigests → List ℕ → Digests → Type 0
@@ -54,10 +54,10 @@ CannotTake most states key state refusal = Unit {0}
 -- States pushed one after the other, each taken, or refused for its cause
 abbrev pub Pushes : ℕ → States → List (Key × State) → List (Result (Unit {0}) Refusal) → States → Type 0
 Pushes most old [] [] new = new ≡ old
-Pushes most old (p ∷ ps) (Ok done ∷ as) new = (clashes (state_at old p.0) p.1 ≡ false) × Pushes most (pushed old p.0 p.1) ps as new
-Pushes most old (p ∷ ps) (Err refusal ∷ as) new = CannotTake most old p.0 p.1 refusal × Pushes most old ps as new
-Pushes most old ps as new = ⊥
+Pushes most old (p ∷ ps) (Ok done ∷ ts) new = (clashes (state_at old p.0) p.1 ≡ false) × Pushes most (pushed old p.0 p.1) ps ts new
+Pushes most old (p ∷ ps) (Err refusal ∷ ts) new = CannotTake most old p.0 p.1 refusal × Pushes most old ps ts new
+Pushes most old ps ts new = ⊥
 
 -- the first of them alone
 abbrev pub PushesFirst : ℕ → States → List (Key × State) → States → Type 0
-PushesFirst most old ps new = (n : ℕ) × (as : List (Result (Unit {0}) Refusal)) × Pushes most old (take n ps) as new
+PushesFirst most old ps new = (n : ℕ) × (ts : List (Result (Unit {0}) Refusal)) × Pushes most old (take n ps) ts new

@@ -1,4 +1,6 @@
 //! The walk from the root to the buckets that differ, level by level.
+ghost use Rattle.std.specs.Prelude.{◌≡◌, ◌<◌, ◌++◌, ◌∷◌, [], ◌↔◌, length, IfOk, IfErr, IsTrue};
+
 use crate::peer::Peer;
 use crate::questions::{Node, Questions, ask_nodes};
 use crate::report::SyncFault;

@@ -1,8 +1,8 @@
 //! What a session has left of a side's page of a bucket.
-ghost use Rattle.std.specs.Prelude.{◌≡◌, ◌≢◌, ◌+◌, ◌*◌, ◌≤◌, [], ◌∷◌, length, IfOk, IfErr, IfSome, IfNone, OnSome, ◌<◌, ◌^◌, OnOk, MatchOption, option_copied, false};
+ghost use Rattle.std.specs.Prelude.{◌≡◌, ◌≢◌, ◌+◌, ◌-◌, ◌*◌, ◌≤◌, [], ◌∷◌, length, IfOk, IfErr, IfSome, IfNone, OnSome, ◌<◌, ◌^◌, OnOk, MatchOption, option_copied, false};
 ghost use Rattle.mvd_site.specs.Answer.{digests};
 ghost use Rattle.mvd_sync.specs.Answers.{IsListing, TakesNext, order_of_first};
-ghost use Rattle.mvd_sync.specs.Sides.{Blames};
+ghost use Rattle.mvd_sync.specs.Sides.{Stops};
 
 use crate::levels::is_same;
 use crate::peer::{Page, Peer};
@@ -78,8 +78,8 @@ impl Listing {
         ensures kept { P.is_faithful side.old → P.is_faithful side.new × (P.states side.new ≡ P.states side.old) }
         ensures page { P.is_faithful side.old → IfOk result (λ page. IsListing (digests (P.states side.old)) path.now (option_copied after.entry) page.0 page.1) }
         ensures no_clash { P.is_faithful side.old → IfErr result (λ refusal. refusal ≢ Refusal.DotClash) }
-        ensures follows { P.follows side.old side.new }
-        ensures refuses { IfErr result (Blames (P.can_refuse side.new)) }
+        ensures follows { P.follows (left.old - left.new) side.old side.new }
+        ensures refuses { IfErr result (Stops P.follows P.can_refuse (P.is_faithful side.old) left.new side.old side.new) }
         ensures answers { OnOk result (P.can_answer side.new) }
         ensures more { IfOk result (λ page. page.0 ≡ [] → page.1 ≡ false) }
         ensures left { OnOk result (left.new + 1 ≡ left.old) }
@@ -101,8 +101,8 @@ impl Listing {
         ensures kept { P.is_faithful side.old → P.is_faithful side.new × (P.states side.new ≡ P.states side.old) }
         ensures page { P.is_faithful side.old → IsListing (digests (P.states side.old)) path.now (option_copied after.entry) self.old.0 self.old.1 → OnOk result (IsListing (digests (P.states side.old)) path.now (option_copied after.entry) self.new.0 self.new.1) }
         ensures no_clash { P.is_faithful side.old → IfErr result (λ refusal. refusal ≢ Refusal.DotClash) }
-        ensures follows { P.follows side.old side.new }
-        ensures refuses { IfErr result (Blames (P.can_refuse side.new)) }
+        ensures follows { P.follows (left.old - left.new) side.old side.new }
+        ensures refuses { IfErr result (Stops P.follows P.can_refuse (P.is_faithful side.old) left.new side.old side.new) }
         ensures answers { P.can_answer side.old → OnOk result (P.can_answer side.new) }
         ensures more { OnOk result (self.new.0 ≡ [] → self.new.1 ≡ false) }
         ensures measure { OnOk result (2 ^ 64 * left.new + length self.new.0 ≤ 2 ^ 64 * left.old + length self.old.0) }

@@ -6,23 +6,23 @@ use Rattle.mvd_dots.specs.declared.refusals.Refusal.TheVariants.{DotClash}
 use Rattle.mvd_sync.specs.Sides.{HasAnswered, HasRefused, Reaches}
 use Rattle.mvd_sync.specs.Windows.{Asked, EachAnswer, EachTold}
 
-pub each_more : {Q A : Type 0} (P : Q → A → Type 0) (qs : List Q) (as : List (Result A Refusal)) (q : Q) (a : Result A Refusal) → EachAnswer P qs as → EachAnswer P (q ∷ []) (a ∷ []) → EachAnswer P (qs ++ q ∷ []) (as ++ a ∷ [])
+pub each_more : {Q A : Type 0} (P : Q → A → Type 0) (qs : List Q) (ts : List (Result A Refusal)) (q : Q) (a : Result A Refusal) → EachAnswer P qs ts → EachAnswer P (q ∷ []) (a ∷ []) → EachAnswer P (qs ++ q ∷ []) (ts ++ a ∷ [])
 each_more P [] [] q a h i = i
-each_more P [] (Ok x ∷ as) q a h i = absurd h
-each_more P [] (Err x ∷ as) q a h i = absurd h
+each_more P [] (Ok x ∷ ts) q a h i = absurd h
+each_more P [] (Err x ∷ ts) q a h i = absurd h
 each_more P (p ∷ qs) [] q a h i = absurd h
-each_more P (p ∷ qs) (Ok x ∷ as) q a h i = (h.0, each_more P qs as q a h.1 i)
-each_more P (p ∷ qs) (Err x ∷ as) q a h i = each_more P qs as q a h i
+each_more P (p ∷ qs) (Ok x ∷ ts) q a h i = (h.0, each_more P qs ts q a h.1 i)
+each_more P (p ∷ qs) (Err x ∷ ts) q a h i = each_more P qs ts q a h i
 
-pub told_more : {A : Type 0} (P : Type 0) (R : Refusal → Type 0) (as : List (Result A Refusal)) (a : Result A Refusal) → EachTold P R as → EachTold P R (a ∷ []) → EachTold P R (as ++ a ∷ [])
+pub told_more : {A : Type 0} (P : Type 0) (R : Refusal → Type 0) (ts : List (Result A Refusal)) (a : Result A Refusal) → EachTold P R ts → EachTold P R (a ∷ []) → EachTold P R (ts ++ a ∷ [])
 told_more P R [] a h i = i
-told_more P R (Ok x ∷ as) a h i = (h.0, told_more P R as a h.1 i)
-told_more P R (Err x ∷ as) a h i = (h.0, told_more P R as a h.1 i)
+told_more P R (Ok x ∷ ts) a h i = (h.0, told_more P R ts a h.1 i)
+told_more P R (Err x ∷ ts) a h i = (h.0, told_more P R ts a h.1 i)
 
-pub told_still : {A : Type 0} (P Q : Type 0) (R T : Refusal → Type 0) (as : List (Result A Refusal)) → (P → Q) → ((r : Refusal) → R r → T r) → EachTold P R as → EachTold Q T as
+pub told_still : {A : Type 0} (P Q : Type 0) (R T : Refusal → Type 0) (ts : List (Result A Refusal)) → (P → Q) → ((r : Refusal) → R r → T r) → EachTold P R ts → EachTold Q T ts
 told_still P Q R T [] f g h = tt
-told_still P Q R T (Ok x ∷ as) f g h = (f h.0, told_still P Q R T as f g h.1)
-told_still P Q R T (Err x ∷ as) f g h = (g x h.0, told_still P Q R T as f g h.1)
+told_still P Q R T (Ok x ∷ ts) f g h = (f h.0, told_still P Q R T ts f g h.1)
+told_still P Q R T (Err x ∷ ts) f g h = (g x h.0, told_still P Q R T ts f g h.1)
 
 -- what one question tells
 pub one_told : {A : Type 0} (P : Type 0) (R : Refusal → Type 0) (a : Result A Refusal) → OnOk a P → IfErr a R → EachTold P R (a ∷ [])
@@ -66,8 +66,8 @@ module _ {S Q A : Type 0} (follows : ℕ → S → S → Type 0) (can_refuse : S
   }
 
   -- one question more
-  module _ (May Right : Q → A → Type 0) (T : Type 0) (old mid new : S) (qs : List Q) (as : List (Result A Refusal)) (q : Q) (a : Result A Refusal) where
-    pub one_more : Asked follows can_refuse can_answer May Right T qs as old mid → follows 1 mid new → IfOk a (May q) → (T → IfOk a (Right q)) → IfErr a (can_refuse new) → OnOk a (can_answer new) → (T → IfErr a (λ refusal. refusal ≢ DotClash)) → Asked follows can_refuse can_answer May Right T (qs ++ q ∷ []) (as ++ a ∷ []) old new
+  module _ (May Right : Q → A → Type 0) (T : Type 0) (old mid new : S) (qs : List Q) (ts : List (Result A Refusal)) (q : Q) (a : Result A Refusal) where
+    pub one_more : Asked follows can_refuse can_answer May Right T qs ts old mid → follows 1 mid new → IfOk a (May q) → (T → IfOk a (Right q)) → IfErr a (can_refuse new) → OnOk a (can_answer new) → (T → IfErr a (λ refusal. refusal ≢ DotClash)) → Asked follows can_refuse can_answer May Right T (qs ++ q ∷ []) (ts ++ a ∷ []) old new
     one_more before step may right refuses answers no_clash =
         let way : Reaches follows old mid = (length qs, before.count) in
         let last : Reaches follows mid new = (1, step) in
@@ -76,10 +76,10 @@ module _ {S Q A : Type 0} (follows : ℕ → S → S → Type 0) (can_refuse : S
         let U = HasAnswered follows can_answer old new in
         record {
           count = subst (λ n. follows n old new) (sym longer) (on (length qs) 1 old mid new before.count step);
-          may = each_more May qs as q a before.may (one_answer May q a may);
-          right = λ t. each_more Right qs as q a (before.right t) (one_answer Right q a (right t));
-          told = told_more U R as a
-              (told_still (HasAnswered follows can_answer old mid) U (HasRefused follows can_refuse old mid) R as (answered_on old mid new last) (λ r. refused_on old mid new r last) before.told)
+          may = each_more May qs ts q a before.may (one_answer May q a may);
+          right = λ t. each_more Right qs ts q a (before.right t) (one_answer Right q a (right t));
+          told = told_more U R ts a
+              (told_still (HasAnswered follows can_answer old mid) U (HasRefused follows can_refuse old mid) R ts (answered_on old mid new last) (λ r. refused_on old mid new r last) before.told)
               (one_told U R a (ok_still a answers (answered_now old mid new way last)) (err_still a refuses (λ r. refused_now old mid new r way last)));
-          no_clash = λ t. told_more (Unit {0}) (λ r. r ≢ DotClash) as a (before.no_clash t) (one_told (Unit {0}) (λ r. r ≢ DotClash) a (ok_still a answers (λ _. tt)) (no_clash t));
+          no_clash = λ t. told_more (Unit {0}) (λ r. r ≢ DotClash) ts a (before.no_clash t) (one_told (Unit {0}) (λ r. r ≢ DotClash) a (ok_still a answers (λ _. tt)) (no_clash t));
         }

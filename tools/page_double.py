@@ -4,6 +4,7 @@
 It answers the HTTP interface as docs/BEHAVIOUR.md describes the site: a multi-value register for each key, with dots and
 contexts; indexes, views, and the hash tree by walking over all keys. Nothing is stored. It serves the page at `/`.
 """
+import functools
 import hashlib
 import json
 import re
@@ -122,6 +123,11 @@ def dot_text(dot):
     return f"{dot[0]}:{dot[1]}"
 
 
+@functools.cache
+def place(key):
+    return hashlib.sha256(key.encode()).hexdigest()[:3]
+
+
 class Site:
     """One site: for each key its siblings, from dot to document, and its context, a set of dots."""
 
@@ -175,13 +181,14 @@ class Site:
         return hashlib.sha256(spelled).digest()
 
     def under(self, path):
-        return [key for key in sorted(self.states) if hashlib.sha256(key.encode()).hexdigest().startswith(path)]
+        return [key for key in sorted(self.states) if place(key).startswith(path)]
 
-    def node(self, path):
-        keys = self.under(path)
+    def node(self, path, above=None):
+        """The digest of a node. `above` has the keys of the node above it, where they are known."""
+        keys = self.under(path) if above is None else [key for key in above if place(key).startswith(path)]
         if not keys:
             return ZERO
-        parts = map(self.digest, keys) if len(path) == 3 else (self.node(f"{path}{digit:x}") for digit in range(16))
+        parts = map(self.digest, keys) if len(path) == 3 else (self.node(f"{path}{digit:x}", keys) for digit in range(16))
         return hashlib.sha256(b"".join(parts)).digest()
 
 

@@ -166,6 +166,21 @@ def meets_others(browser, other):
     browser.look_up("nobody", "does not hold this key")
 
 
+def loses_the_link(browser, other):
+    other.put("link", {"a": 1})
+    browser.look_up("link", "One sibling")
+    browser.set("#document", '{"a":2}')
+    browser.driver.execute_cdp_cmd("Network.enable", {})
+    conditions = {"latency": 0, "downloadThroughput": -1, "uploadThroughput": -1}
+    browser.driver.execute_cdp_cmd("Network.emulateNetworkConditions", {"offline": True, **conditions})
+    browser.press("#write")
+    browser.until("tells that no answer came", "#outcome", "The write may have been kept or not")
+    is_so("and keeps what was typed", browser.run("return document.querySelector('#document').value") == '{"a":2}')
+    browser.driver.execute_cdp_cmd("Network.emulateNetworkConditions", {"offline": False, **conditions})
+    browser.press("#write")
+    browser.until("and writes it later", "#outcome", "Written as 1:2.")
+
+
 def shows_text(browser, other):
     other.put("bad", {"note": "<script>window.hit=1</script><img src=x onerror='window.hit=1'>"})
     browser.look_up("bad", "One sibling")
@@ -227,10 +242,12 @@ def by_keyboard(browser, other):
 
 
 def test(folder, url):
+    asked = None
     if url is None:
         from page_double import serve
         server = serve(PAGE.read_bytes, {"Content-Security-Policy": policy()}, 50)
         url = f"http://127.0.0.1:{server.server_address[1]}"
+        asked = server.RequestHandlerClass.asked
     url = url.rstrip("/")
     with urllib.request.urlopen(url + "/") as response:
         is_so("the policy is the page's", response.headers["Content-Security-Policy"] == policy() == LINE.search(PAGE.read_text())[1])
@@ -244,12 +261,18 @@ def test(folder, url):
         pictures(browser, folder)
         resolves(browser, other)
         meets_others(browser, other)
+        if asked is not None:
+            contexts = [(method, context) for method, path, context in asked if path == "/keys/ada" and context is not None]
+            wanted = [("PUT", "1:2"), ("PUT", "1:3"), ("PUT", "1:4"), ("DELETE", "1:6")]
+            is_so("each write has just the context that was shown", contexts == wanted, contexts)
         shows_text(browser, other)
         lists(browser, other)
+        loses_the_link(browser, other)
         by_keyboard(browser, other)
         loaded = browser.run("return performance.getEntriesByType('resource').map((one) => one.name)")
         is_so("loads nothing from elsewhere", all(name.startswith((url, "data:")) for name in loaded))
-        faults = [entry["message"] for entry in browser.driver.get_log("browser") if "status of 40" not in entry["message"]]
+        faults = [entry["message"] for entry in browser.driver.get_log("browser")
+                  if "status of 40" not in entry["message"] and "ERR_INTERNET_DISCONNECTED" not in entry["message"]]
         is_so("the browser tells of no fault", not faults, "; ".join(faults))
     finally:
         browser.driver.quit()

@@ -35,8 +35,8 @@ impl<K> Count<K> {
         }
     }
 
-    /// How much was done.
-    pub fn made(&self) -> u64
+    /// How much was done. What is counted cannot read its count, and so not wait until it is full.
+    pub fn made(&self, _start: &Start) -> u64
         ensures { result ≡ self.now }
     {
         self.made

@@ -79,6 +79,13 @@ pub refused_looks : (refusal : Refusal) (old new : Meter) → Within 0 1002 old 
 refused_looks Memory old new most none = most
 refused_looks refusal old new most none = none (λ is. cc)
 
+-- what is refused for another cause than memory looks at nothing
+pub refused_unlooked : (refusal : Refusal) (old new : Meter) → Within 0 0 old new → Within 0 (page_looks (Refused refusal)) old new
+refused_unlooked refusal old new none = refused_looks refusal old new (record { updates = none.updates; looks = wider _ _ none.looks; least_updates = none.least_updates; least_looks = none.least_looks }) (λ other. none)
+  where
+    wider : (x y : ℕ) → y ≤ x + 0 → y ≤ x + 1002
+    wider x y e = omega arith
+
 -- a change was put in: the tree of the digests before has grown, and the rows have followed
 pub put_in_costs : (config : ConfigValue) (states : States) (broken : Bool) (tree grown : KeyDigests) (rows : Kept) (key k : Key) (s t : State) (old new : Work) (first then : Hashed)
     → KeepsKeys config states tree rows broken → broken ≡ false → k ≡ key → t ≡ s

@@ -13,7 +13,7 @@ use Rattle.mvd_tree.specs.Counted.{keys_beside}
 use Rattle.mvd_wire.specs.declared.request.Request.{Request}
 use Rattle.mvd_wire.specs.declared.request.Request.TheVariants.{Get, Put, Delete, Find, Row, Rows, Node, Bucket, Push, Range, Bye}
 use Rattle.mvd_wire.specs.declared.reply.Reply.{Reply}
-use Rattle.mvd_wire.specs.declared.reply.Reply.TheVariants.{Places, Rows as RowsTold, Refused}
+use Rattle.mvd_wire.specs.declared.reply.Reply.TheVariants.{Places, Row as RowTold, Rows as RowsTold, Refused}
 use Rattle.mvd_kept.specs.Answer.{digests, spelled}
 use Rattle.mvd_kept.specs.FromStates.{after_from, answer_from, change_from}
 use Rattle.mvd_kept.specs.Held.{state_at}
@@ -36,8 +36,10 @@ pub record Costs (held looks updates computations bytes : ℕ) (old new : Work) 
   pub on_rows : Within updates looks old.rows new.rows
   pub hashes : Hashes computations bytes old.hashed new.hashed
 
--- a page takes as many looks at kept rows as it has entries, and two more; one for which memory is refused may take those of a whole page
+-- A row takes a look at kept rows, and a page as many as it has entries, and two more. One for which memory is refused may
+-- take those of a whole page; what is refused for another cause takes none.
 abbrev pub page_looks : Reply → ℕ
+page_looks (RowTold row) = 1
 page_looks (Places page more) = length page + 2
 page_looks (RowsTold page more) = length page + 2
 page_looks (Refused Memory) = 1002
@@ -57,7 +59,7 @@ PrepareCosts (Push key pushed) prepared = Costs 1 0 0 0 0
 PrepareCosts (Find field term after) prepared = Costs 0 (prepared_looks prepared) 0 0 0
 PrepareCosts (Range field from to after) prepared = Costs 0 (prepared_looks prepared) 0 0 0
 PrepareCosts (Rows view after) prepared = Costs 0 (prepared_looks prepared) 0 0 0
-PrepareCosts (Row view term) prepared = Costs 0 1 0 0 0
+PrepareCosts (Row view term) prepared = Costs 0 (prepared_looks prepared) 0 0 0
 PrepareCosts (Node path) prepared = Costs 0 0 0 0 0
 PrepareCosts (Bucket path after) prepared = Costs 0 0 0 0 0
 PrepareCosts Bye prepared = Costs 0 0 0 0 0
@@ -85,7 +87,7 @@ AnswerCosts site (Push key pushed) reply = WriteCosts site (Push key pushed)
 AnswerCosts site (Find field term after) reply = Costs 0 (page_looks reply) 0 0 0
 AnswerCosts site (Range field from to after) reply = Costs 0 (page_looks reply) 0 0 0
 AnswerCosts site (Rows view after) reply = Costs 0 (page_looks reply) 0 0 0
-AnswerCosts site (Row view term) reply = Costs 0 1 0 0 0
+AnswerCosts site (Row view term) reply = Costs 0 (page_looks reply) 0 0 0
 AnswerCosts site (Node path) reply = Costs 0 0 0 0 0
 AnswerCosts site (Bucket path after) reply = Costs 0 0 0 0 0
 AnswerCosts site Bye reply = Costs 0 0 0 0 0

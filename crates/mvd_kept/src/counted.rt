@@ -33,6 +33,7 @@ pub fn prepare(site: &Kept, request: &Request, work: &mut Work) -> Result<Prepar
     // A question of a node or of a row, Bye, and a push of what is held already take no memory.
     ensures frugal { IsFrugal site.now.states request.now → IfErr result (λ refusal. refusal ≢ Memory) }
     ensures costs { PrepareCosts request.now result work.old work.new }
+    ensures idle { site.now.broken ≡ true → work.new ≡ work.old }
 {
     site.prepare(request, work)
 }
@@ -43,6 +44,7 @@ pub fn get(site: &Kept, key: &Key, work: &mut Work) -> Result<KeyState, Refusal>
     ensures state { IfOk result (λ state. state ≡ state_at site.now.states key.now) }
     ensures refused { IfErr result (λ refusal. refusal ≡ unless_broken site.now.broken Broken Memory) }
     ensures costs { Costs 1 0 0 0 0 work.old work.new }
+    ensures idle { site.now.broken ≡ true → work.new ≡ work.old }
 {
     if site.is_broken() {
         return Err(Refusal::Broken);
@@ -59,6 +61,7 @@ pub fn install(site: &mut Kept, change: Change, work: &mut Work) -> Result<(), R
     ensures ok { OnOk result ((site.old.broken ≡ false) × (site.new ≡ record { config = site.old.config; states = map.insert site.old.states change.key change.state; broken = false })) }
     ensures err { IfErr result (λ refusal. (refusal ≡ Broken) × (site.new ≡ record { config = site.old.config; states = site.old.states; broken = true })) }
     ensures costs { ChangeCosts 0 site.old change.key change.state work.old work.new }
+    ensures idle { site.old.broken ≡ true → work.new ≡ work.old }
 {
     site.install(change, work)
 }
@@ -80,6 +83,7 @@ pub fn answer(site: &mut Kept, request: &Request, work: &mut Work) -> Reply
     // It is not too long for its frame.
     ensures fits { CanBeSent result }
     ensures costs { AnswerCosts site.old request.now result work.old work.new }
+    ensures idle { site.old.broken ≡ true → work.new ≡ work.old }
 {
     match prepare(site, request, work) {
         Err(refusal) => Reply::Refused(refusal),
@@ -108,6 +112,7 @@ pub fn push(site: &mut Kept, key: &Key, pushed: &KeyState, work: &mut Work) -> R
     // A state that was joined is that of some set of writes.
     ensures valid { OnOk result (IsValid pushed.now) }
     ensures costs { AnswerCosts site.old (Push key.now pushed.now) (push_reply result) work.old work.new }
+    ensures idle { site.old.broken ≡ true → work.new ≡ work.old }
 {
     if site.is_broken() {
         return Err(Refusal::Broken);

@@ -89,6 +89,7 @@ impl Kept {
         ensures whole { IfErr result (λ refusal. refusal ≡ Broken → self.now.broken ≡ true) }
         ensures frugal { IsFrugal self.now.states request.now → IfErr result (λ refusal. refusal ≢ Memory) }
         ensures costs { PrepareCosts request.now result work.old work.new }
+        ensures idle { self.now.broken ≡ true → work.new ≡ work.old }
     {
         if self.broken {
             return Err(Refusal::Broken);
@@ -278,6 +279,7 @@ impl Kept {
         ensures ok { OnOk result ((self.old.broken ≡ false) × (self.new ≡ record { config = self.old.config; states = map.insert self.old.states change.key change.state; broken = false })) }
         ensures err { IfErr result (λ refusal. (refusal ≡ Broken) × (self.new ≡ record { config = self.old.config; states = self.old.states; broken = true })) }
         ensures costs { ChangeCosts 0 self.old change.key change.state work.old work.new }
+        ensures idle { self.old.broken ≡ true → work.new ≡ work.old }
     {
         if self.broken {
             return Err(Refusal::Broken);

@@ -139,7 +139,7 @@ impl Kept {
         ensures ready { IfOk result (IsReady self.now) }
         ensures whole { IfErr result (λ refusal. refusal ≢ Broken) }
         ensures frugal { IfErr result (λ refusal. refusal ≢ Memory) }
-        ensures looks { Within 0 1 meter.old meter.new }
+        ensures looks { Within 0 (prepared_looks result) meter.old meter.new }
     {
         let (count, sum, ends) = counted::row(&self.rows, view, term, meter)?;
         Ok(Prepared::Answer(Reply::Row(RowValue { count, sum, ends })))

@@ -7,5 +7,6 @@ mod open;
 mod pairs;
 mod records;
 mod statements;
+mod storing;
 
 pub use records::Records;

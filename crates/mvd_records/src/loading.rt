@@ -8,7 +8,8 @@ ghost use Rattle.sqlite.specs.Given.{IsPlain};
 ghost use Rattle.sqlite.specs.Listing.{understood};
 ghost use Rattle.mvd_keys.specs.Key.{is_key};
 ghost use Rattle.mvd_records.specs.States.{shown_entry};
-ghost use Rattle.mvd_records.specs.Records.{IsSettled, IsSound, HoldsRecords, OnlyReads, AreKeys, IsWhole, old_states, new_states, states_at};
+ghost use Rattle.mvd_records.specs.Records.{IsSettled, IsSound, HoldsRecords, OnlyReads, AreKeys, IsWhole};
+ghost use Rattle.mvd_records.specs.Records.{old_states, new_states, states_at};
 ghost use Rattle.mvd_records.specs.Pairs.{entries_of, ArePairs, rises};
 
 use crate::pairs::push_row;
@@ -33,13 +34,21 @@ fn read_pairs<S: Alter>(
 ) -> Result<Vec<(Key, Vec<u8>)>, Refusal>
     ensures before { IsSound (state S.Store conn.new) → IsSound (state S.Store conn.old) }
     ensures open { HasCleanDisk (state S.Store conn.new) → OnOk result (IsTrue (state S.Store conn.new).is_open) }
-    ensures shown { HasCleanDisk (state S.Store conn.new) → IsPlain (understood (state S.Store conn.old).now.schema sql.now) → IfOk result (λ pairs. (rows : _) × Shown sql.now [] (state S.Store conn.old) (state S.Store conn.new) rows × (entries_of pairs.items ≡ map shown_entry rows)) }
+    ensures shown { HasCleanDisk (state S.Store conn.new) →
+        IsPlain (understood (state S.Store conn.old).now.schema sql.now) → IfOk result (λ pairs. (rows : _) ×
+        Shown sql.now [] (state S.Store conn.old) (state S.Store conn.new) rows ×
+        (entries_of pairs.items ≡ map shown_entry rows)) }
     ensures form { IfOk result (λ pairs. AllByRecursion (λ e. is_key e.0 ≡ true) (entries_of pairs.items)) }
     ensures rising { IfOk result (λ pairs. rises (entries_of pairs.items)) }
-    ensures damaged { HasCleanDisk (state S.Store conn.new) → IsPlain (understood (state S.Store conn.old).now.schema sql.now) → IfErr result (λ e. e ≡ Refusal.Damaged → (rows : _) × Begins sql.now [] (state S.Store conn.old) rows × ¬ ArePairs rows) }
-    ensures kept { HasCleanDisk (state S.Store conn.new) → IsPlain (understood (state S.Store conn.old).now.schema sql.now) → KeepsCommit (state S.Store conn.old) (state S.Store conn.new) }
+    ensures damaged { HasCleanDisk (state S.Store conn.new) →
+        IsPlain (understood (state S.Store conn.old).now.schema sql.now) → IfErr result (λ e. e ≡ Refusal.Damaged →
+        (rows : _) × Begins sql.now [] (state S.Store conn.old) rows × ¬ ArePairs rows) }
+    ensures kept { HasCleanDisk (state S.Store conn.new) →
+        IsPlain (understood (state S.Store conn.old).now.schema sql.now) →
+        KeepsCommit (state S.Store conn.old) (state S.Store conn.new) }
     ensures refusal { IfErr result (λ e. (e ≡ Refusal.Damaged) ⊎ ((e ≡ Refusal.Memory) ⊎ (e ≡ Refusal.Store))) }
-    ensures survives { Survives (state S.Store conn.old) (state S.Store conn.new) (CommitsShowing sql.now [] (state S.Store conn.old)) }
+    ensures survives { Survives (state S.Store conn.old) (state S.Store conn.new) (CommitsShowing sql.now []
+        (state S.Store conn.old)) }
 {
     let mut pairs = Vec::new(alloc);
     let mut rows = match conn.query(sql, &[]) {
@@ -69,10 +78,16 @@ fn read_half<S: Alter>(
     half: Half,
 ) -> Result<Vec<(Key, Vec<u8>)>, Refusal>
     ensures reads { OnlyReads (state S.Store conn.old) (state S.Store conn.new) }
-    ensures entries { (version site : _) → IsSound (state S.Store conn.new) → HoldsRecords version site (state S.Store conn.old).committed → IfOk result (λ pairs. entries_of pairs.items ≡ entries (states_at half (state S.Store conn.old).committed)) }
-    ensures keys { (version site : _) → IsSound (state S.Store conn.new) → HoldsRecords version site (state S.Store conn.old).committed → OnOk result (AreKeys (states_at half (state S.Store conn.old).committed)) }
+    ensures entries { (version site : _) → IsSound (state S.Store conn.new) →
+        HoldsRecords version site (state S.Store conn.old).committed →
+        IfOk result (λ pairs. entries_of pairs.items ≡ entries (states_at half (state S.Store conn.old).committed)) }
+    ensures keys { (version site : _) → IsSound (state S.Store conn.new) →
+        HoldsRecords version site (state S.Store conn.old).committed →
+        OnOk result (AreKeys (states_at half (state S.Store conn.old).committed)) }
     ensures rising { IfOk result (λ pairs. rises (entries_of pairs.items)) }
-    ensures damaged { (version site : _) → IsSound (state S.Store conn.new) → HoldsRecords version site (state S.Store conn.old).committed → IfErr result (λ e. e ≡ Refusal.Damaged → ¬ AreKeys (states_at half (state S.Store conn.old).committed)) }
+    ensures damaged { (version site : _) → IsSound (state S.Store conn.new) →
+        HoldsRecords version site (state S.Store conn.old).committed → IfErr result (λ e. e ≡ Refusal.Damaged →
+        ¬ AreKeys (states_at half (state S.Store conn.old).committed)) }
     ensures refusal { IfErr result (λ e. (e ≡ Refusal.Damaged) ⊎ ((e ≡ Refusal.Memory) ⊎ (e ≡ Refusal.Store))) }
 {
     if !is_settled(conn) {
@@ -93,10 +108,18 @@ pub fn load<S: Alter>(
     half: Half,
 ) -> Result<Vec<(Key, Vec<u8>)>, Refusal>
     ensures reads { OnlyReads (state S.Store conn.old) (state S.Store conn.new) }
-    ensures entries { (marked site : _) → IsSound (state S.Store conn.new) → HoldsRecords marked site (state S.Store conn.old).committed → IfOk result (λ pairs. entries_of pairs.items ≡ entries (states_at half (state S.Store conn.old).committed)) }
+    ensures entries { (marked site : _) → IsSound (state S.Store conn.new) →
+        HoldsRecords marked site (state S.Store conn.old).committed →
+        IfOk result (λ pairs. entries_of pairs.items ≡ entries (states_at half (state S.Store conn.old).committed)) }
     ensures rising { IfOk result (λ pairs. rises (entries_of pairs.items)) }
-    ensures whole { (marked site : _) → IsSound (state S.Store conn.new) → HoldsRecords marked site (state S.Store conn.old).committed → OnOk result (IsWhole version (states_at half (state S.Store conn.old).committed) (old_states (state S.Store conn.old).committed) (new_states (state S.Store conn.old).committed)) }
-    ensures damaged { (marked site : _) → IsSound (state S.Store conn.new) → HoldsRecords marked site (state S.Store conn.old).committed → IfErr result (λ e. e ≡ Refusal.Damaged → ¬ IsWhole version (states_at half (state S.Store conn.old).committed) (old_states (state S.Store conn.old).committed) (new_states (state S.Store conn.old).committed)) }
+    ensures whole { (marked site : _) → IsSound (state S.Store conn.new) →
+        HoldsRecords marked site (state S.Store conn.old).committed →
+        OnOk result (IsWhole version (states_at half (state S.Store conn.old).committed) (old_states
+        (state S.Store conn.old).committed) (new_states (state S.Store conn.old).committed)) }
+    ensures damaged { (marked site : _) → IsSound (state S.Store conn.new) →
+        HoldsRecords marked site (state S.Store conn.old).committed → IfErr result (λ e. e ≡ Refusal.Damaged →
+        ¬ IsWhole version (states_at half (state S.Store conn.old).committed) (old_states
+        (state S.Store conn.old).committed) (new_states (state S.Store conn.old).committed)) }
     ensures refusal { IfErr result (λ e. (e ≡ Refusal.Damaged) ⊎ ((e ≡ Refusal.Memory) ⊎ (e ≡ Refusal.Store))) }
 {
     match check(conn, version) {

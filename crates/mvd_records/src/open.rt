@@ -1,10 +1,13 @@
 //! Opening the records: the tables and the marks, in one transaction.
-ghost use Rattle.std.specs.Prelude.{◌≡◌, ◌≤◌, ◌<◌, ◌^◌, [], map, codes, MatchOption, MatchResult, IsTrue, IfErr, IfOk, OnOk, OnErr, Err};
+ghost use Rattle.std.specs.Prelude.{◌≡◌, ◌≤◌, ◌<◌, ◌^◌, [], map, codes, MatchOption, MatchResult, IsTrue, IfErr};
+ghost use Rattle.std.specs.Prelude.{IfOk, OnOk, OnErr, Err};
 ghost use Rattle.sqlite.specs.Held.{state};
 ghost use Rattle.sqlite.specs.State.{HasCleanDisk, KeepsCommit, Survives};
 ghost use Rattle.mvd_records.specs.States.{AreMarks, IsMark, first_two};
 ghost use Rattle.mvd_records.specs.Tables.{all_tables, meta_tree};
-ghost use Rattle.mvd_records.specs.Records.{IsSettled, IsSound, IsOurs, HasTables, HoldsRecords, OpensRecords, KeepsStates, KeepsRows, Ran, StaysInside, TellsVersion, TellsMarks, LeavesOpened, LeavesRefused, IsOpenRefusal, marks_of};
+ghost use Rattle.mvd_records.specs.Records.{IsSettled, IsSound, IsOurs, HasTables, HoldsRecords, OpensRecords};
+ghost use Rattle.mvd_records.specs.Records.{KeepsStates, KeepsRows, Ran, StaysInside, TellsVersion, TellsMarks};
+ghost use Rattle.mvd_records.specs.Records.{LeavesOpened, LeavesRefused, IsOpenRefusal, marks_of};
 
 use crate::statements::is_settled;
 use mvd_dots::Refusal;
@@ -15,7 +18,9 @@ use sqlite::{Alter, Connection, Row, Transaction, params};
 fn run<S: Alter>(tx: &mut Transaction<'_, S>, sql: &str) -> Result<(), Refusal>
     ensures same_reference { tx.new.conn.ghost_name ≡ tx.old.conn.ghost_name }
     ensures stays { StaysInside (state S.Store tx.old.conn.now) (state S.Store tx.new.conn.now) }
-    ensures ran { HasCleanDisk (state S.Store tx.new.conn.now) → IsTrue (state S.Store tx.old.conn.now).in_transaction → OnOk result (Ran sql.now [] (state S.Store tx.old.conn.now) (state S.Store tx.new.conn.now)) }
+    ensures ran { HasCleanDisk (state S.Store tx.new.conn.now) →
+        IsTrue (state S.Store tx.old.conn.now).in_transaction →
+        OnOk result (Ran sql.now [] (state S.Store tx.old.conn.now) (state S.Store tx.new.conn.now)) }
     ensures refusal { IfErr result (λ e. e ≡ Refusal.Store) }
 {
     match tx.execute(sql, &[]) {
@@ -28,9 +33,15 @@ fn run<S: Alter>(tx: &mut Transaction<'_, S>, sql: &str) -> Result<(), Refusal>
 fn make_tables<S: Alter>(tx: &mut Transaction<'_, S>) -> Result<(), Refusal>
     ensures same_reference { tx.new.conn.ghost_name ≡ tx.old.conn.ghost_name }
     ensures stays { StaysInside (state S.Store tx.old.conn.now) (state S.Store tx.new.conn.now) }
-    ensures inside { HasCleanDisk (state S.Store tx.new.conn.now) → IsTrue (state S.Store tx.old.conn.now).in_transaction → OnOk result (IsTrue (state S.Store tx.new.conn.now).in_transaction) }
-    ensures tables { HasCleanDisk (state S.Store tx.new.conn.now) → IsTrue (state S.Store tx.old.conn.now).in_transaction → IsOurs (state S.Store tx.old.conn.now).now → OnOk result (HasTables all_tables (state S.Store tx.new.conn.now).now) }
-    ensures rows { HasCleanDisk (state S.Store tx.new.conn.now) → IsTrue (state S.Store tx.old.conn.now).in_transaction → IsOurs (state S.Store tx.old.conn.now).now → OnOk result (KeepsRows (state S.Store tx.old.conn.now).now (state S.Store tx.new.conn.now).now) }
+    ensures inside { HasCleanDisk (state S.Store tx.new.conn.now) →
+        IsTrue (state S.Store tx.old.conn.now).in_transaction →
+        OnOk result (IsTrue (state S.Store tx.new.conn.now).in_transaction) }
+    ensures tables { HasCleanDisk (state S.Store tx.new.conn.now) →
+        IsTrue (state S.Store tx.old.conn.now).in_transaction → IsOurs (state S.Store tx.old.conn.now).now →
+        OnOk result (HasTables all_tables (state S.Store tx.new.conn.now).now) }
+    ensures rows { HasCleanDisk (state S.Store tx.new.conn.now) →
+        IsTrue (state S.Store tx.old.conn.now).in_transaction → IsOurs (state S.Store tx.old.conn.now).now →
+        OnOk result (KeepsRows (state S.Store tx.old.conn.now).now (state S.Store tx.new.conn.now).now) }
     ensures refusal { IfErr result (λ e. e ≡ Refusal.Store) }
 {
     match run(
@@ -71,7 +82,9 @@ fn mark_in(row: &Row, name: &str) -> Option<u32>
 
 /// The version and the site, where the rows are the two marks in this order.
 fn pair_in(first: &Row, second: &Row) -> Option<(u32, u32)>
-    ensures { MatchOption result ((v s : _) → v < 2 ^ 32 → s < 2 ^ 32 → ¬ (IsMark (codes "format") first.now v × IsMark (codes "site") second.now s)) (λ p. IsMark (codes "format") first.now p.0 × IsMark (codes "site") second.now p.1) }
+    ensures { MatchOption result ((v s : _) → v < 2 ^ 32 → s < 2 ^ 32 → ¬ (IsMark (codes "format") first.now v ×
+        IsMark (codes "site") second.now s)) (λ p. IsMark (codes "format") first.now p.0 ×
+        IsMark (codes "site") second.now p.1) }
 {
     match (mark_in(first, "format"), mark_in(second, "site")) {
         (Some(version), Some(site)) => Some((version, site)),
@@ -81,7 +94,8 @@ fn pair_in(first: &Row, second: &Row) -> Option<(u32, u32)>
 
 /// The version and the site, where the rows are the two marks.
 fn marks_in(rows: &[Row]) -> Option<(u32, u32)>
-    ensures { MatchOption result ((v s : _) → v < 2 ^ 32 → s < 2 ^ 32 → ¬ AreMarks v s (map first_two rows.now)) (λ p. AreMarks p.0 p.1 (map first_two rows.now)) }
+    ensures { MatchOption result ((v s : _) → v < 2 ^ 32 → s < 2 ^ 32 →
+        ¬ AreMarks v s (map first_two rows.now)) (λ p. AreMarks p.0 p.1 (map first_two rows.now)) }
 {
     if rows.len() != 2 {
         return None;
@@ -117,9 +131,15 @@ fn version_in(rows: &[Row], site: u32) -> Result<Option<u32>, Refusal>
 fn read_version<S: Alter>(tx: &mut Transaction<'_, S>, site: u32) -> Result<Option<u32>, Refusal>
     ensures same_reference { tx.new.conn.ghost_name ≡ tx.old.conn.ghost_name }
     ensures stays { StaysInside (state S.Store tx.old.conn.now) (state S.Store tx.new.conn.now) }
-    ensures inside { HasCleanDisk (state S.Store tx.new.conn.now) → IsTrue (state S.Store tx.old.conn.now).in_transaction → OnOk result (IsTrue (state S.Store tx.new.conn.now).in_transaction) }
-    ensures same { HasCleanDisk (state S.Store tx.new.conn.now) → HasTables all_tables (state S.Store tx.old.conn.now).now → OnOk result ((state S.Store tx.new.conn.now).now ≡ (state S.Store tx.old.conn.now).now) }
-    ensures told { HasCleanDisk (state S.Store tx.new.conn.now) → HasTables all_tables (state S.Store tx.old.conn.now).now → TellsMarks (marks_of (state S.Store tx.old.conn.now).now) site result }
+    ensures inside { HasCleanDisk (state S.Store tx.new.conn.now) →
+        IsTrue (state S.Store tx.old.conn.now).in_transaction →
+        OnOk result (IsTrue (state S.Store tx.new.conn.now).in_transaction) }
+    ensures same { HasCleanDisk (state S.Store tx.new.conn.now) →
+        HasTables all_tables (state S.Store tx.old.conn.now).now →
+        OnOk result ((state S.Store tx.new.conn.now).now ≡ (state S.Store tx.old.conn.now).now) }
+    ensures told { HasCleanDisk (state S.Store tx.new.conn.now) →
+        HasTables all_tables (state S.Store tx.old.conn.now).now →
+        TellsMarks (marks_of (state S.Store tx.old.conn.now).now) site result }
     ensures refusal { IfErr result IsOpenRefusal }
 {
     match tx.query_all("SELECT name, value FROM meta", &[]) {
@@ -131,9 +151,14 @@ fn read_version<S: Alter>(tx: &mut Transaction<'_, S>, site: u32) -> Result<Opti
 fn write_marks<S: Alter>(tx: &mut Transaction<'_, S>, site: u32) -> Result<(), Refusal>
     ensures same_reference { tx.new.conn.ghost_name ≡ tx.old.conn.ghost_name }
     ensures stays { StaysInside (state S.Store tx.old.conn.now) (state S.Store tx.new.conn.now) }
-    ensures inside { HasCleanDisk (state S.Store tx.new.conn.now) → IsTrue (state S.Store tx.old.conn.now).in_transaction → OnOk result (IsTrue (state S.Store tx.new.conn.now).in_transaction) }
-    ensures marked { HasCleanDisk (state S.Store tx.new.conn.now) → IsTrue (state S.Store tx.old.conn.now).in_transaction → HasTables all_tables (state S.Store tx.old.conn.now).now → marks_of (state S.Store tx.old.conn.now).now ≡ []
-        → OnOk result (HoldsRecords 2 site (state S.Store tx.new.conn.now).now × KeepsStates (state S.Store tx.old.conn.now).now (state S.Store tx.new.conn.now).now) }
+    ensures inside { HasCleanDisk (state S.Store tx.new.conn.now) →
+        IsTrue (state S.Store tx.old.conn.now).in_transaction →
+        OnOk result (IsTrue (state S.Store tx.new.conn.now).in_transaction) }
+    ensures marked { HasCleanDisk (state S.Store tx.new.conn.now) →
+        IsTrue (state S.Store tx.old.conn.now).in_transaction →
+        HasTables all_tables (state S.Store tx.old.conn.now).now → marks_of (state S.Store tx.old.conn.now).now ≡ []
+        → OnOk result (HoldsRecords 2 site (state S.Store tx.new.conn.now).now ×
+        KeepsStates (state S.Store tx.old.conn.now).now (state S.Store tx.new.conn.now).now) }
     ensures refusal { IfErr result (λ e. e ≡ Refusal.Store) }
 {
     match tx.execute(
@@ -149,9 +174,17 @@ fn write_marks<S: Alter>(tx: &mut Transaction<'_, S>, site: u32) -> Result<(), R
 fn settle<S: Alter>(tx: &mut Transaction<'_, S>, site: u32) -> Result<u32, Refusal>
     ensures same_reference { tx.new.conn.ghost_name ≡ tx.old.conn.ghost_name }
     ensures stays { StaysInside (state S.Store tx.old.conn.now) (state S.Store tx.new.conn.now) }
-    ensures inside { HasCleanDisk (state S.Store tx.new.conn.now) → IsTrue (state S.Store tx.old.conn.now).in_transaction → OnOk result (IsTrue (state S.Store tx.new.conn.now).in_transaction) }
-    ensures opened { HasCleanDisk (state S.Store tx.new.conn.now) → IsTrue (state S.Store tx.old.conn.now).in_transaction → HasTables all_tables (state S.Store tx.old.conn.now).now → IfOk result (λ version. OpensRecords version site (state S.Store tx.old.conn.now).now (state S.Store tx.new.conn.now).now) }
-    ensures refused { HasCleanDisk (state S.Store tx.new.conn.now) → HasTables all_tables (state S.Store tx.old.conn.now).now → IfErr result (λ e. TellsVersion (marks_of (state S.Store tx.old.conn.now).now) site (Err e)) }
+    ensures inside { HasCleanDisk (state S.Store tx.new.conn.now) →
+        IsTrue (state S.Store tx.old.conn.now).in_transaction →
+        OnOk result (IsTrue (state S.Store tx.new.conn.now).in_transaction) }
+    ensures opened { HasCleanDisk (state S.Store tx.new.conn.now) →
+        IsTrue (state S.Store tx.old.conn.now).in_transaction →
+        HasTables all_tables (state S.Store tx.old.conn.now).now →
+        IfOk result (λ version. OpensRecords version site (state S.Store tx.old.conn.now).now
+        (state S.Store tx.new.conn.now).now) }
+    ensures refused { HasCleanDisk (state S.Store tx.new.conn.now) →
+        HasTables all_tables (state S.Store tx.old.conn.now).now →
+        IfErr result (λ e. TellsVersion (marks_of (state S.Store tx.old.conn.now).now) site (Err e)) }
     ensures refusal { IfErr result IsOpenRefusal }
 {
     match read_version(tx, site) {
@@ -167,9 +200,16 @@ fn settle<S: Alter>(tx: &mut Transaction<'_, S>, site: u32) -> Result<u32, Refus
 fn prepare<S: Alter>(tx: &mut Transaction<'_, S>, site: u32) -> Result<u32, Refusal>
     ensures same_reference { tx.new.conn.ghost_name ≡ tx.old.conn.ghost_name }
     ensures stays { StaysInside (state S.Store tx.old.conn.now) (state S.Store tx.new.conn.now) }
-    ensures inside { HasCleanDisk (state S.Store tx.new.conn.now) → IsTrue (state S.Store tx.old.conn.now).in_transaction → OnOk result (IsTrue (state S.Store tx.new.conn.now).in_transaction) }
-    ensures opened { HasCleanDisk (state S.Store tx.new.conn.now) → IsTrue (state S.Store tx.old.conn.now).in_transaction → IsOurs (state S.Store tx.old.conn.now).now → IfOk result (λ version. OpensRecords version site (state S.Store tx.old.conn.now).now (state S.Store tx.new.conn.now).now) }
-    ensures refused { HasCleanDisk (state S.Store tx.new.conn.now) → IsTrue (state S.Store tx.old.conn.now).in_transaction → IsOurs (state S.Store tx.old.conn.now).now → IfErr result (λ e. TellsVersion (marks_of (state S.Store tx.old.conn.now).now) site (Err e)) }
+    ensures inside { HasCleanDisk (state S.Store tx.new.conn.now) →
+        IsTrue (state S.Store tx.old.conn.now).in_transaction →
+        OnOk result (IsTrue (state S.Store tx.new.conn.now).in_transaction) }
+    ensures opened { HasCleanDisk (state S.Store tx.new.conn.now) →
+        IsTrue (state S.Store tx.old.conn.now).in_transaction → IsOurs (state S.Store tx.old.conn.now).now →
+        IfOk result (λ version. OpensRecords version site (state S.Store tx.old.conn.now).now
+        (state S.Store tx.new.conn.now).now) }
+    ensures refused { HasCleanDisk (state S.Store tx.new.conn.now) →
+        IsTrue (state S.Store tx.old.conn.now).in_transaction → IsOurs (state S.Store tx.old.conn.now).now →
+        IfErr result (λ e. TellsVersion (marks_of (state S.Store tx.old.conn.now).now) site (Err e)) }
     ensures refusal { IfErr result IsOpenRefusal }
 {
     match make_tables(tx) {
@@ -182,11 +222,17 @@ fn prepare<S: Alter>(tx: &mut Transaction<'_, S>, site: u32) -> Result<u32, Refu
 /// Makes what is missing in one transaction, and tells the version.
 pub fn open<S: Alter>(conn: &mut Connection<S>, site: u32) -> Result<u32, Refusal>
     ensures before { IsSound (state S.Store conn.new) → IsSound (state S.Store conn.old) }
-    ensures opened { IsSound (state S.Store conn.new) → IsOurs (state S.Store conn.old).committed → IfOk result (λ version. OpensRecords version site (state S.Store conn.old).committed (state S.Store conn.new).committed) }
-    ensures refused { IsSound (state S.Store conn.new) → IsOurs (state S.Store conn.old).committed → IfErr result (λ e. TellsVersion (marks_of (state S.Store conn.old).committed) site (Err e)) }
+    ensures opened { IsSound (state S.Store conn.new) → IsOurs (state S.Store conn.old).committed →
+        IfOk result (λ version. OpensRecords version site (state S.Store conn.old).committed
+        (state S.Store conn.new).committed) }
+    ensures refused { IsSound (state S.Store conn.new) → IsOurs (state S.Store conn.old).committed →
+        IfErr result (λ e. TellsVersion (marks_of (state S.Store conn.old).committed) site (Err e)) }
     ensures refusal { IfErr result IsOpenRefusal }
-    ensures unchanged { IsSound (state S.Store conn.new) → OnErr result ((state S.Store conn.new).committed ≡ (state S.Store conn.old).committed) }
-    ensures survives { MatchResult result (λ _. Survives (state S.Store conn.old) (state S.Store conn.new) (LeavesOpened (state S.Store conn.old) site)) (λ e. Survives (state S.Store conn.old) (state S.Store conn.new) (LeavesRefused e (state S.Store conn.old) site)) }
+    ensures unchanged { IsSound (state S.Store conn.new) →
+        OnErr result ((state S.Store conn.new).committed ≡ (state S.Store conn.old).committed) }
+    ensures survives { MatchResult result (λ _. Survives (state S.Store conn.old) (state S.Store conn.new)
+        (LeavesOpened (state S.Store conn.old) site)) (λ e. Survives (state S.Store conn.old) (state S.Store conn.new)
+        (LeavesRefused e (state S.Store conn.old) site)) }
 {
     if !is_settled(conn) {
         return Err(Refusal::Store);

@@ -52,7 +52,8 @@ fn bytes_in(alloc: Global, row: &Row) -> Result<Vec<u8>, Refusal>
 
 /// Whether the key is greater than the last one.
 fn is_above(pairs: &[(Key, Vec<u8>)], key: &Key) -> bool
-    ensures { (state : _) → rises (entries_of pairs.now) → is_sorted (slice_cmp nat_cmp) (entries_of pairs.now ++ (key.now, state) ∷ []) ≡ result }
+    ensures { (state : _) → rises (entries_of pairs.now) →
+        is_sorted (slice_cmp nat_cmp) (entries_of pairs.now ++ (key.now, state) ∷ []) ≡ result }
 {
     match pairs.last() {
         None => true,
@@ -60,12 +61,14 @@ fn is_above(pairs: &[(Key, Vec<u8>)], key: &Key) -> bool
     }
 }
 
-/// Adds the key and the state that the row shows. It is refused where the row shows none, or the key is not above the last.
+/// Adds the key and the state that the row shows. It is refused where the row shows none, or the
+/// key is not above the last.
 pub fn push_row(alloc: Global, pairs: &mut Vec<(Key, Vec<u8>)>, row: &Row) -> Result<(), Refusal>
     ensures pushed { OnOk result (entries_of pairs.new.items ≡ entries_of pairs.old.items ++ shown_entry row.now ∷ []) }
     ensures form { OnOk result (is_key (bytes (column row.now 0)) ≡ true) }
     ensures rising { rises (entries_of pairs.old.items) → OnOk result (rises (entries_of pairs.new.items)) }
-    ensures damaged { rises (entries_of pairs.old.items) → IfErr result (λ e. e ≡ Refusal.Damaged → IsPair row.now → ¬ rises (entries_of pairs.old.items ++ shown_entry row.now ∷ [])) }
+    ensures damaged { rises (entries_of pairs.old.items) → IfErr result (λ e. e ≡ Refusal.Damaged → IsPair row.now →
+        ¬ rises (entries_of pairs.old.items ++ shown_entry row.now ∷ [])) }
     ensures which { IfErr result (λ e. (e ≡ Refusal.Damaged) ⊎ (e ≡ Refusal.Memory)) }
 {
     let key = key_in(alloc, row)?;

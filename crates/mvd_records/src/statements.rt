@@ -3,7 +3,9 @@ ghost use Rattle.sqlite.specs.Held.{state};
 ghost use Rattle.sqlite.specs.State.{HasCleanDisk, KeepsCommit, Shown, Survives, CommitsShowing};
 ghost use Rattle.sqlite.specs.Given.{IsPlain};
 ghost use Rattle.sqlite.specs.Listing.{understood};
-ghost use Rattle.mvd_records.specs.Records.{IsSettled, IsSound, HoldsRecords, SavesState, KeepsStates, EndsMove, Leaves, OnlyReads, HasNone, AreDisjoint, AreApart, old_states, new_states};
+ghost use Rattle.mvd_records.specs.Records.{IsSettled, IsSound, HoldsRecords, SavesState, KeepsStates, EndsMove};
+ghost use Rattle.mvd_records.specs.Records.{Leaves, OnlyReads, HasNone, AreDisjoint, AreApart, old_states};
+ghost use Rattle.mvd_records.specs.Records.{new_states};
 
 use mvd_dots::Refusal;
 use sqlite::{Alter, Connection, params};
@@ -20,11 +22,19 @@ pub fn is_settled<S: Alter>(conn: &Connection<S>) -> bool
 pub fn save<S: Alter>(conn: &mut Connection<S>, key: &str, bytes: &[u8]) -> Result<(), Refusal>
     ensures before { IsSound (state S.Store conn.new) → IsSound (state S.Store conn.old) }
     ensures open { HasCleanDisk (state S.Store conn.new) → OnOk result (IsTrue (state S.Store conn.new).is_open) }
-    ensures kept { (version site : _) → IsSound (state S.Store conn.new) → HoldsRecords version site (state S.Store conn.old).committed → HoldsRecords version site (state S.Store conn.new).committed }
-    ensures saved { (version site : _) → IsSound (state S.Store conn.new) → HoldsRecords version site (state S.Store conn.old).committed → OnOk result (SavesState (state S.Store conn.old).committed (state S.Store conn.new).committed key.now bytes.now) }
-    ensures unchanged { IsSound (state S.Store conn.new) → OnErr result ((state S.Store conn.new).committed ≡ (state S.Store conn.old).committed) }
+    ensures kept { (version site : _) → IsSound (state S.Store conn.new) →
+        HoldsRecords version site (state S.Store conn.old).committed →
+        HoldsRecords version site (state S.Store conn.new).committed }
+    ensures saved { (version site : _) → IsSound (state S.Store conn.new) →
+        HoldsRecords version site (state S.Store conn.old).committed →
+        OnOk result (SavesState (state S.Store conn.old).committed
+        (state S.Store conn.new).committed key.now bytes.now) }
+    ensures unchanged { IsSound (state S.Store conn.new) →
+        OnErr result ((state S.Store conn.new).committed ≡ (state S.Store conn.old).committed) }
     ensures refusal { IfErr result (λ e. e ≡ Refusal.Store) }
-    ensures survives { Survives (state S.Store conn.old) (state S.Store conn.new) (Leaves (state S.Store conn.old) (λ version site db. HoldsRecords version site db × SavesState (state S.Store conn.old).committed db key.now bytes.now)) }
+    ensures survives { Survives (state S.Store conn.old) (state S.Store conn.new) (Leaves (state S.Store conn.old)
+        (λ version site db. HoldsRecords version site db ×
+        SavesState (state S.Store conn.old).committed db key.now bytes.now)) }
 {
     if !is_settled(conn) {
         return Err(Refusal::Store);
@@ -42,10 +52,15 @@ pub fn save<S: Alter>(conn: &mut Connection<S>, key: &str, bytes: &[u8]) -> Resu
 fn shows_any<S: Alter>(conn: &mut Connection<S>, sql: &str) -> Result<bool, Refusal>
     ensures before { IsSound (state S.Store conn.new) → IsSound (state S.Store conn.old) }
     ensures open { HasCleanDisk (state S.Store conn.new) → OnOk result (IsTrue (state S.Store conn.new).is_open) }
-    ensures shown { HasCleanDisk (state S.Store conn.new) → IfOk result (λ any. (rows : _) × Shown sql.now [] (state S.Store conn.old) (state S.Store conn.new) rows × MatchBool any (rows ≢ []) (rows ≡ [])) }
-    ensures kept { HasCleanDisk (state S.Store conn.new) → IsPlain (understood (state S.Store conn.old).now.schema sql.now) → KeepsCommit (state S.Store conn.old) (state S.Store conn.new) }
+    ensures shown { HasCleanDisk (state S.Store conn.new) → IfOk result (λ any. (rows : _) ×
+        Shown sql.now [] (state S.Store conn.old) (state S.Store conn.new) rows ×
+        MatchBool any (rows ≢ []) (rows ≡ [])) }
+    ensures kept { HasCleanDisk (state S.Store conn.new) →
+        IsPlain (understood (state S.Store conn.old).now.schema sql.now) →
+        KeepsCommit (state S.Store conn.old) (state S.Store conn.new) }
     ensures refusal { IfErr result (λ e. e ≡ Refusal.Store) }
-    ensures survives { Survives (state S.Store conn.old) (state S.Store conn.new) (CommitsShowing sql.now [] (state S.Store conn.old)) }
+    ensures survives { Survives (state S.Store conn.old) (state S.Store conn.new) (CommitsShowing sql.now []
+        (state S.Store conn.old)) }
 {
     match conn.query_all(sql, &[]) {
         Ok(rows) => Ok(!rows.is_empty()),
@@ -57,7 +72,10 @@ fn shows_any<S: Alter>(conn: &mut Connection<S>, sql: &str) -> Result<bool, Refu
 pub fn has_old<S: Alter>(conn: &mut Connection<S>) -> Result<bool, Refusal>
     ensures reads { OnlyReads (state S.Store conn.old) (state S.Store conn.new) }
     ensures open { HasCleanDisk (state S.Store conn.new) → OnOk result (IsTrue (state S.Store conn.new).is_open) }
-    ensures any { (version site : _) → IsSound (state S.Store conn.new) → HoldsRecords version site (state S.Store conn.old).committed → IfOk result (λ any. MatchBool any (¬ HasNone (old_states (state S.Store conn.old).committed)) (HasNone (old_states (state S.Store conn.old).committed))) }
+    ensures any { (version site : _) → IsSound (state S.Store conn.new) →
+        HoldsRecords version site (state S.Store conn.old).committed →
+        IfOk result (λ any. MatchBool any (¬ HasNone (old_states (state S.Store conn.old).committed)) (HasNone
+        (old_states (state S.Store conn.old).committed))) }
     ensures refusal { IfErr result (λ e. e ≡ Refusal.Store) }
 {
     if !is_settled(conn) {
@@ -70,7 +88,11 @@ pub fn has_old<S: Alter>(conn: &mut Connection<S>) -> Result<bool, Refusal>
 fn has_both<S: Alter>(conn: &mut Connection<S>) -> Result<bool, Refusal>
     ensures reads { OnlyReads (state S.Store conn.old) (state S.Store conn.new) }
     ensures open { HasCleanDisk (state S.Store conn.new) → OnOk result (IsTrue (state S.Store conn.new).is_open) }
-    ensures any { (version site : _) → IsSound (state S.Store conn.new) → HoldsRecords version site (state S.Store conn.old).committed → IfOk result (λ any. MatchBool any (¬ AreDisjoint (old_states (state S.Store conn.old).committed) (new_states (state S.Store conn.old).committed)) (AreDisjoint (old_states (state S.Store conn.old).committed) (new_states (state S.Store conn.old).committed))) }
+    ensures any { (version site : _) → IsSound (state S.Store conn.new) →
+        HoldsRecords version site (state S.Store conn.old).committed →
+        IfOk result (λ any. MatchBool any (¬ AreDisjoint (old_states (state S.Store conn.old).committed) (new_states
+        (state S.Store conn.old).committed)) (AreDisjoint (old_states (state S.Store conn.old).committed) (new_states
+        (state S.Store conn.old).committed))) }
     ensures refusal { IfErr result (λ e. e ≡ Refusal.Store) }
 {
     if !is_settled(conn) {
@@ -86,8 +108,14 @@ fn has_both<S: Alter>(conn: &mut Connection<S>) -> Result<bool, Refusal>
 pub fn check<S: Alter>(conn: &mut Connection<S>, version: u32) -> Result<(), Refusal>
     ensures reads { OnlyReads (state S.Store conn.old) (state S.Store conn.new) }
     ensures open { HasCleanDisk (state S.Store conn.new) → OnOk result (IsTrue (state S.Store conn.new).is_open) }
-    ensures apart { (marked site : _) → IsSound (state S.Store conn.new) → HoldsRecords marked site (state S.Store conn.old).committed → OnOk result (AreApart version (old_states (state S.Store conn.old).committed) (new_states (state S.Store conn.old).committed)) }
-    ensures damaged { (marked site : _) → IsSound (state S.Store conn.new) → HoldsRecords marked site (state S.Store conn.old).committed → IfErr result (λ e. e ≡ Refusal.Damaged → ¬ AreApart version (old_states (state S.Store conn.old).committed) (new_states (state S.Store conn.old).committed)) }
+    ensures apart { (marked site : _) → IsSound (state S.Store conn.new) →
+        HoldsRecords marked site (state S.Store conn.old).committed →
+        OnOk result (AreApart version (old_states (state S.Store conn.old).committed) (new_states
+        (state S.Store conn.old).committed)) }
+    ensures damaged { (marked site : _) → IsSound (state S.Store conn.new) →
+        HoldsRecords marked site (state S.Store conn.old).committed → IfErr result (λ e. e ≡ Refusal.Damaged →
+        ¬ AreApart version (old_states (state S.Store conn.old).committed) (new_states
+        (state S.Store conn.old).committed)) }
     ensures refusal { IfErr result (λ e. (e ≡ Refusal.Damaged) ⊎ (e ≡ Refusal.Store)) }
 {
     if version == 2 {
@@ -107,10 +135,15 @@ pub fn check<S: Alter>(conn: &mut Connection<S>, version: u32) -> Result<(), Ref
 
 fn set_version<S: Alter>(conn: &mut Connection<S>) -> Result<(), Refusal>
     ensures before { IsSound (state S.Store conn.new) → IsSound (state S.Store conn.old) }
-    ensures marked { (version site : _) → IsSound (state S.Store conn.new) → HoldsRecords version site (state S.Store conn.old).committed → OnOk result (HoldsRecords 2 site (state S.Store conn.new).committed × KeepsStates (state S.Store conn.old).committed (state S.Store conn.new).committed) }
-    ensures unchanged { IsSound (state S.Store conn.new) → OnErr result ((state S.Store conn.new).committed ≡ (state S.Store conn.old).committed) }
+    ensures marked { (version site : _) → IsSound (state S.Store conn.new) →
+        HoldsRecords version site (state S.Store conn.old).committed →
+        OnOk result (HoldsRecords 2 site (state S.Store conn.new).committed ×
+        KeepsStates (state S.Store conn.old).committed (state S.Store conn.new).committed) }
+    ensures unchanged { IsSound (state S.Store conn.new) →
+        OnErr result ((state S.Store conn.new).committed ≡ (state S.Store conn.old).committed) }
     ensures refusal { IfErr result (λ e. e ≡ Refusal.Store) }
-    ensures survives { Survives (state S.Store conn.old) (state S.Store conn.new) (Leaves (state S.Store conn.old) (λ version site db. HoldsRecords 2 site db × KeepsStates (state S.Store conn.old).committed db)) }
+    ensures survives { Survives (state S.Store conn.old) (state S.Store conn.new) (Leaves (state S.Store conn.old)
+        (λ version site db. HoldsRecords 2 site db × KeepsStates (state S.Store conn.old).committed db)) }
 {
     if !is_settled(conn) {
         return Err(Refusal::Store);
@@ -124,11 +157,18 @@ fn set_version<S: Alter>(conn: &mut Connection<S>) -> Result<(), Refusal>
 /// The version becomes 2, where no old key is left.
 pub fn finish<S: Alter>(conn: &mut Connection<S>) -> Result<(), Refusal>
     ensures before { IsSound (state S.Store conn.new) → IsSound (state S.Store conn.old) }
-    ensures finished { (version site : _) → IsSound (state S.Store conn.new) → HoldsRecords version site (state S.Store conn.old).committed → OnOk result (EndsMove site (state S.Store conn.old).committed (state S.Store conn.new).committed) }
-    ensures damaged { (version site : _) → IsSound (state S.Store conn.new) → HoldsRecords version site (state S.Store conn.old).committed → IfErr result (λ e. e ≡ Refusal.Damaged → ¬ HasNone (old_states (state S.Store conn.old).committed)) }
-    ensures unchanged { (version site : _) → IsSound (state S.Store conn.new) → HoldsRecords version site (state S.Store conn.old).committed → OnErr result ((state S.Store conn.new).committed ≡ (state S.Store conn.old).committed) }
+    ensures finished { (version site : _) → IsSound (state S.Store conn.new) →
+        HoldsRecords version site (state S.Store conn.old).committed →
+        OnOk result (EndsMove site (state S.Store conn.old).committed (state S.Store conn.new).committed) }
+    ensures damaged { (version site : _) → IsSound (state S.Store conn.new) →
+        HoldsRecords version site (state S.Store conn.old).committed → IfErr result (λ e. e ≡ Refusal.Damaged →
+        ¬ HasNone (old_states (state S.Store conn.old).committed)) }
+    ensures unchanged { (version site : _) → IsSound (state S.Store conn.new) →
+        HoldsRecords version site (state S.Store conn.old).committed →
+        OnErr result ((state S.Store conn.new).committed ≡ (state S.Store conn.old).committed) }
     ensures refusal { IfErr result (λ e. (e ≡ Refusal.Damaged) ⊎ (e ≡ Refusal.Store)) }
-    ensures survives { Survives (state S.Store conn.old) (state S.Store conn.new) (Leaves (state S.Store conn.old) (λ _ site db. EndsMove site (state S.Store conn.old).committed db)) }
+    ensures survives { Survives (state S.Store conn.old) (state S.Store conn.new) (Leaves (state S.Store conn.old)
+        (λ _ site db. EndsMove site (state S.Store conn.old).committed db)) }
 {
     match has_old(conn) {
         Ok(false) => {}

@@ -113,6 +113,7 @@ pub fn row(
 ) -> Result<(u64, i128, Option<(i64, i64)>), Refusal>
     ensures row { (defs : Definitions) (states : FinMap key_cmp State) → IsRowsOf rows.now defs states → result ≡ row_answer defs (visible_in states) name.now term.now }
     ensures counts { Within 0 1 meter.old meter.new }
+    ensures none { IfErr result (λ _. Within 0 0 meter.old meter.new) }
 {
     let Some(view) = rows.view_of(name) else {
         return Err(Refusal::NoView);

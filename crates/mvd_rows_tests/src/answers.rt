@@ -61,7 +61,7 @@ fn is_in_range(rows: &Rows, start: &Start, field: &Field) -> Result<bool, Refusa
 fn is_counted(rows: &Rows, start: &Start, name: &ViewName) -> Result<bool, Refusal> {
     let mut meter = begun(start);
     let row = counted::row(rows, name, &Term::Whole(1), &mut meter)?;
-    Ok(row == (1, 1, Some((1, 1))) && meter.looks.made() == 1)
+    Ok(row == (1, 1, Some((1, 1))) && meter.looks.made(&Start::new()) == 1)
 }
 
 fn is_listed(rows: &Rows, start: &Start, name: &ViewName) -> Result<bool, Refusal> {

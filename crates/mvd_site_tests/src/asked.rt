@@ -57,7 +57,7 @@ fn kind(prepared: &Prepared) -> &'static str {
 pub fn comes_to(site: &Site, request: Request, wanted: &str, most: u64) -> Result<bool, Refusal> {
     let mut work = no_work();
     let prepared = prepared(site, &request, &mut work)?;
-    Ok(work.looks.made() <= most && kind(&prepared) == wanted)
+    Ok(work.looks.made(&Start::new()) <= most && kind(&prepared) == wanted)
 }
 
 /// The dot of the write that the reply tells.

@@ -8,6 +8,7 @@ use mvd_kept::{Kept, Work, counted};
 use mvd_keys::{Key, KeyState};
 use mvd_rows::Defs;
 use mvd_site::{Change, Config, Prepared, Site};
+use mvd_start::Start;
 use mvd_wire::{Reply, Request, encode_state};
 use std::alloc::Global;
 use std::test::Fail;
@@ -31,7 +32,7 @@ fn is_installed(alloc: Global, site: &mut Site, request: &Request) -> Result<boo
         Prepared::Change(change) => {
             let is_told = is_told(alloc, &change)?;
             site.install(change)?;
-            Ok(is_told && work.looks.made() == 1)
+            Ok(is_told && work.looks.made(&Start::new()) == 1)
         }
     }
 }
@@ -124,7 +125,7 @@ fn gives_by_one_look(alloc: Global, site: &Site) -> Result<bool, Refusal> {
     let key = Key::read(alloc, "a")?;
     let mut work = no_work();
     let state = got(site, &key, &mut work)?;
-    Ok(work.looks.made() == 1 && has(&state, "1:1", 1)?)
+    Ok(work.looks.made(&Start::new()) == 1 && has(&state, "1:1", 1)?)
 }
 
 /// The state of a key. Nothing is claimed of it, as with an answer.
@@ -230,7 +231,7 @@ fn a_site_answers(rt: HostRuntime) -> Result<(), Fail> {
 fn answer_takes(kept: &mut Kept, request: &Request, looks: u64, computations: u64) -> bool {
     let mut work = no_work();
     let _reply = counted::answer(kept, request, &mut work);
-    work.looks.made() == looks && work.hashed.computations.made() == computations
+    work.looks.made(&Start::new()) == looks && work.hashed.computations.made(&Start::new()) == computations
 }
 
 /// Whether a put takes two looks and six computations, and a get one look and none.

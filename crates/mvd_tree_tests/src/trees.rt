@@ -82,7 +82,7 @@ fn changes_by(
 ) -> Result<bool, Refusal> {
     let mut hashed = nothing();
     tree.change(key, digest, &mut hashed)?;
-    Ok(hashed.computations.made() == 5 && hashed.bytes.made() == bytes)
+    Ok(hashed.computations.made(&Start::new()) == 5 && hashed.bytes.made(&Start::new()) == bytes)
 }
 
 /// Whether the tree is that of no key.
@@ -248,7 +248,7 @@ fn opens(alloc: Global, entries: Vec<(Key, [u8; 32])>, most: u64) -> Result<bool
     }
     let mut hashed = nothing();
     match Tree::open(alloc, entries, &mut hashed) {
-        Ok(tree) => Ok(hashed.computations.made() <= most && node_is(alloc, &tree, &[], &MANY)?),
+        Ok(tree) => Ok(hashed.computations.made(&Start::new()) <= most && node_is(alloc, &tree, &[], &MANY)?),
         Err(refusal) => Err(refusal),
     }
 }

@@ -63,7 +63,7 @@ returns-in-Range-clause-costs c =
 
 pub returns-in-Row-clause-costs : goal.returns-in-Row-clause-costs
 returns-in-Row-clause-costs c =
-    subst (λ r. PrepareCosts r c.prepare_row.result c.args.work.now (record { looks = c.args.work.now.looks; rows = c.prepare_row.new.meter; hashed = c.args.work.now.hashed })) (sym c.in-Row.is) (paged c.args.work.now c.prepare_row.new.meter 1 c.prepare_row.ensures.looks)
+    subst (λ r. PrepareCosts r c.prepare_row.result c.args.work.now (record { looks = c.args.work.now.looks; rows = c.prepare_row.new.meter; hashed = c.args.work.now.hashed })) (sym c.in-Row.is) (paged c.args.work.now c.prepare_row.new.meter (prepared_looks c.prepare_row.result) c.prepare_row.ensures.looks)
 
 pub returns-in-Rows-clause-costs : goal.returns-in-Rows-clause-costs
 returns-in-Rows-clause-costs c =

@@ -1,0 +1,5 @@
+pub mod CourseLemmas
+pub mod FrontLemmas
+pub mod KeptLemmas
+pub mod LengthLemmas
+pub mod StandLemmas

@@ -1,0 +1,170 @@
+-- What went through a connection, and what each call makes of it.
+use Rattle.std.specs.Prelude.{◌≡◌, ℕ, ◌-◌, Bool, true, false, ◌==◌, ◌&&◌, ◌||◌, nat_le, if◌then◌else◌, List, [], ◌∷◌, ◌++◌, length, take, drop, Option, Some, None, is_some, Result, Ok, Err}
+use Rattle.mvd_dots.specs.declared.refusals.Refusal.{Refusal}
+use Rattle.mvd_dots.specs.declared.refusals.Refusal.TheVariants.{FrameTooLong, Memory, Truncated, TooManyRequests, WriteFailed}
+use Rattle.mvd_dots.specs.Refusal.{number_of}
+use Rattle.mvd_wire.specs.declared.request.Request.TheVariants.{Bye}
+use Rattle.mvd_wire.specs.declared.reply.Reply.TheVariants.{Refused}
+use Rattle.mvd_wire.specs.Frames.{FrameValue, frame_at}
+use Rattle.mvd_wire.specs.Requests as asked
+use Rattle.mvd_wire.specs.Replies.{reply_bytes}
+use Rattle.mvd_conn.specs.declared.ending.Source.{Source}
+use Rattle.mvd_conn.specs.declared.ending.Source.TheVariants as source
+use Rattle.mvd_conn.specs.declared.ending.Ending.{Ending}
+use Rattle.mvd_conn.specs.declared.ending.Ending.TheVariants as ending
+
+pub record History : Type 0 where
+  -- all bytes that came in, those that are not taken yet, and whether more may come
+  pub came : List ℕ
+  pub held : List ℕ
+  pub source : Source
+  -- all frames that were taken, and the last of them while it can be looked at
+  pub taken : List FrameValue
+  pub hand : Option FrameValue
+  -- the frames of all replies, and why no further frame is taken
+  pub answers : List (List ℕ)
+  pub last : Option Ending
+  -- all bytes that left, those that wait, and whether the writer failed
+  pub left : List ℕ
+  pub waits : List ℕ
+  pub failed : Bool
+
+-- ---- limits
+
+-- as many frames of a connection are taken
+abbrev pub frames_most : ℕ
+frames_most = 1000000
+
+-- as many frames may be taken and not answered
+abbrev pub due_most : ℕ
+due_most = 64
+
+-- where as many bytes wait, nothing more is taken and nothing more is wanted
+abbrev pub waits_most : ℕ
+waits_most = 262144
+
+-- as many bytes may come at once
+abbrev pub piece_most : ℕ
+piece_most = 65536
+
+-- a frame with its length has at most as many bytes
+abbrev pub frame_most : ℕ
+frame_most = 1200004
+
+-- ---- what comes next
+
+-- the number of frames that were taken and are not answered
+abbrev pub due : History → ℕ
+due h = length h.taken - length h.answers
+
+-- the frame of a Bye
+abbrev pub is_bye : FrameValue → Bool
+is_bye f = (f.kind == asked.kind_of Bye) && (length f.payload == 0)
+
+-- a frame, with what follows it; the end after a frame; a refusal; or more bytes are wanted
+pub data Next : Type 0 where
+  Gives : FrameValue → List ℕ → Next
+  Over : Next
+  Stops : Refusal → Next
+  Waits : Next
+
+-- where no whole frame is held
+abbrev pub next_of_source : Source → List ℕ → Next
+next_of_source source.Open held = Waits
+next_of_source source.AtEnd [] = Over
+next_of_source source.AtEnd (b ∷ held) = Stops Truncated
+next_of_source (source.Failed refusal) held = Stops refusal
+
+-- a length that no frame has is told at once
+abbrev pub next_held : Source → List ℕ → Result (Option FrameValue × List ℕ) Refusal → Next
+next_held from held (Ok (Some f, rest)) = Gives f rest
+next_held from held (Ok (None, rest)) = next_of_source from held
+next_held from held (Err refusal) = if number_of refusal == number_of FrameTooLong then Stops FrameTooLong else next_of_source from held
+
+-- the first cause decides: as many frames as there may be, a whole frame, a length that no frame has, the source's end
+abbrev pub next_of : History → Next
+next_of h = if length h.taken == frames_most then Stops TooManyRequests else next_held h.source h.held (frame_at h.held)
+
+-- nothing more is taken, or not before replies are queued or leave
+abbrev pub is_held_up : History → Bool
+is_held_up h = is_some h.last || h.failed || nat_le waits_most (length h.waits) || nat_le due_most (due h)
+
+-- more bytes are wanted: no whole frame is held, and there is room for replies
+pub record WantsInput (h : History) : Type 0 where
+  pub going : h.last ≡ None
+  pub whole : h.failed ≡ false
+  pub room : nat_le waits_most (length h.waits) ≡ false
+  pub next : next_of h ≡ Waits
+
+-- ---- what calls do
+
+abbrev pub new_history : History
+new_history = record { came = []; held = []; source = source.Open; taken = []; hand = None; answers = []; last = None; left = []; waits = []; failed = false }
+
+-- the frame in hand can no longer be looked at
+abbrev pub released : History → History
+released h = record h { hand = None }
+
+-- bytes came
+abbrev pub fed : History → List ℕ → History
+fed h bytes = record h { came = h.came ++ bytes; held = h.held ++ bytes; hand = None }
+
+-- no further bytes come, unless that was told before
+abbrev pub first_source : Source → Source → Source
+first_source source.Open new = new
+first_source source.AtEnd new = source.AtEnd
+first_source (source.Failed refusal) new = source.Failed refusal
+
+abbrev pub closed : History → Source → History
+closed h new = record h { source = first_source h.source new }
+
+-- a frame is handed out; a Bye is the last
+abbrev pub taking : History → FrameValue → List ℕ → History
+taking h f rest = record h { held = rest; taken = h.taken ++ f ∷ []; hand = Some f; last = if is_bye f then Some ending.Bye else h.last }
+
+-- the frame that tells of an end
+abbrev pub last_bytes : Option Ending → List ℕ
+last_bytes None = []
+last_bytes (Some ending.Bye) = []
+last_bytes (Some ending.End) = []
+last_bytes (Some (ending.Stopped refusal)) = reply_bytes (Refused refusal)
+
+abbrev pub over : History → History
+over h = record h { last = Some ending.End }
+
+abbrev pub stopped : History → Refusal → History
+stopped h refusal = record h { last = Some (ending.Stopped refusal); waits = h.waits ++ last_bytes (Some (ending.Stopped refusal)) }
+
+-- an end is told once all replies are queued
+abbrev pub stepped : History → Next → Bool × History
+stepped h (Gives f rest) = (true, taking h f rest)
+stepped h Over = (false, if due h == 0 then over h else h)
+stepped h (Stops refusal) = (false, if due h == 0 then stopped h refusal else h)
+stepped h Waits = (false, h)
+
+-- whether a frame is handed out, and what the connection is then
+abbrev pub after_next : History → Bool × History
+after_next h = if is_held_up h then (false, released h) else stepped (released h) (next_of h)
+
+-- want of memory where a frame would be handed out, and none is
+abbrev pub NextRefused : History → Refusal → History → Type 0
+NextRefused old refusal new = (refusal ≡ Memory) × ((after_next old).0 ≡ true) × (new ≡ released old)
+
+-- a reply is queued
+abbrev pub replied : History → List ℕ → History
+replied h frame = record h { answers = h.answers ++ frame ∷ []; waits = h.waits ++ frame }
+
+-- so many of the waiting bytes left
+abbrev pub sent : History → ℕ → History
+sent h count = record h { left = h.left ++ take count h.waits; waits = drop count h.waits }
+
+abbrev pub cut : History → History
+cut h = record h { failed = true }
+
+-- how a connection ended, which a failure of its writer decides
+abbrev pub ending_of : History → Option Ending
+ending_of h = if h.failed then Some (ending.Stopped WriteFailed) else h.last
+
+-- nothing more comes, and nothing more leaves
+abbrev pub is_done : History → Bool
+is_done h = h.failed || (is_some h.last && (due h == 0) && (length h.waits == 0))

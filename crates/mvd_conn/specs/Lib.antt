@@ -1,0 +1,4 @@
+pub mod History
+pub mod Stands
+pub mod Front
+pub mod Inside

@@ -1,0 +1,11 @@
+//! A connection without IO: bytes come in, whole frames are taken one by one, replies are queued, and bytes leave.
+#![tactic(auto)]
+
+mod connection;
+pub mod ending;
+pub mod laws;
+mod room;
+mod scan;
+
+pub use connection::Connection;
+pub use ending::{Ending, Source};

@@ -1,0 +1,63 @@
+//! What stands at the front of the input.
+ghost use Rattle.std.specs.Prelude.{◌≡◌, if◌then◌else◌, Some};
+ghost use Rattle.mvd_conn.specs.declared.ending.Ending.TheVariants as Ending;
+ghost use Rattle.mvd_conn.specs.History.{is_bye};
+ghost use Rattle.mvd_conn.specs.Front.{IsFront};
+
+use crate::ending::Ending;
+use mvd_dots::Refusal;
+use mvd_wire::FRAME_LIMIT;
+
+/// What bytes begin with.
+#[derive(Clone, Copy)]
+pub(crate) enum Front {
+    /// A whole frame, of so many bytes with its length.
+    Whole(usize),
+    /// A part of a frame, or nothing.
+    Part,
+    /// A length that no frame has.
+    TooLong,
+}
+
+/// What comes next of a connection.
+#[derive(Clone, Copy)]
+pub(crate) enum Found {
+    /// A whole frame, of so many bytes with its length.
+    Frame(usize),
+    /// The end, after a frame.
+    End,
+    /// An end with this refusal.
+    Stops(Refusal),
+    /// Nothing, until more bytes come.
+    Nothing,
+}
+
+/// Looks at the front of the bytes. It reads four of them.
+pub(crate) fn front_of(bytes: &[u8]) -> Front
+    ensures { IsFront bytes.now result }
+{
+    if bytes.len() < 4 {
+        return Front::Part;
+    }
+    let mut head = [0u8; 4];
+    head.copy_from_slice(&bytes[..4]);
+    let length = u32::from_be_bytes(head) as usize;
+    if length == 0 || length > FRAME_LIMIT {
+        return Front::TooLong;
+    }
+    if bytes.len() - 4 < length {
+        return Front::Part;
+    }
+    Front::Whole(4 + length)
+}
+
+/// Why no frame is taken after this one, or what was known of that before.
+pub(crate) fn last_after(kind: u8, payload: &[u8], last: Option<Ending>) -> Option<Ending>
+    ensures { result ≡ (if is_bye (record { kind = kind; payload = payload.now }) then Some Ending.Bye else last) }
+{
+    if kind == 0x2F && payload.is_empty() {
+        Some(Ending::Bye)
+    } else {
+        last
+    }
+}

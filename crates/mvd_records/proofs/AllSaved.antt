@@ -1,0 +1,62 @@
+-- What a call leaves that saves the states of many keys.
+use Rattle.std.proofs.Common.{◌≡◌, ℕ, List, [], ◌∷◌, ◌++◌, IsTrue, Ok, inl, ◌+◌, take, arith, refl, sym, ap, subst, ◌∙◌}
+use Rattle.std.proofs.lemmas.List.{map-append}
+use Rattle.std.specs.FinMap.{insert}
+use Rattle.sqlite.specs.declared.types.Value.TheVariants.{Text, Blob}
+use Rattle.sqlite.specs.Effect.{Database, IsDatabase}
+use Rattle.sqlite.specs.Tree.{Trees}
+use Rattle.sqlite.specs.State.{State, Executes}
+use Rattle.sqlite.specs.Held.{Held, state}
+use Rattle.sqlite.specs.Listing.{understood}
+use Rattle.sqlite.proofs.Callers.{runs_as, statement_of}
+use Rattle.sqlite_trees.specs.declared.store.Store.{Ghosts}
+use Rattle.mvd_records.specs.Tables.{all_tables}
+use Rattle.mvd_records.specs.States.{States}
+use Rattle.mvd_records.specs.Records.{HoldsRecords, IsSettled, Leaves, SavesStates, SavesState, StaysInside, with_pairs}
+use Rattle.mvd_records.specs.Pairs.{Pair, entries_of}
+use Rattle.mvd_records.proofs.Opened.{begun}
+use Rattle.mvd_records.proofs.Saved.{saved}
+use Rattle.mvd_records.proofs.Texts.{save_text, save_command, save_is, save_plain}
+
+-- the statement, run inside a transaction
+pub set : (version site : ℕ) (old new : State) (key bytes : List ℕ) (count : ℕ) → IsDatabase old.now → HoldsRecords version site old.now → Executes save_text (Text key ∷ Blob bytes ∷ []) old new (Ok count)
+    → IsDatabase new.now × (HoldsRecords version site new.now × SavesState old.now new.now key bytes)
+set version site old new key bytes count sound holds h =
+    let w = runs_as save_text (Text key ∷ Blob bytes ∷ []) old new all_tables holds.tables.schema save_command save_is save_plain count h in
+    (w.sound, saved old.step_limit (statement_of save_text (understood all_tables save_text)) version site old.now new.now w.tally key bytes sound holds w.changed)
+
+with_more : (states : States) (pairs : List (List ℕ × List ℕ)) (p : List ℕ × List ℕ) → with_pairs states (pairs ++ p ∷ []) ≡ insert (with_pairs states pairs) p.0 p.1
+with_more states [] p = refl
+with_more states (q ∷ pairs) p = with_more (insert states q.0 q.1) pairs p
+
+pub none_saved : (db : Database) → SavesStates db db []
+none_saved db = record { old_same = refl; saved = refl }
+
+pub one_more : (a b c : Database) (pairs : List (List ℕ × List ℕ)) (key bytes : List ℕ) → SavesStates a b pairs → SavesState b c key bytes → SavesStates a c (pairs ++ (key, bytes) ∷ [])
+one_more a b c pairs key bytes so_far one = record {
+  old_same = one.old_same ∙ so_far.old_same;
+  saved = one.saved ∙ (ap (λ (m : States). insert m key bytes) so_far.saved ∙ sym (with_more _ pairs (key, bytes)));
+}
+
+module _ {S : Type 0} (g : Ghosts S) (old mid : Held S) where
+  -- what a crash may leave of the commit of many states
+  pub all_leave : (pairs : List (List ℕ × List ℕ)) → IsSettled (state g old)
+      → ((version site : ℕ) → IsTrue (begun g old mid).in_transaction → IsDatabase (begun g old mid).now → HoldsRecords version site (begun g old mid).now → HoldsRecords version site (state g mid).now × SavesStates (begun g old mid).now (state g mid).now pairs)
+      → (db : Trees) → db ≡ (state g mid).now.trees → Leaves (state g old) (λ version site db. HoldsRecords version site db × SavesStates (state g old).committed db pairs) db
+  all_leave pairs settled stored db is version site was holds =
+      let now = settled.settled was in
+      let it = stored version site refl (settled.live was).0 (subst (HoldsRecords version site) (sym now) holds) in
+      ((state g mid).now, (it.0, subst (λ (d : Database). SavesStates d (state g mid).now pairs) now it.1), is)
+
+-- nothing was done
+pub stays_self : (a : State) → StaysInside a a
+stays_self a = record {
+  kept = λ _ _. record { was_open = λ h. h; committed = λ _. refl };
+  survives = record { clean = omega arith; shield = λ h. h; counts = omega arith; limit = refl; closes = λ _ was. inl was; crash = λ _ _ may. inl may };
+}
+
+pub entries_more : (pairs : List Pair) (i : ℕ) (p : Pair) → take (i + 1) pairs ≡ take i pairs ++ p ∷ [] → entries_of (take (i + 1) pairs) ≡ entries_of (take i pairs) ++ (p.0, p.1.items) ∷ []
+entries_more pairs i p e = ap entries_of e ∙ map-append _ (take i pairs) (p ∷ [])
+
+pub saves_as : (a b : Database) (key key' bytes bytes' : List ℕ) → key ≡ key' → bytes ≡ bytes' → SavesState a b key bytes → SavesState a b key' bytes'
+saves_as a b key key' bytes bytes' k d it = subst (λ x. SavesState a b x bytes') k (subst (SavesState a b key) d it)

@@ -53,6 +53,11 @@ impl Model for Kept {
 }
 
 impl Kept {
+    /// The allocator that it keeps.
+    pub fn alloc(&self) -> Global {
+        self.alloc
+    }
+
     pub fn config(&self) -> &Config
         ensures { result.now ≡ self.now.config }
     {

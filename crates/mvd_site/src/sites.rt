@@ -82,6 +82,11 @@ impl Site {
         &self.kept
     }
 
+    /// The allocator that it keeps.
+    pub fn alloc(&self) -> Global {
+        self.kept.alloc()
+    }
+
     pub fn config(&self) -> &Config
         ensures { result.now ≡ self.now.config }
     {

@@ -31,7 +31,7 @@ use std::alloc::Global;
 impl Kept {
     /// What a site with no key keeps.
     pub fn new(alloc: Global, config: Config, work: &mut Work) -> Result<Kept, Refusal>
-        ensures { IsAnswer result (Ok (record { config = config; states = map.empty; broken = false })) }
+        ensures made { IsAnswer result (Ok (record { config = config; states = map.empty; broken = false })) }
         ensures costs { Costs 0 0 0 4369 174720 work.old work.new }
     {
         let tree = Tree::new(alloc, &mut work.hashed)?;

@@ -4,3 +4,4 @@ pub mod Turns
 pub mod Served
 pub mod Steps
 pub mod Sides
+pub mod Batch

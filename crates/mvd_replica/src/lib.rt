@@ -1,6 +1,7 @@
 //! A site with its records, and the answering of one connection.
 #![tactic(auto)]
 
+mod batch;
 mod opening;
 pub mod replica;
 pub mod serving;

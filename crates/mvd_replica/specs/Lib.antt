@@ -5,3 +5,4 @@ pub mod Served
 pub mod Steps
 pub mod Sides
 pub mod Batch
+pub mod Groups

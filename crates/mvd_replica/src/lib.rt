@@ -2,6 +2,7 @@
 #![tactic(auto)]
 
 mod batch;
+mod groups;
 mod opening;
 pub mod replica;
 pub mod serving;

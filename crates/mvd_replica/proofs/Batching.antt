@@ -1,6 +1,7 @@
 -- Turns of a replica: what follows from what each does to the states, and turns after turns.
-use Rattle.std.proofs.Common.{◌≡◌, ◌≢◌, ◌⊎◌, ◌∙◌, ℕ, Bool, true, false, List, [], ◌∷◌, ◌++◌, map, Option, Some, None, Result, Ok, Err, IsSomeAnd, refl, sym, ap, ap₂, subst, inl, inr, true≢false, append_assoc, append-nil}
-use Rattle.std.proofs.lemmas.List.{map-append}
+use Rattle.std.proofs.Common.{◌≡◌, ◌≢◌, ◌⊎◌, ◌∙◌, ℕ, Bool, true, false, List, [], ◌∷◌, ◌++◌, map, Option, Some, None, Result, Ok, Err, IsSomeAnd, refl, sym, ap, ap₂, subst, subst₂, inl, inr, true≢false, append_assoc, append-nil, ◌+◌, ◌-◌, ◌<◌, ◌≤◌, arith, length, take, drop, length-append, length-drop}
+use Rattle.std.proofs.Math.Seq.{take-add}
+use Rattle.std.proofs.lemmas.List.{length-map, length-take-le, map-append, take_all}
 use Rattle.std.specs.Prelude.{IsTrue}
 use Rattle.std.specs.List.{AllByRecursion}
 use Rattle.mvd_dots.specs.declared.refusals.Refusal.{Refusal}
@@ -24,7 +25,7 @@ use Rattle.mvd_site.proofs.Prepare.{refuses_all}
 use Rattle.mvd_site.proofs.Pushes.{refusal_is}
 use Rattle.mvd_site.proofs.Steps.{Adds-nothing, Stands-nothing, state_at-stands}
 use Rattle.mvd_sync.specs.Sides.{SiteFollows, site_follows_on, site_follows_self}
-use Rattle.mvd_replica.specs.Batch.{AnswersAll, AnswersOneFrom, AreAmong, HoldsLost, TakesAllFrom, TakesFrom, TakesTurns, TurnsFollow, after_all}
+use Rattle.mvd_replica.specs.Batch.{AnswersAll, AnswersFront, AnswersOneFrom, AreAmong, HoldsLost, TakesAllFrom, TakesFrom, TakesTurns, TurnsFollow, after_all}
 use Rattle.mvd_replica.specs.Kept.{HoldsSite, HoldsStates}
 use Rattle.mvd_replica.specs.Sides.{AnswersFromStored, HoldsBroken, ReplicaFollows, StoreRefusedFrom}
 use Rattle.mvd_replica.specs.Turns.{AddsAt, Event, IsFirstBroken, IsToldBroken, IsToldElse, MayReplyStored, MayTell, Replies, RepliesOne, StandsOn, Tells, Turn}
@@ -422,3 +423,36 @@ AnswersAll-answered old new before after request reply states choice config fits
       fits = fits;
       choice = choice;
     }) broken (follows_by old new request reply before after config stays same sound holds clean taken broken states stored))
+
+-- ---- the first of some requests, and those after them
+
+length_replies : (requests : List Request) (replies : List Reply) (old new : SiteValue) (before after : State) → AnswersAll requests replies old new before after → length replies ≡ length requests
+length_replies requests replies old new before after all =
+    ap length (sym all.told) ∙ length-map all.turns (λ (t : Turn). t.reply) ∙ sym (length-map all.turns (λ (t : Turn). t.asked)) ∙ ap length all.asked ∙ length-map requests (λ (r : Request). Ok r)
+
+-- as the code has what is left of them
+pub front_of : (requests : List Request) (n : ℕ) (told given : List Reply) (mid new : SiteValue) (between after : State) → n ≡ length told → AnswersFront (take (length requests - n) (drop n requests)) told given mid new between after →
+    AnswersFront (drop (length told) requests) told given mid new between after
+front_of requests n told given mid new between after same front =
+    let low : length (drop n requests) ≤ length requests - n = omega (arith, length-drop n requests) in
+    subst (λ r. AnswersFront r told given mid new between after) (take_all (length requests - n) (drop n requests) low ∙ ap (λ k. drop k requests) same) front
+
+module _ (requests : List Request) (told given : List Reply) (old mid new : SiteValue) (before between after : State) (few : length told ≤ length requests)
+    (one : AnswersAll (take (length told) requests) told old mid before between) (front : AnswersFront (drop (length told) requests) told given mid new between after) where
+  count_front : length front.replies ≡ front.count
+  count_front = length_replies (take front.count (drop (length told) requests)) front.replies mid new between after front.answers ∙ length-take-le front.count (drop (length told) requests) front.within
+
+  length_front : length given ≡ length told + front.count
+  length_front = ap length front.appended ∙ length-append told front.replies ∙ ap (λ n. length told + n) count_front
+
+  pub front_grows : length told < length given
+  front_grows = omega (arith, length_front, front.some)
+
+  pub front_within : length given ≤ length requests
+  front_within = omega (arith, length_front, front.within, length-drop (length told) requests, few)
+
+  pub front_answers : AnswersAll (take (length given) requests) given old new before after
+  front_answers =
+      subst₂ (λ l r. AnswersAll l r old new before after)
+      (sym (ap (λ n. take n requests) length_front ∙ take-add (length told) front.count requests)) (sym front.appended)
+      (AnswersAll-append (take (length told) requests) (take front.count (drop (length told) requests)) told front.replies old mid new before between after one front.answers)

@@ -8,3 +8,5 @@ pub mod Moving
 pub mod Sides
 pub mod Breaking
 pub mod Ordered
+pub mod Batching
+pub mod Grouping

@@ -4,3 +4,5 @@ pub mod Turns
 pub mod Served
 pub mod Steps
 pub mod Sides
+pub mod Batch
+pub mod Groups

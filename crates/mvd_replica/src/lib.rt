@@ -1,6 +1,8 @@
 //! A site with its records, and the answering of one connection.
 #![tactic(auto)]
 
+mod batch;
+mod groups;
 mod opening;
 pub mod replica;
 pub mod serving;

@@ -33,9 +33,9 @@ use std::alloc::Global;
 /// A site, and its records: unless the site is broken, they hold its states.
 #[derive(Drop)]
 pub struct Replica<S: Alter> {
-    alloc: Global,
-    site: Site,
-    records: Records<S>,
+    pub(crate) alloc: Global,
+    pub(crate) site: Site,
+    pub(crate) records: Records<S>,
     ghost moved: { records.version ≡ 2 },
 }
 

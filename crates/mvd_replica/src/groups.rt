@@ -17,6 +17,9 @@ use mvd_wire::{Reply, Request};
 use sqlite::Alter;
 use std::alloc::Global;
 
+/// As many requests share a commit, so that no request is held against many others.
+const SHARING_MAX: usize = 1_024;
+
 /// Whether the answer to a request can depend on the state of this key.
 fn sees(request: &Request, key: &Key) -> bool
     ensures { result ≡ false → IsElsewhere key.now request.now }
@@ -62,6 +65,9 @@ fn must_wait(site: &Site, group: &[Prepared], changes: u32, request: &Request) -
 {
     if changes == 0 {
         return false;
+    }
+    if group.len() >= SHARING_MAX {
+        return true;
     }
     let most = site.config().max_keys();
     if site.key_count() + changes >= most {

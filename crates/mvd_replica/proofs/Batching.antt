@@ -29,7 +29,7 @@ use Rattle.mvd_replica.specs.Batch.{AnswersAll, AnswersFront, AnswersOneFrom, Ar
 use Rattle.mvd_replica.specs.Kept.{HoldsSite, HoldsStates}
 use Rattle.mvd_replica.specs.Sides.{AnswersFromStored, HoldsBroken, ReplicaFollows, StoreRefusedFrom}
 use Rattle.mvd_replica.specs.Turns.{AddsAt, Event, IsFirstBroken, IsToldBroken, IsToldElse, MayReplyStored, MayTell, Replies, RepliesOne, StandsOn, Tells, Turn}
-use Rattle.mvd_replica.proofs.Breaking.{else_both}
+use Rattle.mvd_replica.proofs.Breaking.{else_both, first_kept, first_later}
 use Rattle.mvd_replica.proofs.Sides.{follows_by}
 use Rattle.mvd_replica.proofs.Replying.{AddsAt-Refused, AddsAt-Refused-none, HasChoice, HasChoice-append, HasChoice-none, MayTell-memory, Replies-append, Replies-none, Replies-one, StandsOn-append, StandsOn-none, StandsOn-one}
 use Rattle.sqlite.specs.Effect.{Database}
@@ -247,7 +247,6 @@ pub takes : (turns : List Turn) (old new : SiteValue) (before after : State) →
 takes turns old new before after all follows = record {
   replies = replies_all turns old new all;
   stands = stands_all turns old new all;
-  states = all;
   config = config_all turns old new all;
   choice = choice_all turns old new all;
   fits = fits_all turns old new all;
@@ -298,17 +297,6 @@ lost_later first turns site db none lost = record {
   holds = lost.holds;
 }
 
-pub TurnsFollow-none : (site : SiteValue) (s : State) → TurnsFollow [] site site s s
-TurnsFollow-none site s = record {
-  site = site_follows_self site;
-  sound = λ sound. sound;
-  holds = λ _ holds. holds;
-  stays = λ _. refl;
-  stored = λ _ _ whole broken. absurd (true≢false (sym broken ∙ whole));
-  clean = λ clean. clean;
-  shut = λ _ _. refl;
-}
-
 module _ (first second : List Turn) (old mid new : SiteValue) (before between after : State) (p : TurnsFollow first old mid before between) (q : TurnsFollow second mid new between after)
     (none : mid.broken ≡ false → AllByRecursion IsToldElse first) where
   lost_on : (is : Bool) → mid.broken ≡ is → IsSound after → HoldsSite old before.committed → old.broken ≡ false → new.broken ≡ true → HoldsLost (first ++ second) new after.committed
@@ -336,29 +324,73 @@ module _ (first second : List Turn) (old mid new : SiteValue) (before between af
 
 -- ---- both
 
+fits_both : (first second : List Turn) → AllByRecursion (λ turn. CanBeSent turn.reply) first → AllByRecursion (λ turn. CanBeSent turn.reply) second → AllByRecursion (λ turn. CanBeSent turn.reply) (first ++ second)
+fits_both [] second one other = other
+fits_both (turn ∷ first) second one other = (one.0, fits_both first second one.1 other)
+
+whole_before : (mid new : SiteValue) (is : Bool) → mid.broken ≡ is → SiteFollows mid new → new.broken ≡ false → mid.broken ≡ false
+whole_before mid new false is follows whole = is
+whole_before mid new true is follows whole = sym (site_broken new mid (follows.1 is)) ∙ whole
+
+breaks_both : (first second : List Turn) (old mid new : SiteValue) (is : Bool) → mid.broken ≡ is → (mid.broken ≡ false → AllByRecursion IsToldElse first) → (mid.broken ≡ true → (request : Request) × IsFirstBroken first request) →
+    (mid.broken ≡ false → (request : Request) × IsFirstBroken second request) → (request : Request) × IsFirstBroken (first ++ second) request
+breaks_both first second old mid new true is none one other = let found : (request : Request) × IsFirstBroken first request = one is in (found.0, first_kept first second found.0 found.1)
+breaks_both first second old mid new false is none one other = let found : (request : Request) × IsFirstBroken second request = other is in (found.0, first_later first second found.0 (none is) found.1)
+
+-- nothing was done
+still_follows : (turns : List Turn) (site : SiteValue) (s : State) → TurnsFollow turns site site s s
+still_follows turns site s = record {
+  site = site_follows_self site;
+  sound = λ sound. sound;
+  holds = λ _ holds. holds;
+  stays = λ _. refl;
+  stored = λ _ _ whole broken. absurd (true≢false (sym broken ∙ whole));
+  clean = λ clean. clean;
+  shut = λ _ _. refl;
+}
+
 -- no turn
 pub TakesTurns-none : (site : SiteValue) (s : State) → TakesTurns [] site site s s
-TakesTurns-none site s = takes [] site site s s refl (TurnsFollow-none site s)
+TakesTurns-none site s = takes [] site site s s refl (still_follows [] site s)
 
 -- turns after turns
 pub TakesTurns-append : (first second : List Turn) (old mid new : SiteValue) (before between after : State) → TakesTurns first old mid before between → TakesTurns second mid new between after →
     TakesTurns (first ++ second) old new before after
-TakesTurns-append first second old mid new before between after one other =
-    takes (first ++ second) old new before after (TakesAllFrom-append first second old mid new one.states other.states)
-    (TurnsFollow-append first second old mid new before between after one.follows other.follows one.told)
+TakesTurns-append first second old mid new before between after one other = record {
+  replies = Replies-append old mid new first second one.config one.replies other.replies;
+  stands = StandsOn-append old mid new first second one.stands other.stands;
+  config = other.config ∙ one.config;
+  choice = HasChoice-append first second one.choice other.choice;
+  fits = fits_both first second one.fits other.fits;
+  told = λ whole. else_both first second (one.told (whole_before mid new mid.broken refl other.follows.site whole)) (other.told whole);
+  breaks = λ whole broken. breaks_both first second old mid new mid.broken refl (one.told) (one.breaks whole) (λ is. other.breaks is broken);
+  follows = TurnsFollow-append first second old mid new before between after one.follows other.follows one.told;
+}
+
+-- want of memory in place of a reply
+pub TakesTurns-memory : (site : SiteValue) (s : State) (asked : Result Request Refusal) → TakesTurns (record { asked = asked; reply = Refused Memory } ∷ []) site site s s
+TakesTurns-memory site s asked =
+    let turn : Turn = record { asked = asked; reply = Refused Memory } in
+    let one : RepliesOne site site turn = record {
+      replies = λ known stands. MayTell-memory site.config known site.broken site.broken asked refl;
+      stands = λ known added stands adds whole. still_stands site site known added refl (stands whole) (AddsAt-Refused asked Memory added adds);
+      keeps = λ known added stands adds. still_stands site site known added refl stands (AddsAt-Refused asked Memory added adds);
+    } in
+    record {
+      replies = Replies-one site site turn one;
+      stands = StandsOn-one site site turn one;
+      config = refl;
+      choice = HasChoice-turn asked (Refused Memory) ([], AddsAt-Refused-none asked Memory);
+      fits = (refused_fits Memory, tt);
+      told = λ _. ((λ request bad. (let is : Memory ≡ Broken = refusal_is Memory Broken bad.1 in absurd cc)), tt);
+      breaks = λ whole broken. absurd (true≢false (sym broken ∙ whole));
+      follows = still_follows (turn ∷ []) site s;
+    }
 
 -- a frame that is no request
 pub TakesTurns-fault : (site : SiteValue) (s : State) (fault : Refusal) (reply : Reply) → (reply ≡ Refused fault) ⊎ (reply ≡ Refused Memory) → TakesTurns (record { asked = Err fault; reply = reply } ∷ []) site site s s
 TakesTurns-fault site s fault reply told =
-    takes _ site site s s (site, (told, refl), refl) (record {
-      site = site_follows_self site;
-      sound = λ sound. sound;
-      holds = λ _ holds. holds;
-      stays = λ _. refl;
-      stored = λ _ _ whole broken. absurd (true≢false (sym broken ∙ whole));
-      clean = λ clean. clean;
-      shut = λ _ _. refl;
-    })
+    takes _ site site s s (site, (told, refl), refl) (still_follows _ site s)
 
 -- one request, answered by itself
 lost_one : (request : Request) (reply : Reply) (site : SiteValue) (db : Database) → reply ≡ Refused Broken → HoldsBroken (λ asked. asked ≡ request) site db → HoldsLost (record { asked = Ok request; reply = reply } ∷ []) site db
@@ -392,7 +424,7 @@ TakesTurns-one old new before after request reply one told follows =
 -- ---- requests
 
 pub AnswersAll-none : (site : SiteValue) (s : State) → AnswersAll [] [] site site s s
-AnswersAll-none site s = record { turns = []; asked = refl; told = refl; takes = TakesTurns-none site s }
+AnswersAll-none site s = record { turns = []; asked = refl; told = refl; states = refl; takes = TakesTurns-none site s }
 
 pub AnswersAll-append : (first second : List Request) (told given : List Reply) (old mid new : SiteValue) (before between after : State) → AnswersAll first told old mid before between →
     AnswersAll second given mid new between after → AnswersAll (first ++ second) (told ++ given) old new before after
@@ -400,12 +432,13 @@ AnswersAll-append first second told given old mid new before between after one o
   turns = one.turns ++ other.turns;
   asked = map-append (λ (t : Turn). t.asked) one.turns other.turns ∙ ap₂ (λ a b. a ++ b) one.asked other.asked ∙ sym (map-append (λ (r : Request). Ok r) first second);
   told = map-append (λ (t : Turn). t.reply) one.turns other.turns ∙ ap₂ (λ a b. a ++ b) one.told other.told;
+  states = TakesAllFrom-append one.turns other.turns old mid new one.states other.states;
   takes = TakesTurns-append one.turns other.turns old mid new before between after one.takes other.takes;
 }
 
-pub AnswersAll-one : (old new : SiteValue) (before after : State) (request : Request) (reply : Reply) → TakesTurns (record { asked = Ok request; reply = reply } ∷ []) old new before after →
+pub AnswersAll-one : (old new : SiteValue) (before after : State) (request : Request) (reply : Reply) → AnswersOneFrom old new request reply → TakesTurns (record { asked = Ok request; reply = reply } ∷ []) old new before after →
     AnswersAll (request ∷ []) (reply ∷ []) old new before after
-AnswersAll-one old new before after request reply one = record { turns = record { asked = Ok request; reply = reply } ∷ []; asked = refl; told = refl; takes = one }
+AnswersAll-one old new before after request reply from one = record { turns = record { asked = Ok request; reply = reply } ∷ []; asked = refl; told = refl; states = (new, from, refl); takes = one }
 
 -- a request that was answered by itself
 pub AnswersAll-answered : (old new : SiteValue) (before after : State) (request : Request) (reply : Reply) → AnswersFromStored old new request reply → ((added : List Write) × Adds request reply added) → new.config ≡ old.config →
@@ -415,14 +448,15 @@ pub AnswersAll-answered : (old new : SiteValue) (before after : State) (request 
     (IsSound after → HoldsSite old before.committed → old.broken ≡ false → reply ≡ Refused Broken → HoldsStates old.config.site (after_from old.config old.states request) after.committed) →
     AnswersAll (request ∷ []) (reply ∷ []) old new before after
 AnswersAll-answered old new before after request reply states choice config fits told broken stays same sound holds clean taken stored =
-    AnswersAll-one old new before after request reply (TakesTurns-one old new before after request reply
-    (record {
+    let from : AnswersOneFrom old new request reply = record {
       whole = states;
       broken = λ was. (broken (site_broken new old (stays was) ∙ was), stays was);
       told = told;
       fits = fits;
       choice = choice;
-    }) broken (follows_by old new request reply before after config stays same sound holds clean taken broken states stored))
+    } in
+    AnswersAll-one old new before after request reply from (TakesTurns-one old new before after request reply from broken
+    (follows_by old new request reply before after config stays same sound holds clean taken broken states stored))
 
 -- ---- the first of some requests, and those after them
 

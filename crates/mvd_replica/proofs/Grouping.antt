@@ -586,6 +586,7 @@ module _ (requests : List Request) (group : List Prepared) (replies : List Reply
         turns = turns_of requests replies;
         asked = asked_of requests replies one;
         told = told_of requests replies one;
+        states = takes_put requests group replies old new (λ _. ordered) sendable all;
         takes = takes (turns_of requests replies) old new before after (takes_put requests group replies old new (λ _. ordered) sendable all) (record {
           site = (config_put, λ broken. absurd (true≢false (sym broken ∙ was)));
           sound = sound;
@@ -606,6 +607,7 @@ answers_unstored requests group old before after was each sendable sound clean s
       turns = turns_of requests (map reply_unstored group);
       asked = asked_of requests (map reply_unstored group) one;
       told = told_of requests (map reply_unstored group) one;
+      states = takes_unstored requests group old was each sendable;
       takes = takes (turns_of requests (map reply_unstored group)) old old before after (takes_unstored requests group old was each sendable) (record {
         site = (refl, λ _. refl);
         sound = sound;

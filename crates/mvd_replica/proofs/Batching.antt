@@ -72,16 +72,16 @@ module _ (old new : SiteValue) (request : Request) (reply : Reply) (known : List
   may_from true was one stands = may_broken was (one.broken was).0 (one.broken was).1
   may_from false was one stands = elim one.whole [
     | inr store ↦ inr (record {
-        told = store.told;
-        changes = changes_known old.config old.states known request (stands was) store.changes;
-        whole = was;
-        still = site_broken new old store.site ∙ was;
-      })
+      told = store.told;
+      changes = changes_known old.config old.states known request (stands was) store.changes;
+      whole = was;
+      still = site_broken new old store.site ∙ was;
+    })
     | inl from ↦ elim (from was) [
-        | inl it ↦ may_answered was (site_broken new _ it.site) (stands was) (inl it.answers)
-        | inr (inl memory) ↦ may_answered was (site_broken new old memory.1 ∙ was) (stands was) (inr memory.0)
-        | inr (inr broke) ↦ may_broke was (site_broken new _ broke.1.site) (stands was) broke.0 broke.1.changes
-      ]
+      | inl it ↦ may_answered was (site_broken new _ it.site) (stands was) (inl it.answers)
+      | inr (inl memory) ↦ may_answered was (site_broken new old memory.1 ∙ was) (stands was) (inr memory.0)
+      | inr (inr broke) ↦ may_broke was (site_broken new _ broke.1.site) (stands was) broke.0 broke.1.changes
+    ]
   ]
 
 -- a refusal adds nothing
@@ -101,11 +101,11 @@ keeps_from old new request reply true was one known added stands adds =
 keeps_from old new request reply false was one known added stands adds = elim one.whole [
   | inr store ↦ still_stands old new known added (site_states new old store.site) stands (refused_adds request reply Store added store.told adds)
   | inl from ↦ elim (from was) [
-      | inl it ↦ subst (λ m. Stands m (known ++ added)) (sym (site_states new _ it.site))
-          (after_stands old.config old.states known request added stands (subst (λ r. Adds request r added) (it.answers ∙ answered old.config old.states known request stands) adds))
-      | inr (inl memory) ↦ still_stands old new known added (site_states new old memory.1) stands (refused_adds request reply Memory added memory.0 adds)
-      | inr (inr broke) ↦ still_stands old new known added (site_states new _ broke.1.site) stands (refused_adds request reply Broken added broke.0 adds)
-    ]
+    | inl it ↦ subst (λ m. Stands m (known ++ added)) (sym (site_states new _ it.site))
+        (after_stands old.config old.states known request added stands (subst (λ r. Adds request r added) (it.answers ∙ answered old.config old.states known request stands) adds))
+    | inr (inl memory) ↦ still_stands old new known added (site_states new old memory.1) stands (refused_adds request reply Memory added memory.0 adds)
+    | inr (inr broke) ↦ still_stands old new known added (site_states new _ broke.1.site) stands (refused_adds request reply Broken added broke.0 adds)
+  ]
 ]
 
 -- a site that is not broken was not
@@ -152,10 +152,10 @@ module _ (old new : SiteValue) where
   config_stored request reply false was one = elim one.whole [
     | inr store ↦ ap (λ (s : SiteValue). s.config) store.site
     | inl from ↦ elim (from was) [
-        | inl it ↦ ap (λ (s : SiteValue). s.config) it.site
-        | inr (inl memory) ↦ ap (λ (s : SiteValue). s.config) memory.1
-        | inr (inr broke) ↦ ap (λ (s : SiteValue). s.config) broke.1.site
-      ]
+      | inl it ↦ ap (λ (s : SiteValue). s.config) it.site
+      | inr (inl memory) ↦ ap (λ (s : SiteValue). s.config) memory.1
+      | inr (inr broke) ↦ ap (λ (s : SiteValue). s.config) broke.1.site
+    ]
   ]
 
   config_turn : (asked : Result Request Refusal) (reply : Reply) → TakesFrom old new asked reply → new.config ≡ old.config
@@ -179,14 +179,20 @@ module _ (old new : SiteValue) where
   whole_turn (Err fault) reply one whole = sym (site_broken new old one.1) ∙ whole
 
   breaks_turn : (asked : Result Request Refusal) (reply : Reply) → TakesFrom old new asked reply → old.broken ≡ false → new.broken ≡ true → (request : Request) × IsToldBroken request (record { asked = asked; reply = reply })
-  breaks_turn (Ok request) reply one whole broken = (request, (refl, elim one.whole [
-    | inr store ↦ absurd (true≢false (sym broken ∙ site_broken new old store.site ∙ whole))
-    | inl from ↦ elim (from whole) [
-        | inl it ↦ absurd (true≢false (sym broken ∙ site_broken new _ it.site))
-        | inr (inl memory) ↦ absurd (true≢false (sym broken ∙ site_broken new old memory.1 ∙ whole))
-        | inr (inr broke) ↦ broke.0
-      ]
-  ]))
+  breaks_turn (Ok request) reply one whole broken = (
+    request,
+    (
+      refl,
+      elim one.whole [
+        | inr store ↦ absurd (true≢false (sym broken ∙ site_broken new old store.site ∙ whole))
+        | inl from ↦ elim (from whole) [
+          | inl it ↦ absurd (true≢false (sym broken ∙ site_broken new _ it.site))
+          | inr (inl memory) ↦ absurd (true≢false (sym broken ∙ site_broken new old memory.1 ∙ whole))
+          | inr (inr broke) ↦ broke.0
+        ]
+      ],
+    ),
+  )
   breaks_turn (Err fault) reply one whole broken = absurd (true≢false (sym broken ∙ site_broken new old one.1 ∙ whole))
 
 HasChoice-turn : (asked : Result Request Refusal) (reply : Reply) → (added : List Write) × AddsAt asked reply added → HasChoice (record { asked = asked; reply = reply } ∷ [])

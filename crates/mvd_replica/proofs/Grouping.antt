@@ -156,7 +156,7 @@ module _ (config : ConfigValue) (m : States) (key : Key) (s : Keyed) (few : map_
 -- ---- and by changes of others
 
 len_most : (m : States) (key : Key) (s : Keyed) → map_len (insert m key s) ≤ map_len m + 1
-len_most m key s = subst (λ n. n ≤ map_len m + 1) (sym (len-insert key_total m key s)) (elim (is_some (get m key)) as (λ b. cond b (map_len m) (map_len m + 1) ≤ map_len m + 1) [ | true ↦ omega arith | false ↦ omega arith ])
+len_most m key s = subst (λ n. n ≤ map_len m + 1) (sym (len-insert key_total m key s)) (elim (is_some (get m key)) as (λ b. cond b (map_len m) (map_len m + 1) ≤ map_len m + 1) [ true ↦ omega arith | false ↦ omega arith ])
 
 abbrev HasRoom : ConfigValue → States → List Prepared → Type 0
 HasRoom config m group = 0 < changes_in group → map_len m + changes_in group < config.max_keys
@@ -635,7 +635,7 @@ refused_answer config states request refusal is =
 pub comes_refused : (site : SiteValue) (request : Request) (refusal : Refusal) → site.broken ≡ false → PreparesFrom site.config site.states request (Err refusal) → (refusal ≡ Broken → site.broken ≡ true) →
     ComesTo site.config site.states request (Answer (Refused refusal)) × IsSendable request (Answer (Refused refusal))
 comes_refused site request refusal whole from broken = (
-  elim from [ | inl is ↦ inl (refused_answer site.config site.states request refusal is) | inr memory ↦ inr (ap Refused memory) ],
+  elim from [ inl is ↦ inl (refused_answer site.config site.states request refusal is) | inr memory ↦ inr (ap Refused memory) ],
   record {
     other = λ bad. true≢false (sym (broken (refusal_is refusal Broken bad)) ∙ whole);
     fits = refused_fits refusal;

@@ -1,8 +1,5 @@
--- Turns of a replica: what follows from what each does to the states, and turns after turns.
-use Rattle.std.proofs.Common.{◌≡◌, ◌≢◌, ◌⊎◌, ◌∙◌, ℕ, Bool, true, false, List, [], ◌∷◌, ◌++◌, map, Option, Some, None, Result, Ok, Err, IsSomeAnd, refl, sym, ap, ap₂, subst, subst₂, inl, inr, true≢false, append_assoc, append-nil, ◌+◌, ◌-◌, ◌<◌, ◌≤◌, arith, length, take, drop, length-append, length-drop}
-use Rattle.std.proofs.Math.Seq.{take-add}
-use Rattle.std.proofs.lemmas.List.{length-map, length-take-le, map-append, take_all}
-use Rattle.std.specs.Prelude.{IsTrue}
+-- Turns of a replica: what follows from what each does to the states.
+use Rattle.std.proofs.Common.{◌≡◌, ◌≢◌, ◌⊎◌, ◌∙◌, Bool, true, false, List, [], ◌∷◌, ◌++◌, Option, Some, None, Result, Ok, Err, IsSomeAnd, refl, sym, ap, subst, inl, inr, true≢false}
 use Rattle.std.specs.List.{AllByRecursion}
 use Rattle.mvd_dots.specs.declared.refusals.Refusal.{Refusal}
 use Rattle.mvd_dots.specs.declared.refusals.Refusal.TheVariants.{Broken, Memory, Store}
@@ -12,28 +9,18 @@ use Rattle.mvd_wire.specs.declared.request.Request.{Request}
 use Rattle.mvd_wire.specs.declared.reply.Reply.{Reply}
 use Rattle.mvd_wire.specs.declared.reply.Reply.TheVariants.{Refused}
 use Rattle.mvd_wire.specs.Replies.{CanBeSent}
-use Rattle.mvd_records.specs.Records.{IsSound}
-use Rattle.mvd_site.specs.Answer.{answer}
 use Rattle.mvd_site.specs.Config.{ConfigValue}
-use Rattle.mvd_site.specs.FromStates.{AnswersFrom, after_from, answer_from, change_from, with_change}
-use Rattle.mvd_site.specs.Held.{States, state_at}
-use Rattle.mvd_site.specs.Known.{Adds, Changes, MayReply}
+use Rattle.mvd_site.specs.FromStates.{after_from, answer_from, change_from, with_change}
+use Rattle.mvd_site.specs.Held.{States}
+use Rattle.mvd_site.specs.Known.{Adds, Changes}
 use Rattle.mvd_site.specs.Sites.{SiteStands, SiteValue}
 use Rattle.mvd_site.proofs.Answered.{after_stands, answered, changed_alike, with_state-same}
 use Rattle.mvd_site.proofs.Outcomes.{refused_fits}
-use Rattle.mvd_site.proofs.Prepare.{refuses_all}
-use Rattle.mvd_site.proofs.Pushes.{refusal_is}
-use Rattle.mvd_site.proofs.Steps.{Adds-nothing, Stands-nothing, state_at-stands}
-use Rattle.mvd_sync.specs.Sides.{SiteFollows, site_follows_on, site_follows_self}
-use Rattle.mvd_replica.specs.Batch.{AnswersAll, AnswersFront, AnswersOneFrom, AreAmong, HoldsLost, TakesAllFrom, TakesFrom, TakesTurns, TurnsFollow, after_all}
-use Rattle.mvd_replica.specs.Kept.{HoldsSite, HoldsStates}
-use Rattle.mvd_replica.specs.Sides.{AnswersFromStored, HoldsBroken, ReplicaFollows, StoreRefusedFrom}
-use Rattle.mvd_replica.specs.Turns.{AddsAt, Event, IsFirstBroken, IsToldBroken, IsToldElse, MayReplyStored, MayTell, Replies, RepliesOne, StandsOn, Tells, Turn}
-use Rattle.mvd_replica.proofs.Breaking.{else_both}
-use Rattle.mvd_replica.proofs.Sides.{follows_by}
-use Rattle.mvd_replica.proofs.Replying.{AddsAt-Refused, AddsAt-Refused-none, HasChoice, HasChoice-append, HasChoice-none, MayTell-memory, Replies-append, Replies-none, Replies-one, StandsOn-append, StandsOn-none, StandsOn-one}
-use Rattle.sqlite.specs.Effect.{Database}
-use Rattle.sqlite.specs.State.{HasCleanDisk, State}
+use Rattle.mvd_site.proofs.Steps.{Stands-nothing, state_at-stands}
+use Rattle.mvd_replica.specs.Batch.{AnswersOneFrom, TakesAllFrom, TakesFrom, TakesTurns, TurnsFollow}
+use Rattle.mvd_replica.specs.Turns.{AddsAt, Event, IsFirstBroken, IsToldBroken, IsToldElse, MayReplyStored, MayTell, Replies, RepliesOne, StandsOn, Turn}
+use Rattle.mvd_replica.proofs.Replying.{AddsAt-Refused, HasChoice, HasChoice-append, HasChoice-none, Replies-append, Replies-none, Replies-one, StandsOn-append, StandsOn-none, StandsOn-one}
+use Rattle.sqlite.specs.State.{State}
 
 -- ---- one request, from the states and so from the writes
 
@@ -46,7 +33,7 @@ changes_known config m known request stands differs =
     subst (λ o. IsSomeAnd o (λ c. c.1 ≢ state c.0 known)) (changed_alike config m known request stands)
     (some_differs m known (change_from m request (answer_from config m request)) stands differs)
 
-site_broken : (a b : SiteValue) → a ≡ b → a.broken ≡ b.broken
+pub site_broken : (a b : SiteValue) → a ≡ b → a.broken ≡ b.broken
 site_broken a b same = ap (λ (s : SiteValue). s.broken) same
 
 module _ (old new : SiteValue) (request : Request) (reply : Reply) (known : List Write) where
@@ -72,23 +59,23 @@ module _ (old new : SiteValue) (request : Request) (reply : Reply) (known : List
   may_from true was one stands = may_broken was (one.broken was).0 (one.broken was).1
   may_from false was one stands = elim one.whole [
     | inr store ↦ inr (record {
-        told = store.told;
-        changes = changes_known old.config old.states known request (stands was) store.changes;
-        whole = was;
-        still = site_broken new old store.site ∙ was;
-      })
+      told = store.told;
+      changes = changes_known old.config old.states known request (stands was) store.changes;
+      whole = was;
+      still = site_broken new old store.site ∙ was;
+    })
     | inl from ↦ elim (from was) [
-        | inl it ↦ may_answered was (site_broken new _ it.site) (stands was) (inl it.answers)
-        | inr (inl memory) ↦ may_answered was (site_broken new old memory.1 ∙ was) (stands was) (inr memory.0)
-        | inr (inr broke) ↦ may_broke was (site_broken new _ broke.1.site) (stands was) broke.0 broke.1.changes
-      ]
+      | inl it ↦ may_answered was (site_broken new _ it.site) (stands was) (inl it.answers)
+      | inr (inl memory) ↦ may_answered was (site_broken new old memory.1 ∙ was) (stands was) (inr memory.0)
+      | inr (inr broke) ↦ may_broke was (site_broken new _ broke.1.site) (stands was) broke.0 broke.1.changes
+    ]
   ]
 
 -- a refusal adds nothing
 refused_adds : (request : Request) (reply : Reply) (refusal : Refusal) (added : List Write) → reply ≡ Refused refusal → Adds request reply added → added ≡ []
 refused_adds request reply refusal added told adds = AddsAt-Refused (Ok request) refusal added (subst (λ r. Adds request r added) told adds)
 
-still_stands : (old new : SiteValue) (known added : List Write) → new.states ≡ old.states → Stands old.states known → added ≡ [] → Stands new.states (known ++ added)
+pub still_stands : (old new : SiteValue) (known added : List Write) → new.states ≡ old.states → Stands old.states known → added ≡ [] → Stands new.states (known ++ added)
 still_stands old new known added same stands none = subst (λ m. Stands m (known ++ added)) (sym same) (Stands-nothing old.states known added stands none)
 
 site_states : (a b : SiteValue) → a ≡ b → a.states ≡ b.states
@@ -101,11 +88,11 @@ keeps_from old new request reply true was one known added stands adds =
 keeps_from old new request reply false was one known added stands adds = elim one.whole [
   | inr store ↦ still_stands old new known added (site_states new old store.site) stands (refused_adds request reply Store added store.told adds)
   | inl from ↦ elim (from was) [
-      | inl it ↦ subst (λ m. Stands m (known ++ added)) (sym (site_states new _ it.site))
-          (after_stands old.config old.states known request added stands (subst (λ r. Adds request r added) (it.answers ∙ answered old.config old.states known request stands) adds))
-      | inr (inl memory) ↦ still_stands old new known added (site_states new old memory.1) stands (refused_adds request reply Memory added memory.0 adds)
-      | inr (inr broke) ↦ still_stands old new known added (site_states new _ broke.1.site) stands (refused_adds request reply Broken added broke.0 adds)
-    ]
+    | inl it ↦ subst (λ m. Stands m (known ++ added)) (sym (site_states new _ it.site))
+        (after_stands old.config old.states known request added stands (subst (λ r. Adds request r added) (it.answers ∙ answered old.config old.states known request stands) adds))
+    | inr (inl memory) ↦ still_stands old new known added (site_states new old memory.1) stands (refused_adds request reply Memory added memory.0 adds)
+    | inr (inr broke) ↦ still_stands old new known added (site_states new _ broke.1.site) stands (refused_adds request reply Broken added broke.0 adds)
+  ]
 ]
 
 -- a site that is not broken was not
@@ -152,10 +139,10 @@ module _ (old new : SiteValue) where
   config_stored request reply false was one = elim one.whole [
     | inr store ↦ ap (λ (s : SiteValue). s.config) store.site
     | inl from ↦ elim (from was) [
-        | inl it ↦ ap (λ (s : SiteValue). s.config) it.site
-        | inr (inl memory) ↦ ap (λ (s : SiteValue). s.config) memory.1
-        | inr (inr broke) ↦ ap (λ (s : SiteValue). s.config) broke.1.site
-      ]
+      | inl it ↦ ap (λ (s : SiteValue). s.config) it.site
+      | inr (inl memory) ↦ ap (λ (s : SiteValue). s.config) memory.1
+      | inr (inr broke) ↦ ap (λ (s : SiteValue). s.config) broke.1.site
+    ]
   ]
 
   config_turn : (asked : Result Request Refusal) (reply : Reply) → TakesFrom old new asked reply → new.config ≡ old.config
@@ -179,17 +166,23 @@ module _ (old new : SiteValue) where
   whole_turn (Err fault) reply one whole = sym (site_broken new old one.1) ∙ whole
 
   breaks_turn : (asked : Result Request Refusal) (reply : Reply) → TakesFrom old new asked reply → old.broken ≡ false → new.broken ≡ true → (request : Request) × IsToldBroken request (record { asked = asked; reply = reply })
-  breaks_turn (Ok request) reply one whole broken = (request, (refl, elim one.whole [
-    | inr store ↦ absurd (true≢false (sym broken ∙ site_broken new old store.site ∙ whole))
-    | inl from ↦ elim (from whole) [
-        | inl it ↦ absurd (true≢false (sym broken ∙ site_broken new _ it.site))
-        | inr (inl memory) ↦ absurd (true≢false (sym broken ∙ site_broken new old memory.1 ∙ whole))
-        | inr (inr broke) ↦ broke.0
-      ]
-  ]))
+  breaks_turn (Ok request) reply one whole broken = (
+    request,
+    (
+      refl,
+      elim one.whole [
+        | inr store ↦ absurd (true≢false (sym broken ∙ site_broken new old store.site ∙ whole))
+        | inl from ↦ elim (from whole) [
+          | inl it ↦ absurd (true≢false (sym broken ∙ site_broken new _ it.site))
+          | inr (inl memory) ↦ absurd (true≢false (sym broken ∙ site_broken new old memory.1 ∙ whole))
+          | inr (inr broke) ↦ broke.0
+        ]
+      ],
+    ),
+  )
   breaks_turn (Err fault) reply one whole broken = absurd (true≢false (sym broken ∙ site_broken new old one.1 ∙ whole))
 
-HasChoice-turn : (asked : Result Request Refusal) (reply : Reply) → (added : List Write) × AddsAt asked reply added → HasChoice (record { asked = asked; reply = reply } ∷ [])
+pub HasChoice-turn : (asked : Result Request Refusal) (reply : Reply) → (added : List Write) × AddsAt asked reply added → HasChoice (record { asked = asked; reply = reply } ∷ [])
 HasChoice-turn asked reply one =
     let turn : Turn = record { asked = asked; reply = reply } in
     let event : Event = record { turn = turn; added = one.0 } in
@@ -247,7 +240,6 @@ pub takes : (turns : List Turn) (old new : SiteValue) (before after : State) →
 takes turns old new before after all follows = record {
   replies = replies_all turns old new all;
   stands = stands_all turns old new all;
-  states = all;
   config = config_all turns old new all;
   choice = choice_all turns old new all;
   fits = fits_all turns old new all;
@@ -259,200 +251,3 @@ takes turns old new before after all follows = record {
 pub TakesAllFrom-append : (first second : List Turn) (old mid new : SiteValue) → TakesAllFrom old mid first → TakesAllFrom mid new second → TakesAllFrom old new (first ++ second)
 TakesAllFrom-append [] second old mid new one other = subst (λ s. TakesAllFrom s new second) one other
 TakesAllFrom-append (turn ∷ first) second old mid new one other = (one.0, one.1, TakesAllFrom-append first second one.0 mid new one.2 other)
-
--- ---- the records
-
-pub among_more : (requests : List Request) (turns more : List Turn) → AreAmong requests turns → AreAmong requests (turns ++ more)
-among_more [] turns more all = tt
-among_more (request ∷ requests) [] more all = absurd all
-among_more (request ∷ requests) (turn ∷ turns) more (inl here) = inl (here.0, among_more requests turns more here.1)
-among_more (request ∷ requests) (turn ∷ turns) more (inr later) = inr (among_more (request ∷ requests) turns more later)
-
-pub lost_more : (turns more : List Turn) (site : SiteValue) (db : Database) → HoldsLost turns site db → HoldsLost (turns ++ more) site db
-lost_more turns more site db lost = record {
-  before = lost.before;
-  broke = lost.broke;
-  later = lost.later ++ more;
-  all = ap (λ l. l ++ more) lost.all ∙ append_assoc lost.before (lost.broke ∷ lost.later) more;
-  first = lost.first;
-  request = lost.request;
-  asked = lost.asked;
-  changes = lost.changes;
-  rest = lost.rest;
-  among = among_more lost.rest lost.later more lost.among;
-  holds = lost.holds;
-}
-
-pub lost_later : (first turns : List Turn) (site : SiteValue) (db : Database) → AllByRecursion IsToldElse first → HoldsLost turns site db → HoldsLost (first ++ turns) site db
-lost_later first turns site db none lost = record {
-  before = first ++ lost.before;
-  broke = lost.broke;
-  later = lost.later;
-  all = ap (λ l. first ++ l) lost.all ∙ sym (append_assoc first lost.before (lost.broke ∷ lost.later));
-  first = else_both first lost.before none lost.first;
-  request = lost.request;
-  asked = lost.asked;
-  changes = lost.changes;
-  rest = lost.rest;
-  among = lost.among;
-  holds = lost.holds;
-}
-
-pub TurnsFollow-none : (site : SiteValue) (s : State) → TurnsFollow [] site site s s
-TurnsFollow-none site s = record {
-  site = site_follows_self site;
-  sound = λ sound. sound;
-  holds = λ _ holds. holds;
-  stays = λ _. refl;
-  stored = λ _ _ whole broken. absurd (true≢false (sym broken ∙ whole));
-  clean = λ clean. clean;
-  shut = λ _ _. refl;
-}
-
-module _ (first second : List Turn) (old mid new : SiteValue) (before between after : State) (p : TurnsFollow first old mid before between) (q : TurnsFollow second mid new between after)
-    (none : mid.broken ≡ false → AllByRecursion IsToldElse first) where
-  lost_on : (is : Bool) → mid.broken ≡ is → IsSound after → HoldsSite old before.committed → old.broken ≡ false → new.broken ≡ true → HoldsLost (first ++ second) new after.committed
-  lost_on true is sound holds whole broken =
-      lost_more first second new after.committed
-      (subst (λ s. HoldsLost first s after.committed) (sym (q.site.1 is)) (subst (HoldsLost first mid) (sym (q.stays is)) (p.stored (q.sound sound) holds whole is)))
-  lost_on false is sound holds whole broken = lost_later first second new after.committed (none is) (q.stored sound (p.holds (q.sound sound) holds) is broken)
-
-  shut_on : (is : Bool) → between.is_open ≡ is → HasCleanDisk after → before.is_open ≡ false → new ≡ old
-  shut_on true is clean shut =
-      let sound : IsSound between = record { clean = q.clean clean; is_open = is } in
-      absurd (true≢false (sym (p.sound sound).is_open ∙ shut))
-  shut_on false is clean shut = q.shut clean is ∙ p.shut (q.clean clean) shut
-
-  pub TurnsFollow-append : TurnsFollow (first ++ second) old new before after
-  TurnsFollow-append = record {
-    site = site_follows_on old mid new p.site q.site;
-    sound = λ sound. p.sound (q.sound sound);
-    holds = λ sound holds. q.holds sound (p.holds (q.sound sound) holds);
-    stays = λ broken. q.stays (subst (λ (s : SiteValue). s.broken ≡ true) (sym (p.site.1 broken)) broken) ∙ p.stays broken;
-    stored = lost_on mid.broken refl;
-    clean = λ clean. p.clean (q.clean clean);
-    shut = shut_on between.is_open refl;
-  }
-
--- ---- both
-
--- no turn
-pub TakesTurns-none : (site : SiteValue) (s : State) → TakesTurns [] site site s s
-TakesTurns-none site s = takes [] site site s s refl (TurnsFollow-none site s)
-
--- turns after turns
-pub TakesTurns-append : (first second : List Turn) (old mid new : SiteValue) (before between after : State) → TakesTurns first old mid before between → TakesTurns second mid new between after →
-    TakesTurns (first ++ second) old new before after
-TakesTurns-append first second old mid new before between after one other =
-    takes (first ++ second) old new before after (TakesAllFrom-append first second old mid new one.states other.states)
-    (TurnsFollow-append first second old mid new before between after one.follows other.follows one.told)
-
--- a frame that is no request
-pub TakesTurns-fault : (site : SiteValue) (s : State) (fault : Refusal) (reply : Reply) → (reply ≡ Refused fault) ⊎ (reply ≡ Refused Memory) → TakesTurns (record { asked = Err fault; reply = reply } ∷ []) site site s s
-TakesTurns-fault site s fault reply told =
-    takes _ site site s s (site, (told, refl), refl) (record {
-      site = site_follows_self site;
-      sound = λ sound. sound;
-      holds = λ _ holds. holds;
-      stays = λ _. refl;
-      stored = λ _ _ whole broken. absurd (true≢false (sym broken ∙ whole));
-      clean = λ clean. clean;
-      shut = λ _ _. refl;
-    })
-
--- one request, answered by itself
-lost_one : (request : Request) (reply : Reply) (site : SiteValue) (db : Database) → reply ≡ Refused Broken → HoldsBroken (λ asked. asked ≡ request) site db → HoldsLost (record { asked = Ok request; reply = reply } ∷ []) site db
-lost_one request reply site db told holds = record {
-  before = [];
-  broke = record { asked = Ok request; reply = reply };
-  later = [];
-  all = refl;
-  first = tt;
-  request = holds.request;
-  asked = (ap (λ (r : Request). Ok r) (sym holds.asked), told);
-  changes = holds.changes;
-  rest = [];
-  among = tt;
-  holds = holds.holds;
-}
-
-pub TakesTurns-one : (old new : SiteValue) (before after : State) (request : Request) (reply : Reply) → AnswersOneFrom old new request reply → (new.broken ≡ true → reply ≡ Refused Broken) →
-    ReplicaFollows (λ asked. asked ≡ request) old new before after → TakesTurns (record { asked = Ok request; reply = reply } ∷ []) old new before after
-TakesTurns-one old new before after request reply one told follows =
-    takes _ old new before after (new, one, refl) (record {
-      site = follows.site;
-      sound = follows.store.sound;
-      holds = follows.store.holds;
-      stays = follows.store.stays;
-      stored = λ sound holds whole broken. lost_one request reply new after.committed (told broken) (follows.store.stored sound holds whole broken);
-      clean = follows.store.clean;
-      shut = follows.store.shut;
-    })
-
--- ---- requests
-
-pub AnswersAll-none : (site : SiteValue) (s : State) → AnswersAll [] [] site site s s
-AnswersAll-none site s = record { turns = []; asked = refl; told = refl; takes = TakesTurns-none site s }
-
-pub AnswersAll-append : (first second : List Request) (told given : List Reply) (old mid new : SiteValue) (before between after : State) → AnswersAll first told old mid before between →
-    AnswersAll second given mid new between after → AnswersAll (first ++ second) (told ++ given) old new before after
-AnswersAll-append first second told given old mid new before between after one other = record {
-  turns = one.turns ++ other.turns;
-  asked = map-append (λ (t : Turn). t.asked) one.turns other.turns ∙ ap₂ (λ a b. a ++ b) one.asked other.asked ∙ sym (map-append (λ (r : Request). Ok r) first second);
-  told = map-append (λ (t : Turn). t.reply) one.turns other.turns ∙ ap₂ (λ a b. a ++ b) one.told other.told;
-  takes = TakesTurns-append one.turns other.turns old mid new before between after one.takes other.takes;
-}
-
-pub AnswersAll-one : (old new : SiteValue) (before after : State) (request : Request) (reply : Reply) → TakesTurns (record { asked = Ok request; reply = reply } ∷ []) old new before after →
-    AnswersAll (request ∷ []) (reply ∷ []) old new before after
-AnswersAll-one old new before after request reply one = record { turns = record { asked = Ok request; reply = reply } ∷ []; asked = refl; told = refl; takes = one }
-
--- a request that was answered by itself
-pub AnswersAll-answered : (old new : SiteValue) (before after : State) (request : Request) (reply : Reply) → AnswersFromStored old new request reply → ((added : List Write) × Adds request reply added) → new.config ≡ old.config →
-    CanBeSent reply → (reply ≡ Refused Broken → new.broken ≡ true) → (new.broken ≡ true → reply ≡ Refused Broken) → (old.broken ≡ true → new ≡ old) → (old.broken ≡ true → after.committed ≡ before.committed) →
-    (IsSound after → IsSound before) → (IsSound after → HoldsSite old before.committed → HoldsSite new after.committed) → (HasCleanDisk after → HasCleanDisk before) →
-    (HasCleanDisk after → IsTrue after.is_open ⊎ (new ≡ old)) →
-    (IsSound after → HoldsSite old before.committed → old.broken ≡ false → reply ≡ Refused Broken → HoldsStates old.config.site (after_from old.config old.states request) after.committed) →
-    AnswersAll (request ∷ []) (reply ∷ []) old new before after
-AnswersAll-answered old new before after request reply states choice config fits told broken stays same sound holds clean taken stored =
-    AnswersAll-one old new before after request reply (TakesTurns-one old new before after request reply
-    (record {
-      whole = states;
-      broken = λ was. (broken (site_broken new old (stays was) ∙ was), stays was);
-      told = told;
-      fits = fits;
-      choice = choice;
-    }) broken (follows_by old new request reply before after config stays same sound holds clean taken broken states stored))
-
--- ---- the first of some requests, and those after them
-
-length_replies : (requests : List Request) (replies : List Reply) (old new : SiteValue) (before after : State) → AnswersAll requests replies old new before after → length replies ≡ length requests
-length_replies requests replies old new before after all =
-    ap length (sym all.told) ∙ length-map all.turns (λ (t : Turn). t.reply) ∙ sym (length-map all.turns (λ (t : Turn). t.asked)) ∙ ap length all.asked ∙ length-map requests (λ (r : Request). Ok r)
-
--- as the code has what is left of them
-pub front_of : (requests : List Request) (n : ℕ) (told given : List Reply) (mid new : SiteValue) (between after : State) → n ≡ length told → AnswersFront (take (length requests - n) (drop n requests)) told given mid new between after →
-    AnswersFront (drop (length told) requests) told given mid new between after
-front_of requests n told given mid new between after same front =
-    let low : length (drop n requests) ≤ length requests - n = omega (arith, length-drop n requests) in
-    subst (λ r. AnswersFront r told given mid new between after) (take_all (length requests - n) (drop n requests) low ∙ ap (λ k. drop k requests) same) front
-
-module _ (requests : List Request) (told given : List Reply) (old mid new : SiteValue) (before between after : State) (few : length told ≤ length requests)
-    (one : AnswersAll (take (length told) requests) told old mid before between) (front : AnswersFront (drop (length told) requests) told given mid new between after) where
-  count_front : length front.replies ≡ front.count
-  count_front = length_replies (take front.count (drop (length told) requests)) front.replies mid new between after front.answers ∙ length-take-le front.count (drop (length told) requests) front.within
-
-  length_front : length given ≡ length told + front.count
-  length_front = ap length front.appended ∙ length-append told front.replies ∙ ap (λ n. length told + n) count_front
-
-  pub front_grows : length told < length given
-  front_grows = omega (arith, length_front, front.some)
-
-  pub front_within : length given ≤ length requests
-  front_within = omega (arith, length_front, front.within, length-drop (length told) requests, few)
-
-  pub front_answers : AnswersAll (take (length given) requests) given old new before after
-  front_answers =
-      subst₂ (λ l r. AnswersAll l r old new before after)
-      (sym (ap (λ n. take n requests) length_front ∙ take-add (length told) front.count requests)) (sym front.appended)
-      (AnswersAll-append (take (length told) requests) (take front.count (drop (length told) requests)) told front.replies old mid new before between after one front.answers)

@@ -9,4 +9,8 @@ pub mod Sides
 pub mod Breaking
 pub mod Ordered
 pub mod Batching
+pub mod Batched
 pub mod Grouping
+pub mod Putting
+pub mod Recording
+pub mod Grouped

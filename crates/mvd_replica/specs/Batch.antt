@@ -84,12 +84,10 @@ pub record TurnsFollow (turns : List Turn) (old new : SiteValue) (before after :
 
 -- ---- both
 
--- Turns of a replica: each reply is one that may be given from the writes known then, and from the states that the turn before
--- left; each can be sent; and the records follow
+-- Turns of a replica: each reply is one that may be given from the writes known then, and can be sent; and the records follow
 pub record TakesTurns (turns : List Turn) (old new : SiteValue) (before after : State) : Type 0 where
   pub replies : Replies old new turns
   pub stands : StandsOn old new turns
-  pub states : TakesAllFrom old new turns
   pub config : new.config ≡ old.config
   pub choice : (events : List Event) × Tells events turns
   pub fits : AllByRecursion (λ turn. CanBeSent turn.reply) turns
@@ -98,11 +96,13 @@ pub record TakesTurns (turns : List Turn) (old new : SiteValue) (before after : 
   pub breaks : old.broken ≡ false → new.broken ≡ true → (request : Request) × IsFirstBroken turns request
   pub follows : TurnsFollow turns old new before after
 
--- Requests that are answered at once: one turn for each, in order, with its reply
+-- Requests that are answered at once: one turn for each, in order, with its reply, which is also given from the states that the
+-- turn before left
 pub record AnswersAll (requests : List Request) (replies : List Reply) (old new : SiteValue) (before after : State) : Type 0 where
   pub turns : List Turn
   pub asked : map (λ turn. turn.asked) turns ≡ map (λ request. Ok request) requests
   pub told : map (λ turn. turn.reply) turns ≡ replies
+  pub states : TakesAllFrom old new turns
   pub takes : TakesTurns turns old new before after
 
 -- some of the requests were answered, from the first on, and their replies stand behind those before

@@ -3,6 +3,7 @@
 
 mod batch;
 mod groups;
+pub mod laws;
 mod opening;
 pub mod replica;
 pub mod serving;

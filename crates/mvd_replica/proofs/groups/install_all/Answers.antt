@@ -1,9 +1,9 @@
-use Rattle.std.proofs.Common.{◌≡◌, ◌∙◌, ◌+◌, ◌++◌, ◌∷◌, [], ap, refl, sym, subst, drop, length, append-nil, append_assoc, arith, rules, length-append}
+use Rattle.std.proofs.Common.{◌∙◌, ◌+◌, ◌++◌, ◌∷◌, [], ap, refl, sym, subst, drop, length, append-nil, append_assoc, arith, rules, length-append}
 use Rattle.std.proofs.lemmas.List.{map-id}
 use Rattle.std.proofs.lemmas.Iterator.Adapters.{YieldsList-from_vec}
 use Rattle.std.proofs.lemmas.Iterator.Consumers.{YieldsList-end, YieldsList-turn}
 use Rattle.mvd_replica.specs.Groups.{MayAllBeIn, PutsAll}
-use Rattle.mvd_replica.proofs.Grouping.{may_after, may_first, puts_more}
+use Rattle.mvd_replica.proofs.Grouped.{may_after, may_first, puts_more}
 use Rattle.mvd_replica.proofs.groups.install_all.Goals as goal
 
 pub loop-prepared-init : goal.loop-prepared-init

@@ -1,4 +1,4 @@
-use Rattle.std.proofs.Common.{◌≡◌, ◌∙◌, sym, arith}
+use Rattle.std.proofs.Common.{◌∙◌, sym, arith}
 use Rattle.mvd_replica.proofs.Grouping.{apart_none}
 use Rattle.mvd_replica.proofs.groups.must_wait.Goals as goal
 

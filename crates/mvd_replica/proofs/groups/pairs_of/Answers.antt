@@ -1,8 +1,8 @@
-use Rattle.std.proofs.Common.{◌≡◌, ◌∙◌, ap, sym}
+use Rattle.std.proofs.Common.{◌∙◌, ap}
 use Rattle.std.proofs.lemmas.List.{take_all}
 use Rattle.mvd_records.specs.Pairs.{entries_of}
 use Rattle.mvd_replica.specs.Groups.{pairs_in}
-use Rattle.mvd_replica.proofs.Grouping.{pairs_next, pairs_skip}
+use Rattle.mvd_replica.proofs.Grouped.{pairs_next, pairs_skip}
 use Rattle.mvd_replica.proofs.groups.pairs_of.Goals.{in-Change+in_ok-pair+in_ok-push, in_default}
 use Rattle.mvd_replica.proofs.groups.pairs_of.Goals as goal
 

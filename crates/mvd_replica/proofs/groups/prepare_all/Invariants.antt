@@ -1,5 +1,4 @@
-use Rattle.std.proofs.Common.{◌≡◌, ◌≤◌, ◌<◌, ◌+◌, false, length, take}
-use Rattle.std.specs.FinMap.{len}
+use Rattle.std.proofs.Common.{◌≡◌, ◌≤◌, false, length, take}
 use Rattle.mvd_replica.specs.Groups.{StandTogether, changes_in}
 use Rattle.mvd_replica.proofs.groups.prepare_all.Given as goal
 

@@ -1,7 +1,7 @@
-use Rattle.std.proofs.Common.{◌≡◌, Ok, sym, subst}
+use Rattle.std.proofs.Common.{Ok, sym, subst}
 use Rattle.mvd_site.specs.Prepared.{IsReady, PreparesFrom}
 use Rattle.mvd_replica.specs.Groups.{ComesTo, IsSendable}
-use Rattle.mvd_replica.proofs.Grouping.{comes_answer, comes_change, comes_refused}
+use Rattle.mvd_replica.proofs.Grouped.{comes_answer, comes_change, comes_refused}
 use Rattle.mvd_replica.proofs.groups.prepare_one.Goals as goal
 
 pub returns-in-Err : goal.returns-in-Err

@@ -1,4 +1,4 @@
-use Rattle.std.proofs.Common.{◌≡◌, ◌≢◌, false, true, sym, ◌∙◌, subst, true≢false}
+use Rattle.std.proofs.Common.{sym, ◌∙◌, subst, true≢false}
 use Rattle.mvd_replica.specs.Groups.{IsElsewhere}
 use Rattle.mvd_replica.proofs.groups.sees.Goals as goal
 

@@ -1,8 +1,8 @@
-use Rattle.std.proofs.Common.{◌≡◌, ◌∙◌, ◌++◌, ◌∷◌, [], ap, sym, subst, take}
+use Rattle.std.proofs.Common.{◌∙◌, ◌++◌, ◌∷◌, [], ap, sym, subst, take}
 use Rattle.std.specs.List.{AllByRecursion}
 use Rattle.std.proofs.lemmas.List.{take_all, take_more}
 use Rattle.mvd_replica.specs.Groups.{IsApart}
-use Rattle.mvd_replica.proofs.Grouping.{apart_more}
+use Rattle.mvd_replica.proofs.Grouped.{apart_more}
 use Rattle.mvd_replica.proofs.groups.sees_any.Goals as goal
 
 pub loop-prepared-preserved : goal.loop-prepared-preserved

@@ -1,7 +1,7 @@
-use Rattle.std.proofs.Common.{◌∙◌, ◌∷◌, [], ap, sym}
+use Rattle.std.proofs.Common.{◌∙◌, ◌∷◌, [], ap}
 use Rattle.mvd_records.specs.Pairs.{entries_of}
 use Rattle.mvd_records.specs.Seen.{seen}
-use Rattle.mvd_replica.proofs.Grouping.{one_only, store_many, store_none, store_one}
+use Rattle.mvd_replica.proofs.Grouped.{one_only, store_many, store_one}
 use Rattle.mvd_replica.proofs.groups.store_all.Goals as goal
 
 pub returns-clause-stored : goal.returns-clause-stored

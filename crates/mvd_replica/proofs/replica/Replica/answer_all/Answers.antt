@@ -1,7 +1,7 @@
-use Rattle.std.proofs.Common.{◌≡◌, ◌∙◌, [], ap, length, take, sym, subst, refl, arith}
+use Rattle.std.proofs.Common.{ap, length, take, sym, subst, arith}
 use Rattle.sqlite.specs.Held.{state}
 use Rattle.mvd_replica.specs.Batch.{AnswersAll}
-use Rattle.mvd_replica.proofs.Batching.{AnswersAll-none, front_answers, front_grows, front_of, front_within}
+use Rattle.mvd_replica.proofs.Batched.{AnswersAll-none, front_answers, front_grows, front_of, front_within}
 use Rattle.mvd_replica.proofs.replica.Replica.answer_all.Goals as goal
 
 pub groups-init : goal.groups-init
@@ -21,7 +21,7 @@ groups-preserved g c =
     let told = c.groups.replies.items in
     let given = c.answer_front.new.replies.items in
     let front = front_of requests c.len-in-groups.result told given c.groups.self.site c.answer_front.new.self.site (state g.S.Store c.groups.self.records.conn) (state g.S.Store c.answer_front.new.self.records.conn)
-        (omega (arith, c.len-in-groups.ensures, c.groups.replies.ok.0)) c.answer_front.ensures.answers in
+    (omega (arith, c.len-in-groups.ensures, c.groups.replies.ok.0)) c.answer_front.ensures.answers in
     record {
       answers = front_answers requests told given c.args.self.now.site c.groups.self.site c.answer_front.new.self.site (state g.S.Store c.args.self.now.records.conn) (state g.S.Store c.groups.self.records.conn)
           (state g.S.Store c.answer_front.new.self.records.conn) c.groups.invariant.within c.groups.invariant.answers front;
@@ -36,7 +36,7 @@ groups-smaller g c =
     let told = c.groups.replies.items in
     let given = c.answer_front.new.replies.items in
     let front = front_of requests c.len-in-groups.result told given c.groups.self.site c.answer_front.new.self.site (state g.S.Store c.groups.self.records.conn) (state g.S.Store c.answer_front.new.self.records.conn)
-        (omega (arith, c.len-in-groups.ensures, c.groups.replies.ok.0)) c.answer_front.ensures.answers in
+    (omega (arith, c.len-in-groups.ensures, c.groups.replies.ok.0)) c.answer_front.ensures.answers in
     let grows = front_grows requests told given c.args.self.now.site c.groups.self.site c.answer_front.new.self.site (state g.S.Store c.args.self.now.records.conn) (state g.S.Store c.groups.self.records.conn)
-        (state g.S.Store c.answer_front.new.self.records.conn) c.groups.invariant.within c.groups.invariant.answers front in
+    (state g.S.Store c.answer_front.new.self.records.conn) c.groups.invariant.within c.groups.invariant.answers front in
     omega (arith, grows, c.groups-test.true, c.len.ensures, c.groups.replies.ok.0)

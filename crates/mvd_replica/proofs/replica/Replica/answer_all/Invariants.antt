@@ -1,4 +1,4 @@
-use Rattle.std.proofs.Common.{◌≡◌, ◌-◌, ◌≤◌, length, take, vec_capacity}
+use Rattle.std.proofs.Common.{◌-◌, ◌≤◌, length, take, vec_capacity}
 use Rattle.sqlite.specs.Held.{state}
 use Rattle.mvd_replica.specs.Batch.{AnswersAll}
 use Rattle.mvd_replica.proofs.replica.Replica.answer_all.Given as goal

@@ -1,8 +1,8 @@
-use Rattle.std.proofs.Common.{◌≡◌, ◌∙◌, ◌++◌, ◌∷◌, [], List, take, refl, sym, ap, subst, append-nil, append_assoc, arith, length-append}
+use Rattle.std.proofs.Common.{◌∙◌, ◌++◌, ◌∷◌, [], take, refl, sym, ap, subst, append-nil, append_assoc, arith, length-append}
 use Rattle.std.proofs.lemmas.List.{take_all, take_more}
 use Rattle.sqlite.specs.Held.{state}
 use Rattle.mvd_replica.specs.Batch.{AnswersAll}
-use Rattle.mvd_replica.proofs.Batching.{AnswersAll-answered, AnswersAll-append, AnswersAll-none}
+use Rattle.mvd_replica.proofs.Batched.{AnswersAll-answered, AnswersAll-append, AnswersAll-none}
 use Rattle.mvd_replica.proofs.replica.Replica.answer_each.Goals as goal
 
 pub loop-request-init : goal.loop-request-init
@@ -21,9 +21,9 @@ loop-request-preserved g c =
     let i = c.loop-request.request-index in
     let it = c.loop-request.invariant.answers in
     let one = AnswersAll-answered c.loop-request.self.site c.answer-reply.new.self.site (state g.S.Store c.loop-request.self.records.conn) (state g.S.Store c.answer-reply.new.self.records.conn) c.request-item.result c.answer-reply.result
-        c.answer-reply.ensures.states c.answer-reply.ensures.choice c.answer-reply.ensures.config c.answer-reply.ensures.fits c.answer-reply.ensures.told c.answer-reply.ensures.broken
-        (λ broken. ap (λ r. r.site) (c.answer-reply.ensures.stays broken)) (λ broken. ap (λ r. (state g.S.Store r.records.conn).committed) (c.answer-reply.ensures.stays broken))
-        c.answer-reply.ensures.before c.answer-reply.ensures.records c.answer-reply.ensures.clean c.answer-reply.ensures.taken c.answer-reply.ensures.stored in
+    c.answer-reply.ensures.states c.answer-reply.ensures.choice c.answer-reply.ensures.config c.answer-reply.ensures.fits c.answer-reply.ensures.told c.answer-reply.ensures.broken
+    (λ broken. ap (λ r. r.site) (c.answer-reply.ensures.stays broken)) (λ broken. ap (λ r. (state g.S.Store r.records.conn).committed) (c.answer-reply.ensures.stays broken))
+    c.answer-reply.ensures.before c.answer-reply.ensures.records c.answer-reply.ensures.clean c.answer-reply.ensures.taken c.answer-reply.ensures.stored in
     record {
       answers = (
         it.0 ++ c.answer-reply.result ∷ [],

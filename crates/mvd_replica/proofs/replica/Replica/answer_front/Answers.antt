@@ -1,9 +1,10 @@
-use Rattle.std.proofs.Common.{◌≡◌, ◌⊎◌, ◌∙◌, ◌<◌, [], List, false, length, map, take, sym, subst, arith}
+use Rattle.std.proofs.Common.{◌≡◌, ◌⊎◌, ◌∙◌, [], false, length, map, take, sym, subst, arith}
 use Rattle.std.specs.Prelude.{IsTrue}
 use Rattle.sqlite.specs.Held.{state}
 use Rattle.mvd_records.specs.Records.{HoldsRecords, SavesStates}
 use Rattle.mvd_replica.specs.Groups.{pairs_in, reply_unstored}
-use Rattle.mvd_replica.proofs.Grouping.{answers_put, answers_unstored, may_all}
+use Rattle.mvd_replica.proofs.Grouping.{may_all}
+use Rattle.mvd_replica.proofs.Recording.{answers_put, answers_unstored}
 use Rattle.mvd_replica.proofs.replica.Replica.answer_front.Goals as goal
 
 pub install_all-requires-clause-fresh : goal.install_all-requires-clause-fresh

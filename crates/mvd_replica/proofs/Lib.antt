@@ -8,3 +8,6 @@ pub mod Moving
 pub mod Sides
 pub mod Breaking
 pub mod Ordered
+pub mod OpenRefusals
+pub mod Follows
+pub mod Files

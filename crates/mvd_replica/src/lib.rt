@@ -2,10 +2,12 @@
 #![tactic(auto)]
 
 mod opening;
+pub mod file;
 pub mod replica;
 pub mod serving;
 mod side;
 mod turns;
 
+pub use file::{FileFault, open_file};
 pub use replica::Replica;
 pub use serving::{Ended, FRAMES_MAX, serve};

@@ -22,8 +22,8 @@ pub record HoldsImage (image : Image) (db : Database) : Type 0 where
 -- the image holds these states of a site, and nothing else
 pub record HoldsFile (image : Image) (site : ℕ) (states : States) : Type 0 where
   pub db : Database
-  pub image : HoldsImage image db
-  pub states : HoldsStates site states db
+  pub held : HoldsImage image db
+  pub holds : HoldsStates site states db
 
 -- The database that was found is the one that the image holds, if it holds one. Else the image held none yet, and it is empty
 pub record IsFoundIn (image : Image) (was : Database) : Type 0 where
@@ -45,7 +45,7 @@ pub record RefusesFile (image : Image) (config : ConfigValue) (e : Refusal) (now
   pub refused : IsOurs was → RefusesSite config was e now
 
 -- What the database held of a site, the files hold: as they read now, and as whatever a crash leaves of them reads
-pub record ClosesFile {D : Type 0} {g : Ghosts D} (db : Database) (files : Files D) : Type 0 where
+pub record ClosesFile {D : Type 0} (g : Ghosts D) (db : Database) (files : Files D) : Type 0 where
   pub seen : (site : ℕ) (states : States) → HoldsStates site states db → HoldsFile (image_of g files) site states
   pub left : (image : Image) → outcomes g files.log files.db image → (site : ℕ) (states : States) → HoldsStates site states db →
       HoldsFile image site states

@@ -50,11 +50,14 @@ pub fn open_file<S: Start>(
 impl<D: Disk + Drop> Replica<FileStore<D>> {
     /// Copies what the log holds into the file, and gives both back: the states are in them, as they read now and after a crash.
     pub fn close(self) -> Result<Files<D>, (Error, FileStore<D>)>
-        ensures closed { IfOk result (λ files. AreClean D.Disk files.log files.db → ClosesFile (file_state self.records.conn).committed files) }
+        ensures closed { IfOk result (λ files. AreClean D.Disk files.log files.db → ClosesFile D.Disk (file_state self.records.conn).committed files) }
     {
         let conn = self.into_connection();
         // Here it is known that the database obeys its schema.
         let _schema = conn.schema();
-        conn.close_files()
+        match conn.close_files() {
+            Ok(files) => Ok(files),
+            Err(failed) => Err(failed),
+        }
     }
 }

@@ -11,3 +11,4 @@ pub mod Ordered
 pub mod OpenRefusals
 pub mod Follows
 pub mod Files
+pub mod Stops

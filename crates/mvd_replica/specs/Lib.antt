@@ -3,6 +3,7 @@ pub mod Stored
 pub mod Opened
 pub mod File
 pub mod Refused
+pub mod Stops
 pub mod Turns
 pub mod Served
 pub mod Steps

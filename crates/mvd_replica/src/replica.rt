@@ -19,7 +19,7 @@ ghost use Rattle.mvd_site.specs.Known.{Adds};
 ghost use Rattle.mvd_site.specs.Prepared.{IsChangeNow, is_refusal};
 ghost use Rattle.mvd_site.specs.Sites.{has_no_room};
 ghost use Rattle.sqlite.specs.Held.{state};
-ghost use Rattle.sqlite.specs.State.{HasCleanDisk};
+ghost use Rattle.sqlite.specs.State.{HasCleanDisk, Survives};
 
 use crate::opening::site_in;
 use mvd_dots::Refusal;
@@ -43,6 +43,7 @@ impl<S: Alter> Replica<S> {
     ghost use Rattle.mvd_replica.specs.Kept.{HoldsSite, HoldsStates, PutsIn, Stores, broken_site};
     ghost use Rattle.mvd_replica.specs.Sides.{AnswersFromStored, ReplicaFollows};
     ghost use Rattle.mvd_replica.specs.Opened.{IsOpened, IsRefused};
+    ghost use Rattle.mvd_replica.specs.Stops.{LeavesAnswered, LeavesChange};
     ghost use Rattle.mvd_replica.specs.Turns.{AnswersStored};
 
     /// The replica of a site, with the states that its records hold. Records of version 1 are moved to version 2 first, key by
@@ -119,6 +120,7 @@ impl<S: Alter> Replica<S> {
         ensures taken { HasCleanDisk (state S.Store self.new.records.conn) → IsTrue (state S.Store self.new.records.conn).is_open ⊎ (self.new.site ≡ self.old.site) }
         ensures clean { HasCleanDisk (state S.Store self.new.records.conn) → HasCleanDisk (state S.Store self.old.records.conn) }
         ensures unchanged { IsSound (state S.Store self.new.records.conn) → result ≡ Err Refusal.Store → (state S.Store self.new.records.conn).committed ≡ (state S.Store self.old.records.conn).committed }
+        ensures survives { Survives (state S.Store self.old.records.conn) (state S.Store self.new.records.conn) (LeavesChange self.old.site change (state S.Store self.old.records.conn)) }
     {
         match self.records.save(change.key(), change.bytes()) {
             Ok(()) => {}
@@ -154,6 +156,8 @@ impl<S: Alter> Replica<S> {
         // Where a change breaks the site, they hold the states with the change in.
         ensures stored { IsSound (state S.Store self.new.records.conn) → HoldsSite self.old.site (state S.Store self.old.records.conn).committed → self.old.site.broken ≡ false → result ≡ Refused Broken →
             HoldsStates self.old.site.config.site (after_from self.old.site.config self.old.site.states request.now) (state S.Store self.new.records.conn).committed }
+        // A crash leaves what it left before the call, or the states with the request's change.
+        ensures survives { Survives (state S.Store self.old.records.conn) (state S.Store self.new.records.conn) (LeavesAnswered self.old.site request.now (state S.Store self.old.records.conn)) }
     {
         match self.site.prepare(request) {
             Err(refusal) => Reply::Refused(refusal),

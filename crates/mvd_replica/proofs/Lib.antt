@@ -14,3 +14,7 @@ pub mod Grouping
 pub mod Putting
 pub mod Recording
 pub mod Grouped
+pub mod OpenRefusals
+pub mod Follows
+pub mod Files
+pub mod Stops

@@ -5,10 +5,12 @@ mod batch;
 mod groups;
 pub mod laws;
 mod opening;
+pub mod file;
 pub mod replica;
 pub mod serving;
 mod side;
 mod turns;
 
+pub use file::{FileFault, open_file};
 pub use replica::Replica;
 pub use serving::{Ended, FRAMES_MAX, serve};

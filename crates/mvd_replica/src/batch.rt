@@ -17,7 +17,8 @@ impl<S: Alter> Replica<S> {
     /// putting a change in breaks the site, that request and all after it are told so; the records hold all changes of that
     /// commit. Where memory is refused for the list of replies, nothing was done.
     pub fn answer_all(&mut self, requests: &[Request]) -> Result<Vec<Reply>, Refusal>
-        ensures answers { IfOk result (λ replies. AnswersAll requests.now replies.items self.old.site self.new.site (state S.Store self.old.records.conn) (state S.Store self.new.records.conn)) }
+        ensures answers { IfOk result (λ replies. AnswersAll requests.now replies.items self.old.site self.new.site
+            (state S.Store self.old.records.conn) (state S.Store self.new.records.conn)) }
         ensures memory { IfErr result (λ refusal. (refusal ≡ Memory) × (self.new ≡ self.old)) }
     {
         let mut replies = Vec::with_capacity(self.alloc, requests.len())?;
@@ -31,7 +32,8 @@ impl<S: Alter> Replica<S> {
     fn answer_front(&mut self, requests: &[Request], replies: &mut Vec<Reply>)
         requires some { 0 < length requests.now }
         requires room { length replies.old.items + length requests.now ≤ vec_capacity replies.old }
-        ensures answers { AnswersFront requests.now replies.old.items replies.new.items self.old.site self.new.site (state S.Store self.old.records.conn) (state S.Store self.new.records.conn) }
+        ensures answers { AnswersFront requests.now replies.old.items replies.new.items self.old.site self.new.site
+            (state S.Store self.old.records.conn) (state S.Store self.new.records.conn) }
         ensures room { vec_capacity replies.new ≡ vec_capacity replies.old }
     {
         if self.site.is_broken() {
@@ -54,7 +56,9 @@ impl<S: Alter> Replica<S> {
     /// Answers requests one after the other, each with a commit of its own.
     fn answer_each(&mut self, requests: &[Request], replies: &mut Vec<Reply>)
         requires room { length replies.old.items + length requests.now ≤ vec_capacity replies.old }
-        ensures answers { (told : List Reply) × (replies.new.items ≡ replies.old.items ++ told) × AnswersAll requests.now told self.old.site self.new.site (state S.Store self.old.records.conn) (state S.Store self.new.records.conn) }
+        ensures answers { (told : List Reply) × (replies.new.items ≡ replies.old.items ++ told) ×
+            AnswersAll requests.now told self.old.site self.new.site
+            (state S.Store self.old.records.conn) (state S.Store self.new.records.conn) }
         ensures room { vec_capacity replies.new ≡ vec_capacity replies.old }
     {
         for request in requests {

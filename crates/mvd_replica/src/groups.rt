@@ -89,7 +89,8 @@ fn changes_of(prepared: &Prepared) -> u32
 
 /// What a request comes to, a refusal as the reply that tells it.
 fn prepare_one(site: &Site, request: &Request) -> Prepared
-    ensures comes { site.now.broken ≡ false → ComesTo site.now.config site.now.states request.now result × IsSendable request.now result }
+    ensures comes { site.now.broken ≡ false →
+        ComesTo site.now.config site.now.states request.now result × IsSendable request.now result }
 {
     let prepared = match site.prepare(request) {
         Ok(prepared) => prepared,
@@ -106,7 +107,8 @@ fn prepare_one(site: &Site, request: &Request) -> Prepared
 /// room with that, or for which memory is refused in the list.
 pub fn prepare_all(alloc: Global, site: &Site, requests: &[Request]) -> Vec<Prepared>
     ensures count { length result.items ≤ length requests.now }
-    ensures together { site.now.broken ≡ false → StandTogether site.now (take (length result.items) requests.now) result.items }
+    ensures together { site.now.broken ≡ false →
+        StandTogether site.now (take (length result.items) requests.now) result.items }
 {
     let mut group = Vec::new(alloc);
     let mut changes: u32 = 0;
@@ -159,11 +161,17 @@ pub fn store_all<S: Alter>(
 ) -> Result<(), Refusal>
     requires { records.old.version ≡ 2 }
     ensures before { IsSound (state S.Store records.new.conn) → IsSound (state S.Store records.old.conn) }
-    ensures clean { HasCleanDisk (state S.Store records.new.conn) → HasCleanDisk (state S.Store records.old.conn) }
-    ensures open { HasCleanDisk (state S.Store records.new.conn) → OnOk result (IsTrue (state S.Store records.new.conn).is_open ⊎ (pairs_in group.now ≡ [])) }
-    ensures stored { (site : ℕ) → IsSound (state S.Store records.new.conn) → HoldsRecords 2 site (state S.Store records.old.conn).committed →
-        OnOk result (HoldsRecords 2 site (state S.Store records.new.conn).committed × SavesStates (state S.Store records.old.conn).committed (state S.Store records.new.conn).committed (pairs_in group.now)) }
-    ensures unchanged { IsSound (state S.Store records.new.conn) → OnErr result ((state S.Store records.new.conn).committed ≡ (state S.Store records.old.conn).committed) }
+    ensures clean { HasCleanDisk (state S.Store records.new.conn) →
+        HasCleanDisk (state S.Store records.old.conn) }
+    ensures open { HasCleanDisk (state S.Store records.new.conn) →
+        OnOk result (IsTrue (state S.Store records.new.conn).is_open ⊎ (pairs_in group.now ≡ [])) }
+    ensures stored { (site : ℕ) → IsSound (state S.Store records.new.conn) →
+        HoldsRecords 2 site (state S.Store records.old.conn).committed →
+        OnOk result (HoldsRecords 2 site (state S.Store records.new.conn).committed ×
+        SavesStates (state S.Store records.old.conn).committed (state S.Store records.new.conn).committed
+        (pairs_in group.now)) }
+    ensures unchanged { IsSound (state S.Store records.new.conn) →
+        OnErr result ((state S.Store records.new.conn).committed ≡ (state S.Store records.old.conn).committed) }
     ensures refusal { IfErr result (λ refusal. (refusal ≡ Refusal.Store) ⊎ ((refusal ≡ Refusal.Memory) × (records.new ≡ records.old))) }
     ensures version { records.new.version ≡ records.old.version }
 {
@@ -204,7 +212,8 @@ fn put_one(site: &mut Site, prepared: Prepared) -> Reply
 pub fn install_all(site: &mut Site, group: Vec<Prepared>, replies: &mut Vec<Reply>)
     requires room { length replies.old.items + length group.items ≤ vec_capacity replies.old }
     requires fresh { site.old.broken ≡ false → MayAllBeIn site.old group.items }
-    ensures puts { (told : List Reply) × (replies.new.items ≡ replies.old.items ++ told) × PutsAll site.old site.new group.items told }
+    ensures puts { (told : List Reply) × (replies.new.items ≡ replies.old.items ++ told) ×
+        PutsAll site.old site.new group.items told }
     ensures room { vec_capacity replies.new ≡ vec_capacity replies.old }
 {
     for prepared in group {

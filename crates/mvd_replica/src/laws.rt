@@ -11,5 +11,7 @@ ghost use Rattle.mvd_replica.specs.Groups.{IsElsewhere};
 
 /// A request at one key has the same answer after a change of another key, while there is room for a key more.
 pub fn a_request_is_untouched_by_changes_of_others()
-    ensures { (config : ConfigValue) (states : States) (key : Key) (state : State) (request : Request) → IsElsewhere key request → len states + 1 < config.max_keys → answer_from config (insert states key state) request ≡ answer_from config states request }
+    ensures { (config : ConfigValue) (states : States) (key : Key) (state : State) (request : Request) →
+        IsElsewhere key request → len states + 1 < config.max_keys →
+        answer_from config (insert states key state) request ≡ answer_from config states request }
 {}

@@ -1,8 +1,8 @@
 //! A site with its records, and the answering of one connection.
 #![tactic(auto)]
 
-mod opening;
 pub mod file;
+mod opening;
 pub mod replica;
 pub mod serving;
 mod side;

@@ -25,11 +25,7 @@ enum Work {
 }
 
 /// Runs an order, from standard input where it reads, and to standard output. A file that it opens holds what `start` names.
-pub fn run<'a, S: Start>(
-    rt: &HostRuntime,
-    order: Order<'a>,
-    start: S,
-) -> Result<(), Stop<'a>>
+pub fn run<'a, S: Start>(rt: &HostRuntime, order: Order<'a>, start: S) -> Result<(), Stop<'a>>
     requires { IsInRange order }
 {
     match order {

@@ -2,10 +2,10 @@
 #![tactic(auto)]
 
 mod batch;
+pub mod file;
 mod groups;
 pub mod laws;
 mod opening;
-pub mod file;
 pub mod replica;
 pub mod serving;
 mod side;

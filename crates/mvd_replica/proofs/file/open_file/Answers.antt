@@ -28,18 +28,20 @@ pub returns-in-Err-clause-refused : goal.returns-in-Err-clause-refused
 returns-in-Err-clause-refused g c =
     fails_opening _ c.args.config c.in-Err.error c.in-Err.ensures.named c.in-Err.left c.in-Err.ensures.unopened
     (IfSome_then c.in-Err.left c.in-Err.ensures.cause (λ left it. (
-        let log = it.1 in
-        let db = it.2 in
-        let same = ap₂ image (ap₂ (seen g.S.Start.log g.S.Start.db) log.0 log.1) (ap₂ (seen g.S.Start.log g.S.Start.db) db.0 db.1) in
-        (it.0, λ clean. (same, (it.3 clean).0, (it.3 clean).1)))))
+    let log = it.1 in
+    let db = it.2 in
+    let same = ap₂ image (ap₂ (seen g.S.Start.log g.S.Start.db) log.0 log.1) (ap₂ (seen g.S.Start.log g.S.Start.db) db.0 db.1) in
+    (it.0, λ clean. (same, (it.3 clean).0, (it.3 clean).1)))))
 
 pub returns-in-Err-open-clause-refused : goal.returns-in-Err-open-clause-refused
 returns-in-Err-open-clause-refused g c =
-    let it = c.in-Err-open.ensures.opens in
-    (it.refusal, λ sound. (
-        let was = it.before sound in
-        record {
-          was = _;
-          found = found_in _ _ (c.in-Ok.ensures.found was.clean) ((c.in-Ok.ensures.opened was.clean).1 was.is_open).1;
-          refused = it.refused sound;
-        }))
+    let it = c.in-Err-open.ensures.opens in (
+      it.refusal,
+      λ sound. (
+          let was = it.before sound in
+          record {
+            was = _;
+            found = found_in _ _ (c.in-Ok.ensures.found was.clean) ((c.in-Ok.ensures.opened was.clean).1 was.is_open).1;
+            refused = it.refused sound;
+          }),
+    )

@@ -10,64 +10,70 @@ use Rattle.mvd_replica.proofs.Ordered.{damaged_site, has_just, order_opened, res
 use Rattle.mvd_replica.proofs.replica.Replica.open.Goals as goal
 
 pub returns-in-Ok-site_in : goal.returns-in-Ok-site_in
-returns-in-Ok-site_in g c = record { opens = record {
-  is = c.in-Ok-site_in.ensures.config;
-  stands = c.in-Ok-site_in.ensures.stands;
-  before = λ sound. c.in-Ok.ensures.before (c.in-Ok-site_in.ensures.before sound);
-  opened = λ sound ours. (
-      let store = state g.S.Store c.args.conn in
-      let opened = c.in-Ok.ensures.opened (c.in-Ok-site_in.ensures.before sound) ours in
-      let both = c.in-Ok-site_in.ensures.holds c.site.result sound opened.holds in
-      let none = c.in-Ok-site_in.ensures.alone c.site.result sound opened.holds in
-      let same = same_then _ _ _ (same_kept _ _ opened.states) (c.in-Ok-site_in.ensures.states c.site.result sound opened.holds) in
-      record {
-        order = order_opened store.committed _ c.in-Ok.records.version c.args.config.site c.site.result c.site.ensures.site opened.told opened.states (c.in-Ok-site_in.ensures.order c.site.result sound opened.holds);
-        spelled = has_just _ _ c.in-Ok-site_in.site.states same none both.1 c.key_count-held.ensures.held.spelled;
-        holds = holds_opened c.in-Ok-site_in.site c.args.config c.site.result _ c.in-Ok-site_in.ensures.config.0 c.site.ensures.site both.0 none both.1;
-        states = same;
-      });
-}; }
+returns-in-Ok-site_in g c = record {
+  opens = record {
+    is = c.in-Ok-site_in.ensures.config;
+    stands = c.in-Ok-site_in.ensures.stands;
+    before = λ sound. c.in-Ok.ensures.before (c.in-Ok-site_in.ensures.before sound);
+    opened = λ sound ours. (
+        let store = state g.S.Store c.args.conn in
+        let opened = c.in-Ok.ensures.opened (c.in-Ok-site_in.ensures.before sound) ours in
+        let both = c.in-Ok-site_in.ensures.holds c.site.result sound opened.holds in
+        let none = c.in-Ok-site_in.ensures.alone c.site.result sound opened.holds in
+        let same = same_then _ _ _ (same_kept _ _ opened.states) (c.in-Ok-site_in.ensures.states c.site.result sound opened.holds) in
+        record {
+          order = order_opened store.committed _ c.in-Ok.records.version c.args.config.site c.site.result c.site.ensures.site opened.told opened.states (c.in-Ok-site_in.ensures.order c.site.result sound opened.holds);
+          spelled = has_just _ _ c.in-Ok-site_in.site.states same none both.1 c.key_count-held.ensures.held.spelled;
+          holds = holds_opened c.in-Ok-site_in.site c.args.config c.site.result _ c.in-Ok-site_in.ensures.config.0 c.site.ensures.site both.0 none both.1;
+          states = same;
+        });
+  };
+}
 
 pub returns-in-Err : goal.returns-in-Err
-returns-in-Err g c = record { opens = record {
-  refusal = inl c.in-Err.ensures.refusal;
-  before = c.in-Err.ensures.before;
-  refused = λ sound ours. (
-      let was = (state g.S.Store c.args.conn).committed in
-      let told = c.in-Err.ensures.refused sound ours in
-      record {
-        states = same_unchanged _ _ (c.in-Err.ensures.unchanged sound);
-        mismatch = λ is. told_as was c.args.config.site c.site.result c.in-Err.refused.0 SiteMismatch c.site.ensures.site is told;
-        damaged = λ is. inl (told_as was c.args.config.site c.site.result c.in-Err.refused.0 Damaged c.site.ensures.site is told);
-        full = λ is. absurd (open_not_full _ c.in-Err.ensures.refusal is);
-        resumes = inl (c.in-Err.ensures.unchanged sound);
-      });
-  untouched = λ sound is. c.in-Err.ensures.unchanged sound;
-}; }
+returns-in-Err g c = record {
+  opens = record {
+    refusal = inl c.in-Err.ensures.refusal;
+    before = c.in-Err.ensures.before;
+    refused = λ sound ours. (
+        let was = (state g.S.Store c.args.conn).committed in
+        let told = c.in-Err.ensures.refused sound ours in
+        record {
+          states = same_unchanged _ _ (c.in-Err.ensures.unchanged sound);
+          mismatch = λ is. told_as was c.args.config.site c.site.result c.in-Err.refused.0 SiteMismatch c.site.ensures.site is told;
+          damaged = λ is. inl (told_as was c.args.config.site c.site.result c.in-Err.refused.0 Damaged c.site.ensures.site is told);
+          full = λ is. absurd (open_not_full _ c.in-Err.ensures.refusal is);
+          resumes = inl (c.in-Err.ensures.unchanged sound);
+        });
+    untouched = λ sound is. c.in-Err.ensures.unchanged sound;
+  };
+}
 
 pub returns-in-Err-site_in : goal.returns-in-Err-site_in
-returns-in-Err-site_in g c = record { opens = record {
-  refusal = read_refusal _ c.in-Err-site_in.ensures.refusal;
-  before = λ sound. c.in-Ok.ensures.before (c.in-Err-site_in.ensures.before (subst (λ k. IsSound (state g.S.Store k)) c.into_connection.ensures sound));
-  refused = λ sound ours. (
-      let was = (state g.S.Store c.args.conn).committed in
-      let same = c.into_connection.ensures in
-      let real = subst (λ k. IsSound (state g.S.Store k)) same sound in
-      let opened = c.in-Ok.ensures.opened (c.in-Err-site_in.ensures.before real) ours in
-      let version = c.in-Ok.records.version in
-      let number = c.site.result in
-      subst (λ k. RefusesSite c.args.config was c.in-Err-site_in.refusal (state g.S.Store k).committed) (sym same) (record {
-        states = same_then _ _ _ (same_kept _ _ opened.states) (c.in-Err-site_in.ensures.states number real opened.holds);
-        mismatch = λ is. absurd (read_no_mismatch _ c.in-Err-site_in.ensures.refusal is);
-        damaged = λ is. damaged_site was _ version c.args.config.site number c.site.ensures.site opened.told opened.states (c.in-Err-site_in.ensures.order number real opened.holds is);
-        full = λ is. (
-            let many = c.in-Err-site_in.ensures.full number real opened.holds is in
-            (many.0, order_opened was _ version c.args.config.site number c.site.ensures.site opened.told opened.states many.1));
-        resumes = inr (
-          version,
-          subst (λ n. TellsVersion (marks_of was) n (Ok version)) c.site.ensures.site opened.told,
-          resumes_opened version c.args.config.site number _ _ _ c.site.ensures.site opened.states (c.in-Err-site_in.ensures.resumes number real opened.holds),
-        );
-      }));
-  untouched = λ sound is. absurd (read_no_mismatch _ c.in-Err-site_in.ensures.refusal is);
-}; }
+returns-in-Err-site_in g c = record {
+  opens = record {
+    refusal = read_refusal _ c.in-Err-site_in.ensures.refusal;
+    before = λ sound. c.in-Ok.ensures.before (c.in-Err-site_in.ensures.before (subst (λ k. IsSound (state g.S.Store k)) c.into_connection.ensures sound));
+    refused = λ sound ours. (
+        let was = (state g.S.Store c.args.conn).committed in
+        let same = c.into_connection.ensures in
+        let real = subst (λ k. IsSound (state g.S.Store k)) same sound in
+        let opened = c.in-Ok.ensures.opened (c.in-Err-site_in.ensures.before real) ours in
+        let version = c.in-Ok.records.version in
+        let number = c.site.result in
+        subst (λ k. RefusesSite c.args.config was c.in-Err-site_in.refusal (state g.S.Store k).committed) (sym same) (record {
+          states = same_then _ _ _ (same_kept _ _ opened.states) (c.in-Err-site_in.ensures.states number real opened.holds);
+          mismatch = λ is. absurd (read_no_mismatch _ c.in-Err-site_in.ensures.refusal is);
+          damaged = λ is. damaged_site was _ version c.args.config.site number c.site.ensures.site opened.told opened.states (c.in-Err-site_in.ensures.order number real opened.holds is);
+          full = λ is. (
+              let many = c.in-Err-site_in.ensures.full number real opened.holds is in
+              (many.0, order_opened was _ version c.args.config.site number c.site.ensures.site opened.told opened.states many.1));
+          resumes = inr (
+            version,
+            subst (λ n. TellsVersion (marks_of was) n (Ok version)) c.site.ensures.site opened.told,
+            resumes_opened version c.args.config.site number _ _ _ c.site.ensures.site opened.states (c.in-Err-site_in.ensures.resumes number real opened.holds),
+          );
+        }));
+    untouched = λ sound is. absurd (read_no_mismatch _ c.in-Err-site_in.ensures.refusal is);
+  };
+}

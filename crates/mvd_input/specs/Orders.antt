@@ -18,11 +18,15 @@ HasPort address = (1 ≤ socket_port address) × (socket_port address ≤ 65535)
 abbrev pub AreConnections : Option ℕ → Type 0
 AreConnections conns = ForSome conns (λ n. (1 ≤ n) × (n ≤ 1000))
 
+-- no byte need move for 1..=86,400 seconds
+abbrev pub IsIdle : ℕ → Type 0
+IsIdle seconds = (1 ≤ seconds) × (seconds ≤ 86400)
+
 -- a site may be set up with the numbers of an order
 abbrev pub IsInRange : Order → Type 0
 IsInRange Sim = ⊤
 IsInRange (Loop setup) = IsSetUp setup
-IsInRange (Serve _ setup address conns) = IsSetUp setup × HasPort address × AreConnections conns
+IsInRange (Serve _ setup address conns idle) = IsSetUp setup × HasPort address × AreConnections conns × IsIdle idle
 IsInRange (Shell _ setup) = IsSetUp setup
-IsInRange (RemoteShell address) = HasPort address
-IsInRange (Sync _ setup address _) = IsSetUp setup × HasPort address
+IsInRange (RemoteShell address idle) = HasPort address × IsIdle idle
+IsInRange (Sync _ setup address idle _) = IsSetUp setup × HasPort address × IsIdle idle

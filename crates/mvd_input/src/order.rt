@@ -15,6 +15,9 @@ pub const MOST_KEYS: u32 = 1_000_000;
 /// The most connections that a server may be asked to serve.
 const MOST_CONNECTIONS: u64 = 1_000;
 
+/// The most seconds for which no byte need move.
+const MOST_IDLE: u64 = 86_400;
+
 /// What a site is set up with: its number is at least 1, and it may hold 1 to 1,000,000 keys. A file may define its indexes and
 /// views.
 #[derive(Debug, Clone, Copy, PartialEq, Eq)]
@@ -24,20 +27,21 @@ pub struct Setup<'a> {
     pub max_keys: u32,
 }
 
-/// What a command line asks for. Numbers are in their ranges: those of a site as told there, a port at least 1, and `conns` 1 to
-/// 1,000.
+/// What a command line asks for. Numbers are in their ranges: those of a site as told there, a port at least 1, `conns` 1 to 1,000,
+/// and `idle` 1 to 86,400 seconds.
 #[derive(Debug, Clone, Copy, PartialEq, Eq)]
 pub enum Order<'a> {
     /// Run a script from standard input.
     Sim,
     /// Answer the requests that stand in hexadecimal on standard input, over a connection within one process.
     Loop(Setup<'a>),
-    /// Serve a database to peers, one connection after the other.
+    /// Serve a database to many clients at once.
     Serve {
         db: &'a str,
         setup: Setup<'a>,
         address: SocketAddr,
         conns: Option<u32>,
+        idle: u32,
     },
     /// Answer the lines of standard input on a database.
     Shell {
@@ -45,12 +49,16 @@ pub enum Order<'a> {
         setup: Setup<'a>,
     },
     /// Answer the lines of standard input through a server.
-    RemoteShell(SocketAddr),
+    RemoteShell {
+        address: SocketAddr,
+        idle: u32,
+    },
     /// Run a session of a database with a server.
     Sync {
         db: &'a str,
         setup: Setup<'a>,
         address: SocketAddr,
+        idle: u32,
         verbose: bool,
     },
 }
@@ -102,6 +110,7 @@ fn serve_of<'a>(alloc: Global, matches: &ArgMatches<'a>) -> Result<Order<'a>, Or
         db: matches.get_str("db").unwrap_or(""),
         setup: setup_in(matches)?,
         conns: conns_in(matches)?,
+        idle: idle_in(matches)?,
         address: address_in(alloc, matches)?,
     })
 }
@@ -113,6 +122,7 @@ fn sync_of<'a>(alloc: Global, matches: &ArgMatches<'a>) -> Result<Order<'a>, Ord
         db: matches.get_str("db").unwrap_or(""),
         setup: setup_in(matches)?,
         address: address_in(alloc, matches)?,
+        idle: idle_in(matches)?,
         verbose: matches.get_flag("verbose"),
     })
 }
@@ -125,7 +135,10 @@ fn shell_of<'a>(alloc: Global, matches: &ArgMatches<'a>) -> Result<Order<'a>, Or
             db,
             setup: setup_in(matches)?,
         }),
-        None => Ok(Order::RemoteShell(address_in(alloc, matches)?)),
+        None => Ok(Order::RemoteShell {
+            address: address_in(alloc, matches)?,
+            idle: idle_in(matches)?,
+        }),
     }
 }
 
@@ -185,6 +198,12 @@ fn conns_in(matches: &ArgMatches<'_>) -> Result<Option<u32>, OrderFault>
         Some(number) => Ok(Some(number as u32)),
         None => Ok(None),
     }
+}
+
+fn idle_in(matches: &ArgMatches<'_>) -> Result<u32, OrderFault>
+    ensures { IfOk result (λ n. (1 ≤ n) × (n ≤ 86400)) }
+{
+    Ok(given_in(matches, "idle", MOST_IDLE)? as u32)
 }
 
 /// The address of a server, with its port.

@@ -59,13 +59,7 @@ pub fn serve_run<'a, N: Net + Clock, S: Alter + Drop, W: Write>(
         Ok(server) => server,
         Err(error) => return Err(Stop::unheard(address, error)),
     };
-    let mut line = String::new(alloc);
-    writeln!(line, "listening {address}")?;
-    tell(writer, &mut line)?;
-    server.serve(rt, replica, writer)?;
-    print_root(alloc, replica, &mut line)?;
-    tell(writer, &mut line)?;
-    Ok(())
+    Ok(server.serve_at::<N, S, W>(rt, alloc, replica, address, writer)?)
 }
 
 impl Server {
@@ -86,6 +80,23 @@ impl Server {
             next: Vec::with_capacity(alloc, 2 * CLIENTS_MAX)?,
             start: Instant::now(rt)?,
         })
+    }
+
+    /// Serves, and tells the address before and the root digest after that.
+    fn serve_at<N: Net + Clock, S: Alter + Drop, W: Write>(
+        &mut self,
+        rt: &N,
+        alloc: Global,
+        replica: &mut Replica<S>,
+        address: SocketAddr,
+        writer: &mut W,
+    ) -> Result<(), Fault> {
+        let mut line = String::new(alloc);
+        writeln!(line, "listening {address}")?;
+        tell(writer, &mut line)?;
+        self.serve(rt, replica, writer)?;
+        print_root(alloc, replica, &mut line)?;
+        tell(writer, &mut line)
     }
 
     /// Serves until all connections have ended.

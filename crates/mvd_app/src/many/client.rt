@@ -120,8 +120,8 @@ impl Client {
     }
 }
 
-fn moved_by(result: io::Result<usize>) -> Moved {
-    match result {
+fn moved_by(count: io::Result<usize>) -> Moved {
+    match count {
         Ok(0) => Moved::End,
         Ok(count) => Moved::Bytes(count),
         Err(error) => match error.kind() {

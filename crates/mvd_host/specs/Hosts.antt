@@ -1,5 +1,5 @@
 -- The connections of many clients, and what calls on one of them make of it.
-use Rattle.std.specs.Prelude.{◌≡◌, ℕ, ◌+◌, ◌<◌, ◌⊎◌, ◌==◌, if◌then◌else◌, Bool, List, [], length, Option, Some, None, option_map, is_some, ⊤}
+use Rattle.std.specs.Prelude.{◌≡◌, ℕ, ◌+◌, ◌<◌, ◌≤◌, ◌⊎◌, ◌==◌, if◌then◌else◌, Bool, List, [], length, Option, Some, None, ⊤}
 use Rattle.std.specs.Ordering.{nat_cmp}
 use Rattle.std.specs.BTreeMap.{is_at}
 use Rattle.std.specs.Map.{lookup, set_value, remove_entry}
@@ -64,3 +64,9 @@ pub record AdmitsOne (old new : HostValue) (n : ℕ) : Type 0 where
 abbrev pub Admits : HostValue → Option ℕ → HostValue → Type 0
 Admits old None new = (new ≡ old) × ((length old.clients ≡ clients_most) ⊎ (old.admitted ≡ admitted_most))
 Admits old (Some n) new = AdmitsOne old new n
+
+-- There are few clients, whose numbers were given, and each frame that was taken of one was answered
+pub record AreKept (clients : List (ℕ × History)) (admitted : ℕ) : Type 0 where
+  pub few : length clients ≤ clients_most
+  pub given : (n : ℕ) (h : History) → client_in clients n ≡ Some h → n < admitted
+  pub answered : (n : ℕ) (h : History) → client_in clients n ≡ Some h → length h.answers ≡ length h.taken

@@ -1,2 +1,5 @@
 pub mod Hosts
 pub mod Inside
+pub mod Course
+pub mod Taking
+pub mod Queueing

@@ -1,5 +1,5 @@
 //! The connections of many clients.
-ghost use Rattle.std.specs.Prelude.{◌≡◌, ◌≤◌, ◌⊎◌, ◌↔◌, length, true, OnOk, IfOk, IfErr, IsTrue};
+ghost use Rattle.std.specs.Prelude.{◌≡◌, ◌≤◌, ◌⊎◌, ◌↔◌, length, option_map, true, OnOk, IfOk, IfErr, IsTrue};
 ghost use Rattle.std.specs.Option.{option_and_then};
 ghost use Rattle.mvd_dots.specs.declared.refusals.Refusal.TheVariants as Refusal;
 ghost use Rattle.mvd_conn.specs.History.{WantsInput, closed, cut, ending_of, fed, is_done, piece_most, released, sent};

@@ -4,7 +4,6 @@
 
 mod host;
 mod queueing;
-mod round;
 mod taking;
 
 pub use host::{CLIENTS_MAX, Host};

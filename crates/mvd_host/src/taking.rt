@@ -1,4 +1,12 @@
 //! The frames that are taken in one round.
+ghost use Rattle.std.specs.Prelude.{◌≡◌, ◌≢◌, ◌+◌, ◌≤◌, ◌<◌, ◌==◌, ◌⊎◌, List, ℕ, length, true, false, [], IsTrue, OnErr, OnOk, IfOk, IfErr, vec_capacity, vec_len, Some};
+ghost use Rattle.std.specs.List.{Contains, list_any};
+ghost use Rattle.mvd_dots.specs.Answer.{IsAnswer};
+ghost use Rattle.mvd_wire.specs.declared.request.Request.{Request};
+ghost use Rattle.mvd_wire.specs.Frames.{FrameValue};
+ghost use Rattle.mvd_conn.specs.History.{History, after_next, released};
+ghost use Rattle.mvd_host.specs.Course.{asked_by};
+
 use mvd_conn::Connection;
 use mvd_dots::Refusal;
 use mvd_wire::{Request, decode_request};
@@ -12,13 +20,19 @@ const FRAMES_MAX: usize = 64;
 /// has at most one of these, which is its last.
 #[derive(Drop)]
 pub(crate) struct Taken {
-    pub clients: Vec<u64>,
-    pub requests: Vec<Request>,
-    pub faults: Vec<(u64, Refusal)>,
+    pub(crate) clients: Vec<u64>,
+    pub(crate) requests: Vec<Request>,
+    pub(crate) faults: Vec<(u64, Refusal)>,
 }
 
 impl Taken {
-    pub fn new(alloc: Global) -> Taken {
+    ghost use Rattle.mvd_host.specs.Course.{own};
+    ghost use Rattle.mvd_host.specs.Hosts.{IfClient, client_in};
+    ghost use Rattle.mvd_host.specs.Taking.{EndsTaking, HasRoom, Holds, IsIdle, Keeps, Takes, TakesMore};
+
+    pub(crate) fn new(alloc: Global) -> Taken
+        ensures { Holds [] [] result }
+    {
         Taken {
             clients: Vec::new(alloc),
             requests: Vec::new(alloc),
@@ -27,67 +41,56 @@ impl Taken {
     }
 
     /// Whether the client has a frame that is no request.
-    fn has_fault(&self, client: u64) -> bool {
+    fn has_fault(&self, client: u64) -> bool
+        ensures { result ≡ list_any (λ fault. fault.0 == client) self.now.faults.items }
+    {
         self.faults.iter().any(|fault| fault.0 == client)
     }
 
     /// Makes room for the frames of one client.
-    fn make_room(&mut self) -> Result<(), AllocError> {
+    fn make_room(&mut self) -> Result<(), AllocError>
+        ensures same { Keeps self.old self.new }
+        ensures room { OnOk result (HasRoom 64 self.new) }
+    {
         self.clients.reserve(FRAMES_MAX)?;
         self.requests.reserve(FRAMES_MAX)?;
         self.faults.reserve(1)
     }
 
-    /// Takes frames of a client, until there is none, or one that is no request.
-    fn take(
+    /// Takes the next frame of a client, where there is one. Whether another may follow: not after one that is no request.
+    fn take_one(
         &mut self,
         alloc: Global,
         client: u64,
         connection: &mut Connection,
-    ) -> Result<(), Refusal> {
-        self.make_room()?;
-        for _ in 0..FRAMES_MAX {
-            if !connection.next()? {
-                return Ok(());
+    ) -> Result<bool, Refusal>
+        requires room { HasRoom 1 self.old }
+        ensures took { TakesMore client connection.old connection.new self.old self.new }
+        ensures more { IfOk result (λ more. more ≡ true → self.new.faults.items ≡ self.old.faults.items) }
+        ensures room { (n : ℕ) → HasRoom (n + 1) self.old → IfOk result (λ more. more ≡ true → HasRoom n self.new) }
+        ensures end { IfOk result (λ more. more ≡ false → EndsTaking connection.old connection.new self.old self.new) }
+    {
+        if !connection.next()? {
+            return Ok(false);
+        }
+        match request_in(alloc, connection) {
+            Ok(request) => {
+                self.clients.push_reserved(client);
+                self.requests.push_reserved(request);
+                Ok(true)
             }
-            match request_in(alloc, connection) {
-                Ok(request) => {
-                    self.clients.push_reserved(client);
-                    self.requests.push_reserved(request);
-                }
-                Err(refusal) => {
-                    self.faults.push_reserved((client, refusal));
-                    return Ok(());
-                }
+            Err(refusal) => {
+                self.faults.push_reserved((client, refusal));
+                Ok(false)
             }
         }
-        Ok(())
-    }
-
-    /// Takes the frames of some clients. Whether memory was refused for some.
-    pub fn take_all(
-        &mut self,
-        alloc: Global,
-        clients: &mut BTreeMap<u64, Connection>,
-        ready: &[u64],
-    ) -> bool {
-        let mut refused = false;
-        for client in ready {
-            if self.has_fault(*client) {
-                continue;
-            }
-            if let Some(connection) = clients.get_mut(client)
-                && self.take(alloc, *client, connection).is_err()
-            {
-                refused = true;
-            }
-        }
-        refused
     }
 }
 
 /// The request that the frame in hand is.
-fn request_in(alloc: Global, connection: &Connection) -> Result<Request, Refusal> {
+fn request_in(alloc: Global, connection: &Connection) -> Result<Request, Refusal>
+    ensures { (f : FrameValue) → connection.now.hand ≡ Some f → IsAnswer result (asked_by f) }
+{
     match connection.frame() {
         Some((kind, payload)) => decode_request(alloc, kind, payload),
         None => Err(Refusal::Memory),

@@ -8,6 +8,7 @@ docs/PERFORMANCE.md. The files are made in TMPDIR (else /tmp), so the puts are t
 each figure than 3 seconds, and MANY_KILLS another number of servers that are killed than 5.
 """
 import contextlib
+import itertools
 import multiprocessing
 import os
 import re
@@ -147,11 +148,11 @@ def big_put(name):
     return frame(0x22, short(name) + struct.pack(">II", 0, len(text)) + text)
 
 
-def fill(peer, request):
-    """Sends a request again and again until the server takes no more."""
+def fill(peer, requests):
+    """Sends requests until the server takes no more for a second. None of the replies is read."""
     peer.settimeout(1)
     with contextlib.suppress(TimeoutError):
-        for _ in range(1_000_000):
+        for request in requests:
             peer.sendall(request)
 
 
@@ -165,9 +166,10 @@ def beside_bad_clients(path):
         stopped.sendall(big_put("s")[:-1])
         for _ in range(10):
             wanted("no big put", ask(deaf, big_put("big"))[0] == WRITTEN)
-        sending = threading.Thread(target=fill, args=(flood, put("f", 1)))
+        puts = (put(f"f{n % 64}", n // 64 + 1) for n in range(2_000))
+        sending = threading.Thread(target=fill, args=(flood, itertools.chain(puts, itertools.repeat(get("f1") * 99))))
         sending.start()
-        fill(deaf, get("big"))
+        fill(deaf, itertools.repeat(get("big")))
         begun = time.perf_counter()
         calls = [(put_some, server.port, f"k{n}", 20) for n in range(64)]
         calls += [(cut_off, server) for _ in range(7)]

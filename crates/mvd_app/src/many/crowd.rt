@@ -1,5 +1,6 @@
 //! The clients: their sockets, and their connections.
 ghost use Rattle.std.specs.Prelude.{◌≤◌, length};
+ghost use Rattle.mvd_host.specs.Hosts.{IfClient, client_of};
 
 use super::CLIENTS_MAX;
 use super::client::{Client, Moved, PIECE, Piece, Stage};
@@ -243,7 +244,9 @@ fn set_alarm(timers: &mut Timers, client: &mut Client, number: u64, due: u64) ->
 }
 
 /// As many bytes wait to leave to a client.
-fn waits(host: &Host, number: u64) -> usize {
+fn waits(host: &Host, number: u64) -> usize
+    ensures { IfClient (client_of host.now number) (λ h. result ≤ length h.waits) }
+{
     match host.waiting(number) {
         Some(bytes) => bytes.len(),
         None => 0,
@@ -282,6 +285,7 @@ fn receive(host: &mut Host, client: &mut Client, number: u64, piece: &mut Piece,
 }
 
 /// Hands on what came of a client.
+#[tactic(auto, using(crate::proofs::Clients::wanted_if))]
 fn feed(host: &mut Host, number: u64, bytes: &[u8])
     requires { length bytes.now ≤ 65536 }
 {
@@ -299,6 +303,7 @@ fn send(host: &mut Host, client: &mut Client, number: u64, due: u64) {
     match moved {
         Moved::Bytes(count) => {
             client.deadline = due;
+            let count = count.min(waits(host, number));
             host.sent(number, count);
         }
         Moved::Nothing => {}

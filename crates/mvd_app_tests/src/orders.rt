@@ -53,7 +53,13 @@ fn an_order_has_its_options(rt: HostRuntime) -> Result<(), Fail> {
         conns: Some(1),
         idle: 1,
     };
-    assert!(rt; asks(alloc, "mvd serve --db f --site 1 --port 1 --conns 1 --idle 1", least)?);
+    assert!(rt;
+        asks(
+            alloc,
+            "mvd serve --db f --site 1 --port 1 --conns 1 --idle 1",
+            least
+        )?
+    );
     let most = Order::Sync {
         db: "f",
         setup: set_up(u32::MAX, Some("d"), 1),
@@ -61,7 +67,8 @@ fn an_order_has_its_options(rt: HostRuntime) -> Result<(), Fail> {
         idle: 86_400,
         verbose: true,
     };
-    let line = "mvd sync --db f --site 4294967295 --port 65535 --defs d --max-keys 1 --address 10.0.0.1 --idle 86400 --verbose";
+    let line =
+        "mvd sync --db f --site 4294967295 --port 65535 --defs d --max-keys 1 --address 10.0.0.1 --idle 86400 --verbose";
     assert!(rt; asks(alloc, line, most)?);
     let looped = Order::Loop(set_up(7, None, 1_000_000));
     assert!(rt; asks(alloc, "mvd loop --site 7", looped)?);

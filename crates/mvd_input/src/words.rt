@@ -20,15 +20,15 @@ const LOOP: &str =
                     connection within this process, and the states are stored in memory. Each reply is printed as one line of \
                     hexadecimal, and then how the connection ended.";
 
-const SERVE: &str = "Serves a database to many clients at once, up to 256. It prints where it listens, how each \
+const SERVE: &str =
+    "Serves a database to many clients at once, up to 256. It prints where it listens, how each \
                      connection ended, and, after the last one, the digest of all that it holds. Each write is stored before \
                      its reply leaves.";
 
 const SERVED_IDLE: &str =
     "A connection on which no byte moves for so many seconds ends, 1 to 86400.";
 
-const IDLE: &str =
-    "A server from which no byte comes for so many seconds is given up, 1 to 86400.";
+const IDLE: &str = "A server from which no byte comes for so many seconds is given up, 1 to 86400.";
 
 const SHELL: &str =
     "Answers the lines of standard input, each at once, on a database or through a server. The line `help` lists what may be asked.";

@@ -3,8 +3,8 @@ ghost use Rattle.mvd_input.specs.Orders.{IsInRange, IsSetUp};
 
 use crate::hint::{Hint, Stop};
 use crate::looping::loop_run;
-use crate::script::sim;
 use crate::many::{Terms, serve_run};
+use crate::script::sim;
 use crate::serving::{replica_in, sync_run};
 use crate::shell::{remote_shell_run, shell_run};
 use mvd_dots::Refusal;
@@ -137,11 +137,7 @@ fn typed<'a, S: Alter + Drop>(rt: &HostRuntime, replica: &mut Replica<S>) -> Res
     }
 }
 
-fn run_remote_shell<'a>(
-    rt: &HostRuntime,
-    address: SocketAddr,
-    idle: u32,
-) -> Result<(), Stop<'a>> {
+fn run_remote_shell<'a>(rt: &HostRuntime, address: SocketAddr, idle: u32) -> Result<(), Stop<'a>> {
     let mut reader = input(rt)?;
     remote_shell_run(
         rt,

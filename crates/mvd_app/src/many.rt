@@ -154,8 +154,7 @@ impl Server {
     /// Lets clients in, ends those that are idle, and reads once of each that is listed.
     fn take_in(&mut self) -> Result<(), Fault> {
         let registry = self.poll.registry();
-        self.door
-            .admit(registry, &mut self.crowd, &mut self.ready)?;
+        self.door.admit(registry, &mut self.crowd, &mut self.ready)?;
         self.crowd.end_idle(&mut self.ready);
         for client in &self.ready {
             self.crowd.read(*client);

@@ -105,7 +105,10 @@ impl Crowd {
         if !self.timers.set(due, number) {
             return Err(Refusal::Memory);
         }
-        match self.clients.insert(number, Client::new(stream, ordinal, due)) {
+        match self
+            .clients
+            .insert(number, Client::new(stream, ordinal, due))
+        {
             Ok(_) => Ok(()),
             Err(_) => {
                 self.timers.remove(due, number);

@@ -1,6 +1,5 @@
 -- What is known of a client's connection, if there is one.
-use Rattle.std.proofs.Common.{◌≡◌, ◌≤◌, List, ℕ, length, Option, Some, None, refl, sym, subst, ⊤, tt}
-use Rattle.std.specs.Prelude.{option_map}
+use Rattle.std.proofs.Common.{Option, Some, None}
 use Rattle.mvd_conn.specs.History.{History, WantsInput}
 use Rattle.mvd_host.specs.Hosts.{IfClient, IsClient}
 

@@ -1,9 +1,8 @@
 pub mod JoinLaws
-pub mod Steps
-pub mod Together
+pub mod Pushes
+pub mod Keys
 pub mod Below
 pub mod Pages
 pub mod Rest
-pub mod Bucket
-pub mod Ends
+pub mod OneByOne
 pub mod SiteSides

@@ -1,0 +1,110 @@
+//! The walk from the root to the buckets that differ, level by level.
+ghost use Rattle.std.specs.Prelude.{◌≡◌, ◌<◌, ◌++◌, ◌∷◌, [], ◌↔◌, length, IfOk, IfErr, IsTrue};
+
+use crate::peer::Peer;
+use crate::questions::{Node, Questions, ask_nodes};
+use crate::report::SyncFault;
+use mvd_dots::Refusal;
+use mvd_keys::Path;
+use std::alloc::Global;
+
+/// So many nodes or pages are asked for at once.
+pub const WINDOW: usize = 64;
+
+/// Whether two digests are the same.
+pub fn is_same(first: &[u8; 32], second: &[u8; 32]) -> bool
+    ensures { IsTrue result ↔ (first.now ≡ second.now) }
+{
+    first == second
+}
+
+/// The path with one digit more.
+fn child(alloc: Global, path: &Path, digit: u8) -> Result<Path, Refusal>
+    requires room { length path.now < 3 }
+    requires digit { digit < 16 }
+    ensures child { IfOk result (λ child. child ≡ path.now ++ digit ∷ []) }
+    ensures memory { IfErr result (λ refusal. refusal ≡ Refusal.Memory) }
+{
+    let mut digits = Vec::from_slice(alloc, path.digits())?;
+    digits.push(digit)?;
+    Path::new(alloc, &digits)
+}
+
+/// Adds the children of a node whose digests differ.
+fn add_children(
+    alloc: Global,
+    below: &mut Vec<Path>,
+    path: &Path,
+    mine: &Node,
+    theirs: &Node,
+) -> Result<(), Refusal> {
+    if is_same(&mine.own, &theirs.own) {
+        return Ok(());
+    }
+    for digit in 0..16u8 {
+        let index = digit as usize;
+        if !is_same(&mine.children[index], &theirs.children[index]) {
+            below.push(child(alloc, path, digit)?)?;
+        }
+    }
+    Ok(())
+}
+
+/// Adds the children of several nodes whose digests differ.
+fn add_all_children(
+    alloc: Global,
+    below: &mut Vec<Path>,
+    paths: &[Path],
+    mine: &[Node],
+    theirs: &[Node],
+) -> Result<(), Refusal> {
+    for (path, nodes) in paths.iter().zip(mine.iter().zip(theirs)) {
+        add_children(alloc, below, path, nodes.0, nodes.1)?;
+    }
+    Ok(())
+}
+
+/// The children of these nodes whose digests differ on the two sides.
+fn descend<L: Peer, P: Peer>(
+    alloc: Global,
+    local: &mut L,
+    peer: &mut P,
+    left: &mut Questions,
+    paths: &[Path],
+) -> Result<Vec<Path>, SyncFault> {
+    let mut below = Vec::new(alloc);
+    let mut rest = paths;
+    while !rest.is_empty() {
+        let count = rest.len().min(WINDOW);
+        let window = &rest[..count];
+        let mine = ask_nodes(local, &mut left.local, window).map_err(SyncFault::Local)?;
+        let theirs = ask_nodes(peer, &mut left.peer, window).map_err(SyncFault::Peer)?;
+        add_all_children(alloc, &mut below, window, &mine, &theirs).map_err(SyncFault::Local)?;
+        rest = &rest[count..];
+    }
+    Ok(below)
+}
+
+/// The path of the root.
+fn root(alloc: Global) -> Result<Vec<Path>, Refusal>
+    ensures root { IfOk result (λ paths. paths.items ≡ [] ∷ []) }
+    ensures memory { IfErr result (λ refusal. refusal ≡ Refusal.Memory) }
+{
+    let mut paths = Vec::new(alloc);
+    paths.push(Path::new(alloc, &[])?)?;
+    Ok(paths)
+}
+
+/// The buckets whose digests differ on the two sides, by rising path.
+pub fn differing_buckets<L: Peer, P: Peer>(
+    alloc: Global,
+    local: &mut L,
+    peer: &mut P,
+    left: &mut Questions,
+) -> Result<Vec<Path>, SyncFault> {
+    let mut paths = root(alloc).map_err(SyncFault::Local)?;
+    for _ in 0..3u8 {
+        paths = descend(alloc, local, peer, left, &paths)?;
+    }
+    Ok(paths)
+}

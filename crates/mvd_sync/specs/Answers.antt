@@ -5,11 +5,21 @@ use Rattle.std.specs.Prelude.{IsTrue, ◌↔◌, ◌≢◌, ◌≡◌, ℕ, Bool
 use Rattle.std.specs.FinMap.{entries}
 use Rattle.mvd_keys.specs.Key.{key_cmp}
 use Rattle.mvd_tree.specs.HashTree.{KeyDigests}
-use Rattle.mvd_tree.specs.Page.{rest_of}
+use Rattle.mvd_tree.specs.Page.{is_after, rest_of}
 
 -- an entry of a bucket: a key and its digest
 abbrev pub Entry : Type 0
 Entry = List ℕ × List ℕ
+
+-- the keys of a page strictly rise, from after a key on
+abbrev pub Rises : Option (List ℕ) → List Entry → Type 0
+Rises after [] = Unit {0}
+Rises after (e ∷ es) = IsTrue (is_after after e.0) × Rises (Some e.0) es
+
+-- a page that a true side may tell: its keys rise, and there are more only after a key
+pub record IsPage (after : Option (List ℕ)) (page : List Entry) (more : Bool) : Type 0 where
+  pub rises : Rises after page
+  pub ended : page ≡ [] → more ≡ false
 
 -- these are the first entries of a bucket after a key, and unless there is more all of them
 pub record IsListing (held : KeyDigests) (path : List ℕ) (after : Option (List ℕ)) (page : List Entry) (more : Bool) : Type 0 where

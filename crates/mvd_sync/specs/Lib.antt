@@ -4,3 +4,4 @@ pub mod Sides
 pub mod Windows
 pub mod Answers
 pub mod Walk
+pub mod Questions

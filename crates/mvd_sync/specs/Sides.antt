@@ -73,14 +73,6 @@ pub data Blames {S : Type 0} (s : Side S) (most asked : ℕ) (old new : S) (refu
   of_questions : refusal ≡ TooManyRequests → asked ≡ most → Blames s most asked old new refusal
   of_memory : refusal ≡ Memory → Blames s most asked old new refusal
 
--- why a side was asked no more: it refused so, or gave what no true side gives (33), or no question was left (36), or memory
--- was refused
-pub data Stops {S : Type 0} (follows : ℕ → S → S → Type 0) (can_refuse : S → Refusal → Type 0) (was_true : Type 0) (left : ℕ) (old new : S) (refusal : Refusal) : Type 0 where
-  of_side : HasRefused follows can_refuse old new refusal → Stops follows can_refuse was_true left old new refusal
-  of_answer : refusal ≡ BadBody → (was_true → ⊥) → Stops follows can_refuse was_true left old new refusal
-  of_questions : refusal ≡ TooManyRequests → left ≡ 0 → Stops follows can_refuse was_true left old new refusal
-  of_memory : refusal ≡ Memory → Stops follows can_refuse was_true left old new refusal
-
 -- the fault is of the side that it names
 abbrev pub IsFaultOf : (Refusal → Type 0) → (Refusal → Type 0) → SyncFault → Type 0
 IsFaultOf local peer (Local refusal) = local refusal

@@ -1,8 +1,9 @@
 //! What a session has left of a side's page of a bucket.
 ghost use Rattle.std.specs.Prelude.{◌≡◌, ◌≢◌, ◌+◌, ◌-◌, ◌*◌, ◌≤◌, [], ◌∷◌, length, IfOk, IfErr, IfSome, IfNone, OnSome, ◌<◌, ◌^◌, OnOk, MatchOption, option_copied, false};
 ghost use Rattle.mvd_site.specs.Answer.{digests};
-ghost use Rattle.mvd_sync.specs.Answers.{IsListing, TakesNext, order_of_first};
-ghost use Rattle.mvd_sync.specs.Sides.{Stops};
+ghost use Rattle.mvd_sync.specs.Answers.{IsListing, IsPage, TakesNext, order_of_first};
+ghost use Rattle.mvd_sync.specs.Questions.{AllAnswered, ComesToEnd, Fills, Keeps, Tells};
+ghost use Rattle.mvd_sync.specs.Sides.{HasAnswered, side};
 
 use crate::levels::is_same;
 use crate::peer::{Page, Peer};
@@ -55,8 +56,8 @@ impl Listing {
     /// A page that comes after a key. Keys that do not rise, or more without a key, are 33.
     pub fn of_page(after: Option<&Key>, page: Page) -> Result<Self, Refusal>
         ensures page { IfOk result (λ listing. listing ≡ (page.0.items, page.1)) }
-        ensures more { IfOk result (λ page. page.0 ≡ [] → page.1 ≡ false) }
-        ensures bad { IfErr result (λ refusal. refusal ≡ Refusal.BadBody) }
+        ensures rises { IfOk result (λ listing. IsPage (option_copied after.entry) listing.0 listing.1) }
+        ensures bad { IfErr result (λ refusal. (refusal ≡ Refusal.BadBody) × (IsPage (option_copied after.entry) page.0.items page.1 → ⊥)) }
         ensures length { IfOk result (λ page. length page.0 < 2 ^ 64) }
     {
         let (mut page, more) = page;
@@ -75,16 +76,18 @@ impl Listing {
         path: &Path,
         after: Option<&Key>,
     ) -> Result<Self, Refusal>
-        ensures kept { P.is_faithful side.old → P.is_faithful side.new × (P.states side.new ≡ P.states side.old) }
-        ensures page { P.is_faithful side.old → IfOk result (λ page. IsListing (digests (P.states side.old)) path.now (option_copied after.entry) page.0 page.1) }
-        ensures no_clash { P.is_faithful side.old → IfErr result (λ refusal. refusal ≢ Refusal.DotClash) }
-        ensures follows { P.follows (left.old - left.new) side.old side.new }
-        ensures refuses { IfErr result (Stops P.follows P.can_refuse (P.is_faithful side.old) left.new side.old side.new) }
-        ensures answers { OnOk result (P.can_answer side.new) }
-        ensures more { IfOk result (λ page. page.0 ≡ [] → page.1 ≡ false) }
-        ensures left { OnOk result (left.new + 1 ≡ left.old) }
-        ensures least { left.new ≤ left.old }
-        ensures length { IfOk result (λ page. length page.0 < 2 ^ 64) }
+        ensures told {
+            let s = side P.states P.is_faithful P.can_give P.follows P.can_refuse P.can_answer P.most_keys P.number in
+            let q = (path.now, option_copied after.entry) in
+            IfOk result
+                (λ listing. AllAnswered s (λ q page. IsPage q.1 page.0 page.1 × (length page.0 < 2 ^ 64) × HasAnswered P.follows P.can_answer side.old side.new)
+                    (Tells s (λ q page. IsListing (digests (P.states side.old)) q.0 q.1 page.0 page.1) (q ∷ []) (listing ∷ []) side.old side.new)
+                    (q ∷ []) (listing ∷ []) left.old left.new side.old side.new)
+        }
+        ensures ended {
+            let s = side P.states P.is_faithful P.can_give P.follows P.can_refuse P.can_answer P.most_keys P.number in
+            IfErr result (ComesToEnd s (Keeps s side.old side.new) 1 left.old side.old side.new)
+        }
     {
         take_one(left)?;
         Listing::of_page(after, side.bucket(path, after)?)
@@ -98,15 +101,14 @@ impl Listing {
         path: &Path,
         after: Option<&Key>,
     ) -> Result<(), Refusal>
-        ensures kept { P.is_faithful side.old → P.is_faithful side.new × (P.states side.new ≡ P.states side.old) }
-        ensures page { P.is_faithful side.old → IsListing (digests (P.states side.old)) path.now (option_copied after.entry) self.old.0 self.old.1 → OnOk result (IsListing (digests (P.states side.old)) path.now (option_copied after.entry) self.new.0 self.new.1) }
-        ensures no_clash { P.is_faithful side.old → IfErr result (λ refusal. refusal ≢ Refusal.DotClash) }
-        ensures follows { P.follows (left.old - left.new) side.old side.new }
-        ensures refuses { IfErr result (Stops P.follows P.can_refuse (P.is_faithful side.old) left.new side.old side.new) }
-        ensures answers { P.can_answer side.old → OnOk result (P.can_answer side.new) }
-        ensures more { OnOk result (self.new.0 ≡ [] → self.new.1 ≡ false) }
-        ensures measure { OnOk result (2 ^ 64 * left.new + length self.new.0 ≤ 2 ^ 64 * left.old + length self.old.0) }
-        ensures least { left.new ≤ left.old }
+        ensures filled {
+            let s = side P.states P.is_faithful P.can_give P.follows P.can_refuse P.can_answer P.most_keys P.number in
+            OnOk result (Fills s path.now (option_copied after.entry) self.old self.new left.old left.new side.old side.new)
+        }
+        ensures ended {
+            let s = side P.states P.is_faithful P.can_give P.follows P.can_refuse P.can_answer P.most_keys P.number in
+            IfErr result (ComesToEnd s (Keeps s side.old side.new) 1 left.old side.old side.new)
+        }
     {
         if self.page.is_empty() && self.more {
             *self = Listing::fetch(side, left, path, after)?;

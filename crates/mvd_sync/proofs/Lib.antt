@@ -6,3 +6,4 @@ pub mod Pages
 pub mod Rest
 pub mod OneByOne
 pub mod SiteSides
+pub mod Unseen

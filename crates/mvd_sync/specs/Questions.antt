@@ -68,7 +68,7 @@ pub record TakesIn {S : Type 0} (s : Side S) (pairs : List (Key × State)) (told
 -- after pushes that came to an end, of which the first were made
 pub record TakesFirst {S : Type 0} (s : Side S) (pairs : List (Key × State)) (old new : S) (refusal : Refusal) : Type 0 where
   pub still : refusal ≢ Broken → s.is_faithful new
-  pub pushes : s.is_faithful new → PushesFirst (s.most_keys old) (s.states old) pairs (s.states new)
+  pub pushes : PushesFirst (s.is_faithful new) (s.most_keys old) (s.states old) pairs (s.states new)
 
 -- ---- a listing
 

@@ -13,6 +13,7 @@ use Rattle.mvd_keys.specs.Writes.{Key, is_empty}
 use Rattle.mvd_tree.specs.Hashed.{HashesTellApart}
 use Rattle.mvd_site.specs.Answer.{is_too_large, spelled}
 use Rattle.mvd_site.specs.Held.{States, state_at}
+use Rattle.mvd_sync.specs.Olds.{HasUnseen}
 use Rattle.mvd_sync.specs.Sides.{Blames, HasAnswered, IsFaultOf, IsSilent, Side as SideOf}
 use Rattle.mvd_sync.specs.declared.report.Report.{Report}
 use Rattle.mvd_sync.specs.declared.report.Side.{Side}
@@ -52,7 +53,7 @@ pub record ComesByPushes (can_give : Key → State → Type 0) (old new : States
   pub is : new ≡ pushed_all old pushes
 
 -- a side that was true still is, unless it says that it is broken, and comes by such pushes
-pub record Changes (still_true : Type 0) (broken : SyncFault) (can_give : Key → State → Type 0) (old new : States) (result : Result Report SyncFault) : Type 0 where
+pub record Changes {A : Type 0} (still_true : Type 0) (broken : SyncFault) (can_give : Key → State → Type 0) (old new : States) (result : Result A SyncFault) : Type 0 where
   pub after_ok : OnOk result still_true
   pub after_fault : IfErr result (λ fault. fault ≢ broken → still_true)
   pub pushes : still_true → ComesByPushes can_give old new
@@ -120,8 +121,7 @@ IsLeft joined (key, (AtPeer, refusal)) = is_member joined key ≡ true
 
 -- the peer's state of a key has seen a dot of this site that the local state has not
 abbrev pub IsOld : Option ℕ → States → States → Key → Type 0
-IsOld None a b key = ⊥
-IsOld (Some site) a b key = (dot : DotValue) × (dot.site ≡ site) × (contains (state_at b key).context dot ≡ true) × (contains (state_at a key).context dot ≡ false)
+IsOld number a b key = HasUnseen number (state_at a key) (state_at b key)
 
 -- What a session with no fault tells: the keys that were exchanged and those that were refused, each for its cause, which
 -- together are those that differed; and of how many the local state was older than what the peer saw of it

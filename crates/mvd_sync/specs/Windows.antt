@@ -58,6 +58,6 @@ Pushes most old (p ∷ ps) (Ok done ∷ ts) new = (clashes (state_at old p.0) p.
 Pushes most old (p ∷ ps) (Err refusal ∷ ts) new = CannotTake most old p.0 p.1 refusal × Pushes most old ps ts new
 Pushes most old ps ts new = ⊥
 
--- the first of them alone
-abbrev pub PushesFirst : ℕ → States → List (Key × State) → States → Type 0
-PushesFirst most old ps new = (n : ℕ) × (ts : List (Result (Unit {0}) Refusal)) × Pushes most old (take n ps) ts new
+-- the first of them alone; and if the side is still true, nothing else has changed
+abbrev pub PushesFirst : Type 0 → ℕ → States → List (Key × State) → States → Type 0
+PushesFirst still most old ps new = (n : ℕ) × (ts : List (Result (Unit {0}) Refusal)) × (mid : States) × Pushes most old (take n ps) ts mid × (still → new ≡ mid)

@@ -1,13 +1,21 @@
 //! The exchange of keys, a window after the other.
+ghost use Rattle.std.specs.Prelude.{◌≡◌, ◌<◌, ◌+◌, ◌^◌, ◌++◌, ◌∷◌, [], length, map, filter_map, IfOk, IfErr, OnOk};
+ghost use Rattle.mvd_sync.specs.Exchanges.{Adds, Exchanges, IsHeldByEither};
+ghost use Rattle.mvd_sync.specs.Meetings.{done_of, pair_of};
+ghost use Rattle.mvd_sync.specs.Questions.{ComesToEnd, TakesFirst};
+ghost use Rattle.mvd_sync.specs.Session.{Each};
+ghost use Rattle.mvd_sync.specs.Sides.{side};
+ghost use Rattle.mvd_sync.specs.Carries.{Carried, ExchangesAll, PlanEnds, Planned};
+
 use crate::listing::Entry;
-use crate::old::has_unseen;
+use crate::meetings::{Meeting, keys_held, note, plan_all, taken};
 use crate::peer::Peer;
 use crate::questions::{Questions, ask_gets, ask_pushes};
 use crate::report::{Left, Report, Side, SyncFault};
 use mvd_dots::Refusal;
-use mvd_keys::{Key, KeyState};
 use mvd_wire::Items;
 use std::alloc::Global;
+use std::marker::Model;
 
 /// So many keys are exchanged at once.
 const WINDOW: usize = 1_000;
@@ -28,120 +36,44 @@ pub struct Exchange {
     first_refused: Vec<Left>,
 }
 
-/// A key of a window: what each side is to take, and how it was refused.
-#[derive(Drop)]
-struct Meeting {
-    key: Key,
-    /// The peer's state, which the local side is to take.
-    pull: Option<KeyState>,
-    /// The local state after that, which the peer is to take, where it has another.
-    give: Option<KeyState>,
-    refused: Option<(Side, Refusal)>,
+impl Model for Exchange {
+    ghost use Rattle.std.specs.Prelude.{◌≤◌, ◌+◌, length};
+    ghost use Rattle.mvd_sync.specs.Session.{Each};
+    ghost use Rattle.mvd_sync.specs.Exchanges.{Exchanging, IsHeldByEither};
+
+    ghost Value = { Exchanging };
+
+    ghost view = { λ e. record { number = e.number; waiting = e.waiting.items; keys = e.keys; refused = e.refused; old = e.old; first_refused = e.first_refused.items } };
+
+    ghost invariant = { λ e. (e.old ≤ e.keys + e.refused) × (length e.first_refused.items ≤ 100) × Each IsHeldByEither e.waiting.items };
 }
 
-/// The keys of a window that a side holds, as its page told.
-fn keys_held(alloc: Global, entries: &[Entry], side: Side) -> Result<Vec<Key>, Refusal> {
-    let mut keys = Vec::with_capacity(alloc, entries.len())?;
-    for entry in entries {
-        let is_held = match side {
-            Side::Local => entry.mine,
-            Side::Peer => entry.theirs,
-        };
-        if is_held {
-            keys.push(entry.key.copy(alloc)?)?;
-        }
-    }
-    Ok(keys)
-}
-
-/// What is to be done for a key that both sides hold. States that clash are refused at the local side.
-fn meet(
+/// What is to be done for the keys of a window, after each side was asked for the states that it holds.
+fn plans<L: Peer, P: Peer>(
     alloc: Global,
-    key: Key,
-    mine: KeyState,
-    theirs: KeyState,
-) -> Result<Meeting, Refusal> {
-    let mut meeting = Meeting {
-        key,
-        pull: None,
-        give: None,
-        refused: None,
-    };
-    match mine.join(alloc, &theirs) {
-        Ok(joined) => {
-            if !joined.same(&theirs) {
-                meeting.give = Some(joined);
-            }
-            meeting.pull = Some(theirs);
-        }
-        Err(Refusal::DotClash) => meeting.refused = Some((Side::Local, Refusal::DotClash)),
-        Err(refusal) => return Err(refusal),
+    number: Option<u32>,
+    local: &mut L,
+    peer: &mut P,
+    left: &mut Questions,
+    entries: Vec<Entry>,
+) -> Result<Vec<Meeting>, SyncFault>
+    ensures plans {
+        let l = side L.states L.is_faithful L.can_give L.follows L.can_refuse L.can_answer L.most_keys L.number in
+        let p = side P.states P.is_faithful P.can_give P.follows P.can_refuse P.can_answer P.most_keys P.number in
+        IfOk result
+            (λ meetings. Planned l p number entries.items left.old left.new local.old local.new peer.old peer.new meetings.items)
     }
-    Ok(meeting)
-}
-
-/// What is to be done for a key, by what the two sides have of it.
-fn plan(
-    alloc: Global,
-    key: Key,
-    mine: Option<KeyState>,
-    theirs: Option<KeyState>,
-) -> Result<Meeting, Refusal> {
-    match (mine, theirs) {
-        (Some(mine), Some(theirs)) => meet(alloc, key, mine, theirs),
-        (mine, theirs) => Ok(Meeting {
-            key,
-            pull: theirs,
-            give: mine,
-            refused: None,
-        }),
+    ensures ended {
+        let l = side L.states L.is_faithful L.can_give L.follows L.can_refuse L.can_answer L.most_keys L.number in
+        let p = side P.states P.is_faithful P.can_give P.follows P.can_refuse P.can_answer P.most_keys P.number in
+        IfErr result (PlanEnds l p (length entries.items) left.old local.old local.new peer.old peer.new)
     }
-}
-
-/// What a side is to take of the keys of a window: it is taken out of them.
-fn taken(
-    alloc: Global,
-    meetings: &mut [Meeting],
-    side: Side,
-) -> Result<Vec<(Key, KeyState)>, Refusal> {
-    let mut pairs = Vec::with_capacity(alloc, meetings.len())?;
-    for meeting in meetings {
-        if let Some(state) = meeting.next_for(side) {
-            pairs.push((meeting.key.copy(alloc)?, state))?;
-        }
-    }
-    Ok(pairs)
-}
-
-impl Meeting {
-    /// What a side is to take: the peer takes nothing of a key that was refused at the local side.
-    fn next_for(&mut self, side: Side) -> Option<KeyState> {
-        if self.refused.is_some() {
-            return None;
-        }
-        match side {
-            Side::Local => self.pull.take(),
-            Side::Peer => self.give.take(),
-        }
-    }
-}
-
-/// Notes of the keys of a window which of them a side refused: its answers are for these pairs, whose keys come in order.
-fn note(
-    meetings: &mut [Meeting],
-    side: Side,
-    pairs: &[(Key, KeyState)],
-    told: &[Result<(), Refusal>],
-) {
-    let mut next = 0;
-    for meeting in meetings {
-        if next < pairs.len() && next < told.len() && pairs[next].0 == meeting.key {
-            if let Err(refusal) = told[next] {
-                meeting.refused = Some((side, refusal));
-            }
-            next += 1;
-        }
-    }
+{
+    let asked = keys_held(alloc, &entries, Side::Local).map_err(SyncFault::Local)?;
+    let mine = ask_gets(local, &mut left.local, &asked).map_err(SyncFault::Local)?;
+    let asked = keys_held(alloc, &entries, Side::Peer).map_err(SyncFault::Local)?;
+    let theirs = ask_gets(peer, &mut left.peer, &asked).map_err(SyncFault::Peer)?;
+    plan_all(alloc, number, entries, mine, theirs).map_err(SyncFault::Local)
 }
 
 /// Has a side take what it is to take of the keys of a window.
@@ -149,17 +81,53 @@ fn carry<S: Peer>(
     alloc: Global,
     side: &mut S,
     left: &mut u64,
-    meetings: &mut [Meeting],
+    meetings: Vec<Meeting>,
     name: Side,
-) -> Result<(), Refusal> {
-    let pairs = taken(alloc, meetings, name)?;
+) -> Result<Vec<Meeting>, Refusal>
+    ensures told {
+        let s = side S.states S.is_faithful S.can_give S.follows S.can_refuse S.can_answer S.most_keys S.number in
+        IfOk result (λ after. Carried s name meetings.items after.items left.old left.new side.old side.new)
+    }
+    ensures ended {
+        let s = side S.states S.is_faithful S.can_give S.follows S.can_refuse S.can_answer S.most_keys S.number in
+        let pairs = filter_map (pair_of name) meetings.items in
+        IfErr result
+            (λ refusal. ComesToEnd s (TakesFirst s pairs side.old side.new refusal) (length pairs) left.old
+                side.old side.new refusal)
+    }
+{
+    let (meetings, pairs) = taken(alloc, meetings, name)?;
     let told = ask_pushes(side, left, &pairs)?;
-    note(meetings, name, &pairs, &told);
-    Ok(())
+    note(alloc, meetings, name, told)
+}
+
+/// Exchanges the keys of a window.
+fn exchange_all<L: Peer, P: Peer>(
+    alloc: Global,
+    number: Option<u32>,
+    local: &mut L,
+    peer: &mut P,
+    left: &mut Questions,
+    entries: Vec<Entry>,
+) -> Result<Vec<Meeting>, SyncFault>
+    requires { Each IsHeldByEither entries.items }
+    ensures {
+        let l = side L.states L.is_faithful L.can_give L.follows L.can_refuse L.can_answer L.most_keys L.number in
+        let p = side P.states P.is_faithful P.can_give P.follows P.can_refuse P.can_answer P.most_keys P.number in
+        ExchangesAll l p number entries.items left.old left.new local.old local.new peer.old peer.new result
+    }
+{
+    let meetings = plans(alloc, number, local, peer, left, entries)?;
+    let meetings =
+        carry(alloc, local, &mut left.local, meetings, Side::Local).map_err(SyncFault::Local)?;
+    carry(alloc, peer, &mut left.peer, meetings, Side::Peer).map_err(SyncFault::Peer)
 }
 
 impl Exchange {
-    pub fn new(alloc: Global, number: Option<u32>) -> Exchange {
+    /// Nothing waits, and nothing was done.
+    pub fn new(alloc: Global, number: Option<u32>) -> Exchange
+        ensures { result ≡ record { number = number; waiting = []; keys = 0; refused = 0; old = 0; first_refused = [] } }
+    {
         Exchange {
             alloc,
             number,
@@ -172,7 +140,12 @@ impl Exchange {
     }
 
     /// What was done.
-    pub fn report(self) -> Report {
+    pub fn report(self) -> Report
+        ensures keys { result.keys ≡ self.keys }
+        ensures refused { result.refused ≡ self.refused }
+        ensures old { result.old ≡ self.old }
+        ensures first { result.first_refused ≡ self.first_refused }
+    {
         Report {
             keys: self.keys,
             refused: self.refused,
@@ -188,7 +161,16 @@ impl Exchange {
         peer: &mut P,
         left: &mut Questions,
         entry: Entry,
-    ) -> Result<(), SyncFault> {
+    ) -> Result<(), SyncFault>
+        requires held { IsHeldByEither entry }
+        requires room { self.old.keys + self.old.refused + length self.old.waiting + left.old.local + left.old.peer + 1 < 2 ^ 64 }
+        ensures {
+            let l = side L.states L.is_faithful L.can_give L.follows L.can_refuse L.can_answer L.most_keys L.number in
+            let p = side P.states P.is_faithful P.can_give P.follows P.can_refuse P.can_answer P.most_keys P.number in
+            Exchanges l p (self.old.waiting ++ entry ∷ []) left.old left.new local.old local.new peer.old peer.new
+                self.old self.new result
+        }
+    {
         if self.waiting.push(entry).is_err() {
             return Err(SyncFault::Local(Refusal::Memory));
         }
@@ -204,63 +186,47 @@ impl Exchange {
         local: &mut L,
         peer: &mut P,
         left: &mut Questions,
-    ) -> Result<(), SyncFault> {
+    ) -> Result<(), SyncFault>
+        requires room { self.old.keys + self.old.refused + length self.old.waiting + left.old.local + left.old.peer < 2 ^ 64 }
+        ensures {
+            let l = side L.states L.is_faithful L.can_give L.follows L.can_refuse L.can_answer L.most_keys L.number in
+            let p = side P.states P.is_faithful P.can_give P.follows P.can_refuse P.can_answer P.most_keys P.number in
+            Exchanges l p self.old.waiting left.old left.new local.old local.new peer.old peer.new self.old self.new
+                result
+        }
+    {
         let entries = std::mem::replace(&mut self.waiting, Vec::new(self.alloc));
-        let mut meetings = self.plans(local, peer, left, entries)?;
-        carry(self.alloc, local, &mut left.local, &mut meetings, Side::Local)
-            .map_err(SyncFault::Local)?;
-        carry(self.alloc, peer, &mut left.peer, &mut meetings, Side::Peer)
-            .map_err(SyncFault::Peer)?;
+        let meetings = exchange_all(self.alloc, self.number, local, peer, left, entries)?;
         self.tell(meetings).map_err(SyncFault::Local)
     }
 
-    /// What is to be done for the keys of a window.
-    fn plans<L: Peer, P: Peer>(
-        &mut self,
-        local: &mut L,
-        peer: &mut P,
-        left: &mut Questions,
-        entries: Vec<Entry>,
-    ) -> Result<Vec<Meeting>, SyncFault> {
-        let alloc = self.alloc;
-        let asked = keys_held(alloc, &entries, Side::Local).map_err(SyncFault::Local)?;
-        let mine = ask_gets(local, &mut left.local, &asked).map_err(SyncFault::Local)?;
-        let asked = keys_held(alloc, &entries, Side::Peer).map_err(SyncFault::Local)?;
-        let theirs = ask_gets(peer, &mut left.peer, &asked).map_err(SyncFault::Peer)?;
-        self.plan_all(entries, mine, theirs).map_err(SyncFault::Local)
-    }
-
-    /// What is to be done for these keys, where the states that each side holds come in their order.
-    fn plan_all(
-        &mut self,
-        entries: Vec<Entry>,
-        mine: Vec<KeyState>,
-        theirs: Vec<KeyState>,
-    ) -> Result<Vec<Meeting>, Refusal> {
-        let mut meetings = Vec::with_capacity(self.alloc, entries.len())?;
-        let mut mine = mine.into_iter();
-        let mut theirs = theirs.into_iter();
-        for entry in entries {
-            let own = if entry.mine { mine.next() } else { None };
-            let other = if entry.theirs { theirs.next() } else { None };
-            if has_unseen(self.number, own.as_ref(), other.as_ref()) {
-                self.old += 1;
-            }
-            meetings.push(plan(self.alloc, entry.key, own, other)?)?;
-        }
-        Ok(meetings)
-    }
-
     /// Counts the keys of a window, and names the first that were refused.
-    fn tell(&mut self, meetings: Vec<Meeting>) -> Result<(), Refusal> {
+    fn tell(&mut self, meetings: Vec<Meeting>) -> Result<(), Refusal>
+        requires room { self.old.keys + self.old.refused + length meetings.items < 2 ^ 64 }
+        ensures adds { OnOk result (Adds (map done_of meetings.items) self.old self.new) }
+        ensures memory { IfErr result (λ refusal. refusal ≡ Refusal.Memory) }
+    {
         for meeting in meetings {
-            match meeting.refused {
-                None => self.keys += 1,
-                Some(refused) => {
-                    self.refused += 1;
-                    if self.first_refused.len() < NAMED {
-                        self.first_refused.push((meeting.key, refused))?;
-                    }
+            self.count(meeting)?;
+        }
+        Ok(())
+    }
+
+    /// Counts a key, and names it if it is among the first that were refused.
+    fn count(&mut self, meeting: Meeting) -> Result<(), Refusal>
+        requires room { self.old.keys + self.old.refused + 1 < 2 ^ 64 }
+        ensures adds { OnOk result (Adds (done_of meeting ∷ []) self.old self.new) }
+        ensures memory { IfErr result (λ refusal. refusal ≡ Refusal.Memory) }
+    {
+        if meeting.is_old {
+            self.old += 1;
+        }
+        match meeting.refused {
+            None => self.keys += 1,
+            Some(refused) => {
+                self.refused += 1;
+                if self.first_refused.len() < NAMED {
+                    self.first_refused.push((meeting.key, refused))?;
                 }
             }
         }

@@ -5,6 +5,7 @@ mod buckets;
 mod exchange;
 mod levels;
 mod listing;
+mod meetings;
 mod old;
 pub mod peer;
 mod questions;

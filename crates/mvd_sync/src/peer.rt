@@ -159,7 +159,7 @@ pub trait Peer {
         ensures ended { IfErr result (Ends follows can_refuse (length pairs.now) self.old self.new) }
         ensures no_clash { is_faithful self.old → IfErr result (λ refusal. refusal ≢ Refusal.DotClash) }
         ensures unbroken { is_faithful self.old → IfErr result (λ refusal. refusal ≢ Refusal.Broken → is_faithful self.new) }
-        ensures first { is_faithful self.old → is_faithful self.new → OnErr result (PushesFirst (most_keys self.old) (states self.old) pairs.now (states self.new)) }
+        ensures first { is_faithful self.old → OnErr result (PushesFirst (is_faithful self.new) (most_keys self.old) (states self.old) pairs.now (states self.new)) }
     {
         let mut told = room_for(self.alloc(), pairs.len())?;
         for (key, state) in pairs {

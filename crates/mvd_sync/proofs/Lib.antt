@@ -7,3 +7,5 @@ pub mod Rest
 pub mod OneByOne
 pub mod SiteSides
 pub mod Unseen
+pub mod Taking
+pub mod Plans

@@ -1,5 +1,6 @@
 //! The keys of a window: what each side is to take of them, and how they were refused.
-ghost use Rattle.std.specs.Prelude.{◌≡◌, map, filter_map, IfOk, IfErr, None, Some, false};
+ghost use Rattle.std.specs.Prelude.{◌≡◌, map, filter_map, IfOk, OnOk, IfErr, None, Some, false, option_map, ◌++◌, []};
+ghost use Rattle.std.specs.List.{cons_option};
 ghost use Rattle.mvd_sync.specs.Meetings.{ArePlans, IsPlan, first_if, held_keys, is_held, noted, pair_of, rest_if, taken_from, wanted};
 
 use crate::listing::Entry;
@@ -173,6 +174,22 @@ fn take_out(meeting: &mut Meeting, side: Side) -> Option<KeyState>
     wanted
 }
 
+/// Adds a key with a state, if there is one.
+fn add_pair(
+    alloc: Global,
+    pairs: &mut Vec<(Key, KeyState)>,
+    key: &Key,
+    state: Option<KeyState>,
+) -> Result<(), Refusal>
+    ensures added { OnOk result (pairs.new.items ≡ pairs.old.items ++ cons_option (option_map (λ s. (key.now, s)) state) []) }
+    ensures memory { IfErr result (λ refusal. refusal ≡ Refusal.Memory) }
+{
+    if let Some(state) = state {
+        pairs.push((key.copy(alloc)?, state))?;
+    }
+    Ok(())
+}
+
 /// The keys of a window, and what a side is to take of them, which is taken out.
 pub fn taken(
     alloc: Global,
@@ -187,9 +204,8 @@ pub fn taken(
     let mut pairs = Vec::with_capacity(alloc, meetings.len())?;
     for meeting in meetings {
         let mut meeting = meeting;
-        if let Some(state) = take_out(&mut meeting, side) {
-            pairs.push((meeting.key.copy(alloc)?, state))?;
-        }
+        let state = take_out(&mut meeting, side);
+        add_pair(alloc, &mut pairs, &meeting.key, state)?;
         asked.push(meeting)?;
     }
     Ok((asked, pairs))

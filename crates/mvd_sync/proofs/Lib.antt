@@ -9,3 +9,6 @@ pub mod SiteSides
 pub mod Unseen
 pub mod Taking
 pub mod Plans
+pub mod Compose
+pub mod Answering
+pub mod ToldPages

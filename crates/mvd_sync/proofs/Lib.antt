@@ -12,3 +12,7 @@ pub mod Plans
 pub mod Compose
 pub mod Answering
 pub mod ToldPages
+pub mod Window
+pub mod Counting
+pub mod Carrying
+pub mod Joined

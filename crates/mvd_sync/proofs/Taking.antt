@@ -149,7 +149,7 @@ EachTook many x new ((key, None) ∷ qs) ts = Took many x new key None None × E
 EachTook many x new ((key, Some s) ∷ qs) (t ∷ ts) = Took many x new key (Some s) (Some t) × EachTook many x new qs ts
 EachTook many x new qs ts = ⊥
 
-same_state : (m n : States) (key : List ℕ) → get m key ≡ get n key → state_at m key ≡ state_at n key
+pub same_state : (m n : States) (key : List ℕ) → get m key ≡ get n key → state_at m key ≡ state_at n key
 same_state m n key e = ap (λ o. unwrap_or o empty_state) e
 
 -- what a key's state is now does not matter for how it was refused

@@ -1,6 +1,6 @@
 -- A window: its keys are asked for, and what each side lacks is pushed into it.
-use Rattle.std.specs.Prelude.{◌≡◌, ◌≤◌, ◌+◌, ◌*◌, ℕ, List, ◌++◌, length, map, filter_map, Option, Result, IfErr, OnOk, MatchResult}
-use Rattle.std.specs.Vec.{Vec}
+use Rattle.std.specs.Prelude.{◌≡◌, ◌≤◌, ◌+◌, ◌*◌, ℕ, List, ◌++◌, length, map, filter_map, Option, Result, Vec, IfErr, OnOk, MatchResult}
+
 use Rattle.mvd_dots.specs.declared.refusals.Refusal.{Refusal}
 use Rattle.mvd_dots.specs.declared.refusals.Refusal.TheVariants.{Broken}
 use Rattle.mvd_keys.specs.State.{State}

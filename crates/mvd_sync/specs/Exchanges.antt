@@ -23,7 +23,7 @@ pub record Exchanging : Type 0 where
   pub waiting : List Entry
   pub keys : ℕ
   pub refused : ℕ
-  pub old : ℕ
+  pub older : ℕ
   pub first_refused : List Left
 
 -- a key that was exchanged, or by which side it was refused, and how
@@ -88,7 +88,7 @@ pub record Counts (done : List Done) (e : Exchanging) : Type 0 where
   pub keys : e.keys ≡ length (given_keys done)
   pub refused : e.refused ≡ length (left_keys done)
   pub first_refused : e.first_refused ≡ take 100 (left_keys done)
-  pub old : e.old ≡ length (filter (λ d. d.is_old) done)
+  pub older : e.older ≡ length (filter (λ d. d.is_old) done)
 
 -- these are counted besides
 pub record Adds (now : List Done) (before after : Exchanging) : Type 0 where
@@ -96,8 +96,8 @@ pub record Adds (now : List Done) (before after : Exchanging) : Type 0 where
   pub waiting : after.waiting ≡ before.waiting
   pub keys : after.keys ≡ before.keys + length (given_keys now)
   pub refused : after.refused ≡ before.refused + length (left_keys now)
-  pub first_refused : after.first_refused ≡ take 100 (before.first_refused ++ left_keys now)
-  pub old : after.old ≡ before.old + length (filter (λ d. d.is_old) now)
+  pub first_refused : length before.first_refused ≤ 100 → after.first_refused ≡ take 100 (before.first_refused ++ left_keys now)
+  pub older : after.older ≡ before.older + length (filter (λ d. d.is_old) now)
 
 -- a key whose states differ, and which a side lacks where its page does not tell it
 pub record IsNext (a b : States) (e : Entry) : Type 0 where

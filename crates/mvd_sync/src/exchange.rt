@@ -4,7 +4,7 @@ ghost use Rattle.mvd_sync.specs.Exchanges.{Adds, Exchanges, IsHeldByEither};
 ghost use Rattle.mvd_sync.specs.Meetings.{done_of, pair_of};
 ghost use Rattle.mvd_sync.specs.Questions.{ComesToEnd, TakesFirst};
 ghost use Rattle.mvd_sync.specs.Session.{Each};
-ghost use Rattle.mvd_sync.specs.Sides.{side};
+ghost use Rattle.mvd_sync.specs.Sides.{side as side_of};
 ghost use Rattle.mvd_sync.specs.Carries.{Carried, ExchangesAll, PlanEnds, Planned};
 
 use crate::listing::Entry;
@@ -32,20 +32,21 @@ pub struct Exchange {
     waiting: Vec<Entry>,
     keys: u64,
     refused: u64,
-    old: u64,
+    /// Of how many keys the local state was older than what the peer saw of it.
+    older: u64,
     first_refused: Vec<Left>,
 }
 
 impl Model for Exchange {
-    ghost use Rattle.std.specs.Prelude.{◌≤◌, ◌+◌, length};
+    ghost use Rattle.std.specs.Prelude.{◌≤◌, ◌+◌};
     ghost use Rattle.mvd_sync.specs.Session.{Each};
     ghost use Rattle.mvd_sync.specs.Exchanges.{Exchanging, IsHeldByEither};
 
     ghost Value = { Exchanging };
 
-    ghost view = { λ e. record { number = e.number; waiting = e.waiting.items; keys = e.keys; refused = e.refused; old = e.old; first_refused = e.first_refused.items } };
+    ghost view = { λ e. record { number = e.number; waiting = e.waiting.items; keys = e.keys; refused = e.refused; older = e.older; first_refused = e.first_refused.items } };
 
-    ghost invariant = { λ e. (e.old ≤ e.keys + e.refused) × (length e.first_refused.items ≤ 100) × Each IsHeldByEither e.waiting.items };
+    ghost invariant = { λ e. (e.older ≤ e.keys + e.refused) × Each IsHeldByEither e.waiting.items };
 }
 
 /// What is to be done for the keys of a window, after each side was asked for the states that it holds.
@@ -58,14 +59,14 @@ fn plans<L: Peer, P: Peer>(
     entries: Vec<Entry>,
 ) -> Result<Vec<Meeting>, SyncFault>
     ensures plans {
-        let l = side L.states L.is_faithful L.can_give L.follows L.can_refuse L.can_answer L.most_keys L.number in
-        let p = side P.states P.is_faithful P.can_give P.follows P.can_refuse P.can_answer P.most_keys P.number in
+        let l = side_of L.states L.is_faithful L.can_give L.follows L.can_refuse L.can_answer L.most_keys L.number in
+        let p = side_of P.states P.is_faithful P.can_give P.follows P.can_refuse P.can_answer P.most_keys P.number in
         IfOk result
             (λ meetings. Planned l p number entries.items left.old left.new local.old local.new peer.old peer.new meetings.items)
     }
     ensures ended {
-        let l = side L.states L.is_faithful L.can_give L.follows L.can_refuse L.can_answer L.most_keys L.number in
-        let p = side P.states P.is_faithful P.can_give P.follows P.can_refuse P.can_answer P.most_keys P.number in
+        let l = side_of L.states L.is_faithful L.can_give L.follows L.can_refuse L.can_answer L.most_keys L.number in
+        let p = side_of P.states P.is_faithful P.can_give P.follows P.can_refuse P.can_answer P.most_keys P.number in
         IfErr result (PlanEnds l p (length entries.items) left.old local.old local.new peer.old peer.new)
     }
 {
@@ -85,11 +86,11 @@ fn carry<S: Peer>(
     name: Side,
 ) -> Result<Vec<Meeting>, Refusal>
     ensures told {
-        let s = side S.states S.is_faithful S.can_give S.follows S.can_refuse S.can_answer S.most_keys S.number in
+        let s = side_of S.states S.is_faithful S.can_give S.follows S.can_refuse S.can_answer S.most_keys S.number in
         IfOk result (λ after. Carried s name meetings.items after.items left.old left.new side.old side.new)
     }
     ensures ended {
-        let s = side S.states S.is_faithful S.can_give S.follows S.can_refuse S.can_answer S.most_keys S.number in
+        let s = side_of S.states S.is_faithful S.can_give S.follows S.can_refuse S.can_answer S.most_keys S.number in
         let pairs = filter_map (pair_of name) meetings.items in
         IfErr result
             (λ refusal. ComesToEnd s (TakesFirst s pairs side.old side.new refusal) (length pairs) left.old
@@ -112,8 +113,8 @@ fn exchange_all<L: Peer, P: Peer>(
 ) -> Result<Vec<Meeting>, SyncFault>
     requires { Each IsHeldByEither entries.items }
     ensures {
-        let l = side L.states L.is_faithful L.can_give L.follows L.can_refuse L.can_answer L.most_keys L.number in
-        let p = side P.states P.is_faithful P.can_give P.follows P.can_refuse P.can_answer P.most_keys P.number in
+        let l = side_of L.states L.is_faithful L.can_give L.follows L.can_refuse L.can_answer L.most_keys L.number in
+        let p = side_of P.states P.is_faithful P.can_give P.follows P.can_refuse P.can_answer P.most_keys P.number in
         ExchangesAll l p number entries.items left.old left.new local.old local.new peer.old peer.new result
     }
 {
@@ -126,7 +127,7 @@ fn exchange_all<L: Peer, P: Peer>(
 impl Exchange {
     /// Nothing waits, and nothing was done.
     pub fn new(alloc: Global, number: Option<u32>) -> Exchange
-        ensures { result ≡ record { number = number; waiting = []; keys = 0; refused = 0; old = 0; first_refused = [] } }
+        ensures { result ≡ record { number = number; waiting = []; keys = 0; refused = 0; older = 0; first_refused = [] } }
     {
         Exchange {
             alloc,
@@ -134,7 +135,7 @@ impl Exchange {
             waiting: Vec::new(alloc),
             keys: 0,
             refused: 0,
-            old: 0,
+            older: 0,
             first_refused: Vec::new(alloc),
         }
     }
@@ -143,13 +144,13 @@ impl Exchange {
     pub fn report(self) -> Report
         ensures keys { result.keys ≡ self.keys }
         ensures refused { result.refused ≡ self.refused }
-        ensures old { result.old ≡ self.old }
+        ensures old { result.old ≡ self.older }
         ensures first { result.first_refused ≡ self.first_refused }
     {
         Report {
             keys: self.keys,
             refused: self.refused,
-            old: self.old,
+            old: self.older,
             first_refused: Items::new(self.first_refused),
         }
     }
@@ -165,8 +166,8 @@ impl Exchange {
         requires held { IsHeldByEither entry }
         requires room { self.old.keys + self.old.refused + length self.old.waiting + left.old.local + left.old.peer + 1 < 2 ^ 64 }
         ensures {
-            let l = side L.states L.is_faithful L.can_give L.follows L.can_refuse L.can_answer L.most_keys L.number in
-            let p = side P.states P.is_faithful P.can_give P.follows P.can_refuse P.can_answer P.most_keys P.number in
+            let l = side_of L.states L.is_faithful L.can_give L.follows L.can_refuse L.can_answer L.most_keys L.number in
+            let p = side_of P.states P.is_faithful P.can_give P.follows P.can_refuse P.can_answer P.most_keys P.number in
             Exchanges l p (self.old.waiting ++ entry ∷ []) left.old left.new local.old local.new peer.old peer.new
                 self.old self.new result
         }
@@ -189,8 +190,8 @@ impl Exchange {
     ) -> Result<(), SyncFault>
         requires room { self.old.keys + self.old.refused + length self.old.waiting + left.old.local + left.old.peer < 2 ^ 64 }
         ensures {
-            let l = side L.states L.is_faithful L.can_give L.follows L.can_refuse L.can_answer L.most_keys L.number in
-            let p = side P.states P.is_faithful P.can_give P.follows P.can_refuse P.can_answer P.most_keys P.number in
+            let l = side_of L.states L.is_faithful L.can_give L.follows L.can_refuse L.can_answer L.most_keys L.number in
+            let p = side_of P.states P.is_faithful P.can_give P.follows P.can_refuse P.can_answer P.most_keys P.number in
             Exchanges l p self.old.waiting left.old left.new local.old local.new peer.old peer.new self.old self.new
                 result
         }
@@ -219,7 +220,7 @@ impl Exchange {
         ensures memory { IfErr result (λ refusal. refusal ≡ Refusal.Memory) }
     {
         if meeting.is_old {
-            self.old += 1;
+            self.older += 1;
         }
         match meeting.refused {
             None => self.keys += 1,

@@ -97,3 +97,18 @@ adds_left d r e f some number waiting keys refused named full old =
       ];
       older = let n = old_one d in omega (arith, n, old);
     }
+
+left_one : (d : Done) → length (left_keys (d ∷ [])) ≡ count_if (is_some d.refused)
+left_one d = elim d.refused as (λ o. length (Rattle.std.specs.List.cons_option (option_map (λ r. (d.key, r)) o) []) ≡ count_if (is_some o)) [ None ↦ refl | Some r ↦ refl ]
+
+one_of_two : (b : Bool) → count_if (not b) + count_if b ≡ 1
+one_of_two true = refl
+one_of_two false = refl
+
+-- each key counts once
+pub adds_room : (d : Done) (e f : Exchanging) → Adds (d ∷ []) e f → f.keys + f.refused ≡ e.keys + e.refused + 1
+adds_room d e f a =
+    let g = given_one d in
+    let l = left_one d in
+    let n = one_of_two (is_some d.refused) in
+    omega (arith, g, l, n, a.keys, a.refused)

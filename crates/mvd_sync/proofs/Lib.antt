@@ -16,3 +16,4 @@ pub mod Window
 pub mod Counting
 pub mod Carrying
 pub mod Joined
+pub mod Windowed

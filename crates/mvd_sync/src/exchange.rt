@@ -1,5 +1,5 @@
 //! The exchange of keys, a window after the other.
-ghost use Rattle.std.specs.Prelude.{◌≡◌, ◌<◌, ◌+◌, ◌^◌, ◌++◌, ◌∷◌, [], length, map, filter_map, IfOk, IfErr, OnOk};
+ghost use Rattle.std.specs.Prelude.{◌≡◌, ◌<◌, ◌+◌, ◌^◌, ◌++◌, ◌∷◌, [], length, map, filter_map, IfOk, IfErr, OnOk, cond, ◌≤◌};
 ghost use Rattle.mvd_sync.specs.Exchanges.{Adds, Exchanges, IsHeldByEither};
 ghost use Rattle.mvd_sync.specs.Meetings.{done_of, pair_of};
 ghost use Rattle.mvd_sync.specs.Questions.{ComesToEnd, TakesFirst};
@@ -13,6 +13,7 @@ use crate::peer::Peer;
 use crate::questions::{Questions, ask_gets, ask_pushes};
 use crate::report::{Left, Report, Side, SyncFault};
 use mvd_dots::Refusal;
+use mvd_keys::Key;
 use mvd_wire::Items;
 use std::alloc::Global;
 use std::marker::Model;
@@ -208,29 +209,63 @@ impl Exchange {
         ensures memory { IfErr result (λ refusal. refusal ≡ Refusal.Memory) }
     {
         for meeting in meetings {
-            self.count(meeting)?;
+            self.count(meeting.key, meeting.is_old, meeting.refused)?;
         }
         Ok(())
     }
 
     /// Counts a key, and names it if it is among the first that were refused.
-    fn count(&mut self, meeting: Meeting) -> Result<(), Refusal>
+    fn count(
+        &mut self,
+        key: Key,
+        is_old: bool,
+        refused: Option<(Side, Refusal)>,
+    ) -> Result<(), Refusal>
         requires room { self.old.keys + self.old.refused + 1 < 2 ^ 64 }
-        ensures adds { OnOk result (Adds (done_of meeting ∷ []) self.old self.new) }
+        ensures adds { OnOk result (Adds (record { key = key; is_old = is_old; refused = refused } ∷ []) self.old self.new) }
         ensures memory { IfErr result (λ refusal. refusal ≡ Refusal.Memory) }
     {
-        if meeting.is_old {
-            self.older += 1;
-        }
-        match meeting.refused {
-            None => self.keys += 1,
+        match refused {
+            None => {
+                self.keys += 1;
+                self.count_old(is_old);
+                Ok(())
+            }
             Some(refused) => {
-                self.refused += 1;
-                if self.first_refused.len() < NAMED {
-                    self.first_refused.push((meeting.key, refused))?;
-                }
+                self.leave(key, refused)?;
+                self.count_old(is_old);
+                Ok(())
             }
         }
+    }
+
+    /// Counts a key that was refused, and names it if it is among the first.
+    fn leave(&mut self, key: Key, refused: (Side, Refusal)) -> Result<(), Refusal>
+        requires room { self.old.keys + self.old.refused + 1 < 2 ^ 64 }
+        ensures number { OnOk result (self.new.number ≡ self.old.number) }
+        ensures waiting { OnOk result (self.new.waiting ≡ self.old.waiting) }
+        ensures keys { OnOk result (self.new.keys ≡ self.old.keys) }
+        ensures refused { OnOk result (self.new.refused ≡ self.old.refused + 1) }
+        ensures older { OnOk result (self.new.older ≡ self.old.older) }
+        ensures named { OnOk result (length self.old.first_refused < 100 → self.new.first_refused ≡ self.old.first_refused ++ (key, refused) ∷ []) }
+        ensures full { OnOk result (100 ≤ length self.old.first_refused → self.new.first_refused ≡ self.old.first_refused) }
+        ensures memory { IfErr result (λ refusal. refusal ≡ Refusal.Memory) }
+    {
+        self.refused += 1;
+        if self.first_refused.len() < NAMED {
+            self.first_refused.push((key, refused))?;
+        }
         Ok(())
+    }
+
+    /// Counts a key of which the local state was older than what the peer saw of it.
+    fn count_old(&mut self, is_old: bool)
+        requires room { self.old.older < self.old.keys + self.old.refused }
+        requires fits { self.old.keys + self.old.refused < 2 ^ 64 }
+        ensures { self.new ≡ record self.old { older = self.old.older + cond is_old 1 0 } }
+    {
+        if is_old {
+            self.older += 1;
+        }
     }
 }

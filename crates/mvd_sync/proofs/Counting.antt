@@ -2,10 +2,12 @@
 use Rattle.std.proofs.Common.{◌≡◌, ℕ, zero, suc, ◌+◌, ◌≤◌, ◌<◌, Bool, true, false, cond, not, List, [], ◌∷◌, ◌++◌, map, filter, filter_map, length, take, refl, sym, ap, subst, ◌∙◌, arith, Some, None, Option, option_map, length-append, append_assoc, inl, inr}
 use Rattle.std.specs.Prelude.{is_some}
 use Rattle.std.proofs.lemmas.List.{append-nil, map-append}
+use Rattle.std.specs.List.{cons_option}
+use Rattle.mvd_sync.specs.Session.{Left}
 use Rattle.std.proofs.lemmas.List.Elements.{filter-append, filter_map-append}
 use Rattle.mvd_dots.specs.declared.refusals.Refusal.{Refusal}
 use Rattle.mvd_sync.specs.declared.report.Side.{Side}
-use Rattle.mvd_sync.specs.Exchanges.{Adds, Done, Exchanging, given_keys, is_given, keys_done, left_keys, left_of}
+use Rattle.mvd_sync.specs.Exchanges.{Adds, Counts, Done, Exchanging, given_keys, is_given, keys_done, left_keys, left_of}
 
 pub take_all : {X : Type 0} (n : ℕ) (xs : List X) → length xs ≤ n → take n xs ≡ xs
 take_all zero [] h = refl
@@ -70,7 +72,7 @@ old_one d = elim d.is_old as (λ b. length (cond b (d ∷ []) []) ≡ count_if b
 -- a key that was given to both sides
 pub adds_given : (d : Done) (e f : Exchanging) → d.refused ≡ None → f.number ≡ e.number → f.waiting ≡ e.waiting → f.keys ≡ e.keys + 1 → f.refused ≡ e.refused → f.first_refused ≡ e.first_refused → f.older ≡ e.older + count_if d.is_old → Adds (d ∷ []) e f
 adds_given d e f none number waiting keys refused first old =
-    let lefts : left_keys (d ∷ []) ≡ [] = ap (λ o. Rattle.std.specs.List.cons_option (option_map (λ r. (d.key, r)) o) []) none in
+    let lefts : left_keys (d ∷ []) ≡ [] = ap (λ o. cons_option (option_map (λ r. (d.key, r)) o) []) none in
     let given : is_given d.refused ≡ true = ap is_given none in
     record {
       number = number;
@@ -84,7 +86,7 @@ adds_given d e f none number waiting keys refused first old =
 -- a key that was refused
 pub adds_left : (d : Done) (r : Side × Refusal) (e f : Exchanging) → d.refused ≡ Some r → f.number ≡ e.number → f.waiting ≡ e.waiting → f.keys ≡ e.keys → f.refused ≡ e.refused + 1 → (length e.first_refused < 100 → f.first_refused ≡ e.first_refused ++ (d.key, r) ∷ []) → (100 ≤ length e.first_refused → f.first_refused ≡ e.first_refused) → f.older ≡ e.older + count_if d.is_old → Adds (d ∷ []) e f
 adds_left d r e f some number waiting keys refused named full old =
-    let lefts : left_keys (d ∷ []) ≡ (d.key, r) ∷ [] = ap (λ o. Rattle.std.specs.List.cons_option (option_map (λ r. (d.key, r)) o) []) some in
+    let lefts : left_keys (d ∷ []) ≡ (d.key, r) ∷ [] = ap (λ o. cons_option (option_map (λ r. (d.key, r)) o) []) some in
     let given : is_given d.refused ≡ false = ap is_given some in
     record {
       number = number;
@@ -99,7 +101,9 @@ adds_left d r e f some number waiting keys refused named full old =
     }
 
 left_one : (d : Done) → length (left_keys (d ∷ [])) ≡ count_if (is_some d.refused)
-left_one d = elim d.refused as (λ o. length (Rattle.std.specs.List.cons_option (option_map (λ r. (d.key, r)) o) []) ≡ count_if (is_some o)) [ None ↦ refl | Some r ↦ refl ]
+left_one d =
+    let named : Side × Refusal → Left = λ r. (d.key, r) in
+    elim d.refused as (λ o. length (cons_option (option_map named o) []) ≡ count_if (is_some o)) [ None ↦ refl | Some r ↦ refl ]
 
 one_of_two : (b : Bool) → count_if (not b) + count_if b ≡ 1
 one_of_two true = refl
@@ -112,3 +116,14 @@ adds_room d e f a =
     let l = left_one d in
     let n = one_of_two (is_some d.refused) in
     omega (arith, g, l, n, a.keys, a.refused)
+
+-- what was counted besides is counted with the rest
+pub counts_on : (done now : List Done) (e f : Exchanging) → Counts done e → Adds now e f → Counts (done ++ now) f
+counts_on done now e f c a = record {
+  keys = let n = ap length (given_append done now) ∙ length-append (given_keys done) (given_keys now) in omega (arith, n, c.keys, a.keys);
+  refused = let n = ap length (filter_map-append left_of done now) ∙ length-append (left_keys done) (left_keys now) in omega (arith, n, c.refused, a.refused);
+  first_refused =
+      let short : length e.first_refused ≤ 100 = subst (λ v. length v ≤ 100) (sym c.first_refused) (take_short 100 (left_keys done)) in
+      a.first_refused short ∙ ap (λ v. take 100 (v ++ left_keys now)) c.first_refused ∙ take_again 100 (left_keys done) (left_keys now) ∙ ap (take 100) (sym (filter_map-append left_of done now));
+  older = let n = ap length (filter-append (λ d. d.is_old) done now) ∙ length-append (filter (λ d. d.is_old) done) (filter (λ d. d.is_old) now) in omega (arith, n, c.older, a.older);
+}

@@ -17,3 +17,4 @@ pub mod Counting
 pub mod Carrying
 pub mod Joined
 pub mod Windowed
+pub mod Planning

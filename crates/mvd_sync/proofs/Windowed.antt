@@ -179,3 +179,65 @@ module _ (ml mp : ℕ) (number : Option ℕ) (a b x y x' y' : States) (done : Li
 
     pub pulled : Each (λ (m : Meeting). Pulled ml a b x' m.key m.give m.refused) (noted AtLocal (map (taken_from AtLocal) ms) told)
     pulled = local_after ml a b x x' ms told same_x short_b one (Each-weaker (IsPlanned number a b) (λ (m : Meeting). Plan (state_at a m.key) (state_at b m.key) m) (λ m h. h.plan) ms all_planned.each) local_phase.took
+
+    facts : Each (λ (m : Meeting). (get a m.key ≢ get b m.key) × (get y m.key ≡ get b m.key) × (is_too_large (state_at a m.key) ≡ false) × IsValid (state_at a m.key) × IsValid (state_at b m.key)) ms
+    facts = Each-weaker (λ (m : Meeting). IsPlanned number a b m × ((get x m.key ≡ get a m.key) × (get y m.key ≡ get b m.key))) (λ (m : Meeting). (get a m.key ≢ get b m.key) × (get y m.key ≡ get b m.key) × (is_too_large (state_at a m.key) ≡ false) × IsValid (state_at a m.key) × IsValid (state_at b m.key))
+        (λ m h. (
+          h.0.differ, h.1.1,
+          ap is_too_large (sym (same_state x a m.key h.1.0)) ∙ short_at x held_a none m.key,
+          subst IsValid (same_state x a m.key h.1.0) (valid_at x held_a m.key),
+          subst IsValid (same_state y b m.key h.1.1) (valid_at y held_b m.key),
+        )) ms (each_both (IsPlanned number a b) (λ (m : Meeting). (get x m.key ≡ get a m.key) × (get y m.key ≡ get b m.key)) ms all_planned.each still_keys)
+
+    module _ (second : Pushes mp y (filter_map (pair_of AtPeer) (noted AtLocal (map (taken_from AtLocal) ms) told)) told' y') (also_one : Each IsOfKey told') where
+      pub peer_phase : Phase mp a b y y y' (asks_of AtPeer (noted AtLocal (map (taken_from AtLocal) ms) told)) told'
+      peer_phase =
+          let after = noted AtLocal (map (taken_from AtLocal) ms) told in
+          phase mp a b y (asks_of AtPeer after) y told' y' (subst AreDistinct (sym (asked_keys AtPeer after ∙ keys_noted AtLocal ms told)) distinct_keys)
+          (each_ask (λ k. get y k ≡ get y k) AtPeer after (each_meeting (λ k. get y k ≡ get y k) after (each_in (λ k. get y k ≡ get y k) (meeting_keys after) (λ k _. refl))))
+          (each_ask (λ k. (get a k ≢ None) ⊎ (get b k ≢ None)) AtPeer after (each_noted (λ k _. (get a k ≢ None) ⊎ (get b k ≢ None)) AtLocal ms told here))
+          (from_so_far ml mp number a b x y done so).1 (subst (λ ps. Pushes mp y ps told' y') (pairs_same AtPeer after) second)
+
+      may_take : Each (MayTake ml mp a b x' y y') (noted AtLocal (map (taken_from AtLocal) ms) told)
+      may_take =
+          let P : List ℕ → Bool → Type 0 = λ k _. (get a k ≢ get b k) × (get y k ≡ get b k) × (is_too_large (state_at a k) ≡ false) × IsValid (state_at a k) × IsValid (state_at b k) in
+          Each-weaker (λ (m : Meeting). (get a m.key ≢ get b m.key) × (get y m.key ≡ get b m.key) × (is_too_large (state_at a m.key) ≡ false) × IsValid (state_at a m.key) × IsValid (state_at b m.key)) (MayTake ml mp a b x' y y')
+          (λ m h. record { differ = h.0; same = h.1; short = h.2; own = h.3; other = h.4 }) (noted AtLocal (map (taken_from AtLocal) ms) told) (each_noted P AtLocal ms told facts)
+
+      pub came : Each (λ (m : Meeting). CameTo ml mp a b x' y' m.key m.refused) (noted AtPeer (map (taken_from AtPeer) (noted AtLocal (map (taken_from AtLocal) ms) told)) told')
+      came = peer_after ml mp a b x' y y' (noted AtLocal (map (taken_from AtLocal) ms) told) told' may_take also_one pulled peer_phase.took
+
+      pub keys_now : keys_done (map done_of (noted AtPeer (map (taken_from AtPeer) (noted AtLocal (map (taken_from AtLocal) ms) told)) told')) ≡ keys_next es
+      keys_now =
+          let after = noted AtLocal (map (taken_from AtLocal) ms) told in
+          keys_of_done (noted AtPeer (map (taken_from AtPeer) after) told') ∙ keys_noted AtPeer after told' ∙ keys_noted AtLocal ms told ∙ all_planned.keys
+
+      old_now : Each (λ (m : Meeting). (m.is_old ≡ true) ↔ HasUnseen number (state_at a m.key) (state_at b m.key)) (noted AtPeer (map (taken_from AtPeer) (noted AtLocal (map (taken_from AtLocal) ms) told)) told')
+      old_now =
+          let P : List ℕ → Bool → Type 0 = λ k o. (o ≡ true) ↔ HasUnseen number (state_at a k) (state_at b k) in
+          each_noted P AtPeer (noted AtLocal (map (taken_from AtLocal) ms) told) told'
+          (each_noted P AtLocal ms told (Each-weaker (IsPlanned number a b) (λ (m : Meeting). (m.is_old ≡ true) ↔ HasUnseen number (state_at a m.key) (state_at b m.key)) (λ m h. h.old) ms all_planned.each))
+
+      -- what is not among the keys of the window has not changed
+      kept : (k : List ℕ) → is_member (keys_next es) k ≡ false → (get x' k ≡ get x k) × (get y' k ≡ get y k)
+      kept k no = (
+        local_phase.rest k (ap (λ ks. is_member ks k) (asked_keys AtLocal ms ∙ all_planned.keys) ∙ no),
+        peer_phase.rest k (ap (λ ks. is_member ks k) (asked_keys AtPeer (noted AtLocal (map (taken_from AtLocal) ms) told) ∙ keys_noted AtLocal ms told ∙ all_planned.keys) ∙ no),
+      )
+
+      -- the window's keys are done
+      pub so_far_on : SoFar ml mp number a b x' y' (done ++ map done_of (noted AtPeer (map (taken_from AtPeer) (noted AtLocal (map (taken_from AtLocal) ms) told)) told'))
+      so_far_on =
+          let now = map done_of (noted AtPeer (map (taken_from AtPeer) (noted AtLocal (map (taken_from AtLocal) ms) told)) told') in
+          let keys : keys_done (done ++ now) ≡ keys_done done ++ keys_next es = map-append (λ (d : Done). d.key) done now ∙ ap (λ ks. keys_done done ++ ks) keys_now in
+          record {
+            distinct = subst AreDistinct (sym keys) next.distinct;
+            each = Each-append (IsDone ml mp number a b x' y') done now
+                (still_done ml mp number a b x y x' y' done (each_in (λ k. (get x' k ≡ get x k) × (get y' k ≡ get y k)) (keys_done done) (λ k h. kept k (not_after (keys_done done) (keys_next es) k next.distinct h))) so.each)
+                (each_done ml mp number a b x' y' (noted AtPeer (map (taken_from AtPeer) (noted AtLocal (map (taken_from AtLocal) ms) told)) told') came old_now);
+            rest = λ k no.
+                let both = sym (is_member-append (keys_done done) (keys_next es) k) ∙ ap (λ ks. is_member ks k) (sym keys) ∙ no in
+                let was = so.rest k (or_left (is_member (keys_done done) k) (is_member (keys_next es) k) both) in
+                let still = kept k (or_right (is_member (keys_done done) k) (is_member (keys_next es) k) both) in
+                (still.0 ∙ was.0, still.1 ∙ was.1);
+          }

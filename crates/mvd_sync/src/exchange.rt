@@ -1,11 +1,11 @@
 //! The exchange of keys, a window after the other.
 ghost use Rattle.std.specs.Prelude.{◌≡◌, ◌<◌, ◌+◌, ◌^◌, ◌++◌, ◌∷◌, [], length, map, filter_map, IfOk, IfErr, OnOk, cond, ◌≤◌};
 ghost use Rattle.mvd_sync.specs.Exchanges.{Adds, Exchanges, IsHeldByEither};
-ghost use Rattle.mvd_sync.specs.Meetings.{done_of, pair_of};
-ghost use Rattle.mvd_sync.specs.Questions.{ComesToEnd, TakesFirst};
+ghost use Rattle.mvd_sync.specs.Meetings.{done_of, held_keys, pair_of};
+ghost use Rattle.mvd_sync.specs.Questions.{ComesToEnd, Keeps, TakesFirst};
 ghost use Rattle.mvd_sync.specs.Session.{Each};
 ghost use Rattle.mvd_sync.specs.Sides.{side as side_of};
-ghost use Rattle.mvd_sync.specs.Carries.{Carried, ExchangesAll, PlanEnds, Planned};
+ghost use Rattle.mvd_sync.specs.Carries.{Carried, ExchangesAll, Gives, PlanEnds, Planned};
 
 use crate::listing::Entry;
 use crate::meetings::{Meeting, keys_held, note, plan_all, taken};
@@ -13,7 +13,7 @@ use crate::peer::Peer;
 use crate::questions::{Questions, ask_gets, ask_pushes};
 use crate::report::{Left, Report, Side, SyncFault};
 use mvd_dots::Refusal;
-use mvd_keys::Key;
+use mvd_keys::{Key, KeyState};
 use mvd_wire::Items;
 use std::alloc::Global;
 use std::marker::Model;
@@ -50,6 +50,31 @@ impl Model for Exchange {
     ghost invariant = { λ e. (e.older ≤ e.keys + e.refused) × Each IsHeldByEither e.waiting.items };
 }
 
+/// Asks a side for the states of the keys of a window that it holds.
+fn gives<S: Peer>(
+    alloc: Global,
+    side: &mut S,
+    left: &mut u64,
+    entries: &[Entry],
+    name: Side,
+) -> Result<Vec<KeyState>, Refusal>
+    ensures told {
+        let s = side_of S.states S.is_faithful S.can_give S.follows S.can_refuse S.can_answer S.most_keys S.number in
+        IfOk result (λ states. Gives s name entries.now states.items left.old left.new side.old side.new)
+    }
+    ensures ended {
+        let s = side_of S.states S.is_faithful S.can_give S.follows S.can_refuse S.can_answer S.most_keys S.number in
+        IfErr result
+            (ComesToEnd s (Keeps s side.old side.new) (length (held_keys name entries.now)) left.old side.old side.new)
+    }
+{
+    let asked = match keys_held(alloc, entries, name) {
+        Ok(keys) => keys,
+        Err(refusal) => return Err(refusal),
+    };
+    ask_gets(side, left, &asked)
+}
+
 /// What is to be done for the keys of a window, after each side was asked for the states that it holds.
 fn plans<L: Peer, P: Peer>(
     alloc: Global,
@@ -71,11 +96,18 @@ fn plans<L: Peer, P: Peer>(
         IfErr result (PlanEnds l p (length entries.items) left.old local.old local.new peer.old peer.new)
     }
 {
-    let asked = keys_held(alloc, &entries, Side::Local).map_err(SyncFault::Local)?;
-    let mine = ask_gets(local, &mut left.local, &asked).map_err(SyncFault::Local)?;
-    let asked = keys_held(alloc, &entries, Side::Peer).map_err(SyncFault::Local)?;
-    let theirs = ask_gets(peer, &mut left.peer, &asked).map_err(SyncFault::Peer)?;
-    plan_all(alloc, number, entries, mine, theirs).map_err(SyncFault::Local)
+    let mine = match gives(alloc, local, &mut left.local, &entries, Side::Local) {
+        Ok(states) => states,
+        Err(refusal) => return Err(SyncFault::Local(refusal)),
+    };
+    let theirs = match gives(alloc, peer, &mut left.peer, &entries, Side::Peer) {
+        Ok(states) => states,
+        Err(refusal) => return Err(SyncFault::Peer(refusal)),
+    };
+    match plan_all(alloc, number, entries, mine, theirs) {
+        Ok(meetings) => Ok(meetings),
+        Err(refusal) => Err(SyncFault::Local(refusal)),
+    }
 }
 
 /// Has a side take what it is to take of the keys of a window.
@@ -98,7 +130,10 @@ fn carry<S: Peer>(
                 side.old side.new refusal)
     }
 {
-    let (meetings, pairs) = taken(alloc, meetings, name)?;
+    let (meetings, pairs) = match taken(alloc, meetings, name) {
+        Ok(both) => both,
+        Err(refusal) => return Err(refusal),
+    };
     let told = ask_pushes(side, left, &pairs)?;
     note(alloc, meetings, name, told)
 }
@@ -119,10 +154,18 @@ fn exchange_all<L: Peer, P: Peer>(
         ExchangesAll l p number entries.items left.old left.new local.old local.new peer.old peer.new result
     }
 {
-    let meetings = plans(alloc, number, local, peer, left, entries)?;
-    let meetings =
-        carry(alloc, local, &mut left.local, meetings, Side::Local).map_err(SyncFault::Local)?;
-    carry(alloc, peer, &mut left.peer, meetings, Side::Peer).map_err(SyncFault::Peer)
+    let meetings = match plans(alloc, number, local, peer, left, entries) {
+        Ok(meetings) => meetings,
+        Err(fault) => return Err(fault),
+    };
+    let meetings = match carry(alloc, local, &mut left.local, meetings, Side::Local) {
+        Ok(meetings) => meetings,
+        Err(refusal) => return Err(SyncFault::Local(refusal)),
+    };
+    match carry(alloc, peer, &mut left.peer, meetings, Side::Peer) {
+        Ok(meetings) => Ok(meetings),
+        Err(refusal) => Err(SyncFault::Peer(refusal)),
+    }
 }
 
 impl Exchange {

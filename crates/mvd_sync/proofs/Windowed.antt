@@ -220,9 +220,9 @@ module _ (ml mp : ℕ) (number : Option ℕ) (a b x y x' y' : States) (done : Li
 
       -- what is not among the keys of the window has not changed
       kept : (k : List ℕ) → is_member (keys_next es) k ≡ false → (get x' k ≡ get x k) × (get y' k ≡ get y k)
-      kept k no = (
-        local_phase.rest k (ap (λ ks. is_member ks k) (asked_keys AtLocal ms ∙ all_planned.keys) ∙ no),
-        peer_phase.rest k (ap (λ ks. is_member ks k) (asked_keys AtPeer (noted AtLocal (map (taken_from AtLocal) ms) told) ∙ keys_noted AtLocal ms told ∙ all_planned.keys) ∙ no),
+      kept k out = (
+        local_phase.rest k (ap (λ ks. is_member ks k) (asked_keys AtLocal ms ∙ all_planned.keys) ∙ out),
+        peer_phase.rest k (ap (λ ks. is_member ks k) (asked_keys AtPeer (noted AtLocal (map (taken_from AtLocal) ms) told) ∙ keys_noted AtLocal ms told ∙ all_planned.keys) ∙ out),
       )
 
       -- the window's keys are done

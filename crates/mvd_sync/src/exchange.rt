@@ -290,6 +290,7 @@ impl Exchange {
         ensures keys { OnOk result (self.new.keys ≡ self.old.keys) }
         ensures refused { OnOk result (self.new.refused ≡ self.old.refused + 1) }
         ensures older { OnOk result (self.new.older ≡ self.old.older) }
+        ensures counted { OnOk result (self.new.older < self.new.keys + self.new.refused) }
         ensures named { OnOk result (length self.old.first_refused < 100 → self.new.first_refused ≡ self.old.first_refused ++ (key, refused) ∷ []) }
         ensures full { OnOk result (100 ≤ length self.old.first_refused → self.new.first_refused ≡ self.old.first_refused) }
         ensures memory { IfErr result (λ refusal. refusal ≡ Refusal.Memory) }

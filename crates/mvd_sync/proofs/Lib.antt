@@ -18,3 +18,4 @@ pub mod Carrying
 pub mod Joined
 pub mod Windowed
 pub mod Planning
+pub mod Handing

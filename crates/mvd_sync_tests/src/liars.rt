@@ -339,7 +339,7 @@ impl Peer for Mistaken {
     }
 }
 
-/// Whether a session takes the state that it is given, and leaves the key for which the peer refuses it.
+/// Whether a session takes the state that it is given, and the next one leaves the key for which the peer refuses it.
 fn takes_what_is_given(
     alloc: Global,
     site: &mut Counting,
@@ -349,9 +349,10 @@ fn takes_what_is_given(
         peer.site.put("a", "-", "{\"x\":1}")?
             && peer.site.put("b", "-", "{\"x\":2}")?
             && site.put("b", "-", "{\"x\":3}")?
-            && first_left(alloc, site, peer, 1, 1)? == Some((Side::Peer, Refusal::DotClash))
+            && first_left(alloc, site, peer, 2, 0)?.is_none()
             && site.shows("b", "1:1,2:1", 2)?
-            && site.shows("a", "2:1", 1)?,
+            && site.shows("a", "2:1", 1)?
+            && first_left(alloc, site, peer, 0, 1)? == Some((Side::Peer, Refusal::DotClash)),
     )
 }
 

@@ -11,8 +11,8 @@ use Rattle.mvd_sync.proofs.exchange.Exchange.tell.Goals as goal
 pub loop-meeting-init : goal.loop-meeting-init
 loop-meeting-init c = record { adds = adds_none c.args.self.now; room = omega arith }
 
-pub loop-meeting-preserved-in_ok-count : goal.loop-meeting-preserved-in_ok-count
-loop-meeting-preserved-in_ok-count c =
+pub loop-meeting-preserved : goal.loop-meeting-preserved
+loop-meeting-preserved c =
     let before = c.loop-meeting.invariant in
     let one = done_of c.in-Some.meeting in
     let now = c.in_ok-count.ensures.adds in

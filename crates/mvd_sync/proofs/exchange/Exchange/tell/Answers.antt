@@ -23,3 +23,16 @@ loop-meeting-preserved c =
           (adds_on (map done_of c.loop-meeting.yielded) (one ∷ []) c.args.self.now c.loop-meeting.self c.count.new.self before.adds now);
       room = omega (arith, before.room, more, longer);
     }
+
+pub loop-meeting-preserved-in_ok-count : goal.loop-meeting-preserved-in_ok-count
+loop-meeting-preserved-in_ok-count c =
+    let before = c.loop-meeting.invariant in
+    let one = done_of c.in-Some.meeting in
+    let now = c.in_ok-count.ensures.adds in
+    let longer = length-append c.loop-meeting.yielded (c.in-Some.meeting ∷ []) in
+    let more = adds_room one c.loop-meeting.self c.count.new.self now in
+    record {
+      adds = subst (λ ds. Adds ds c.args.self.now c.count.new.self) (sym (map-append done_of c.loop-meeting.yielded (c.in-Some.meeting ∷ [])))
+          (adds_on (map done_of c.loop-meeting.yielded) (one ∷ []) c.args.self.now c.loop-meeting.self c.count.new.self before.adds now);
+      room = omega (arith, before.room, more, longer);
+    }

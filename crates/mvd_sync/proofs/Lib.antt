@@ -9,3 +9,4 @@ pub mod SiteSides
 pub mod Compose
 pub mod Answering
 pub mod ToldPages
+pub mod ManyPushes

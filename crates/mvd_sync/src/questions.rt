@@ -1,5 +1,5 @@
 //! Questions to a side, of which no more are made than were given.
-ghost use Rattle.std.specs.Prelude.{◌≡◌, ◌≢◌, ◌+◌, ◌-◌, ◌<◌, ◌≤◌, ◌^◌, [], length, false, OnOk, IfOk, IfErr, IsTrue, ◌↔◌, min};
+ghost use Rattle.std.specs.Prelude.{◌≡◌, ◌≢◌, ◌+◌, ◌-◌, ◌<◌, ◌≤◌, ◌^◌, [], length, false, OnOk, IfOk, IfErr, IsTrue, ◌↔◌, ◌⊎◌, ◌++◌, All, Contains, Some, None, min};
 ghost use Rattle.mvd_site.specs.Answer.{digests};
 ghost use Rattle.mvd_site.specs.Held.{state_at};
 ghost use Rattle.mvd_sync.specs.Answers.{IsListing, IsPage};
@@ -186,6 +186,24 @@ fn window(pairs: &[(Key, KeyState)]) -> usize
     count
 }
 
+/// Adds these answers to those that were told before; one that is a refusal of more than its key ends it.
+fn add_told(
+    told: &mut Vec<Result<(), Refusal>>,
+    answers: Vec<Result<(), Refusal>>,
+) -> Result<(), Refusal>
+    ensures added { OnOk result (told.new.items ≡ told.old.items ++ answers.items) }
+    ensures of_key { OnOk result (All IsOfKey answers.items) }
+    ensures other {
+        IfErr result
+            (λ refusal. (refusal ≡ Refusal.Memory) ⊎ (Contains answers.items (Err refusal) × (is_of_key refusal ≡ false)))
+    }
+{
+    for answer in answers {
+        told.push(of_key(answer)?)?;
+    }
+    Ok(())
+}
+
 /// Pushes states into a side, a window after the other, and tells of each key whether it was taken.
 pub fn ask_pushes<P: Peer>(
     side: &mut P,
@@ -212,9 +230,7 @@ pub fn ask_pushes<P: Peer>(
         let count = window(rest);
         let taken = take(left, count);
         let answers = side.push_all(&rest[..taken])?;
-        for answer in answers {
-            told.push(of_key(answer)?)?;
-        }
+        add_told(&mut told, answers)?;
         are_all(taken, count)?;
         rest = &rest[count..];
     }

@@ -10,3 +10,4 @@ pub mod Compose
 pub mod Answering
 pub mod ToldPages
 pub mod ManyPushes
+pub mod Inner

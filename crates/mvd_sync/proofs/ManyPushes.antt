@@ -28,13 +28,13 @@ one_push most mid new p (Ok done) is apart same why = (apart, is)
 one_push most mid new p (Err refusal) is apart same why = (why, same)
 
 -- a side that did not say that it is broken is still true
-pub still_true : {F E : Type 0} (a : Told) → OnOk a (F × E) → IfErr a (λ refusal. refusal ≢ Broken → F) → (a ≡ Err Broken → ⊥) → F
-still_true (Ok done) ok err whole = ok.0
-still_true (Err refusal) ok err whole = err (λ e. whole (ap Err e))
+pub still_true : (F E : Type 0) (a : Told) → OnOk a (F × E) → IfErr a (λ refusal. refusal ≢ Broken → F) → (a ≡ Err Broken → ⊥) → F
+still_true F E (Ok done) ok err whole = ok.0
+still_true F E (Err refusal) ok err whole = err (λ e. whole (ap Err e))
 
-pub second_ok : {F E : Type 0} (a : Told) → OnOk a (F × E) → OnOk a E
-second_ok (Ok done) ok = ok.1
-second_ok (Err refusal) ok = tt
+pub second_ok : (F E : Type 0) (a : Told) → OnOk a (F × E) → OnOk a E
+second_ok F E (Ok done) ok = ok.1
+second_ok F E (Err refusal) ok = tt
 
 -- one push more, in turn
 pub pushes_more : (most most' : ℕ) (old mid new : States) (all : List (Key × State)) (i : ℕ) (p : Key × State) (ts us : List Told) (a : Told) → i < length all → p ≡ get_or all i p → us ≡ ts ++ a ∷ [] → most' ≡ most

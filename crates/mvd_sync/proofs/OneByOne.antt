@@ -49,9 +49,16 @@ pub always : {A : Type 0} (a : Result A Refusal) → IfOk a (λ _. Unit {0})
 always (Ok x) = tt
 always (Err x) = tt
 
+pub both_ok : {A : Type 0} (P Q : A → Type 0) (a : Result A Refusal) → IfOk a P → IfOk a Q → IfOk a (λ x. P x × Q x)
+both_ok P Q (Ok x) p q = (p, q)
+both_ok P Q (Err x) p q = tt
+
 -- the error that a `?` hands on
 pub at_err : {X : Type 0} (Q : Refusal → Type 0) (r : Result X Refusal) (P : Refusal → Type 0) → IsErr r × IsErrAnd r P → ((e : Refusal) → P e → Q e) → IfErr r Q
 at_err Q r P h f = let p = err_from_is_err_and r h.1 in subst (λ r. IfErr r Q) (sym p.1) (f p.0 p.2)
+
+pub at_err_same : {X : Type 0} (Q : Refusal → Type 0) (r : Result X Refusal) (P : Refusal → Type 0) (x : Refusal) → IsErr r × IsErrAnd r P → ((e : Refusal) → P e → e ≡ x) → Q x → IfErr r Q
+at_err_same Q r P x h f q = at_err Q r P h (λ e p. subst Q (sym (f e p)) q)
 
 pub few_more : {X : Type 0} (xs : List X) (i : ℕ) → i < length xs → length (take i xs) + 1 ≤ length xs
 few_more xs i h = let n = length-take-le i xs (omega arith) in omega arith

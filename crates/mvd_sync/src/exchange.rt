@@ -55,12 +55,7 @@ fn keys_held(alloc: Global, entries: &[Entry], side: Side) -> Result<Vec<Key>, R
 }
 
 /// What is to be done for a key that both sides hold. States that clash are refused at the local side.
-fn meet(
-    alloc: Global,
-    key: Key,
-    mine: KeyState,
-    theirs: KeyState,
-) -> Result<Meeting, Refusal> {
+fn meet(alloc: Global, key: Key, mine: KeyState, theirs: KeyState) -> Result<Meeting, Refusal> {
     let mut meeting = Meeting {
         key,
         pull: None,
@@ -207,10 +202,17 @@ impl Exchange {
     ) -> Result<(), SyncFault> {
         let entries = std::mem::replace(&mut self.waiting, Vec::new(self.alloc));
         let mut meetings = self.plans(local, peer, left, entries)?;
-        carry(self.alloc, local, &mut left.local, &mut meetings, Side::Local)
-            .map_err(SyncFault::Local)?;
-        carry(self.alloc, peer, &mut left.peer, &mut meetings, Side::Peer)
-            .map_err(SyncFault::Peer)?;
+        carry(
+            self.alloc,
+            local,
+            &mut left.local,
+            &mut meetings,
+            Side::Local,
+        )
+        .map_err(SyncFault::Local)?;
+        carry(self.alloc, peer, &mut left.peer, &mut meetings, Side::Peer).map_err(
+            SyncFault::Peer,
+        )?;
         self.tell(meetings).map_err(SyncFault::Local)
     }
 
@@ -227,7 +229,8 @@ impl Exchange {
         let mine = ask_gets(local, &mut left.local, &asked).map_err(SyncFault::Local)?;
         let asked = keys_held(alloc, &entries, Side::Peer).map_err(SyncFault::Local)?;
         let theirs = ask_gets(peer, &mut left.peer, &asked).map_err(SyncFault::Peer)?;
-        self.plan_all(entries, mine, theirs).map_err(SyncFault::Local)
+        self.plan_all(entries, mine, theirs)
+            .map_err(SyncFault::Local)
     }
 
     /// What is to be done for these keys, where the states that each side holds come in their order.

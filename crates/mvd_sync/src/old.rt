@@ -38,11 +38,7 @@ fn has_any(theirs: &Context, site: u32) -> bool {
 
 /// Whether the peer's state of a key has a dot of this site that the local state has not seen. A side that has no state has seen
 /// nothing.
-pub fn has_unseen(
-    number: Option<u32>,
-    mine: Option<&KeyState>,
-    theirs: Option<&KeyState>,
-) -> bool {
+pub fn has_unseen(number: Option<u32>, mine: Option<&KeyState>, theirs: Option<&KeyState>) -> bool {
     match (number, mine, theirs) {
         (Some(site), Some(mine), Some(theirs)) => {
             !covers(mine.context(), theirs.context(), site)

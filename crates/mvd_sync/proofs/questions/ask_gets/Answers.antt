@@ -31,14 +31,14 @@ returns-in_err-answer-clause-ended g c =
     let was : c.in-Some.answer ≡ Err c.in_err-answer.field-0.0 = c.in_err-answer.was in
     let told = subst (λ (a : Result State Refusal). EachTold U R (a ∷ [])) was (told_at U R c.in_ok-told.told.items (length c.loop-answer.yielded) c.in-Some.answer asked.told turn.0 turn.1) in
     at_err_same _ _ _ c.in_err-answer.field-0.0 c.from_residual-in_err-answer.ensures (λ e is. cc) (ended_by s c.args.keys.now c.args.left.now c.take-taken.new.left c.take-taken.result c.args.side.now c.get_all.new.self c.take-taken.ensures _ _ asked.count (of_side told.0)
-        (λ t. (subst (λ (a : Result State Refusal). EachTold (Unit {0}) (λ r. r ≢ DotClash) (a ∷ [])) was (told_at (Unit {0}) (λ r. r ≢ DotClash) c.in_ok-told.told.items (length c.loop-answer.yielded) c.in-Some.answer (asked.no_clash t) turn.0 turn.1)).0) (λ t. let k = c.get_all.ensures.kept t in record { still = k.0; states = k.1 }))
+    (λ t. (subst (λ (a : Result State Refusal). EachTold (Unit {0}) (λ r. r ≢ DotClash) (a ∷ [])) was (told_at (Unit {0}) (λ r. r ≢ DotClash) c.in_ok-told.told.items (length c.loop-answer.yielded) c.in-Some.answer (asked.no_clash t) turn.0 turn.1)).0) (λ t. let k = c.get_all.ensures.kept t in record { still = k.0; states = k.1 }))
 
 pub loop-answer-preserved : goal.loop-answer-preserved
 loop-answer-preserved g c =
     let R : State → State → Type 0 = λ a b. b ≡ a in
     let was : c.in-Some.answer ≡ Ok c.in_ok-answer.field-0 = c.in_ok-answer.was in
     subst (λ (us : List State). ForEach (Passes R) (c.loop-answer.yielded ++ c.in-Some.answer ∷ []) us) (sym c.in_ok-push.ensures.items)
-        (for_each_more (Passes R) c.loop-answer.yielded c.loop-answer.states.items c.in-Some.answer c.in_ok-answer.field-0 c.loop-answer.invariant (subst (λ (a : Result State Refusal). Passes R a c.in_ok-answer.field-0) (sym was) refl))
+    (for_each_more (Passes R) c.loop-answer.yielded c.loop-answer.states.items c.in-Some.answer c.in_ok-answer.field-0 c.loop-answer.invariant (subst (λ (a : Result State Refusal). Passes R a c.in_ok-answer.field-0) (sym was) refl))
 
 pub returns-in_err-push-clause-ended : goal.returns-in_err-push-clause-ended
 returns-in_err-push-clause-ended g c =
@@ -54,5 +54,5 @@ returns-clause-told g c =
     let R : State → State → Type 0 = λ a b. b ≡ a in
     let made = subst (λ (ts : List (Result State Refusal)). ForEach (Passes R) ts c.loop-answer.states.items) (sym (map-id c.loop-answer.yielded) ∙ end.0) c.loop-answer.invariant in
     answered_all s c.args.keys.now c.args.left.now c.take-taken.new.left c.take-taken.result c.args.side.now c.get_all.new.self c.take-taken.ensures _ _ _ c.in_ok-are_all.ensures.all asked.count
-        (passed _ _ _ R _ (λ q a b may told is. (subst (g.P.Peer.can_give q) (sym is) may, told)) _ _ _ asked.may asked.told made)
-        (λ t. (let k = c.get_all.ensures.kept t in record { still = k.0; states = k.1 }, passed _ _ _ R _ (λ q a b right told is. is ∙ right) _ _ _ (asked.right t) asked.told made))
+    (passed _ _ _ R _ (λ q a b may told is. (subst (g.P.Peer.can_give q) (sym is) may, told)) _ _ _ asked.may asked.told made)
+    (λ t. (let k = c.get_all.ensures.kept t in record { still = k.0; states = k.1 }, passed _ _ _ R _ (λ q a b right told is. is ∙ right) _ _ _ (asked.right t) asked.told made))

@@ -35,13 +35,13 @@ returns-in_err-answer-clause-ended g c =
     let was : c.in-Some.answer ≡ Err c.in_err-answer.field-0.0 = c.in_err-answer.was in
     let told = subst (λ (a : Result Digests Refusal). EachTold U R (a ∷ [])) was (told_at U R c.in_ok-told.told.items (length c.loop-answer.yielded) c.in-Some.answer asked.told turn.0 turn.1) in
     at_err_same _ _ _ c.in_err-answer.field-0.0 c.from_residual-in_err-answer.ensures (λ e is. cc) (ended_by s c.args.paths.now c.args.left.now c.take-taken.new.left c.take-taken.result c.args.side.now c.nodes.new.self c.take-taken.ensures _ _ asked.count (of_side told.0)
-        (λ t. (subst (λ (a : Result Digests Refusal). EachTold (Unit {0}) (λ r. r ≢ DotClash) (a ∷ [])) was (told_at (Unit {0}) (λ r. r ≢ DotClash) c.in_ok-told.told.items (length c.loop-answer.yielded) c.in-Some.answer (asked.no_clash t) turn.0 turn.1)).0) (λ t. let k = c.nodes.ensures.kept t in record { still = k.0; states = k.1 }))
+    (λ t. (subst (λ (a : Result Digests Refusal). EachTold (Unit {0}) (λ r. r ≢ DotClash) (a ∷ [])) was (told_at (Unit {0}) (λ r. r ≢ DotClash) c.in_ok-told.told.items (length c.loop-answer.yielded) c.in-Some.answer (asked.no_clash t) turn.0 turn.1)).0) (λ t. let k = c.nodes.ensures.kept t in record { still = k.0; states = k.1 }))
 
 pub loop-answer-preserved : goal.loop-answer-preserved
 loop-answer-preserved g c =
     let was : c.in-Some.answer ≡ Ok c.in_ok-answer.field-0 = c.in_ok-answer.was in
     subst (λ (us : List Node). ForEach (Passes IsNodeOf) (c.loop-answer.yielded ++ c.in-Some.answer ∷ []) us) (sym c.in_ok-push.ensures.items)
-        (for_each_more (Passes IsNodeOf) c.loop-answer.yielded c.loop-answer.nodes.items c.in-Some.answer c.in_ok-inner.field-0 c.loop-answer.invariant (subst (λ (a : Result Digests Refusal). Passes IsNodeOf a c.in_ok-inner.field-0) (sym was) c.in_ok-inner.ensures.node))
+    (for_each_more (Passes IsNodeOf) c.loop-answer.yielded c.loop-answer.nodes.items c.in-Some.answer c.in_ok-inner.field-0 c.loop-answer.invariant (subst (λ (a : Result Digests Refusal). Passes IsNodeOf a c.in_ok-inner.field-0) (sym was) c.in_ok-inner.ensures.node))
 
 pub returns-in_err-inner-clause-ended : goal.returns-in_err-inner-clause-ended
 returns-in_err-inner-clause-ended g c =
@@ -52,8 +52,8 @@ returns-in_err-inner-clause-ended g c =
     let was : c.in-Some.answer ≡ Ok c.in_ok-answer.field-0 = c.in_ok-answer.was in
     let bad = c.in_err-inner.ensures.none in
     at_err_same _ _ _ c.in_err-inner.field-0.0 c.from_residual-in_err-inner.ensures (λ e is. cc) (ended_by s c.args.paths.now c.args.left.now c.take-taken.new.left c.take-taken.result c.args.side.now c.nodes.new.self c.take-taken.ensures _ _ asked.count
-        (of_answer bad.0 (λ t. not_without (digests (g.P.Peer.states c.args.side.now)) (take c.take-taken.result c.args.paths.now) c.in_ok-told.told.items (length c.loop-answer.yielded) c.in_ok-answer.field-0 (each-take _ _ _ c.requires) (asked.right t) turn.0 (sym was ∙ turn.1 ∙ ap (λ a. get_or c.in_ok-told.told.items (length c.loop-answer.yielded) a) was) bad.1))
-        (λ _ e. let q = bad.0 in absurd (cc)) (λ t. let k = c.nodes.ensures.kept t in record { still = k.0; states = k.1 }))
+    (of_answer bad.0 (λ t. not_without (digests (g.P.Peer.states c.args.side.now)) (take c.take-taken.result c.args.paths.now) c.in_ok-told.told.items (length c.loop-answer.yielded) c.in_ok-answer.field-0 (each-take _ _ _ c.requires) (asked.right t) turn.0 (sym was ∙ turn.1 ∙ ap (λ a. get_or c.in_ok-told.told.items (length c.loop-answer.yielded) a) was) bad.1))
+    (λ _ e. let q = bad.0 in absurd (cc)) (λ t. let k = c.nodes.ensures.kept t in record { still = k.0; states = k.1 }))
 
 pub returns-in_err-push-clause-ended : goal.returns-in_err-push-clause-ended
 returns-in_err-push-clause-ended g c =
@@ -68,5 +68,5 @@ returns-clause-told g c =
     let end = YieldsList-end road c.loop-answer.yielded c.loop-answer.answer-iterator c.loop-answer.yielded_by c.next.result c.next.new.self c.in-None.is c.next.ensures.steps in
     let made = subst (λ (ts : List (Result Digests Refusal)). ForEach (Passes IsNodeOf) ts c.loop-answer.nodes.items) (sym (map-id c.loop-answer.yielded) ∙ end.0) c.loop-answer.invariant in
     answered_all s c.args.paths.now c.args.left.now c.take-taken.new.left c.take-taken.result c.args.side.now c.nodes.new.self c.take-taken.ensures _ _ _ c.in_ok-are_all.ensures.all asked.count
-        (passed _ _ _ IsNodeOf _ (λ q a b may told is. told) _ _ _ asked.may asked.told made)
-        (λ t. (let k = c.nodes.ensures.kept t in record { still = k.0; states = k.1 }, inner_right (digests (g.P.Peer.states c.args.side.now)) _ _ _ _ _ (each-take _ _ _ c.requires) (asked.right t) asked.told made))
+    (passed _ _ _ IsNodeOf _ (λ q a b may told is. told) _ _ _ asked.may asked.told made)
+    (λ t. (let k = c.nodes.ensures.kept t in record { still = k.0; states = k.1 }, inner_right (digests (g.P.Peer.states c.args.side.now)) _ _ _ _ _ (each-take _ _ _ c.requires) (asked.right t) asked.told made))

@@ -18,9 +18,12 @@ returns-in_err-push-clause-ended g c =
 pub returns-in_err-push-clause-first : goal.returns-in_err-push-clause-first
 returns-in_err-push-clause-first g c t u =
     let before = c.loop-key.invariant.pushes t in
-    at_err _ _ _ c.from_residual-in_err-push.ensures (λ _ _. (c.loop-key.key-index + 1, c.loop-key.told.items ++ c.push-answer.result ∷ [],
-        pushes_more _ _ _ _ _ _ _ _ _ _ c.push-answer.result c.loop-key-test.true c.loop-key-item.is refl (g.met.Self.Peer.most_stays _ _ _ c.loop-key.invariant.so_far.count) before.1
-            (second_ok _ _ c.push-answer.result (c.push-answer.ensures.ok before.0)) (c.push-answer.ensures.apart before.0) (c.push-answer.ensures.refused before.0 u) (c.push-answer.ensures.cause before.0)))
+    at_err _ _ _ c.from_residual-in_err-push.ensures (λ _ _. (
+      c.loop-key.key-index + 1,
+      c.loop-key.told.items ++ c.push-answer.result ∷ [],
+      pushes_more _ _ _ _ _ _ _ _ _ _ c.push-answer.result c.loop-key-test.true c.loop-key-item.is refl (g.met.Self.Peer.most_stays _ _ _ c.loop-key.invariant.so_far.count) before.1
+          (second_ok _ _ c.push-answer.result (c.push-answer.ensures.ok before.0)) (c.push-answer.ensures.apart before.0) (c.push-answer.ensures.refused before.0 u) (c.push-answer.ensures.cause before.0),
+    ))
 
 pub loop-key-preserved : goal.loop-key-preserved
 loop-key-preserved g c =
@@ -28,9 +31,11 @@ loop-key-preserved g c =
     record {
       pushes = λ t.
           let before = start.pushes t in
-          let u = still_true _ _ c.push-answer.result (c.push-answer.ensures.ok before.0) (c.push-answer.ensures.unbroken before.0) (λ e. true≢false (sym (c.is_over.ensures.1 e) ∙ c.if-is_over.false)) in
-          (u, pushes_more _ _ _ _ _ _ _ _ _ _ c.push-answer.result c.loop-key-test.true c.loop-key-item.is c.in_ok-push.ensures.items (g.met.Self.Peer.most_stays _ _ _ start.so_far.count) before.1
-              (second_ok _ _ c.push-answer.result (c.push-answer.ensures.ok before.0)) (c.push-answer.ensures.apart before.0) (c.push-answer.ensures.refused before.0 u) (c.push-answer.ensures.cause before.0));
+          let u = still_true _ _ c.push-answer.result (c.push-answer.ensures.ok before.0) (c.push-answer.ensures.unbroken before.0) (λ e. true≢false (sym (c.is_over.ensures.1 e) ∙ c.if-is_over.false)) in (
+            u,
+            pushes_more _ _ _ _ _ _ _ _ _ _ c.push-answer.result c.loop-key-test.true c.loop-key-item.is c.in_ok-push.ensures.items (g.met.Self.Peer.most_stays _ _ _ start.so_far.count) before.1
+                (second_ok _ _ c.push-answer.result (c.push-answer.ensures.ok before.0)) (c.push-answer.ensures.apart before.0) (c.push-answer.ensures.refused before.0 u) (c.push-answer.ensures.cause before.0),
+          );
       so_far = one_more_at g.Self.Peer.follows g.Self.Peer.can_refuse g.Self.Peer.can_answer g.met.Self.Peer.follows_self g.met.Self.Peer.follows_on _ _ _ _ _ _ _ _ c.loop-key-item.result _ _ _ c.loop-key-test.true c.loop-key-item.is c.in_ok-push.ensures.items start.so_far c.push-answer.ensures.follows
           (always _) (λ never. absurd never) c.push-answer.ensures.refuses c.push-answer.ensures.answers (λ never. absurd never);
     }

@@ -1,6 +1,11 @@
 -- What is made of the answers to many questions.
 use Rattle.std.proofs.Common.{◌≡◌, ◌≢◌, ◌⊎◌, inl, inr, ℕ, zero, suc, ◌+◌, ◌<◌, ◌≤◌, List, [], ◌∷◌, ◌++◌, length, take, get_or, refl, sym, ap, subst, ◌∙◌, arith}
-use Rattle.std.specs.Prelude.{Result, Ok, Err}
+use Rattle.std.specs.Prelude.{Bool, ◌^◌, None, Some, Result, Ok, Err}
+use Rattle.std.specs.declared.vec.Vec.{Vec}
+use Rattle.std.specs.declared.alloc.Global.{Global}
+use Rattle.mvd_wire.specs.declared.reply.Digests.{Digests}
+use Rattle.mvd_sync.specs.Answers.{Entry, IsPage}
+use Rattle.mvd_sync.specs.declared.questions.Node.{Node}
 use Rattle.mvd_dots.specs.declared.refusals.Refusal.{Refusal}
 use Rattle.mvd_dots.specs.declared.refusals.Refusal.TheVariants.{BadBody, DotClash, Memory, TooManyRequests}
 use Rattle.std.proofs.lemmas.List.{length-take-le, take_all}
@@ -70,6 +75,13 @@ each-take P (x ∷ xs) (suc n) h = (h.0, each-take P xs n h.1)
 pub each_all : {X : Type 0} (xs : List X) → Each (λ _. Unit {0}) xs
 each_all [] = tt
 each_all (x ∷ xs) = (tt, each_all xs)
+
+-- a node that was made of digests, and a listing of a page
+abbrev pub IsNodeOf : Digests → Node → Type 0
+IsNodeOf digests node = (node.own ≡ digests.own) × (digests.children ≡ Some node.children)
+
+abbrev pub IsListingOf : Vec (List ℕ × List ℕ) Global × Bool → List Entry × Bool → Type 0
+IsListingOf page listing = (listing ≡ (page.0.items, page.1)) × IsPage None listing.0 listing.1 × (length listing.0 < 2 ^ 64)
 
 -- ---- the end of some questions, of which as many were asked as were left
 

@@ -19,3 +19,5 @@ pub mod Joined
 pub mod Windowed
 pub mod Planning
 pub mod Handing
+pub mod ManyPushes
+pub mod Inner

@@ -1,5 +1,5 @@
 -- Questions to a side, of which no more are made than are left.
-use Rattle.std.specs.Prelude.{◌≡◌, ◌≢◌, ◌<◌, ◌≤◌, ◌+◌, ℕ, false, true, List, [], ◌∷◌, length, map, sum, take, Bool, ◌^◌, Option, Result, Ok, Err}
+use Rattle.std.specs.Prelude.{◌≡◌, ◌≢◌, ◌<◌, ◌≤◌, ◌+◌, ℕ, false, true, List, [], ◌∷◌, length, sum_by, take, Bool, ◌^◌, Option, Result, Ok, Err}
 use Rattle.mvd_dots.specs.declared.refusals.Refusal.{Refusal}
 use Rattle.mvd_dots.specs.declared.refusals.Refusal.TheVariants.{Broken, DotClash}
 use Rattle.mvd_keys.specs.State.{State}
@@ -95,7 +95,7 @@ push_bytes p = length p.0 + length (spell_state p.1) + 6
 pub record IsWindow (pairs : List (Key × State)) (count : ℕ) : Type 0 where
   pub within : count ≤ length pairs
   pub some : pairs ≢ [] → 1 ≤ count
-  pub small : 1 < count → sum (map push_bytes (take count pairs)) ≤ 1048576
+  pub small : 1 < count → sum_by push_bytes (take count pairs) ≤ 1048576
 
 -- the digests of a node above the buckets
 pub record IsInner (held : KeyDigests) (path : List ℕ) (node : Node) : Type 0 where

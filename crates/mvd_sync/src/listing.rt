@@ -76,18 +76,14 @@ impl Listing {
         path: &Path,
         after: Option<&Key>,
     ) -> Result<Self, Refusal>
-        ensures told {
-            let s = side_of P.states P.is_faithful P.can_give P.follows P.can_refuse P.can_answer P.most_keys P.number in
+        ensures told { let s = side_of P.states P.is_faithful P.can_give P.follows P.can_refuse P.can_answer P.most_keys P.number in
             let q = (path.now, option_copied after.entry) in
             IfOk result
-                (λ listing. AllAnswered s (λ q page. IsPage q.1 page.0 page.1 × (length page.0 < 2 ^ 64) × HasAnswered P.follows P.can_answer side.old side.new)
-                    (Tells s (λ q page. IsListing (digests (P.states side.old)) q.0 q.1 page.0 page.1) (q ∷ []) (listing ∷ []) side.old side.new)
-                    (q ∷ []) (listing ∷ []) left.old left.new side.old side.new)
-        }
-        ensures ended {
-            let s = side_of P.states P.is_faithful P.can_give P.follows P.can_refuse P.can_answer P.most_keys P.number in
-            IfErr result (ComesToEnd s (Keeps s side.old side.new) 1 left.old side.old side.new)
-        }
+            (λ listing. AllAnswered s (λ q page. IsPage q.1 page.0 page.1 × (length page.0 < 2 ^ 64) × HasAnswered P.follows P.can_answer side.old side.new)
+            (Tells s (λ q page. IsListing (digests (P.states side.old)) q.0 q.1 page.0 page.1) (q ∷ []) (listing ∷ []) side.old side.new)
+            (q ∷ []) (listing ∷ []) left.old left.new side.old side.new) }
+        ensures ended { let s = side_of P.states P.is_faithful P.can_give P.follows P.can_refuse P.can_answer P.most_keys P.number in
+            IfErr result (ComesToEnd s (Keeps s side.old side.new) 1 left.old side.old side.new) }
     {
         take_one(left)?;
         Listing::of_page(after, side.bucket(path, after)?)
@@ -101,14 +97,10 @@ impl Listing {
         path: &Path,
         after: Option<&Key>,
     ) -> Result<(), Refusal>
-        ensures filled {
-            let s = side_of P.states P.is_faithful P.can_give P.follows P.can_refuse P.can_answer P.most_keys P.number in
-            OnOk result (Fills s path.now (option_copied after.entry) self.old self.new left.old left.new side.old side.new)
-        }
-        ensures ended {
-            let s = side_of P.states P.is_faithful P.can_give P.follows P.can_refuse P.can_answer P.most_keys P.number in
-            IfErr result (ComesToEnd s (Keeps s side.old side.new) 1 left.old side.old side.new)
-        }
+        ensures filled { let s = side_of P.states P.is_faithful P.can_give P.follows P.can_refuse P.can_answer P.most_keys P.number in
+            OnOk result (Fills s path.now (option_copied after.entry) self.old self.new left.old left.new side.old side.new) }
+        ensures ended { let s = side_of P.states P.is_faithful P.can_give P.follows P.can_refuse P.can_answer P.most_keys P.number in
+            IfErr result (ComesToEnd s (Keeps s side.old side.new) 1 left.old side.old side.new) }
     {
         if self.page.is_empty() && self.more {
             *self = Listing::fetch(side, left, path, after)?;

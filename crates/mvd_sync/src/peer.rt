@@ -117,7 +117,10 @@ pub trait Peer {
     }
 
     /// Pages of several buckets, each after a key.
-    fn pages(&mut self, asked: &[(Path, Option<Key>)]) -> Result<Vec<Result<Page, Refusal>>, Refusal>
+    fn pages(
+        &mut self,
+        asked: &[(Path, Option<Key>)],
+    ) -> Result<Vec<Result<Page, Refusal>>, Refusal>
         ensures kept { is_faithful self.old → is_faithful self.new × (states self.new ≡ states self.old) }
         ensures told { IfOk result (λ told. Asked follows can_refuse can_answer (λ _ _. Unit {0}) (λ q page. (page.0.items ≡ page_of (digests (states self.old)) q.0 q.1) × (page.1 ≡ is_more_after_page (digests (states self.old)) q.0 q.1)) (is_faithful self.old) asked.now told.items self.old self.new) }
         ensures ended { IfErr result (Ends follows can_refuse (length asked.now) self.old self.new) }

@@ -1,5 +1,5 @@
 //! Questions to a side, of which no more are made than were given.
-ghost use Rattle.std.specs.Prelude.{◌≡◌, ◌≢◌, ◌+◌, ◌-◌, ◌<◌, ◌≤◌, ◌^◌, [], length, false, OnOk, IfOk, IfErr, IsTrue, ◌↔◌, min};
+ghost use Rattle.std.specs.Prelude.{◌≡◌, ◌≢◌, ◌+◌, ◌-◌, ◌<◌, ◌≤◌, ◌^◌, [], length, false, OnOk, IfOk, IfErr, IsTrue, ◌↔◌, ◌⊎◌, ◌++◌, All, Contains, Some, None, min};
 ghost use Rattle.mvd_site.specs.Answer.{digests};
 ghost use Rattle.mvd_site.specs.Held.{state_at};
 ghost use Rattle.mvd_sync.specs.Answers.{IsListing, IsPage};
@@ -78,18 +78,14 @@ pub fn ask_nodes<P: Peer>(
     paths: &[Path],
 ) -> Result<Vec<Node>, Refusal>
     requires inner { Each (λ path. length path < 3) paths.now }
-    ensures told {
-        let s = side_of P.states P.is_faithful P.can_give P.follows P.can_refuse P.can_answer P.most_keys P.number in
+    ensures told { let s = side_of P.states P.is_faithful P.can_give P.follows P.can_refuse P.can_answer P.most_keys P.number in
         IfOk result
-            (λ nodes. AllAnswered s (λ _ _. HasAnswered P.follows P.can_answer side.old side.new)
-                (Tells s (IsInner (digests (P.states side.old))) paths.now nodes.items side.old side.new)
-                paths.now nodes.items left.old left.new side.old side.new)
-    }
-    ensures ended {
-        let s = side_of P.states P.is_faithful P.can_give P.follows P.can_refuse P.can_answer P.most_keys P.number in
+        (λ nodes. AllAnswered s (λ _ _. HasAnswered P.follows P.can_answer side.old side.new)
+        (Tells s (IsInner (digests (P.states side.old))) paths.now nodes.items side.old side.new)
+        paths.now nodes.items left.old left.new side.old side.new) }
+    ensures ended { let s = side_of P.states P.is_faithful P.can_give P.follows P.can_refuse P.can_answer P.most_keys P.number in
         IfErr result
-            (ComesToEnd s (Keeps s side.old side.new) (length paths.now) left.old side.old side.new)
-    }
+        (ComesToEnd s (Keeps s side.old side.new) (length paths.now) left.old side.old side.new) }
 {
     let taken = take(left, paths.len());
     let told = side.nodes(&paths[..taken])?;
@@ -107,18 +103,14 @@ pub fn ask_pages<P: Peer>(
     left: &mut u64,
     asked: &[(Path, Option<Key>)],
 ) -> Result<Vec<Listing>, Refusal>
-    ensures told {
-        let s = side_of P.states P.is_faithful P.can_give P.follows P.can_refuse P.can_answer P.most_keys P.number in
+    ensures told { let s = side_of P.states P.is_faithful P.can_give P.follows P.can_refuse P.can_answer P.most_keys P.number in
         IfOk result
-            (λ pages. AllAnswered s (λ q page. IsPage None page.0 page.1 × (length page.0 < 2 ^ 64) × HasAnswered P.follows P.can_answer side.old side.new)
-                (Tells s (λ q page. IsListing (digests (P.states side.old)) q.0 q.1 page.0 page.1) asked.now pages.items side.old side.new)
-                asked.now pages.items left.old left.new side.old side.new)
-    }
-    ensures ended {
-        let s = side_of P.states P.is_faithful P.can_give P.follows P.can_refuse P.can_answer P.most_keys P.number in
+        (λ pages. AllAnswered s (λ q page. IsPage None page.0 page.1 × (length page.0 < 2 ^ 64) × HasAnswered P.follows P.can_answer side.old side.new)
+        (Tells s (λ q page. IsListing (digests (P.states side.old)) q.0 q.1 page.0 page.1) asked.now pages.items side.old side.new)
+        asked.now pages.items left.old left.new side.old side.new) }
+    ensures ended { let s = side_of P.states P.is_faithful P.can_give P.follows P.can_refuse P.can_answer P.most_keys P.number in
         IfErr result
-            (ComesToEnd s (Keeps s side.old side.new) (length asked.now) left.old side.old side.new)
-    }
+        (ComesToEnd s (Keeps s side.old side.new) (length asked.now) left.old side.old side.new) }
 {
     let taken = take(left, asked.len());
     let told = side.pages(&asked[..taken])?;
@@ -136,18 +128,14 @@ pub fn ask_gets<P: Peer>(
     left: &mut u64,
     keys: &[Key],
 ) -> Result<Vec<KeyState>, Refusal>
-    ensures told {
-        let s = side_of P.states P.is_faithful P.can_give P.follows P.can_refuse P.can_answer P.most_keys P.number in
+    ensures told { let s = side_of P.states P.is_faithful P.can_give P.follows P.can_refuse P.can_answer P.most_keys P.number in
         IfOk result
-            (λ states. AllAnswered s (λ key state. P.can_give key state × HasAnswered P.follows P.can_answer side.old side.new)
-                (Tells s (λ key state. state ≡ state_at (P.states side.old) key) keys.now states.items side.old side.new)
-                keys.now states.items left.old left.new side.old side.new)
-    }
-    ensures ended {
-        let s = side_of P.states P.is_faithful P.can_give P.follows P.can_refuse P.can_answer P.most_keys P.number in
+        (λ states. AllAnswered s (λ key state. P.can_give key state × HasAnswered P.follows P.can_answer side.old side.new)
+        (Tells s (λ key state. state ≡ state_at (P.states side.old) key) keys.now states.items side.old side.new)
+        keys.now states.items left.old left.new side.old side.new) }
+    ensures ended { let s = side_of P.states P.is_faithful P.can_give P.follows P.can_refuse P.can_answer P.most_keys P.number in
         IfErr result
-            (ComesToEnd s (Keeps s side.old side.new) (length keys.now) left.old side.old side.new)
-    }
+        (ComesToEnd s (Keeps s side.old side.new) (length keys.now) left.old side.old side.new) }
 {
     let taken = take(left, keys.len());
     let told = side.get_all(&keys[..taken])?;
@@ -186,25 +174,37 @@ fn window(pairs: &[(Key, KeyState)]) -> usize
     count
 }
 
+/// Adds these answers to those that were told before; one that is a refusal of more than its key ends it.
+fn add_told(
+    told: &mut Vec<Result<(), Refusal>>,
+    answers: Vec<Result<(), Refusal>>,
+) -> Result<(), Refusal>
+    ensures added { OnOk result (told.new.items ≡ told.old.items ++ answers.items) }
+    ensures of_key { OnOk result (All IsOfKey answers.items) }
+    ensures other { IfErr result
+        (λ refusal. (refusal ≡ Refusal.Memory) ⊎ (Contains answers.items (Err refusal) × (is_of_key refusal ≡ false))) }
+{
+    for answer in answers {
+        told.push(of_key(answer)?)?;
+    }
+    Ok(())
+}
+
 /// Pushes states into a side, a window after the other, and tells of each key whether it was taken.
 pub fn ask_pushes<P: Peer>(
     side: &mut P,
     left: &mut u64,
     pairs: &[(Key, KeyState)],
 ) -> Result<Vec<Result<(), Refusal>>, Refusal>
-    ensures told {
-        let s = side_of P.states P.is_faithful P.can_give P.follows P.can_refuse P.can_answer P.most_keys P.number in
+    ensures told { let s = side_of P.states P.is_faithful P.can_give P.follows P.can_refuse P.can_answer P.most_keys P.number in
         IfOk result
-            (λ told. AllAnswered s (λ _ told. IsOfKey told)
-                (TakesIn s pairs.now told.items side.old side.new)
-                pairs.now told.items left.old left.new side.old side.new)
-    }
-    ensures ended {
-        let s = side_of P.states P.is_faithful P.can_give P.follows P.can_refuse P.can_answer P.most_keys P.number in
+        (λ told. AllAnswered s (λ _ told. IsOfKey told)
+        (TakesIn s pairs.now told.items side.old side.new)
+        pairs.now told.items left.old left.new side.old side.new) }
+    ensures ended { let s = side_of P.states P.is_faithful P.can_give P.follows P.can_refuse P.can_answer P.most_keys P.number in
         IfErr result
-            (λ refusal. ComesToEnd s (TakesFirst s pairs.now side.old side.new refusal) (length pairs.now) left.old
-                side.old side.new refusal)
-    }
+        (λ refusal. ComesToEnd s (TakesFirst s pairs.now side.old side.new refusal) (length pairs.now) left.old
+        side.old side.new refusal) }
 {
     let mut told = Vec::with_capacity(side.alloc(), pairs.len())?;
     let mut rest = pairs;
@@ -212,9 +212,7 @@ pub fn ask_pushes<P: Peer>(
         let count = window(rest);
         let taken = take(left, count);
         let answers = side.push_all(&rest[..taken])?;
-        for answer in answers {
-            told.push(of_key(answer)?)?;
-        }
+        add_told(&mut told, answers)?;
         are_all(taken, count)?;
         rest = &rest[count..];
     }

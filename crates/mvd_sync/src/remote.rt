@@ -229,11 +229,7 @@ impl<R: Read + Drop, W: Write + Drop> Remote<R, W> {
     }
 
     /// A page of a bucket after a key, and whether more are left.
-    pub fn bucket(
-        &mut self,
-        path: &Path,
-        after: Option<&Key>,
-    ) -> Result<Page, Refusal>
+    pub fn bucket(&mut self, path: &Path, after: Option<&Key>) -> Result<Page, Refusal>
         ensures asked { MatchResult result (λ page. SendsFrame (link R.remaining W.contents self.old) (link R.remaining W.contents self.new) (Bucket path.now (option_copied after.entry)) (Ok (Keys page.0.items page.1))) (λ refusal. Refuses (link R.remaining W.contents self.old) (link R.remaining W.contents self.new) (Bucket path.now (option_copied after.entry)) refusal) }
         ensures stays { (refusal : Refusal) → self.old.refused ≡ Some refusal → (result ≡ Err refusal) × (self.new ≡ self.old) }
     {
@@ -438,11 +434,7 @@ impl<R: Read + Drop, W: Write + Drop> Peer for Remote<R, W> {
         Remote::node(self, path)
     }
 
-    fn bucket(
-        &mut self,
-        path: &Path,
-        after: Option<&Key>,
-    ) -> Result<Page, Refusal>
+    fn bucket(&mut self, path: &Path, after: Option<&Key>) -> Result<Page, Refusal>
         ensures asked { MatchResult result (λ page. SendsFrame (link R.remaining W.contents self.old) (link R.remaining W.contents self.new) (Bucket path.now (option_copied after.entry)) (Ok (Keys page.0.items page.1))) (λ refusal. Refuses (link R.remaining W.contents self.old) (link R.remaining W.contents self.new) (Bucket path.now (option_copied after.entry)) refusal) }
         ensures stays { (refusal : Refusal) → self.old.refused ≡ Some refusal → (result ≡ Err refusal) × (self.new ≡ self.old) }
     {
@@ -478,10 +470,7 @@ impl<R: Read + Drop, W: Write + Drop> Peer for Remote<R, W> {
         Remote::get_all(self, keys)
     }
 
-    fn push_all(
-        &mut self,
-        pairs: &[(Key, KeyState)],
-    ) -> Result<Vec<Result<(), Refusal>>, Refusal> {
+    fn push_all(&mut self, pairs: &[(Key, KeyState)]) -> Result<Vec<Result<(), Refusal>>, Refusal> {
         Remote::push_all(self, pairs)
     }
 }

@@ -52,11 +52,7 @@ impl Peer for Site {
     }
 
     #[tactic(auto, using(crate::proofs::SiteSides::bucket_refuses))]
-    fn bucket(
-        &mut self,
-        path: &Path,
-        after: Option<&Key>,
-    ) -> Result<Page, Refusal> {
+    fn bucket(&mut self, path: &Path, after: Option<&Key>) -> Result<Page, Refusal> {
         Site::bucket(self, path, after)
     }
 

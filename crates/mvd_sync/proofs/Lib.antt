@@ -2,6 +2,7 @@ pub mod JoinLaws
 pub mod Pushes
 pub mod Keys
 pub mod Below
+pub mod Nodes
 pub mod Pages
 pub mod Rest
 pub mod OneByOne

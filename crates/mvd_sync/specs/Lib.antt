@@ -5,3 +5,4 @@ pub mod Windows
 pub mod Answers
 pub mod Walk
 pub mod Questions
+pub mod Nodes

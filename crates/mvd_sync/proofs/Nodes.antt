@@ -6,7 +6,9 @@ use Rattle.std.specs.Cmp.{Equal-is, tied_itself, unsigned_Decides}
 use Rattle.std.specs.Cmp.Lexicographic.{slice_cmp, nat_list_cmp_total}
 use Rattle.std.specs.FinMap.{FinMap, get}
 use Rattle.std.specs.List.{filter, flat_map, list_any}
-use Rattle.std.proofs.lemmas.List.{append-nil, get_or-map, length-map}
+use Rattle.std.proofs.Common.{add-one, append_assoc, take}
+use Rattle.std.proofs.Math.Seq.{take-suc}
+use Rattle.std.proofs.lemmas.List.{append-nil, get_or-map, length-map, map-append, take_all}
 use Rattle.std.proofs.lemmas.List.Elements.{filter-append}
 use Rattle.std.proofs.lemmas.Grind.{flat_map-append}
 use Rattle.std.proofs.lemmas.List.Folds.{list_any-append, list_any_at}
@@ -363,3 +365,47 @@ told-is a b path mine theirs own children own' children' =
       | true ↦ refl
       | false ↦ sym (ap (filter D) (append-nil (children_of path)) ∙ all)
     ]
+
+-- the children told of the first digits
+abbrev pub told_first : List ℕ → ℕ → List ℕ × List (List ℕ) → List ℕ × List (List ℕ) → List (List ℕ)
+told_first path n mine theirs = map (λ d. path ++ d ∷ []) (filter (λ d. not (bytes_eq (get_or mine.1 d []) (get_or theirs.1 d []))) (take n digits))
+
+first_digits : (d : ℕ) → d < 16 → take (d + 1) digits ≡ take d digits ++ d ∷ []
+first_digits d h = let n = sixteen_digits in rw add-one (take-suc digits d 0 (omega (arith, n, h)) ∙ ap (λ e. take d digits ++ e ∷ []) (digit_at d h))
+
+pub told_first-more : (path : List ℕ) (d : ℕ) (mine theirs : List ℕ × List (List ℕ)) → d < 16 → told_first path (d + 1) mine theirs ≡ told_first path d mine theirs ++ cond (bytes_eq (get_or mine.1 d []) (get_or theirs.1 d [])) [] ((path ++ d ∷ []) ∷ [])
+told_first-more path d mine theirs h =
+    let f : ℕ → List ℕ = λ d. path ++ d ∷ [] in
+    let g : ℕ → Bool = λ d. not (bytes_eq (get_or mine.1 d []) (get_or theirs.1 d [])) in
+    ap (λ ds. map f (filter g ds)) (first_digits d h)
+    ∙ ap (map f) (filter-append g (take d digits) (d ∷ []))
+    ∙ map-append f (filter g (take d digits)) (filter g (d ∷ []))
+    ∙ ap (λ xs. map f (filter g (take d digits)) ++ xs)
+      (elim (bytes_eq (get_or mine.1 d []) (get_or theirs.1 d [])) as (λ b. map f (cond (not b) (d ∷ []) []) ≡ cond b [] (f d ∷ [])) [ true ↦ refl | false ↦ refl ])
+
+-- a child that is told, or not
+pub told_step : (below old : List (List ℕ)) (path : List ℕ) (d : ℕ) (mine theirs : List ℕ × List (List ℕ)) → d < 16 → below ≡ old ++ told_first path d mine theirs
+    → ((get_or mine.1 d [] ≡ get_or theirs.1 d [] → ⊥) → below ++ (path ++ d ∷ []) ∷ [] ≡ old ++ told_first path (d + 1) mine theirs)
+    × (get_or mine.1 d [] ≡ get_or theirs.1 d [] → below ≡ old ++ told_first path (d + 1) mine theirs)
+told_step below old path d mine theirs h e =
+    let more = told_first-more path d mine theirs h in
+    let at = bytes_eq-Decides (get_or mine.1 d []) (get_or theirs.1 d []) in
+    let both : (b : Bool) → bytes_eq (get_or mine.1 d []) (get_or theirs.1 d []) ≡ b → below ++ cond b [] ((path ++ d ∷ []) ∷ []) ≡ old ++ told_first path (d + 1) mine theirs =
+      λ b is. ap (λ xs. xs ++ cond b [] ((path ++ d ∷ []) ∷ [])) e ∙ append_assoc old (told_first path d mine theirs) (cond b [] ((path ++ d ∷ []) ∷ [])) ∙ ap (λ xs. old ++ xs) (ap (λ b. told_first path d mine theirs ++ cond b [] ((path ++ d ∷ []) ∷ [])) (sym is) ∙ sym more) in
+    (λ other. both false (is_false (bytes_eq (get_or mine.1 d []) (get_or theirs.1 d [])) (λ t. other (at.0 t))),
+      λ same. sym (append-nil below) ∙ both true (at.1 same))
+  where
+    is_false : (b : Bool) → (b ≡ true → ⊥) → b ≡ false
+    is_false true h = absurd (h refl)
+    is_false false h = refl
+
+pub told_last : (path : List ℕ) (mine theirs : List ℕ × List (List ℕ)) → (mine.0 ≡ theirs.0 → ⊥) → told_first path 16 mine theirs ≡ told_children path mine theirs
+told_last path mine theirs other =
+    let n = sixteen_digits in
+    elim (bytes_eq mine.0 theirs.0) as (λ b. bytes_eq mine.0 theirs.0 ≡ b → told_first path 16 mine theirs ≡ cond b [] (map (λ d. path ++ d ∷ []) (filter (λ d. not (bytes_eq (get_or mine.1 d []) (get_or theirs.1 d []))) digits))) [
+      | true ↦ λ e. absurd (other ((bytes_eq-Decides mine.0 theirs.0).0 e))
+      | false ↦ λ _. ap (λ ds. map (λ d. path ++ d ∷ []) (filter (λ d. not (bytes_eq (get_or mine.1 d []) (get_or theirs.1 d []))) ds)) (take_all 16 digits (omega (arith, n)))
+    ] refl
+
+pub told_none : (path : List ℕ) (mine theirs : List ℕ × List (List ℕ)) → mine.0 ≡ theirs.0 → told_children path mine theirs ≡ []
+told_none path mine theirs same = ap (λ b. cond b [] (map (λ d. path ++ d ∷ []) (filter (λ d. not (bytes_eq (get_or mine.1 d []) (get_or theirs.1 d []))) digits))) ((bytes_eq-Decides mine.0 theirs.0).1 same)

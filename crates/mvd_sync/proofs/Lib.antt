@@ -3,6 +3,7 @@ pub mod Pushes
 pub mod Keys
 pub mod Below
 pub mod Nodes
+pub mod Descents
 pub mod Pages
 pub mod Rest
 pub mod OneByOne

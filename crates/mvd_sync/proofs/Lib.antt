@@ -8,3 +8,6 @@ pub mod Pages
 pub mod Rest
 pub mod OneByOne
 pub mod SiteSides
+pub mod Compose
+pub mod Answering
+pub mod ToldPages

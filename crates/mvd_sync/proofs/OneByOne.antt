@@ -2,9 +2,9 @@
 use Rattle.std.proofs.Common.{◌≡◌, ◌≢◌, ◌⊎◌, inl, inr, ℕ, suc, ◌+◌, ◌≤◌, List, [], ◌∷◌, ◌++◌, length, refl, sym, ap, subst, ◌∙◌, arith, length-append}
 use Rattle.std.specs.Prelude.{Result, Ok, Err, IfErr, IfOk, OnOk}
 use Rattle.mvd_dots.specs.declared.refusals.Refusal.{Refusal}
-use Rattle.mvd_dots.specs.declared.refusals.Refusal.TheVariants.{DotClash}
+use Rattle.mvd_dots.specs.declared.refusals.Refusal.TheVariants.{DotClash, Memory}
 use Rattle.mvd_sync.specs.Sides.{HasAnswered, HasRefused, Reaches}
-use Rattle.mvd_sync.specs.Windows.{Asked, EachAnswer, EachTold}
+use Rattle.mvd_sync.specs.Windows.{Asked, EachAnswer, EachTold, Ends}
 
 pub each_more : {Q A : Type 0} (P : Q → A → Type 0) (qs : List Q) (ts : List (Result A Refusal)) (q : Q) (a : Result A Refusal) → EachAnswer P qs ts → EachAnswer P (q ∷ []) (a ∷ []) → EachAnswer P (qs ++ q ∷ []) (ts ++ a ∷ [])
 each_more P [] [] q a h i = i
@@ -45,16 +45,16 @@ err_still (Err x) h f = f x h
 module _ {S Q A : Type 0} (follows : ℕ → S → S → Type 0) (can_refuse : S → Refusal → Type 0) (can_answer : S → Type 0) (self : (s : S) → follows 0 s s) (on : (m n : ℕ) (old mid new : S) → follows m old mid → follows n mid new → follows (m + n) old new) where
   -- what was told on the way is still told
   pub refused_on : (old mid new : S) (refusal : Refusal) → Reaches follows mid new → HasRefused follows can_refuse old mid refusal → HasRefused follows can_refuse old new refusal
-  refused_on old mid new refusal r (at, (before, (is, after))) = (at, (before, (is, (after.0 + r.0, on after.0 r.0 at mid new after.1 r.1))))
+  refused_on old mid new refusal r (at, before, is, after) = (at, before, is, (after.0 + r.0, on after.0 r.0 at mid new after.1 r.1))
 
   pub answered_on : (old mid new : S) → Reaches follows mid new → HasAnswered follows can_answer old mid → HasAnswered follows can_answer old new
-  answered_on old mid new r (at, (before, (is, after))) = (at, (before, (is, (after.0 + r.0, on after.0 r.0 at mid new after.1 r.1))))
+  answered_on old mid new r (at, before, is, after) = (at, before, is, (after.0 + r.0, on after.0 r.0 at mid new after.1 r.1))
 
   pub refused_now : (old mid new : S) (refusal : Refusal) → Reaches follows old mid → Reaches follows mid new → can_refuse new refusal → HasRefused follows can_refuse old new refusal
-  refused_now old mid new refusal p q is = (new, ((p.0 + q.0, on p.0 q.0 old mid new p.1 q.1), (is, (0, self new))))
+  refused_now old mid new refusal p q is = (new, (p.0 + q.0, on p.0 q.0 old mid new p.1 q.1), is, (0, self new))
 
   pub answered_now : (old mid new : S) → Reaches follows old mid → Reaches follows mid new → can_answer new → HasAnswered follows can_answer old new
-  answered_now old mid new p q is = (new, ((p.0 + q.0, on p.0 q.0 old mid new p.1 q.1), (is, (0, self new))))
+  answered_now old mid new p q is = (new, (p.0 + q.0, on p.0 q.0 old mid new p.1 q.1), is, (0, self new))
 
   pub none_asked : (May Right : Q → A → Type 0) (T : Type 0) (old : S) → Asked follows can_refuse can_answer May Right T [] [] old old
   none_asked May Right T old = record {
@@ -83,3 +83,15 @@ module _ {S Q A : Type 0} (follows : ℕ → S → S → Type 0) (can_refuse : S
               (one_told U R a (ok_still a answers (answered_now old mid new way last)) (err_still a refuses (λ r. refused_now old mid new r way last)));
           no_clash = λ t. told_more (Unit {0}) (λ r. r ≢ DotClash) ts a (before.no_clash t) (one_told (Unit {0}) (λ r. r ≢ DotClash) a (ok_still a answers (λ _. tt)) (no_clash t));
         }
+
+  -- no question was made for want of memory
+  pub none_made : (most : ℕ) (old : S) (refusal : Refusal) → refusal ≡ Memory → Ends follows can_refuse most old old refusal
+  none_made most old refusal is = record { count = (0, omega arith, self old); cause = inr is }
+
+  -- and one was the last
+  module _ (most n : ℕ) (old mid new : S) (before : follows n old mid) (step : follows 1 mid new) (few : n + 1 ≤ most) where
+    pub last_made : (refusal : Refusal) → can_refuse new refusal ⊎ (refusal ≡ Memory) → Ends follows can_refuse most old new refusal
+    last_made refusal why = record {
+      count = (n + 1, few, on n 1 old mid new before step);
+      cause = elim why [ inl told ↦ inl (refused_now old mid new refusal (n, before) (1, step) told) | inr memory ↦ inr memory ];
+    }

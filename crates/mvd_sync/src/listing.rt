@@ -3,7 +3,7 @@ ghost use Rattle.std.specs.Prelude.{◌≡◌, ◌≢◌, ◌+◌, ◌-◌, ◌*
 ghost use Rattle.mvd_site.specs.Answer.{digests};
 ghost use Rattle.mvd_sync.specs.Answers.{IsListing, IsPage, TakesNext, order_of_first};
 ghost use Rattle.mvd_sync.specs.Questions.{AllAnswered, ComesToEnd, Fills, Keeps, Tells};
-ghost use Rattle.mvd_sync.specs.Sides.{HasAnswered, side};
+ghost use Rattle.mvd_sync.specs.Sides.{HasAnswered, side as side_of};
 
 use crate::levels::is_same;
 use crate::peer::{Page, Peer};
@@ -77,7 +77,7 @@ impl Listing {
         after: Option<&Key>,
     ) -> Result<Self, Refusal>
         ensures told {
-            let s = side P.states P.is_faithful P.can_give P.follows P.can_refuse P.can_answer P.most_keys P.number in
+            let s = side_of P.states P.is_faithful P.can_give P.follows P.can_refuse P.can_answer P.most_keys P.number in
             let q = (path.now, option_copied after.entry) in
             IfOk result
                 (λ listing. AllAnswered s (λ q page. IsPage q.1 page.0 page.1 × (length page.0 < 2 ^ 64) × HasAnswered P.follows P.can_answer side.old side.new)
@@ -85,7 +85,7 @@ impl Listing {
                     (q ∷ []) (listing ∷ []) left.old left.new side.old side.new)
         }
         ensures ended {
-            let s = side P.states P.is_faithful P.can_give P.follows P.can_refuse P.can_answer P.most_keys P.number in
+            let s = side_of P.states P.is_faithful P.can_give P.follows P.can_refuse P.can_answer P.most_keys P.number in
             IfErr result (ComesToEnd s (Keeps s side.old side.new) 1 left.old side.old side.new)
         }
     {
@@ -102,11 +102,11 @@ impl Listing {
         after: Option<&Key>,
     ) -> Result<(), Refusal>
         ensures filled {
-            let s = side P.states P.is_faithful P.can_give P.follows P.can_refuse P.can_answer P.most_keys P.number in
+            let s = side_of P.states P.is_faithful P.can_give P.follows P.can_refuse P.can_answer P.most_keys P.number in
             OnOk result (Fills s path.now (option_copied after.entry) self.old self.new left.old left.new side.old side.new)
         }
         ensures ended {
-            let s = side P.states P.is_faithful P.can_give P.follows P.can_refuse P.can_answer P.most_keys P.number in
+            let s = side_of P.states P.is_faithful P.can_give P.follows P.can_refuse P.can_answer P.most_keys P.number in
             IfErr result (ComesToEnd s (Keeps s side.old side.new) 1 left.old side.old side.new)
         }
     {

@@ -1,17 +1,17 @@
 //! Questions to a side, of which no more are made than were given.
-ghost use Rattle.std.specs.Prelude.{◌≡◌, ◌≢◌, ◌+◌, ◌<◌, ◌≤◌, ◌^◌, [], length, false, OnOk, IfOk, IfErr, IsTrue, ◌↔◌, min};
+ghost use Rattle.std.specs.Prelude.{◌≡◌, ◌≢◌, ◌+◌, ◌-◌, ◌<◌, ◌≤◌, ◌^◌, [], length, false, OnOk, IfOk, IfErr, IsTrue, ◌↔◌, min};
 ghost use Rattle.mvd_site.specs.Answer.{digests};
 ghost use Rattle.mvd_site.specs.Held.{state_at};
 ghost use Rattle.mvd_sync.specs.Answers.{IsListing, IsPage};
 ghost use Rattle.mvd_sync.specs.Questions.{AllAnswered, ComesToEnd, ForEach, IsInner, IsOfKey, IsWindow, Keeps, Takes, TakesFirst, TakesIn, Tells, push_bytes};
 ghost use Rattle.mvd_sync.specs.Session.{Each};
-ghost use Rattle.mvd_sync.specs.Sides.{HasAnswered, is_of_key, side};
+ghost use Rattle.mvd_sync.specs.Sides.{HasAnswered, is_of_key, side as side_of};
 
 use crate::listing::Listing;
 use crate::peer::Peer;
 use mvd_dots::Refusal;
 use mvd_keys::{Key, KeyState, Path};
-use mvd_wire::state_length;
+use mvd_wire::{Digests, state_length};
 
 /// How many questions each side may still be asked.
 #[derive(Clone, Copy, Debug)]
@@ -59,6 +59,18 @@ pub struct Node {
     pub children: [[u8; 32]; 16],
 }
 
+/// The digests of a node above the buckets; without children they are 33.
+fn inner(digests: Digests) -> Result<Node, Refusal>
+    ensures node { IfOk result (λ node. (node.own ≡ digests.own) × (digests.children ≡ Some node.children)) }
+    ensures none { IfErr result (λ refusal. (refusal ≡ Refusal.BadBody) × (digests.children ≡ None)) }
+{
+    let own = digests.own;
+    match digests.children {
+        Some(children) => Ok(Node { own, children }),
+        None => Err(Refusal::BadBody),
+    }
+}
+
 /// What a side answers for nodes above the buckets; digests without children are 33.
 pub fn ask_nodes<P: Peer>(
     side: &mut P,
@@ -67,14 +79,14 @@ pub fn ask_nodes<P: Peer>(
 ) -> Result<Vec<Node>, Refusal>
     requires inner { Each (λ path. length path < 3) paths.now }
     ensures told {
-        let s = side P.states P.is_faithful P.can_give P.follows P.can_refuse P.can_answer P.most_keys P.number in
+        let s = side_of P.states P.is_faithful P.can_give P.follows P.can_refuse P.can_answer P.most_keys P.number in
         IfOk result
             (λ nodes. AllAnswered s (λ _ _. HasAnswered P.follows P.can_answer side.old side.new)
                 (Tells s (IsInner (digests (P.states side.old))) paths.now nodes.items side.old side.new)
                 paths.now nodes.items left.old left.new side.old side.new)
     }
     ensures ended {
-        let s = side P.states P.is_faithful P.can_give P.follows P.can_refuse P.can_answer P.most_keys P.number in
+        let s = side_of P.states P.is_faithful P.can_give P.follows P.can_refuse P.can_answer P.most_keys P.number in
         IfErr result
             (ComesToEnd s (Keeps s side.old side.new) (length paths.now) left.old side.old side.new)
     }
@@ -83,14 +95,7 @@ pub fn ask_nodes<P: Peer>(
     let told = side.nodes(&paths[..taken])?;
     let mut nodes = Vec::with_capacity(side.alloc(), told.len())?;
     for answer in told {
-        let digests = answer?;
-        match digests.children {
-            Some(children) => nodes.push(Node {
-                own: digests.own,
-                children,
-            })?,
-            None => return Err(Refusal::BadBody),
-        }
+        nodes.push(inner(answer?)?)?;
     }
     are_all(taken, paths.len())?;
     Ok(nodes)
@@ -103,14 +108,14 @@ pub fn ask_pages<P: Peer>(
     asked: &[(Path, Option<Key>)],
 ) -> Result<Vec<Listing>, Refusal>
     ensures told {
-        let s = side P.states P.is_faithful P.can_give P.follows P.can_refuse P.can_answer P.most_keys P.number in
+        let s = side_of P.states P.is_faithful P.can_give P.follows P.can_refuse P.can_answer P.most_keys P.number in
         IfOk result
             (λ pages. AllAnswered s (λ q page. IsPage None page.0 page.1 × (length page.0 < 2 ^ 64) × HasAnswered P.follows P.can_answer side.old side.new)
                 (Tells s (λ q page. IsListing (digests (P.states side.old)) q.0 q.1 page.0 page.1) asked.now pages.items side.old side.new)
                 asked.now pages.items left.old left.new side.old side.new)
     }
     ensures ended {
-        let s = side P.states P.is_faithful P.can_give P.follows P.can_refuse P.can_answer P.most_keys P.number in
+        let s = side_of P.states P.is_faithful P.can_give P.follows P.can_refuse P.can_answer P.most_keys P.number in
         IfErr result
             (ComesToEnd s (Keeps s side.old side.new) (length asked.now) left.old side.old side.new)
     }
@@ -132,14 +137,14 @@ pub fn ask_gets<P: Peer>(
     keys: &[Key],
 ) -> Result<Vec<KeyState>, Refusal>
     ensures told {
-        let s = side P.states P.is_faithful P.can_give P.follows P.can_refuse P.can_answer P.most_keys P.number in
+        let s = side_of P.states P.is_faithful P.can_give P.follows P.can_refuse P.can_answer P.most_keys P.number in
         IfOk result
             (λ states. AllAnswered s (λ key state. P.can_give key state × HasAnswered P.follows P.can_answer side.old side.new)
                 (Tells s (λ key state. state ≡ state_at (P.states side.old) key) keys.now states.items side.old side.new)
                 keys.now states.items left.old left.new side.old side.new)
     }
     ensures ended {
-        let s = side P.states P.is_faithful P.can_give P.follows P.can_refuse P.can_answer P.most_keys P.number in
+        let s = side_of P.states P.is_faithful P.can_give P.follows P.can_refuse P.can_answer P.most_keys P.number in
         IfErr result
             (ComesToEnd s (Keeps s side.old side.new) (length keys.now) left.old side.old side.new)
     }
@@ -188,14 +193,14 @@ pub fn ask_pushes<P: Peer>(
     pairs: &[(Key, KeyState)],
 ) -> Result<Vec<Result<(), Refusal>>, Refusal>
     ensures told {
-        let s = side P.states P.is_faithful P.can_give P.follows P.can_refuse P.can_answer P.most_keys P.number in
+        let s = side_of P.states P.is_faithful P.can_give P.follows P.can_refuse P.can_answer P.most_keys P.number in
         IfOk result
             (λ told. AllAnswered s (λ _ told. IsOfKey told)
                 (TakesIn s pairs.now told.items side.old side.new)
                 pairs.now told.items left.old left.new side.old side.new)
     }
     ensures ended {
-        let s = side P.states P.is_faithful P.can_give P.follows P.can_refuse P.can_answer P.most_keys P.number in
+        let s = side_of P.states P.is_faithful P.can_give P.follows P.can_refuse P.can_answer P.most_keys P.number in
         IfErr result
             (λ refusal. ComesToEnd s (TakesFirst s pairs.now side.old side.new refusal) (length pairs.now) left.old
                 side.old side.new refusal)

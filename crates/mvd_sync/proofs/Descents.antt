@@ -53,12 +53,14 @@ told_all-last (q ∷ ps) (x ∷ ms) (y ∷ ts) p m t e f =
 one_taken : {X : Type 0} (xs : List X) (i : ℕ) (x : X) → i < length xs → x ≡ get_or xs i x → take (i + 1) xs ≡ take i xs ++ x ∷ []
 one_taken xs i x h is = rw add-one (take-suc xs i x h ∙ ap (λ y. take i xs ++ y ∷ []) (sym is))
 
-pub told_all-more : (below old : List (List ℕ)) (ps : List (List ℕ)) (ms ts : List Node) (i : ℕ) (p : List ℕ) (m t : Node) → length ms ≡ length ps → length ts ≡ length ps → i < length ps → p ≡ get_or ps i p → m ≡ get_or ms i m → t ≡ get_or ts i t
-    → below ≡ old ++ told_all (take i ps) (take i ms) (take i ts) → below ++ told p m t ≡ old ++ told_all (take (i + 1) ps) (take (i + 1) ms) (take (i + 1) ts)
-told_all-more below old ps ms ts i p m t e f h at at' at'' is =
+pub told_all-more : (below old : List (List ℕ)) (ps : List (List ℕ)) (ms ts : List Node) (i : ℕ) (p : List ℕ) (d : Node) → length ms ≡ length ps → length ts ≡ length ps → i < length ps → p ≡ get_or ps i p
+    → below ≡ old ++ told_all (take i ps) (take i ms) (take i ts) → below ++ told p (get_or ms i d) (get_or ts i d) ≡ old ++ told_all (take (i + 1) ps) (take (i + 1) ms) (take (i + 1) ts)
+told_all-more below old ps ms ts i p d e f h at is =
+    let m = get_or ms i d in
+    let t = get_or ts i d in
     let a = one_taken ps i p h at in
-    let b = one_taken ms i m (omega (arith, e, h)) at' in
-    let c = one_taken ts i t (omega (arith, f, h)) at'' in
+    let b : take (i + 1) ms ≡ take i ms ++ m ∷ [] = rw add-one (take-suc ms i d (omega (arith, e, h))) in
+    let c : take (i + 1) ts ≡ take i ts ++ t ∷ [] = rw add-one (take-suc ts i d (omega (arith, f, h))) in
     let n = length-take i ps in
     let k = length-take i ms in
     let j = length-take i ts in

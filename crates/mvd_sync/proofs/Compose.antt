@@ -21,7 +21,7 @@ module _ {S : Type 0} (s : Side S) (on : (m n : ℕ) (old mid new : S) → s.fol
     -- a cause after questions is one with them
     pub blames_later : (asked : ℕ) (refusal : Refusal) → Blames s left' asked mid new refusal → Blames s left (n + asked) old new refusal
     blames_later asked refusal (of_side h) = of_side (refused_later old mid new refusal (n, before) h)
-    blames_later asked refusal (of_answer e no) = of_answer e (λ t. no (still t))
+    blames_later asked refusal (of_answer e never) = of_answer e (λ t. never (still t))
     blames_later asked refusal (of_questions e all) = of_questions e (omega arith)
     blames_later asked refusal (of_memory e) = of_memory e
 

@@ -9,5 +9,6 @@ pub mod Rest
 pub mod OneByOne
 pub mod SiteSides
 pub mod Compose
+pub mod Fails
 pub mod Answering
 pub mod ToldPages

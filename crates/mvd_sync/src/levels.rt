@@ -103,9 +103,18 @@ fn descend<L: Peer, P: Peer>(
     while !rest.is_empty() {
         let count = rest.len().min(WINDOW);
         let window = &rest[..count];
-        let mine = ask_nodes(local, &mut left.local, window).map_err(SyncFault::Local)?;
-        let theirs = ask_nodes(peer, &mut left.peer, window).map_err(SyncFault::Peer)?;
-        add_all_children(alloc, &mut below, window, &mine, &theirs).map_err(SyncFault::Local)?;
+        let mine = match ask_nodes(local, &mut left.local, window) {
+            Ok(mine) => mine,
+            Err(refusal) => return Err(SyncFault::Local(refusal)),
+        };
+        let theirs = match ask_nodes(peer, &mut left.peer, window) {
+            Ok(theirs) => theirs,
+            Err(refusal) => return Err(SyncFault::Peer(refusal)),
+        };
+        match add_all_children(alloc, &mut below, window, &mine, &theirs) {
+            Ok(()) => {}
+            Err(refusal) => return Err(SyncFault::Local(refusal)),
+        }
         rest = &rest[count..];
     }
     Ok(below)

@@ -2,6 +2,8 @@ pub mod JoinLaws
 pub mod Pushes
 pub mod Keys
 pub mod Below
+pub mod Nodes
+pub mod Descents
 pub mod Pages
 pub mod Rest
 pub mod OneByOne
@@ -10,6 +12,7 @@ pub mod Unseen
 pub mod Taking
 pub mod Plans
 pub mod Compose
+pub mod Fails
 pub mod Answering
 pub mod ToldPages
 pub mod Window

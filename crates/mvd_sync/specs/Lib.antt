@@ -9,3 +9,4 @@ pub mod Questions
 pub mod Exchanges
 pub mod Meetings
 pub mod Carries
+pub mod Nodes

@@ -1,18 +1,21 @@
 //! Opening the records: the tables and the marks, in one transaction.
 ghost use Rattle.std.specs.Prelude.{◌≡◌, ◌≤◌, ◌<◌, ◌^◌, [], map, codes, MatchOption, MatchResult, IsTrue, IfErr};
-ghost use Rattle.std.specs.Prelude.{IfOk, OnOk, OnErr, Err};
+ghost use Rattle.std.specs.Prelude.{IfOk, OnOk, OnErr, Err, false};
 ghost use Rattle.sqlite.specs.Held.{state};
 ghost use Rattle.sqlite.specs.State.{HasCleanDisk, KeepsCommit, Survives};
 ghost use Rattle.mvd_records.specs.States.{AreMarks, IsMark, first_two};
 ghost use Rattle.mvd_records.specs.Tables.{all_tables, meta_tree};
 ghost use Rattle.mvd_records.specs.Records.{IsSettled, IsSound, IsOurs, HasTables, HoldsRecords, OpensRecords};
 ghost use Rattle.mvd_records.specs.Records.{KeepsStates, KeepsRows, Ran, StaysInside, TellsVersion, TellsMarks};
+ghost use Rattle.mvd_records.specs.Foreign.{IsForeign, has_marks};
 ghost use Rattle.mvd_records.specs.Records.{LeavesOpened, LeavesRefused, IsOpenRefusal, marks_of};
 
 use crate::statements::is_settled;
 use mvd_dots::Refusal;
 use sqlite::types::ValueRef;
 use sqlite::{Alter, Connection, Row, Transaction, params};
+use sqlite_schema::names::same_name;
+use sqlite_schema::schema::Table;
 
 /// Runs a statement that takes no parameter.
 fn run<S: Alter>(tx: &mut Transaction<'_, S>, sql: &str) -> Result<(), Refusal>
@@ -217,6 +220,31 @@ fn prepare<S: Alter>(tx: &mut Transaction<'_, S>, site: u32) -> Result<u32, Refu
         Err(refusal) => return Err(refusal),
     }
     settle(tx, site)
+}
+
+fn has_marks(tables: &[Table]) -> bool
+    ensures { result ≡ has_marks tables.now }
+{
+    tables
+        .iter()
+        .any(|table| same_name(table.name.as_slice(), b"meta"))
+}
+
+/// Whether a database is another program's: a table or a view stands in it, and no table of marks.
+pub fn is_foreign<S: Alter>(conn: &Connection<S>) -> bool
+    ensures ours { IsTrue result → IsTrue (state S.Store conn.now).is_open → ¬ IsOurs (state S.Store conn.now).committed }
+    ensures found { result ≡ false → (state S.Store conn.now).in_transaction ≡ false →
+        IsTrue (state S.Store conn.now).is_open → ¬ IsForeign (state S.Store conn.now).committed }
+{
+    if !conn.is_autocommit() {
+        return false;
+    }
+    let schema = conn.schema();
+    let tables = schema.tables.as_slice();
+    if has_marks(tables) {
+        return false;
+    }
+    !tables.is_empty() || !schema.views.is_empty()
 }
 
 /// Makes what is missing in one transaction, and tells the version.

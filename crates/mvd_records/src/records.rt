@@ -1,5 +1,5 @@
 //! Two maps from key to bytes, and a version, in the tables of a database.
-ghost use Rattle.std.specs.Prelude.{◌≡◌, ◌⊎◌, ◌≤◌, MatchResult, IsTrue, IfErr, IfOk, OnOk, OnErr};
+ghost use Rattle.std.specs.Prelude.{◌≡◌, ◌⊎◌, ◌≤◌, false, MatchResult, IsTrue, IfErr, IfOk, OnOk, OnErr};
 ghost use Rattle.std.specs.FinMap.{entries, is_sorted};
 ghost use Rattle.sqlite.specs.Held.{state};
 ghost use Rattle.sqlite.specs.State.{HasCleanDisk, Survives};
@@ -39,6 +39,7 @@ impl<S: Alter> Model for Records<S> {
 
 impl<S: Alter> Records<S> {
     ghost use Rattle.mvd_records.specs.Calls.{Finishes, Loads, Moves, Opens, Saves, SavesAll};
+    ghost use Rattle.mvd_records.specs.Foreign.{IsForeign};
     ghost use Rattle.mvd_records.specs.Seen.{seen};
     ghost use Rattle.mvd_records.specs.declared.loading.Half.TheVariants.{Old, New};
 
@@ -64,7 +65,13 @@ impl<S: Alter> Records<S> {
         ensures survives { MatchResult result (λ r. Survives (state S.Store conn) (state S.Store r.conn) (LeavesOpened
             (state S.Store conn) site)) (λ e. Survives (state S.Store conn) (state S.Store e.1) (LeavesRefused e.0
             (state S.Store conn) site)) }
+        // Another program's database is never made one of ours.
+        ensures foreign { IfOk result (λ r. (state S.Store conn).in_transaction ≡ false → IsSound (state S.Store r.conn) →
+            ¬ IsForeign (state S.Store conn).committed) }
     {
+        if open::is_foreign(&conn) {
+            return Err((Refusal::Damaged, conn));
+        }
         match open::open(&mut conn, site) {
             Ok(version) => Ok(Records {
                 alloc,

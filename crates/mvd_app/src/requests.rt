@@ -64,12 +64,7 @@ fn put_in<A: Endpoint>(
     }
 }
 
-fn put_seen(
-    alloc: Global,
-    key: Key,
-    seen: Context,
-    document: &str,
-) -> Result<Request, Refusal>
+fn put_seen(alloc: Global, key: Key, seen: Context, document: &str) -> Result<Request, Refusal>
     ensures { IsAnswer result (put_of document.now key seen) }
 {
     let document = Document::read(alloc, document)?;

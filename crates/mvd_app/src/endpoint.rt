@@ -30,7 +30,7 @@ pub struct Member<'a> {
 }
 
 impl Endpoint for Member<'_> {
-    ghost answers = { λ _ _ _ _. ⊤ };
+    ghost answers = { λ _ _ _ _. Unit {0} };
 
     fn ask(&mut self, request: Request) -> Reply {
         let step = step_of(self.site, request);
@@ -68,7 +68,7 @@ impl<S: Alter> Endpoint for Replica<S> {
 }
 
 impl<R: Read + Drop, W: Write + Drop> Endpoint for Remote<R, W> {
-    ghost answers = { λ _ _ _ _. ⊤ };
+    ghost answers = { λ _ _ _ _. Unit {0} };
 
     fn ask(&mut self, request: Request) -> Reply {
         let told = Remote::ask(self, &request);

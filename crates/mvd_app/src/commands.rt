@@ -89,7 +89,10 @@ fn run_stored<'a, S: Start>(
     work_on(rt, &mut replica, work)?;
     match replica.close() {
         Ok(_) => Ok(()),
-        Err((error, _)) => Err(Stop::in_file(db, error)),
+        Err((error, conn)) => {
+            drop(conn);
+            Err(Stop::in_file(db, error))
+        }
     }
 }
 

@@ -19,8 +19,8 @@ same_frame : (f g : FrameValue) (a b : List ℕ) → ◌≡◌ {A = Option Frame
 same_frame f g a b e =
     let one : Some f ≡ Some g = ap (λ (p : Option FrameValue × List ℕ). p.0) e in
     (some_is f g one, ap (λ (p : Option FrameValue × List ℕ). p.1) e) where
-  some_is : (x y : FrameValue) → Some x ≡ Some y → x ≡ y
-  some_is x y h = cc
+      some_is : (x y : FrameValue) → Some x ≡ Some y → x ≡ y
+      some_is x y h = cc
 
 one_front : (fs gs : List FrameValue) (bytes r s : List ℕ) → AreFirst fs bytes r → AreFirst gs bytes s → length fs ≤ length gs → (rest : List FrameValue) × (gs ≡ fs ++ rest)
 one_front [] gs bytes r s p q few = (gs, refl)

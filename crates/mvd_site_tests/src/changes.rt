@@ -231,7 +231,8 @@ fn a_site_answers(rt: HostRuntime) -> Result<(), Fail> {
 fn answer_takes(kept: &mut Kept, request: &Request, looks: u64, computations: u64) -> bool {
     let mut work = no_work();
     let _reply = counted::answer(kept, request, &mut work);
-    work.looks.made(&Start::new()) == looks && work.hashed.computations.made(&Start::new()) == computations
+    work.looks.made(&Start::new()) == looks
+        && work.hashed.computations.made(&Start::new()) == computations
 }
 
 /// Whether a put takes two looks and six computations, and a get one look and none.

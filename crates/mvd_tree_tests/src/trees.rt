@@ -248,7 +248,9 @@ fn opens(alloc: Global, entries: Vec<(Key, [u8; 32])>, most: u64) -> Result<bool
     }
     let mut hashed = nothing();
     match Tree::open(alloc, entries, &mut hashed) {
-        Ok(tree) => Ok(hashed.computations.made(&Start::new()) <= most && node_is(alloc, &tree, &[], &MANY)?),
+        Ok(tree) => Ok(
+            hashed.computations.made(&Start::new()) <= most && node_is(alloc, &tree, &[], &MANY)?,
+        ),
         Err(refusal) => Err(refusal),
     }
 }

@@ -8,16 +8,16 @@ use Rattle.mvd_conn.specs.History.{Gives, History, Next, Over, Stops, Waits, aft
 use Rattle.mvd_host.specs.Course.{NoneMoved, asked_by}
 use Rattle.mvd_host.specs.Taking.{IsIdle, TakesOn}
 
-none_moved : (h : History) → NoneMoved h h
+pub none_moved : (h : History) → NoneMoved h h
 none_moved h = record { came = refl; source = refl; left = refl; failed = refl }
 
 -- no frame was taken
-record Same (old new : History) : Type 0 where
+pub record Same (old new : History) : Type 0 where
   pub taken : new.taken ≡ old.taken
   pub answers : new.answers ≡ old.answers
   pub moved : NoneMoved old new
 
-same : (old new : History) → Same old new → TakesOn [] [] old new
+pub same : (old new : History) → Same old new → TakesOn [] [] old new
 same old new is = record { frames = []; taken = is.taken ∙ sym (append-nil old.taken); asked = refl; answers = is.answers; moved = is.moved }
 
 pub took_nothing : (h : History) → TakesOn [] [] h (released h)
@@ -80,7 +80,7 @@ took_fault old new one = record { frames = []; taken = one.taken; asked = refl; 
 pub takes_on : (old mid new : History) (rs more : List Request) (faulty : List FrameValue) → TakesOn rs [] old mid → TakesOn more faulty mid new → TakesOn (rs ++ more) faulty old new
 takes_on old mid new rs more faulty one other = record {
   frames = one.frames ++ other.frames;
-  taken = other.taken ∙ ap (λ l. l ++ other.frames ++ faulty) (one.taken ∙ ap (λ l. old.taken ++ l) (append-nil one.frames))
+  taken = other.taken ∙ ap (λ l. l ++ (other.frames ++ faulty)) (one.taken ∙ ap (λ l. old.taken ++ l) (append-nil one.frames))
       ∙ append_assoc old.taken one.frames (other.frames ++ faulty) ∙ ap (λ l. old.taken ++ l) (sym (append_assoc one.frames other.frames faulty));
   asked = map-append asked_by one.frames other.frames ∙ ap₂ (λ a b. a ++ b) one.asked other.asked ∙ sym (map-append (λ r. Ok r) rs more);
   answers = other.answers ∙ one.answers;
@@ -113,3 +113,16 @@ idle_after h k e =
       | inl is ↦ let again : after_next (released h) ≡ (false, released h) = sym e ∙ ap (λ (x : History). (false, x)) is in subst IsIdle (sym is) again
       | inr idle ↦ idle
     ]
+
+no_frames : (frames : List FrameValue) → map asked_by frames ≡ [] → frames ≡ []
+no_frames [] e = refl
+no_frames (f ∷ fs) e = absurd (let no : ◌≡◌ {A = List (Result Request Refusal)} (asked_by f ∷ map asked_by fs) [] = e in cc)
+
+pub then_none : (old mid new : History) (rs : List Request) (faulty : List FrameValue) → TakesOn rs faulty old mid → TakesOn [] [] mid new → TakesOn rs faulty old new
+then_none old mid new rs faulty one other = record {
+  frames = one.frames;
+  taken = other.taken ∙ ap (λ l. mid.taken ++ (l ++ [])) (no_frames other.frames other.asked) ∙ append-nil mid.taken ∙ one.taken;
+  asked = one.asked;
+  answers = other.answers ∙ one.answers;
+  moved = record { came = other.moved.came ∙ one.moved.came; source = other.moved.source ∙ one.moved.source; left = other.moved.left ∙ one.moved.left; failed = other.moved.failed ∙ one.moved.failed };
+}

@@ -1,3 +1,6 @@
 pub mod Hosts
 pub mod Frames
 pub mod Holding
+pub mod Own
+pub mod TakingAll
+pub mod Queueing

@@ -1,5 +1,5 @@
 -- The frames that are taken in one round.
-use Rattle.std.specs.Prelude.{◌≡◌, ℕ, ◌+◌, ◌≤◌, ◌⊎◌, List, [], ◌∷◌, ◌++◌, map, length, Result, Ok, Err, ⊤, false, vec_len, vec_capacity}
+use Rattle.std.specs.Prelude.{◌≡◌, ◌==◌, ℕ, ◌+◌, ◌≤◌, ◌<◌, ◌⊎◌, List, [], ◌∷◌, ◌++◌, map, length, Result, Ok, Err, ⊤, false, vec_len, vec_capacity}
 use Rattle.mvd_dots.specs.declared.refusals.Refusal.{Refusal}
 use Rattle.mvd_dots.specs.Answer.{IsAnswer}
 use Rattle.mvd_wire.specs.declared.request.Request.{Request}
@@ -19,7 +19,7 @@ AreFaults (f ∷ fs) (e ∷ es) = (e.0 ≡ f.0) × IsAnswer {T = Request} (Err e
 -- of a connection, frames that ask these requests were taken, and then these, which are no requests
 pub record TakesOn (requests : List Request) (faulty : List FrameValue) (old new : History) : Type 0 where
   pub frames : List FrameValue
-  pub taken : new.taken ≡ old.taken ++ frames ++ faulty
+  pub taken : new.taken ≡ old.taken ++ (frames ++ faulty)
   pub asked : map asked_by frames ≡ map (λ r. Ok r) requests
   pub answers : new.answers ≡ old.answers
   pub moved : NoneMoved old new
@@ -58,6 +58,42 @@ pub record Keeps (old new : Taken) : Type 0 where
   pub requests : new.requests.items ≡ old.requests.items
   pub faults : new.faults.items ≡ old.faults.items
 
--- a frame that is no request was taken, or none was and nothing comes next
-abbrev pub EndsTaking : History → History → Taken → Taken → Type 0
-EndsTaking old new before after = (length after.faults.items ≡ length before.faults.items + 1) ⊎ IsIdle new
+-- some frame was taken
+abbrev pub IsMore : Taken → Taken → Type 0
+IsMore before after = length before.clients.items + length before.faults.items < length after.clients.items + length after.faults.items
+
+-- a frame was taken, or nothing comes next
+abbrev pub EndsTaking : History → Taken → Taken → Type 0
+EndsTaking new before after = IsMore before after ⊎ IsIdle new
+
+-- only requests of one client were taken
+pub record TakesRequests (client : ℕ) (old new : History) (before after : Taken) : Type 0 where
+  pub took : TakesMore client old new before after
+  pub none : took.faulty ≡ []
+  pub faults : after.faults.items ≡ before.faults.items
+
+-- Frames of one client were taken, unless a frame of it that is no request had been. Nothing changed of any other client
+pub record TakesOf (client : ℕ) (old new : List (ℕ × History)) (before after : Taken) : Type 0 where
+  pub requests : List Request
+  pub faulty : List FrameValue
+  pub first : (asked : List (ℕ × Request)) (faults : List (ℕ × FrameValue)) → Holds asked faults before → (own client faults ≡ []) ⊎ ((requests ≡ []) × (faulty ≡ []))
+  pub one : Both (client_in old client) (client_in new client) (TakesOn requests faulty)
+  pub others : (q : ℕ) → (q == client) ≡ false → client_in new q ≡ client_in old q
+  pub holds : (asked : List (ℕ × Request)) (faults : List (ℕ × FrameValue)) → Holds asked faults before →
+      Holds (asked ++ map (λ r. (client, r)) requests) (faults ++ map (λ f. (client, f)) faulty) after
+
+-- frames of clients were taken, and this is what was taken
+pub record TakesAll (old new : List (ℕ × History)) (taken : Taken) : Type 0 where
+  pub requests : List (ℕ × Request)
+  pub faulty : List (ℕ × FrameValue)
+  pub holds : Holds requests faulty taken
+  pub takes : Takes requests faulty old new
+
+-- nothing was taken
+abbrev pub IsNone : Taken → Type 0
+IsNone taken = length taken.clients.items + length taken.faults.items ≡ 0
+
+-- what was taken is there still
+pub record Grows (before after : Taken) : Type 0 where
+  pub clients : length before.clients.items ≤ length after.clients.items
+  pub faults : length before.faults.items ≤ length after.faults.items

@@ -1,5 +1,5 @@
 //! The frames that are taken in one round.
-ghost use Rattle.std.specs.Prelude.{◌≡◌, ◌≢◌, ◌+◌, ◌≤◌, ◌<◌, ◌==◌, ◌⊎◌, List, ℕ, length, true, false, [], IsTrue, OnErr, OnOk, IfOk, IfErr, vec_capacity, vec_len, Some};
+ghost use Rattle.std.specs.Prelude.{◌≡◌, ◌≢◌, ◌+◌, ◌≤◌, ◌<◌, ◌==◌, ◌⊎◌, List, ℕ, length, true, false, [], IsTrue, OnErr, OnOk, IfOk, IfErr, vec_capacity, vec_len, Some, slice_index};
 ghost use Rattle.std.specs.List.{Contains, list_any};
 ghost use Rattle.mvd_dots.specs.Answer.{IsAnswer};
 ghost use Rattle.mvd_wire.specs.declared.request.Request.{Request};
@@ -28,7 +28,7 @@ pub(crate) struct Taken {
 impl Taken {
     ghost use Rattle.mvd_host.specs.Course.{own};
     ghost use Rattle.mvd_host.specs.Hosts.{IfClient, client_in};
-    ghost use Rattle.mvd_host.specs.Taking.{EndsTaking, HasRoom, Holds, IsIdle, Keeps, Takes, TakesMore};
+    ghost use Rattle.mvd_host.specs.Taking.{EndsTaking, Grows, HasRoom, Holds, IsIdle, Keeps, IsMore, IsNone, Takes, TakesAll, TakesMore, TakesOf, TakesRequests};
 
     pub(crate) fn new(alloc: Global) -> Taken
         ensures { Holds [] [] result }
@@ -66,9 +66,11 @@ impl Taken {
     ) -> Result<bool, Refusal>
         requires room { HasRoom 1 self.old }
         ensures took { TakesMore client connection.old connection.new self.old self.new }
-        ensures more { IfOk result (λ more. more ≡ true → self.new.faults.items ≡ self.old.faults.items) }
+        ensures grows { Grows self.old self.new }
+        ensures more { IfOk result (λ more. more ≡ true → TakesRequests client connection.old connection.new self.old self.new) }
+        ensures one { IfOk result (λ more. more ≡ true → length self.new.clients.items ≡ length self.old.clients.items + 1) }
         ensures room { (n : ℕ) → HasRoom (n + 1) self.old → IfOk result (λ more. more ≡ true → HasRoom n self.new) }
-        ensures end { IfOk result (λ more. more ≡ false → EndsTaking connection.old connection.new self.old self.new) }
+        ensures end { IfOk result (λ more. more ≡ false → EndsTaking connection.new self.old self.new) }
     {
         if !connection.next()? {
             return Ok(false);
@@ -84,6 +86,66 @@ impl Taken {
                 Ok(false)
             }
         }
+    }
+
+    /// Takes frames of a client, until there is none, or one that is no request.
+    fn take(
+        &mut self,
+        alloc: Global,
+        client: u64,
+        connection: &mut Connection,
+    ) -> Result<(), Refusal>
+        ensures took { TakesMore client connection.old connection.new self.old self.new }
+        ensures grows { Grows self.old self.new }
+        ensures end { OnOk result (EndsTaking connection.new self.old self.new) }
+    {
+        self.make_room()?;
+        for _frame in 0..FRAMES_MAX {
+            if !self.take_one(alloc, client, connection)? {
+                return Ok(());
+            }
+        }
+        Ok(())
+    }
+
+    /// Takes frames of one of the clients. Whether memory was refused.
+    fn take_of(
+        &mut self,
+        alloc: Global,
+        clients: &mut BTreeMap<u64, Connection>,
+        client: u64,
+    ) -> bool
+        ensures took { TakesOf client clients.old.entries clients.new.entries self.old self.new }
+        ensures grows { Grows self.old self.new }
+        ensures idle { result ≡ false → IsMore self.old self.new ⊎ ((list_any (λ fault. fault.0 == client) self.old.faults.items ≡ true) ⊎ IfClient (client_in clients.new.entries client) IsIdle) }
+    {
+        if self.has_fault(client) {
+            return false;
+        }
+        match clients.get_mut(&client) {
+            Some(connection) => self.take(alloc, client, connection).is_err(),
+            None => false,
+        }
+    }
+
+    /// Takes frames of some clients. Whether memory was refused for one.
+    pub(crate) fn take_all(
+        &mut self,
+        alloc: Global,
+        clients: &mut BTreeMap<u64, Connection>,
+        ready: &[u64],
+    ) -> bool
+        requires none { Holds [] [] self.old }
+        ensures took { TakesAll clients.old.entries clients.new.entries self.new }
+        ensures idle { result ≡ false → IsNone self.new → (i : ℕ) → i < length ready.now → IfClient (client_in clients.new.entries (slice_index ready.now i)) IsIdle }
+    {
+        let mut refused = false;
+        for client in ready {
+            if self.take_of(alloc, clients, *client) {
+                refused = true;
+            }
+        }
+        refused
     }
 }
 

@@ -12,7 +12,6 @@ at_is n q = grind (arith, nat_tests)
 
 pub kept_none : (clients : List (ℕ × History)) → clients ≡ [] → AreKept clients 0
 kept_none clients none = record {
-  few = subst (λ (l : List (ℕ × History)). length l ≤ clients_most) (sym none) (omega arith);
   given = λ n h found. absurd (nothing n h found);
   answered = λ n h found. absurd (nothing n h found);
 }
@@ -24,10 +23,9 @@ came_in : (b : Bool) (h c : History) (o : Option History) (P : History → Type 
 came_in true h c o P here there e = let same : h ≡ c = cc in subst P same (here refl)
 came_in false h c o P here there e = there c e
 
-pub kept_inserted : (old new : List (ℕ × History)) (n : ℕ) → AreKept old n → length old < clients_most → length new ≡ length old + 1
+pub kept_inserted : (old new : List (ℕ × History)) (n : ℕ) → AreKept old n
     → ((q : ℕ) → client_in new q ≡ cond (is_at (nat_cmp n) q) (Some new_history) (client_in old q)) → AreKept new (n + 1)
-kept_inserted old new n kept few more is = record {
-  few = omega arith;
+kept_inserted old new n kept is = record {
   given = λ q h found. came_in (is_at (nat_cmp n) q) new_history h (client_in old q) (λ _. q < n + 1) (λ at. grind (arith, nat_tests)) (λ x was. let below : q < n = kept.given q x was in omega arith) (sym (is q) ∙ found);
   answered = λ q h found. came_in (is_at (nat_cmp n) q) new_history h (client_in old q) (λ (c : History). length c.answers ≡ length c.taken) (λ _. refl) (kept.answered q) (sym (is q) ∙ found);
 }
@@ -36,10 +34,9 @@ went : (b : Bool) (o : Option History) (c : History) → cond b None o ≡ Some 
 went true o c e = absurd (let no : ◌≡◌ {A = Option History} None (Some c) = e in cc)
 went false o c e = e
 
-pub kept_removed : (old new : List (ℕ × History)) (n admitted : ℕ) → AreKept old admitted → length new ≤ length old
+pub kept_removed : (old new : List (ℕ × History)) (n admitted : ℕ) → AreKept old admitted
     → ((q : ℕ) → client_in new q ≡ cond (is_at (nat_cmp n) q) None (client_in old q)) → AreKept new admitted
-kept_removed old new n admitted kept fewer is = record {
-  few = let few : length old ≤ clients_most = kept.few in omega arith;
+kept_removed old new n admitted kept is = record {
   given = λ q h found. kept.given q h (went (is_at (nat_cmp n) q) (client_in old q) h (sym (is q) ∙ found));
   answered = λ q h found. kept.answered q h (went (is_at (nat_cmp n) q) (client_in old q) h (sym (is q) ∙ found));
 }

@@ -3,4 +3,6 @@ pub mod Frames
 pub mod Holding
 pub mod Own
 pub mod TakingAll
-pub mod Queueing
+pub mod ToldLemmas
+pub mod Serving
+pub mod RoundLemmas

@@ -62,11 +62,10 @@ pub record AdmitsOne (old new : HostValue) (n : ℕ) : Type 0 where
   pub clients : (q : ℕ) → client_of new q ≡ (if q == n then Some new_history else client_of old q)
 
 abbrev pub Admits : HostValue → Option ℕ → HostValue → Type 0
-Admits old None new = (new ≡ old) × ((length old.clients ≡ clients_most) ⊎ (old.admitted ≡ admitted_most))
+Admits old None new = (new ≡ old) × ((clients_most ≤ length old.clients) ⊎ (old.admitted ≡ admitted_most))
 Admits old (Some n) new = AdmitsOne old new n
 
--- There are few clients, whose numbers were given, and each frame that was taken of one was answered
+-- The clients' numbers were given, and each frame that was taken of one was answered
 pub record AreKept (clients : List (ℕ × History)) (admitted : ℕ) : Type 0 where
-  pub few : length clients ≤ clients_most
   pub given : (n : ℕ) (h : History) → client_in clients n ≡ Some h → n < admitted
   pub answered : (n : ℕ) (h : History) → client_in clients n ≡ Some h → length h.answers ≡ length h.taken

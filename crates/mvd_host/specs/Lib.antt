@@ -3,3 +3,4 @@ pub mod Inside
 pub mod Course
 pub mod Taking
 pub mod Queueing
+pub mod Round

@@ -4,6 +4,7 @@
 
 mod host;
 mod queueing;
+mod round;
 mod taking;
 
 pub use host::{CLIENTS_MAX, Host};

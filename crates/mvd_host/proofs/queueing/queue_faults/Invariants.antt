@@ -1,6 +1,6 @@
 use Rattle.std.proofs.Common.{length, zip}
 use Rattle.mvd_host.specs.Queueing.{refused_all, refused_faults}
-use Rattle.mvd_host.proofs.Queueing.{Queueing}
+use Rattle.mvd_host.proofs.ToldLemmas.{Queueing}
 use Rattle.mvd_host.proofs.queueing.queue_faults.Given as goal
 
 abbrev pub invariant-queueing : goal.invariant-queueing

@@ -13,12 +13,8 @@ invariant_of-self c = subst (λ (l : List (ℕ × History)). AreKept l c.self.in
 pub invariant_of-self-2 : goal.invariant_of-self-2
 invariant_of-self-2 c =
     let old = c.self.inside.clients.entries in
-    let new = c.insert.new.self.entries in
     let n = c.self.inside.admitted in
-    let none : c.in_ok-insert.field-0 ≡ None = c.in_ok-insert.ensures.old ∙ none_at old n c.self.invariant in
-    let more : length new ≡ length old + 1 = c.in_ok-insert.ensures.len ∙ ap (λ (o : Option History). length old + (if is_some o then 0 else 1)) none in
-    let few : length old < 256 = let len = c.len.ensures.len in let room = c.if-len-ge-CLIENTS_MAX.false in grind (arith, nat_tests) in
-    kept_inserted old new n c.self.invariant few more
+    kept_inserted old c.insert.new.self.entries n c.self.invariant
     (λ q. c.in_ok-insert.ensures.updates.0 q ∙ ap (λ (h : History). cond (is_at (nat_cmp n) q) (Some h) (client_in old q)) c.in_ok-connection.ensures.new)
 
 pub returns-clause-ok : goal.returns-clause-ok

@@ -26,7 +26,7 @@ queued_on (x ∷ xs) ys (b ∷ bs) cs one other = (one.0, queued_on xs ys bs cs 
 pub queues_none : (clients : List (ℕ × History)) → Queues [] clients clients
 queues_none clients n = both_self (client_in clients n) (QueuesOn []) (λ x. record { queued = []; answers = sym (append-nil x.answers); told = tt; taken = refl; moved = none_moved x })
 
-on : (xs ys : List Reply) (x y z : History) → QueuesOn xs x y → QueuesOn ys y z → QueuesOn (xs ++ ys) x z
+pub on : (xs ys : List Reply) (x y z : History) → QueuesOn xs x y → QueuesOn ys y z → QueuesOn (xs ++ ys) x z
 on xs ys x y z p q = record {
   queued = p.queued ++ q.queued;
   answers = q.answers ∙ ap (λ l. l ++ q.queued) p.answers ∙ append_assoc x.answers p.queued q.queued;
@@ -47,7 +47,7 @@ IfClient_so (Some h) P Q so p = so h p
 pub due_first : (n : ℕ) (r : Reply) (rest : List (ℕ × Reply)) (clients : List (ℕ × History)) → AreDue ((n, r) ∷ rest) clients → IfClient (client_in clients n) (λ h. length h.answers < length h.taken)
 due_first n r rest clients due =
     IfClient_so (client_in clients n) (λ h. length h.answers + length (own n ((n, r) ∷ rest)) ≤ length h.taken) (λ h. length h.answers < length h.taken)
-    (λ h few. let is : length (own n ((n, r) ∷ rest)) ≡ length (own n rest) + 1 = ap (λ b. length (cond b (r ∷ own n rest) (own n rest))) (same_number n) in omega (arith, few, is)) (due n)
+    (λ h few. let is : length (own n ((n, r) ∷ rest)) ≡ length (r ∷ own n rest) = ap (λ b. length (cond b (r ∷ own n rest) (own n rest))) (same_number n) in omega (arith, few, is)) (due n)
 
 -- what is left due, once replies were queued
 left : (xs ys : List Reply) (a b : Option History) → Both a b (QueuesOn xs) → IfClient a (λ h. length h.answers + length (xs ++ ys) ≤ length h.taken) → IfClient b (λ h. length h.answers + length ys ≤ length h.taken)

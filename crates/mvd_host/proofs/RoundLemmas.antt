@@ -157,7 +157,7 @@ module _ (old mid between new : List (ℕ × History)) (taken : Taken) (all : Ta
   due_on (Some x) None rs fs xs took even is = absurd took
   due_on (Some x) (Some y) rs fs xs took even is =
       let answers : length y.answers ≡ length x.answers = ap length took.answers in
-      let frames : length took.frames ≡ length rs = sym (length-map asked_by took.frames) ∙ ap length took.asked ∙ length-map (λ (r : Request). Ok r) rs in
+      let frames : length took.frames ≡ length rs = sym (length-map took.frames asked_by) ∙ ap length took.asked ∙ length-map rs (λ (r : Request). Ok r) in
       let more : length y.taken ≡ length x.taken + (length took.frames + length fs) = ap length took.taken ∙ length-append x.taken (took.frames ++ fs) ∙ ap (λ k. length x.taken + k) (length-append took.frames fs) in
       omega (arith, even, is, answers, frames, more)
 
@@ -169,12 +169,12 @@ module _ (old mid between new : List (ℕ × History)) (taken : Taken) (all : Ta
   due admitted kept n =
       let a : map (λ t. t.asked) (own n ts) ≡ map {B = Result Request Refusal} (λ r. Ok r) (own n all.requests) = sym (own_mapped n (λ (t : Turn). t.asked) ts) ∙ ap (own n) asked ∙ own_mapped n (λ (r : Request). Ok r) all.requests in
       let first : length (own n (tells ts)) ≡ length (own n all.requests) =
-            ap length (own_mapped n (λ (t : Turn). t.reply) ts) ∙ length-map (λ (t : Turn). t.reply) (own n ts) ∙ sym (length-map (λ (t : Turn). t.asked) (own n ts)) ∙ ap length a ∙ length-map (λ (r : Request). Ok r) (own n all.requests) in
+            ap length (own_mapped n (λ (t : Turn). t.reply) ts) ∙ length-map (own n ts) (λ (t : Turn). t.reply) ∙ sym (length-map (own n ts) (λ (t : Turn). t.asked)) ∙ ap length a ∙ length-map (own n all.requests) (λ (r : Request). Ok r) in
       let f : map (λ t. t.asked) (own n (fault_turns all.faulty taken.faults.items)) ≡ map asked_by (own n all.faulty) =
             sym (own_mapped n (λ (t : Turn). t.asked) (fault_turns all.faulty taken.faults.items)) ∙ ap (own n) (fault_asks all.faulty taken.faults.items all.holds.faults) ∙ own_mapped n asked_by all.faulty in
       let second : length (own n (refused_faults taken.faults.items)) ≡ length (own n all.faulty) =
             ap length (ap (own n) (sym (fault_tells all.faulty taken.faults.items all.holds.faults)) ∙ own_mapped n (λ (t : Turn). t.reply) (fault_turns all.faulty taken.faults.items))
-            ∙ length-map (λ (t : Turn). t.reply) (own n (fault_turns all.faulty taken.faults.items)) ∙ sym (length-map (λ (t : Turn). t.asked) (own n (fault_turns all.faulty taken.faults.items))) ∙ ap length f ∙ length-map asked_by (own n all.faulty) in
+            ∙ length-map (own n (fault_turns all.faulty taken.faults.items)) (λ (t : Turn). t.reply) ∙ sym (length-map (own n (fault_turns all.faulty taken.faults.items)) (λ (t : Turn). t.asked)) ∙ ap length f ∙ length-map (own n all.faulty) asked_by in
       due_on (client_in old n) (client_in mid n) (own n all.requests) (own n all.faulty) (own n (tells ts ++ refused_faults taken.faults.items)) (all.takes n) (even_in (client_in old n) (kept.answered n))
       (ap length (own-append n (tells ts) (refused_faults taken.faults.items)) ∙ length-append (own n (tells ts)) (own n (refused_faults taken.faults.items)) ∙ ap₂ (λ (x y : ℕ). x + y) first second)
 
@@ -200,7 +200,7 @@ kept_after old new admitted ts kept each = record {
       let even : length h.0.answers ≡ length h.0.taken = kept.answered n h.0 h.1 in
       let answers : length k.answers ≡ length h.0.answers + length c.queued = ap length c.answers ∙ length-append h.0.answers c.queued in
       let taken : length k.taken ≡ length h.0.taken + length c.frames = ap length c.taken ∙ length-append h.0.taken c.frames in
-      let told : length c.queued ≡ length (own n ts) = queued_length (map (λ t. t.reply) (own n ts)) c.queued c.told ∙ length-map (λ (t : Turn). t.reply) (own n ts) in
-      let asked : length c.frames ≡ length (own n ts) = sym (length-map asked_by c.frames) ∙ ap length c.asked ∙ length-map (λ (t : Turn). t.asked) (own n ts) in
+      let told : length c.queued ≡ length (own n ts) = queued_length (map (λ t. t.reply) (own n ts)) c.queued c.told ∙ length-map (own n ts) (λ (t : Turn). t.reply) in
+      let asked : length c.frames ≡ length (own n ts) = sym (length-map c.frames asked_by) ∙ ap length c.asked ∙ length-map (own n ts) (λ (t : Turn). t.asked) in
       omega (arith, even, answers, taken, told, asked);
 }

@@ -15,10 +15,13 @@ use Rattle.mvd_host.specs.Hosts.{AreKept, HostValue, IfClient, client_in}
 use Rattle.mvd_host.specs.Course.{AreQueued, Both, asked_by, own}
 use Rattle.mvd_host.specs.Taking.{AreFaults, Holds, TakesAll, TakesOn}
 use Rattle.mvd_host.specs.Queueing.{AreDue, Queues, QueuesOn, refused_all, refused_faults}
-use Rattle.mvd_host.specs.Round.{Course}
+use Rattle.mvd_site.specs.Sites.{SiteValue}
+use Rattle.mvd_replica.specs.Batch.{AnswersAll}
+use Rattle.sqlite.specs.State.{State}
+use Rattle.mvd_host.specs.Round.{Course, Serves, turns_of}
 use Rattle.mvd_host.specs.declared.taking.Taken.{Taken}
 use Rattle.mvd_host.proofs.Own.{both_on, own-append}
-use Rattle.mvd_host.proofs.Serving.{IsStill}
+use Rattle.mvd_host.proofs.Serving.{IsStill, serves_still, serves_turns}
 use Rattle.mvd_host.proofs.ToldLemmas.{due_later, on, queued_length}
 
 -- what of a client's own things is looked at
@@ -203,4 +206,36 @@ kept_after old new admitted ts kept each = record {
       let told : length c.queued ≡ length (own n ts) = queued_length (map (λ t. t.reply) (own n ts)) c.queued c.told ∙ length-map (own n ts) (λ (t : Turn). t.reply) in
       let asked : length c.frames ≡ length (own n ts) = sym (length-map c.frames asked_by) ∙ ap length c.asked ∙ length-map (own n ts) (λ (t : Turn). t.asked) in
       omega (arith, even, answers, taken, told, asked);
+}
+
+-- ---- the answers of one round
+
+-- the requests were answered, and the replies queued
+pub record Answered (requests : List (ℕ × Request)) (mid between : List (ℕ × History)) (old new : SiteValue) (before after : State) : Type 0 where
+  pub ts : List (ℕ × Turn)
+  pub asked : asks ts ≡ requested requests
+  pub queued : Queues (tells ts) mid between
+  pub serves : Serves (turns_of ts) old new before after
+
+pub ok_tells : (rs : List (ℕ × Request)) (ns : List ℕ) (ts : List Turn) (replies : List Reply) → ns ≡ map (λ (r : ℕ × Request). r.0) rs → map (λ (t : Turn). t.reply) ts ≡ replies → zip ns replies ≡ tells (zip (map (λ (r : ℕ × Request). r.0) rs) ts)
+ok_tells rs ns ts replies same told = ap₂ (λ (a : List ℕ) (b : List Reply). zip a b) same (sym told) ∙ sym (zip_tells (map (λ (r : ℕ × Request). r.0) rs) ts)
+
+pub answered_ok : (rs : List (ℕ × Request)) (requests : List Request) (ns : List ℕ) (replies : List Reply) (mid between : List (ℕ × History)) (old new : SiteValue) (before after : State)
+    → requests ≡ map (λ (r : ℕ × Request). r.1) rs → ns ≡ map (λ (r : ℕ × Request). r.0) rs → AnswersAll requests replies old new before after → Queues (zip ns replies) mid between → Answered rs mid between old new before after
+answered_ok rs requests ns replies mid between old new before after same numbers a queued =
+    let asked : map (λ t. t.asked) a.turns ≡ map {B = Result Request Refusal} (λ r. Ok r) (map (λ (r : ℕ × Request). r.1) rs) = a.asked ∙ ap (λ (l : List Request). map {B = Result Request Refusal} (λ r. Ok r) l) same in
+    record {
+      ts = zip (map (λ (r : ℕ × Request). r.0) rs) a.turns;
+      asked = zip_asks rs a.turns asked;
+      queued = subst (λ l. Queues l mid between) (ok_tells rs ns a.turns replies numbers a.told) queued;
+      serves = subst (λ l. Serves l old new before after) (sym (zip_turns rs a.turns asked)) (serves_turns a.turns old new before after a.takes);
+    }
+
+pub answered_err : (rs : List (ℕ × Request)) (ns : List ℕ) (refusal : Refusal) (mid between : List (ℕ × History)) (site : SiteValue) (s : State)
+    → ns ≡ map (λ (r : ℕ × Request). r.0) rs → refusal ≡ Memory → Queues (refused_all ns refusal) mid between → Answered rs mid between site site s s
+answered_err rs ns refusal mid between site s numbers memory queued = record {
+  ts = memory_turns rs refusal;
+  asked = memory_asks rs refusal;
+  queued = subst (λ l. Queues l mid between) (ap (λ (l : List ℕ). refused_all l refusal) numbers ∙ sym (memory_tells rs refusal)) queued;
+  serves = serves_still (turns_of (memory_turns rs refusal)) site s (memory_still rs refusal memory);
 }

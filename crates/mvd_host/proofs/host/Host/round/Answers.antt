@@ -3,7 +3,15 @@ use Rattle.mvd_conn.specs.History.{History}
 use Rattle.mvd_wire.specs.declared.request.Request.{Request}
 use Rattle.mvd_wire.specs.declared.reply.Reply.{Reply}
 use Rattle.mvd_host.specs.Queueing.{AreDue, refused_all, refused_faults}
-use Rattle.mvd_host.proofs.RoundLemmas.{due, due_front, memory_asks, memory_tells, memory_turns, ok_tells, tells, zip_asks, zip_fits}
+use Rattle.mvd_host.proofs.RoundLemmas.{Answered, answered_ok, due, due_front, memory_asks, memory_tells, memory_turns, ok_tells, tells, zip_asks, zip_fits}
+use Rattle.std.specs.List.{AllByRecursion}
+use Rattle.mvd_dots.specs.declared.refusals.Refusal.{Refusal}
+use Rattle.mvd_wire.specs.Replies.{CanBeSent}
+use Rattle.mvd_replica.specs.Batch.{AnswersAll}
+use Rattle.sqlite.specs.Held.{state}
+use Rattle.mvd_host.specs.declared.host.Host.TheInside.{Inside}
+use Rattle.mvd_host.proofs.ToldLemmas.{due_later}
+use Rattle.mvd_host.proofs.host.Host.round.Goals.{in-Ok, in-Err}
 use Rattle.mvd_host.proofs.host.Host.round.Goals as goal
 
 pub queue_replies-requires-clause-due : goal.queue_replies-requires-clause-due
@@ -31,10 +39,28 @@ queue_refused-requires g c =
     }
 
 pub queue_replies-requires-clause-fits : goal.queue_replies-requires-clause-fits
-queue_replies-requires-clause-fits g c = ?
+queue_replies-requires-clause-fits g c =
+    let a = c.in-Ok.ensures.answers in
+    subst (λ (b : List Reply). AllByRecursion (λ (r : ℕ × Reply). CanBeSent r.1) (zip c.deref-in-Ok.result.now b)) (a.told ∙ sym c.deref-in-Ok-2.ensures.value) (zip_fits c.deref-in-Ok.result.now a.turns a.takes.fits)
 
 pub queue_faults-requires : goal.queue_faults-requires
-queue_faults-requires g c = ?
+queue_faults-requires g c =
+    let all = c.take_all-refused.ensures.took in
+    let taken = c.take_all-refused.new.self in
+    let old = c.self.inside.clients.entries in
+    let mid = c.take_all-refused.new.clients.entries in
+    let between = c.match-answer_all.self-inside.clients.entries in
+    let a : Answered all.requests mid between c.args.replica.now.site c.answer_all.new.self.site (state g.S.Store c.args.replica.now.records.conn) (state g.S.Store c.answer_all.new.self.records.conn) =
+          elim c.match-answer_all.branch [
+            | in-Ok w ↦ subst (λ (s : Inside). Answered all.requests mid s.clients.entries c.args.replica.now.site c.answer_all.new.self.site (state g.S.Store c.args.replica.now.records.conn) (state g.S.Store c.answer_all.new.self.records.conn)) (sym w.self-inside-is)
+                (answered_ok all.requests c.deref.result.now w.deref-in-Ok.result.now w.deref-in-Ok-2.result.now mid w.queue_replies.new.clients.entries _ _ _ _ (c.deref.ensures.value ∙ all.holds.requests_are) (w.deref-in-Ok.ensures.value ∙ all.holds.clients)
+                (subst (λ (l : List Reply). AnswersAll c.deref.result.now l _ _ _ _) (sym w.deref-in-Ok-2.ensures.value) w.in-Ok.ensures.answers) w.queue_replies.ensures.queues)
+            | in-Err w ↦ ?
+          ] in
+    record {
+      due = subst (λ (l : List (ℕ × Refusal)). AreDue (refused_faults l) between) (sym c.deref-2.ensures.value)
+          (due_later (tells a.ts) (refused_faults taken.faults.items) mid between (due old mid between between taken all a.ts a.asked c.self.inside.admitted c.self.invariant) a.queued);
+    }
 
 pub invariant_of-self : goal.invariant_of-self
 invariant_of-self g c = ?

@@ -105,10 +105,10 @@ idle_step h Waits k e = inl (ap (λ (x : Bool × History). x.1) e)
 pub idle_after : (h k : History) → ◌≡◌ {A = Bool × History} (false, k) (after_next h) → IsIdle k
 idle_after h k e =
     let on : (k ≡ released h) ⊎ IsIdle k =
-          elim (is_held_up h) as (λ b. ◌≡◌ {A = Bool × History} (false, k) (cond b (false, released h) (stepped (released h) (next_of h))) → (k ≡ released h) ⊎ IsIdle k) [
-            | true ↦ λ is. inl (ap (λ (x : Bool × History). x.1) is)
-            | false ↦ λ is. idle_step h (next_of h) k is
-          ] e in
+    elim (is_held_up h) as (λ b. ◌≡◌ {A = Bool × History} (false, k) (cond b (false, released h) (stepped (released h) (next_of h))) → (k ≡ released h) ⊎ IsIdle k) [
+      | true ↦ λ is. inl (ap (λ (x : Bool × History). x.1) is)
+      | false ↦ λ is. idle_step h (next_of h) k is
+    ] e in
     elim on [
       | inl is ↦ let again : after_next (released h) ≡ (false, released h) = sym e ∙ ap (λ (x : History). (false, x)) is in subst IsIdle (sym is) again
       | inr idle ↦ idle

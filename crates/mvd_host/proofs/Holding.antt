@@ -51,7 +51,7 @@ takes_more client old mid new before between after one other = record {
   conn = takes_on old mid new one.took.requests other.requests other.faulty (subst (λ l. TakesOn one.took.requests l old mid) one.none one.took.conn) other.conn;
   holds = λ asked faults holds.
       let first : Holds (asked ++ map (λ r. (client, r)) one.took.requests) faults between =
-            subst (λ l. Holds (asked ++ map (λ r. (client, r)) one.took.requests) l between) (ap (λ l. faults ++ map (λ f. (client, f)) l) one.none ∙ append-nil faults) (one.took.holds asked faults holds) in
+      subst (λ l. Holds (asked ++ map (λ r. (client, r)) one.took.requests) l between) (ap (λ l. faults ++ map (λ f. (client, f)) l) one.none ∙ append-nil faults) (one.took.holds asked faults holds) in
       subst (λ l. Holds l (faults ++ map (λ f. (client, f)) other.faulty) after)
       (append_assoc asked (map (λ r. (client, r)) one.took.requests) (map (λ r. (client, r)) other.requests) ∙ ap (λ l. asked ++ l) (sym (map_both client one.took.requests other.requests)))
       (other.holds (asked ++ map (λ r. (client, r)) one.took.requests) faults first);

@@ -146,9 +146,9 @@ module _ (old mid between new : List (ℕ × History)) (taken : Taken) (all : Ta
       let told_first : own n (tells ts) ≡ map (λ t. t.reply) first = own_mapped n (λ (t : Turn). t.reply) ts in
       let told_second : own n (refused_faults taken.faults.items) ≡ map (λ t. t.reply) second = ap (own n) (sym (fault_tells all.faulty taken.faults.items all.holds.faults)) ∙ own_mapped n (λ (t : Turn). t.reply) (fault_turns all.faulty taken.faults.items) in
       let queued : Both (client_in mid n) (client_in new n) (QueuesOn (map (λ t. t.reply) first ++ map (λ t. t.reply) second)) =
-            both_on (client_in mid n) (client_in between n) (client_in new n) (QueuesOn (map (λ t. t.reply) first)) (QueuesOn (map (λ t. t.reply) second)) (QueuesOn (map (λ t. t.reply) first ++ map (λ t. t.reply) second))
-            (on (map (λ t. t.reply) first) (map (λ t. t.reply) second))
-            (subst (λ l. Both (client_in mid n) (client_in between n) (QueuesOn l)) told_first (one n)) (subst (λ l. Both (client_in between n) (client_in new n) (QueuesOn l)) told_second (other n)) in
+      both_on (client_in mid n) (client_in between n) (client_in new n) (QueuesOn (map (λ t. t.reply) first)) (QueuesOn (map (λ t. t.reply) second)) (QueuesOn (map (λ t. t.reply) first ++ map (λ t. t.reply) second))
+      (on (map (λ t. t.reply) first) (map (λ t. t.reply) second))
+      (subst (λ l. Both (client_in mid n) (client_in between n) (QueuesOn l)) told_first (one n)) (subst (λ l. Both (client_in between n) (client_in new n) (QueuesOn l)) told_second (other n)) in
       subst (λ l. Both (client_in old n) (client_in new n) (Course l)) (sym (own-append n ts (fault_turns all.faulty taken.faults.items)))
       (both_on (client_in old n) (client_in mid n) (client_in new n) (TakesOn (own n all.requests) (own n all.faulty)) (QueuesOn (map (λ t. t.reply) first ++ map (λ t. t.reply) second)) (Course (first ++ second))
       (λ h i k took told. course (own n all.requests) (own n all.faulty) first second h i k took a f told) (all.takes n) queued)
@@ -172,12 +172,12 @@ module _ (old mid between new : List (ℕ × History)) (taken : Taken) (all : Ta
   due admitted kept n =
       let a : map (λ t. t.asked) (own n ts) ≡ map {B = Result Request Refusal} (λ r. Ok r) (own n all.requests) = sym (own_mapped n (λ (t : Turn). t.asked) ts) ∙ ap (own n) asked ∙ own_mapped n (λ (r : Request). Ok r) all.requests in
       let first : length (own n (tells ts)) ≡ length (own n all.requests) =
-            ap length (own_mapped n (λ (t : Turn). t.reply) ts) ∙ length-map (own n ts) (λ (t : Turn). t.reply) ∙ sym (length-map (own n ts) (λ (t : Turn). t.asked)) ∙ ap length a ∙ length-map (own n all.requests) (λ (r : Request). Ok r) in
+      ap length (own_mapped n (λ (t : Turn). t.reply) ts) ∙ length-map (own n ts) (λ (t : Turn). t.reply) ∙ sym (length-map (own n ts) (λ (t : Turn). t.asked)) ∙ ap length a ∙ length-map (own n all.requests) (λ (r : Request). Ok r) in
       let f : map (λ t. t.asked) (own n (fault_turns all.faulty taken.faults.items)) ≡ map asked_by (own n all.faulty) =
-            sym (own_mapped n (λ (t : Turn). t.asked) (fault_turns all.faulty taken.faults.items)) ∙ ap (own n) (fault_asks all.faulty taken.faults.items all.holds.faults) ∙ own_mapped n asked_by all.faulty in
+      sym (own_mapped n (λ (t : Turn). t.asked) (fault_turns all.faulty taken.faults.items)) ∙ ap (own n) (fault_asks all.faulty taken.faults.items all.holds.faults) ∙ own_mapped n asked_by all.faulty in
       let second : length (own n (refused_faults taken.faults.items)) ≡ length (own n all.faulty) =
-            ap length (ap (own n) (sym (fault_tells all.faulty taken.faults.items all.holds.faults)) ∙ own_mapped n (λ (t : Turn). t.reply) (fault_turns all.faulty taken.faults.items))
-            ∙ length-map (own n (fault_turns all.faulty taken.faults.items)) (λ (t : Turn). t.reply) ∙ sym (length-map (own n (fault_turns all.faulty taken.faults.items)) (λ (t : Turn). t.asked)) ∙ ap length f ∙ length-map (own n all.faulty) asked_by in
+      ap length (ap (own n) (sym (fault_tells all.faulty taken.faults.items all.holds.faults)) ∙ own_mapped n (λ (t : Turn). t.reply) (fault_turns all.faulty taken.faults.items))
+      ∙ length-map (own n (fault_turns all.faulty taken.faults.items)) (λ (t : Turn). t.reply) ∙ sym (length-map (own n (fault_turns all.faulty taken.faults.items)) (λ (t : Turn). t.asked)) ∙ ap length f ∙ length-map (own n all.faulty) asked_by in
       due_on (client_in old n) (client_in mid n) (own n all.requests) (own n all.faulty) (own n (tells ts ++ refused_faults taken.faults.items)) (all.takes n) (even_in (client_in old n) (kept.answered n))
       (ap length (own-append n (tells ts) (refused_faults taken.faults.items)) ∙ length-append (own n (tells ts)) (own n (refused_faults taken.faults.items)) ∙ ap₂ (λ (x y : ℕ). x + y) first second)
 

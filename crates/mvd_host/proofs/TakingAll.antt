@@ -41,13 +41,13 @@ module _ (client : ℕ) (old mid new : List (ℕ × History)) (before after : Ta
       let rs : own client (all.requests ++ more_requests) ≡ own client all.requests ++ one.requests = own-append client all.requests more_requests ∙ ap (λ l. own client all.requests ++ l) (own-same client one.requests) in
       let fs : own client (all.faulty ++ more_faulty) ≡ own client all.faulty ++ one.faulty = own-append client all.faulty more_faulty ∙ ap (λ l. own client all.faulty ++ l) (own-same client one.faulty) in
       let on : TakesOn (own client all.requests ++ one.requests) (own client all.faulty ++ one.faulty) x z =
-            elim (one.first all.requests all.faulty all.holds) [
-              | inl none ↦ subst (λ l. TakesOn (own client all.requests ++ one.requests) (l ++ one.faulty) x z) (sym none)
-                  (takes_on x y z (own client all.requests) one.requests one.faulty (subst (λ l. TakesOn (own client all.requests) l x y) none p) q)
-              | inr nothing ↦ subst₂ (λ a b. TakesOn (own client all.requests ++ a) (own client all.faulty ++ b) x z) (sym nothing.0) (sym nothing.1)
-                  (subst₂ (λ a b. TakesOn a b x z) (sym (append-nil (own client all.requests))) (sym (append-nil (own client all.faulty)))
-                  (then_none x y z (own client all.requests) (own client all.faulty) p (subst₂ (λ a b. TakesOn a b y z) nothing.0 nothing.1 q)))
-            ] in
+      elim (one.first all.requests all.faulty all.holds) [
+        | inl none ↦ subst (λ l. TakesOn (own client all.requests ++ one.requests) (l ++ one.faulty) x z) (sym none)
+            (takes_on x y z (own client all.requests) one.requests one.faulty (subst (λ l. TakesOn (own client all.requests) l x y) none p) q)
+        | inr nothing ↦ subst₂ (λ a b. TakesOn (own client all.requests ++ a) (own client all.faulty ++ b) x z) (sym nothing.0) (sym nothing.1)
+            (subst₂ (λ a b. TakesOn a b x z) (sym (append-nil (own client all.requests))) (sym (append-nil (own client all.faulty)))
+            (then_none x y z (own client all.requests) (own client all.faulty) p (subst₂ (λ a b. TakesOn a b y z) nothing.0 nothing.1 q)))
+      ] in
       subst₂ (λ a b. TakesOn a b x z) (sym rs) (sym fs) on
 
   elsewhere : (n : ℕ) → (n == client) ≡ false → Both (client_in old n) (client_in new n) (TakesOn (own n (all.requests ++ more_requests)) (own n (all.faulty ++ more_faulty)))

@@ -3,7 +3,7 @@ use Rattle.mvd_conn.specs.History.{History}
 use Rattle.mvd_wire.specs.declared.request.Request.{Request}
 use Rattle.mvd_wire.specs.declared.reply.Reply.{Reply}
 use Rattle.mvd_host.specs.Queueing.{AreDue, refused_all, refused_faults}
-use Rattle.mvd_host.proofs.RoundLemmas.{Answered, answered_ok, due, due_front, memory_asks, memory_tells, memory_turns, ok_tells, tells, zip_asks, zip_fits}
+use Rattle.mvd_host.proofs.RoundLemmas.{Answered, answered_err, answered_ok, due, due_front, memory_asks, memory_tells, memory_turns, ok_tells, tells, zip_asks, zip_fits}
 use Rattle.std.specs.List.{AllByRecursion}
 use Rattle.mvd_dots.specs.declared.refusals.Refusal.{Refusal}
 use Rattle.mvd_wire.specs.Replies.{CanBeSent}
@@ -51,12 +51,14 @@ queue_faults-requires g c =
     let mid = c.take_all-refused.new.clients.entries in
     let between = c.match-answer_all.self-inside.clients.entries in
     let a : Answered all.requests mid between c.args.replica.now.site c.answer_all.new.self.site (state g.S.Store c.args.replica.now.records.conn) (state g.S.Store c.answer_all.new.self.records.conn) =
-          elim c.match-answer_all.branch [
-            | in-Ok w ↦ subst (λ (s : Inside). Answered all.requests mid s.clients.entries c.args.replica.now.site c.answer_all.new.self.site (state g.S.Store c.args.replica.now.records.conn) (state g.S.Store c.answer_all.new.self.records.conn)) (sym w.self-inside-is)
-                (answered_ok all.requests c.deref.result.now w.deref-in-Ok.result.now w.deref-in-Ok-2.result.now mid w.queue_replies.new.clients.entries _ _ _ _ (c.deref.ensures.value ∙ all.holds.requests_are) (w.deref-in-Ok.ensures.value ∙ all.holds.clients)
-                (subst (λ (l : List Reply). AnswersAll c.deref.result.now l _ _ _ _) (sym w.deref-in-Ok-2.ensures.value) w.in-Ok.ensures.answers) w.queue_replies.ensures.queues)
-            | in-Err w ↦ ?
-          ] in
+    elim c.match-answer_all.branch [
+      | in-Ok w ↦ subst (λ (s : Inside). Answered all.requests mid s.clients.entries c.args.replica.now.site c.answer_all.new.self.site (state g.S.Store c.args.replica.now.records.conn) (state g.S.Store c.answer_all.new.self.records.conn)) (sym w.self-inside-is)
+          (answered_ok all.requests c.deref.result.now w.deref-in-Ok.result.now w.deref-in-Ok-2.result.now mid w.queue_replies.new.clients.entries _ _ _ _ (c.deref.ensures.value ∙ all.holds.requests_are) (w.deref-in-Ok.ensures.value ∙ all.holds.clients)
+          (subst (λ (l : List Reply). AnswersAll c.deref.result.now l _ _ _ _) (sym w.deref-in-Ok-2.ensures.value) w.in-Ok.ensures.answers) w.queue_replies.ensures.queues)
+      | in-Err w ↦ subst (λ (s : Inside). Answered all.requests mid s.clients.entries c.args.replica.now.site c.answer_all.new.self.site (state g.S.Store c.args.replica.now.records.conn) (state g.S.Store c.answer_all.new.self.records.conn)) (sym w.self-inside-is)
+          (subst (λ r. Answered all.requests mid w.queue_refused.new.clients.entries c.args.replica.now.site r.site (state g.S.Store c.args.replica.now.records.conn) (state g.S.Store r.records.conn)) (sym w.in-Err.ensures.memory.1)
+          (answered_err all.requests w.deref-in-Err.result.now w.in-Err.refusal mid w.queue_refused.new.clients.entries c.args.replica.now.site (state g.S.Store c.args.replica.now.records.conn) (w.deref-in-Err.ensures.value ∙ all.holds.clients) w.in-Err.ensures.memory.0 w.queue_refused.ensures.queues))
+    ] in
     record {
       due = subst (λ (l : List (ℕ × Refusal)). AreDue (refused_faults l) between) (sym c.deref-2.ensures.value)
           (due_later (tells a.ts) (refused_faults taken.faults.items) mid between (due old mid between between taken all a.ts a.asked c.self.inside.admitted c.self.invariant) a.queued);

@@ -3,6 +3,7 @@
 
 use mvd_app::{Stop, run};
 use mvd_input::{Fault, OrderFault, order_of};
+use sqlite::Unknown;
 use std::process::ExitCode;
 use std::{env, io};
 
@@ -10,7 +11,8 @@ fn main(rt: HostRuntime) -> io::Result<ExitCode> {
     let words = words(&rt)?;
     let texts = texts(&rt, &words)?;
     match order_of(rt.alloc(), &texts) {
-        Ok(order) => match run(&rt, order) {
+        // A torn write is taken to leave each byte old or new.
+        Ok(order) => match run(&rt, order, Unknown) {
             Ok(()) => Ok(ExitCode::SUCCESS),
             Err(stop) => tell_stop(&rt, &stop),
         },

@@ -4,14 +4,14 @@ ghost use Rattle.mvd_input.specs.Orders.{IsInRange, IsSetUp};
 use crate::hint::{Hint, Stop};
 use crate::looping::loop_run;
 use crate::script::sim;
-use crate::serving::{replica_in, serve_run, sync_run};
+use crate::serving::{refused_in, serve_run, sync_run};
 use crate::shell::{remote_shell_run, shell_run};
 use mvd_dots::Refusal;
 use mvd_input::{DEFS_MAX, Fault, Order, Setup, read_defs, read_input};
-use mvd_replica::Replica;
+use mvd_replica::{FileFault, Replica, open_file};
 use mvd_rows::Defs;
 use mvd_site::Config;
-use sqlite::{Alter, Connection};
+use sqlite::{Alter, Start};
 use std::fs;
 use std::io::{self, BufReader};
 use std::net::SocketAddr;
@@ -24,8 +24,8 @@ enum Work {
     Sync(SocketAddr, bool),
 }
 
-/// Runs an order, from standard input where it reads, and to standard output.
-pub fn run<'a>(rt: &HostRuntime, order: Order<'a>) -> Result<(), Stop<'a>>
+/// Runs an order, from standard input where it reads, and to standard output. A file that it opens holds what `start` names.
+pub fn run<'a, S: Start>(rt: &HostRuntime, order: Order<'a>, start: S) -> Result<(), Stop<'a>>
     requires { IsInRange order }
 {
     match order {
@@ -36,15 +36,15 @@ pub fn run<'a>(rt: &HostRuntime, order: Order<'a>) -> Result<(), Stop<'a>>
             setup,
             address,
             conns,
-        } => run_stored(rt, db, setup, Work::Serve(address, conns)),
-        Order::Shell { db, setup } => run_stored(rt, db, setup, Work::Shell),
+        } => run_stored(rt, db, setup, Work::Serve(address, conns), start),
+        Order::Shell { db, setup } => run_stored(rt, db, setup, Work::Shell, start),
         Order::RemoteShell(address) => run_remote_shell(rt, address),
         Order::Sync {
             db,
             setup,
             address,
             verbose,
-        } => run_stored(rt, db, setup, Work::Sync(address, verbose)),
+        } => run_stored(rt, db, setup, Work::Sync(address, verbose), start),
     }
 }
 
@@ -69,40 +69,30 @@ fn run_loop<'a>(rt: &HostRuntime, setup: Setup<'a>) -> Result<(), Stop<'a>>
     }
 }
 
-/// Opens the database of a file, which is made where it is missing, works on its replica, and closes it: what its log holds is
-/// copied into the file.
-fn run_stored<'a>(
+/// Opens the site that a file holds, which is made where it is missing, works on it, and closes it: what the log holds is copied
+/// into the file. It is proved for whatever stands in the file; `start` names that, and no code reads it.
+fn run_stored<'a, S: Start>(
     rt: &HostRuntime,
     db: &'a str,
     setup: Setup<'a>,
     work: Work,
+    start: S,
 ) -> Result<(), Stop<'a>>
     requires { IsSetUp setup }
 {
     let config = config_in(rt, setup)?;
-    let conn = match Connection::open(rt, db) {
-        Ok(conn) => conn,
-        Err(error) => return Err(Stop::in_file(db, error)),
+    let mut replica = match open_file(rt, db, start, config) {
+        Ok(replica) => replica,
+        Err(FileFault::File(error, _)) => return Err(Stop::in_file(db, error)),
+        Err(FileFault::Records(refusal, conn)) => return Err(refused_in(db, refusal, conn)),
     };
-    let conn = worked(rt, conn, config, db, work)?;
-    match conn.close() {
-        Ok(()) => Ok(()),
-        Err(error) => Err(Stop::in_file(db, error)),
-    }
-}
-
-/// Works on the replica of a database, and gives the database back where all ended well.
-fn worked<'a, S: Alter + Drop>(
-    rt: &HostRuntime,
-    conn: Connection<S>,
-    config: Config,
-    db: &'a str,
-    work: Work,
-) -> Result<Connection<S>, Stop<'a>> {
-    let mut replica = replica_in(rt.alloc(), conn, config, db)?;
-    match work_on(rt, &mut replica, work) {
-        Ok(()) => Ok(replica.into_connection()),
-        Err(stop) => Err(stop),
+    work_on(rt, &mut replica, work)?;
+    match replica.close() {
+        Ok(_) => Ok(()),
+        Err((error, conn)) => {
+            drop(conn);
+            Err(Stop::in_file(db, error))
+        }
     }
 }
 

@@ -27,8 +27,17 @@ pub fn replica_in<'a, S: Alter + Drop>(
 ) -> Result<Replica<S>, Stop<'a>> {
     match Replica::open(alloc, conn, config) {
         Ok(replica) => Ok(replica),
-        Err((refusal, mut conn)) => Err(Stop::in_records(file, refusal, owner_in(&mut conn))),
+        Err((refusal, conn)) => Err(refused_in(file, refusal, conn)),
     }
+}
+
+/// Why the records of a file are refused, with the site that they name.
+pub fn refused_in<'a, S: Alter + Drop>(
+    file: &'a str,
+    refusal: Refusal,
+    mut conn: Connection<S>,
+) -> Stop<'a> {
+    Stop::in_records(file, refusal, owner_in(&mut conn))
 }
 
 /// The site that the marks of a database name, where they can be read.

@@ -38,7 +38,7 @@ impl Random {
 
 /// A payload that is made piece by piece.
 #[derive(Drop)]
-struct Maker {
+pub struct Maker {
     random: Random,
     bytes: Vec<u8>,
 }
@@ -91,6 +91,24 @@ const KINDS: &[(u8, &[Piece])] = &[
 ];
 
 impl Maker {
+    pub fn new(alloc: Global) -> Maker {
+        Maker {
+            random: Random {
+                state: 0x9E37_79B9_7F4A_7C15,
+            },
+            bytes: Vec::new(alloc),
+        }
+    }
+
+    /// The bytes of so many frames.
+    pub fn frames(&mut self, alloc: Global) -> Vec<u8> {
+        let mut input = Vec::new(alloc);
+        for _ in 0..FRAMES {
+            self.frame(&mut input);
+        }
+        input
+    }
+
     fn push(&mut self, bytes: &[u8]) {
         push(&mut self.bytes, bytes);
     }
@@ -273,7 +291,7 @@ impl Maker {
     }
 }
 
-const FRAMES: u32 = 40;
+pub const FRAMES: u32 = 40;
 
 const CONNECTIONS: u32 = 250;
 
@@ -283,10 +301,7 @@ fn round(
     replica: &mut Replica<MemStore>,
     maker: &mut Maker,
 ) -> Result<usize, Refusal> {
-    let mut input = Vec::new(alloc);
-    for _ in 0..FRAMES {
-        maker.frame(&mut input);
-    }
+    let input = maker.frames(alloc);
     let answered = answers(alloc, replica, input.as_slice());
     drop(input);
     let (replies, ended) = answered?;
@@ -299,12 +314,7 @@ fn round(
 
 /// How many are answered on all connections.
 fn rounds(alloc: Global, replica: &mut Replica<MemStore>) -> Result<usize, Fail> {
-    let mut maker = Maker {
-        random: Random {
-            state: 0x9E37_79B9_7F4A_7C15,
-        },
-        bytes: Vec::new(alloc),
-    };
+    let mut maker = Maker::new(alloc);
     let mut answered = 0usize;
     for connection in 0..CONNECTIONS {
         match round(alloc, replica, &mut maker) {

@@ -1,9 +1,11 @@
 //! Files that stop before some call, and are opened again.
 use super::calls::{Bytes, Root, conn_of, new_replica, opened, or_refusal, root_of, run, serves};
 use super::damaged::{OLD, ONE};
+use super::memory::request_of;
 use mvd_dots::Refusal;
 use mvd_replica::Replica;
 use mvd_sync::sync_within;
+use mvd_wire::Reply;
 use sqlite::{Alter, Connection, FileStore, Files, MemStore, Options};
 use sqlite_disk::{Crash, Disk, Fuse, Memory};
 use std::alloc::Global;
@@ -77,6 +79,8 @@ fn revived(mut files: Files<Stopping>) -> Files<Stopping> {
 enum Run {
     /// Six puts are served.
     Puts,
+    /// They are answered at once, in three commits of two.
+    Batch,
     /// Three keys of version 1 are moved, which is done when the files are opened.
     Move,
     /// A session, as its local side, and as the peer.
@@ -117,6 +121,25 @@ fn put_all<S: Alter + Drop>(alloc: Global, replica: &mut Replica<S>, puts: &[&st
     written
 }
 
+/// Answers puts at once, and tells how many were answered by a dot.
+fn put_at_once<S: Alter + Drop>(
+    alloc: Global,
+    replica: &mut Replica<S>,
+    puts: &[&str],
+) -> Result<usize, Refusal> {
+    let mut requests = Vec::new(alloc);
+    for put in puts {
+        requests.push(request_of(alloc, put)?)?;
+    }
+    let mut written = 0usize;
+    for reply in &replica.answer_all(requests.as_slice())? {
+        if let Reply::Written(_) = reply {
+            written = written.saturating_add(1);
+        }
+    }
+    Ok(written)
+}
+
 /// Whether a session with so many questions to each side at most ends well.
 fn meets<S: Alter + Drop, T: Alter + Drop>(
     alloc: Global,
@@ -137,15 +160,21 @@ fn does<S: Alter + Drop>(
 ) -> usize {
     match run {
         Run::Puts => put_all(alloc, replica, &PUTS[..most.min(6)]),
+        Run::Batch => put_at_once(alloc, replica, &PUTS[..most.min(6)]).unwrap_or(0),
         Run::Move => 1,
         Run::Local => usize::from(meets(alloc, replica, other, most)),
         Run::Peer => usize::from(meets(alloc, other, replica, most)),
     }
 }
 
+/// Whether a run is of puts.
+fn puts(run: Run) -> bool {
+    run == Run::Puts || run == Run::Batch
+}
+
 /// How much is done when all of a run is.
 fn whole(run: Run) -> usize {
-    if run == Run::Puts { 6 } else { 1 }
+    if puts(run) { 6 } else { 1 }
 }
 
 pub const OLD_ROWS: &str = "INSERT INTO states VALUES
@@ -174,7 +203,7 @@ fn with_mine(alloc: Global) -> Result<Files<Memory>, Refusal> {
 /// The files before a run.
 fn files_before(alloc: Global, run: Run) -> Result<Files<Memory>, Refusal> {
     match run {
-        Run::Puts => Ok(no_files(alloc)),
+        Run::Puts | Run::Batch => Ok(no_files(alloc)),
         Run::Move => three_old(alloc),
         Run::Local | Run::Peer => with_mine(alloc),
     }
@@ -207,7 +236,7 @@ fn found_in(
 ) -> Result<(Root, Root), Refusal> {
     let mut replica = or_refusal(in_files(alloc, revived(files)))?;
     let kept = root_of(alloc, &mut replica);
-    if run != Run::Puts {
+    if !puts(run) {
         does(alloc, run, 1_000, &mut replica, other);
     }
     let end = root_of(alloc, &mut replica);
@@ -268,7 +297,7 @@ fn roots(alloc: Global, run: Run) -> Result<Vec<Root>, Refusal> {
     Ok(roots)
 }
 
-/// Whether what a run left is what it may: the states after the puts that were answered, or with the next one; those that the session
+/// Whether what a run left is what it may: the states after the puts that were answered, or with those of the next commit; those that the session
 /// has on its way, or at its end where it ended well; and after one more session those at the end, on both sides.
 fn may_leave(run: Run, roots: &[Root], left: &Left) -> bool {
     let Some(last) = roots.last() else {
@@ -276,6 +305,8 @@ fn may_leave(run: Run, roots: &[Root], left: &Left) -> bool {
     };
     let (from, count) = if run == Run::Puts {
         (left.done, 2)
+    } else if run == Run::Batch {
+        (left.done, 3)
     } else if left.done == 0 {
         (0, roots.len())
     } else {
@@ -285,9 +316,10 @@ fn may_leave(run: Run, roots: &[Root], left: &Left) -> bool {
         .iter()
         .skip(from)
         .take(count)
+        .step_by(if run == Run::Batch { 2 } else { 1 })
         .any(|root| *root == left.kept);
     match run {
-        Run::Puts => is_known,
+        Run::Puts | Run::Batch => is_known,
         Run::Move => is_known && left.end == *last,
         Run::Local | Run::Peer => is_known && left.end == *last && left.other == *last,
     }
@@ -308,8 +340,9 @@ fn until_done(alloc: Global, run: Run, of_log: bool) -> Result<u64, Fail> {
     Err("no run ended")?
 }
 
-const RUNS: [(&str, Run); 4] = [
+const RUNS: [(&str, Run); 5] = [
     ("six puts", Run::Puts),
+    ("six puts at once", Run::Batch),
     ("three old keys", Run::Move),
     ("a session's local side", Run::Local),
     ("a session's peer", Run::Peer),

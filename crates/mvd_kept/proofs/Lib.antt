@@ -7,6 +7,7 @@ pub mod KnownKeys
 pub mod Listed
 pub mod Lengths
 pub mod OfTheSet
+pub mod OpenCosted
 pub mod Opened
 pub mod Outcomes
 pub mod Prepare

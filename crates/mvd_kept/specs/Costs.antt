@@ -1,6 +1,7 @@
 -- What a request costs a site at most: looks at held states, looks at kept rows and updates of them, and what is hashed.
-use Rattle.std.specs.Prelude.{◌≡◌, ℕ, ◌+◌, ◌*◌, length, Some, Result, Ok, Err}
-use Rattle.std.specs.FinMap.{insert}
+use Rattle.std.specs.Prelude.{◌≡◌, ℕ, ◌+◌, ◌*◌, List, length, Some, Result, Ok, Err}
+use Rattle.std.specs.List.{sum_by}
+use Rattle.std.specs.FinMap.{insert, len}
 use Rattle.mvd_count.specs.Counted.{RoseBy}
 use Rattle.mvd_dots.specs.declared.refusals.Refusal.{Refusal}
 use Rattle.mvd_dots.specs.declared.refusals.Refusal.TheVariants.{Memory}
@@ -9,14 +10,15 @@ use Rattle.mvd_keys.specs.Writes.{Key}
 use Rattle.mvd_rows.specs.Changes.{differing, looks_each, updates_each}
 use Rattle.mvd_rows.specs.Counted.{Within}
 use Rattle.mvd_digest.specs.Counted.{Hashes}
-use Rattle.mvd_tree.specs.Counted.{keys_beside}
+use Rattle.mvd_tree.specs.Counted.{key_bytes, keys_beside}
 use Rattle.mvd_wire.specs.declared.request.Request.{Request}
 use Rattle.mvd_wire.specs.declared.request.Request.TheVariants.{Get, Put, Delete, Find, Row, Rows, Node, Bucket, Push, Range, Bye}
 use Rattle.mvd_wire.specs.declared.reply.Reply.{Reply}
 use Rattle.mvd_wire.specs.declared.reply.Reply.TheVariants.{Places, Row as RowTold, Rows as RowsTold, Refused}
 use Rattle.mvd_kept.specs.Answer.{digests, spelled}
+use Rattle.mvd_kept.specs.Config.{ConfigValue}
 use Rattle.mvd_kept.specs.FromStates.{after_from, answer_from, change_from}
-use Rattle.mvd_kept.specs.Held.{state_at}
+use Rattle.mvd_kept.specs.Held.{key_digests, state_at}
 use Rattle.mvd_kept.specs.Sites.{SiteValue}
 use Rattle.mvd_kept.specs.declared.changes.Prepared.{Prepared}
 use Rattle.mvd_kept.specs.declared.changes.Prepared.TheVariants.{Answer}
@@ -91,3 +93,19 @@ AnswerCosts site (Row view term) reply = Costs 0 (page_looks reply) 0 0 0
 AnswerCosts site (Node path) reply = Costs 0 0 0 0 0
 AnswerCosts site (Bucket path after) reply = Costs 0 0 0 0 0
 AnswerCosts site Bye reply = Costs 0 0 0 0 0
+
+-- ---- opening
+
+-- how many siblings these states have, and how many bytes spell the keys with their states
+abbrev pub all_siblings : List (Key × State) → ℕ
+all_siblings states = sum_by (λ e. len e.1.siblings) states
+
+abbrev pub all_bytes : List (Key × State) → ℕ
+all_bytes states = sum_by (λ e. length (spelled e.0 e.1)) states
+
+-- What it takes to open a site with these states: of each sibling what each index and view cost; and two computations for each
+-- key, of the key with its state and of its place, and one for each of the 4,369 nodes
+abbrev pub OpenCosts : ConfigValue → List (Key × State) → Work → Work → Type 0
+OpenCosts config states =
+    Costs 0 (all_siblings states * looks_each config.defs) (all_siblings states * updates_each config.defs) (2 * length states + 4369)
+    (all_bytes states + key_bytes (key_digests states) + 32 * length states + 174720)

@@ -1,10 +1,13 @@
 //! The rows of the indexes and views, as a site is opened.
-ghost use Rattle.std.specs.Prelude.{◌≡◌, ◌≤◌, IfErr, IfOk, IsTrue, length};
+ghost use Rattle.std.specs.Prelude.{◌≡◌, ◌≤◌, ◌*◌, IfErr, IfOk, IsTrue, length};
 ghost use Rattle.std.specs.List.{AllByRecursion};
 ghost use Rattle.std.specs.FinMap.{from_entries, is_sorted};
 ghost use Rattle.mvd_dots.specs.declared.refusals.Refusal.TheVariants.{Memory};
 ghost use Rattle.mvd_keys.specs.Key.{key_cmp};
+ghost use Rattle.mvd_rows.specs.Changes.{looks_each, updates_each};
+ghost use Rattle.mvd_rows.specs.Counted.{Within};
 ghost use Rattle.mvd_rows.specs.Stands.{IsRowsOf};
+ghost use Rattle.mvd_kept.specs.Costs.{all_siblings};
 ghost use Rattle.mvd_kept.specs.Held.{IsHeldState};
 
 use mvd_dots::Refusal;
@@ -24,6 +27,7 @@ pub fn rows_of(
     requires few { length states.now ≤ 1000000 }
     ensures rows { IfOk result (λ rows. IsRowsOf rows defs.now (from_entries states.now)) }
     ensures only { IfErr result (λ refusal. refusal ≡ Memory) }
+    ensures counts { Within (all_siblings states.now * updates_each defs.now) (all_siblings states.now * looks_each defs.now) meter.old meter.new }
 {
     let empty = KeyState::empty(alloc);
     let mut rows = Rows::new(alloc, defs.copy()?)?;

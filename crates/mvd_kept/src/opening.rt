@@ -9,7 +9,9 @@ ghost use Rattle.mvd_keys.specs.Key.{key_cmp};
 ghost use Rattle.mvd_keys.specs.Writes.{Stands, Write};
 ghost use Rattle.mvd_tree.specs.States.{key_digest};
 ghost use Rattle.mvd_wire.specs.Codecs.{spell_state, state_limit};
+ghost use Rattle.mvd_digest.specs.Counted.{Hashes};
 ghost use Rattle.mvd_kept.specs.Answer.{spelled};
+ghost use Rattle.mvd_kept.specs.Costs.{Costs, OpenCosts, all_bytes};
 ghost use Rattle.mvd_kept.specs.Held.{AreHeld, IsHeldState, IsSpelled, key_digests};
 ghost use Rattle.mvd_kept.specs.Sites.{opened};
 
@@ -29,7 +31,8 @@ use std::alloc::Global;
 impl Kept {
     /// What a site with no key keeps.
     pub fn new(alloc: Global, config: Config, work: &mut Work) -> Result<Kept, Refusal>
-        ensures { IsAnswer result (Ok (record { config = config; states = map.empty; broken = false })) }
+        ensures made { IsAnswer result (Ok (record { config = config; states = map.empty; broken = false })) }
+        ensures costs { Costs 0 0 0 4369 174720 work.old work.new }
     {
         let tree = Tree::new(alloc, &mut work.hashed)?;
         let rows = Rows::new(alloc, config.defs().copy()?)?;
@@ -56,6 +59,7 @@ impl Kept {
         ensures opened { IsAnswer result (opened config states.items) }
         // There is a set of writes that it stands for.
         ensures stands { IfOk result (λ site. (known : List Write) × Stands site.states known) }
+        ensures costs { OpenCosts config states.items work.old work.new }
     {
         if states.len() > config.max_keys() as usize {
             return Err(Refusal::Full);
@@ -112,6 +116,7 @@ pub fn digests_of(
     ensures digests { IfOk result (λ digests. digests.items ≡ key_digests states.now) }
     ensures spelled { IfOk result (λ _. AllByRecursion (λ entry. IsSpelled entry.1) states.now) }
     ensures only { IfErr result (λ refusal. refusal ≡ Memory) }
+    ensures counts { Hashes (length states.now) (all_bytes states.now) hashed.old hashed.new }
 {
     let mut digests = Vec::new(alloc);
     for entry in states {
@@ -131,6 +136,7 @@ fn digest_of(
     ensures digest { IfOk result (λ digest. digest ≡ key_digest spelled key.now state.now) }
     ensures spelled { IfOk result (λ _. IsSpelled state.now) }
     ensures only { IfErr result (λ refusal. refusal ≡ Memory) }
+    ensures counts { Hashes 1 (length (spelled key.now state.now)) hashed.old hashed.new }
 {
     let (_, bytes) = spelled_key_state(alloc, key, state)?;
     Ok(key_digest(&bytes, hashed))

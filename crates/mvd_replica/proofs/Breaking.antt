@@ -48,12 +48,12 @@ pub else_both : (first second : List Turn) → AllByRecursion IsToldElse first �
 else_both [] second one other = other
 else_both (turn ∷ first) second one other = (one.0, else_both first second one.1 other)
 
-first_kept : (first second : List Turn) (request : Request) → IsFirstBroken first request → IsFirstBroken (first ++ second) request
+pub first_kept : (first second : List Turn) (request : Request) → IsFirstBroken first request → IsFirstBroken (first ++ second) request
 first_kept [] second request found = absurd found
 first_kept (turn ∷ first) second request (inl here) = inl here
 first_kept (turn ∷ first) second request (inr later) = inr (later.0, first_kept first second request later.1)
 
-first_later : (first second : List Turn) (request : Request) → AllByRecursion IsToldElse first → IsFirstBroken second request → IsFirstBroken (first ++ second) request
+pub first_later : (first second : List Turn) (request : Request) → AllByRecursion IsToldElse first → IsFirstBroken second request → IsFirstBroken (first ++ second) request
 first_later [] second request none found = found
 first_later (turn ∷ first) second request none found = inr (none.0, first_later first second request none.1 found)
 

@@ -8,3 +8,13 @@ pub mod Moving
 pub mod Sides
 pub mod Breaking
 pub mod Ordered
+pub mod Batching
+pub mod Batched
+pub mod Grouping
+pub mod Putting
+pub mod Recording
+pub mod Grouped
+pub mod OpenRefusals
+pub mod Follows
+pub mod Files
+pub mod Stops

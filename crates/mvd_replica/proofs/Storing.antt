@@ -53,7 +53,7 @@ holds_refused old new a b change refusal (inr broke) same saves records holds =
     subst (λ s. HoldsSite s b) (sym broke.1) (record { records = records; alone = subst HasNone (sym saved.old_same) holds.alone; spelled = λ whole. absurd (true≢false whole) })
 
 -- the states with one that has a spelling put in
-spelled_with : (states : States) (key : Key) (after : State) → AreSpelled states → IsSpelled after → AreSpelled (insert states key after)
+pub spelled_with : (states : States) (key : Key) (after : State) → AreSpelled states → IsSpelled after → AreSpelled (insert states key after)
 spelled_with states key after fits fit other s found =
     elim (eq_by_cmp key_cmp other key) as (λ b. cond b (Some after) (get states other) ≡ Some s → IsSpelled s) [
       | true ↦ λ is. subst IsSpelled (some_is after s is) fit

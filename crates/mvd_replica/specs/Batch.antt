@@ -1,8 +1,9 @@
 -- Many requests at once, whose changes share commits.
-use Rattle.std.specs.Prelude.{◌≡◌, ◌≢◌, ◌⊎◌, false, true, List, [], ◌∷◌, ◌++◌, map, Result, Ok, Err}
+use Rattle.std.specs.Prelude.{◌≡◌, ◌≢◌, ◌⊎◌, ⊤, ℕ, ◌<◌, ◌≤◌, false, true, List, [], ◌∷◌, ◌++◌, length, map, take, Result, Ok, Err}
 use Rattle.std.specs.List.{AllByRecursion}
 use Rattle.mvd_dots.specs.declared.refusals.Refusal.{Refusal}
 use Rattle.mvd_dots.specs.declared.refusals.Refusal.TheVariants.{Broken, Memory}
+use Rattle.mvd_keys.specs.Writes.{Write}
 use Rattle.mvd_wire.specs.declared.request.Request.{Request}
 use Rattle.mvd_wire.specs.declared.reply.Reply.{Reply}
 use Rattle.mvd_wire.specs.declared.reply.Reply.TheVariants.{Refused}
@@ -11,6 +12,7 @@ use Rattle.mvd_records.specs.Records.{IsSound}
 use Rattle.mvd_site.specs.Config.{ConfigValue}
 use Rattle.mvd_site.specs.FromStates.{after_from}
 use Rattle.mvd_site.specs.Held.{States}
+use Rattle.mvd_site.specs.Known.{Adds}
 use Rattle.mvd_site.specs.Sites.{SiteValue}
 use Rattle.mvd_sync.specs.Sides.{SiteFollows}
 use Rattle.mvd_replica.specs.Kept.{HoldsSite, HoldsStates}
@@ -21,10 +23,14 @@ use Rattle.sqlite.specs.State.{HasCleanDisk, State}
 
 -- ---- the site, turn by turn
 
--- What one request does to a site, from its states alone: a broken site refuses it and stays as it is
+-- What one request does to a site, from its states alone: a broken site refuses it and stays as it is. The reply can be sent, and
+-- there are writes that the request adds
 pub record AnswersOneFrom (old new : SiteValue) (request : Request) (reply : Reply) : Type 0 where
   pub whole : AnswersFromStored old new request reply
   pub broken : old.broken ≡ true → (reply ≡ Refused Broken) × (new ≡ old)
+  pub told : reply ≡ Refused Broken → new.broken ≡ true
+  pub fits : CanBeSent reply
+  pub choice : (added : List Write) × Adds request reply added
 
 -- and a frame, which is told its fault, or want of memory in its place, where it is no request
 abbrev pub TakesFrom : SiteValue → SiteValue → Result Request Refusal → Reply → Type 0
@@ -38,34 +44,31 @@ TakesAllFrom old new (turn ∷ turns) = (mid : SiteValue) × TakesFrom old mid t
 
 -- ---- the records
 
--- the states after what was asked, one after the other
-abbrev pub after_asked : ConfigValue → States → Result Request Refusal → States
-after_asked config states (Ok request) = after_from config states request
-after_asked config states (Err fault) = states
+-- the states after these requests, one after the other
+abbrev pub after_all : ConfigValue → States → List Request → States
+after_all config states [] = states
+after_all config states (request ∷ requests) = after_all config (after_from config states request) requests
 
-abbrev pub after_turns : ConfigValue → States → List Turn → States
-after_turns config states [] = states
-after_turns config states (turn ∷ turns) = after_turns config (after_asked config states turn.asked) turns
+-- some of the turns, in order, asked these requests, and each was told 22
+abbrev pub AreAmong : List Request → List Turn → Type 0
+AreAmong [] turns = ⊤
+AreAmong (request ∷ requests) [] = ⊥
+AreAmong (request ∷ requests) (turn ∷ turns) = (IsToldBroken request turn × AreAmong requests turns) ⊎ AreAmong (request ∷ requests) turns
 
--- the turn's request, if it is one, was told 22
-abbrev pub IsLost : Turn → Type 0
-IsLost turn = (request : Request) → turn.asked ≡ Ok request → turn.reply ≡ Refused Broken
-
--- What the database holds of a site that turns broke: the states that the site had, with all that a run of the turns asked put
--- in. The run begins with the first request of all that was told 22, which was to change the states, and each of the run was
--- told 22
+-- What the database holds of a site that turns broke: the states that the site had, with what the first request changes that was
+-- told 22, and with what some of the later ones change, those of the same commit
 pub record HoldsLost (turns : List Turn) (site : SiteValue) (db : Database) : Type 0 where
   pub before : List Turn
   pub broke : Turn
-  pub lost : List Turn
   pub later : List Turn
-  pub all : turns ≡ before ++ (broke ∷ lost) ++ later
+  pub all : turns ≡ before ++ broke ∷ later
   pub first : AllByRecursion IsToldElse before
   pub request : Request
   pub asked : IsToldBroken request broke
   pub changes : after_from site.config site.states request ≢ site.states
-  pub told : AllByRecursion IsLost lost
-  pub holds : HoldsStates site.config.site (after_turns site.config site.states (broke ∷ lost)) db
+  pub rest : List Request
+  pub among : AreAmong rest later
+  pub holds : HoldsStates site.config.site (after_all site.config site.states (request ∷ rest)) db
 
 -- What turns do to a replica. It keeps its configuration, and once broken all of its site. If the store is sound now it was, and
 -- if it held the site it does; once the site is broken the store stays as it is, and if that came by these turns it holds what the
@@ -81,12 +84,10 @@ pub record TurnsFollow (turns : List Turn) (old new : SiteValue) (before after :
 
 -- ---- both
 
--- Turns of a replica: each reply is one that may be given from the writes known then, and from the states that the turn before
--- left; each can be sent; and the records follow
+-- Turns of a replica: each reply is one that may be given from the writes known then, and can be sent; and the records follow
 pub record TakesTurns (turns : List Turn) (old new : SiteValue) (before after : State) : Type 0 where
   pub replies : Replies old new turns
   pub stands : StandsOn old new turns
-  pub states : TakesAllFrom old new turns
   pub config : new.config ≡ old.config
   pub choice : (events : List Event) × Tells events turns
   pub fits : AllByRecursion (λ turn. CanBeSent turn.reply) turns
@@ -95,9 +96,20 @@ pub record TakesTurns (turns : List Turn) (old new : SiteValue) (before after : 
   pub breaks : old.broken ≡ false → new.broken ≡ true → (request : Request) × IsFirstBroken turns request
   pub follows : TurnsFollow turns old new before after
 
--- Requests that are answered at once: one turn for each, in order, with its reply
+-- Requests that are answered at once: one turn for each, in order, with its reply, which is also given from the states that the
+-- turn before left
 pub record AnswersAll (requests : List Request) (replies : List Reply) (old new : SiteValue) (before after : State) : Type 0 where
   pub turns : List Turn
   pub asked : map (λ turn. turn.asked) turns ≡ map (λ request. Ok request) requests
   pub told : map (λ turn. turn.reply) turns ≡ replies
+  pub states : TakesAllFrom old new turns
   pub takes : TakesTurns turns old new before after
+
+-- some of the requests were answered, from the first on, and their replies stand behind those before
+pub record AnswersFront (requests : List Request) (told given : List Reply) (old new : SiteValue) (before after : State) : Type 0 where
+  pub count : ℕ
+  pub some : 0 < count
+  pub within : count ≤ length requests
+  pub replies : List Reply
+  pub appended : given ≡ told ++ replies
+  pub answers : AnswersAll (take count requests) replies old new before after

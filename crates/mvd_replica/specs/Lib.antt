@@ -1,7 +1,12 @@
 pub mod Kept
 pub mod Stored
+pub mod Opened
+pub mod File
+pub mod Refused
+pub mod Stops
 pub mod Turns
 pub mod Served
 pub mod Steps
 pub mod Sides
 pub mod Batch
+pub mod Groups

@@ -1,29 +1,69 @@
 //! Many requests at once, whose changes share commits.
-ghost use Rattle.std.specs.Prelude.{◌≡◌, IfErr, IfOk};
+ghost use Rattle.std.specs.Prelude.{◌≡◌, ◌≤◌, ◌<◌, ◌+◌, ◌++◌, List, IfErr, IfOk, length, vec_capacity};
 ghost use Rattle.mvd_dots.specs.declared.refusals.Refusal.TheVariants.{Memory};
+ghost use Rattle.mvd_wire.specs.declared.reply.Reply.{Reply};
+ghost use Rattle.mvd_replica.specs.Batch.{AnswersAll, AnswersFront};
 ghost use Rattle.sqlite.specs.Held.{state};
 
+use crate::groups::{install_all, prepare_all, refuse_all, store_all};
 use crate::replica::Replica;
 use mvd_dots::Refusal;
 use mvd_wire::{Reply, Request};
 use sqlite::Alter;
 
 impl<S: Alter> Replica<S> {
-    ghost use Rattle.mvd_replica.specs.Batch.{AnswersAll};
-
     /// The replies of `answer` to one request after the other, with as few commits as the requests allow. No reply tells of a
     /// change that is not committed. Where a commit is refused, each change in it is told so, and nothing of it was done. Where
     /// putting a change in breaks the site, that request and all after it are told so; the records hold all changes of that
     /// commit. Where memory is refused for the list of replies, nothing was done.
     pub fn answer_all(&mut self, requests: &[Request]) -> Result<Vec<Reply>, Refusal>
-        ensures answers { IfOk result (λ replies. AnswersAll requests.now replies.items self.old.site self.new.site (state S.Store self.old.records.conn) (state S.Store self.new.records.conn)) }
+        ensures answers { IfOk result (λ replies. AnswersAll requests.now replies.items self.old.site self.new.site
+            (state S.Store self.old.records.conn) (state S.Store self.new.records.conn)) }
         ensures memory { IfErr result (λ refusal. (refusal ≡ Memory) × (self.new ≡ self.old)) }
     {
         let mut replies = Vec::with_capacity(self.alloc, requests.len())?;
-        for request in requests {
-            let reply = self.answer(request);
-            replies.push(reply)?;
+        'groups: while replies.len() < requests.len() {
+            self.answer_front(&requests[replies.len()..], &mut replies);
         }
         Ok(replies)
+    }
+
+    /// Answers the first of some requests, and those after it that can share its commit.
+    fn answer_front(&mut self, requests: &[Request], replies: &mut Vec<Reply>)
+        requires some { 0 < length requests.now }
+        requires room { length replies.old.items + length requests.now ≤ vec_capacity replies.old }
+        ensures answers { AnswersFront requests.now replies.old.items replies.new.items self.old.site self.new.site
+            (state S.Store self.old.records.conn) (state S.Store self.new.records.conn) }
+        ensures room { vec_capacity replies.new ≡ vec_capacity replies.old }
+    {
+        if self.site.is_broken() {
+            return self.answer_each(requests, replies);
+        }
+        // Here it is known that what is held has spellings.
+        let _held = self.site.key_count();
+        let group = prepare_all(self.alloc, &self.site, requests);
+        let count = group.len();
+        if count == 0 {
+            return self.answer_each(&requests[..1], replies);
+        }
+        match store_all(self.alloc, &mut self.records, &group) {
+            Ok(()) => install_all(&mut self.site, group, replies),
+            Err(Refusal::Memory) => self.answer_each(&requests[..count], replies),
+            Err(_) => refuse_all(group, replies),
+        }
+    }
+
+    /// Answers requests one after the other, each with a commit of its own.
+    fn answer_each(&mut self, requests: &[Request], replies: &mut Vec<Reply>)
+        requires room { length replies.old.items + length requests.now ≤ vec_capacity replies.old }
+        ensures answers { (told : List Reply) × (replies.new.items ≡ replies.old.items ++ told) ×
+            AnswersAll requests.now told self.old.site self.new.site
+            (state S.Store self.old.records.conn) (state S.Store self.new.records.conn) }
+        ensures room { vec_capacity replies.new ≡ vec_capacity replies.old }
+    {
+        for request in requests {
+            let reply = self.answer(request);
+            replies.push_reserved(reply);
+        }
     }
 }

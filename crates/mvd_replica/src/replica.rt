@@ -19,7 +19,7 @@ ghost use Rattle.mvd_site.specs.Known.{Adds};
 ghost use Rattle.mvd_site.specs.Prepared.{IsChangeNow, is_refusal};
 ghost use Rattle.mvd_site.specs.Sites.{has_no_room};
 ghost use Rattle.sqlite.specs.Held.{state};
-ghost use Rattle.sqlite.specs.State.{HasCleanDisk};
+ghost use Rattle.sqlite.specs.State.{HasCleanDisk, Survives};
 
 use crate::opening::site_in;
 use mvd_dots::Refusal;
@@ -42,7 +42,8 @@ pub struct Replica<S: Alter> {
 impl<S: Alter> Replica<S> {
     ghost use Rattle.mvd_replica.specs.Kept.{HoldsSite, HoldsStates, PutsIn, Stores, broken_site};
     ghost use Rattle.mvd_replica.specs.Sides.{AnswersFromStored, ReplicaFollows};
-    ghost use Rattle.mvd_replica.specs.Stored.{AreDamaged, AreReadable, HasJust, HoldsTooMany, Resumes, SameStates};
+    ghost use Rattle.mvd_replica.specs.Opened.{IsOpened, IsRefused};
+    ghost use Rattle.mvd_replica.specs.Stops.{LeavesAnswered, LeavesChange};
     ghost use Rattle.mvd_replica.specs.Turns.{AnswersStored};
 
     /// The replica of a site, with the states that its records hold. Records of version 1 are moved to version 2 first, key by
@@ -52,28 +53,7 @@ impl<S: Alter> Replica<S> {
         conn: Connection<S>,
         config: Config,
     ) -> Result<Replica<S>, (Refusal, Connection<S>)>
-        ensures config { IfOk result (λ replica. (replica.site.config ≡ config) × (replica.site.broken ≡ false)) }
-        // There is a set of writes that it stands for.
-        ensures stands { IfOk result (λ replica. (known : List Write) × Stands replica.site.states known) }
-        ensures before { MatchResult result (λ replica. IsSound (state S.Store replica.records.conn) → IsSound (state S.Store conn)) (λ e. IsSound (state S.Store e.1) → IsSound (state S.Store conn)) }
-        ensures opened { IfOk result (λ replica. IsSound (state S.Store replica.records.conn) → IsOurs (state S.Store conn).committed → HoldsSite replica.site (state S.Store replica.records.conn).committed) }
-        // The key states that the two maps of the records spell are the same, also after a refusal, and then no old key is left.
-        ensures states { MatchResult result (λ replica. IsSound (state S.Store replica.records.conn) → IsOurs (state S.Store conn).committed → SameStates (state S.Store conn).committed (state S.Store replica.records.conn).committed) (λ e. IsSound (state S.Store e.1) → IsOurs (state S.Store conn).committed → SameStates (state S.Store conn).committed (state S.Store e.1).committed) }
-        ensures alone { IfOk result (λ replica. IsSound (state S.Store replica.records.conn) → IsOurs (state S.Store conn).committed → HasNone (old_states (state S.Store replica.records.conn).committed)) }
-        // It holds just the states that the two maps spelled; so, where the records held some states, just these.
-        ensures spelled { IfOk result (λ replica. IsSound (state S.Store replica.records.conn) → IsOurs (state S.Store conn).committed → HasJust (state S.Store conn).committed replica.site.states) }
-        ensures again { IfOk result (λ replica. (number : _) (states : States) → IsSound (state S.Store replica.records.conn) → HoldsStates number states (state S.Store conn).committed → replica.site.states ≡ states) }
-        // 16 where the marks are another site's. 17 exactly where the records are damaged. 10 where they then hold too many keys.
-        ensures mismatch { IfErr result (λ e. IsSound (state S.Store e.1) → IsOurs (state S.Store conn).committed → e.0 ≡ Refusal.SiteMismatch → TellsVersion (marks_of (state S.Store conn).committed) config.site (Err Refusal.SiteMismatch)) }
-        ensures order { IfOk result (λ replica. IsSound (state S.Store replica.records.conn) → IsOurs (state S.Store conn).committed →
-            AreReadable config.site (state S.Store conn).committed) }
-        ensures damaged { IfErr result (λ e. IsSound (state S.Store e.1) → IsOurs (state S.Store conn).committed → e.0 ≡ Refusal.Damaged → AreDamaged config.site (state S.Store conn).committed) }
-        ensures full { IfErr result (λ e. IsSound (state S.Store e.1) → IsOurs (state S.Store conn).committed → e.0 ≡ Refusal.Full → HoldsTooMany config.max_keys (state S.Store e.1).committed × AreReadable config.site (state S.Store conn).committed) }
-        // After a refusal the last commit is as before, or the records are this site's and opened again goes on.
-        ensures resumes { IfErr result (λ e. IsSound (state S.Store e.1) → IsOurs (state S.Store conn).committed → ((state S.Store e.1).committed ≡ (state S.Store conn).committed)
-            ⊎ ((version : _) × TellsVersion (marks_of (state S.Store conn).committed) config.site (Ok version) × Resumes version config.site (state S.Store conn).committed (state S.Store e.1).committed)) }
-        ensures untouched { IfErr result (λ e. IsSound (state S.Store e.1) → e.0 ≡ Refusal.SiteMismatch → (state S.Store e.1).committed ≡ (state S.Store conn).committed) }
-        ensures refusal { IfErr result (λ e. IsOpenRefusal e.0 ⊎ ((e.0 ≡ Refusal.Full) ⊎ (e.0 ≡ Refusal.Memory))) }
+        ensures opens { MatchResult result (λ replica. IsOpened config (state S.Store conn) replica.site (state S.Store replica.records.conn)) (λ e. IsRefused config (state S.Store conn) e.0 (state S.Store e.1)) }
     {
         let mut records = match Records::open(alloc, conn, config.site()) {
             Ok(records) => records,
@@ -140,6 +120,7 @@ impl<S: Alter> Replica<S> {
         ensures taken { HasCleanDisk (state S.Store self.new.records.conn) → IsTrue (state S.Store self.new.records.conn).is_open ⊎ (self.new.site ≡ self.old.site) }
         ensures clean { HasCleanDisk (state S.Store self.new.records.conn) → HasCleanDisk (state S.Store self.old.records.conn) }
         ensures unchanged { IsSound (state S.Store self.new.records.conn) → result ≡ Err Refusal.Store → (state S.Store self.new.records.conn).committed ≡ (state S.Store self.old.records.conn).committed }
+        ensures survives { Survives (state S.Store self.old.records.conn) (state S.Store self.new.records.conn) (LeavesChange self.old.site change (state S.Store self.old.records.conn)) }
     {
         match self.records.save(change.key(), change.bytes()) {
             Ok(()) => {}
@@ -175,6 +156,8 @@ impl<S: Alter> Replica<S> {
         // Where a change breaks the site, they hold the states with the change in.
         ensures stored { IsSound (state S.Store self.new.records.conn) → HoldsSite self.old.site (state S.Store self.old.records.conn).committed → self.old.site.broken ≡ false → result ≡ Refused Broken →
             HoldsStates self.old.site.config.site (after_from self.old.site.config self.old.site.states request.now) (state S.Store self.new.records.conn).committed }
+        // A crash leaves what it left before the call, or the states with the request's change.
+        ensures survives { Survives (state S.Store self.old.records.conn) (state S.Store self.new.records.conn) (LeavesAnswered self.old.site request.now (state S.Store self.old.records.conn)) }
     {
         match self.site.prepare(request) {
             Err(refusal) => Reply::Refused(refusal),

@@ -3,7 +3,6 @@ use Rattle.mvd_dots.specs.declared.refusals.Refusal.{Refusal}
 use Rattle.mvd_wire.specs.declared.request.Request.TheVariants.{Push}
 use Rattle.mvd_kept.specs.FromStates.{AnswersFrom, push_reply}
 use Rattle.mvd_kept.specs.Prepared.{IsReady, PreparesFrom}
-use Rattle.mvd_kept.specs.Sites.{SiteValue}
 use Rattle.mvd_kept.proofs.Prepare.{answers_from_refusal}
 use Rattle.mvd_kept.proofs.Pushes.{PushFacts, not_broken, on_ok, push_facts, pushed_by_install, pushed_still}
 use Rattle.mvd_kept.proofs.Spent.{looked, one_look, wrote}

@@ -1,4 +1,4 @@
-use Rattle.std.proofs.Common.{ap, ◌∙◌, subst}
+use Rattle.std.proofs.Common.{ap, subst}
 use Rattle.mvd_kept.specs.Held.{AreHeld}
 use Rattle.mvd_kept.specs.Sites.{SiteValue}
 use Rattle.mvd_kept.proofs.kept.Kept.key_count.Goals as goal

@@ -1,4 +1,4 @@
-use Rattle.std.proofs.Common.{◌≡◌, T, ap, sym, ◌∙◌, subst, subst₂, length, arith}
+use Rattle.std.proofs.Common.{rules, ◌≡◌, T, ap, sym, ◌∙◌, subst, subst₂, length, arith}
 use Rattle.std.specs.FinMap.{from_entries, is_sorted, len}
 use Rattle.mvd_keys.specs.Key.{key_cmp}
 use Rattle.mvd_keys.proofs.Parts.{holds}
@@ -7,6 +7,7 @@ use Rattle.mvd_tree.proofs.Held.{digests_rise}
 use Rattle.mvd_kept.specs.Answer.{spelled}
 use Rattle.mvd_kept.proofs.Digested.{keeps_opened}
 use Rattle.mvd_rows.specs.Stands.{IsRowsOf}
+use Rattle.mvd_kept.proofs.OpenCosted.{opened_costs}
 use Rattle.mvd_kept.proofs.Opened.{rising_len, stands_held}
 use Rattle.mvd_kept.proofs.kept.Kept.open.Goals as goal
 
@@ -27,3 +28,13 @@ invariant_of-kept c =
 pub returns-clause-stands : goal.returns-clause-stands
 returns-clause-stands c =
     stands_held c.in_ok-held.held c.in_ok-held.ensures.kept
+
+pub returns-in_err-held-clause-costs : goal.returns-in_err-held-clause-costs
+returns-in_err-held-clause-costs c =
+    opened_costs c.args.states.items c.deref.result.now c.deref-2.result.now c.in_ok-digests.digests.items c.defs.result.now c.args.config c.args.work.now c.digests_of.new.hashed c.open.new.hashed c.rows_of.new.meter
+    (cc (c.deref.ensures.value)) (cc (c.deref-2.ensures.value)) c.in_ok-digests.ensures.digests (search rules) c.digests_of.ensures.counts c.open.ensures.counts c.rows_of.ensures.counts
+
+pub returns-clause-costs : goal.returns-clause-costs
+returns-clause-costs c =
+    opened_costs c.args.states.items c.deref.result.now c.deref-2.result.now c.in_ok-digests.digests.items c.defs.result.now c.args.config c.args.work.now c.digests_of.new.hashed c.open.new.hashed c.rows_of.new.meter
+    (cc (c.deref.ensures.value)) (cc (c.deref-2.ensures.value)) c.in_ok-digests.ensures.digests (search rules) c.digests_of.ensures.counts c.open.ensures.counts c.rows_of.ensures.counts

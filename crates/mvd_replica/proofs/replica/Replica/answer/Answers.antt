@@ -11,6 +11,7 @@ use Rattle.mvd_site.proofs.Prepare.{answers_broken, answers_by_answer, answers_b
 use Rattle.mvd_site.proofs.Runs.{fitting}
 use Rattle.mvd_replica.proofs.Answering.{answers_refused, answers_unstored, not_store}
 use Rattle.mvd_replica.proofs.Sides.{changes_states, refused_from}
+use Rattle.mvd_replica.proofs.Stops.{survives_answered, survives_self}
 use Rattle.mvd_replica.proofs.Storing.{holds_put, holds_refused, stored_broken}
 use Rattle.mvd_replica.proofs.replica.Replica.answer.Goals as goal
 
@@ -119,3 +120,23 @@ returns-in-Err-put_in-clause-states g c =
     let whole : old.broken ≡ false = whole_where_ok old.broken c.in-Ok-Change.field-0 c.in-Ok-Change.ensures.broken in
     refused_from old c.put_in.new.self.site c.args.request.now c.in-Ok-Change.change c.in-Err-put_in.refusal whole c.in-Err-put_in.ensures.site
     (subst (λ p. PreparesFrom old.config old.states c.args.request.now (Ok p)) c.in-Ok-Change.field-0-is (c.in-Ok-Change.ensures.states whole))
+
+pub returns-in-Err-clause-survives : goal.returns-in-Err-clause-survives
+returns-in-Err-clause-survives g c = survives_self _ _
+
+pub returns-in-Ok-Answer-clause-survives : goal.returns-in-Ok-Answer-clause-survives
+returns-in-Ok-Answer-clause-survives g c = survives_self _ _
+
+pub returns-in-Ok-clause-survives : goal.returns-in-Ok-clause-survives
+returns-in-Ok-clause-survives g c =
+    let old = c.args.self.now.site in
+    let whole : old.broken ≡ false = whole_where_ok old.broken c.in-Ok-Change.field-0 c.in-Ok-Change.ensures.broken in
+    let prepared = subst (λ p. PreparesFrom old.config old.states c.args.request.now (Ok p)) c.in-Ok-Change.field-0-is (c.in-Ok-Change.ensures.states whole) in
+    survives_answered old c.args.request.now c.in-Ok-Change.change _ _ prepared.after c.key_count-held.ensures.held.spelled c.state-state.ensures.spelled c.in-Ok.ensures.survives
+
+pub returns-in-Err-put_in-clause-survives : goal.returns-in-Err-put_in-clause-survives
+returns-in-Err-put_in-clause-survives g c =
+    let old = c.args.self.now.site in
+    let whole : old.broken ≡ false = whole_where_ok old.broken c.in-Ok-Change.field-0 c.in-Ok-Change.ensures.broken in
+    let prepared = subst (λ p. PreparesFrom old.config old.states c.args.request.now (Ok p)) c.in-Ok-Change.field-0-is (c.in-Ok-Change.ensures.states whole) in
+    survives_answered old c.args.request.now c.in-Ok-Change.change _ _ prepared.after c.key_count-held.ensures.held.spelled c.state-state.ensures.spelled c.in-Err-put_in.ensures.survives

@@ -1,0 +1,262 @@
+-- Turns of a replica after turns: the records, requests that are answered at once, and the first of some.
+use Rattle.std.proofs.Common.{◌≡◌, ◌⊎◌, ◌∙◌, ℕ, Bool, true, false, List, [], ◌∷◌, ◌++◌, Result, Ok, Err, refl, sym, ap, ap₂, subst, subst₂, inl, inr, true≢false, append_assoc, ◌+◌, ◌-◌, ◌<◌, ◌≤◌, arith, length, take, drop, length-append, length-drop}
+use Rattle.std.proofs.Math.Seq.{take-add}
+use Rattle.std.proofs.lemmas.List.{length-map, length-take-le, map-append, take_all}
+use Rattle.std.specs.Prelude.{IsTrue}
+use Rattle.std.specs.List.{AllByRecursion}
+use Rattle.mvd_dots.specs.declared.refusals.Refusal.{Refusal}
+use Rattle.mvd_dots.specs.declared.refusals.Refusal.TheVariants.{Broken, Memory}
+use Rattle.mvd_keys.specs.Writes.{Write}
+use Rattle.mvd_wire.specs.declared.request.Request.{Request}
+use Rattle.mvd_wire.specs.declared.reply.Reply.{Reply}
+use Rattle.mvd_wire.specs.declared.reply.Reply.TheVariants.{Refused}
+use Rattle.mvd_wire.specs.Replies.{CanBeSent}
+use Rattle.mvd_records.specs.Records.{IsSound}
+use Rattle.mvd_site.specs.FromStates.{after_from}
+use Rattle.mvd_site.specs.Known.{Adds}
+use Rattle.mvd_site.specs.Sites.{SiteValue}
+use Rattle.mvd_site.proofs.Outcomes.{refused_fits}
+use Rattle.mvd_site.proofs.Pushes.{refusal_is}
+use Rattle.mvd_sync.specs.Sides.{SiteFollows, site_follows_on, site_follows_self}
+use Rattle.mvd_replica.specs.Batch.{AnswersAll, AnswersFront, AnswersOneFrom, AreAmong, HoldsLost, TakesTurns, TurnsFollow}
+use Rattle.mvd_replica.specs.Kept.{HoldsSite, HoldsStates}
+use Rattle.mvd_replica.specs.Sides.{AnswersFromStored, HoldsBroken, ReplicaFollows}
+use Rattle.mvd_replica.specs.Turns.{IsFirstBroken, IsToldElse, RepliesOne, Turn}
+use Rattle.mvd_replica.proofs.Breaking.{else_both, first_kept, first_later}
+use Rattle.mvd_replica.proofs.Sides.{follows_by}
+use Rattle.mvd_replica.proofs.Replying.{AddsAt-Refused, AddsAt-Refused-none, HasChoice-append, MayTell-memory, Replies-append, Replies-one, StandsOn-append, StandsOn-one}
+use Rattle.sqlite.specs.Effect.{Database}
+use Rattle.sqlite.specs.State.{HasCleanDisk, State}
+use Rattle.mvd_replica.proofs.Batching.{HasChoice-turn, TakesAllFrom-append, site_broken, still_stands, takes}
+
+-- ---- the records
+
+pub among_more : (requests : List Request) (turns more : List Turn) → AreAmong requests turns → AreAmong requests (turns ++ more)
+among_more [] turns more all = tt
+among_more (request ∷ requests) [] more all = absurd all
+among_more (request ∷ requests) (turn ∷ turns) more (inl here) = inl (here.0, among_more requests turns more here.1)
+among_more (request ∷ requests) (turn ∷ turns) more (inr later) = inr (among_more (request ∷ requests) turns more later)
+
+pub lost_more : (turns more : List Turn) (site : SiteValue) (db : Database) → HoldsLost turns site db → HoldsLost (turns ++ more) site db
+lost_more turns more site db lost = record {
+  before = lost.before;
+  broke = lost.broke;
+  later = lost.later ++ more;
+  all = ap (λ l. l ++ more) lost.all ∙ append_assoc lost.before (lost.broke ∷ lost.later) more;
+  first = lost.first;
+  request = lost.request;
+  asked = lost.asked;
+  changes = lost.changes;
+  rest = lost.rest;
+  among = among_more lost.rest lost.later more lost.among;
+  holds = lost.holds;
+}
+
+pub lost_later : (first turns : List Turn) (site : SiteValue) (db : Database) → AllByRecursion IsToldElse first → HoldsLost turns site db → HoldsLost (first ++ turns) site db
+lost_later first turns site db none lost = record {
+  before = first ++ lost.before;
+  broke = lost.broke;
+  later = lost.later;
+  all = ap (λ l. first ++ l) lost.all ∙ sym (append_assoc first lost.before (lost.broke ∷ lost.later));
+  first = else_both first lost.before none lost.first;
+  request = lost.request;
+  asked = lost.asked;
+  changes = lost.changes;
+  rest = lost.rest;
+  among = lost.among;
+  holds = lost.holds;
+}
+
+module _ (first second : List Turn) (old mid new : SiteValue) (before between after : State) (p : TurnsFollow first old mid before between) (q : TurnsFollow second mid new between after)
+    (none : mid.broken ≡ false → AllByRecursion IsToldElse first) where
+  lost_on : (is : Bool) → mid.broken ≡ is → IsSound after → HoldsSite old before.committed → old.broken ≡ false → new.broken ≡ true → HoldsLost (first ++ second) new after.committed
+  lost_on true is sound holds whole broken =
+      lost_more first second new after.committed
+      (subst (λ s. HoldsLost first s after.committed) (sym (q.site.1 is)) (subst (HoldsLost first mid) (sym (q.stays is)) (p.stored (q.sound sound) holds whole is)))
+  lost_on false is sound holds whole broken = lost_later first second new after.committed (none is) (q.stored sound (p.holds (q.sound sound) holds) is broken)
+
+  shut_on : (is : Bool) → between.is_open ≡ is → HasCleanDisk after → before.is_open ≡ false → new ≡ old
+  shut_on true is clean shut =
+      let sound : IsSound between = record { clean = q.clean clean; is_open = is } in
+      absurd (true≢false (sym (p.sound sound).is_open ∙ shut))
+  shut_on false is clean shut = q.shut clean is ∙ p.shut (q.clean clean) shut
+
+  pub TurnsFollow-append : TurnsFollow (first ++ second) old new before after
+  TurnsFollow-append = record {
+    site = site_follows_on old mid new p.site q.site;
+    sound = λ sound. p.sound (q.sound sound);
+    holds = λ sound holds. q.holds sound (p.holds (q.sound sound) holds);
+    stays = λ broken. q.stays (subst (λ (s : SiteValue). s.broken ≡ true) (sym (p.site.1 broken)) broken) ∙ p.stays broken;
+    stored = lost_on mid.broken refl;
+    clean = λ clean. p.clean (q.clean clean);
+    shut = shut_on between.is_open refl;
+  }
+
+-- ---- both
+
+fits_both : (first second : List Turn) → AllByRecursion (λ turn. CanBeSent turn.reply) first → AllByRecursion (λ turn. CanBeSent turn.reply) second → AllByRecursion (λ turn. CanBeSent turn.reply) (first ++ second)
+fits_both [] second one other = other
+fits_both (turn ∷ first) second one other = (one.0, fits_both first second one.1 other)
+
+whole_before : (mid new : SiteValue) (is : Bool) → mid.broken ≡ is → SiteFollows mid new → new.broken ≡ false → mid.broken ≡ false
+whole_before mid new false is follows whole = is
+whole_before mid new true is follows whole = sym (site_broken new mid (follows.1 is)) ∙ whole
+
+breaks_both : (first second : List Turn) (old mid new : SiteValue) (is : Bool) → mid.broken ≡ is → (mid.broken ≡ false → AllByRecursion IsToldElse first) → (mid.broken ≡ true → (request : Request) × IsFirstBroken first request) →
+    (mid.broken ≡ false → (request : Request) × IsFirstBroken second request) → (request : Request) × IsFirstBroken (first ++ second) request
+breaks_both first second old mid new true is none one other = let found : (request : Request) × IsFirstBroken first request = one is in (found.0, first_kept first second found.0 found.1)
+breaks_both first second old mid new false is none one other = let found : (request : Request) × IsFirstBroken second request = other is in (found.0, first_later first second found.0 (none is) found.1)
+
+-- nothing was done
+still_follows : (turns : List Turn) (site : SiteValue) (s : State) → TurnsFollow turns site site s s
+still_follows turns site s = record {
+  site = site_follows_self site;
+  sound = λ sound. sound;
+  holds = λ _ holds. holds;
+  stays = λ _. refl;
+  stored = λ _ _ whole broken. absurd (true≢false (sym broken ∙ whole));
+  clean = λ clean. clean;
+  shut = λ _ _. refl;
+}
+
+-- no turn
+pub TakesTurns-none : (site : SiteValue) (s : State) → TakesTurns [] site site s s
+TakesTurns-none site s = takes [] site site s s refl (still_follows [] site s)
+
+-- turns after turns
+pub TakesTurns-append : (first second : List Turn) (old mid new : SiteValue) (before between after : State) → TakesTurns first old mid before between → TakesTurns second mid new between after →
+    TakesTurns (first ++ second) old new before after
+TakesTurns-append first second old mid new before between after one other = record {
+  replies = Replies-append old mid new first second one.config one.replies other.replies;
+  stands = StandsOn-append old mid new first second one.stands other.stands;
+  config = other.config ∙ one.config;
+  choice = HasChoice-append first second one.choice other.choice;
+  fits = fits_both first second one.fits other.fits;
+  told = λ whole. else_both first second (one.told (whole_before mid new mid.broken refl other.follows.site whole)) (other.told whole);
+  breaks = λ whole broken. breaks_both first second old mid new mid.broken refl (one.told) (one.breaks whole) (λ is. other.breaks is broken);
+  follows = TurnsFollow-append first second old mid new before between after one.follows other.follows one.told;
+}
+
+-- want of memory in place of a reply
+pub TakesTurns-memory : (site : SiteValue) (s : State) (asked : Result Request Refusal) → TakesTurns (record { asked = asked; reply = Refused Memory } ∷ []) site site s s
+TakesTurns-memory site s asked =
+    let turn : Turn = record { asked = asked; reply = Refused Memory } in
+    let one : RepliesOne site site turn = record {
+      replies = λ known stands. MayTell-memory site.config known site.broken site.broken asked refl;
+      stands = λ known added stands adds whole. still_stands site site known added refl (stands whole) (AddsAt-Refused asked Memory added adds);
+      keeps = λ known added stands adds. still_stands site site known added refl stands (AddsAt-Refused asked Memory added adds);
+    } in
+    record {
+      replies = Replies-one site site turn one;
+      stands = StandsOn-one site site turn one;
+      config = refl;
+      choice = HasChoice-turn asked (Refused Memory) ([], AddsAt-Refused-none asked Memory);
+      fits = (refused_fits Memory, tt);
+      told = λ _. ((λ request bad. (let is : Memory ≡ Broken = refusal_is Memory Broken bad.1 in absurd cc)), tt);
+      breaks = λ whole broken. absurd (true≢false (sym broken ∙ whole));
+      follows = still_follows (turn ∷ []) site s;
+    }
+
+-- a frame that is no request
+pub TakesTurns-fault : (site : SiteValue) (s : State) (fault : Refusal) (reply : Reply) → (reply ≡ Refused fault) ⊎ (reply ≡ Refused Memory) → TakesTurns (record { asked = Err fault; reply = reply } ∷ []) site site s s
+TakesTurns-fault site s fault reply told =
+    takes _ site site s s (site, (told, refl), refl) (still_follows _ site s)
+
+-- one request, answered by itself
+lost_one : (request : Request) (reply : Reply) (site : SiteValue) (db : Database) → reply ≡ Refused Broken → HoldsBroken (λ asked. asked ≡ request) site db → HoldsLost (record { asked = Ok request; reply = reply } ∷ []) site db
+lost_one request reply site db told holds = record {
+  before = [];
+  broke = record { asked = Ok request; reply = reply };
+  later = [];
+  all = refl;
+  first = tt;
+  request = holds.request;
+  asked = (ap (λ (r : Request). Ok r) (sym holds.asked), told);
+  changes = holds.changes;
+  rest = [];
+  among = tt;
+  holds = holds.holds;
+}
+
+pub TakesTurns-one : (old new : SiteValue) (before after : State) (request : Request) (reply : Reply) → AnswersOneFrom old new request reply → (new.broken ≡ true → reply ≡ Refused Broken) →
+    ReplicaFollows (λ asked. asked ≡ request) old new before after → TakesTurns (record { asked = Ok request; reply = reply } ∷ []) old new before after
+TakesTurns-one old new before after request reply one told follows =
+    takes _ old new before after (new, one, refl) (record {
+      site = follows.site;
+      sound = follows.store.sound;
+      holds = follows.store.holds;
+      stays = follows.store.stays;
+      stored = λ sound holds whole broken. lost_one request reply new after.committed (told broken) (follows.store.stored sound holds whole broken);
+      clean = follows.store.clean;
+      shut = follows.store.shut;
+    })
+
+-- ---- requests
+
+pub AnswersAll-none : (site : SiteValue) (s : State) → AnswersAll [] [] site site s s
+AnswersAll-none site s = record { turns = []; asked = refl; told = refl; states = refl; takes = TakesTurns-none site s }
+
+pub AnswersAll-append : (first second : List Request) (told given : List Reply) (old mid new : SiteValue) (before between after : State) → AnswersAll first told old mid before between →
+    AnswersAll second given mid new between after → AnswersAll (first ++ second) (told ++ given) old new before after
+AnswersAll-append first second told given old mid new before between after one other = record {
+  turns = one.turns ++ other.turns;
+  asked = map-append (λ (t : Turn). t.asked) one.turns other.turns ∙ ap₂ (λ a b. a ++ b) one.asked other.asked ∙ sym (map-append (λ (r : Request). Ok r) first second);
+  told = map-append (λ (t : Turn). t.reply) one.turns other.turns ∙ ap₂ (λ a b. a ++ b) one.told other.told;
+  states = TakesAllFrom-append one.turns other.turns old mid new one.states other.states;
+  takes = TakesTurns-append one.turns other.turns old mid new before between after one.takes other.takes;
+}
+
+pub AnswersAll-one : (old new : SiteValue) (before after : State) (request : Request) (reply : Reply) → AnswersOneFrom old new request reply → TakesTurns (record { asked = Ok request; reply = reply } ∷ []) old new before after →
+    AnswersAll (request ∷ []) (reply ∷ []) old new before after
+AnswersAll-one old new before after request reply from one = record { turns = record { asked = Ok request; reply = reply } ∷ []; asked = refl; told = refl; states = (new, from, refl); takes = one }
+
+-- a request that was answered by itself
+pub AnswersAll-answered : (old new : SiteValue) (before after : State) (request : Request) (reply : Reply) → AnswersFromStored old new request reply → ((added : List Write) × Adds request reply added) → new.config ≡ old.config →
+    CanBeSent reply → (reply ≡ Refused Broken → new.broken ≡ true) → (new.broken ≡ true → reply ≡ Refused Broken) → (old.broken ≡ true → new ≡ old) → (old.broken ≡ true → after.committed ≡ before.committed) →
+    (IsSound after → IsSound before) → (IsSound after → HoldsSite old before.committed → HoldsSite new after.committed) → (HasCleanDisk after → HasCleanDisk before) →
+    (HasCleanDisk after → IsTrue after.is_open ⊎ (new ≡ old)) →
+    (IsSound after → HoldsSite old before.committed → old.broken ≡ false → reply ≡ Refused Broken → HoldsStates old.config.site (after_from old.config old.states request) after.committed) →
+    AnswersAll (request ∷ []) (reply ∷ []) old new before after
+AnswersAll-answered old new before after request reply states choice config fits told broken stays same sound holds clean taken stored =
+    let from : AnswersOneFrom old new request reply = record {
+      whole = states;
+      broken = λ was. (broken (site_broken new old (stays was) ∙ was), stays was);
+      told = told;
+      fits = fits;
+      choice = choice;
+    } in
+    AnswersAll-one old new before after request reply from (TakesTurns-one old new before after request reply from broken
+    (follows_by old new request reply before after config stays same sound holds clean taken broken states stored))
+
+-- ---- the first of some requests, and those after them
+
+length_replies : (requests : List Request) (replies : List Reply) (old new : SiteValue) (before after : State) → AnswersAll requests replies old new before after → length replies ≡ length requests
+length_replies requests replies old new before after all =
+    ap length (sym all.told) ∙ length-map all.turns (λ (t : Turn). t.reply) ∙ sym (length-map all.turns (λ (t : Turn). t.asked)) ∙ ap length all.asked ∙ length-map requests (λ (r : Request). Ok r)
+
+-- as the code has what is left of them
+pub front_of : (requests : List Request) (n : ℕ) (told given : List Reply) (mid new : SiteValue) (between after : State) → n ≡ length told → AnswersFront (take (length requests - n) (drop n requests)) told given mid new between after →
+    AnswersFront (drop (length told) requests) told given mid new between after
+front_of requests n told given mid new between after same front =
+    let low : length (drop n requests) ≤ length requests - n = omega (arith, length-drop n requests) in
+    subst (λ r. AnswersFront r told given mid new between after) (take_all (length requests - n) (drop n requests) low ∙ ap (λ k. drop k requests) same) front
+
+module _ (requests : List Request) (told given : List Reply) (old mid new : SiteValue) (before between after : State) (few : length told ≤ length requests)
+    (one : AnswersAll (take (length told) requests) told old mid before between) (front : AnswersFront (drop (length told) requests) told given mid new between after) where
+  count_front : length front.replies ≡ front.count
+  count_front = length_replies (take front.count (drop (length told) requests)) front.replies mid new between after front.answers ∙ length-take-le front.count (drop (length told) requests) front.within
+
+  length_front : length given ≡ length told + front.count
+  length_front = ap length front.appended ∙ length-append told front.replies ∙ ap (λ n. length told + n) count_front
+
+  pub front_grows : length told < length given
+  front_grows = omega (arith, length_front, front.some)
+
+  pub front_within : length given ≤ length requests
+  front_within = omega (arith, length_front, front.within, length-drop (length told) requests, few)
+
+  pub front_answers : AnswersAll (take (length given) requests) given old new before after
+  front_answers =
+      subst₂ (λ l r. AnswersAll l r old new before after)
+      (sym (ap (λ n. take n requests) length_front ∙ take-add (length told) front.count requests)) (sym front.appended)
+      (AnswersAll-append (take (length told) requests) (take front.count (drop (length told) requests)) told front.replies old mid new before between after one front.answers)

@@ -1,0 +1,151 @@
+-- Requests of one commit, as the code has them.
+use Rattle.std.proofs.Common.{◌≡◌, ◌∙◌, ℕ, ◌+◌, ◌<◌, arith, true, false, List, [], ◌∷◌, ◌++◌, None, Result, Ok, Err, refl, sym, ap, ap₂, subst, subst₂, inl, inr, true≢false, length, drop, take, get_or, append-nil}
+use Rattle.std.proofs.lemmas.List.{drop_more, map-append, take_more}
+use Rattle.std.specs.Prelude.{IfSome, OnOk}
+use Rattle.std.specs.List.{AllByRecursion}
+use Rattle.mvd_dots.specs.declared.refusals.Refusal.{Refusal}
+use Rattle.mvd_dots.specs.declared.refusals.Refusal.TheVariants.{Broken}
+use Rattle.mvd_wire.specs.Codecs.{spell_state}
+use Rattle.mvd_wire.specs.declared.request.Request.{Request}
+use Rattle.mvd_wire.specs.declared.request.Request.TheVariants.{Put, Delete, Push}
+use Rattle.mvd_wire.specs.declared.reply.Reply.{Reply}
+use Rattle.mvd_wire.specs.declared.reply.Reply.TheVariants.{Refused}
+use Rattle.mvd_records.specs.Calls.{SavesAll}
+use Rattle.mvd_records.specs.Contents.{Contents, Holds}
+use Rattle.mvd_records.specs.Pairs.{Pair, entries_of}
+use Rattle.mvd_records.specs.Seen.{Seen}
+use Rattle.mvd_records.specs.Records.{HoldsRecords, IsSound, SavesState, SavesStates, new_states, old_states, with_pairs}
+use Rattle.mvd_site.specs.Change.{ChangeValue, reply_of}
+use Rattle.mvd_site.specs.Config.{ConfigValue}
+use Rattle.mvd_site.specs.FromStates.{answer_from, change_from, with_change as with_changed}
+use Rattle.mvd_site.specs.Held.{IsSpelled, States, state_at}
+use Rattle.mvd_site.specs.Known.{IsValidRequest}
+use Rattle.mvd_site.specs.Prepared.{IsPlain, IsReady, PreparesAnswerFrom, PreparesFrom, is_refusal}
+use Rattle.mvd_kept.specs.declared.changes.Prepared.{Prepared}
+use Rattle.mvd_kept.specs.declared.changes.Prepared.TheVariants.{Answer, Change}
+use Rattle.mvd_site.specs.Sites.{SiteValue}
+use Rattle.mvd_site.proofs.Outcomes.{change_plain, refused_fits}
+use Rattle.mvd_site.proofs.Pushes.{refusal_is}
+use Rattle.mvd_site.proofs.Runs.{fitting}
+use Rattle.mvd_replica.specs.Groups.{ComesTo, IsApart, IsReply, IsSendable, MayAllBeIn, MayJoin, PutsAll, PutsIfWhole, StandTogether, pairs_in}
+use Rattle.sqlite.specs.Effect.{Database}
+use Rattle.mvd_replica.proofs.Grouping.{together_more}
+use Rattle.mvd_replica.proofs.Putting.{nothing_added, was_whole, whole_after}
+
+-- ---- what was prepared, as the code has it
+
+refuses : (states : States) (request : Request) (refusal : Refusal) → change_from states request (Refused refusal) ≡ None
+refuses states (Put key seen document) refusal = refl
+refuses states (Delete key seen) refusal = refl
+refuses states (Push key pushed) refusal = refl
+refuses states request refusal = refl
+
+refused_answer : (config : ConfigValue) (states : States) (request : Request) (refusal : Refusal) → Refused refusal ≡ answer_from config states request → PreparesAnswerFrom config states request (Refused refusal)
+refused_answer config states request refusal is =
+    let none : change_from states request (answer_from config states request) ≡ None = ap (change_from states request) (sym is) ∙ refuses states request refusal in
+    record { answers = is; still = subst (λ o. IfSome o (λ c. c.1 ≡ state_at states c.0)) (sym none) tt; after = ap (with_changed states) none }
+
+pub comes_refused : (site : SiteValue) (request : Request) (refusal : Refusal) → site.broken ≡ false → PreparesFrom site.config site.states request (Err refusal) → (refusal ≡ Broken → site.broken ≡ true) →
+    ComesTo site.config site.states request (Answer (Refused refusal)) × IsSendable request (Answer (Refused refusal))
+comes_refused site request refusal whole from broken = (
+  elim from [ inl is ↦ inl (refused_answer site.config site.states request refusal is) | inr memory ↦ inr (ap Refused memory) ],
+  record {
+    other = λ bad. true≢false (sym (broken (refusal_is refusal Broken bad)) ∙ whole);
+    fits = refused_fits refusal;
+    choice = nothing_added request refusal;
+  },
+)
+
+plain_reply : (request : Request) (reply : Reply) → IsPlain reply → IsValidRequest request → IsReply request reply
+plain_reply request reply plain valid = record {
+  other = λ bad. true≢false (sym (ap is_refusal bad) ∙ plain.accepts);
+  fits = plain.fits;
+  choice = fitting request reply valid;
+}
+
+pub comes_answer : (site : SiteValue) (request : Request) (reply : Reply) → PreparesFrom site.config site.states request (Ok (Answer reply)) → IsReady site (Answer reply) → IsValidRequest request →
+    ComesTo site.config site.states request (Answer reply) × IsSendable request (Answer reply)
+comes_answer site request reply from ready valid = (inl from, plain_reply request reply ready valid)
+
+pub comes_change : (site : SiteValue) (request : Request) (change : ChangeValue) → PreparesFrom site.config site.states request (Ok (Change change)) → IsReady site (Change change) → IsValidRequest request → IsSpelled change.state →
+    ComesTo site.config site.states request (Change change) × IsSendable request (Change change)
+comes_change site request change from ready valid spelled =
+    ((from, ready.0), (plain_reply request (reply_of change.dot) (change_plain change.dot) valid, ready.1, spelled))
+
+-- ---- lists, one more
+
+pub apart_more : (request : Request) (group : List Prepared) (prepared : Prepared) → AllByRecursion (IsApart request) group → IsApart request prepared → AllByRecursion (IsApart request) (group ++ prepared ∷ [])
+apart_more request [] prepared all one = (one, tt)
+apart_more request (p ∷ group) prepared all one = (all.0, apart_more request group prepared all.1 one)
+
+pub pairs_more : (group : List Prepared) (prepared : Prepared) → pairs_in (group ++ prepared ∷ []) ≡ pairs_in group ++ pairs_in (prepared ∷ [])
+pairs_more [] prepared = refl
+pairs_more (Answer reply ∷ group) prepared = pairs_more group prepared
+pairs_more (Change change ∷ group) prepared = ap (λ l. (change.key, spell_state change.state) ∷ l) (pairs_more group prepared)
+
+pub puts_more : (group : List Prepared) (told : List Reply) (prepared : Prepared) (reply : Reply) (old mid new : SiteValue) → PutsAll old mid group told → PutsIfWhole mid new prepared reply →
+    PutsAll old new (group ++ prepared ∷ []) (told ++ reply ∷ [])
+puts_more [] [] prepared reply old mid new all one = (new, subst (λ s. PutsIfWhole s new prepared reply) all one, refl)
+puts_more [] (x ∷ told) prepared reply old mid new all one = absurd all
+puts_more (p ∷ group) [] prepared reply old mid new all one = absurd all
+puts_more (p ∷ group) (x ∷ told) prepared reply old mid new all one = (all.0, all.1, puts_more group told prepared reply all.0 mid new all.2 one)
+
+-- what may be put in after one
+pub may_after : (old new : SiteValue) (prepared : Prepared) (reply : Reply) (group : List Prepared) → PutsIfWhole old new prepared reply → (old.broken ≡ false → MayAllBeIn old (prepared ∷ group)) → new.broken ≡ false → MayAllBeIn new group
+may_after old new prepared reply group puts may whole =
+    let was : old.broken ≡ false = was_whole old new prepared reply old.broken refl puts whole in
+    subst (λ s. MayAllBeIn s group) (sym (whole_after old new prepared reply whole (puts.whole was))) (may was).1
+
+pub may_first : (site : SiteValue) (group : List Prepared) (n : ℕ) (prepared : Prepared) → n < length group → prepared ≡ get_or group n prepared → MayAllBeIn site (drop n group) → MayAllBeIn site (prepared ∷ drop (n + 1) group)
+may_first site group n prepared low is may = subst (MayAllBeIn site) (drop_more group n prepared low ∙ ap (λ p. p ∷ drop (n + 1) group) (sym is)) may
+
+pub together_joined : (site : SiteValue) (requests : List Request) (group : List Prepared) (request : Request) (prepared : Prepared) → StandTogether site requests group →
+    ComesTo site.config site.states request prepared × IsSendable request prepared → MayJoin site request group → StandTogether site (requests ++ request ∷ []) (group ++ prepared ∷ [])
+together_joined site requests group request prepared all one may = together_more site requests group request prepared all one may.apart may.room
+
+-- ---- what is stored, as the code has it
+
+pub store_one : {A : Type 0} (result : Result A Refusal) (a b : Database) (change : ChangeValue) (group : List Prepared) (key bytes : List ℕ) (site : ℕ) → key ≡ change.key → bytes ≡ spell_state change.state → group ≡ Change change ∷ [] →
+    HoldsRecords 2 site b → OnOk result (SavesState a b key bytes) → OnOk result (HoldsRecords 2 site b × SavesStates a b (pairs_in group))
+store_one (Ok done) a b change group key bytes site key-is bytes-is alone holds saved =
+    let here : SavesState a b change.key (spell_state change.state) = subst₂ (SavesState a b) key-is bytes-is saved in
+    (holds, subst (λ l. SavesStates a b (pairs_in l)) (sym alone) (record { old_same = here.old_same; saved = here.saved }))
+store_one (Err refusal) a b change group key bytes site key-is bytes-is alone holds saved = tt
+
+pub store_many : {A : Type 0} (result : Result A Refusal) (old new : Seen) (pairs : List (List ℕ × List ℕ)) (group : List Prepared) (site : ℕ) → SavesAll old pairs result new → pairs ≡ pairs_in group → IsSound new.store →
+    HoldsRecords 2 site old.store.committed → OnOk result (HoldsRecords 2 site new.store.committed × SavesStates old.store.committed new.store.committed (pairs_in group))
+store_many (Err refusal) old new pairs group site saves same sound holds = tt
+store_many (Ok done) old new pairs group site saves same sound holds =
+    let was : Contents = record { version = 2; site = site; old_map = old_states old.store.committed; new_map = new_states old.store.committed } in
+    let now : (now : Contents) × (now ≡ record was { new_map = with_pairs was.new_map pairs }) × Holds new.store.committed now =
+    saves.commits.done was sound (record { records = holds; old_is = refl; new_is = refl }) in (
+      subst₂ (λ v n. HoldsRecords v n new.store.committed) (ap (λ (k : Contents). k.version) now.1) (ap (λ (k : Contents). k.site) now.1) now.2.records,
+      subst (λ l. SavesStates old.store.committed new.store.committed l) same (record {
+        old_same = now.2.old_is ∙ ap (λ (k : Contents). k.old_map) now.1;
+        saved = now.2.new_is ∙ ap (λ (k : Contents). k.new_map) now.1;
+      }),
+    )
+
+pub store_none : (a : Database) (group : List Prepared) (site : ℕ) → pairs_in group ≡ [] → HoldsRecords 2 site a → HoldsRecords 2 site a × SavesStates a a (pairs_in group)
+store_none a group site none holds = (holds, subst (SavesStates a a) (sym none) (record { old_same = refl; saved = refl }))
+
+-- the only one
+pub one_only : (group : List Prepared) (prepared : Prepared) → length group ≡ 1 → prepared ≡ get_or group 0 prepared → group ≡ prepared ∷ []
+one_only [] prepared count is = absurd (omega (arith, count))
+one_only (p ∷ []) prepared count is = ap (λ x. x ∷ []) (sym is)
+one_only (p ∷ q ∷ group) prepared count is = absurd (omega (arith, count))
+
+-- ---- what is to be stored, one more
+
+module _ (pairs : List Pair) (group : List Prepared) (i : ℕ) (item : Prepared) where
+  pub pairs_next : (change : ChangeValue) (pair : Pair) → i < length group → item ≡ get_or group i item → item ≡ Change change → pair.0 ≡ change.key → pair.1.items ≡ spell_state change.state →
+      entries_of pairs ≡ pairs_in (take i group) → entries_of (pairs ++ pair ∷ []) ≡ pairs_in (take (i + 1) group)
+  pairs_next change pair low is change-is key bytes so_far =
+      let last : (pair.0, pair.1.items) ∷ [] ≡ pairs_in (item ∷ []) = ap₂ (λ k b. (k, b) ∷ []) key bytes ∙ sym (ap (λ p. pairs_in (p ∷ [])) change-is) in
+      map-append (λ (p : Pair). (p.0, p.1.items)) pairs (pair ∷ []) ∙ ap₂ (λ a b. a ++ b) so_far last ∙ sym (pairs_more (take i group) item)
+      ∙ ap pairs_in (ap (λ p. take i group ++ p ∷ []) is ∙ sym (take_more group i item low))
+
+  pub pairs_skip : (reply : Reply) → i < length group → item ≡ get_or group i item → item ≡ Answer reply → entries_of pairs ≡ pairs_in (take i group) → entries_of pairs ≡ pairs_in (take (i + 1) group)
+  pairs_skip reply low is reply-is so_far =
+      so_far ∙ sym (append-nil (pairs_in (take i group))) ∙ ap (λ l. pairs_in (take i group) ++ l) (sym (ap (λ p. pairs_in (p ∷ [])) reply-is)) ∙ sym (pairs_more (take i group) item)
+      ∙ ap pairs_in (ap (λ p. take i group ++ p ∷ []) is ∙ sym (take_more group i item low))

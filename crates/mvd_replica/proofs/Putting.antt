@@ -1,0 +1,312 @@
+-- Replies of requests of one commit, as their changes are put in.
+use Rattle.std.proofs.Common.{◌≡◌, ◌≢◌, ◌∙◌, Bool, true, false, List, [], ◌∷◌, ◌++◌, map, Ok, refl, sym, ap, subst, inl, inr, true≢false}
+use Rattle.std.specs.List.{AllByRecursion}
+use Rattle.std.specs.FinMap.{insert}
+use Rattle.mvd_dots.specs.declared.refusals.Refusal.{Refusal}
+use Rattle.mvd_dots.specs.declared.refusals.Refusal.TheVariants.{Broken, Store}
+use Rattle.mvd_keys.specs.Writes.{Write}
+use Rattle.mvd_wire.specs.declared.request.Request.{Request}
+use Rattle.mvd_wire.specs.declared.reply.Reply.{Reply}
+use Rattle.mvd_wire.specs.declared.reply.Reply.TheVariants.{Refused}
+use Rattle.mvd_wire.specs.Replies.{CanBeSent}
+use Rattle.mvd_site.specs.Change.{ChangeValue, reply_of}
+use Rattle.mvd_site.specs.Config.{ConfigValue}
+use Rattle.mvd_site.specs.FromStates.{AnswersFrom, after_from}
+use Rattle.mvd_site.specs.Held.{States}
+use Rattle.mvd_site.specs.Known.{Adds}
+use Rattle.mvd_site.specs.Prepared.{PreparesChangeFrom}
+use Rattle.mvd_kept.specs.declared.changes.Prepared.{Prepared}
+use Rattle.mvd_kept.specs.declared.changes.Prepared.TheVariants.{Answer, Change}
+use Rattle.mvd_site.specs.Sites.{SiteValue}
+use Rattle.mvd_site.proofs.Answered.{insert_differs}
+use Rattle.mvd_site.proofs.Outcomes.{refused_fits}
+use Rattle.mvd_site.proofs.Prepare.{answers_from_answer, answers_from_breaking, answers_from_change}
+use Rattle.mvd_replica.specs.Batch.{AnswersOneFrom, AreAmong, TakesAllFrom, after_all}
+use Rattle.mvd_replica.specs.Groups.{AllComeTo, AreSendable, ComeInOrder, ComesTo, IsReply, IsSendable, PutsAll, PutsIfWhole, PutsOne, pairs_in, reply_unstored, with_group, with_one, with_prepared}
+use Rattle.mvd_replica.specs.Kept.{broken_site}
+use Rattle.mvd_replica.specs.Sides.{AnswersFromStored}
+use Rattle.mvd_replica.specs.Turns.{IsToldBroken, IsToldElse, Turn}
+use Rattle.mvd_replica.proofs.Replying.{AddsAt-Refused-none}
+use Rattle.mvd_replica.proofs.Batching.{told_turn}
+use Rattle.mvd_replica.proofs.Grouping.{ordered_next}
+
+-- ---- replies as turns
+
+abbrev pub turns_of : List Request → List Reply → List Turn
+turns_of [] replies = []
+turns_of (request ∷ requests) [] = []
+turns_of (request ∷ requests) (reply ∷ replies) = record { asked = Ok request; reply = reply } ∷ turns_of requests replies
+
+-- one reply for each request
+abbrev pub AreOne : List Request → List Reply → Type 0
+AreOne [] [] = Unit {0}
+AreOne (request ∷ requests) (reply ∷ replies) = AreOne requests replies
+AreOne requests replies = ⊥
+
+pub asked_of : (requests : List Request) (replies : List Reply) → AreOne requests replies → map (λ (t : Turn). t.asked) (turns_of requests replies) ≡ map (λ (r : Request). Ok r) requests
+asked_of [] [] one = refl
+asked_of [] (x ∷ replies) one = absurd one
+asked_of (r ∷ requests) [] one = absurd one
+asked_of (r ∷ requests) (x ∷ replies) one = ap (λ l. Ok r ∷ l) (asked_of requests replies one)
+
+pub told_of : (requests : List Request) (replies : List Reply) → AreOne requests replies → map (λ (t : Turn). t.reply) (turns_of requests replies) ≡ replies
+told_of [] [] one = refl
+told_of [] (x ∷ replies) one = absurd one
+told_of (r ∷ requests) [] one = absurd one
+told_of (r ∷ requests) (x ∷ replies) one = ap (λ l. x ∷ l) (told_of requests replies one)
+
+pub one_put : (requests : List Request) (group : List Prepared) (replies : List Reply) (old new : SiteValue) → AreSendable requests group → PutsAll old new group replies → AreOne requests replies
+one_put [] [] [] old new sendable all = tt
+one_put [] [] (x ∷ replies) old new sendable all = absurd all
+one_put [] (p ∷ group) replies old new sendable all = absurd sendable
+one_put (r ∷ requests) [] replies old new sendable all = absurd sendable
+one_put (r ∷ requests) (p ∷ group) [] old new sendable all = absurd all
+one_put (r ∷ requests) (p ∷ group) (x ∷ replies) old new sendable all = one_put requests group replies all.0 new sendable.1 all.2
+
+pub one_unstored : (requests : List Request) (group : List Prepared) → AreSendable requests group → AreOne requests (map reply_unstored group)
+one_unstored [] [] sendable = tt
+one_unstored [] (p ∷ group) sendable = absurd sendable
+one_unstored (r ∷ requests) [] sendable = absurd sendable
+one_unstored (r ∷ requests) (p ∷ group) sendable = one_unstored requests group sendable.1
+
+-- ---- one reply
+
+answers_same : (old : SiteValue) (request : Request) (reply : Reply) → ComesTo old.config old.states request (Answer reply) → AnswersFrom old old request reply
+answers_same old request reply (inl was) = answers_from_answer old request reply (λ _. was)
+answers_same old request reply (inr memory) = λ whole. inr (inl (memory, refl))
+
+pub nothing_added : (request : Request) (refusal : Refusal) → (added : List Write) × Adds request (Refused refusal) added
+nothing_added request refusal = ([], AddsAt-Refused-none (Ok request) refusal)
+
+module _ (old new : SiteValue) (request : Request) where
+  -- a broken site
+  one_broken : (reply : Reply) → old.broken ≡ true → reply ≡ Refused Broken → new ≡ old → AnswersOneFrom old new request reply
+  one_broken reply was told same = record {
+    whole = inl (λ whole. absurd (true≢false (sym was ∙ whole)));
+    broken = λ _. (told, same);
+    told = λ _. ap (λ (s : SiteValue). s.broken) same ∙ was;
+    fits = subst CanBeSent (sym told) (refused_fits Broken);
+    choice = subst (λ x. (added : List Write) × Adds request x added) (sym told) (nothing_added request Broken);
+  }
+
+  -- one that was not, and whose reply does not say so
+  one_whole : (reply given : Reply) → old.broken ≡ false → given ≡ reply → IsReply request reply → AnswersFromStored old new request given → AnswersOneFrom old new request given
+  one_whole reply given was told is whole = record {
+    whole = whole;
+    broken = λ broken. absurd (true≢false (sym broken ∙ was));
+    told = λ bad. absurd (is.other (sym told ∙ bad));
+    fits = subst CanBeSent (sym told) is.fits;
+    choice = subst (λ x. (added : List Write) × Adds request x added) (sym told) is.choice;
+  }
+
+  -- one that breaks
+  one_breaks : (change : ChangeValue) (given : Reply) → old.broken ≡ false → given ≡ Refused Broken → new ≡ broken_site old → PreparesChangeFrom old.config old.states request change → AnswersOneFrom old new request given
+  one_breaks change given was told breaks comes = record {
+    whole = subst (λ x. AnswersFromStored old new request x) (sym told) (inl (answers_from_breaking old new request change Broken refl breaks (λ _. comes)));
+    broken = λ broken. absurd (true≢false (sym broken ∙ was));
+    told = λ _. ap (λ (s : SiteValue). s.broken) breaks;
+    fits = subst CanBeSent (sym told) (refused_fits Broken);
+    choice = subst (λ x. (added : List Write) × Adds request x added) (sym told) (nothing_added request Broken);
+  }
+
+  one_puts : (prepared : Prepared) (reply : Reply) → old.broken ≡ false → ComesTo old.config old.states request prepared → IsSendable request prepared → PutsOne old new prepared reply → AnswersOneFrom old new request reply
+  one_puts (Answer told) reply was comes sendable puts =
+      one_whole told reply was puts.0 sendable (subst (λ s. AnswersFromStored old s request reply) (sym puts.1) (subst (λ x. AnswersFromStored old old request x) (sym puts.0) (inl (answers_same old request told comes))))
+  one_puts (Change change) reply was comes sendable (inl puts) =
+      one_whole (reply_of change.dot) reply was puts.0 sendable.0 (inl (answers_from_change old new request change reply puts.1 puts.0 (λ _. comes.0)))
+  one_puts (Change change) reply was comes sendable (inr puts) = one_breaks change reply was puts.0 puts.1 comes.0
+
+  one_answers : (prepared : Prepared) (reply : Reply) (was : Bool) → old.broken ≡ was → (old.broken ≡ false → ComesTo old.config old.states request prepared) → IsSendable request prepared → PutsIfWhole old new prepared reply →
+      AnswersOneFrom old new request reply
+  one_answers prepared reply true was comes sendable puts = one_broken reply was (puts.broken was).0 (puts.broken was).1
+  one_answers prepared reply false was comes sendable puts = one_puts prepared reply was (comes was) sendable (puts.whole was)
+
+-- the site after one, if it is not broken
+pub whole_after : (old mid : SiteValue) (prepared : Prepared) (reply : Reply) → mid.broken ≡ false → PutsOne old mid prepared reply → mid ≡ with_one old prepared
+whole_after old mid (Answer told) reply whole puts = puts.1
+whole_after old mid (Change change) reply whole (inl puts) = puts.1
+whole_after old mid (Change change) reply whole (inr puts) = absurd (true≢false (sym (ap (λ (s : SiteValue). s.broken) puts.1) ∙ whole))
+
+pub was_whole : (old mid : SiteValue) (prepared : Prepared) (reply : Reply) (was : Bool) → old.broken ≡ was → PutsIfWhole old mid prepared reply → mid.broken ≡ false → old.broken ≡ false
+was_whole old mid prepared reply false was puts whole = was
+was_whole old mid prepared reply true was puts whole = sym (ap (λ (s : SiteValue). s.broken) (puts.broken was).1) ∙ whole
+
+ordered_after : (old mid : SiteValue) (prepared : Prepared) (reply : Reply) (requests : List Request) (group : List Prepared) → PutsIfWhole old mid prepared reply →
+    (old.broken ≡ false → ComeInOrder old.config (with_prepared old.states prepared) requests group) → mid.broken ≡ false → ComeInOrder mid.config mid.states requests group
+ordered_after old mid prepared reply requests group puts ordered whole =
+    let was : old.broken ≡ false = was_whole old mid prepared reply old.broken refl puts whole in
+    subst (λ (s : SiteValue). ComeInOrder s.config s.states requests group) (sym (whole_after old mid prepared reply whole (puts.whole was))) (ordered_next old prepared requests group (ordered was))
+
+-- ---- all replies
+
+pub takes_put : (requests : List Request) (group : List Prepared) (replies : List Reply) (old new : SiteValue) → (old.broken ≡ false → ComeInOrder old.config old.states requests group) → AreSendable requests group →
+    PutsAll old new group replies → TakesAllFrom old new (turns_of requests replies)
+takes_put [] [] [] old new ordered sendable all = all
+takes_put [] [] (x ∷ replies) old new ordered sendable all = absurd all
+takes_put [] (p ∷ group) replies old new ordered sendable all = absurd sendable
+takes_put (r ∷ requests) [] replies old new ordered sendable all = absurd sendable
+takes_put (r ∷ requests) (p ∷ group) [] old new ordered sendable all = absurd all
+takes_put (r ∷ requests) (p ∷ group) (x ∷ replies) old new ordered sendable all = (
+  all.0,
+  one_answers old all.0 r p x old.broken refl (λ whole. (ordered whole).0) sendable.0 all.1,
+  takes_put requests group replies all.0 new (ordered_after old all.0 p x requests group all.1 (λ whole. (ordered whole).1)) sendable.1 all.2,
+)
+
+one_unstored_from : (old : SiteValue) (request : Request) (prepared : Prepared) → old.broken ≡ false → ComesTo old.config old.states request prepared → IsSendable request prepared → AnswersOneFrom old old request (reply_unstored prepared)
+one_unstored_from old request (Answer reply) was comes sendable = one_whole old old request reply reply was refl sendable (inl (answers_same old request reply comes))
+one_unstored_from old request (Change change) was comes sendable =
+    one_whole old old request (Refused Store) (Refused Store) was refl
+    (record { other = λ bad. cc; fits = refused_fits Store; choice = nothing_added request Store })
+    (inr (record { told = refl; changes = λ same. insert_differs old.states change.key change.state comes.0.differs (sym comes.0.after ∙ same); whole = was; site = refl }))
+
+pub takes_unstored : (requests : List Request) (group : List Prepared) (old : SiteValue) → old.broken ≡ false → AllComeTo old.config old.states requests group → AreSendable requests group →
+    TakesAllFrom old old (turns_of requests (map reply_unstored group))
+takes_unstored [] [] old was each sendable = refl
+takes_unstored [] (p ∷ group) old was each sendable = absurd sendable
+takes_unstored (r ∷ requests) [] old was each sendable = absurd sendable
+takes_unstored (r ∷ requests) (p ∷ group) old was each sendable = (old, one_unstored_from old r p was each.0 sendable.0, takes_unstored requests group old was each.1 sendable.1)
+
+-- ---- the site at the end
+
+broken_stays : (group : List Prepared) (replies : List Reply) (old new : SiteValue) → old.broken ≡ true → PutsAll old new group replies → new ≡ old
+broken_stays [] [] old new was all = all
+broken_stays [] (x ∷ replies) old new was all = absurd all
+broken_stays (p ∷ group) [] old new was all = absurd all
+broken_stays (p ∷ group) (x ∷ replies) old new was all =
+    let here : all.0 ≡ old = (all.1.broken was).1 in
+    broken_stays group replies all.0 new (ap (λ (s : SiteValue). s.broken) here ∙ was) all.2 ∙ here
+
+states_with : (old : SiteValue) (prepared : Prepared) → (with_one old prepared).states ≡ with_prepared old.states prepared
+states_with old (Answer reply) = refl
+states_with old (Change change) = refl
+
+states_on : (prepared : Prepared) (reply : Reply) (group : List Prepared) (replies : List Reply) (old mid new : SiteValue) (is : Bool) → mid.broken ≡ is → PutsIfWhole old mid prepared reply → PutsAll mid new group replies →
+    (mid.broken ≡ false → new.states ≡ with_group mid.states group) → new.broken ≡ false → new.states ≡ with_group (with_prepared old.states prepared) group
+states_on prepared reply group replies old mid new true is puts rest later whole =
+    absurd (true≢false (sym (ap (λ (s : SiteValue). s.broken) (broken_stays group replies mid new is rest) ∙ is) ∙ whole))
+states_on prepared reply group replies old mid new false is puts rest later whole =
+    let was : old.broken ≡ false = was_whole old mid prepared reply old.broken refl puts is in
+    later is ∙ ap (λ m. with_group m group) (ap (λ (s : SiteValue). s.states) (whole_after old mid prepared reply is (puts.whole was)) ∙ states_with old prepared)
+
+pub states_end : (group : List Prepared) (replies : List Reply) (old new : SiteValue) → PutsAll old new group replies → new.broken ≡ false → new.states ≡ with_group old.states group
+states_end [] [] old new all whole = ap (λ (s : SiteValue). s.states) all
+states_end [] (x ∷ replies) old new all whole = absurd all
+states_end (p ∷ group) [] old new all whole = absurd all
+states_end (p ∷ group) (x ∷ replies) old new all whole = states_on p x group replies old all.0 new all.0.broken refl all.1 all.2 (λ is. states_end group replies all.0 new all.2 whole) whole
+
+-- where nothing is stored nothing is changed
+pub still_end : (group : List Prepared) (replies : List Reply) (old new : SiteValue) → old.broken ≡ false → pairs_in group ≡ [] → PutsAll old new group replies → new ≡ old
+still_end [] [] old new was none all = all
+still_end [] (x ∷ replies) old new was none all = absurd all
+still_end (p ∷ group) [] old new was none all = absurd all
+still_end (Answer reply ∷ group) (x ∷ replies) old new was none all =
+    let here : all.0 ≡ old = (all.1.whole was).1 in
+    still_end group replies all.0 new (ap (λ (s : SiteValue). s.broken) here ∙ was) none all.2 ∙ here
+still_end (Change change ∷ group) (x ∷ replies) old new was none all = absurd cc
+
+-- ---- what a break leaves out
+
+among_skip : (requests : List Request) (turn : Turn) (turns : List Turn) → AreAmong requests turns → AreAmong requests (turn ∷ turns)
+among_skip [] turn turns all = tt
+among_skip (request ∷ requests) turn turns all = inr all
+
+-- after the break each request is told 22, and those with a change are the rest of the commit
+abbrev IsRest : ConfigValue → States → List Turn → States → Type 0
+IsRest config m turns after = (rest : List Request) × AreAmong rest turns × (after_all config m rest ≡ after)
+
+rest_of : (config : ConfigValue) (requests : List Request) (group : List Prepared) (replies : List Reply) (m : States) (site new : SiteValue) → site.broken ≡ true → ComeInOrder config m requests group → PutsAll site new group replies →
+    IsRest config m (turns_of requests replies) (with_group m group)
+rest_of config [] [] replies m site new was ordered all = ([], tt, refl)
+rest_of config [] (p ∷ group) replies m site new was ordered all = absurd ordered
+rest_of config (r ∷ requests) [] replies m site new was ordered all = absurd ordered
+rest_of config (r ∷ requests) (p ∷ group) [] m site new was ordered all = absurd all
+rest_of config (r ∷ requests) (Answer reply ∷ group) (x ∷ replies) m site new was ordered all =
+    let here : all.0 ≡ site = (all.1.broken was).1 in
+    let later : IsRest config m (turns_of requests replies) (with_group m group) =
+    rest_of config requests group replies m all.0 new (ap (λ (s : SiteValue). s.broken) here ∙ was) ordered.1 all.2 in
+    (later.0, among_skip later.0 (record { asked = Ok r; reply = x }) (turns_of requests replies) later.1, later.2)
+rest_of config (r ∷ requests) (Change change ∷ group) (x ∷ replies) m site new was ordered all =
+    let here : all.0 ≡ site = (all.1.broken was).1 in
+    let later : IsRest config (insert m change.key change.state) (turns_of requests replies) (with_group (insert m change.key change.state) group) =
+    rest_of config requests group replies (insert m change.key change.state) all.0 new (ap (λ (s : SiteValue). s.broken) here ∙ was) ordered.1 all.2 in
+    (r ∷ later.0, inl ((refl, (all.1.broken was).0), later.1), ap (λ n. after_all config n later.0) ordered.0.0.after ∙ later.2)
+
+-- the same of a site that broke, and what it then lacks
+pub record LostAt (turns : List Turn) (site : SiteValue) (after : States) : Type 0 where
+  pub before : List Turn
+  pub broke : Turn
+  pub later : List Turn
+  pub all : turns ≡ before ++ broke ∷ later
+  pub first : AllByRecursion IsToldElse before
+  pub request : Request
+  pub asked : IsToldBroken request broke
+  pub changes : after_from site.config site.states request ≢ site.states
+  pub rest : List Request
+  pub among : AreAmong rest later
+  pub is : after_all site.config site.states (request ∷ rest) ≡ after
+
+lost_here : (requests : List Request) (group : List Prepared) (replies : List Reply) (request : Request) (reply : Reply) (prepared : Prepared) (old mid new : SiteValue) → old.broken ≡ false → mid.broken ≡ true →
+    ComesTo old.config old.states request prepared → ComeInOrder old.config (with_prepared old.states prepared) requests group → PutsOne old mid prepared reply → PutsAll mid new group replies →
+    LostAt (record { asked = Ok request; reply = reply } ∷ turns_of requests replies) new (with_group (with_prepared old.states prepared) group)
+lost_here requests group replies request reply (Answer told) old mid new was is comes ordered puts all =
+    absurd (true≢false (sym is ∙ ap (λ (s : SiteValue). s.broken) puts.1 ∙ was))
+lost_here requests group replies request reply (Change change) old mid new was is comes ordered (inl puts) all =
+    absurd (true≢false (sym is ∙ ap (λ (s : SiteValue). s.broken) puts.1))
+lost_here requests group replies request reply (Change change) old mid new was is comes ordered (inr puts) all =
+    let turns : List Turn = record { asked = Ok request; reply = reply } ∷ turns_of requests replies in
+    let end : new ≡ broken_site old = broken_stays group replies mid new is all ∙ puts.1 in
+    let later : IsRest old.config (insert old.states change.key change.state) (turns_of requests replies) (with_group (insert old.states change.key change.state) group) =
+    rest_of old.config requests group replies (insert old.states change.key change.state) mid new is ordered all in
+    subst (λ s. LostAt turns s (with_group (insert old.states change.key change.state) group)) (sym end) (record {
+      before = [];
+      broke = record { asked = Ok request; reply = reply };
+      later = turns_of requests replies;
+      all = refl;
+      first = tt;
+      request = request;
+      asked = (refl, puts.0);
+      changes = λ same. insert_differs old.states change.key change.state comes.0.differs (sym comes.0.after ∙ same);
+      rest = later.0;
+      among = later.1;
+      is = ap (λ n. after_all old.config n later.0) comes.0.after ∙ later.2;
+    })
+
+lost_further : (turn : Turn) (turns : List Turn) (site : SiteValue) (after : States) → IsToldElse turn → LostAt turns site after → LostAt (turn ∷ turns) site after
+lost_further turn turns site after none lost = record {
+  before = turn ∷ lost.before;
+  broke = lost.broke;
+  later = lost.later;
+  all = ap (λ l. turn ∷ l) lost.all;
+  first = (none, lost.first);
+  request = lost.request;
+  asked = lost.asked;
+  changes = lost.changes;
+  rest = lost.rest;
+  among = lost.among;
+  is = lost.is;
+}
+
+lost_on : (requests : List Request) (group : List Prepared) (replies : List Reply) (request : Request) (reply : Reply) (prepared : Prepared) (old mid new : SiteValue) (is : Bool) → mid.broken ≡ is → old.broken ≡ false →
+    ComesTo old.config old.states request prepared → ComeInOrder old.config (with_prepared old.states prepared) requests group → IsSendable request prepared → PutsIfWhole old mid prepared reply → PutsAll mid new group replies →
+    (mid.broken ≡ false → ComeInOrder mid.config mid.states requests group → LostAt (turns_of requests replies) new (with_group mid.states group)) →
+    LostAt (record { asked = Ok request; reply = reply } ∷ turns_of requests replies) new (with_group (with_prepared old.states prepared) group)
+lost_on requests group replies request reply prepared old mid new true is was comes ordered one puts all later =
+    lost_here requests group replies request reply prepared old mid new was is comes ordered (puts.whole was) all
+lost_on requests group replies request reply prepared old mid new false is was comes ordered one puts all later =
+    let after : mid ≡ with_one old prepared = whole_after old mid prepared reply is (puts.whole was) in
+    let states : mid.states ≡ with_prepared old.states prepared = ap (λ (s : SiteValue). s.states) after ∙ states_with old prepared in
+    lost_further (record { asked = Ok request; reply = reply }) (turns_of requests replies) new (with_group (with_prepared old.states prepared) group)
+    (told_turn old mid (Ok request) reply (one_puts old mid request prepared reply was comes one (puts.whole was)) is)
+    (subst (λ m. LostAt (turns_of requests replies) new (with_group m group)) states
+    (later is (ordered_after old mid prepared reply requests group puts (λ _. ordered) is)))
+
+pub lost_end : (requests : List Request) (group : List Prepared) (replies : List Reply) (old new : SiteValue) → old.broken ≡ false → new.broken ≡ true → ComeInOrder old.config old.states requests group → AreSendable requests group →
+    PutsAll old new group replies → LostAt (turns_of requests replies) new (with_group old.states group)
+lost_end [] [] [] old new was broken ordered sendable all = absurd (true≢false (sym broken ∙ ap (λ (s : SiteValue). s.broken) all ∙ was))
+lost_end [] [] (x ∷ replies) old new was broken ordered sendable all = absurd all
+lost_end [] (p ∷ group) replies old new was broken ordered sendable all = absurd sendable
+lost_end (r ∷ requests) [] replies old new was broken ordered sendable all = absurd sendable
+lost_end (r ∷ requests) (p ∷ group) [] old new was broken ordered sendable all = absurd all
+lost_end (r ∷ requests) (p ∷ group) (x ∷ replies) old new was broken ordered sendable all =
+    lost_on requests group replies r x p old all.0 new all.0.broken refl was ordered.0 ordered.1 sendable.0 all.1 all.2
+    (λ is next. lost_end requests group replies all.0 new is broken next sendable.1 all.2)

@@ -1,0 +1,12 @@
+use Rattle.std.proofs.Common.{◌≡◌, ◌≤◌, false, length, take}
+use Rattle.mvd_replica.specs.Groups.{StandTogether, changes_in}
+use Rattle.mvd_replica.proofs.groups.prepare_all.Given as goal
+
+-- what the requests so far came to
+abbrev pub invariant-loop-request : goal.invariant-loop-request
+invariant-loop-request l = record {
+  count : length l.group.items ≡ l.request-index;
+  changes : l.changes ≡ changes_in l.group.items;
+  few : l.changes ≤ 1000000;
+  together : l.site.broken ≡ false → StandTogether l.site (take l.request-index l.requests) l.group.items;
+}

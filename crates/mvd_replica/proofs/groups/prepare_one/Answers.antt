@@ -1,0 +1,26 @@
+use Rattle.std.proofs.Common.{Ok, sym, subst}
+use Rattle.mvd_site.specs.Prepared.{IsReady, PreparesFrom}
+use Rattle.mvd_replica.specs.Groups.{ComesTo, IsSendable}
+use Rattle.mvd_replica.proofs.Grouped.{comes_answer, comes_change, comes_refused}
+use Rattle.mvd_replica.proofs.groups.prepare_one.Goals as goal
+
+pub returns-in-Err : goal.returns-in-Err
+returns-in-Err c = record { comes = λ whole. comes_refused c.args.site.now c.args.request.now c.in-Err.refusal whole (c.in-Err.ensures.states whole) c.in-Err.ensures.whole }
+
+pub returns-in-Change : goal.returns-in-Change
+returns-in-Change c = record {
+  comes = λ whole.
+      let site = c.args.site.now in
+      subst (λ p. ComesTo site.config site.states c.args.request.now p × IsSendable c.args.request.now p) (sym c.in-Change.is)
+      (comes_change site c.args.request.now c.in-Change.change (subst (λ p. PreparesFrom site.config site.states c.args.request.now (Ok p)) c.in-Change.is (c.in-Ok.ensures.states whole))
+      (subst (IsReady site) c.in-Change.is c.in-Ok.ensures.ready) c.in-Ok.ensures.valid c.state-state.ensures.spelled);
+}
+
+pub returns-in_default : goal.returns-in_default
+returns-in_default c = record {
+  comes = λ whole.
+      let site = c.args.site.now in
+      subst (λ p. ComesTo site.config site.states c.args.request.now p × IsSendable c.args.request.now p) (sym c.in_default.is)
+      (comes_answer site c.args.request.now c.in_default.field-0 (subst (λ p. PreparesFrom site.config site.states c.args.request.now (Ok p)) c.in_default.is (c.in-Ok.ensures.states whole))
+      (subst (IsReady site) c.in_default.is c.in-Ok.ensures.ready) c.in-Ok.ensures.valid);
+}

@@ -1,0 +1,42 @@
+use Rattle.std.proofs.Common.{ap, length, take, sym, subst, arith}
+use Rattle.sqlite.specs.Held.{state}
+use Rattle.mvd_replica.specs.Batch.{AnswersAll}
+use Rattle.mvd_replica.proofs.Batched.{AnswersAll-none, front_answers, front_grows, front_of, front_within}
+use Rattle.mvd_replica.proofs.replica.Replica.answer_all.Goals as goal
+
+pub groups-init : goal.groups-init
+groups-init g c =
+    let site = c.args.self.now.site in
+    let store = state g.S.Store c.args.self.now.records.conn in
+    let none = c.in_ok-replies.ensures.items in
+    record {
+      answers = subst (λ l. AnswersAll (take (length l) c.args.requests.now) l site site store store) (sym none) (AnswersAll-none site store);
+      within = omega (arith, ap length none);
+      room = c.in_ok-replies.ensures.capacity;
+    }
+
+pub groups-preserved : goal.groups-preserved
+groups-preserved g c =
+    let requests = c.args.requests.now in
+    let told = c.groups.replies.items in
+    let given = c.answer_front.new.replies.items in
+    let front = front_of requests c.len-in-groups.result told given c.groups.self.site c.answer_front.new.self.site (state g.S.Store c.groups.self.records.conn) (state g.S.Store c.answer_front.new.self.records.conn)
+    (omega (arith, c.len-in-groups.ensures, c.groups.replies.ok.0)) c.answer_front.ensures.answers in
+    record {
+      answers = front_answers requests told given c.args.self.now.site c.groups.self.site c.answer_front.new.self.site (state g.S.Store c.args.self.now.records.conn) (state g.S.Store c.groups.self.records.conn)
+          (state g.S.Store c.answer_front.new.self.records.conn) c.groups.invariant.within c.groups.invariant.answers front;
+      within = front_within requests told given c.args.self.now.site c.groups.self.site c.answer_front.new.self.site (state g.S.Store c.args.self.now.records.conn) (state g.S.Store c.groups.self.records.conn)
+          (state g.S.Store c.answer_front.new.self.records.conn) c.groups.invariant.within c.groups.invariant.answers front;
+      room = omega (arith, c.groups.invariant.room, c.answer_front.ensures.room);
+    }
+
+pub groups-smaller : goal.groups-smaller
+groups-smaller g c =
+    let requests = c.args.requests.now in
+    let told = c.groups.replies.items in
+    let given = c.answer_front.new.replies.items in
+    let front = front_of requests c.len-in-groups.result told given c.groups.self.site c.answer_front.new.self.site (state g.S.Store c.groups.self.records.conn) (state g.S.Store c.answer_front.new.self.records.conn)
+    (omega (arith, c.len-in-groups.ensures, c.groups.replies.ok.0)) c.answer_front.ensures.answers in
+    let grows = front_grows requests told given c.args.self.now.site c.groups.self.site c.answer_front.new.self.site (state g.S.Store c.args.self.now.records.conn) (state g.S.Store c.groups.self.records.conn)
+    (state g.S.Store c.answer_front.new.self.records.conn) c.groups.invariant.within c.groups.invariant.answers front in
+    omega (arith, grows, c.groups-test.true, c.len.ensures, c.groups.replies.ok.0)

@@ -1,0 +1,51 @@
+-- A site in a file: what the file and its log hold, as one image of both, and what opening and closing it comes to.
+use Rattle.std.specs.Prelude.{◌≡◌, ℕ}
+use Rattle.mvd_dots.specs.declared.refusals.Refusal.{Refusal}
+use Rattle.mvd_site.specs.Config.{ConfigValue}
+use Rattle.mvd_site.specs.Held.{States}
+use Rattle.mvd_site.specs.Sites.{SiteValue}
+use Rattle.mvd_records.specs.Records.{IsOurs}
+use Rattle.sqlite_disk.specs.declared.Disk.{Ghosts}
+use Rattle.sqlite_disk.specs.declared.Files.{Files}
+use Rattle.sqlite.specs.Effect.{Database, IsDatabase}
+use Rattle.sqlite.specs.Files.{AreFoundIn, HoldsDatabase, image_of}
+use Rattle.sqlite.specs.Recovery.{Image}
+use Rattle.sqlite.specs.WalFiles.{outcomes}
+use Rattle.mvd_replica.specs.Kept.{HoldsStates}
+use Rattle.mvd_replica.specs.Opened.{OpensSite, RefusesSite}
+
+-- the image holds this database: the pages that it recovers to are a sound file, whose trees are the database's, and list its schema
+pub record HoldsImage (image : Image) (db : Database) : Type 0 where
+  pub trees : ∥ HoldsDatabase image db.trees ∥₁
+  pub sound : IsDatabase db
+
+-- the image holds these states of a site, and nothing else
+pub record HoldsFile (image : Image) (site : ℕ) (states : States) : Type 0 where
+  pub db : Database
+  pub held : HoldsImage image db
+  pub holds : HoldsStates site states db
+
+-- The database that was found is the one that the image holds, if it holds one. Else the image held none yet, and it is empty
+pub record IsFoundIn (image : Image) (was : Database) : Type 0 where
+  pub holds : (db : Database) → HoldsImage image db → was ≡ db
+  pub reads : AreFoundIn image was.trees
+
+-- the site that a file was opened as, and what the records then hold
+pub record OpensFile (image : Image) (config : ConfigValue) (site : SiteValue) (now : Database) : Type 0 where
+  pub was : Database
+  pub found : IsFoundIn image was
+  pub opened : IsOurs was → OpensSite config was site now
+  -- where the image held some states, the site has just these
+  pub just : (number : ℕ) (states : States) → HoldsFile image number states → site.states ≡ states
+
+-- why it was not opened as a site
+pub record RefusesFile (image : Image) (config : ConfigValue) (e : Refusal) (now : Database) : Type 0 where
+  pub was : Database
+  pub found : IsFoundIn image was
+  pub refused : IsOurs was → RefusesSite config was e now
+
+-- What the database held of a site, the files hold: as they read now, and as whatever a crash leaves of them reads
+pub record ClosesFile {D : Type 0} (g : Ghosts D) (db : Database) (files : Files D) : Type 0 where
+  pub seen : (site : ℕ) (states : States) → HoldsStates site states db → HoldsFile (image_of g files) site states
+  pub left : (image : Image) → outcomes g files.log files.db image → (site : ℕ) (states : States) → HoldsStates site states db →
+      HoldsFile image site states

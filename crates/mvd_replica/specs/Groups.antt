@@ -1,0 +1,143 @@
+-- What the requests of one commit come to, prepared side by side, before anything is changed.
+use Rattle.std.specs.Prelude.{◌≡◌, ◌≢◌, ◌⊎◌, ⊤, ℕ, ◌+◌, ◌<◌, false, true, List, [], ◌∷◌}
+use Rattle.std.specs.List.{AllByRecursion}
+use Rattle.std.specs.FinMap.{insert, len as map_len}
+use Rattle.mvd_dots.specs.declared.refusals.Refusal.TheVariants.{Broken, Memory, Store}
+use Rattle.mvd_keys.specs.Writes.{Key, Write}
+use Rattle.mvd_wire.specs.Codecs.{spell_state}
+use Rattle.mvd_wire.specs.declared.request.Request.{Request}
+use Rattle.mvd_wire.specs.declared.request.Request.TheVariants.{Get, Put, Delete, Push, Bye}
+use Rattle.mvd_wire.specs.declared.reply.Reply.{Reply}
+use Rattle.mvd_wire.specs.declared.reply.Reply.TheVariants.{Refused}
+use Rattle.mvd_wire.specs.Replies.{CanBeSent}
+use Rattle.mvd_site.specs.Change.{reply_of}
+use Rattle.mvd_site.specs.Config.{ConfigValue}
+use Rattle.mvd_site.specs.Held.{IsHeldState, IsSpelled, States}
+use Rattle.mvd_site.specs.Known.{Adds}
+use Rattle.mvd_site.specs.Prepared.{IsChangeNow, PreparesAnswerFrom, PreparesChangeFrom}
+use Rattle.mvd_kept.specs.declared.changes.Prepared.{Prepared}
+use Rattle.mvd_kept.specs.declared.changes.Prepared.TheVariants.{Answer, Change}
+use Rattle.mvd_site.specs.Sites.{SiteValue, has_no_room}
+use Rattle.mvd_replica.specs.Kept.{broken_site, with_change}
+
+-- ---- one request
+
+-- the request is at one key, and that is another, or it asks for nothing
+abbrev pub IsElsewhere : Key → Request → Type 0
+IsElsewhere key (Get own) = own ≢ key
+IsElsewhere key (Put own seen document) = own ≢ key
+IsElsewhere key (Delete own seen) = own ≢ key
+IsElsewhere key (Push own pushed) = own ≢ key
+IsElsewhere key Bye = ⊤
+IsElsewhere key request = ⊥
+
+-- it sees nothing of what was prepared
+abbrev pub IsApart : Request → Prepared → Type 0
+IsApart request (Answer reply) = ⊤
+IsApart request (Change change) = IsElsewhere change.key request
+
+-- what a request comes to from these states: a reply that changes nothing, or memory was refused; or a change
+abbrev pub ComesTo : ConfigValue → States → Request → Prepared → Type 0
+ComesTo config states request (Answer reply) = PreparesAnswerFrom config states request reply ⊎ (reply ≡ Refused Memory)
+ComesTo config states request (Change change) = PreparesChangeFrom config states request change × (has_no_room config states change.key ≡ false)
+
+-- the reply can be sent, and there are writes that the request then adds
+pub record IsReply (request : Request) (reply : Reply) : Type 0 where
+  pub other : reply ≢ Refused Broken
+  pub fits : CanBeSent reply
+  pub choice : (added : List Write) × Adds request reply added
+
+-- what holds of it from whatever states
+abbrev pub IsSendable : Request → Prepared → Type 0
+IsSendable request (Answer reply) = IsReply request reply
+IsSendable request (Change change) = IsReply request (reply_of change.dot) × IsHeldState change.state × IsSpelled change.state
+
+-- ---- many
+
+-- each request came to this from these states
+abbrev pub AllComeTo : ConfigValue → States → List Request → List Prepared → Type 0
+AllComeTo config states [] [] = ⊤
+AllComeTo config states (request ∷ requests) (prepared ∷ group) = ComesTo config states request prepared × AllComeTo config states requests group
+AllComeTo config states requests group = ⊥
+
+abbrev pub AreSendable : List Request → List Prepared → Type 0
+AreSendable [] [] = ⊤
+AreSendable (request ∷ requests) (prepared ∷ group) = IsSendable request prepared × AreSendable requests group
+AreSendable requests group = ⊥
+
+-- the states with a change put in, and with all of a group's
+abbrev pub with_prepared : States → Prepared → States
+with_prepared states (Answer reply) = states
+with_prepared states (Change change) = insert states change.key change.state
+
+abbrev pub with_group : States → List Prepared → States
+with_group states [] = states
+with_group states (prepared ∷ group) = with_group (with_prepared states prepared) group
+
+-- each request comes to this also once what was prepared before it is put in
+abbrev pub ComeInOrder : ConfigValue → States → List Request → List Prepared → Type 0
+ComeInOrder config states [] [] = ⊤
+ComeInOrder config states (request ∷ requests) (prepared ∷ group) =
+    ComesTo config states request prepared × ComeInOrder config (with_prepared states prepared) requests group
+ComeInOrder config states requests group = ⊥
+
+-- What was prepared of requests beside each other: each stands by itself, and after those before it
+pub record StandTogether (site : SiteValue) (requests : List Request) (group : List Prepared) : Type 0 where
+  pub each : AllComeTo site.config site.states requests group
+  pub ordered : ComeInOrder site.config site.states requests group
+  pub sendable : AreSendable requests group
+
+-- the number of changes among them
+abbrev pub is_change : Prepared → ℕ
+is_change (Answer reply) = 0
+is_change (Change change) = 1
+
+abbrev pub changes_in : List Prepared → ℕ
+changes_in [] = 0
+changes_in (prepared ∷ group) = is_change prepared + changes_in group
+
+-- a request may be prepared beside these: it sees none of them, and once they are in there is room for a key more
+pub record MayJoin (site : SiteValue) (request : Request) (group : List Prepared) : Type 0 where
+  pub apart : AllByRecursion (IsApart request) group
+  pub room : 0 < changes_in group → map_len site.states + changes_in group < site.config.max_keys
+
+-- what is to be stored of them
+abbrev pub pairs_in : List Prepared → List (List ℕ × List ℕ)
+pairs_in [] = []
+pairs_in (Answer reply ∷ group) = pairs_in group
+pairs_in (Change change ∷ group) = (change.key, spell_state change.state) ∷ pairs_in group
+
+-- ---- putting in
+
+-- each change may be put in, once those before it are
+abbrev pub MayBeIn : SiteValue → Prepared → Type 0
+MayBeIn site (Answer reply) = ⊤
+MayBeIn site (Change change) = (has_no_room site.config site.states change.key ≡ false) × IsHeldState change.state × IsChangeNow site change
+
+abbrev pub with_one : SiteValue → Prepared → SiteValue
+with_one site (Answer reply) = site
+with_one site (Change change) = with_change site change
+
+abbrev pub MayAllBeIn : SiteValue → List Prepared → Type 0
+MayAllBeIn site [] = ⊤
+MayAllBeIn site (prepared ∷ group) = MayBeIn site prepared × MayAllBeIn (with_one site prepared) group
+
+-- what putting one in comes to: a site that is not broken replies what was prepared, or it breaks; a broken one says so
+abbrev pub PutsOne : SiteValue → SiteValue → Prepared → Reply → Type 0
+PutsOne old new (Answer told) reply = (reply ≡ told) × (new ≡ old)
+PutsOne old new (Change change) reply =
+    ((reply ≡ reply_of change.dot) × (new ≡ with_change old change)) ⊎ ((reply ≡ Refused Broken) × (new ≡ broken_site old))
+
+pub record PutsIfWhole (old new : SiteValue) (prepared : Prepared) (reply : Reply) : Type 0 where
+  pub whole : old.broken ≡ false → PutsOne old new prepared reply
+  pub broken : old.broken ≡ true → (reply ≡ Refused Broken) × (new ≡ old)
+
+abbrev pub PutsAll : SiteValue → SiteValue → List Prepared → List Reply → Type 0
+PutsAll old new [] [] = new ≡ old
+PutsAll old new (prepared ∷ group) (reply ∷ replies) = (mid : SiteValue) × PutsIfWhole old mid prepared reply × PutsAll mid new group replies
+PutsAll old new group replies = ⊥
+
+-- the reply where the store refused the changes
+abbrev pub reply_unstored : Prepared → Reply
+reply_unstored (Answer reply) = reply
+reply_unstored (Change change) = Refused Store

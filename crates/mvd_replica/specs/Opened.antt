@@ -1,0 +1,54 @@
+-- What opening a site's records comes to: one relation, over the database that was found, what was returned, and what was left.
+use Rattle.std.specs.Prelude.{◌≡◌, ◌⊎◌, false, ℕ, List, Ok, Err}
+use Rattle.mvd_dots.specs.declared.refusals.Refusal.{Refusal}
+use Rattle.mvd_dots.specs.declared.refusals.Refusal.TheVariants.{Damaged, Full, Memory, SiteMismatch}
+use Rattle.mvd_keys.specs.Writes.{Stands, Write}
+use Rattle.mvd_records.specs.Records.{IsOpenRefusal, IsOurs, IsSound, TellsVersion, marks_of}
+use Rattle.mvd_site.specs.Config.{ConfigValue}
+use Rattle.mvd_site.specs.Sites.{SiteValue}
+use Rattle.sqlite.specs.Effect.{Database}
+use Rattle.sqlite.specs.State.{State}
+use Rattle.mvd_replica.specs.Kept.{HoldsSite}
+use Rattle.mvd_replica.specs.Stored.{AreDamaged, AreReadable, HasJust, HoldsTooMany, Resumes, SameStates}
+
+-- What was found is in order. The site holds just the states that its two maps spell, and so do the records that are left, with no
+-- key of version 1 among them.
+pub record OpensSite (config : ConfigValue) (was : Database) (site : SiteValue) (now : Database) : Type 0 where
+  pub order : AreReadable config.site was
+  pub spelled : HasJust was site.states
+  pub holds : HoldsSite site now
+  pub states : SameStates was now
+
+-- Why it is no site of ours to open: 16 where the marks are another site's, 17 where the records are damaged, 10 where they hold
+-- too many keys. The states stay; what is left is as it was, or goes on where a move of old keys was broken off.
+pub record RefusesSite (config : ConfigValue) (was : Database) (e : Refusal) (now : Database) : Type 0 where
+  pub states : SameStates was now
+  pub mismatch : e ≡ SiteMismatch → TellsVersion (marks_of was) config.site (Err SiteMismatch)
+  pub damaged : e ≡ Damaged → AreDamaged config.site was
+  pub full : e ≡ Full → HoldsTooMany config.max_keys now × AreReadable config.site was
+  pub resumes : (now ≡ was) ⊎ ((version : ℕ) × TellsVersion (marks_of was) config.site (Ok version) × Resumes version config.site was now)
+
+-- Of a database that was one of ours, where the store is sound after the call: nobody else has written it, it has returned what
+-- was written, and no failure has shut it
+abbrev pub OfOurs : State → State → Type 0 → Type 0
+OfOurs store after P = IsSound after → IsOurs store.committed → P
+
+-- a refusal of an open
+abbrev pub IsSiteRefusal : Refusal → Type 0
+IsSiteRefusal e = IsOpenRefusal e ⊎ ((e ≡ Full) ⊎ (e ≡ Memory))
+
+-- the site that was opened, and the store that it leaves
+pub record IsOpened (config : ConfigValue) (store : State) (site : SiteValue) (after : State) : Type 0 where
+  pub is : (site.config ≡ config) × (site.broken ≡ false)
+  -- there is a set of writes that it stands for
+  pub stands : (known : List Write) × Stands site.states known
+  pub before : IsSound after → IsSound store
+  pub opened : OfOurs store after (OpensSite config store.committed site after.committed)
+
+-- the refusal, and the store that it leaves
+pub record IsRefused (config : ConfigValue) (store : State) (e : Refusal) (after : State) : Type 0 where
+  pub refusal : IsSiteRefusal e
+  pub before : IsSound after → IsSound store
+  pub refused : OfOurs store after (RefusesSite config store.committed e after.committed)
+  -- the records of another site stay as they are, whatever else the database holds
+  pub untouched : IsSound after → e ≡ SiteMismatch → after.committed ≡ store.committed

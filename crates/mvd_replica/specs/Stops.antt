@@ -1,0 +1,31 @@
+-- What a stop in the middle of a call may leave of a site's states.
+use Rattle.std.specs.Prelude.{◌≡◌, ◌⊎◌, false, ℕ, IsTrue}
+use Rattle.mvd_wire.specs.Codecs.{spell_state}
+use Rattle.mvd_wire.specs.declared.request.Request.{Request}
+use Rattle.mvd_records.specs.Records.{HoldsRecords, SavesState}
+use Rattle.mvd_site.specs.Change.{ChangeValue}
+use Rattle.mvd_site.specs.FromStates.{after_from}
+use Rattle.mvd_site.specs.Held.{States}
+use Rattle.mvd_site.specs.Sites.{SiteValue}
+use Rattle.sqlite.specs.Effect.{Database}
+use Rattle.sqlite.specs.State.{State}
+use Rattle.sqlite.specs.Tree.{Trees}
+use Rattle.mvd_replica.specs.Kept.{HoldsSite, HoldsStates}
+
+-- the trees are those of a database that holds these states of a site
+abbrev pub LeavesStates : ℕ → States → Trees → Type 0
+LeavesStates site states trees = (db : Database) × HoldsStates site states db × (trees ≡ db.trees)
+
+-- the trees are those of the records with a change stored, if the records were a site's
+abbrev pub LeavesChange : SiteValue → ChangeValue → State → Trees → Type 0
+LeavesChange site change s trees = IsTrue s.is_open → HoldsRecords 2 site.config.site s.committed →
+    (db : Database) × HoldsRecords 2 site.config.site db × SavesState s.committed db change.key (spell_state change.state) × (trees ≡ db.trees)
+
+-- the trees hold the states with the request's change, if the records held the site's
+abbrev pub LeavesAnswered : SiteValue → Request → State → Trees → Type 0
+LeavesAnswered site request s trees = IsTrue s.is_open → site.broken ≡ false → HoldsSite site s.committed →
+    LeavesStates site.config.site (after_from site.config site.states request) trees
+
+-- a stop leaves the states before the call or those after it, and nothing else
+abbrev pub StopsBetween : ℕ → States → States → (Trees → Type 0) → Type 0
+StopsBetween site before after may_leave = (trees : Trees) → may_leave trees → LeavesStates site before trees ⊎ LeavesStates site after trees

@@ -1,0 +1,238 @@
+//! What requests come to that share a commit: prepared side by side, stored at once, and then put in one after the other.
+ghost use Rattle.std.specs.Prelude.{◌≡◌, ◌⊎◌, ◌≤◌, ◌<◌, ◌+◌, ◌++◌, ℕ, List, IfErr, IfOk, OnErr, OnOk, IsTrue, [], false, true, length, map, take, vec_capacity};
+ghost use Rattle.std.specs.List.{AllByRecursion};
+ghost use Rattle.mvd_wire.specs.declared.reply.Reply.{Reply};
+ghost use Rattle.mvd_records.specs.Pairs.{entries_of};
+ghost use Rattle.mvd_records.specs.Records.{HoldsRecords, IsSound, SavesStates};
+ghost use Rattle.mvd_wire.specs.Codecs.{spell_state};
+ghost use Rattle.mvd_replica.specs.Groups.{ComesTo, IsApart, IsElsewhere, IsSendable, MayAllBeIn, MayBeIn, MayJoin, PutsAll, PutsIfWhole, StandTogether, changes_in, is_change, pairs_in, reply_unstored};
+ghost use Rattle.sqlite.specs.Held.{state};
+ghost use Rattle.sqlite.specs.State.{HasCleanDisk};
+
+use mvd_dots::Refusal;
+use mvd_keys::Key;
+use mvd_records::Records;
+use mvd_site::{Change, Prepared, Site};
+use mvd_wire::{Reply, Request};
+use sqlite::Alter;
+use std::alloc::Global;
+
+/// As many requests share a commit, so that no request is held against many others.
+const SHARING_MAX: usize = 1_024;
+
+/// Whether the answer to a request can depend on the state of this key.
+fn sees(request: &Request, key: &Key) -> bool
+    ensures { result ≡ false → IsElsewhere key.now request.now }
+{
+    match request {
+        Request::Get(own) => *own == *key,
+        Request::Put(own, ..) => *own == *key,
+        Request::Delete(own, _) => *own == *key,
+        Request::Push(own, _) => *own == *key,
+        Request::Bye => false,
+        _ => true,
+    }
+}
+
+/// Whether it can depend on what this changes.
+fn sees_one(request: &Request, prepared: &Prepared) -> bool
+    ensures { result ≡ false → IsApart request.now prepared.now }
+{
+    match prepared {
+        Prepared::Change(change) => sees(request, change.key()),
+        Prepared::Answer(_) => false,
+    }
+}
+
+/// Whether it can depend on what one of these changes.
+fn sees_any(request: &Request, group: &[Prepared]) -> bool
+    ensures { result ≡ false → AllByRecursion (IsApart request.now) group.now }
+{
+    for prepared in group {
+        if sees_one(request, prepared) {
+            return true;
+        }
+    }
+    false
+}
+
+/// Whether a request has to wait until these, with so many changes, are put in: it could see one, or there may be no room then.
+fn must_wait(site: &Site, group: &[Prepared], changes: u32, request: &Request) -> bool
+    requires count { changes ≡ changes_in group.now }
+    requires few { changes ≤ 1000000 }
+    ensures joins { result ≡ false → MayJoin site.now request.now group.now }
+    ensures few { result ≡ false → changes < 1000000 }
+{
+    if changes == 0 {
+        return false;
+    }
+    if group.len() >= SHARING_MAX {
+        return true;
+    }
+    let most = site.config().max_keys();
+    if site.key_count() + changes >= most {
+        return true;
+    }
+    sees_any(request, group)
+}
+
+/// The number of changes that this is.
+fn changes_of(prepared: &Prepared) -> u32
+    ensures count { result ≡ is_change prepared.now }
+    ensures few { result ≤ 1 }
+{
+    match prepared {
+        Prepared::Change(_) => 1,
+        Prepared::Answer(_) => 0,
+    }
+}
+
+/// What a request comes to, a refusal as the reply that tells it.
+fn prepare_one(site: &Site, request: &Request) -> Prepared
+    ensures comes { site.now.broken ≡ false →
+        ComesTo site.now.config site.now.states request.now result × IsSendable request.now result }
+{
+    let prepared = match site.prepare(request) {
+        Ok(prepared) => prepared,
+        Err(refusal) => return Prepared::Answer(Reply::Refused(refusal)),
+    };
+    if let Prepared::Change(change) = &prepared {
+        // Here it is known that what comes in has a spelling.
+        let _state = change.state();
+    }
+    prepared
+}
+
+/// What requests come to, from the first on, up to one that could see what was prepared before it, or for which there may be no
+/// room with that, or for which memory is refused in the list.
+pub fn prepare_all(alloc: Global, site: &Site, requests: &[Request]) -> Vec<Prepared>
+    ensures count { length result.items ≤ length requests.now }
+    ensures together { site.now.broken ≡ false →
+        StandTogether site.now (take (length result.items) requests.now) result.items }
+{
+    let mut group = Vec::new(alloc);
+    let mut changes: u32 = 0;
+    for request in requests {
+        if must_wait(site, &group, changes, request) {
+            return group;
+        }
+        let prepared = prepare_one(site, request);
+        changes += changes_of(&prepared);
+        match group.push(prepared) {
+            Ok(()) => {}
+            Err(_) => return group,
+        }
+    }
+    group
+}
+
+/// A change as it is stored.
+fn pair_of(alloc: Global, change: &Change) -> Result<(Key, Vec<u8>), Refusal>
+    ensures key { IfOk result (λ pair. pair.0 ≡ change.now.key) }
+    ensures bytes { IfOk result (λ pair. pair.1.items ≡ spell_state change.now.state) }
+    ensures memory { IfErr result (λ refusal. refusal ≡ Refusal.Memory) }
+{
+    let key = change.key().copy(alloc)?;
+    let mut bytes = Vec::new(alloc);
+    bytes.extend_from_slice(change.bytes())?;
+    Ok((key, bytes))
+}
+
+/// What is to be stored of these.
+fn pairs_of(alloc: Global, group: &[Prepared]) -> Result<Vec<(Key, Vec<u8>)>, Refusal>
+    ensures pairs { IfOk result (λ pairs. entries_of pairs.items ≡ pairs_in group.now) }
+    ensures memory { IfErr result (λ refusal. refusal ≡ Refusal.Memory) }
+{
+    let mut pairs = Vec::new(alloc);
+    for prepared in group {
+        if let Prepared::Change(change) = prepared {
+            let pair = pair_of(alloc, change)?;
+            pairs.push(pair)?;
+        }
+    }
+    Ok(pairs)
+}
+
+/// Stores the changes among these at once. Where memory is refused, or there are none, the records are as they were.
+pub fn store_all<S: Alter>(
+    alloc: Global,
+    records: &mut Records<S>,
+    group: &[Prepared],
+) -> Result<(), Refusal>
+    requires { records.old.version ≡ 2 }
+    ensures before { IsSound (state S.Store records.new.conn) → IsSound (state S.Store records.old.conn) }
+    ensures clean { HasCleanDisk (state S.Store records.new.conn) →
+        HasCleanDisk (state S.Store records.old.conn) }
+    ensures open { HasCleanDisk (state S.Store records.new.conn) →
+        OnOk result (IsTrue (state S.Store records.new.conn).is_open ⊎ (pairs_in group.now ≡ [])) }
+    ensures stored { (site : ℕ) → IsSound (state S.Store records.new.conn) →
+        HoldsRecords 2 site (state S.Store records.old.conn).committed →
+        OnOk result (HoldsRecords 2 site (state S.Store records.new.conn).committed ×
+        SavesStates (state S.Store records.old.conn).committed (state S.Store records.new.conn).committed
+        (pairs_in group.now)) }
+    ensures unchanged { IsSound (state S.Store records.new.conn) →
+        OnErr result ((state S.Store records.new.conn).committed ≡ (state S.Store records.old.conn).committed) }
+    ensures refusal { IfErr result (λ refusal. (refusal ≡ Refusal.Store) ⊎ ((refusal ≡ Refusal.Memory) × (records.new ≡ records.old))) }
+    ensures version { records.new.version ≡ records.old.version }
+{
+    if group.len() == 1 {
+        return match &group[0] {
+            Prepared::Change(change) => records.save(change.key(), change.bytes()),
+            Prepared::Answer(_) => Ok(()),
+        };
+    }
+    let pairs = pairs_of(alloc, group)?;
+    if pairs.is_empty() {
+        return Ok(());
+    }
+    records.save_all(&pairs)
+}
+
+/// Puts in what was prepared, if the site is not broken.
+fn put_one(site: &mut Site, prepared: Prepared) -> Reply
+    requires { site.old.broken ≡ false → MayBeIn site.old prepared }
+    ensures puts { PutsIfWhole site.old site.new prepared result }
+{
+    if site.is_broken() {
+        return Reply::Refused(Refusal::Broken);
+    }
+    match prepared {
+        Prepared::Answer(reply) => reply,
+        Prepared::Change(change) => {
+            let reply = change.reply();
+            match site.install(change) {
+                Ok(()) => reply,
+                Err(refusal) => Reply::Refused(refusal),
+            }
+        }
+    }
+}
+
+/// Puts in what was prepared, one after the other, until the site breaks.
+pub fn install_all(site: &mut Site, group: Vec<Prepared>, replies: &mut Vec<Reply>)
+    requires room { length replies.old.items + length group.items ≤ vec_capacity replies.old }
+    requires fresh { site.old.broken ≡ false → MayAllBeIn site.old group.items }
+    ensures puts { (told : List Reply) × (replies.new.items ≡ replies.old.items ++ told) ×
+        PutsAll site.old site.new group.items told }
+    ensures room { vec_capacity replies.new ≡ vec_capacity replies.old }
+{
+    for prepared in group {
+        let reply = put_one(site, prepared);
+        replies.push_reserved(reply);
+    }
+}
+
+/// The replies where the store refused the changes.
+pub fn refuse_all(group: Vec<Prepared>, replies: &mut Vec<Reply>)
+    requires room { length replies.old.items + length group.items ≤ vec_capacity replies.old }
+    ensures replies { replies.new.items ≡ replies.old.items ++ map reply_unstored group.items }
+    ensures room { vec_capacity replies.new ≡ vec_capacity replies.old }
+{
+    for prepared in group {
+        let reply = match prepared {
+            Prepared::Answer(reply) => reply,
+            Prepared::Change(_) => Reply::Refused(Refusal::Store),
+        };
+        replies.push_reserved(reply);
+    }
+}

@@ -1,0 +1,112 @@
+#!/usr/bin/env python3
+"""Checks what the documents name: files and folders, crates, functions, types, clauses, options and definitions.
+
+usage: tools/check_docs.py [FILE..]      (without a file: README.md, CONTRIBUTING.md, CHANGELOG.md and docs/)
+
+In each document it looks at the texts between backquotes, at file names that stand without them (docs/NAME.md), and at the
+width of lines of prose. A name is there if it is a word of the code, the specs, the proofs, the tools or the examples, or of the
+list below. Prints a line for each that is not found, and ends with 1 if there is one.
+"""
+import pathlib
+import re
+import subprocess
+import sys
+
+TOP = pathlib.Path(__file__).resolve().parent.parent
+WIDTH = 100
+# Words of other projects, of the toolchain and of the command line that no file of ours has.
+FOREIGN = {
+    "rt", "cargo", "valgrind", "perf", "top", "du", "sqlite3", "taskset", "sha256sum", "curl", "chromium", "python3", "Wait",
+}
+CODE = (".rt", ".antt", ".py", ".sh", ".txt", ".edit", ".mvd", ".toml", ".rs", ".html")
+
+
+def tracked():
+    out = subprocess.run(["git", "ls-files", "-co", "--exclude-standard"], cwd=TOP, capture_output=True, text=True, check=True)
+    return [name for name in out.stdout.splitlines() if (TOP / name).is_file()]
+
+
+def words_of(names):
+    """All words of the code, and each part of its paths."""
+    words = set()
+    for name in names:
+        words.update(re.findall(r"[A-Za-z_][A-Za-z0-9_-]*", name))
+        if name.endswith(CODE) or "/" in name and name.split("/")[0] in (".ci", "tools"):
+            text = (TOP / name).read_text(errors="replace")
+            words.update(re.findall(r"[A-Za-z_][A-Za-z0-9_]*(?:-[A-Za-z0-9_]+)*", text))
+            words.update(re.findall(r"[A-Za-z_][A-Za-z0-9_]*", text))
+    return words
+
+
+def is_path(token):
+    return re.fullmatch(r"[A-Za-z0-9_.+-]*(/[A-Za-z0-9_.+*-]+)+/?|[A-Za-z0-9_-]+\.(rt|antt|md|sh|py|mvd|txt|edit)", token) is not None
+
+
+def path_is_there(token, names):
+    """A path counts from the top, from crates/, from a crate, or from a folder of one."""
+    token = token.rstrip("/")
+    if "/out/" in token or token.startswith(("target/", "out/")):
+        return True  # made by a build
+    pattern = re.escape(token).replace(r"\*", "[^/]*").replace("NAME", "[^/]+").replace("MODULE", "[^/]+")
+    pattern = pattern.replace("FUNCTION", "[^/]+").replace("TYPE", "[^/]+").replace("METHOD", "[^/]+")
+    shape = re.compile(r"(^|/)" + pattern + r"($|/|\.antt$|\.rt$)")
+    return any(shape.search(name) for name in names)
+
+
+def tokens(line):
+    for text in re.findall(r"`([^`]+)`", line):
+        yield text
+    for text in re.findall(r"(?<![`\w/])((?:docs|tools|crates|examples|specs|src|proofs)/[A-Za-z0-9_/.-]*[A-Za-z0-9_])", line):
+        yield text
+
+
+def unknown_words(text, words):
+    """The words of a name such as `Type::call`, `crate::module`, `--option` or `word` that stand nowhere in the code."""
+    if re.search(r"[^A-Za-z0-9_:.\-<>(),&'*\[\]; ]", text) or " " in text:
+        return []
+    found = re.findall(r"[A-Za-z_][A-Za-z0-9_]*(?:-[A-Za-z0-9_]+)*", text)
+    return [word for word in found if not is_known(word, words)]
+
+
+def is_known(word, words):
+    """A word that ends with _ stands for all that begin so; goals of proofs and the kit's name are the toolchain's."""
+    if word in words or word in FOREIGN or len(word) < 3 or word.isupper() or re.match(r"[A-Z]+-|returns-|rattle-kit-", word):
+        return True
+    return word.endswith("_") and any(known.startswith(word) for known in words)
+
+
+def check(path, names, words):
+    faults = []
+    in_block = False
+    for number, line in enumerate((TOP / path).read_text().splitlines(), 1):
+        if line.lstrip().startswith("```"):
+            in_block = not in_block
+            continue
+        if in_block:
+            continue
+        if len(line) > WIDTH and not line.startswith("|") and "](" not in line:
+            faults.append(f"{path}:{number}: {len(line)} columns")
+        for text in tokens(line):
+            if is_path(text):
+                if not path_is_there(text, names):
+                    faults.append(f"{path}:{number}: no file {text}")
+                continue
+            for word in unknown_words(text, words):
+                faults.append(f"{path}:{number}: no name {word} (in `{text}`)")
+        for target in re.findall(r"\]\(([^)#]+)\)", line):
+            if "://" not in target and not ((TOP / path).parent / target).exists() and not (TOP / target).exists():
+                faults.append(f"{path}:{number}: no link {target}")
+    return faults
+
+
+def main():
+    names = tracked()
+    documents = sys.argv[1:] or [name for name in names if name.endswith(".md")]
+    words = words_of([name for name in names if not name.endswith(".md")])
+    faults = [fault for path in documents for fault in check(path, names, words)]
+    print("\n".join(faults) if faults else f"{len(documents)} documents: all that they name is there")
+    return 1 if faults else 0
+
+
+if __name__ == "__main__":
+    sys.exit(main())

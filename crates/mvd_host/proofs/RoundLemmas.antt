@@ -18,11 +18,11 @@ use Rattle.mvd_host.specs.Queueing.{AreDue, Queues, QueuesOn, refused_all, refus
 use Rattle.mvd_site.specs.Sites.{SiteValue}
 use Rattle.mvd_replica.specs.Batch.{AnswersAll}
 use Rattle.sqlite.specs.State.{State}
-use Rattle.mvd_host.specs.Round.{Course, Serves, turns_of}
+use Rattle.mvd_host.specs.Round.{Course, Round, Serves, turns_of}
 use Rattle.mvd_host.specs.declared.taking.Taken.{Taken}
 use Rattle.mvd_host.proofs.Own.{both_on, own-append}
-use Rattle.mvd_host.proofs.Serving.{IsStill, serves_still, serves_turns}
-use Rattle.mvd_host.proofs.ToldLemmas.{due_later, on, queued_length}
+use Rattle.mvd_host.proofs.Serving.{IsStill, serves_none, serves_on, serves_still, serves_turns}
+use Rattle.mvd_host.proofs.ToldLemmas.{due_later, on, queued_length, queues_none}
 
 -- what of a client's own things is looked at
 own_mapped : {X Y : Type 0} (n : ℕ) (g : X → Y) (xs : List (ℕ × X)) → own n (map {B = ℕ × Y} (λ x. (x.0, g x.1)) xs) ≡ map g (own n xs)
@@ -239,3 +239,43 @@ answered_err rs ns refusal mid between site s numbers memory queued = record {
   queued = subst (λ l. Queues l mid between) (ap (λ (l : List ℕ). refused_all l refusal) numbers ∙ sym (memory_tells rs refusal)) queued;
   serves = serves_still (turns_of (memory_turns rs refusal)) site s (memory_still rs refusal memory);
 }
+
+-- nothing was taken, and nothing was answered
+no_requests : (rs : List (ℕ × Request)) (ns : List ℕ) → ns ≡ map (λ (r : ℕ × Request). r.0) rs → ns ≡ [] → rs ≡ []
+no_requests [] ns numbers none = refl
+no_requests (r ∷ rs) ns numbers none = absurd (let no : ◌≡◌ {A = List ℕ} (r.0 ∷ map (λ (r : ℕ × Request). r.0) rs) [] = sym numbers ∙ none in cc)
+
+pub answered_none : (rs : List (ℕ × Request)) (ns : List ℕ) (clients : List (ℕ × History)) (site : SiteValue) (s : State) → ns ≡ map (λ (r : ℕ × Request). r.0) rs → ns ≡ [] → Answered rs clients clients site site s s
+answered_none rs ns clients site s numbers none = record {
+  ts = [];
+  asked = ap requested (sym (no_requests rs ns numbers none));
+  queued = queues_none clients;
+  serves = serves_none site s;
+}
+
+pub no_faults : (es : List (ℕ × Refusal)) (clients : List (ℕ × History)) → es ≡ [] → Queues (refused_faults es) clients clients
+no_faults es clients none = subst (λ (l : List (ℕ × Refusal)). Queues (refused_faults l) clients clients) (sym none) (queues_none clients)
+
+module _ (old mid between new : List (ℕ × History)) (taken : Taken) (all : TakesAll old mid taken) (admitted : ℕ) (site later : SiteValue) (before after : State)
+    (a : Answered all.requests mid between site later before after) (queued : Queues (refused_faults taken.faults.items) between new) where
+  all_turns : List (ℕ × Turn)
+  all_turns = a.ts ++ fault_turns all.faulty taken.faults.items
+
+  round_clients : (n : ℕ) → Both (client_in old n) (client_in new n) (Course (own n all_turns))
+  unfolding all_turns faults_after
+  round_clients = courses old mid between new taken all a.ts a.asked a.queued queued
+
+  pub round_kept : AreKept old admitted → AreKept new admitted
+  round_kept kept = kept_after old new admitted all_turns kept round_clients
+
+  round_serves : Serves (turns_of all_turns) site later before after
+  unfolding all_turns
+  round_serves =
+      let faults = fault_turns all.faulty taken.faults.items in
+      subst (λ l. Serves l site later before after) (sym (map-append (λ (t : ℕ × Turn). t.1) a.ts faults))
+      (serves_on (turns_of a.ts) (turns_of faults) site later later before after after a.serves (serves_still (turns_of faults) later after (fault_still all.faulty taken.faults.items all.holds.faults)))
+
+  pub round_of : (turns : List (ℕ × Turn)) × Round turns
+      (record { host = record { clients = old; admitted = admitted }; site = site; store = before })
+      (record { host = record { clients = new; admitted = admitted }; site = later; store = after })
+  round_of = (all_turns, record { serves = round_serves; clients = round_clients; admitted = refl })

@@ -14,7 +14,7 @@ use Rattle.mvd_site.proofs.Pushes.{refusal_is}
 use Rattle.mvd_site.proofs.Steps.{Stands-nothing}
 use Rattle.mvd_replica.specs.Turns.{AddsAt, Event, IsToldElse, MayTell, RepliesOne, Tells, Turn}
 use Rattle.mvd_replica.specs.Batch.{TakesTurns, TurnsFollow}
-use Rattle.mvd_replica.proofs.Batching.{TurnsFollow-append, TurnsFollow-none}
+use Rattle.mvd_replica.proofs.Batched.{TakesTurns-none, TurnsFollow-append}
 use Rattle.mvd_replica.proofs.Breaking.{else_both}
 use Rattle.mvd_replica.proofs.Replying.{AddsAt-Refused, AddsAt-Refused-none, HasChoice-append, HasChoice-none, MayTell-memory, Replies-append, Replies-none, Replies-one, StandsOn-append, StandsOn-none, StandsOn-one}
 use Rattle.mvd_host.specs.Round.{Serves}
@@ -24,7 +24,7 @@ pub serves_turns : (turns : List Turn) (old new : SiteValue) (before after : Sta
 serves_turns turns old new before after t = record { replies = t.replies; stands = t.stands; config = t.config; choice = t.choice; told = t.told; follows = t.follows }
 
 pub serves_none : (site : SiteValue) (s : State) → Serves [] site site s s
-serves_none site s = record { replies = Replies-none site; stands = StandsOn-none site; config = refl; choice = HasChoice-none; told = λ _. tt; follows = TurnsFollow-none site s }
+serves_none site s = record { replies = Replies-none site; stands = StandsOn-none site; config = refl; choice = HasChoice-none; told = λ _. tt; follows = (TakesTurns-none site s).follows }
 
 module _ (first second : List Turn) (old mid new : SiteValue) (before between after : State) (p : Serves first old mid before between) (q : Serves second mid new between after) where
   told_on : (is : Bool) → mid.broken ≡ is → new.broken ≡ false → AllByRecursion IsToldElse (first ++ second)
@@ -72,7 +72,7 @@ still_one site asked refusal exact = record {
 
 still_follows : (turn : Turn) (site : SiteValue) (s : State) → TurnsFollow (turn ∷ []) site site s s
 still_follows turn site s =
-    let none : TurnsFollow [] site site s s = TurnsFollow-none site s in
+    let none : TurnsFollow [] site site s s = (TakesTurns-none site s).follows in
     record { site = none.site; sound = none.sound; holds = none.holds; stays = none.stays; stored = λ _ _ whole broken. absurd (true≢false (sym broken ∙ whole)); clean = none.clean; shut = none.shut }
 
 still_turn : (site : SiteValue) (s : State) (asked : Result Request Refusal) (refusal : Refusal) → (refusal ≢ Memory → asked ≡ Err refusal) → Serves (record { asked = asked; reply = Refused refusal } ∷ []) site site s s

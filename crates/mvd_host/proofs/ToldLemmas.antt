@@ -1,5 +1,6 @@
 -- The replies, one after the other.
-use Rattle.std.proofs.Common.{◌≡◌, ℕ, ◌+◌, ◌≤◌, ◌<◌, ◌==◌, Bool, true, false, cond, List, [], ◌∷◌, ◌++◌, map, length, Option, Some, None, refl, sym, ap, ap₂, ◌∙◌, subst, subst₂, append_assoc, append-nil, arith}
+use Rattle.std.proofs.Common.{◌≡◌, ℕ, ◌+◌, ◌≤◌, ◌<◌, ◌==◌, Bool, true, false, cond, List, [], ◌∷◌, ◌++◌, map, length, Option, Some, None, refl, sym, ap, ap₂, ◌∙◌, subst, subst₂, append_assoc, append-nil, true≢false, arith}
+use Rattle.std.proofs.lemmas.Bool.Decides.{nat_tests}
 use Rattle.std.proofs.lemmas.List.{length-append}
 use Rattle.std.specs.List.{AllByRecursion}
 use Rattle.mvd_wire.specs.declared.reply.Reply.{Reply}
@@ -91,3 +92,12 @@ ends all rest old new none q = subst (λ l. Queues l old new) (sym (q.split ∙ 
 pub refusals_fit : {X : Type 0} (f : X → ℕ × Reply) (xs : List X) → ((x : X) → CanBeSent (f x).1) → AllByRecursion (λ (r : ℕ × Reply). CanBeSent r.1) (map f xs)
 refusals_fit f [] each = tt
 refusals_fit f (x ∷ xs) each = (each x, refusals_fit f xs each)
+
+-- what is empty has no items
+pub no_items : {X : Type 0} (xs : List X) (n : ℕ) → length xs + n ≡ 0 → xs ≡ []
+no_items [] n none = refl
+no_items (x ∷ xs) n none = absurd (omega (arith, none))
+
+pub later_items : {X : Type 0} (n : ℕ) (xs : List X) → n + length xs ≡ 0 → xs ≡ []
+later_items n [] none = refl
+later_items n (x ∷ xs) none = absurd (omega (arith, none))

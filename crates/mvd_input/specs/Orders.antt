@@ -24,14 +24,18 @@ HasPort address = (1 ≤ socket_port address) × (socket_port address ≤ 65535)
 abbrev pub AreConnections : Option ℕ → Type 0
 AreConnections conns = ForSome conns (λ n. (1 ≤ n) × (n ≤ 1000))
 
+-- no byte need move for 1..=86,400 seconds
+abbrev pub IsIdle : ℕ → Type 0
+IsIdle seconds = (1 ≤ seconds) × (seconds ≤ 86400)
+
 -- a site may be set up with the numbers of an order
 abbrev pub IsInRange : Order → Type 0
 IsInRange Sim = ⊤
 IsInRange (Loop setup) = IsSetUp setup
-IsInRange (Serve _ setup address conns) = IsSetUp setup × HasPort address × AreConnections conns
+IsInRange (Serve _ setup address conns idle) = IsSetUp setup × HasPort address × AreConnections conns × IsIdle idle
 IsInRange (Shell _ setup) = IsSetUp setup
-IsInRange (RemoteShell address) = HasPort address
-IsInRange (Sync _ setup address _) = IsSetUp setup × HasPort address
+IsInRange (RemoteShell address idle) = HasPort address × IsIdle idle
+IsInRange (Sync _ setup address idle _) = IsSetUp setup × HasPort address × IsIdle idle
 
 -- ---- the order that the words are
 
@@ -65,7 +69,7 @@ ReadsGiven rows option most (Err (Stopped refusal)) = refusal ≡ Memory
 -- some number of the command is out of its range
 abbrev pub HasBadNumber : List Row → Type 0
 HasBadNumber rows = IsOutOfRange rows (codes "site") 4294967295 ⊎ (IsOutOfRange rows (codes "max-keys") 1000000
-    ⊎ (IsOutOfRange rows (codes "port") 65535 ⊎ IsOutOfRange rows (codes "conns") 1000))
+    ⊎ (IsOutOfRange rows (codes "port") 65535 ⊎ (IsOutOfRange rows (codes "conns") 1000 ⊎ IsOutOfRange rows (codes "idle") 86400)))
 
 -- `Range` tells of a number out of its range, and what is stopped is so by want of memory
 abbrev pub IsOrderFault : List Row → OrderFault → Type 0
@@ -90,12 +94,13 @@ pub record IsAddressOf (rows : List Row) (address : SocketAddr) : Type 0 where
 abbrev pub IsOrderOf : List ℕ → List Row → Order → Type 0
 IsOrderOf name rows Sim = name ≡ codes "sim"
 IsOrderOf name rows (Loop setup) = (name ≡ codes "loop") × IsSetupOf rows setup
-IsOrderOf name rows (Serve db setup address conns) = (name ≡ codes "serve") × (first_of (codes "db") rows ≡ Some db.now)
-    × IsSetupOf rows setup × IsAddressOf rows address × IsCount rows (codes "conns") conns
+IsOrderOf name rows (Serve db setup address conns idle) = (name ≡ codes "serve") × (first_of (codes "db") rows ≡ Some db.now)
+    × IsSetupOf rows setup × IsAddressOf rows address × IsCount rows (codes "conns") conns × Gives rows (codes "idle") idle
 IsOrderOf name rows (Shell db setup) = (name ≡ codes "shell") × (first_of (codes "db") rows ≡ Some db.now) × IsSetupOf rows setup
-IsOrderOf name rows (RemoteShell address) = (name ≡ codes "shell") × (first_of (codes "db") rows ≡ None) × IsAddressOf rows address
-IsOrderOf name rows (Sync db setup address verbose) = (name ≡ codes "sync") × (first_of (codes "db") rows ≡ Some db.now)
-    × IsSetupOf rows setup × IsAddressOf rows address × (IsTrue verbose ↔ (first_of (codes "verbose") rows ≡ Some (codes "true")))
+IsOrderOf name rows (RemoteShell address idle) = (name ≡ codes "shell") × (first_of (codes "db") rows ≡ None) × IsAddressOf rows address
+    × Gives rows (codes "idle") idle
+IsOrderOf name rows (Sync db setup address idle verbose) = (name ≡ codes "sync") × (first_of (codes "db") rows ≡ Some db.now)
+    × IsSetupOf rows setup × IsAddressOf rows address × Gives rows (codes "idle") idle × (IsTrue verbose ↔ (first_of (codes "verbose") rows ≡ Some (codes "true")))
 
 -- the order in its ranges, or why there is none
 abbrev pub ReadsOrder : List ℕ → List Row → Result Order OrderFault → Type 0

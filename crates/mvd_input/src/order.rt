@@ -2,7 +2,7 @@
 ghost use Rattle.std.specs.Prelude.{◌≡◌, ◌<◌, ◌≤◌, ◌^◌, ℕ, List, IfErr, IfOk, IfSome, Some, codes, option_map};
 ghost use Rattle.std.specs.Net.Grammar.{IsIpText};
 ghost use Rattle.clap.specs.Words.{first_of, found_of, rows_of};
-ghost use Rattle.mvd_input.specs.Orders.{HasPort, IsAddressOf, IsCount, IsInRange, IsOrderFault, IsSetUp, IsSetupOf, ReadsGiven, ReadsNumber, ReadsOrder};
+ghost use Rattle.mvd_input.specs.Orders.{Gives, HasPort, IsAddressOf, IsCount, IsIdle, IsInRange, IsOrderFault, IsSetUp, IsSetupOf, ReadsGiven, ReadsNumber, ReadsOrder};
 
 use crate::command::number_of;
 use crate::words::command;
@@ -18,6 +18,9 @@ pub const MOST_KEYS: u32 = 1_000_000;
 /// The most connections that a server may be asked to serve.
 const MOST_CONNECTIONS: u64 = 1_000;
 
+/// The most seconds for which no byte need move.
+const MOST_IDLE: u64 = 86_400;
+
 /// What a site is set up with: its number is at least 1, and it may hold 1 to 1,000,000 keys. A file may define its indexes and
 /// views.
 #[derive(Debug, Clone, Copy, PartialEq, Eq)]
@@ -27,20 +30,21 @@ pub struct Setup<'a> {
     pub max_keys: u32,
 }
 
-/// What a command line asks for. Numbers are in their ranges: those of a site as told there, a port at least 1, and `conns` 1 to
-/// 1,000.
+/// What a command line asks for. Numbers are in their ranges: those of a site as told there, a port at least 1, `conns` 1 to 1,000,
+/// and `idle` 1 to 86,400 seconds.
 #[derive(Debug, Clone, Copy, PartialEq, Eq)]
 pub enum Order<'a> {
     /// Run a script from standard input.
     Sim,
     /// Answer the requests that stand in hexadecimal on standard input, over a connection within one process.
     Loop(Setup<'a>),
-    /// Serve a database to peers, one connection after the other.
+    /// Serve a database to many clients at once.
     Serve {
         db: &'a str,
         setup: Setup<'a>,
         address: SocketAddr,
         conns: Option<u32>,
+        idle: u32,
     },
     /// Answer the lines of standard input on a database.
     Shell {
@@ -48,12 +52,16 @@ pub enum Order<'a> {
         setup: Setup<'a>,
     },
     /// Answer the lines of standard input through a server.
-    RemoteShell(SocketAddr),
+    RemoteShell {
+        address: SocketAddr,
+        idle: u32,
+    },
     /// Run a session of a database with a server.
     Sync {
         db: &'a str,
         setup: Setup<'a>,
         address: SocketAddr,
+        idle: u32,
         verbose: bool,
     },
 }
@@ -126,6 +134,7 @@ fn serve_of<'a>(alloc: Global, matches: &ArgMatches<'a>) -> Result<Order<'a>, Or
         db: db_in(alloc, matches)?,
         setup: setup_in(alloc, matches)?,
         conns: conns_in(alloc, matches)?,
+        idle: idle_in(alloc, matches)?,
         address: address_in(alloc, matches)?,
     })
 }
@@ -137,6 +146,7 @@ fn sync_of<'a>(alloc: Global, matches: &ArgMatches<'a>) -> Result<Order<'a>, Ord
         db: db_in(alloc, matches)?,
         setup: setup_in(alloc, matches)?,
         address: address_in(alloc, matches)?,
+        idle: idle_in(alloc, matches)?,
         verbose: text_in(matches, "verbose") == Some("true"),
     })
 }
@@ -149,7 +159,10 @@ fn shell_of<'a>(alloc: Global, matches: &ArgMatches<'a>) -> Result<Order<'a>, Or
             db,
             setup: setup_in(alloc, matches)?,
         }),
-        None => Ok(Order::RemoteShell(address_in(alloc, matches)?)),
+        None => Ok(Order::RemoteShell {
+            address: address_in(alloc, matches)?,
+            idle: idle_in(alloc, matches)?,
+        }),
     }
 }
 
@@ -227,6 +240,15 @@ fn conns_in(alloc: Global, matches: &ArgMatches<'_>) -> Result<Option<u32>, Orde
         Some(number) => Ok(Some(number as u32)),
         None => Ok(None),
     }
+}
+
+/// The seconds for which no byte need move.
+fn idle_in(alloc: Global, matches: &ArgMatches<'_>) -> Result<u32, OrderFault>
+    ensures range { IfOk result IsIdle }
+    ensures idle { IfOk result (Gives (rows_of (found_of matches.now)) (codes "idle")) }
+    ensures fault { IfErr result (IsOrderFault (rows_of (found_of matches.now))) }
+{
+    Ok(given_in(alloc, matches, "idle", MOST_IDLE)? as u32)
 }
 
 /// The address of a server, with its port.

@@ -3,8 +3,9 @@ ghost use Rattle.mvd_input.specs.Orders.{IsInRange, IsSetUp};
 
 use crate::hint::{Hint, Stop};
 use crate::looping::loop_run;
+use crate::many::{Terms, serve_run};
 use crate::script::sim;
-use crate::serving::{refused_in, serve_run, sync_run};
+use crate::serving::{refused_in, sync_run};
 use crate::shell::{remote_shell_run, shell_run};
 use mvd_dots::Refusal;
 use mvd_input::{DEFS_MAX, Fault, Order, Setup, read_defs, read_input};
@@ -19,9 +20,9 @@ use std::net::SocketAddr;
 /// What is done with a stored site.
 #[derive(Clone, Copy)]
 enum Work {
-    Serve(SocketAddr, Option<u32>),
+    Serve(SocketAddr, Terms),
     Shell,
-    Sync(SocketAddr, bool),
+    Sync(SocketAddr, u32, bool),
 }
 
 /// Runs an order, from standard input where it reads, and to standard output. A file that it opens holds what `start` names.
@@ -36,15 +37,23 @@ pub fn run<'a, S: Start>(rt: &HostRuntime, order: Order<'a>, start: S) -> Result
             setup,
             address,
             conns,
-        } => run_stored(rt, db, setup, Work::Serve(address, conns), start),
+            idle,
+        } => run_stored(
+            rt,
+            db,
+            setup,
+            Work::Serve(address, Terms { conns, idle }),
+            start,
+        ),
         Order::Shell { db, setup } => run_stored(rt, db, setup, Work::Shell, start),
-        Order::RemoteShell(address) => run_remote_shell(rt, address),
+        Order::RemoteShell { address, idle } => run_remote_shell(rt, address, idle),
         Order::Sync {
             db,
             setup,
             address,
+            idle,
             verbose,
-        } => run_stored(rt, db, setup, Work::Sync(address, verbose), start),
+        } => run_stored(rt, db, setup, Work::Sync(address, idle, verbose), start),
     }
 }
 
@@ -103,14 +112,14 @@ fn work_on<'a, S: Alter + Drop>(
 ) -> Result<(), Stop<'a>> {
     let mut writer = io::writer(rt);
     match work {
-        Work::Serve(address, conns) => {
-            serve_run(rt, rt.alloc(), replica, address, conns, &mut writer)
+        Work::Serve(address, terms) => {
+            serve_run(rt, rt.alloc(), replica, address, terms, &mut writer)
         }
         Work::Shell => typed(rt, replica),
-        Work::Sync(address, verbose) => {
+        Work::Sync(address, idle, verbose) => {
             let mut errors = rt.stderr();
             let told = if verbose { Some(&mut errors) } else { None };
-            sync_run(rt, rt.alloc(), replica, address, told, &mut writer)
+            sync_run(rt, rt.alloc(), replica, address, idle, told, &mut writer)
         }
     }
 }
@@ -124,9 +133,16 @@ fn typed<'a, S: Alter + Drop>(rt: &HostRuntime, replica: &mut Replica<S>) -> Res
     }
 }
 
-fn run_remote_shell<'a>(rt: &HostRuntime, address: SocketAddr) -> Result<(), Stop<'a>> {
+fn run_remote_shell<'a>(rt: &HostRuntime, address: SocketAddr, idle: u32) -> Result<(), Stop<'a>> {
     let mut reader = input(rt)?;
-    remote_shell_run(rt, rt.alloc(), address, &mut reader, &mut io::writer(rt))
+    remote_shell_run(
+        rt,
+        rt.alloc(),
+        address,
+        idle,
+        &mut reader,
+        &mut io::writer(rt),
+    )
 }
 
 /// Standard input.

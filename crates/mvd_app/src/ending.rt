@@ -1,4 +1,5 @@
 //! How a connection ended, in words.
+use mvd_conn::Ending;
 use mvd_dots::Refusal;
 use mvd_replica::Ended;
 use std::fmt;
@@ -6,6 +7,16 @@ use std::fmt;
 /// How a connection ended: `bye`, `end`, or the number and name of a refusal.
 #[derive(Clone, Copy)]
 pub struct How(pub Result<Ended, Refusal>);
+
+impl From<Ending> for How {
+    fn from(ending: Ending) -> How {
+        match ending {
+            Ending::Bye => How(Ok(Ended::Bye)),
+            Ending::End => How(Ok(Ended::End)),
+            Ending::Stopped(refusal) => How(Err(refusal)),
+        }
+    }
+}
 
 impl fmt::Display for How {
     fn fmt<W: fmt::Write>(&self, f: &mut fmt::Formatter<W>) -> fmt::Result {

@@ -1,4 +1,8 @@
 //! What can be asked.
+ghost use Rattle.mvd_replica.specs.Turns.{AnswersStored};
+ghost use Rattle.mvd_wire.specs.declared.reply.Reply.{Reply};
+ghost use Rattle.mvd_wire.specs.declared.request.Request.{Request};
+
 use mvd_dots::Refusal;
 use mvd_replica::Replica;
 use mvd_sync::Remote;
@@ -10,8 +14,12 @@ use std::io::{Read, Write};
 /// Something that answers requests: a site of a world, a stored one, or one at the other end of a connection. What its replies mean
 /// is its own promise, and nothing here rests on it.
 pub trait Endpoint {
+    /// What it may be after a request, and how it may have replied.
+    ghost answers: { Self → Self → Request → Reply → Type 0 };
+
     /// The reply to a request.
-    fn ask(&mut self, request: Request) -> Reply;
+    fn ask(&mut self, request: Request) -> Reply
+        ensures { answers self.old self.new request result };
 }
 
 /// A site of a world.
@@ -22,6 +30,8 @@ pub struct Member<'a> {
 }
 
 impl Endpoint for Member<'_> {
+    ghost answers = { λ _ _ _ _. Unit {0} };
+
     fn ask(&mut self, request: Request) -> Reply {
         let step = step_of(self.site, request);
         let outcome = self.world.step(&step);
@@ -48,6 +58,8 @@ fn reply_of(outcome: Outcome) -> Reply {
 }
 
 impl<S: Alter> Endpoint for Replica<S> {
+    ghost answers = { λ old new request reply. AnswersStored old.site new.site request reply };
+
     fn ask(&mut self, request: Request) -> Reply {
         let reply = self.answer(&request);
         drop(request);
@@ -56,6 +68,8 @@ impl<S: Alter> Endpoint for Replica<S> {
 }
 
 impl<R: Read + Drop, W: Write + Drop> Endpoint for Remote<R, W> {
+    ghost answers = { λ _ _ _ _. Unit {0} };
+
     fn ask(&mut self, request: Request) -> Reply {
         let told = Remote::ask(self, &request);
         drop(request);

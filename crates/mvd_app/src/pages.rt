@@ -1,4 +1,8 @@
 //! Lists, asked for page after page.
+ghost use Rattle.std.specs.Prelude.{Some};
+ghost use Rattle.mvd_dots.specs.Answer.{IsAnswer};
+ghost use Rattle.mvd_app.specs.Asked.{next_asked, next_places, next_rows};
+
 use crate::requests::{find_of, range_of, rows_of};
 use mvd_docs::Term;
 use mvd_dots::Refusal;
@@ -8,7 +12,9 @@ use mvd_wire::{Reply, Request};
 use std::alloc::Global;
 
 /// The request for what comes after the page that a reply is, where more is left.
-pub fn next_page(alloc: Global, ask: Ask<'_>, reply: &Reply) -> Result<Option<Request>, Refusal> {
+pub fn next_page(alloc: Global, ask: Ask<'_>, reply: &Reply) -> Result<Option<Request>, Refusal>
+    ensures { IsAnswer result (next_asked ask.entry reply.now) }
+{
     match reply {
         Reply::Places(places, true) => match places.as_slice().last() {
             Some(place) => after_place(alloc, ask, place),
@@ -22,7 +28,9 @@ pub fn next_page(alloc: Global, ask: Ask<'_>, reply: &Reply) -> Result<Option<Re
     }
 }
 
-fn after_place(alloc: Global, ask: Ask<'_>, place: &Place) -> Result<Option<Request>, Refusal> {
+fn after_place(alloc: Global, ask: Ask<'_>, place: &Place) -> Result<Option<Request>, Refusal>
+    ensures { IsAnswer result (next_places ask.entry (Some place.now)) }
+{
     match ask {
         Ask::Find { field, term } => {
             let after = (place.key.copy(alloc)?, place.dot);
@@ -36,7 +44,9 @@ fn after_place(alloc: Global, ask: Ask<'_>, place: &Place) -> Result<Option<Requ
     }
 }
 
-fn after_row(alloc: Global, ask: Ask<'_>, term: &Term) -> Result<Option<Request>, Refusal> {
+fn after_row(alloc: Global, ask: Ask<'_>, term: &Term) -> Result<Option<Request>, Refusal>
+    ensures { IsAnswer result (next_rows ask.entry (Some term.now)) }
+{
     match ask {
         Ask::Rows { view } => {
             let after = term.copy(alloc)?;

@@ -3,7 +3,7 @@ ghost use Rattle.std.specs.Prelude.{◌≡◌, IfErr};
 
 use crate::endpoint::Member;
 use crate::printing::print_outcome;
-use crate::talk::{LINE, say, settle};
+use crate::talk::{begin_line, say, settle};
 use mvd_dots::Refusal;
 use mvd_input::Command;
 use mvd_keys::Key;
@@ -11,7 +11,7 @@ use mvd_print::print_none_such;
 use mvd_world::{Step, World};
 use std::alloc::Global;
 
-/// Runs a command on a site, and prints what it says, or only how it is refused.
+/// Runs a command on a site, and puts what it says, or only how it is refused, in place of what `out` held.
 pub fn run(
     alloc: Global,
     world: &mut World,
@@ -21,16 +21,14 @@ pub fn run(
 ) -> Result<(), Refusal>
     ensures { IfErr result (λ refusal. refusal ≡ Refusal.Memory) }
 {
+    begin_line(out)?;
     let site = site_of(site);
     if world.site(site).is_none() {
         print_none_such(out)?;
         return Ok(());
     }
-    // Nothing is done for which there is no room to tell it.
-    out.reserve(LINE)?;
-    let start = out.len();
     let said = play(alloc, world, site, command, out);
-    settle(said, start, out)
+    settle(said, out)
 }
 
 /// The site of this number, or 0, which is none.

@@ -1,4 +1,9 @@
 //! The requests that texts are.
+ghost use Rattle.std.specs.Prelude.{◌≡◌, ◌↔◌, IsTrue, List, codes};
+ghost use Rattle.mvd_dots.specs.Answer.{IsAnswer};
+ghost use Rattle.mvd_app.specs.Asked.{Exchange, IsWriteOf, Sees, delete_of, digit_in, find_asked, path_in, put_of, question, range_asked, row_asked, rows_asked, shown as shown_by};
+ghost use Rattle.mvd_app.specs.Talk.{Answered, AsksFirst};
+
 use crate::endpoint::Endpoint;
 use mvd_docs::{Document, Field, Term, ViewName};
 use mvd_dots::{Context, Dot, Refusal};
@@ -12,14 +17,26 @@ pub fn request_of<A: Endpoint>(
     alloc: Global,
     asked: &mut A,
     ask: Ask<'_>,
-) -> Result<Request, Refusal> {
+) -> Result<Request, Refusal>
+    ensures { AsksFirst A.answers asked.old asked.new ask.entry result }
+{
     match ask {
         Ask::Put {
             key,
             context,
             document,
-        } => put_of(alloc, asked, key, context, document),
-        Ask::Delete { key, context } => delete_of(alloc, asked, key, context),
+        } => put_in(alloc, asked, key, context, document),
+        Ask::Delete { key, context } => delete_in(alloc, asked, key, context),
+        _ => question_of(alloc, ask),
+    }
+}
+
+/// The question that the texts are: a write is none.
+fn question_of(alloc: Global, ask: Ask<'_>) -> Result<Request, Refusal>
+    ensures { IsAnswer result (question ask.entry) }
+{
+    match ask {
+        Ask::Put { .. } | Ask::Delete { .. } => Err(Refusal::BadKind),
         Ask::Get { key } => Ok(Request::Get(Key::read(alloc, key)?)),
         Ask::Row { view, term } => row_of(alloc, view, term),
         Ask::Node { path } => Ok(Request::Node(path_of(alloc, path)?)),
@@ -29,28 +46,46 @@ pub fn request_of<A: Endpoint>(
     }
 }
 
-fn put_of<A: Endpoint>(
+fn put_in<A: Endpoint>(
     alloc: Global,
     asked: &mut A,
     key: &str,
     context: &str,
     document: &str,
-) -> Result<Request, Refusal> {
-    let key = Key::read(alloc, key)?;
-    let seen = context_of(alloc, asked, &key, context)?;
+) -> Result<Request, Refusal>
+    ensures { (exchanges : List Exchange) × Answered A.answers exchanges asked.old asked.new × IsWriteOf key.now context.now (put_of document.now) exchanges result }
+{
+    match Key::read(alloc, key) {
+        Ok(key) => match context_of(alloc, asked, &key, context) {
+            Ok(seen) => put_seen(alloc, key, seen, document),
+            Err(refusal) => Err(refusal),
+        },
+        Err(refusal) => Err(refusal),
+    }
+}
+
+fn put_seen(alloc: Global, key: Key, seen: Context, document: &str) -> Result<Request, Refusal>
+    ensures { IsAnswer result (put_of document.now key seen) }
+{
     let document = Document::read(alloc, document)?;
     Ok(Request::Put(key, seen, document))
 }
 
-fn delete_of<A: Endpoint>(
+fn delete_in<A: Endpoint>(
     alloc: Global,
     asked: &mut A,
     key: &str,
     context: &str,
-) -> Result<Request, Refusal> {
-    let key = Key::read(alloc, key)?;
-    let seen = context_of(alloc, asked, &key, context)?;
-    Ok(Request::Delete(key, seen))
+) -> Result<Request, Refusal>
+    ensures { (exchanges : List Exchange) × Answered A.answers exchanges asked.old asked.new × IsWriteOf key.now context.now delete_of exchanges result }
+{
+    match Key::read(alloc, key) {
+        Ok(key) => match context_of(alloc, asked, &key, context) {
+            Ok(seen) => Ok(Request::Delete(key, seen)),
+            Err(refusal) => Err(refusal),
+        },
+        Err(refusal) => Err(refusal),
+    }
 }
 
 /// The context of a text; `@` is the context that is shown for the key now.
@@ -59,22 +94,46 @@ fn context_of<A: Endpoint>(
     asked: &mut A,
     key: &Key,
     text: &str,
-) -> Result<Context, Refusal> {
-    if text != "@" {
-        return Context::read(alloc, text);
+) -> Result<Context, Refusal>
+    ensures { (exchanges : List Exchange) × Answered A.answers exchanges asked.old asked.new × Sees key.now text.now exchanges result }
+{
+    if is_at(text) {
+        shown_now(alloc, asked, key)
+    } else {
+        Context::read(alloc, text)
     }
-    let request = Request::Get(key.copy(alloc)?);
-    shown(asked.ask(request))
+}
+
+/// Whether a text stands for what is shown.
+fn is_at(text: &str) -> bool
+    ensures { IsTrue result ↔ (text.now ≡ codes "@") }
+{
+    text == "@"
+}
+
+/// The context that is shown for a key now.
+fn shown_now<A: Endpoint>(alloc: Global, asked: &mut A, key: &Key) -> Result<Context, Refusal>
+    ensures { (exchanges : List Exchange) × Answered A.answers exchanges asked.old asked.new × Sees key.now (codes "@") exchanges result }
+{
+    let Ok(key) = key.copy(alloc) else {
+        return Err(Refusal::Memory);
+    };
+    let reply = asked.ask(Request::Get(key));
+    shown(reply)
 }
 
 /// The context of the state that is told.
-fn shown(reply: Reply) -> Result<Context, Refusal> {
+fn shown(reply: Reply) -> Result<Context, Refusal>
+    ensures { IsAnswer result (shown_by reply) }
+{
     let context = context_in(&reply);
     drop(reply);
     context
 }
 
-fn context_in(reply: &Reply) -> Result<Context, Refusal> {
+fn context_in(reply: &Reply) -> Result<Context, Refusal>
+    ensures { IsAnswer result (shown_by reply.now) }
+{
     match reply {
         Reply::State(state) => state.context().copy(),
         Reply::Refused(refusal) => Err(*refusal),
@@ -82,7 +141,9 @@ fn context_in(reply: &Reply) -> Result<Context, Refusal> {
     }
 }
 
-fn row_of(alloc: Global, view: &str, term: &str) -> Result<Request, Refusal> {
+fn row_of(alloc: Global, view: &str, term: &str) -> Result<Request, Refusal>
+    ensures { IsAnswer result (row_asked view.now term.now) }
+{
     let view = ViewName::read(alloc, view)?;
     Ok(Request::Row(view, Term::read(alloc, term)?))
 }
@@ -93,7 +154,9 @@ pub fn find_of(
     field: &str,
     term: &str,
     after: Option<(Key, Dot)>,
-) -> Result<Request, Refusal> {
+) -> Result<Request, Refusal>
+    ensures { IsAnswer result (find_asked field.now term.now after) }
+{
     let field = Field::read(alloc, field)?;
     Ok(Request::Find(field, Term::read(alloc, term)?, after))
 }
@@ -104,19 +167,25 @@ pub fn range_of(
     field: &str,
     terms: &str,
     after: Option<Place>,
-) -> Result<Request, Refusal> {
+) -> Result<Request, Refusal>
+    ensures { IsAnswer result (range_asked field.now terms.now after) }
+{
     let field = Field::read(alloc, field)?;
     let (from, to) = Term::read_pair(alloc, terms)?;
     Ok(Request::Range(field, from, to, after))
 }
 
 /// The rows of a view after that of a term.
-pub fn rows_of(alloc: Global, view: &str, after: Option<Term>) -> Result<Request, Refusal> {
+pub fn rows_of(alloc: Global, view: &str, after: Option<Term>) -> Result<Request, Refusal>
+    ensures { IsAnswer result (rows_asked view.now after) }
+{
     Ok(Request::Rows(ViewName::read(alloc, view)?, after))
 }
 
 /// The path of a text: `-`, or 1 to 3 lower-case hexadecimal digits.
-fn path_of(alloc: Global, text: &str) -> Result<Path, Refusal> {
+fn path_of(alloc: Global, text: &str) -> Result<Path, Refusal>
+    ensures { IsAnswer result (path_in text.now) }
+{
     if text == "-" {
         return Path::new(alloc, &[]);
     }
@@ -129,7 +198,9 @@ fn path_of(alloc: Global, text: &str) -> Result<Path, Refusal> {
 }
 
 /// The hexadecimal digit of a letter, or 255, which is none.
-fn digit_of(letter: u8) -> u8 {
+fn digit_of(letter: u8) -> u8
+    ensures { result ≡ digit_in letter }
+{
     match letter {
         b'0'..=b'9' => letter - b'0',
         b'a'..=b'f' => letter - b'a' + 10,

@@ -168,11 +168,16 @@ pub fn sim<R: Read, W: Write>(alloc: Global, reader: &mut R, writer: &mut W) -> 
 {
     let bytes = read_input(alloc, reader, SCRIPT_MAX)?;
     let mut script = Script::new(alloc);
+    let mut said = String::new(alloc);
     let mut out = String::new(alloc);
     let mut number: u64 = 0;
     for line in bytes.split(|byte| *byte == b'\n') {
         number = number.saturating_add(1);
-        let ran = script.run(number, line, &mut out);
+        said.clear();
+        let ran = match script.run(number, line, &mut said) {
+            Ok(()) => add(&mut out, said.as_str()),
+            Err(fault) => Err(fault),
+        };
         if ran.is_err() || out.len() >= PIECE {
             write_out(writer, out.as_str())?;
             out.clear();
@@ -180,4 +185,12 @@ pub fn sim<R: Read, W: Write>(alloc: Global, reader: &mut R, writer: &mut W) -> 
         ran?;
     }
     write_out(writer, out.as_str())
+}
+
+/// Adds what a line says to what is to be written.
+fn add(out: &mut String, said: &str) -> Result<(), Fault>
+    ensures { IfErr result EndsEarly }
+{
+    out.push_str(said)?;
+    Ok(())
 }

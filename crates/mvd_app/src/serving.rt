@@ -2,21 +2,21 @@
 ghost use Rattle.std.specs.Prelude.{IfErr};
 ghost use Rattle.mvd_input.specs.Ends.{EndsEarly};
 
-use crate::ending::How;
 use crate::hint::Stop;
 use crate::link::Link;
 use crate::progress::Watched;
 use mvd_dots::Refusal;
 use mvd_input::{Fault, write_out};
 use mvd_keys::Path;
-use mvd_replica::{Ended, Replica, serve};
+use mvd_replica::Replica;
 use mvd_site::Config;
 use mvd_sync::{Remote, SyncFault, sync};
 use sqlite::{Alter, Connection};
 use std::alloc::Global;
 use std::fmt::Write as Print;
-use std::io::{Read, Write};
-use std::net::{Net, OpenListener, SocketAddr};
+use std::io::{self, Read, Write};
+use std::net::{Net, OpenStream, SocketAddr};
+use std::time::Duration;
 
 /// The replica of a site that the database of a file holds.
 pub fn replica_in<'a, S: Alter + Drop>(
@@ -48,65 +48,13 @@ fn owner_in<S: Alter>(conn: &mut Connection<S>) -> Option<u32> {
     }
 }
 
-/// Serves so many connections at an address, or without end, one after the other, and tells where it listens, how each connection
-/// ended, and at the end the root digest. Each line is flushed as it is written.
-///
-/// A connection that ends in a fault is told, and the next one is served. It is `Stopped` with `ReadFailed` where it cannot listen or
-/// accept, and with `WriteFailed` where a line cannot be written.
-pub fn serve_run<'a, N: Net, S: Alter + Drop, W: Write>(
-    rt: &N,
-    alloc: Global,
-    replica: &mut Replica<S>,
-    address: SocketAddr,
-    conns: Option<u32>,
-    writer: &mut W,
-) -> Result<(), Stop<'a>> {
-    let listener = match rt.bind(address) {
-        Ok(listener) => listener,
-        Err(error) => return Err(Stop::unheard(address, error)),
-    };
-    Ok(listen::<N, S, W>(alloc, &listener, replica, address, conns, writer)?)
-}
-
-/// Serves the connections of a listener.
-fn listen<N: Net, S: Alter + Drop, W: Write>(
-    alloc: Global,
-    listener: &N::Listener,
-    replica: &mut Replica<S>,
-    address: SocketAddr,
-    conns: Option<u32>,
-    writer: &mut W,
-) -> Result<(), Fault> {
-    let mut line = String::new(alloc);
-    writeln!(line, "listening {address}")?;
-    tell(writer, &mut line)?;
-    let most = conns.map_or(u64::MAX, u64::from);
-    for number in 1..=most {
-        let Ok((stream, _)) = listener.accept() else {
-            return Err(Fault::Stopped(Refusal::ReadFailed));
-        };
-        let ended = How(serve_stream(alloc, stream, replica));
-        writeln!(line, "connection {number} {ended}")?;
-        tell(writer, &mut line)?;
-    }
-    print_root(alloc, replica, &mut line)?;
-    tell(writer, &mut line)
-}
-
-/// Serves one connection.
-fn serve_stream<T: Read + Write + Drop, S: Alter + Drop>(
-    alloc: Global,
-    stream: T,
-    replica: &mut Replica<S>,
-) -> Result<Ended, Refusal> {
-    let link = Link::new(alloc, stream)?;
-    let mut incoming = link.incoming(alloc)?;
-    let mut outgoing = link.outgoing();
-    let ended = serve(alloc, &mut incoming, &mut outgoing, replica);
-    match link.send() {
-        Ok(()) => ended,
-        Err(_) => Err(Refusal::WriteFailed),
-    }
+/// A stream to the server at an address, on which no read and no write waits for more than so many seconds.
+pub fn connected<N: Net>(rt: &N, address: SocketAddr, idle: u32) -> io::Result<N::Stream> {
+    let most = Duration::from_secs(u64::from(idle));
+    let stream = rt.connect_timeout(address, most)?;
+    stream.set_read_timeout(Some(most))?;
+    stream.set_write_timeout(Some(most))?;
+    Ok(stream)
 }
 
 /// Runs a session with the server at an address, says Bye, and tells how many keys differed, and the root digest. Where `told` is
@@ -116,10 +64,11 @@ pub fn sync_run<'a, N: Net, S: Alter + Drop, W: Write, E: Write>(
     alloc: Global,
     replica: &mut Replica<S>,
     address: SocketAddr,
+    idle: u32,
     told: Option<&mut E>,
     writer: &mut W,
 ) -> Result<(), Stop<'a>> {
-    let stream = match rt.connect(address) {
+    let stream = match connected(rt, address, idle) {
         Ok(stream) => stream,
         Err(error) => return Err(Stop::unanswered(address, error)),
     };
@@ -163,7 +112,8 @@ fn sync_stream<T: Read + Write + Drop, S: Alter + Drop, E: Write>(
     Ok(report.keys)
 }
 
-fn print_root<S: Alter + Drop>(
+/// Adds a line with the root digest.
+pub fn print_root<S: Alter + Drop>(
     alloc: Global,
     replica: &Replica<S>,
     line: &mut String,

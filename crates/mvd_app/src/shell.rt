@@ -5,7 +5,7 @@ ghost use Rattle.mvd_input.specs.Ends.{EndsEarly};
 use crate::endpoint::Endpoint;
 use crate::hint::{Hint, Stop};
 use crate::link::Link;
-use crate::serving::tell;
+use crate::serving::{connected, tell};
 use crate::talk::answer;
 use mvd_dots::Refusal;
 use mvd_input::{Fault, Typed, text_of, typed_of};
@@ -124,10 +124,11 @@ pub fn remote_shell_run<'a, N: Net, R: BufRead, W: Write>(
     rt: &N,
     alloc: Global,
     address: SocketAddr,
+    idle: u32,
     reader: &mut R,
     writer: &mut W,
 ) -> Result<(), Stop<'a>> {
-    let stream = match rt.connect(address) {
+    let stream = match connected(rt, address, idle) {
         Ok(stream) => stream,
         Err(error) => return Err(Stop::unanswered(address, error)),
     };

@@ -1,5 +1,6 @@
 //! What is asked by one line, and what is printed of it.
-ghost use Rattle.std.specs.Prelude.{◌≡◌, IfErr};
+ghost use Rattle.std.specs.Prelude.{◌≡◌, ℕ, [], IfErr, List, OnOk, Result, string_bytes};
+ghost use Rattle.mvd_app.specs.Talk.{Prints_line, Shows, Speaks, SpeaksPages, TellsPage, Turns, told_text};
 
 use crate::endpoint::Endpoint;
 use crate::pages::next_page;
@@ -14,30 +15,41 @@ use std::alloc::Global;
 /// As long as the longest line that tells of a write, a message, a session or a refusal.
 pub const LINE: usize = 64;
 
-/// Asks, and prints what is answered, of a list page after page, or only how it is refused.
+/// Asks, and puts what is printed of it in place of what `out` held: what is answered, of a list page after page, or only how it is
+/// refused.
 pub fn answer<A: Endpoint>(
     alloc: Global,
     asked: &mut A,
     ask: Ask<'_>,
     out: &mut String,
 ) -> Result<(), Refusal>
-    ensures { IfErr result (λ refusal. refusal ≡ Refusal.Memory) }
+    ensures told { OnOk result (Prints_line A.answers asked.old asked.new ask.entry (string_bytes out.new)) }
+    ensures memory { IfErr result (λ refusal. refusal ≡ Refusal.Memory) }
 {
-    // Nothing is done for which there is no room to tell it.
-    out.reserve(LINE)?;
-    let start = out.len();
+    begin_line(out)?;
     let said = say(alloc, asked, ask, out);
-    settle(said, start, out)
+    settle(said, out)
 }
 
-/// Where something was refused that has printed from a place on, only the refusal is printed there.
-pub fn settle(said: Result<(), Refusal>, start: usize, out: &mut String) -> Result<(), Refusal>
-    ensures { IfErr result (λ refusal. refusal ≡ Refusal.Memory) }
+/// Takes away what was printed, and makes room: nothing is done for which there is no room to tell it.
+pub fn begin_line(out: &mut String) -> Result<(), Refusal>
+    ensures empty { string_bytes out.new ≡ [] }
+    ensures memory { IfErr result (λ refusal. refusal ≡ Refusal.Memory) }
+{
+    out.clear();
+    out.reserve(LINE)?;
+    Ok(())
+}
+
+/// Where something was refused, only the refusal is printed.
+pub fn settle(said: Result<(), Refusal>, out: &mut String) -> Result<(), Refusal>
+    ensures told { (told : Result (List ℕ) Refusal) → Shows told [] (string_bytes out.old) said → OnOk result (string_bytes out.new ≡ told_text told) }
+    ensures memory { IfErr result (λ refusal. refusal ≡ Refusal.Memory) }
 {
     match said {
         Ok(()) => Ok(()),
         Err(refusal) => {
-            cut(out, start);
+            out.clear();
             print_refusal(refusal, out)?;
             Ok(())
         }
@@ -50,16 +62,36 @@ pub fn say<A: Endpoint>(
     asked: &mut A,
     ask: Ask<'_>,
     out: &mut String,
-) -> Result<(), Refusal> {
-    let mut request = request_of(alloc, asked, ask)?;
+) -> Result<(), Refusal>
+    ensures { Speaks A.answers asked.old asked.new ask.entry (string_bytes out.old) (string_bytes out.new) result }
+{
+    match request_of(alloc, asked, ask) {
+        Ok(request) => say_pages(alloc, asked, ask, request, out),
+        Err(refusal) => Err(refusal),
+    }
+}
+
+/// Asks for page after page from a request on, and prints them.
+fn say_pages<A: Endpoint>(
+    alloc: Global,
+    asked: &mut A,
+    ask: Ask<'_>,
+    request: Request,
+    out: &mut String,
+) -> Result<(), Refusal>
+    ensures { SpeaksPages A.answers asked.old asked.new ask.entry request (string_bytes out.old) (string_bytes out.new) result }
+{
+    let mut request = request;
     for _ in 0..u64::MAX {
-        match turn(alloc, asked, ask, request, out)? {
-            Some(next) => request = next,
-            None => return Ok(()),
+        match turn(alloc, asked, ask, request, out) {
+            Ok(Some(next)) => request = next,
+            Ok(None) => return Ok(()),
+            Err(refusal) => return Err(refusal),
         }
     }
+    // More pages than can be counted are more than memory holds.
     drop(request);
-    Ok(())
+    Err(Refusal::Memory)
 }
 
 /// Asks for one page, prints it, and gives the request for the next one where more is left.
@@ -69,7 +101,9 @@ fn turn<A: Endpoint>(
     ask: Ask<'_>,
     request: Request,
     out: &mut String,
-) -> Result<Option<Request>, Refusal> {
+) -> Result<Option<Request>, Refusal>
+    ensures { Turns A.answers asked.old asked.new ask.entry request (string_bytes out.old) (string_bytes out.new) result }
+{
     let reply = asked.ask(request);
     let told = tell(alloc, ask, &reply, out);
     drop(reply);
@@ -81,14 +115,11 @@ fn tell(
     ask: Ask<'_>,
     reply: &Reply,
     out: &mut String,
-) -> Result<Option<Request>, Refusal> {
-    print_answer(alloc, ask, reply, out)?;
-    next_page(alloc, ask, reply)
-}
-
-/// Takes back what was printed from a place on, where that is no middle of a character.
-fn cut(out: &mut String, start: usize) {
-    if out.as_str().is_char_boundary(start) {
-        out.truncate(start);
+) -> Result<Option<Request>, Refusal>
+    ensures { TellsPage ask.entry reply.now (string_bytes out.old) (string_bytes out.new) result }
+{
+    match print_answer(alloc, ask, reply, out) {
+        Ok(()) => next_page(alloc, ask, reply),
+        Err(refusal) => Err(refusal),
     }
 }

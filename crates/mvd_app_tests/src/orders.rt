@@ -51,16 +51,24 @@ fn an_order_has_its_options(rt: HostRuntime) -> Result<(), Fail> {
         setup: set_up(1, None, 1_000_000),
         address: address(Ipv4Addr::LOCALHOST, 1),
         conns: Some(1),
+        idle: 1,
     };
-    assert!(rt; asks(alloc, "mvd serve --db f --site 1 --port 1 --conns 1", least)?);
+    assert!(rt;
+        asks(
+            alloc,
+            "mvd serve --db f --site 1 --port 1 --conns 1 --idle 1",
+            least
+        )?
+    );
     let most = Order::Sync {
         db: "f",
         setup: set_up(u32::MAX, Some("d"), 1),
         address: address(Ipv4Addr::new(10, 0, 0, 1), 65_535),
+        idle: 86_400,
         verbose: true,
     };
     let line =
-        "mvd sync --db f --site 4294967295 --port 65535 --defs d --max-keys 1 --address 10.0.0.1 --verbose";
+        "mvd sync --db f --site 4294967295 --port 65535 --defs d --max-keys 1 --address 10.0.0.1 --idle 86400 --verbose";
     assert!(rt; asks(alloc, line, most)?);
     let looped = Order::Loop(set_up(7, None, 1_000_000));
     assert!(rt; asks(alloc, "mvd loop --site 7", looped)?);
@@ -78,6 +86,8 @@ fn a_number_out_of_range_is_told(rt: HostRuntime) -> Result<(), Fail> {
         "mvd serve --db f --site 1 --port 65536",
         "mvd serve --db f --site 1 --port 1 --conns 0",
         "mvd serve --db f --site 1 --port 1 --conns 1001",
+        "mvd serve --db f --site 1 --port 1 --idle 0",
+        "mvd sync --db f --site 1 --port 1 --idle 86401",
         "mvd sync --db f --site 1 --port 1 --max-keys 0",
         "mvd loop --site 1 --max-keys 1000001",
     ];
@@ -95,6 +105,7 @@ fn other_words_are_refused(rt: HostRuntime) -> Result<(), Fail> {
         "mvd serve --db f --site x --port 1",
         "mvd serve --db f --site 1 --port 1 --address here",
         "mvd sync --db f --site 1 --port 1 --conns 1",
+        "mvd loop --site 1 --idle 1",
         "mvd loop --help",
         "mvd",
     ];
@@ -112,8 +123,12 @@ fn a_shell_is_on_a_database_or_a_server(rt: HostRuntime) -> Result<(), Fail> {
         setup: set_up(2, None, 9),
     };
     assert!(rt; asks(alloc, "mvd shell --db f --site 2 --max-keys 9", file)?);
-    let server = Order::RemoteShell(address(Ipv4Addr::LOCALHOST, 7));
+    let server = Order::RemoteShell {
+        address: address(Ipv4Addr::LOCALHOST, 7),
+        idle: 60,
+    };
     assert!(rt; asks(alloc, "mvd shell --port 7", server)?);
+    assert!(rt; is_no_order(alloc, "mvd shell --db f --site 1 --idle 1")?);
     assert!(rt; is_out_of_range(alloc, "mvd shell --db f --site 0")?);
     assert!(rt; is_no_order(alloc, "mvd shell")?);
     assert!(rt; is_no_order(alloc, "mvd shell --db f")?);

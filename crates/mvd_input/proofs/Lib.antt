@@ -1,6 +1,6 @@
 mod Consumed
 mod Defined
-mod Lines
+pub mod Lines
 mod Numbers
 mod Parting
 mod Reading

@@ -1,10 +1,16 @@
 -- What a command line may ask for.
-use Rattle.std.specs.Prelude.{ℕ, Option, ◌<◌, ◌≤◌, ◌^◌, ⊤}
-use Rattle.std.specs.Net.Socket.{socket_port}
+use Rattle.std.specs.Prelude.{ℕ, Option, Some, None, ◌≡◌, ◌<◌, ◌≤◌, ◌^◌, ◌⊎◌, ◌↔◌, ⊤, List, Result, Ok, Err, IsTrue, codes, option_map}
+use Rattle.std.specs.Net.Grammar.{IsIpText}
+use Rattle.std.specs.Net.Socket.{socket_ip, socket_port}
 use Rattle.std.specs.Option.{ForSome}
 use Rattle.std.specs.declared.net.socket_addr.SocketAddr.{SocketAddr}
+use Rattle.clap.specs.Words.{Row, first_of}
+use Rattle.mvd_dots.specs.declared.refusals.Refusal.TheVariants.{Memory}
+use Rattle.mvd_input.specs.Lines.{IsNoNumber, IsNumber}
 use Rattle.mvd_input.specs.declared.order.Order.{Order}
 use Rattle.mvd_input.specs.declared.order.Order.TheVariants.{Sim, Loop, Serve, Shell, RemoteShell, Sync}
+use Rattle.mvd_input.specs.declared.order.OrderFault.{OrderFault}
+use Rattle.mvd_input.specs.declared.order.OrderFault.TheVariants.{Words, Range, Stopped}
 use Rattle.mvd_input.specs.declared.order.Setup.{Setup}
 
 -- a site is 1..=2^32 - 1, and it holds 1..=1,000,000 keys at the most
@@ -18,11 +24,85 @@ HasPort address = (1 ≤ socket_port address) × (socket_port address ≤ 65535)
 abbrev pub AreConnections : Option ℕ → Type 0
 AreConnections conns = ForSome conns (λ n. (1 ≤ n) × (n ≤ 1000))
 
+-- no byte need move for 1..=86,400 seconds
+abbrev pub IsIdle : ℕ → Type 0
+IsIdle seconds = (1 ≤ seconds) × (seconds ≤ 86400)
+
 -- a site may be set up with the numbers of an order
 abbrev pub IsInRange : Order → Type 0
 IsInRange Sim = ⊤
 IsInRange (Loop setup) = IsSetUp setup
-IsInRange (Serve _ setup address conns) = IsSetUp setup × HasPort address × AreConnections conns
+IsInRange (Serve _ setup address conns idle) = IsSetUp setup × HasPort address × AreConnections conns × IsIdle idle
 IsInRange (Shell _ setup) = IsSetUp setup
-IsInRange (RemoteShell address) = HasPort address
-IsInRange (Sync _ setup address _) = IsSetUp setup × HasPort address
+IsInRange (RemoteShell address idle) = HasPort address × IsIdle idle
+IsInRange (Sync _ setup address idle _) = IsSetUp setup × HasPort address × IsIdle idle
+
+-- ---- the order that the words are
+
+-- the option's value, which is its default where the words have none, spells this number
+abbrev pub Gives : List Row → List ℕ → ℕ → Type 0
+Gives rows option number = (text : List ℕ) × (first_of option rows ≡ Some text) × IsNumber number text
+
+-- the option's number is 0 or too great
+abbrev pub IsOutOfRange : List Row → List ℕ → ℕ → Type 0
+IsOutOfRange rows option most = (number : ℕ) × Gives rows option number × ((number ≡ 0) ⊎ (most < number))
+
+abbrev pub IsCount : List Row → List ℕ → Option ℕ → Type 0
+IsCount rows option None = first_of option rows ≡ None
+IsCount rows option (Some number) = Gives rows option number
+
+-- the number of an option, or why there is none
+abbrev pub ReadsNumber : List Row → List ℕ → ℕ → Result (Option ℕ) OrderFault → Type 0
+ReadsNumber rows option most (Ok None) = first_of option rows ≡ None
+ReadsNumber rows option most (Ok (Some number)) = Gives rows option number × (1 ≤ number) × (number ≤ most)
+ReadsNumber rows option most (Err Range) = IsOutOfRange rows option most
+ReadsNumber rows option most (Err (Words _)) = (text : List ℕ) × (first_of option rows ≡ Some text) × IsNoNumber text
+ReadsNumber rows option most (Err (Stopped refusal)) = refusal ≡ Memory
+
+-- the same of a number that the command cannot do without
+abbrev pub ReadsGiven : List Row → List ℕ → ℕ → Result ℕ OrderFault → Type 0
+ReadsGiven rows option most (Ok number) = Gives rows option number × (1 ≤ number) × (number ≤ most)
+ReadsGiven rows option most (Err Range) = IsOutOfRange rows option most
+ReadsGiven rows option most (Err (Words _)) = ⊤
+ReadsGiven rows option most (Err (Stopped refusal)) = refusal ≡ Memory
+
+-- some number of the command is out of its range
+abbrev pub HasBadNumber : List Row → Type 0
+HasBadNumber rows = IsOutOfRange rows (codes "site") 4294967295 ⊎ (IsOutOfRange rows (codes "max-keys") 1000000
+    ⊎ (IsOutOfRange rows (codes "port") 65535 ⊎ (IsOutOfRange rows (codes "conns") 1000 ⊎ IsOutOfRange rows (codes "idle") 86400)))
+
+-- `Range` tells of a number out of its range, and what is stopped is so by want of memory
+abbrev pub IsOrderFault : List Row → OrderFault → Type 0
+IsOrderFault rows Range = HasBadNumber rows
+IsOrderFault rows (Words _) = ⊤
+IsOrderFault rows (Stopped refusal) = refusal ≡ Memory
+
+-- a site is set up with the values of its options
+pub record IsSetupOf (rows : List Row) (setup : Setup) : Type 0 where
+  pub site : Gives rows (codes "site") setup.site
+  pub defs : first_of (codes "defs") rows ≡ option_map (λ file. file.now) setup.defs
+  pub max_keys : Gives rows (codes "max-keys") setup.max_keys
+
+-- so is an address
+pub record IsAddressOf (rows : List Row) (address : SocketAddr) : Type 0 where
+  pub port : Gives rows (codes "port") (socket_port address)
+  pub text : List ℕ
+  pub given : first_of (codes "address") rows ≡ Some text
+  pub ip : IsIpText text (socket_ip address)
+
+-- the order that a command with the values of its options is
+abbrev pub IsOrderOf : List ℕ → List Row → Order → Type 0
+IsOrderOf name rows Sim = name ≡ codes "sim"
+IsOrderOf name rows (Loop setup) = (name ≡ codes "loop") × IsSetupOf rows setup
+IsOrderOf name rows (Serve db setup address conns idle) = (name ≡ codes "serve") × (first_of (codes "db") rows ≡ Some db.now)
+    × IsSetupOf rows setup × IsAddressOf rows address × IsCount rows (codes "conns") conns × Gives rows (codes "idle") idle
+IsOrderOf name rows (Shell db setup) = (name ≡ codes "shell") × (first_of (codes "db") rows ≡ Some db.now) × IsSetupOf rows setup
+IsOrderOf name rows (RemoteShell address idle) = (name ≡ codes "shell") × (first_of (codes "db") rows ≡ None) × IsAddressOf rows address
+    × Gives rows (codes "idle") idle
+IsOrderOf name rows (Sync db setup address idle verbose) = (name ≡ codes "sync") × (first_of (codes "db") rows ≡ Some db.now)
+    × IsSetupOf rows setup × IsAddressOf rows address × Gives rows (codes "idle") idle × (IsTrue verbose ↔ (first_of (codes "verbose") rows ≡ Some (codes "true")))
+
+-- the order in its ranges, or why there is none
+abbrev pub ReadsOrder : List ℕ → List Row → Result Order OrderFault → Type 0
+ReadsOrder name rows (Ok order) = IsOrderOf name rows order × IsInRange order
+ReadsOrder name rows (Err fault) = IsOrderFault rows fault

@@ -247,7 +247,7 @@ fn is_padded(digits: &[u8]) -> bool
 }
 
 /// A decimal number without leading zeros.
-fn number_of(text: &str) -> Option<u64>
+pub fn number_of(text: &str) -> Option<u64>
     ensures found { IfSome result (λ number. IsNumber number text.now) }
     ensures none { IfNone result (IsNoNumber text.now) }
 {

@@ -45,7 +45,7 @@ pub fn hex_bytes(alloc: Global, text: &[u8]) -> Result<Vec<u8>, Fault>
 }
 
 /// The first line of a text, and what follows its line feed, if it has one.
-pub(crate) fn first_line(text: &[u8]) -> (&[u8], Option<&[u8]>)
+pub fn first_line(text: &[u8]) -> (&[u8], Option<&[u8]>)
     ensures cut { lines_of text.now ≡ result.0.now ∷ lines_after (option_copied result.1) }
     ensures shorter { IfSome result.1 (λ after. length after.now < length text.now) }
 {

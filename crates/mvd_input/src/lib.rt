@@ -13,6 +13,6 @@ mod words;
 pub use command::{Ask, Command, Line, Typed, View, line_of, typed_of};
 pub use definitions::{DEFS_MAX, add_index, add_view, read_defs, text_of};
 pub use fault::Fault;
-pub use hexadecimal::{BYTES_MAX, HEX_MAX, hex_bytes};
+pub use hexadecimal::{BYTES_MAX, HEX_MAX, first_line, hex_bytes};
 pub use input::{read_input, write_out};
 pub use order::{MOST_KEYS, Order, OrderFault, Setup, order_of};

@@ -1,7 +1,10 @@
 //! The command line.
-ghost use Rattle.std.specs.Prelude.{◌<◌, ◌≤◌, ◌^◌, IfOk, IfSome};
-ghost use Rattle.mvd_input.specs.Orders.{HasPort, IsInRange, IsSetUp};
+ghost use Rattle.std.specs.Prelude.{◌≡◌, ◌<◌, ◌≤◌, ◌^◌, ℕ, List, IfErr, IfOk, IfSome, Some, codes, option_map};
+ghost use Rattle.std.specs.Net.Grammar.{IsIpText};
+ghost use Rattle.clap.specs.Words.{first_of, found_of, rows_of};
+ghost use Rattle.mvd_input.specs.Orders.{Gives, HasPort, IsAddressOf, IsCount, IsIdle, IsInRange, IsOrderFault, IsSetUp, IsSetupOf, ReadsGiven, ReadsNumber, ReadsOrder};
 
+use crate::command::number_of;
 use crate::words::command;
 use clap::error::ErrorKind;
 use clap::{ArgMatches, Error};
@@ -15,6 +18,9 @@ pub const MOST_KEYS: u32 = 1_000_000;
 /// The most connections that a server may be asked to serve.
 const MOST_CONNECTIONS: u64 = 1_000;
 
+/// The most seconds for which no byte need move.
+const MOST_IDLE: u64 = 86_400;
+
 /// What a site is set up with: its number is at least 1, and it may hold 1 to 1,000,000 keys. A file may define its indexes and
 /// views.
 #[derive(Debug, Clone, Copy, PartialEq, Eq)]
@@ -24,20 +30,21 @@ pub struct Setup<'a> {
     pub max_keys: u32,
 }
 
-/// What a command line asks for. Numbers are in their ranges: those of a site as told there, a port at least 1, and `conns` 1 to
-/// 1,000.
+/// What a command line asks for. Numbers are in their ranges: those of a site as told there, a port at least 1, `conns` 1 to 1,000,
+/// and `idle` 1 to 86,400 seconds.
 #[derive(Debug, Clone, Copy, PartialEq, Eq)]
 pub enum Order<'a> {
     /// Run a script from standard input.
     Sim,
     /// Answer the requests that stand in hexadecimal on standard input, over a connection within one process.
     Loop(Setup<'a>),
-    /// Serve a database to peers, one connection after the other.
+    /// Serve a database to many clients at once.
     Serve {
         db: &'a str,
         setup: Setup<'a>,
         address: SocketAddr,
         conns: Option<u32>,
+        idle: u32,
     },
     /// Answer the lines of standard input on a database.
     Shell {
@@ -45,12 +52,16 @@ pub enum Order<'a> {
         setup: Setup<'a>,
     },
     /// Answer the lines of standard input through a server.
-    RemoteShell(SocketAddr),
+    RemoteShell {
+        address: SocketAddr,
+        idle: u32,
+    },
     /// Run a session of a database with a server.
     Sync {
         db: &'a str,
         setup: Setup<'a>,
         address: SocketAddr,
+        idle: u32,
         verbose: bool,
     },
 }
@@ -76,6 +87,12 @@ impl From<Error> for OrderFault {
 }
 
 impl From<AllocError> for OrderFault {
+    ghost use Rattle.std.specs.Prelude.{◌≡◌};
+    ghost use Rattle.mvd_dots.specs.declared.refusals.Refusal.TheVariants.{Memory};
+    ghost use Rattle.mvd_input.specs.declared.order.OrderFault.TheVariants.{Stopped};
+
+    ghost from_gives = { λ _ fault. fault ≡ Stopped Memory };
+
     fn from(_error: AllocError) -> OrderFault {
         OrderFault::Stopped(Refusal::Memory)
     }
@@ -87,127 +104,184 @@ pub fn order_of<'a>(alloc: Global, words: &'a [&'a str]) -> Result<Order<'a>, Or
 {
     let matches = command(alloc)?.try_get_matches_from(words)?;
     match matches.subcommand() {
-        Some(("loop", matches)) => Ok(Order::Loop(setup_in(matches)?)),
-        Some(("serve", matches)) => serve_of(alloc, matches),
-        Some(("shell", matches)) => shell_of(alloc, matches),
-        Some(("sync", matches)) => sync_of(alloc, matches),
-        _ => Ok(Order::Sim),
+        Some((name, matches)) => order_in(alloc, name, matches),
+        None => Err(refused(alloc, "a command is missing")?),
+    }
+}
+
+/// The order that the command of a name is, by its matches.
+fn order_in<'a>(
+    alloc: Global,
+    name: &str,
+    matches: &ArgMatches<'a>,
+) -> Result<Order<'a>, OrderFault>
+    ensures { ReadsOrder name.now (rows_of (found_of matches.now)) result }
+{
+    match name {
+        "sim" => Ok(Order::Sim),
+        "loop" => Ok(Order::Loop(setup_in(alloc, matches)?)),
+        "serve" => serve_of(alloc, matches),
+        "shell" => shell_of(alloc, matches),
+        "sync" => sync_of(alloc, matches),
+        _ => Err(refused(alloc, "there is no such command")?),
     }
 }
 
 fn serve_of<'a>(alloc: Global, matches: &ArgMatches<'a>) -> Result<Order<'a>, OrderFault>
-    ensures { IfOk result IsInRange }
+    ensures { ReadsOrder (codes "serve") (rows_of (found_of matches.now)) result }
 {
     Ok(Order::Serve {
-        db: matches.get_str("db").unwrap_or(""),
-        setup: setup_in(matches)?,
-        conns: conns_in(matches)?,
+        db: db_in(alloc, matches)?,
+        setup: setup_in(alloc, matches)?,
+        conns: conns_in(alloc, matches)?,
+        idle: idle_in(alloc, matches)?,
         address: address_in(alloc, matches)?,
     })
 }
 
 fn sync_of<'a>(alloc: Global, matches: &ArgMatches<'a>) -> Result<Order<'a>, OrderFault>
-    ensures { IfOk result IsInRange }
+    ensures { ReadsOrder (codes "sync") (rows_of (found_of matches.now)) result }
 {
     Ok(Order::Sync {
-        db: matches.get_str("db").unwrap_or(""),
-        setup: setup_in(matches)?,
+        db: db_in(alloc, matches)?,
+        setup: setup_in(alloc, matches)?,
         address: address_in(alloc, matches)?,
-        verbose: matches.get_flag("verbose"),
+        idle: idle_in(alloc, matches)?,
+        verbose: text_in(matches, "verbose") == Some("true"),
     })
 }
 
 fn shell_of<'a>(alloc: Global, matches: &ArgMatches<'a>) -> Result<Order<'a>, OrderFault>
-    ensures { IfOk result IsInRange }
+    ensures { ReadsOrder (codes "shell") (rows_of (found_of matches.now)) result }
 {
-    match matches.get_str("db") {
+    match text_in(matches, "db") {
         Some(db) => Ok(Order::Shell {
             db,
-            setup: setup_in(matches)?,
+            setup: setup_in(alloc, matches)?,
         }),
-        None => Ok(Order::RemoteShell(address_in(alloc, matches)?)),
+        None => Ok(Order::RemoteShell {
+            address: address_in(alloc, matches)?,
+            idle: idle_in(alloc, matches)?,
+        }),
     }
 }
 
 /// What the options of a site say.
-fn setup_in<'a>(matches: &ArgMatches<'a>) -> Result<Setup<'a>, OrderFault>
-    ensures { IfOk result IsSetUp }
+fn setup_in<'a>(alloc: Global, matches: &ArgMatches<'a>) -> Result<Setup<'a>, OrderFault>
+    ensures range { IfOk result IsSetUp }
+    ensures setup { IfOk result (IsSetupOf (rows_of (found_of matches.now))) }
+    ensures fault { IfErr result (IsOrderFault (rows_of (found_of matches.now))) }
 {
     Ok(Setup {
-        site: site_in(matches)?,
-        defs: matches.get_str("defs"),
-        max_keys: max_keys_in(matches)?,
+        site: given_in(alloc, matches, "site", 4_294_967_295)? as u32,
+        defs: text_in(matches, "defs"),
+        max_keys: given_in(alloc, matches, "max-keys", u64::from(MOST_KEYS))? as u32,
     })
 }
 
-/// The number of an option, where it is given: `Range` where it is 0 or too great.
-fn number_in(matches: &ArgMatches<'_>, option: &str, most: u64) -> Result<Option<u64>, OrderFault>
-    ensures { IfOk result (λ found. IfSome found (λ n. (1 ≤ n) × (n ≤ most))) }
+/// The value of an option, as it is written, or its default.
+fn text_in<'a>(matches: &ArgMatches<'a>, option: &str) -> Option<&'a str>
+    ensures { first_of option.now (rows_of (found_of matches.now)) ≡ option_map (λ text. text.now) result }
 {
-    match matches.get_one::<u64>(option) {
+    matches.get_str(option)
+}
+
+/// The file of a database.
+fn db_in<'a>(alloc: Global, matches: &ArgMatches<'a>) -> Result<&'a str, OrderFault>
+    ensures found { IfOk result (λ db. first_of (codes "db") (rows_of (found_of matches.now)) ≡ Some db.now) }
+    ensures fault { IfErr result (IsOrderFault (rows_of (found_of matches.now))) }
+{
+    match text_in(matches, "db") {
+        Some(db) => Ok(db),
+        None => Err(refused(alloc, "the option '--db <FILE>' is missing")?),
+    }
+}
+
+/// The number of an option, where it is given: `Range` where it is 0 or too great.
+fn number_in(
+    alloc: Global,
+    matches: &ArgMatches<'_>,
+    option: &str,
+    most: u64,
+) -> Result<Option<u64>, OrderFault>
+    ensures { ReadsNumber (rows_of (found_of matches.now)) option.now most result }
+{
+    let Some(text) = text_in(matches, option) else {
+        return Ok(None);
+    };
+    match number_of(text) {
         Some(number) if number == 0 || number > most => Err(OrderFault::Range),
-        found => Ok(found),
+        Some(number) => Ok(Some(number)),
+        None => Err(refused(alloc, "a number has a sign, or a zero that leads")?),
     }
 }
 
 /// The number of an option that is given: `Range` where it is 0 or too great.
-fn given_in(matches: &ArgMatches<'_>, option: &str, most: u64) -> Result<u64, OrderFault>
-    ensures { IfOk result (λ n. (1 ≤ n) × (n ≤ most)) }
+fn given_in(
+    alloc: Global,
+    matches: &ArgMatches<'_>,
+    option: &str,
+    most: u64,
+) -> Result<u64, OrderFault>
+    ensures { ReadsGiven (rows_of (found_of matches.now)) option.now most result }
 {
-    match number_in(matches, option, most)? {
+    match number_in(alloc, matches, option, most)? {
         Some(number) => Ok(number),
-        None => Err(OrderFault::Range),
+        None => Err(refused(alloc, "an option is missing")?),
     }
 }
 
-fn site_in(matches: &ArgMatches<'_>) -> Result<u32, OrderFault>
-    ensures { IfOk result (λ n. (1 ≤ n) × (n < 2 ^ 32)) }
+fn conns_in(alloc: Global, matches: &ArgMatches<'_>) -> Result<Option<u32>, OrderFault>
+    ensures range { IfOk result (λ found. IfSome found (λ n. (1 ≤ n) × (n ≤ 1000))) }
+    ensures count { IfOk result (IsCount (rows_of (found_of matches.now)) (codes "conns")) }
+    ensures fault { IfErr result (IsOrderFault (rows_of (found_of matches.now))) }
 {
-    Ok(given_in(matches, "site", 4_294_967_295)? as u32)
-}
-
-fn port_in(matches: &ArgMatches<'_>) -> Result<u16, OrderFault>
-    ensures { IfOk result (λ n. (1 ≤ n) × (n < 2 ^ 16)) }
-{
-    Ok(given_in(matches, "port", 65_535)? as u16)
-}
-
-fn max_keys_in(matches: &ArgMatches<'_>) -> Result<u32, OrderFault>
-    ensures { IfOk result (λ n. (1 ≤ n) × (n ≤ 1000000)) }
-{
-    Ok(given_in(matches, "max-keys", u64::from(MOST_KEYS))? as u32)
-}
-
-fn conns_in(matches: &ArgMatches<'_>) -> Result<Option<u32>, OrderFault>
-    ensures { IfOk result (λ found. IfSome found (λ n. (1 ≤ n) × (n ≤ 1000))) }
-{
-    match number_in(matches, "conns", MOST_CONNECTIONS)? {
+    match number_in(alloc, matches, "conns", MOST_CONNECTIONS)? {
         Some(number) => Ok(Some(number as u32)),
         None => Ok(None),
     }
 }
 
+/// The seconds for which no byte need move.
+fn idle_in(alloc: Global, matches: &ArgMatches<'_>) -> Result<u32, OrderFault>
+    ensures range { IfOk result IsIdle }
+    ensures idle { IfOk result (Gives (rows_of (found_of matches.now)) (codes "idle")) }
+    ensures fault { IfErr result (IsOrderFault (rows_of (found_of matches.now))) }
+{
+    Ok(given_in(alloc, matches, "idle", MOST_IDLE)? as u32)
+}
+
 /// The address of a server, with its port.
 fn address_in(alloc: Global, matches: &ArgMatches<'_>) -> Result<SocketAddr, OrderFault>
-    ensures { IfOk result HasPort }
+    ensures range { IfOk result HasPort }
+    ensures address { IfOk result (IsAddressOf (rows_of (found_of matches.now))) }
+    ensures fault { IfErr result (IsOrderFault (rows_of (found_of matches.now))) }
 {
-    let port = port_in(matches)?;
+    let port = given_in(alloc, matches, "port", 65_535)? as u16;
     Ok(SocketAddr::new(ip_in(alloc, matches)?, port))
 }
 
 /// The IP address of a server. Its text is read here, since `clap` reads numbers alone.
-fn ip_in(alloc: Global, matches: &ArgMatches<'_>) -> Result<IpAddr, OrderFault> {
-    match matches.get_one::<IpAddr>("address") {
-        Some(address) => Ok(address),
-        None => Err(no_address(alloc)?),
+fn ip_in(alloc: Global, matches: &ArgMatches<'_>) -> Result<IpAddr, OrderFault>
+    ensures found { IfOk result (λ ip. (text : List ℕ) × (first_of (codes "address") (rows_of (found_of matches.now)) ≡ Some text) × IsIpText text ip) }
+    ensures fault { IfErr result (IsOrderFault (rows_of (found_of matches.now))) }
+{
+    let Some(text) = text_in(matches, "address") else {
+        return Err(refused(alloc, "an option is missing")?);
+    };
+    match text.parse::<IpAddr>() {
+        Ok(address) => Ok(address),
+        Err(_) => Err(refused(
+            alloc,
+            "invalid value for '--address <IP>': it is no IP address",
+        )?),
     }
 }
 
-/// What is told of an address that is none.
-fn no_address(alloc: Global) -> Result<OrderFault, AllocError> {
-    let error = command(alloc)?.error(
-        ErrorKind::ValueValidation,
-        "invalid value for '--address <IP>': it is no IP address",
-    )?;
+/// What is told of words that are none of the program's.
+fn refused(alloc: Global, message: &str) -> Result<OrderFault, AllocError>
+    ensures { IfOk result (λ fault. (error : Error) × (fault ≡ OrderFault.Words error)) }
+{
+    let error = command(alloc)?.error(ErrorKind::ValueValidation, message)?;
     Ok(OrderFault::Words(error))
 }

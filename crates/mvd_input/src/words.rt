@@ -21,9 +21,14 @@ const LOOP: &str =
                     hexadecimal, and then how the connection ended.";
 
 const SERVE: &str =
-    "Serves a database to peers, one connection after the other. It prints where it listens, how each \
+    "Serves a database to many clients at once, up to 256. It prints where it listens, how each \
                      connection ended, and, after the last one, the digest of all that it holds. Each write is stored before \
                      its reply leaves.";
+
+const SERVED_IDLE: &str =
+    "A connection on which no byte moves for so many seconds ends, 1 to 86400.";
+
+const IDLE: &str = "A server from which no byte comes for so many seconds is given up, 1 to 86400.";
 
 const SHELL: &str =
     "Answers the lines of standard input, each at once, on a database or through a server. The line `help` lists what may be asked.";
@@ -74,7 +79,8 @@ fn serve_command<'a>(alloc: Global) -> Result<Command<'a>, AllocError> {
     );
     with_database(alloc, command)?
         .arg(port(alloc, "The port to listen at, 1 to 65535."))?
-        .arg(conns(alloc))
+        .arg(conns(alloc))?
+        .arg(idle(alloc, SERVED_IDLE, "300"))
 }
 
 fn shell_command<'a>(alloc: Global) -> Result<Command<'a>, AllocError> {
@@ -93,7 +99,8 @@ fn shell_command<'a>(alloc: Global) -> Result<Command<'a>, AllocError> {
         "The port of a server, 1 to 65535, in place of a database.",
     );
     let command = command.arg(port.required(false))?;
-    apart_from(command, address(alloc), "db")
+    let command = apart_from(command, address(alloc), "db")?;
+    apart_from(command, idle(alloc, IDLE, "60"), "db")
 }
 
 /// Adds an option that is given where no port is.
@@ -120,6 +127,7 @@ fn sync_command<'a>(alloc: Global) -> Result<Command<'a>, AllocError> {
     );
     with_database(alloc, command)?
         .arg(port(alloc, "The port of the server, 1 to 65535."))?
+        .arg(idle(alloc, IDLE, "60"))?
         .arg(verbose(alloc))
 }
 
@@ -196,8 +204,12 @@ fn conns<'a>(alloc: Global) -> Arg<'a> {
         alloc,
         "conns",
         "C",
-        "How many connections are served, 1 to 1000. It goes on until it is stopped where this is left out.",
+        "How many connections are served in all, 1 to 1000. It goes on until it is stopped where this is left out.",
     )
+}
+
+fn idle<'a>(alloc: Global, help: &'a str, seconds: &'a str) -> Arg<'a> {
+    number(alloc, "idle", "S", help).default_value(seconds)
 }
 
 fn verbose<'a>(alloc: Global) -> Arg<'a> {

@@ -1,0 +1,184 @@
+//! A server of many clients at once, from one thread.
+mod client;
+mod crowd;
+mod door;
+mod timers;
+
+use crate::hint::Stop;
+use crate::serving::{print_root, tell};
+use crowd::Crowd;
+use door::{Door, LISTENER};
+use mio::{Events, Poll};
+use mvd_dots::Refusal;
+use mvd_input::Fault;
+use mvd_replica::Replica;
+use sqlite::Alter;
+use std::alloc::Global;
+use std::fmt::Write as Print;
+use std::io::{self, Write};
+use std::mem;
+use std::net::{Net, SocketAddr};
+use std::time::{Clock, Duration, Instant};
+
+/// As many clients are served at once. Further ones wait in the listener's queue.
+const CLIENTS_MAX: usize = 256;
+
+/// What a server is asked for: how many connections it serves in all, and for how many seconds no byte need move on one.
+#[derive(Clone, Copy)]
+pub struct Terms {
+    pub conns: Option<u32>,
+    pub idle: u32,
+}
+
+/// The clients, the listener, and those clients for which there may be something to do.
+#[derive(Drop)]
+struct Server {
+    poll: Poll,
+    events: Events,
+    door: Door,
+    crowd: Crowd,
+    ready: Vec<u64>,
+    next: Vec<u64>,
+    start: Instant,
+}
+
+/// Serves so many connections at an address, or without end, many at once, and tells where it listens, how each connection ended,
+/// and at the end the root digest. Each line is flushed as it is written.
+///
+/// What came together of all clients is answered together, and then the replies leave. No client is waited for. It is `Stopped` with
+/// `ReadFailed` where it cannot listen or wait, and with `WriteFailed` where a line cannot be written.
+pub fn serve_run<'a, N: Net + Clock, S: Alter + Drop, W: Write>(
+    rt: &N,
+    alloc: Global,
+    replica: &mut Replica<S>,
+    address: SocketAddr,
+    terms: Terms,
+    writer: &mut W,
+) -> Result<(), Stop<'a>> {
+    let mut server = match Server::new(rt, alloc, address, terms) {
+        Ok(server) => server,
+        Err(error) => return Err(Stop::unheard(address, error)),
+    };
+    Ok(server.serve_at::<N, S, W>(rt, alloc, replica, address, writer)?)
+}
+
+impl Server {
+    fn new<N: Net + Clock>(
+        rt: &N,
+        alloc: Global,
+        address: SocketAddr,
+        terms: Terms,
+    ) -> io::Result<Server> {
+        let poll = Poll::new(rt)?;
+        let door = Door::new(rt, poll.registry(), address, terms.conns)?;
+        Ok(Server {
+            poll,
+            events: Events::with_capacity(alloc, CLIENTS_MAX + 1)?,
+            door,
+            crowd: Crowd::new(alloc, terms.idle)?,
+            ready: Vec::with_capacity(alloc, 2 * CLIENTS_MAX)?,
+            next: Vec::with_capacity(alloc, 2 * CLIENTS_MAX)?,
+            start: Instant::now(rt)?,
+        })
+    }
+
+    /// Serves, and tells the address before and the root digest after that.
+    fn serve_at<N: Net + Clock, S: Alter + Drop, W: Write>(
+        &mut self,
+        rt: &N,
+        alloc: Global,
+        replica: &mut Replica<S>,
+        address: SocketAddr,
+        writer: &mut W,
+    ) -> Result<(), Fault> {
+        let mut line = String::new(alloc);
+        writeln!(line, "listening {address}")?;
+        tell(writer, &mut line)?;
+        self.serve(rt, replica, writer)?;
+        print_root(alloc, replica, &mut line)?;
+        tell(writer, &mut line)
+    }
+
+    /// Serves until all connections have ended.
+    fn serve<N: Net + Clock, S: Alter, W: Write>(
+        &mut self,
+        rt: &N,
+        replica: &mut Replica<S>,
+        writer: &mut W,
+    ) -> Result<(), Fault> {
+        for _round in 0..u64::MAX {
+            if self.door.is_shut() && self.crowd.is_empty() {
+                return Ok(());
+            }
+            self.wait(rt)?;
+            self.take_in()?;
+            self.crowd.host.round(replica, &self.ready);
+            self.give_out(writer)?;
+        }
+        Ok(())
+    }
+
+    /// Waits until there may be something to do, and lists the clients of which the system tells so.
+    fn wait<N: Clock>(&mut self, rt: &N) -> Result<(), Fault> {
+        let pause = self.pause();
+        if self.poll.poll(&mut self.events, pause).is_err() {
+            return Err(Fault::Stopped(Refusal::ReadFailed));
+        }
+        // A clock that cannot be read stands still.
+        if let Ok(passed) = self.start.elapsed(rt) {
+            self.crowd.now = millis_of(passed);
+        }
+        for event in &self.events {
+            if event.token() == LISTENER {
+                self.door.knocks = true;
+            } else {
+                self.crowd.note(event, &mut self.ready);
+            }
+        }
+        Ok(())
+    }
+
+    /// How long nothing needs to be done if the system tells of nothing.
+    fn pause(&self) -> Option<Duration> {
+        if !self.ready.is_empty() {
+            return Some(Duration::ZERO);
+        }
+        let first = match (self.crowd.next_due(), self.door.next_due(&self.crowd)) {
+            (Some(first), Some(second)) => first.min(second),
+            (Some(due), None) | (None, Some(due)) => due,
+            (None, None) => return None,
+        };
+        Some(Duration::from_millis(first.saturating_sub(self.crowd.now)))
+    }
+
+    /// Lets clients in, ends those that are idle, and reads once of each that is listed.
+    fn take_in(&mut self) -> Result<(), Fault> {
+        let registry = self.poll.registry();
+        self.door.admit(registry, &mut self.crowd, &mut self.ready)?;
+        self.crowd.end_idle(&mut self.ready);
+        for client in &self.ready {
+            self.crowd.read(*client);
+        }
+        Ok(())
+    }
+
+    /// Writes once to each client that is listed, tells which ended, and lists those for which there may be more to do at once.
+    fn give_out<W: Write>(&mut self, writer: &mut W) -> Result<(), Fault> {
+        mem::swap(&mut self.ready, &mut self.next);
+        self.ready.clear();
+        for client in &self.next {
+            self.crowd.write(*client)?;
+            self.crowd.list_again(*client, &mut self.ready);
+        }
+        if self.crowd.told.is_empty() {
+            return Ok(());
+        }
+        tell(writer, &mut self.crowd.told)
+    }
+}
+
+/// The whole milliseconds of a time.
+fn millis_of(time: Duration) -> u64 {
+    let whole = time.as_secs().saturating_mul(1_000);
+    whole.saturating_add(u64::from(time.subsec_millis()))
+}

@@ -1,0 +1,128 @@
+-- The frames of one connection, taken one by one.
+use Rattle.std.proofs.Common.{◌≡◌, ◌⊎◌, inl, inr, ℕ, ◌-◌, ◌==◌, Bool, true, false, List, [], ◌∷◌, ◌++◌, map, length, Option, Some, None, Result, Ok, Err, cond, refl, sym, ap, ◌∙◌, subst, append_assoc, append-nil, ap₂}
+use Rattle.std.proofs.lemmas.List.{map-append}
+use Rattle.mvd_dots.specs.declared.refusals.Refusal.{Refusal}
+use Rattle.mvd_wire.specs.declared.request.Request.{Request}
+use Rattle.mvd_wire.specs.Frames.{FrameValue}
+use Rattle.mvd_conn.specs.History.{Gives, History, Next, Over, Stops, Waits, after_next, due, is_held_up, next_of, over, released, stepped, stopped, taking}
+use Rattle.mvd_host.specs.Course.{NoneMoved, asked_by}
+use Rattle.mvd_host.specs.Taking.{IsIdle, TakesOn}
+
+pub none_moved : (h : History) → NoneMoved h h
+none_moved h = record { came = refl; source = refl; left = refl; failed = refl }
+
+-- no frame was taken
+pub record Same (old new : History) : Type 0 where
+  pub taken : new.taken ≡ old.taken
+  pub answers : new.answers ≡ old.answers
+  pub moved : NoneMoved old new
+
+pub same : (old new : History) → Same old new → TakesOn [] [] old new
+same old new is = record { frames = []; taken = is.taken ∙ sym (append-nil old.taken); asked = refl; answers = is.answers; moved = is.moved }
+
+pub took_nothing : (h : History) → TakesOn [] [] h (released h)
+took_nothing h = same h (released h) (record { taken = refl; answers = refl; moved = record { came = refl; source = refl; left = refl; failed = refl } })
+
+-- what a step that hands nothing out leaves
+not_true : {A : Type 0} (p q : A) → ◌≡◌ {A = Bool × A} (false, p) (true, q) → ⊥
+not_true p q e = let no : false ≡ true = ap (λ (x : Bool × _). x.0) e in cc
+
+stepped_same : (h : History) (n : Next) (k : History) → ◌≡◌ {A = Bool × History} (false, k) (stepped h n) → Same h k
+stepped_same h (Gives f rest) k e = absurd (not_true k (taking h f rest) e)
+stepped_same h Over k e =
+    elim (due h == 0) as (λ b. k ≡ cond b (over h) h → Same h k) [
+      | true ↦ λ is. subst (Same h) (sym is) (record { taken = refl; answers = refl; moved = record { came = refl; source = refl; left = refl; failed = refl } })
+      | false ↦ λ is. subst (Same h) (sym is) (record { taken = refl; answers = refl; moved = none_moved h })
+    ] (ap (λ (x : Bool × History). x.1) e)
+stepped_same h (Stops refusal) k e =
+    elim (due h == 0) as (λ b. k ≡ cond b (stopped h refusal) h → Same h k) [
+      | true ↦ λ is. subst (Same h) (sym is) (record { taken = refl; answers = refl; moved = record { came = refl; source = refl; left = refl; failed = refl } })
+      | false ↦ λ is. subst (Same h) (sym is) (record { taken = refl; answers = refl; moved = none_moved h })
+    ] (ap (λ (x : Bool × History). x.1) e)
+stepped_same h Waits k e = subst (Same h) (sym (ap (λ (x : Bool × History). x.1) e)) (record { taken = refl; answers = refl; moved = none_moved h })
+
+pub took_none : (h k : History) → ◌≡◌ {A = Bool × History} (false, k) (after_next h) → TakesOn [] [] h k
+took_none h k e =
+    elim (is_held_up h) as (λ b. ◌≡◌ {A = Bool × History} (false, k) (cond b (false, released h) (stepped (released h) (next_of h))) → TakesOn [] [] h k) [
+      | true ↦ λ is. subst (TakesOn [] [] h) (sym (ap (λ (x : Bool × History). x.1) is)) (took_nothing h)
+      | false ↦ λ is. let s : Same (released h) k = stepped_same (released h) (next_of h) k is in same h k (record { taken = s.taken; answers = s.answers; moved = record { came = s.moved.came; source = s.moved.source; left = s.moved.left; failed = s.moved.failed } })
+    ] e
+
+-- one frame was taken, and is in hand
+pub record TookOne (old new : History) : Type 0 where
+  pub frame : FrameValue
+  pub hand : new.hand ≡ Some frame
+  pub taken : new.taken ≡ old.taken ++ frame ∷ []
+  pub answers : new.answers ≡ old.answers
+  pub moved : NoneMoved old new
+
+stepped_one : (h : History) (n : Next) (k : History) → ◌≡◌ {A = Bool × History} (true, k) (stepped h n) → TookOne h k
+stepped_one h (Gives f rest) k e =
+    subst (TookOne h) (sym (ap (λ (x : Bool × History). x.1) e)) (record { frame = f; hand = refl; taken = refl; answers = refl; moved = record { came = refl; source = refl; left = refl; failed = refl } })
+stepped_one h Over k e = absurd (not_true _ k (sym e))
+stepped_one h (Stops refusal) k e = absurd (not_true _ k (sym e))
+stepped_one h Waits k e = absurd (not_true _ k (sym e))
+
+pub took_one : (h k : History) → ◌≡◌ {A = Bool × History} (true, k) (after_next h) → TookOne h k
+took_one h k e =
+    elim (is_held_up h) as (λ b. ◌≡◌ {A = Bool × History} (true, k) (cond b (false, released h) (stepped (released h) (next_of h))) → TookOne h k) [
+      | true ↦ λ is. absurd (not_true (released h) k (sym is))
+      | false ↦ λ is. let s : TookOne (released h) k = stepped_one (released h) (next_of h) k is in record { frame = s.frame; hand = s.hand; taken = s.taken; answers = s.answers; moved = record { came = s.moved.came; source = s.moved.source; left = s.moved.left; failed = s.moved.failed } }
+    ] e
+
+pub took_request : (old new : History) (one : TookOne old new) (r : Request) → asked_by one.frame ≡ Ok r → TakesOn (r ∷ []) [] old new
+took_request old new one r is = record { frames = one.frame ∷ []; taken = one.taken; asked = ap (λ a. a ∷ []) is; answers = one.answers; moved = one.moved }
+
+pub took_fault : (old new : History) (one : TookOne old new) → TakesOn [] (one.frame ∷ []) old new
+took_fault old new one = record { frames = []; taken = one.taken; asked = refl; answers = one.answers; moved = one.moved }
+
+-- requests, and then more frames
+pub takes_on : (old mid new : History) (rs more : List Request) (faulty : List FrameValue) → TakesOn rs [] old mid → TakesOn more faulty mid new → TakesOn (rs ++ more) faulty old new
+takes_on old mid new rs more faulty one other = record {
+  frames = one.frames ++ other.frames;
+  taken = other.taken ∙ ap (λ l. l ++ (other.frames ++ faulty)) (one.taken ∙ ap (λ l. old.taken ++ l) (append-nil one.frames))
+      ∙ append_assoc old.taken one.frames (other.frames ++ faulty) ∙ ap (λ l. old.taken ++ l) (sym (append_assoc one.frames other.frames faulty));
+  asked = map-append asked_by one.frames other.frames ∙ ap₂ (λ a b. a ++ b) one.asked other.asked ∙ sym (map-append (λ r. Ok r) rs more);
+  answers = other.answers ∙ one.answers;
+  moved = record { came = other.moved.came ∙ one.moved.came; source = other.moved.source ∙ one.moved.source; left = other.moved.left ∙ one.moved.left; failed = other.moved.failed ∙ one.moved.failed };
+}
+
+idle_step : (h : History) (n : Next) (k : History) → ◌≡◌ {A = Bool × History} (false, k) (stepped (released h) n) → (k ≡ released h) ⊎ IsIdle k
+idle_step h (Gives f rest) k e = absurd (not_true k (taking (released h) f rest) e)
+idle_step h Over k e =
+    elim (due h == 0) as (λ b. k ≡ cond b (over (released h)) (released h) → (k ≡ released h) ⊎ IsIdle k) [
+      | true ↦ λ is. inr (subst IsIdle (sym is) refl)
+      | false ↦ λ is. inl is
+    ] (ap (λ (x : Bool × History). x.1) e)
+idle_step h (Stops refusal) k e =
+    elim (due h == 0) as (λ b. k ≡ cond b (stopped (released h) refusal) (released h) → (k ≡ released h) ⊎ IsIdle k) [
+      | true ↦ λ is. inr (subst IsIdle (sym is) refl)
+      | false ↦ λ is. inl is
+    ] (ap (λ (x : Bool × History). x.1) e)
+idle_step h Waits k e = inl (ap (λ (x : Bool × History). x.1) e)
+
+-- where nothing comes next, nothing does afterwards
+pub idle_after : (h k : History) → ◌≡◌ {A = Bool × History} (false, k) (after_next h) → IsIdle k
+idle_after h k e =
+    let on : (k ≡ released h) ⊎ IsIdle k =
+    elim (is_held_up h) as (λ b. ◌≡◌ {A = Bool × History} (false, k) (cond b (false, released h) (stepped (released h) (next_of h))) → (k ≡ released h) ⊎ IsIdle k) [
+      | true ↦ λ is. inl (ap (λ (x : Bool × History). x.1) is)
+      | false ↦ λ is. idle_step h (next_of h) k is
+    ] e in
+    elim on [
+      | inl is ↦ let again : after_next (released h) ≡ (false, released h) = sym e ∙ ap (λ (x : History). (false, x)) is in subst IsIdle (sym is) again
+      | inr idle ↦ idle
+    ]
+
+no_frames : (frames : List FrameValue) → map asked_by frames ≡ [] → frames ≡ []
+no_frames [] e = refl
+no_frames (f ∷ fs) e = absurd (let no : ◌≡◌ {A = List (Result Request Refusal)} (asked_by f ∷ map asked_by fs) [] = e in cc)
+
+pub then_none : (old mid new : History) (rs : List Request) (faulty : List FrameValue) → TakesOn rs faulty old mid → TakesOn [] [] mid new → TakesOn rs faulty old new
+then_none old mid new rs faulty one other = record {
+  frames = one.frames;
+  taken = other.taken ∙ ap (λ l. mid.taken ++ (l ++ [])) (no_frames other.frames other.asked) ∙ append-nil mid.taken ∙ one.taken;
+  asked = one.asked;
+  answers = other.answers ∙ one.answers;
+  moved = record { came = other.moved.came ∙ one.moved.came; source = other.moved.source ∙ one.moved.source; left = other.moved.left ∙ one.moved.left; failed = other.moved.failed ∙ one.moved.failed };
+}

@@ -1,0 +1,146 @@
+-- The frames of clients, one client after the other.
+use Rattle.std.proofs.Common.{◌≡◌, ◌⊎◌, inl, inr, ℕ, ◌+◌, ◌==◌, Bool, true, false, cond, List, [], ◌∷◌, ◌++◌, map, length, slice_index, ◌<◌, ◌||◌, true≢false, Option, Some, None, Ok, refl, sym, ap, ◌∙◌, subst, subst₂, append-nil, arith}
+use Rattle.std.proofs.lemmas.Bool.Decides.{nat_tests}
+use Rattle.std.specs.Ordering.{nat_cmp}
+use Rattle.std.specs.BTreeMap.{is_at}
+use Rattle.std.specs.List.{list_any}
+use Rattle.mvd_dots.specs.declared.refusals.Refusal.{Refusal}
+use Rattle.mvd_wire.specs.declared.request.Request.{Request}
+use Rattle.mvd_wire.specs.Frames.{FrameValue}
+use Rattle.mvd_conn.specs.History.{History}
+use Rattle.mvd_host.specs.Hosts.{IfClient, client_in}
+use Rattle.mvd_host.specs.Course.{Both, own}
+use Rattle.mvd_host.specs.Taking.{AreFaults, Grows, Holds, IsIdle, IsMore, IsNone, TakesAll, TakesMore, TakesOf, TakesOn}
+use Rattle.mvd_host.specs.declared.taking.Taken.{Taken}
+use Rattle.mvd_host.proofs.Frames.{none_moved, same, takes_on, then_none}
+use Rattle.mvd_host.proofs.Holding.{holds_same}
+use Rattle.mvd_host.proofs.Hosts.{at_is}
+use Rattle.mvd_host.proofs.Own.{both_on, both_self, own-append, own-other, own-same}
+
+same_there : (n m : ℕ) → (n == m) ≡ true → m ≡ n
+same_there n m is = grind (arith, nat_tests)
+
+pub takes_nothing : (clients : List (ℕ × History)) (taken : Taken) → Holds [] [] taken → TakesAll clients clients taken
+takes_nothing clients taken holds = record {
+  requests = [];
+  faulty = [];
+  holds = holds;
+  takes = λ n. both_self (client_in clients n) (TakesOn [] []) (λ x. same x x (record { taken = refl; answers = refl; moved = none_moved x }));
+}
+
+module _ (client : ℕ) (old mid new : List (ℕ × History)) (before after : Taken) (all : TakesAll old mid before) (one : TakesOf client mid new before after) where
+  more_requests : List (ℕ × Request)
+  more_requests = map (λ r. (client, r)) one.requests
+
+  more_faulty : List (ℕ × FrameValue)
+  more_faulty = map (λ f. (client, f)) one.faulty
+
+  here : (x y z : History) → TakesOn (own client all.requests) (own client all.faulty) x y → TakesOn one.requests one.faulty y z → TakesOn (own client (all.requests ++ more_requests)) (own client (all.faulty ++ more_faulty)) x z
+  unfolding more_requests more_faulty
+  here x y z p q =
+      let rs : own client (all.requests ++ more_requests) ≡ own client all.requests ++ one.requests = own-append client all.requests more_requests ∙ ap (λ l. own client all.requests ++ l) (own-same client one.requests) in
+      let fs : own client (all.faulty ++ more_faulty) ≡ own client all.faulty ++ one.faulty = own-append client all.faulty more_faulty ∙ ap (λ l. own client all.faulty ++ l) (own-same client one.faulty) in
+      let on : TakesOn (own client all.requests ++ one.requests) (own client all.faulty ++ one.faulty) x z =
+      elim (one.first all.requests all.faulty all.holds) [
+        | inl none ↦ subst (λ l. TakesOn (own client all.requests ++ one.requests) (l ++ one.faulty) x z) (sym none)
+            (takes_on x y z (own client all.requests) one.requests one.faulty (subst (λ l. TakesOn (own client all.requests) l x y) none p) q)
+        | inr nothing ↦ subst₂ (λ a b. TakesOn (own client all.requests ++ a) (own client all.faulty ++ b) x z) (sym nothing.0) (sym nothing.1)
+            (subst₂ (λ a b. TakesOn a b x z) (sym (append-nil (own client all.requests))) (sym (append-nil (own client all.faulty)))
+            (then_none x y z (own client all.requests) (own client all.faulty) p (subst₂ (λ a b. TakesOn a b y z) nothing.0 nothing.1 q)))
+      ] in
+      subst₂ (λ a b. TakesOn a b x z) (sym rs) (sym fs) on
+
+  elsewhere : (n : ℕ) → (n == client) ≡ false → Both (client_in old n) (client_in new n) (TakesOn (own n (all.requests ++ more_requests)) (own n (all.faulty ++ more_faulty)))
+  unfolding more_requests more_faulty
+  elsewhere n apart =
+      let rs : own n (all.requests ++ more_requests) ≡ own n all.requests = own-append n all.requests more_requests ∙ ap (λ l. own n all.requests ++ l) (own-other client n one.requests apart) ∙ append-nil (own n all.requests) in
+      let fs : own n (all.faulty ++ more_faulty) ≡ own n all.faulty = own-append n all.faulty more_faulty ∙ ap (λ l. own n all.faulty ++ l) (own-other client n one.faulty apart) ∙ append-nil (own n all.faulty) in
+      subst (λ o. Both (client_in old n) o (TakesOn (own n (all.requests ++ more_requests)) (own n (all.faulty ++ more_faulty)))) (sym (one.others n apart))
+      (subst₂ (λ a b. Both (client_in old n) (client_in mid n) (TakesOn a b)) (sym rs) (sym fs) (all.takes n))
+
+  at : (n : ℕ) (b : Bool) → (n == client) ≡ b → Both (client_in old n) (client_in new n) (TakesOn (own n (all.requests ++ more_requests)) (own n (all.faulty ++ more_faulty)))
+  at n true is =
+      let eq : client ≡ n = same_there n client is in
+      subst (λ m. Both (client_in old m) (client_in new m) (TakesOn (own m (all.requests ++ more_requests)) (own m (all.faulty ++ more_faulty)))) eq
+      (both_on (client_in old client) (client_in mid client) (client_in new client) _ _ _ here (all.takes client) one.one)
+  at n false is = elsewhere n is
+
+  pub takes_of : TakesAll old new after
+  unfolding more_requests more_faulty
+  takes_of = record {
+    requests = all.requests ++ more_requests;
+    faulty = all.faulty ++ more_faulty;
+    holds = one.holds all.requests all.faulty all.holds;
+    takes = λ n. at n (n == client) refl;
+  }
+
+-- ---- one of the clients
+
+own_none : (client : ℕ) (fs : List (ℕ × FrameValue)) (es : List (ℕ × Refusal)) → AreFaults fs es → list_any (λ (e : ℕ × Refusal). e.0 == client) es ≡ false → own client fs ≡ []
+own_none client [] es all none = refl
+own_none client (f ∷ fs) [] all none = absurd all
+own_none client (f ∷ fs) (e ∷ es) all none =
+    let parts : ((e.0 == client) ≡ false) × (list_any (λ (x : ℕ × Refusal). x.0 == client) es ≡ false) = neither (e.0 == client) (list_any (λ (x : ℕ × Refusal). x.0 == client) es) none in
+    let apart : (f.0 == client) ≡ false = subst (λ n. (n == client) ≡ false) all.0 parts.0 in
+    ap (λ b. cond b (f.1 ∷ own client fs) (own client fs)) apart ∙ own_none client fs es all.2 parts.1
+  where
+    neither : (a b : Bool) → (a || b) ≡ false → (a ≡ false) × (b ≡ false)
+    neither true b e = absurd (true≢false e)
+    neither false b e = (refl, e)
+
+pub takes_here : (client : ℕ) (old new : List (ℕ × History)) (h k : History) (before after : Taken) → client_in old client ≡ Some h → client_in new client ≡ Some k
+    → ((q : ℕ) → client_in new q ≡ cond (is_at (nat_cmp client) q) (Some k) (client_in old q)) → list_any (λ (e : ℕ × Refusal). e.0 == client) before.faults.items ≡ false
+    → TakesMore client h k before after → TakesOf client old new before after
+takes_here client old new h k before after was is at none more = record {
+  requests = more.requests;
+  faulty = more.faulty;
+  first = λ asked faults holds. inl (own_none client faults before.faults.items holds.faults none);
+  one = subst₂ (λ a b. Both a b (TakesOn more.requests more.faulty)) (sym was) (sym is) more.conn;
+  others = λ q apart. at q ∙ ap (λ b. cond b (Some k) (client_in old q)) (at_is client q ∙ apart);
+  holds = more.holds;
+}
+
+pub takes_nowhere : (client : ℕ) (old new : List (ℕ × History)) (taken : Taken) → new ≡ old → TakesOf client old new taken taken
+takes_nowhere client old new taken is = record {
+  requests = [];
+  faulty = [];
+  first = λ asked faults holds. inr (refl, refl);
+  one = subst (λ l. Both (client_in old client) (client_in l client) (TakesOn [] [])) (sym is) (both_self (client_in old client) (TakesOn [] []) (λ x. same x x (record { taken = refl; answers = refl; moved = none_moved x })));
+  others = λ q apart. ap (λ l. client_in l q) is;
+  holds = λ asked faults holds. holds_same asked faults taken taken (record { clients = refl; requests = refl; faults = refl }) holds;
+}
+
+-- ---- nothing comes next
+
+idle_apart : (client : ℕ) (mid new : List (ℕ × History)) → IfClient (client_in new client) IsIdle → ((q : ℕ) → (q == client) ≡ false → client_in new q ≡ client_in mid q)
+    → (n : ℕ) (b : Bool) → (n == client) ≡ b → IfClient (client_in mid n) IsIdle → IfClient (client_in new n) IsIdle
+idle_apart client mid new here others n true is idle = subst (λ m. IfClient (client_in new m) IsIdle) (same_there n client is) here
+idle_apart client mid new here others n false is idle = subst (λ o. IfClient o IsIdle) (sym (others n is)) idle
+
+none_any : (es : List (ℕ × Refusal)) (client : ℕ) → length es ≡ 0 → list_any (λ (e : ℕ × Refusal). e.0 == client) es ≡ true → ⊥
+none_any [] client none any = true≢false (sym any)
+none_any (e ∷ es) client none any = omega arith
+
+idle_here : (client : ℕ) (new : List (ℕ × History)) (before after : Taken) → IsNone after → Grows before after
+    → (IsMore before after ⊎ ((list_any (λ (e : ℕ × Refusal). e.0 == client) before.faults.items ≡ true) ⊎ IfClient (client_in new client) IsIdle)) → IfClient (client_in new client) IsIdle
+idle_here client new before after none grows (inl more) = absurd (omega (arith, none, more))
+idle_here client new before after none grows (inr (inl any)) = absurd (none_any before.faults.items client (let f = grows.faults in omega (arith, none, f)) any)
+idle_here client new before after none grows (inr (inr idle)) = idle
+
+pub idle_all : (ready : List ℕ) (at : ℕ) (mid new : List (ℕ × History)) (before after : Taken) → TakesOf (slice_index ready at) mid new before after → Grows before after → IsNone after
+    → (IsMore before after ⊎ ((list_any (λ (e : ℕ × Refusal). e.0 == slice_index ready at) before.faults.items ≡ true) ⊎ IfClient (client_in new (slice_index ready at)) IsIdle))
+    → (IsNone before → (i : ℕ) → i < at → IfClient (client_in mid (slice_index ready i)) IsIdle) → (i : ℕ) → i < at + 1 → IfClient (client_in new (slice_index ready i)) IsIdle
+idle_all ready at mid new before after took grows none ends so_far i below =
+    let here : IfClient (client_in new (slice_index ready at)) IsIdle = idle_here (slice_index ready at) new before after none grows ends in
+    let before_none : IsNone before = let a = grows.clients in let b = grows.faults in omega (arith, none, a, b) in
+    elim (i_cases i at below) [
+      | inl same ↦ subst (λ j. IfClient (client_in new (slice_index ready j)) IsIdle) (sym same) here
+      | inr less ↦ idle_apart (slice_index ready at) mid new here took.others (slice_index ready i) (slice_index ready i == slice_index ready at) refl (so_far before_none i less)
+    ]
+  where
+    i_cases : (i at : ℕ) → i < at + 1 → (i ≡ at) ⊎ (i < at)
+    i_cases i at below = by_eq (i == at) refl
+      where
+        by_eq : (b : Bool) → (i == at) ≡ b → (i ≡ at) ⊎ (i < at)
+        by_eq true is = inl (grind (arith, nat_tests))
+        by_eq false is = inr (grind (arith, nat_tests))

@@ -1,0 +1,163 @@
+use Rattle.std.proofs.Common.{◌≡◌, ◌+◌, rules, ◌==◌, Bool, true, [], ◌∷◌, length, true≢false, arith, Ok, ◌∙◌, ◌++◌, ℕ, List, map, zip, sym, ap, ap₂, subst, subst₂}
+use Rattle.mvd_conn.specs.History.{History}
+use Rattle.mvd_wire.specs.declared.request.Request.{Request}
+use Rattle.mvd_wire.specs.declared.reply.Reply.{Reply}
+use Rattle.mvd_host.specs.Queueing.{AreDue, Queues, refused_all, refused_faults}
+use Rattle.mvd_host.proofs.RoundLemmas.{Answered, answered_err, answered_none, answered_ok, due, due_front, memory_asks, memory_tells, memory_turns, no_faults, ok_tells, round_kept, round_of, tells, zip_asks, zip_fits}
+use Rattle.std.specs.List.{AllByRecursion}
+use Rattle.mvd_dots.specs.declared.refusals.Refusal.{Refusal}
+use Rattle.mvd_wire.specs.Replies.{CanBeSent}
+use Rattle.mvd_replica.specs.Batch.{AnswersAll}
+use Rattle.sqlite.specs.Held.{state}
+use Rattle.mvd_host.specs.declared.host.Host.TheInside.{Inside}
+use Rattle.mvd_replica.specs.Turns.{Turn}
+use Rattle.mvd_host.specs.Hosts.{AreKept, HostValue}
+use Rattle.mvd_host.specs.Round.{Round}
+use Rattle.mvd_host.proofs.ToldLemmas.{due_later, later_items, no_items}
+use Rattle.mvd_host.proofs.host.Host.round.Goals.{in-Ok, in-Err}
+use Rattle.mvd_host.proofs.host.Host.round.Goals as goal
+
+pub queue_replies-requires-clause-due : goal.queue_replies-requires-clause-due
+queue_replies-requires-clause-due g c =
+    let all = c.take_all-refused.ensures.took in
+    let taken = c.take_all-refused.new.self in
+    let a = c.in-Ok.ensures.answers in
+    let old = c.self.inside.clients.entries in
+    let mid = c.take_all-refused.new.clients.entries in
+    let ts = zip (map (λ (r : ℕ × Request). r.0) all.requests) a.turns in
+    let asked = zip_asks all.requests a.turns (a.asked ∙ ap (λ (l : List Request). map (λ r. Ok r) l) (c.deref.ensures.value ∙ all.holds.requests_are)) in
+    subst (λ l. AreDue l mid) (sym (ok_tells all.requests c.deref-in-Ok.result.now a.turns c.deref-in-Ok-2.result.now (c.deref-in-Ok.ensures.value ∙ all.holds.clients) (a.told ∙ sym c.deref-in-Ok-2.ensures.value)))
+    (due_front (tells ts) (refused_faults taken.faults.items) mid (due old mid mid mid taken all ts asked c.self.inside.admitted c.self.invariant))
+
+pub queue_refused-requires : goal.queue_refused-requires
+queue_refused-requires g c =
+    let all = c.take_all-refused.ensures.took in
+    let taken = c.take_all-refused.new.self in
+    let old = c.self.inside.clients.entries in
+    let mid = c.take_all-refused.new.clients.entries in
+    let ts = memory_turns all.requests c.in-Err.refusal in
+    record {
+      due = subst (λ l. AreDue l mid) (memory_tells all.requests c.in-Err.refusal ∙ ap (λ (l : List ℕ). refused_all l c.in-Err.refusal) (sym (c.deref-in-Err.ensures.value ∙ all.holds.clients)))
+          (due_front (tells ts) (refused_faults taken.faults.items) mid (due old mid mid mid taken all ts (memory_asks all.requests c.in-Err.refusal) c.self.inside.admitted c.self.invariant));
+    }
+
+pub queue_replies-requires-clause-fits : goal.queue_replies-requires-clause-fits
+queue_replies-requires-clause-fits g c =
+    let a = c.in-Ok.ensures.answers in
+    subst (λ (b : List Reply). AllByRecursion (λ (r : ℕ × Reply). CanBeSent r.1) (zip c.deref-in-Ok.result.now b)) (a.told ∙ sym c.deref-in-Ok-2.ensures.value) (zip_fits c.deref-in-Ok.result.now a.turns a.takes.fits)
+
+pub queue_faults-requires : goal.queue_faults-requires
+queue_faults-requires g c =
+    let all = c.take_all-refused.ensures.took in
+    let taken = c.take_all-refused.new.self in
+    let old = c.self.inside.clients.entries in
+    let mid = c.take_all-refused.new.clients.entries in
+    let between = c.match-answer_all.self-inside.clients.entries in
+    let a : Answered all.requests mid between c.args.replica.now.site c.answer_all.new.self.site (state g.S.Store c.args.replica.now.records.conn) (state g.S.Store c.answer_all.new.self.records.conn) =
+    elim c.match-answer_all.branch [
+      | in-Ok w ↦ subst (λ (s : Inside). Answered all.requests mid s.clients.entries c.args.replica.now.site c.answer_all.new.self.site (state g.S.Store c.args.replica.now.records.conn) (state g.S.Store c.answer_all.new.self.records.conn)) (sym w.self-inside-is)
+          (answered_ok all.requests c.deref.result.now w.deref-in-Ok.result.now w.deref-in-Ok-2.result.now mid w.queue_replies.new.clients.entries _ _ _ _ (c.deref.ensures.value ∙ all.holds.requests_are) (w.deref-in-Ok.ensures.value ∙ all.holds.clients)
+          (subst (λ (l : List Reply). AnswersAll c.deref.result.now l _ _ _ _) (sym w.deref-in-Ok-2.ensures.value) w.in-Ok.ensures.answers) w.queue_replies.ensures.queues)
+      | in-Err w ↦ subst (λ (s : Inside). Answered all.requests mid s.clients.entries c.args.replica.now.site c.answer_all.new.self.site (state g.S.Store c.args.replica.now.records.conn) (state g.S.Store c.answer_all.new.self.records.conn)) (sym w.self-inside-is)
+          (subst (λ r. Answered all.requests mid w.queue_refused.new.clients.entries c.args.replica.now.site r.site (state g.S.Store c.args.replica.now.records.conn) (state g.S.Store r.records.conn)) (sym w.in-Err.ensures.memory.1)
+          (answered_err all.requests w.deref-in-Err.result.now w.in-Err.refusal mid w.queue_refused.new.clients.entries c.args.replica.now.site (state g.S.Store c.args.replica.now.records.conn) (w.deref-in-Err.ensures.value ∙ all.holds.clients) w.in-Err.ensures.memory.0 w.queue_refused.ensures.queues))
+    ] in
+    record {
+      due = subst (λ (l : List (ℕ × Refusal)). AreDue (refused_faults l) between) (sym c.deref-2.ensures.value)
+          (due_later (tells a.ts) (refused_faults taken.faults.items) mid between (due old mid between between taken all a.ts a.asked c.self.inside.admitted c.self.invariant) a.queued);
+    }
+
+-- nothing was taken
+pub invariant_of-self : goal.invariant_of-self
+invariant_of-self g c =
+    let all = c.take_all-refused.ensures.took in
+    let taken = c.take_all-refused.new.self in
+    let old = c.self.inside.clients.entries in
+    let mid = c.take_all-refused.new.clients.entries in
+    let site = c.args.replica.now.site in
+    let store = state g.S.Store c.args.replica.now.records.conn in
+    let zero : length taken.clients.items + length taken.faults.items ≡ 0 = search rules in
+    let none : taken.clients.items ≡ [] = no_items taken.clients.items (length taken.faults.items) zero in
+    let sound : taken.faults.items ≡ [] = later_items (length taken.clients.items) taken.faults.items zero in
+    let a = answered_none all.requests taken.clients.items mid site store all.holds.clients none in
+    let faults = no_faults taken.faults.items mid sound in
+    round_kept old mid mid mid taken all c.self.inside.admitted site site store store a faults c.self.invariant
+
+pub returns-then-is_empty-2-clause-round : goal.returns-then-is_empty-2-clause-round
+returns-then-is_empty-2-clause-round g c =
+    let all = c.take_all-refused.ensures.took in
+    let taken = c.take_all-refused.new.self in
+    let old = c.self.inside.clients.entries in
+    let mid = c.take_all-refused.new.clients.entries in
+    let site = c.args.replica.now.site in
+    let store = state g.S.Store c.args.replica.now.records.conn in
+    let zero : length taken.clients.items + length taken.faults.items ≡ 0 = search rules in
+    let none : taken.clients.items ≡ [] = no_items taken.clients.items (length taken.faults.items) zero in
+    let sound : taken.faults.items ≡ [] = later_items (length taken.clients.items) taken.faults.items zero in
+    let a = answered_none all.requests taken.clients.items mid site store all.holds.clients none in
+    let faults = no_faults taken.faults.items mid sound in
+    subst (λ (h : HostValue). (turns : List (ℕ × Turn)) × Round turns (record { host = h; site = site; store = store }) (record { host = record { clients = mid; admitted = c.self.inside.admitted }; site = site; store = store }))
+    c.self.view_is (round_of old mid mid mid taken all c.self.inside.admitted site site store store a faults)
+
+-- something was
+pub invariant_of-self-2 : goal.invariant_of-self-2
+invariant_of-self-2 g c =
+    let all = c.take_all-refused.ensures.took in
+    let taken = c.take_all-refused.new.self in
+    let old = c.self.inside.clients.entries in
+    let mid = c.take_all-refused.new.clients.entries in
+    let between = c.match-answer_all.self-inside.clients.entries in
+    let a : Answered all.requests mid between c.args.replica.now.site c.answer_all.new.self.site (state g.S.Store c.args.replica.now.records.conn) (state g.S.Store c.answer_all.new.self.records.conn) =
+    elim c.match-answer_all.branch [
+      | in-Ok w ↦ subst (λ (s : Inside). Answered all.requests mid s.clients.entries c.args.replica.now.site c.answer_all.new.self.site (state g.S.Store c.args.replica.now.records.conn) (state g.S.Store c.answer_all.new.self.records.conn)) (sym w.self-inside-is)
+          (answered_ok all.requests c.deref.result.now w.deref-in-Ok.result.now w.deref-in-Ok-2.result.now mid w.queue_replies.new.clients.entries _ _ _ _ (c.deref.ensures.value ∙ all.holds.requests_are) (w.deref-in-Ok.ensures.value ∙ all.holds.clients)
+          (subst (λ (l : List Reply). AnswersAll c.deref.result.now l _ _ _ _) (sym w.deref-in-Ok-2.ensures.value) w.in-Ok.ensures.answers) w.queue_replies.ensures.queues)
+      | in-Err w ↦ subst (λ (s : Inside). Answered all.requests mid s.clients.entries c.args.replica.now.site c.answer_all.new.self.site (state g.S.Store c.args.replica.now.records.conn) (state g.S.Store c.answer_all.new.self.records.conn)) (sym w.self-inside-is)
+          (subst (λ r. Answered all.requests mid w.queue_refused.new.clients.entries c.args.replica.now.site r.site (state g.S.Store c.args.replica.now.records.conn) (state g.S.Store r.records.conn)) (sym w.in-Err.ensures.memory.1)
+          (answered_err all.requests w.deref-in-Err.result.now w.in-Err.refusal mid w.queue_refused.new.clients.entries c.args.replica.now.site (state g.S.Store c.args.replica.now.records.conn) (w.deref-in-Err.ensures.value ∙ all.holds.clients) w.in-Err.ensures.memory.0 w.queue_refused.ensures.queues))
+    ] in
+    let admitted : c.match-answer_all.self-inside.admitted ≡ c.self.inside.admitted =
+    elim c.match-answer_all.branch [
+      | in-Ok w ↦ ap (λ (s : Inside). s.admitted) w.self-inside-is
+      | in-Err w ↦ ap (λ (s : Inside). s.admitted) w.self-inside-is
+    ] in
+    let new = c.queue_faults.new.clients.entries in
+    let site = c.args.replica.now.site in
+    let later = c.answer_all.new.self.site in
+    let store = state g.S.Store c.args.replica.now.records.conn in
+    let after = state g.S.Store c.answer_all.new.self.records.conn in
+    let faults = subst (λ (l : List (ℕ × Refusal)). Queues (refused_faults l) between new) c.deref-2.ensures.value c.queue_faults.ensures.queues in
+    subst (λ n. AreKept new n) (sym admitted) (round_kept old mid between new taken all c.self.inside.admitted site later store after a faults c.self.invariant)
+
+pub returns-clause-round : goal.returns-clause-round
+returns-clause-round g c =
+    let all = c.take_all-refused.ensures.took in
+    let taken = c.take_all-refused.new.self in
+    let old = c.self.inside.clients.entries in
+    let mid = c.take_all-refused.new.clients.entries in
+    let between = c.match-answer_all.self-inside.clients.entries in
+    let a : Answered all.requests mid between c.args.replica.now.site c.answer_all.new.self.site (state g.S.Store c.args.replica.now.records.conn) (state g.S.Store c.answer_all.new.self.records.conn) =
+    elim c.match-answer_all.branch [
+      | in-Ok w ↦ subst (λ (s : Inside). Answered all.requests mid s.clients.entries c.args.replica.now.site c.answer_all.new.self.site (state g.S.Store c.args.replica.now.records.conn) (state g.S.Store c.answer_all.new.self.records.conn)) (sym w.self-inside-is)
+          (answered_ok all.requests c.deref.result.now w.deref-in-Ok.result.now w.deref-in-Ok-2.result.now mid w.queue_replies.new.clients.entries _ _ _ _ (c.deref.ensures.value ∙ all.holds.requests_are) (w.deref-in-Ok.ensures.value ∙ all.holds.clients)
+          (subst (λ (l : List Reply). AnswersAll c.deref.result.now l _ _ _ _) (sym w.deref-in-Ok-2.ensures.value) w.in-Ok.ensures.answers) w.queue_replies.ensures.queues)
+      | in-Err w ↦ subst (λ (s : Inside). Answered all.requests mid s.clients.entries c.args.replica.now.site c.answer_all.new.self.site (state g.S.Store c.args.replica.now.records.conn) (state g.S.Store c.answer_all.new.self.records.conn)) (sym w.self-inside-is)
+          (subst (λ r. Answered all.requests mid w.queue_refused.new.clients.entries c.args.replica.now.site r.site (state g.S.Store c.args.replica.now.records.conn) (state g.S.Store r.records.conn)) (sym w.in-Err.ensures.memory.1)
+          (answered_err all.requests w.deref-in-Err.result.now w.in-Err.refusal mid w.queue_refused.new.clients.entries c.args.replica.now.site (state g.S.Store c.args.replica.now.records.conn) (w.deref-in-Err.ensures.value ∙ all.holds.clients) w.in-Err.ensures.memory.0 w.queue_refused.ensures.queues))
+    ] in
+    let admitted : c.match-answer_all.self-inside.admitted ≡ c.self.inside.admitted =
+    elim c.match-answer_all.branch [
+      | in-Ok w ↦ ap (λ (s : Inside). s.admitted) w.self-inside-is
+      | in-Err w ↦ ap (λ (s : Inside). s.admitted) w.self-inside-is
+    ] in
+    let new = c.queue_faults.new.clients.entries in
+    let site = c.args.replica.now.site in
+    let later = c.answer_all.new.self.site in
+    let store = state g.S.Store c.args.replica.now.records.conn in
+    let after = state g.S.Store c.answer_all.new.self.records.conn in
+    let faults = subst (λ (l : List (ℕ × Refusal)). Queues (refused_faults l) between new) c.deref-2.ensures.value c.queue_faults.ensures.queues in
+    subst₂ (λ (h : HostValue) (n : ℕ). (turns : List (ℕ × Turn)) × Round turns (record { host = h; site = site; store = store }) (record { host = record { clients = new; admitted = n }; site = later; store = after }))
+    c.self.view_is (sym admitted) (round_of old mid between new taken all c.self.inside.admitted site later store after a faults)
+
+pub returns-clause-idle : goal.returns-clause-idle
+returns-clause-idle g c = λ no. absurd (true≢false no)

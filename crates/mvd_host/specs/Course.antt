@@ -1,0 +1,40 @@
+-- What of a list is a client's own, and what a connection is from one moment to a later one.
+use Rattle.std.specs.Prelude.{◌≡◌, ℕ, ◌==◌, if◌then◌else◌, List, [], ◌∷◌, ◌++◌, map, length, Option, Some, None, Result, Ok, ⊤}
+use Rattle.mvd_dots.specs.declared.refusals.Refusal.{Refusal}
+use Rattle.mvd_wire.specs.declared.request.Request.{Request}
+use Rattle.mvd_wire.specs.declared.reply.Reply.{Reply}
+use Rattle.mvd_wire.specs.Frames.{FrameValue}
+use Rattle.mvd_wire.specs.Requests.{request_of}
+use Rattle.mvd_wire.specs.Replies.{reply_bytes}
+use Rattle.mvd_conn.specs.History.{History}
+use Rattle.mvd_conn.specs.Stands.{IsQueued}
+
+-- of things of clients, each with its client's number, those of one client, in order
+abbrev pub own : {X : Type 0} → ℕ → List (ℕ × X) → List X
+own n [] = []
+own n (x ∷ xs) = if x.0 == n then x.1 ∷ own n xs else own n xs
+
+-- a client that was there is there, and this is true of what its connection was and is
+abbrev pub Both : Option History → Option History → (History → History → Type 0) → Type 0
+Both None None R = ⊤
+Both None (Some new) R = ⊥
+Both (Some old) None R = ⊥
+Both (Some old) (Some new) R = R old new
+
+-- what a frame asks, or its fault
+abbrev pub asked_by : FrameValue → Result Request Refusal
+asked_by f = request_of f.kind f.payload
+
+-- the bytes are the frames of these replies, or want of memory in place of one that takes memory
+abbrev pub AreQueued : List Reply → List (List ℕ) → Type 0
+AreQueued [] [] = ⊤
+AreQueued [] (bytes ∷ rest) = ⊥
+AreQueued (reply ∷ replies) [] = ⊥
+AreQueued (reply ∷ replies) (bytes ∷ rest) = ((queued : Reply) × IsQueued reply queued × (bytes ≡ reply_bytes queued)) × AreQueued replies rest
+
+-- no byte came or left, and neither side ended
+pub record NoneMoved (old new : History) : Type 0 where
+  pub came : new.came ≡ old.came
+  pub source : new.source ≡ old.source
+  pub left : new.left ≡ old.left
+  pub failed : new.failed ≡ old.failed

@@ -1,0 +1,9 @@
+-- What a host keeps, and what of it is true.
+use Rattle.mvd_host.specs.declared.host.Host.TheInside.{Inside}
+use Rattle.mvd_host.specs.Hosts.{AreKept, HostValue}
+
+abbrev pub value_of : Inside → HostValue
+value_of h = record { clients = h.clients.entries; admitted = h.admitted }
+
+abbrev pub IsKept : Inside → Type 0
+IsKept h = AreKept h.clients.entries h.admitted

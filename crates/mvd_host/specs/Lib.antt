@@ -1,0 +1,6 @@
+pub mod Hosts
+pub mod Inside
+pub mod Course
+pub mod Taking
+pub mod Queueing
+pub mod Round

@@ -1,0 +1,48 @@
+-- One round: frames of many clients, as turns of one list.
+use Rattle.std.specs.Prelude.{◌≡◌, ℕ, List, [], ◌++◌, map, false}
+use Rattle.std.specs.List.{AllByRecursion}
+use Rattle.mvd_wire.specs.Frames.{FrameValue}
+use Rattle.mvd_conn.specs.History.{History}
+use Rattle.mvd_site.specs.Sites.{SiteValue}
+use Rattle.mvd_replica.specs.Turns.{Event, IsToldElse, Replies, StandsOn, Tells, Turn}
+use Rattle.mvd_replica.specs.Batch.{TurnsFollow}
+use Rattle.mvd_host.specs.Hosts.{HostValue, client_of}
+use Rattle.mvd_host.specs.Course.{AreQueued, Both, NoneMoved, asked_by, own}
+use Rattle.sqlite.specs.State.{State}
+
+-- a host, and the replica that answers its clients
+pub record Side : Type 1 where
+  pub host : HostValue
+  pub site : SiteValue
+  pub store : State
+
+-- the turns of all clients
+abbrev pub turns_of : List (ℕ × Turn) → List Turn
+turns_of = map (λ t. t.1)
+
+-- What turns do to a replica: each reply is one that may be given from the writes known before it, the states stand for the writes
+-- known and those that the turns added, and the records follow
+pub record Serves (turns : List Turn) (old new : SiteValue) (before after : State) : Type 0 where
+  pub replies : Replies old new turns
+  pub stands : StandsOn old new turns
+  pub config : new.config ≡ old.config
+  pub choice : (events : List Event) × Tells events turns
+  pub told : new.broken ≡ false → AllByRecursion IsToldElse turns
+  pub follows : TurnsFollow turns old new before after
+
+-- The frames that were taken of a connection are those of these turns, in order, and the replies that were queued on it are theirs,
+-- in order
+pub record Course (turns : List Turn) (old new : History) : Type 0 where
+  pub frames : List FrameValue
+  pub taken : new.taken ≡ old.taken ++ frames
+  pub asked : map asked_by frames ≡ map (λ t. t.asked) turns
+  pub queued : List (List ℕ)
+  pub answers : new.answers ≡ old.answers ++ queued
+  pub told : AreQueued (map (λ t. t.reply) turns) queued
+  pub moved : NoneMoved old new
+
+-- The turns of the list are those of one replica, and each client's own turns are the course of its connection
+pub record Round (turns : List (ℕ × Turn)) (old new : Side) : Type 0 where
+  pub serves : Serves (turns_of turns) old.site new.site old.store new.store
+  pub clients : (n : ℕ) → Both (client_of old.host n) (client_of new.host n) (Course (own n turns))
+  pub admitted : new.host.admitted ≡ old.host.admitted

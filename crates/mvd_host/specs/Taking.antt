@@ -1,0 +1,99 @@
+-- The frames that are taken in one round.
+use Rattle.std.specs.Prelude.{◌≡◌, ◌==◌, ℕ, ◌+◌, ◌≤◌, ◌<◌, ◌⊎◌, List, [], ◌∷◌, ◌++◌, map, length, Result, Ok, Err, ⊤, false, vec_len, vec_capacity}
+use Rattle.mvd_dots.specs.declared.refusals.Refusal.{Refusal}
+use Rattle.mvd_dots.specs.Answer.{IsAnswer}
+use Rattle.mvd_wire.specs.declared.request.Request.{Request}
+use Rattle.mvd_wire.specs.Frames.{FrameValue}
+use Rattle.mvd_conn.specs.History.{History, after_next}
+use Rattle.mvd_host.specs.Hosts.{client_in}
+use Rattle.mvd_host.specs.Course.{Both, NoneMoved, asked_by, own}
+use Rattle.mvd_host.specs.declared.taking.Taken.{Taken}
+
+-- frames of clients that are no requests, and what each is told: its fault, or want of memory
+abbrev pub AreFaults : List (ℕ × FrameValue) → List (ℕ × Refusal) → Type 0
+AreFaults [] [] = ⊤
+AreFaults [] (e ∷ es) = ⊥
+AreFaults (f ∷ fs) [] = ⊥
+AreFaults (f ∷ fs) (e ∷ es) = (e.0 ≡ f.0) × IsAnswer {T = Request} (Err e.1) (asked_by f.1) × AreFaults fs es
+
+-- of a connection, frames that ask these requests were taken, and then these, which are no requests
+pub record TakesOn (requests : List Request) (faulty : List FrameValue) (old new : History) : Type 0 where
+  pub frames : List FrameValue
+  pub taken : new.taken ≡ old.taken ++ (frames ++ faulty)
+  pub asked : map asked_by frames ≡ map (λ r. Ok r) requests
+  pub answers : new.answers ≡ old.answers
+  pub moved : NoneMoved old new
+
+-- nothing comes next
+abbrev pub IsIdle : History → Type 0
+IsIdle h = after_next h ≡ (false, h)
+
+-- the requests that were taken, each with its client, and the frames that are no requests
+pub record Holds (requests : List (ℕ × Request)) (faulty : List (ℕ × FrameValue)) (taken : Taken) : Type 0 where
+  pub clients : taken.clients.items ≡ map (λ r. r.0) requests
+  pub requests_are : taken.requests.items ≡ map (λ r. r.1) requests
+  pub faults : AreFaults faulty taken.faults.items
+
+-- each client's own requests and faults were taken of its connection
+abbrev pub Takes : List (ℕ × Request) → List (ℕ × FrameValue) → List (ℕ × History) → List (ℕ × History) → Type 0
+Takes requests faulty old new = (n : ℕ) → Both (client_in old n) (client_in new n) (TakesOn (own n requests) (own n faulty))
+
+-- frames of one client were taken
+pub record TakesMore (client : ℕ) (old new : History) (before after : Taken) : Type 0 where
+  pub requests : List Request
+  pub faulty : List FrameValue
+  pub conn : TakesOn requests faulty old new
+  pub holds : (asked : List (ℕ × Request)) (faults : List (ℕ × FrameValue)) → Holds asked faults before →
+      Holds (asked ++ map (λ r. (client, r)) requests) (faults ++ map (λ f. (client, f)) faulty) after
+
+-- there is room for so many requests, and for one frame that is none
+pub record HasRoom (n : ℕ) (taken : Taken) : Type 0 where
+  pub clients : vec_len taken.clients + n ≤ vec_capacity taken.clients
+  pub requests : vec_len taken.requests + n ≤ vec_capacity taken.requests
+  pub faults : vec_len taken.faults + 1 ≤ vec_capacity taken.faults
+
+-- what was taken is the same
+pub record Keeps (old new : Taken) : Type 0 where
+  pub clients : new.clients.items ≡ old.clients.items
+  pub requests : new.requests.items ≡ old.requests.items
+  pub faults : new.faults.items ≡ old.faults.items
+
+-- some frame was taken
+abbrev pub IsMore : Taken → Taken → Type 0
+IsMore before after = length before.clients.items + length before.faults.items < length after.clients.items + length after.faults.items
+
+-- a frame was taken, or nothing comes next
+abbrev pub EndsTaking : History → Taken → Taken → Type 0
+EndsTaking new before after = IsMore before after ⊎ IsIdle new
+
+-- only requests of one client were taken
+pub record TakesRequests (client : ℕ) (old new : History) (before after : Taken) : Type 0 where
+  pub took : TakesMore client old new before after
+  pub none : took.faulty ≡ []
+  pub faults : after.faults.items ≡ before.faults.items
+
+-- Frames of one client were taken, unless a frame of it that is no request had been. Nothing changed of any other client
+pub record TakesOf (client : ℕ) (old new : List (ℕ × History)) (before after : Taken) : Type 0 where
+  pub requests : List Request
+  pub faulty : List FrameValue
+  pub first : (asked : List (ℕ × Request)) (faults : List (ℕ × FrameValue)) → Holds asked faults before → (own client faults ≡ []) ⊎ ((requests ≡ []) × (faulty ≡ []))
+  pub one : Both (client_in old client) (client_in new client) (TakesOn requests faulty)
+  pub others : (q : ℕ) → (q == client) ≡ false → client_in new q ≡ client_in old q
+  pub holds : (asked : List (ℕ × Request)) (faults : List (ℕ × FrameValue)) → Holds asked faults before →
+      Holds (asked ++ map (λ r. (client, r)) requests) (faults ++ map (λ f. (client, f)) faulty) after
+
+-- frames of clients were taken, and this is what was taken
+pub record TakesAll (old new : List (ℕ × History)) (taken : Taken) : Type 0 where
+  pub requests : List (ℕ × Request)
+  pub faulty : List (ℕ × FrameValue)
+  pub holds : Holds requests faulty taken
+  pub takes : Takes requests faulty old new
+
+-- nothing was taken
+abbrev pub IsNone : Taken → Type 0
+IsNone taken = length taken.clients.items + length taken.faults.items ≡ 0
+
+-- what was taken is there still
+pub record Grows (before after : Taken) : Type 0 where
+  pub clients : length before.clients.items ≤ length after.clients.items
+  pub faults : length before.faults.items ≤ length after.faults.items

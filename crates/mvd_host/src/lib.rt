@@ -1,0 +1,10 @@
+//! Many connections at once, from one thread and without IO: the frames that are held are answered together, and each reply is
+//! queued on its own connection.
+#![tactic(auto)]
+
+mod host;
+mod queueing;
+mod round;
+mod taking;
+
+pub use host::{CLIENTS_MAX, Host};

@@ -1,0 +1,37 @@
+//! One round: the frames that are held are answered together.
+ghost use Rattle.std.specs.Prelude.{◌≡◌, ◌<◌, ℕ, List, length, slice_index, false};
+ghost use Rattle.mvd_replica.specs.Turns.{Turn};
+ghost use Rattle.sqlite.specs.Held.{state};
+
+use crate::host::Host;
+use crate::queueing::{queue_faults, queue_refused, queue_replies};
+use crate::taking::Taken;
+use mvd_replica::Replica;
+use sqlite::Alter;
+
+impl Host {
+    ghost use Rattle.mvd_host.specs.Hosts.{IfClient, client_of};
+    ghost use Rattle.mvd_host.specs.Taking.{IsIdle};
+    ghost use Rattle.mvd_host.specs.Round.{Round, Side};
+
+    /// Takes at most 64 frames of each ready client, answers them together, and queues each reply on its own client's connection.
+    /// Whether there may be more to do at once: it is `false` where no frame was taken, and memory was not refused for one.
+    pub fn round<S: Alter>(&mut self, replica: &mut Replica<S>, ready: &[u64]) -> bool
+        ensures round { (turns : List (ℕ × Turn)) × Round turns
+            (record { host = self.old; site = replica.old.site; store = state S.Store replica.old.records.conn })
+            (record { host = self.new; site = replica.new.site; store = state S.Store replica.new.records.conn }) }
+        ensures idle { result ≡ false → (i : ℕ) → i < length ready.now → IfClient (client_of self.new (slice_index ready.now i)) IsIdle }
+    {
+        let mut taken = Taken::new(self.alloc);
+        let refused = taken.take_all(self.alloc, &mut self.clients, ready);
+        if taken.clients.is_empty() && taken.faults.is_empty() {
+            return refused;
+        }
+        match replica.answer_all(&taken.requests) {
+            Ok(replies) => queue_replies(&mut self.clients, &taken.clients, &replies),
+            Err(refusal) => queue_refused(&mut self.clients, &taken.clients, refusal),
+        }
+        queue_faults(&mut self.clients, &taken.faults);
+        true
+    }
+}

@@ -1,0 +1,160 @@
+//! The frames that are taken in one round.
+ghost use Rattle.std.specs.Prelude.{◌≡◌, ◌≢◌, ◌+◌, ◌≤◌, ◌<◌, ◌==◌, ◌⊎◌, List, ℕ, length, true, false, [], IsTrue, OnErr, OnOk, IfOk, IfErr, vec_capacity, vec_len, Some, slice_index};
+ghost use Rattle.std.specs.List.{Contains, list_any};
+ghost use Rattle.mvd_dots.specs.Answer.{IsAnswer};
+ghost use Rattle.mvd_wire.specs.declared.request.Request.{Request};
+ghost use Rattle.mvd_wire.specs.Frames.{FrameValue};
+ghost use Rattle.mvd_conn.specs.History.{History, after_next, released};
+ghost use Rattle.mvd_host.specs.Course.{asked_by};
+
+use mvd_conn::Connection;
+use mvd_dots::Refusal;
+use mvd_wire::{Request, decode_request};
+use std::alloc::{AllocError, Global};
+use std::collections::BTreeMap;
+
+/// As many frames of a client are taken in one round.
+const FRAMES_MAX: usize = 64;
+
+/// The frames that were taken: requests, each with its client, and then those that are none, or that were refused memory. A client
+/// has at most one of these, which is its last.
+#[derive(Drop)]
+pub(crate) struct Taken {
+    pub(crate) clients: Vec<u64>,
+    pub(crate) requests: Vec<Request>,
+    pub(crate) faults: Vec<(u64, Refusal)>,
+}
+
+impl Taken {
+    ghost use Rattle.mvd_host.specs.Course.{own};
+    ghost use Rattle.mvd_host.specs.Hosts.{IfClient, client_in};
+    ghost use Rattle.mvd_host.specs.Taking.{EndsTaking, Grows, HasRoom, Holds, IsIdle, Keeps, IsMore, IsNone, Takes, TakesAll, TakesMore, TakesOf, TakesRequests};
+
+    pub(crate) fn new(alloc: Global) -> Taken
+        ensures { Holds [] [] result }
+    {
+        Taken {
+            clients: Vec::new(alloc),
+            requests: Vec::new(alloc),
+            faults: Vec::new(alloc),
+        }
+    }
+
+    /// Whether the client has a frame that is no request.
+    fn has_fault(&self, client: u64) -> bool
+        ensures { result ≡ list_any (λ fault. fault.0 == client) self.now.faults.items }
+    {
+        self.faults.iter().any(|fault| fault.0 == client)
+    }
+
+    /// Makes room for the frames of one client.
+    fn make_room(&mut self) -> Result<(), AllocError>
+        ensures same { Keeps self.old self.new }
+        ensures room { OnOk result (HasRoom 64 self.new) }
+    {
+        self.clients.reserve(FRAMES_MAX)?;
+        self.requests.reserve(FRAMES_MAX)?;
+        self.faults.reserve(1)
+    }
+
+    /// Takes the next frame of a client, where there is one. Whether another may follow: not after one that is no request.
+    fn take_one(
+        &mut self,
+        alloc: Global,
+        client: u64,
+        connection: &mut Connection,
+    ) -> Result<bool, Refusal>
+        requires room { HasRoom 1 self.old }
+        ensures took { TakesMore client connection.old connection.new self.old self.new }
+        ensures grows { Grows self.old self.new }
+        ensures more { IfOk result (λ more. more ≡ true → TakesRequests client connection.old connection.new self.old self.new) }
+        ensures one { IfOk result (λ more. more ≡ true → length self.new.clients.items ≡ length self.old.clients.items + 1) }
+        ensures room { (n : ℕ) → HasRoom (n + 1) self.old → IfOk result (λ more. more ≡ true → HasRoom n self.new) }
+        ensures end { IfOk result (λ more. more ≡ false → EndsTaking connection.new self.old self.new) }
+    {
+        if !connection.next()? {
+            return Ok(false);
+        }
+        match request_in(alloc, connection) {
+            Ok(request) => {
+                self.clients.push_reserved(client);
+                self.requests.push_reserved(request);
+                Ok(true)
+            }
+            Err(refusal) => {
+                self.faults.push_reserved((client, refusal));
+                Ok(false)
+            }
+        }
+    }
+
+    /// Takes frames of a client, until there is none, or one that is no request.
+    fn take(
+        &mut self,
+        alloc: Global,
+        client: u64,
+        connection: &mut Connection,
+    ) -> Result<(), Refusal>
+        ensures took { TakesMore client connection.old connection.new self.old self.new }
+        ensures grows { Grows self.old self.new }
+        ensures end { OnOk result (EndsTaking connection.new self.old self.new) }
+    {
+        self.make_room()?;
+        for _frame in 0..FRAMES_MAX {
+            if !self.take_one(alloc, client, connection)? {
+                return Ok(());
+            }
+        }
+        Ok(())
+    }
+
+    /// Takes frames of one of the clients. Whether memory was refused.
+    fn take_of(
+        &mut self,
+        alloc: Global,
+        clients: &mut BTreeMap<u64, Connection>,
+        client: u64,
+    ) -> bool
+        ensures took { TakesOf client clients.old.entries clients.new.entries self.old self.new }
+        ensures grows { Grows self.old self.new }
+        ensures idle { result ≡ false → IsMore self.old self.new ⊎ ((list_any (λ fault. fault.0 == client) self.old.faults.items ≡ true) ⊎ IfClient (client_in clients.new.entries client) IsIdle) }
+    {
+        if self.has_fault(client) {
+            return false;
+        }
+        match clients.get_mut(&client) {
+            Some(connection) => self.take(alloc, client, connection).is_err(),
+            None => false,
+        }
+    }
+
+    /// Takes frames of some clients. Whether memory was refused for one.
+    pub(crate) fn take_all(
+        &mut self,
+        alloc: Global,
+        clients: &mut BTreeMap<u64, Connection>,
+        ready: &[u64],
+    ) -> bool
+        requires none { Holds [] [] self.old }
+        ensures took { TakesAll clients.old.entries clients.new.entries self.new }
+        ensures idle { result ≡ false → IsNone self.new → (i : ℕ) → i < length ready.now → IfClient (client_in clients.new.entries (slice_index ready.now i)) IsIdle }
+    {
+        let mut refused = false;
+        for client in ready {
+            if self.take_of(alloc, clients, *client) {
+                refused = true;
+            }
+        }
+        refused
+    }
+}
+
+/// The request that the frame in hand is.
+fn request_in(alloc: Global, connection: &Connection) -> Result<Request, Refusal>
+    ensures { (f : FrameValue) → connection.now.hand ≡ Some f → IsAnswer result (asked_by f) }
+{
+    match connection.frame() {
+        Some((kind, payload)) => decode_request(alloc, kind, payload),
+        None => Err(Refusal::Memory),
+    }
+}

@@ -1,0 +1,406 @@
+#!/usr/bin/env python3
+"""Runs `mvd serve` as a process, and many clients of it at once over loopback: first what is to hold, then the figures.
+
+usage: tools/many.py PROGRAM
+
+PROGRAM is `mvd` as built. It ends with 1 at the first answer that is not the one wanted, and else prints the rows of the tables in
+docs/PERFORMANCE.md. The files are made in TMPDIR (else /tmp), so the puts are those of its disk. MANY_SECONDS has another time for
+each figure than 3 seconds, and MANY_KILLS another number of servers that are killed than 5.
+"""
+import contextlib
+import itertools
+import multiprocessing
+import os
+import re
+import resource
+import selectors
+import signal
+import socket
+import struct
+import subprocess
+import sys
+import tempfile
+import threading
+import time
+
+from measure_stored import REFUSED, context, document, frame, get, memory, processor, short
+
+PROGRAM = os.path.realpath(sys.argv[1]) if len(sys.argv) == 2 else sys.exit(__doc__)
+SECONDS = float(os.environ.get("MANY_SECONDS", "3"))
+KILLS = int(os.environ.get("MANY_KILLS", "5"))
+PATIENCE = 60
+BYE, DONE = frame(0x2F), frame(0xA3)
+WRITTEN, STATE = 0xA2, 0xA1
+READ_FAILED = frame(REFUSED, b"\x22")
+BIG = 60_000
+
+
+def wanted(what, holds):
+    if not holds:
+        sys.exit(f"many: {what}")
+
+
+class Server:
+    """A server on a file, whose lines are read when it has ended."""
+
+    def __init__(self, path, *words, site="1"):
+        with socket.create_server(("127.0.0.1", 0)) as free:
+            self.port = free.getsockname()[1]
+        words = [PROGRAM, "serve", "--db", path, "--site", site, "--port", str(self.port), *words]
+        self.process = subprocess.Popen(words, stdout=subprocess.PIPE)
+        wanted("no server", self.process.stdout.readline() == b"listening 127.0.0.1:%d\n" % self.port)
+
+    def __enter__(self):
+        return self
+
+    def __exit__(self, *_):
+        if self.process.poll() is None:
+            self.process.kill()
+        self.process.communicate()
+
+    def client(self, size=None):
+        """A connection; its buffer for what comes may be of a size of its own."""
+        peer = socket.socket()
+        peer.settimeout(PATIENCE)
+        if size:
+            peer.setsockopt(socket.SOL_SOCKET, socket.SO_RCVBUF, size)
+        peer.connect(("127.0.0.1", self.port))
+        peer.setsockopt(socket.IPPROTO_TCP, socket.TCP_NODELAY, 1)
+        return peer
+
+    def ended(self):
+        """The lines of a server that has ended, by number of connection."""
+        told = self.process.communicate(timeout=PATIENCE)[0].decode()
+        wanted(f"the server ended with {self.process.returncode}: {told}", not self.process.returncode)
+        wanted(f"no root: {told}", re.fullmatch("root [0-9a-f]{64}", told.splitlines()[-1]))
+        return {int(n): how for n, how in re.findall(r"connection (\d+) (.*)\n", told)}
+
+
+def take(peer, count):
+    data = bytearray()
+    while len(data) < count:
+        piece = peer.recv(count - len(data))
+        wanted("the server closed", piece)
+        data += piece
+    return bytes(data)
+
+
+def reply(peer):
+    (length,) = struct.unpack(">I", take(peer, 4))
+    body = take(peer, length)
+    return body[0], body[1:]
+
+
+def ask(peer, request):
+    peer.sendall(request)
+    return reply(peer)
+
+
+def say_bye(peer):
+    wanted("no Done", ask(peer, BYE) == (0xA3, b""))
+    peer.close()
+
+
+def is_closed(peer):
+    """Whether the server ends the connection."""
+    try:
+        return not peer.recv(1)
+    except ConnectionResetError:
+        return True
+
+
+def put(key, counter):
+    """A put of site 1 in place of the one before it, or of nothing."""
+    before, text = context(1, counter - 1) if counter > 1 else bytes(4), document(counter)
+    return frame(0x22, short(key) + before + struct.pack(">I", len(text)) + text)
+
+
+def put_some(port, name, count):
+    """A client that puts a key again and again, each time in place of the one before it."""
+    with socket.create_connection(("127.0.0.1", port), PATIENCE) as peer:
+        for counter in range(1, count + 1):
+            kind, body = ask(peer, put(name, counter))
+            wanted(f"a put was answered {kind:x}", (kind, body) == (WRITTEN, struct.pack(">IQ", 1, counter)))
+        say_bye(peer)
+
+
+def together(calls):
+    """Runs calls at once, each in a thread of its own; one that exits ends the run."""
+    failed = []
+
+    def guarded(call, words):
+        try:
+            call(*words)
+        except BaseException as error:
+            failed.append(error)
+
+    threads = [threading.Thread(target=guarded, args=(call, words)) for call, *words in calls]
+    for thread in threads:
+        thread.start()
+    for thread in threads:
+        thread.join()
+    if failed:
+        raise failed[0]
+
+
+def big_put(name):
+    text = b'{"n":"%s"}' % (b"x" * BIG)
+    return frame(0x22, short(name) + struct.pack(">II", 0, len(text)) + text)
+
+
+def fill(peer, requests):
+    """Sends requests until the server takes no more for a second. None of the replies is read."""
+    peer.settimeout(1)
+    with contextlib.suppress(TimeoutError):
+        for request in requests:
+            peer.sendall(request)
+
+
+# What is to hold.
+
+def beside_bad_clients(path):
+    """64 clients put, beside one that is silent, one that stopped in a frame, one that is deaf, one that floods, and some that
+    are cut off."""
+    with Server(path, "--conns", "75") as server:
+        silent, stopped, deaf, flood = (server.client(4096) for _ in range(4))
+        stopped.sendall(big_put("s")[:-1])
+        for _ in range(10):
+            wanted("no big put", ask(deaf, big_put("big"))[0] == WRITTEN)
+        puts = (put(f"f{n % 64}", n // 64 + 1) for n in range(200))
+        sending = threading.Thread(target=fill, args=(flood, itertools.chain(puts, itertools.repeat(get("f1") * 99))))
+        sending.start()
+        fill(deaf, itertools.repeat(get("big")))
+        begun = time.perf_counter()
+        calls = [(put_some, server.port, f"k{n}", 10) for n in range(64)]
+        calls += [(cut_off, server) for _ in range(7)]
+        together(calls)
+        seconds = time.perf_counter() - begun
+        sending.join()
+        for peer in silent, stopped, deaf, flood:
+            peer.close()
+        told = server.ended()
+    ends = [told[n] for n in range(1, 76)]
+    wanted(f"a silent client: {ends[0]}", ends[0] == "end")
+    wanted(f"a stopped one: {ends[1]}", ends[1] == "30 Truncated")
+    wanted(f"64 clients: {ends}", ends.count("bye") == 64)
+    return f"64 clients put 10 times each in {seconds:.2f} s"
+
+
+def cut_off(server):
+    with server.client() as peer:
+        peer.setsockopt(socket.SOL_SOCKET, socket.SO_LINGER, struct.pack("ii", 1, 0))
+        peer.sendall(get("k1") * 5000)
+
+
+def more_than_there_are_places(path):
+    """300 connections, of which 256 are served at once."""
+    with Server(path, "--conns", "300") as server:
+        peers = [server.client() for _ in range(300)]
+        for peer in peers:
+            peer.sendall(get("k"))
+        wanted("no state", all(reply(peer)[0] == STATE for peer in peers[:256]))
+        peers[-44].settimeout(0.3)
+        with contextlib.suppress(TimeoutError):
+            wanted("a client more than there are places was served", not peers[-44].recv(1))
+        peers[-44].settimeout(PATIENCE)
+        for gone, next_one in zip(peers[:44], peers[256:]):
+            say_bye(gone)
+            wanted("no state after another's end", reply(next_one)[0] == STATE)
+        for peer in peers[44:]:
+            say_bye(peer)
+        told = server.ended()
+    wanted(f"300 clients: {told}", list(told.values()).count("bye") == 300)
+    return "256 were served at once, and each of the other 44 as one ended"
+
+
+def last_replies(path):
+    """Four gets of 600 kB, a Bye and bytes behind it, all sent before a byte is read."""
+    with Server(path, "--conns", "2") as server:
+        with server.client() as peer:
+            for _ in range(10):
+                wanted("no big put", ask(peer, big_put("last"))[0] == WRITTEN)
+            say_bye(peer)
+        with server.client(4096) as peer:
+            peer.sendall(get("last") * 4 + BYE + bytes(500_000))
+            time.sleep(0.3)
+            for _ in range(4):
+                kind, body = reply(peer)
+                wanted("no whole state", kind == STATE and len(body) > 10 * BIG)
+            wanted("no Done", reply(peer) == (0xA3, b""))
+            wanted("more came", is_closed(peer))
+        told = server.ended()
+    wanted(f"last replies: {told}", told == {1: "bye", 2: "bye"})
+    return "each came whole, with 500 kB unread behind the Bye"
+
+
+def acknowledged(port, name, first, seen):
+    """Puts until the server is gone, and notes the last that was acknowledged."""
+    with contextlib.suppress(OSError, SystemExit):
+        with socket.create_connection(("127.0.0.1", port), PATIENCE) as peer:
+            for counter in range(first, 1 << 30):
+                if ask(peer, put(name, counter)) == (WRITTEN, struct.pack(">IQ", 1, counter)):
+                    seen[name] = counter
+
+
+def killed(path):
+    """Servers that are killed amid the puts of 8 clients: what was acknowledged is there afterwards, and at most one put more."""
+    seen = {f"c{n}": 0 for n in range(8)}
+    for turn in range(KILLS):
+        with Server(path) as server:
+            calls = [(acknowledged, server.port, name, seen[name] + 1, seen) for name in seen]
+            timer = threading.Timer(0.3 + 0.1 * turn, server.process.send_signal, (signal.SIGKILL,))
+            timer.start()
+            together(calls)
+        with Server(path, "--conns", "1") as server:
+            with server.client() as peer:
+                for name, counter in seen.items():
+                    kind, body = ask(peer, get(name))
+                    there = struct.unpack_from(">Q", body, 8)[0]
+                    wanted(f"{counter} of {name} is lost: {there}", kind == STATE and there in (counter, counter + 1))
+                    wanted(f"{name} is torn", body == context(1, there) + body[20:] and document(there) in body)
+                    seen[name] = there
+                say_bye(peer)
+            server.ended()
+    return f"{KILLS} times; {sum(seen.values())} puts were acknowledged, and none is missing"
+
+
+def ends_when_idle(path):
+    """Clients on which no byte moves for a second end, and one that asks now and then does not."""
+    with Server(path, "--conns", "4", "--idle", "1") as server:
+        silent, stopped, deaf = (server.client(4096) for _ in range(3))
+        wanted("no big put", ask(deaf, big_put("big"))[0] == WRITTEN)
+        stopped.sendall(bytes(3))
+        begun = time.perf_counter()
+        fill_some(deaf, get("big") * 300)
+        for peer in silent, stopped:
+            wanted("an idle client is not told", take(peer, 6) == READ_FAILED and is_closed(peer))
+        seconds = time.perf_counter() - begun
+        wanted(f"an idle client ended after {seconds} s", 0.8 < seconds < 10)
+        asks = server.client()
+        for _ in range(9):
+            time.sleep(0.25)
+            wanted("a client that asks has ended", ask(asks, get("k"))[0] == STATE)
+        say_bye(asks)
+        told = server.ended()
+        deaf.close()
+    wanted(f"idle: {told}", told == {1: "34 ReadFailed", 2: "34 ReadFailed", 3: "35 WriteFailed", 4: "bye"})
+    return f"silent and stopped clients ended after {seconds:.1f} s as 34, a deaf one as 35"
+
+
+def fill_some(peer, bytes_):
+    peer.setblocking(False)
+    with contextlib.suppress(BlockingIOError):
+        peer.sendall(bytes_)
+
+
+def gives_up(path):
+    """A session and a shell with a server that accepts them and says nothing."""
+    told = []
+    with socket.create_server(("127.0.0.1", 0)) as mute:
+        port = str(mute.getsockname()[1])
+        for words in ["sync", "--db", path, "--site", "1"], ["shell"]:
+            begun = time.perf_counter()
+            run = subprocess.run([PROGRAM, *words, "--port", port, "--idle", "1"], input=b"get k\n", capture_output=True, timeout=PATIENCE)
+            seconds = time.perf_counter() - begun
+            text = (run.stdout + run.stderr).decode()
+            wanted(f"{words[0]} with a mute server: {text}", run.returncode == 1 and "34 ReadFailed" in text)
+            wanted(f"{words[0]} gave up after {seconds} s", 0.8 < seconds < 20)
+            told.append(f"{words[0]} after {seconds:.1f} s")
+    return ", ".join(told)
+
+
+def costs_of_idle(path):
+    """What 256 clients take that say nothing."""
+    with Server(path, "--conns", "256") as server:
+        pid = server.process.pid
+        alone = memory(pid, "VmRSS")
+        peers = [server.client() for _ in range(256)]
+        for peer in peers:
+            wanted("no state", ask(peer, get("k"))[0] == STATE)
+        held, used = memory(pid, "VmRSS"), processor(pid)
+        time.sleep(3)
+        used = processor(pid) - used
+        wanted(f"an idle server used {used} s", used < 0.05)
+        for peer in peers:
+            say_bye(peer)
+        server.ended()
+    return f"{alone:.1f} MiB alone, {held:.1f} MiB with 256 clients; in 3 s it used {used * 1000:.1f} ms of the processor"
+
+
+# The figures.
+
+def load(port, names, in_flight, seconds, pipe):
+    """Clients in one process, each with so many puts that are not answered: how long each put took."""
+    took, ready = [], selectors.DefaultSelector()
+    for name in names:
+        peer = socket.create_connection(("127.0.0.1", port), PATIENCE)
+        peer.setsockopt(socket.IPPROTO_TCP, socket.TCP_NODELAY, 1)
+        ready.register(peer, selectors.EVENT_READ, [name, 1, [], b""])
+    pipe.send("here")
+    pipe.recv()
+    end = time.perf_counter() + seconds
+    for key in list(ready.get_map().values()):
+        send_puts(key, in_flight)
+    while ready.get_map():
+        for key, _ in ready.select():
+            state = key.data
+            state[3] += key.fileobj.recv(1 << 16)
+            came, now = len(state[3]) // 17, time.perf_counter()
+            wanted("a put was refused", all(state[3][17 * n + 4] == WRITTEN for n in range(came)))
+            state[3] = state[3][17 * came:]
+            took += [now - begun for begun in state[2][:came]]
+            del state[2][:came]
+            if now < end:
+                send_puts(key, came)
+            elif not state[2]:
+                ready.unregister(key.fileobj)
+                say_bye(key.fileobj)
+    pipe.send(took)
+
+
+def send_puts(key, count):
+    name, counter, begun, _ = key.data
+    key.fileobj.sendall(b"".join(put(f"{name}-{(counter + n) % 64}", (counter + n) // 64 + 1) for n in range(count)))
+    key.data[1] += count
+    begun += [time.perf_counter()] * count
+
+
+def figure(path, clients, in_flight):
+    with Server(path, "--conns", str(clients)) as server:
+        names = [f"n{n}" for n in range(clients)]
+        workers = []
+        for share in filter(None, (names[n::3] for n in range(3))):
+            here, there = multiprocessing.Pipe()
+            worker = multiprocessing.Process(target=load, args=(server.port, share, in_flight, SECONDS, there))
+            worker.start()
+            workers.append((worker, here))
+        for _, pipe in workers:
+            pipe.recv()
+        for _, pipe in workers:
+            pipe.send("go")
+        took = sorted(second for _, pipe in workers for second in pipe.recv())
+        for worker, _ in workers:
+            worker.join()
+        used = processor(server.process.pid)
+        server.ended()
+    slowest = took[-len(took) // 100:]
+    return (f"| {clients} | {in_flight} | {len(took) / SECONDS:.0f} | {took[len(took) // 2] * 1000:.2f} ms | "
+            f"{slowest[0] * 1000:.2f} ms | {used / len(took) * 1e6:.0f} µs |")
+
+
+def main():
+    resource.setrlimit(resource.RLIMIT_NOFILE, (4096, resource.getrlimit(resource.RLIMIT_NOFILE)[1]))
+    checks = [beside_bad_clients, more_than_there_are_places, last_replies, killed, ends_when_idle, gives_up, costs_of_idle]
+    with tempfile.TemporaryDirectory() as folder:
+        print("| what | seen |\n|---|---|")
+        for check in checks:
+            path = os.path.join(folder, f"{check.__name__}.db")
+            print(f"| {' '.join(check.__doc__.split())} | {check(path)} |", flush=True)
+        print(f"\nload {os.getloadavg()}\n\n| clients | in flight of each | puts a second | median | slowest hundredth from | a put: time |")
+        print("|---|---|---|---|---|---|")
+        for clients, in_flight in (1, 1), (8, 1), (64, 1), (256, 1), (8, 64):
+            print(figure(os.path.join(folder, f"{clients}-{in_flight}.db"), clients, in_flight), flush=True)
+
+
+if __name__ == "__main__":
+    main()

@@ -1,2 +1,4 @@
 pub mod Talking
+pub mod Playing
+pub mod Running
 pub mod Clients

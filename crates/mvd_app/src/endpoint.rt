@@ -1,4 +1,7 @@
 //! What can be asked.
+ghost use Rattle.std.specs.Prelude.{◌≡◌};
+ghost use Rattle.mvd_app.specs.Script.{asked_step, reply_in};
+ghost use Rattle.mvd_app.specs.Staged.{MemberReplies};
 ghost use Rattle.mvd_replica.specs.Turns.{AnswersStored};
 ghost use Rattle.mvd_wire.specs.declared.reply.Reply.{Reply};
 ghost use Rattle.mvd_wire.specs.declared.request.Request.{Request};
@@ -22,15 +25,15 @@ pub trait Endpoint {
         ensures { answers self.old self.new request result };
 }
 
-/// A site of a world.
+/// A world, and the site of it that is asked.
 #[derive(Drop)]
-pub struct Member<'a> {
-    pub world: &'a mut World,
+pub struct Member {
+    pub world: World,
     pub site: u32,
 }
 
-impl Endpoint for Member<'_> {
-    ghost answers = { λ _ _ _ _. Unit {0} };
+impl Endpoint for Member {
+    ghost answers = { MemberReplies };
 
     fn ask(&mut self, request: Request) -> Reply {
         let step = step_of(self.site, request);
@@ -41,7 +44,9 @@ impl Endpoint for Member<'_> {
 }
 
 /// The step by which a site is asked.
-fn step_of(site: u32, request: Request) -> Step {
+fn step_of(site: u32, request: Request) -> Step
+    ensures { result ≡ asked_step site request }
+{
     if matches!(request, Request::Put(..) | Request::Delete(..)) {
         Step::Write { site, request }
     } else {
@@ -50,7 +55,9 @@ fn step_of(site: u32, request: Request) -> Step {
 }
 
 /// The reply that an outcome is.
-fn reply_of(outcome: Outcome) -> Reply {
+fn reply_of(outcome: Outcome) -> Reply
+    ensures { result ≡ reply_in outcome }
+{
     match outcome {
         Outcome::Replied(reply) => reply,
         _ => Reply::Refused(Refusal::BadKind),

@@ -4,6 +4,7 @@
 mod commands;
 mod ending;
 mod endpoint;
+mod head;
 mod hint;
 mod link;
 mod looping;

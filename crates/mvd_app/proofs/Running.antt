@@ -1,17 +1,18 @@
 -- The lines of a script, run one after the other, and what of their texts was written.
-use Rattle.std.proofs.Common.{◌≡◌, ◌<◌, ◌+◌, ◌∙◌, ℕ, List, [], ◌∷◌, ◌++◌, Bor, IfSome, Option, Some, None, Result, Ok, Err, refl, sym, ap, subst, inl, inr, length, append_assoc}
+use Rattle.std.proofs.Common.{◌≡◌, ◌<◌, ◌+◌, ◌∙◌, ℕ, List, [], ◌∷◌, ◌++◌, Bor, IfErr, IfSome, OnOk, Option, Some, None, Result, Ok, Err, refl, sym, ap, subst, inl, inr, length, append_assoc}
 use Rattle.std.specs.Io.KnownBytes.{Appends}
 use Rattle.std.specs.List.{concat}
 use Rattle.std.specs.Option.{option_copied}
 use Rattle.std.proofs.lemmas.List.{append-nil}
 use Rattle.std.proofs.lemmas.List.Folds.{concat-append}
 use Rattle.mvd_dots.specs.declared.refusals.Refusal.{Refusal}
+use Rattle.mvd_dots.specs.declared.refusals.Refusal.TheVariants.{WriteFailed}
 use Rattle.mvd_input.specs.declared.fault.Fault.{Fault}
-use Rattle.mvd_input.specs.declared.fault.Fault.TheVariants as fault
+use Rattle.mvd_input.specs.declared.fault.Fault.TheVariants as of_fault
 use Rattle.mvd_input.specs.Hexadecimal.{lines_after, lines_of}
 use Rattle.mvd_input.proofs.Lines.{Taking, takes_all, takes_next, takes_none, takes_on}
 use Rattle.mvd_app.specs.declared.script.Script.{Script}
-use Rattle.mvd_app.specs.Script.{Blank, FailsAtLine, Ran, ReadAll, Reads, RunsScript, RunsShort, Stage}
+use Rattle.mvd_app.specs.Script.{Blank, Ran, ReadAll, Reads, RunsScript, Stage}
 use Rattle.mvd_app.specs.Staged.{AddsLine, IsStage, RunsLine}
 
 -- ---- bytes that are written
@@ -81,10 +82,10 @@ far_more number line script script' start now out out' done (text, ran, added) b
 
 -- a piece was written
 abbrev pub SendsPiece : Option (List ℕ) → Option (List ℕ) → List ℕ → List ℕ → Type 0
-SendsPiece now now' out out' = (sent : List ℕ) × (Appends now now' sent × (out ≡ sent ++ out'))
+SendsPiece now now' out out' = (sent : List ℕ) × Appends now now' sent × (out ≡ sent ++ out')
 
 far_sent : (script : Script) (start now now' : Option (List ℕ)) (out out' : List ℕ) → SendsPiece now now' out out' → (before : List (List ℕ)) → Far script start now out before → Far script start now' out' before
-far_sent script start now now' out out' (piece, (appends, parts)) before far = record {
+far_sent script start now now' out out' (piece, appends, parts) before far = record {
   stage = far.stage;
   texts = far.texts;
   read = far.read;
@@ -116,9 +117,15 @@ ends text number script start now last out done so_far appends =
 
 pub fails : (text lines line : List ℕ) (after : Option (List ℕ)) (number : ℕ) (script script' : Script) (start now last : Option (List ℕ)) (out out' : List ℕ) (fault : Fault)
     → Running text (Some lines) number script start now out → lines_of lines ≡ line ∷ lines_after after → AddsLine (number + 1) line script script' out out' (Err fault) → Appends now last out' → RunsScript (lines_of text) start last (Err fault)
-fails text lines line after number script script' start now last out out' (fault.Line at) so_far cut (said, (same, at_fault), kept) appends =
+fails text lines line after number script script' start now last out out' (of_fault.Line at) so_far cut (said, (same, at_fault), kept) appends =
     let (before, others, is, counted, far) = takes_next text lines line after number (Far script start now out) so_far cut in
     (before, line, others, far.stage, is, same ∙ counted, ran script start now last out before far (subst (Appends now last) kept appends), at_fault far.stage far.stands)
-fails text lines line after number script script' start now last out out' (fault.Stopped refusal) so_far cut (said, memory, kept) appends =
+fails text lines line after number script script' start now last out out' (of_fault.Stopped refusal) so_far cut (said, memory, kept) appends =
     let (before, others, is, counted, far) = takes_next text lines line after number (Far script start now out) so_far cut in
     inl (memory, (before, line ∷ others, far.stage, is, ran script start now last out before far (subst (Appends now last) kept appends)))
+
+-- what waits is written at the end
+pub ended : (text : List ℕ) (number : ℕ) (script : Script) (start now last : Option (List ℕ)) (out bytes : List ℕ) (result : Result (Unit {0}) Fault) → bytes ≡ out → Running text None number script start now out → OnOk result (Appends now last bytes)
+    → IfErr result (λ fault. fault ≡ of_fault.Stopped WriteFailed) → RunsScript (lines_of text) start last result
+ended text number script start now last out bytes (Ok done) same so_far appends failed = ends text number script start now last out done so_far (subst (Appends now last) same appends)
+ended text number script start now last out bytes (Err fault) same so_far appends failed = subst (λ (f : Fault). RunsScript (lines_of text) start last (Err f)) (sym failed) (inr refl)

@@ -5,14 +5,15 @@ use Rattle.std.specs.List.{concat}
 use Rattle.std.specs.Str.{IsUtf8}
 use Rattle.mvd_dots.specs.Answer.{IsAnswer}
 use Rattle.mvd_dots.specs.declared.refusals.Refusal.{Refusal}
-use Rattle.mvd_dots.specs.declared.refusals.Refusal.TheVariants.{BadKind, FrameTooLong, Memory, ReadFailed, WriteFailed}
+use Rattle.mvd_dots.specs.declared.refusals.Refusal.TheVariants.{BadKind, FrameTooLong, Memory, WriteFailed}
 use Rattle.mvd_input.specs.declared.command.Command.{Command}
 use Rattle.mvd_input.specs.declared.command.Command.TheVariants as command
 use Rattle.mvd_input.specs.declared.command.Line.{Line}
 use Rattle.mvd_input.specs.declared.command.Line.TheVariants as line
 use Rattle.mvd_input.specs.declared.fault.Fault.{Fault}
-use Rattle.mvd_input.specs.declared.fault.Fault.TheVariants as fault
+use Rattle.mvd_input.specs.declared.fault.Fault.TheVariants as of_fault
 use Rattle.mvd_input.specs.Definitions.{index_added, view_added}
+use Rattle.mvd_input.specs.Ends.{ReadsNot}
 use Rattle.mvd_input.specs.Hexadecimal.{lines_of}
 use Rattle.mvd_input.specs.Lines.{IsLine, IsNoLine, said}
 use Rattle.mvd_keys.specs.Key.{key_of_text}
@@ -90,13 +91,19 @@ abbrev pub Commands : Setting → ℕ → Command → Knowledge → Stage → Li
 Commands setting number command before new text =
     (after : Knowledge) × Says setting (site_in number) command before after text × (new ≡ Running setting after)
 
+-- one more index or view is defined in the head
+abbrev pub DefinesMore : (Definitions → Result Definitions Refusal) → Stage → Stage → List ℕ → Type 0
+DefinesMore added Blank new text = ⊥
+DefinesMore added (Headed sites most defs) new text = (more : Definitions) × (added defs ≡ Ok more) × (new ≡ Headed sites most more) × (text ≡ [])
+DefinesMore added (Running setting knowledge) new text = ⊥
+
 -- A line that may stand here, what follows from it, and what it prints. First comes the number of sites, then once the most keys
 -- of each and the indexes and views, then commands.
 abbrev pub Plays : Line → Stage → Stage → List ℕ → Type 0
 Plays (line.Sites count) Blank new text = (0 < count) × (count ≤ 16) × (new ≡ Headed count None no_definitions) × (text ≡ [])
 Plays (line.Max count) (Headed sites None defs) new text = (0 < count) × (count ≤ 1000000) × (new ≡ Headed sites (Some count) defs) × (text ≡ [])
-Plays (line.Index field) (Headed sites most defs) new text = (more : Definitions) × (index_added defs field.now ≡ Ok more) × (new ≡ Headed sites most more) × (text ≡ [])
-Plays (line.View view) (Headed sites most defs) new text = (more : Definitions) × (view_added defs view ≡ Ok more) × (new ≡ Headed sites most more) × (text ≡ [])
+Plays (line.Index field) stage new text = DefinesMore (λ defs. index_added defs field.now) stage new text
+Plays (line.View view) stage new text = DefinesMore (λ defs. view_added defs view) stage new text
 Plays (line.At site command) (Headed sites most defs) new text = Commands (setting_of sites (unwrap_or most 1000000) defs) site command nothing_yet new text
 Plays (line.At site command) (Running setting before) new text = Commands setting site command before new text
 Plays line stage new text = ⊥
@@ -114,12 +121,9 @@ IsAtFault bytes stage = (IsUtf8 bytes → ⊥) ⊎ (IsNoLine (said bytes) ⊎ ((
 
 -- ---- a script
 
--- an input is not read: it is too long, or the reader failed, or memory was refused
-abbrev pub ReadsNot : Option (List ℕ) → Option (List ℕ) → Result (Unit {0}) Fault → Type 0
-ReadsNot input input' (Ok done) = ⊥
-ReadsNot input input' (Err (fault.Line number)) = ⊥
-ReadsNot input input' (Err (fault.Stopped refusal)) = (refusal ≡ Memory) ⊎ ((refusal ≡ ReadFailed)
-    ⊎ ((refusal ≡ FrameTooLong) × ((front : List ℕ) × Consumes input input' front × (16777216 < length front))))
+-- an input is not read: it is too long, the reader failed, or memory was refused
+abbrev pub IsNotRead : Option (List ℕ) → Option (List ℕ) → Fault → Type 0
+IsNotRead input input' fault = ReadsNot fault × (fault ≡ of_fault.Stopped FrameTooLong → (front : List ℕ) × Consumes input input' front × (16777216 < length front))
 
 -- lines, one after the other, with what each prints
 unfoldable pub ReadAll : List (List ℕ) → Stage → Stage → List (List ℕ) → Type 0
@@ -146,11 +150,11 @@ RunsShort lines out out' = (before : List (List ℕ)) × (after : List (List ℕ
 -- failed
 abbrev pub RunsScript : List (List ℕ) → Option (List ℕ) → Option (List ℕ) → Result (Unit {0}) Fault → Type 0
 RunsScript lines out out' (Ok done) = (stage : Stage) × Ran lines stage out out'
-RunsScript lines out out' (Err (fault.Line number)) = FailsAtLine lines number out out'
-RunsScript lines out out' (Err (fault.Stopped refusal)) = ((refusal ≡ Memory) × RunsShort lines out out') ⊎ (refusal ≡ WriteFailed)
+RunsScript lines out out' (Err (of_fault.Line number)) = FailsAtLine lines number out out'
+RunsScript lines out out' (Err (of_fault.Stopped refusal)) = ((refusal ≡ Memory) × RunsShort lines out out') ⊎ (refusal ≡ WriteFailed)
 
 -- The whole input is read, up to 16,777,216 bytes, and run as a script; or it is not, and nothing is written
 abbrev pub Simulates : Option (List ℕ) → Option (List ℕ) → Option (List ℕ) → Option (List ℕ) → Result (Unit {0}) Fault → Type 0
 Simulates input input' out out' result =
     ((text : List ℕ) × Consumes input input' text × IsAtEnd input' × (length text ≤ 16777216) × RunsScript (lines_of text) out out' result)
-    ⊎ ((out' ≡ out) × ReadsNot input input' result)
+    ⊎ ((out' ≡ out) × ((fault : Fault) × (result ≡ Err fault) × IsNotRead input input' fault))

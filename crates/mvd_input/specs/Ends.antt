@@ -8,3 +8,8 @@ use Rattle.mvd_input.specs.declared.fault.Fault.TheVariants.{Stopped, Line}
 abbrev pub EndsEarly : Fault → Type 0
 EndsEarly (Stopped refusal) = (refusal ≡ Memory) ⊎ ((refusal ≡ FrameTooLong) ⊎ ((refusal ≡ ReadFailed) ⊎ (refusal ≡ WriteFailed)))
 EndsEarly (Line number) = 0 < number
+
+-- why an input is not read: it is too long, the reader failed, or memory was refused
+abbrev pub ReadsNot : Fault → Type 0
+ReadsNot (Stopped refusal) = (refusal ≡ Memory) ⊎ ((refusal ≡ FrameTooLong) ⊎ (refusal ≡ ReadFailed))
+ReadsNot (Line number) = ⊥

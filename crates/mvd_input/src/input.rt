@@ -3,7 +3,7 @@ ghost use Rattle.std.specs.Prelude.{◌≡◌, ◌<◌, ◌≤◌, ℕ, List, le
 ghost use Rattle.std.specs.Io.KnownBytes.{Appends, Consumes, IsAtEnd};
 ghost use Rattle.mvd_dots.specs.declared.refusals.Refusal.TheVariants.{FrameTooLong, WriteFailed};
 ghost use Rattle.mvd_input.specs.declared.fault.Fault.TheVariants.{Stopped};
-ghost use Rattle.mvd_input.specs.Ends.{EndsEarly};
+ghost use Rattle.mvd_input.specs.Ends.{EndsEarly, ReadsNot};
 
 use crate::fault::Fault;
 use mvd_dots::Refusal;
@@ -14,6 +14,7 @@ use std::io::{Read, Write};
 pub fn read_input<R: Read>(alloc: Global, reader: &mut R, most: usize) -> Result<Vec<u8>, Fault>
     ensures short { IfOk result (λ bytes. length bytes.items ≤ most) }
     ensures all { IfOk result (λ bytes. Consumes (R.remaining reader.old) (R.remaining reader.new) bytes.items × IsAtEnd (R.remaining reader.new)) }
+    ensures refused { IfErr result ReadsNot }
     ensures long { result ≡ Err (Stopped FrameTooLong) → (front : List ℕ) × Consumes (R.remaining reader.old) (R.remaining reader.new) front × (most < length front) }
     ensures ends { IfErr result EndsEarly }
 {

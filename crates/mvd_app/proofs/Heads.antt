@@ -103,10 +103,10 @@ plays_at : (site : ℕ) (command : Command) (stage : Stage) (setting : Setting) 
 plays_at site command Blank setting knowledge after text starts says = absurd starts
 plays_at site command (Headed sites most defs) setting knowledge after text (same, none) says =
     subst (λ (s : Setting). Commands (setting_of sites (unwrap_or most 1000000) defs) site command nothing_yet (Running s after) text) (sym same)
-      (after, subst (λ (s : Setting). Says s (site_in site) command nothing_yet after text) same (subst (λ (k : Knowledge). Says setting (site_in site) command k after text) none says), refl)
+    (after, subst (λ (s : Setting). Says s (site_in site) command nothing_yet after text) same (subst (λ (k : Knowledge). Says setting (site_in site) command k after text) none says), refl)
 plays_at site command (Running setting' knowledge') setting knowledge after text (same, known) says =
     subst (λ (s : Setting). Commands setting' site command knowledge' (Running s after) text) same
-      (after, subst (λ (s : Setting). Says s (site_in site) command knowledge' after text) (sym same) (subst (λ (k : Knowledge). Says setting (site_in site) command k after text) (sym known) says), refl)
+    (after, subst (λ (s : Setting). Says s (site_in site) command knowledge' after text) (sym same) (subst (λ (k : Knowledge). Says setting (site_in site) command k after text) (sym known) says), refl)
 
 pub commanded : (site : ℕ) (command : Command) (old mid new : Script) (text : List ℕ) → Begins old mid true → RunsAt site command mid new text
     → (stage : Stage) → IsStage old stage → (next : Stage) × Plays (line.At site command) stage next text × IsStage new next

@@ -100,7 +100,7 @@ pub goes_on : (text lines line : List ℕ) (after : Option (Bor (List ℕ))) (nu
     → AddsLine (number + 1) line script script' out added (Ok done) → SendsPiece now now' added out' → Running text (option_copied after) (number + 1) script' start now' out'
 goes_on text lines line after number script script' start now now' out added out' done so_far cut shorter adds piece =
     takes_on text lines line after number (Far script start now out) (Far script' start now' out') so_far cut shorter
-      (λ before far. far_sent script' start now now' added out' piece (before ++ line ∷ []) (far_more (number + 1) line script script' start now out added done adds before far))
+    (λ before far. far_sent script' start now now' added out' piece (before ++ line ∷ []) (far_more (number + 1) line script script' start now out added done adds before far))
 
 -- ---- the end
 

@@ -11,4 +11,4 @@ returns-clause-said c =
     let world = c.args.member.now.world in
     let site = c.site_of-member.result in
     says_so c.settle.result c.args.site (site_in c.args.site) c.args.command (record { world = world; site = site }) c.play-said.new.member (string_bytes c.begin_line.new.out) (string_bytes c.play-said.new.out) (string_bytes c.settle.new.out) c.play-said.result c.site_of-member.ensures c.in_ok-begin_line.ensures.empty
-      (numbered (is_numbered (length world.sites.items) site) c.site.result (slice_get world.sites.items (site - 1)) c.site.ensures c.if-is_none.ensures) c.play-said.ensures c.settle.ensures.told
+    (numbered (is_numbered (length world.sites.items) site) c.site.result (slice_get world.sites.items (site - 1)) c.site.ensures c.if-is_none.ensures) c.play-said.ensures c.settle.ensures.told

@@ -1,3 +1,4 @@
+mod Commands
 mod Consumed
 mod Defined
 pub mod Lines

@@ -3,6 +3,7 @@ mod Consumed
 mod Defined
 pub mod Lines
 mod Numbers
+mod Ordered
 mod Parting
 mod Reading
 mod Refused

@@ -1,12 +1,18 @@
 -- What a command line may ask for.
-use Rattle.std.specs.Prelude.{ℕ, Option, Some, None, ◌≡◌, ◌<◌, ◌≤◌, ◌^◌, ◌⊎◌, ◌↔◌, ⊤, List, Result, Ok, Err, IsTrue, codes, option_map}
+use Rattle.std.specs.Prelude.{ℕ, Option, Some, None, ◌≡◌, ◌<◌, ◌≤◌, ◌^◌, ◌⊎◌, ◌↔◌, ◌≢◌, ⊤, true, List, IsSomeAnd, Result, Ok, Err, IsTrue, codes, option_map}
 use Rattle.std.specs.Net.Grammar.{IsIpText}
 use Rattle.std.specs.Net.Socket.{socket_ip, socket_port}
+use Rattle.std.specs.Borrow.{Bor}
 use Rattle.std.specs.Option.{ForSome}
+use Rattle.std.specs.declared.net.ip_addr.IpAddr.{IpAddr}
 use Rattle.std.specs.declared.net.socket_addr.SocketAddr.{SocketAddr}
-use Rattle.clap.specs.Words.{Row, first_of}
+use Rattle.clap.specs.Walk.{Text}
+use Rattle.clap.specs.Words.{Row, first_of, kind_of, subcommand_of, takes}
+use Rattle.clap.specs.declared.error.Error.{Error}
+use Rattle.clap.specs.declared.error.kind.ErrorKind.TheVariants.{OutOfMemory}
 use Rattle.mvd_dots.specs.declared.refusals.Refusal.TheVariants.{Memory}
 use Rattle.mvd_input.specs.Lines.{IsNoNumber, IsNumber}
+use Rattle.mvd_input.specs.Words.{program}
 use Rattle.mvd_input.specs.declared.order.Order.{Order}
 use Rattle.mvd_input.specs.declared.order.Order.TheVariants.{Sim, Loop, Serve, Shell, RemoteShell, Sync}
 use Rattle.mvd_input.specs.declared.order.OrderFault.{OrderFault}
@@ -63,7 +69,7 @@ ReadsNumber rows option most (Err (Stopped refusal)) = refusal ≡ Memory
 abbrev pub ReadsGiven : List Row → List ℕ → ℕ → Result ℕ OrderFault → Type 0
 ReadsGiven rows option most (Ok number) = Gives rows option number × (1 ≤ number) × (number ≤ most)
 ReadsGiven rows option most (Err Range) = IsOutOfRange rows option most
-ReadsGiven rows option most (Err (Words _)) = ⊤
+ReadsGiven rows option most (Err (Words _)) = (number : ℕ) → Gives rows option number → ⊥
 ReadsGiven rows option most (Err (Stopped refusal)) = refusal ≡ Memory
 
 -- some number of the command is out of its range
@@ -71,11 +77,12 @@ abbrev pub HasBadNumber : List Row → Type 0
 HasBadNumber rows = IsOutOfRange rows (codes "site") 4294967295 ⊎ (IsOutOfRange rows (codes "max-keys") 1000000
     ⊎ (IsOutOfRange rows (codes "port") 65535 ⊎ (IsOutOfRange rows (codes "conns") 1000 ⊎ IsOutOfRange rows (codes "idle") 86400)))
 
--- `Range` tells of a number out of its range, and what is stopped is so by want of memory
-abbrev pub IsOrderFault : List Row → OrderFault → Type 0
-IsOrderFault rows Range = HasBadNumber rows
-IsOrderFault rows (Words _) = ⊤
-IsOrderFault rows (Stopped refusal) = refusal ≡ Memory
+-- why the values of options mean nothing of a kind: `Range` tells of a number out of its range, `Words` that nothing is meant, and
+-- what is stopped is so by want of memory
+abbrev pub IsFaultOf : {X : Type 0} → List Row → (X → Type 0) → OrderFault → Type 0
+IsFaultOf rows Means Range = HasBadNumber rows
+IsFaultOf {X} rows Means (Words _) = (x : X) → Means x → ⊥
+IsFaultOf rows Means (Stopped refusal) = refusal ≡ Memory
 
 -- a site is set up with the values of its options
 pub record IsSetupOf (rows : List Row) (setup : Setup) : Type 0 where
@@ -83,26 +90,50 @@ pub record IsSetupOf (rows : List Row) (setup : Setup) : Type 0 where
   pub defs : first_of (codes "defs") rows ≡ option_map (λ file. file.now) setup.defs
   pub max_keys : Gives rows (codes "max-keys") setup.max_keys
 
--- so is an address
+-- the file of a database
+abbrev pub IsDbOf : List Row → Bor (List ℕ) → Type 0
+IsDbOf rows db = first_of (codes "db") rows ≡ Some db.now
+
+-- the IP address that is spelled
+abbrev pub IsIpOf : List Row → IpAddr → Type 0
+IsIpOf rows ip = (text : List ℕ) × (first_of (codes "address") rows ≡ Some text) × IsIpText text ip
+
+-- an address has both
 pub record IsAddressOf (rows : List Row) (address : SocketAddr) : Type 0 where
   pub port : Gives rows (codes "port") (socket_port address)
-  pub text : List ℕ
-  pub given : first_of (codes "address") rows ≡ Some text
-  pub ip : IsIpText text (socket_ip address)
+  pub ip : IsIpOf rows (socket_ip address)
 
 -- the order that a command with the values of its options is
 abbrev pub IsOrderOf : List ℕ → List Row → Order → Type 0
 IsOrderOf name rows Sim = name ≡ codes "sim"
 IsOrderOf name rows (Loop setup) = (name ≡ codes "loop") × IsSetupOf rows setup
-IsOrderOf name rows (Serve db setup address conns idle) = (name ≡ codes "serve") × (first_of (codes "db") rows ≡ Some db.now)
+IsOrderOf name rows (Serve db setup address conns idle) = (name ≡ codes "serve") × IsDbOf rows db
     × IsSetupOf rows setup × IsAddressOf rows address × IsCount rows (codes "conns") conns × Gives rows (codes "idle") idle
-IsOrderOf name rows (Shell db setup) = (name ≡ codes "shell") × (first_of (codes "db") rows ≡ Some db.now) × IsSetupOf rows setup
+IsOrderOf name rows (Shell db setup) = (name ≡ codes "shell") × IsDbOf rows db × IsSetupOf rows setup
 IsOrderOf name rows (RemoteShell address idle) = (name ≡ codes "shell") × (first_of (codes "db") rows ≡ None) × IsAddressOf rows address
     × Gives rows (codes "idle") idle
-IsOrderOf name rows (Sync db setup address idle verbose) = (name ≡ codes "sync") × (first_of (codes "db") rows ≡ Some db.now)
+IsOrderOf name rows (Sync db setup address idle verbose) = (name ≡ codes "sync") × IsDbOf rows db
     × IsSetupOf rows setup × IsAddressOf rows address × Gives rows (codes "idle") idle × (IsTrue verbose ↔ (first_of (codes "verbose") rows ≡ Some (codes "true")))
 
 -- the order in its ranges, or why there is none
 abbrev pub ReadsOrder : List ℕ → List Row → Result Order OrderFault → Type 0
 ReadsOrder name rows (Ok order) = IsOrderOf name rows order × IsInRange order
-ReadsOrder name rows (Err fault) = IsOrderFault rows fault
+ReadsOrder name rows (Err fault) = IsFaultOf rows (IsOrderOf name rows) fault
+
+-- the words name the command of this order, and its options have the values of the order
+abbrev pub AskFor : List Text → Order → Type 0
+AskFor words order = IsSomeAnd (subcommand_of program words) (λ command. IsOrderOf command.0 command.1 order)
+
+-- the order that the words ask for, in its ranges, or why there is none. `Words` comes of no words that `clap` takes and that ask for
+-- an order
+abbrev pub ReadsWords : List Text → Result Order OrderFault → Type 0
+ReadsWords words (Ok order) = AskFor words order × IsInRange order
+ReadsWords words (Err Range) = IsSomeAnd (subcommand_of program words) (λ command. HasBadNumber command.1)
+ReadsWords words (Err (Words _)) = takes program words ≡ true → (order : Order) → AskFor words order → ⊥
+ReadsWords words (Err (Stopped refusal)) = refusal ≡ Memory
+
+-- what an error of `clap` becomes
+abbrev pub IsFaultBy : Error → OrderFault → Type 0
+IsFaultBy error Range = ⊥
+IsFaultBy error (Words told) = (told ≡ error) × (kind_of error ≢ OutOfMemory)
+IsFaultBy error (Stopped refusal) = (refusal ≡ Memory) × (kind_of error ≡ OutOfMemory)

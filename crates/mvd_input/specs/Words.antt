@@ -99,7 +99,7 @@ sync_words = leaf (codes "sync")
     (database ++ needed port ∷ idle (codes "60") ∷ verbose ∷ [])
 
 -- the program: a command has to be given, and `--version` may be
-abbrev pub program : App
+unfoldable pub program : App
 program = record {
   top = record (new_shape (codes "mvd")) {
     is_leaf = false;

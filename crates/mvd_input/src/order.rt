@@ -1,8 +1,8 @@
 //! The command line.
 ghost use Rattle.std.specs.Prelude.{◌≡◌, ◌<◌, ◌≤◌, ◌^◌, ℕ, List, IfErr, IfOk, IfSome, Some, codes, option_map};
-ghost use Rattle.std.specs.Net.Grammar.{IsIpText};
+ghost use Rattle.clap.specs.Walk.{texts};
 ghost use Rattle.clap.specs.Words.{first_of, found_of, rows_of};
-ghost use Rattle.mvd_input.specs.Orders.{Gives, HasPort, IsAddressOf, IsCount, IsIdle, IsInRange, IsOrderFault, IsSetUp, IsSetupOf, ReadsGiven, ReadsNumber, ReadsOrder};
+ghost use Rattle.mvd_input.specs.Orders.{Gives, HasPort, IsAddressOf, IsCount, IsIdle, IsDbOf, IsFaultOf, IsInRange, IsIpOf, IsSetUp, IsSetupOf, ReadsGiven, ReadsNumber, ReadsOrder, ReadsWords};
 
 use crate::command::number_of;
 use crate::words::command;
@@ -78,6 +78,10 @@ pub enum OrderFault {
 }
 
 impl From<Error> for OrderFault {
+    ghost use Rattle.mvd_input.specs.Orders.{IsFaultBy};
+
+    ghost from_gives = { IsFaultBy };
+
     fn from(error: Error) -> OrderFault {
         match error.kind() {
             ErrorKind::OutOfMemory => OrderFault::Stopped(Refusal::Memory),
@@ -100,7 +104,8 @@ impl From<AllocError> for OrderFault {
 
 /// What the words ask for, of which the first is the program's own name.
 pub fn order_of<'a>(alloc: Global, words: &'a [&'a str]) -> Result<Order<'a>, OrderFault>
-    ensures { IfOk result IsInRange }
+    ensures words { ReadsWords (texts words.now) result }
+    ensures range { IfOk result IsInRange }
 {
     let matches = command(alloc)?.try_get_matches_from(words)?;
     match matches.subcommand() {
@@ -170,7 +175,7 @@ fn shell_of<'a>(alloc: Global, matches: &ArgMatches<'a>) -> Result<Order<'a>, Or
 fn setup_in<'a>(alloc: Global, matches: &ArgMatches<'a>) -> Result<Setup<'a>, OrderFault>
     ensures range { IfOk result IsSetUp }
     ensures setup { IfOk result (IsSetupOf (rows_of (found_of matches.now))) }
-    ensures fault { IfErr result (IsOrderFault (rows_of (found_of matches.now))) }
+    ensures fault { IfErr result (IsFaultOf (rows_of (found_of matches.now)) (IsSetupOf (rows_of (found_of matches.now)))) }
 {
     Ok(Setup {
         site: given_in(alloc, matches, "site", 4_294_967_295)? as u32,
@@ -188,8 +193,8 @@ fn text_in<'a>(matches: &ArgMatches<'a>, option: &str) -> Option<&'a str>
 
 /// The file of a database.
 fn db_in<'a>(alloc: Global, matches: &ArgMatches<'a>) -> Result<&'a str, OrderFault>
-    ensures found { IfOk result (λ db. first_of (codes "db") (rows_of (found_of matches.now)) ≡ Some db.now) }
-    ensures fault { IfErr result (IsOrderFault (rows_of (found_of matches.now))) }
+    ensures found { IfOk result (IsDbOf (rows_of (found_of matches.now))) }
+    ensures fault { IfErr result (IsFaultOf (rows_of (found_of matches.now)) (IsDbOf (rows_of (found_of matches.now)))) }
 {
     match text_in(matches, "db") {
         Some(db) => Ok(db),
@@ -234,7 +239,7 @@ fn given_in(
 fn conns_in(alloc: Global, matches: &ArgMatches<'_>) -> Result<Option<u32>, OrderFault>
     ensures range { IfOk result (λ found. IfSome found (λ n. (1 ≤ n) × (n ≤ 1000))) }
     ensures count { IfOk result (IsCount (rows_of (found_of matches.now)) (codes "conns")) }
-    ensures fault { IfErr result (IsOrderFault (rows_of (found_of matches.now))) }
+    ensures fault { IfErr result (IsFaultOf (rows_of (found_of matches.now)) (IsCount (rows_of (found_of matches.now)) (codes "conns"))) }
 {
     match number_in(alloc, matches, "conns", MOST_CONNECTIONS)? {
         Some(number) => Ok(Some(number as u32)),
@@ -246,7 +251,7 @@ fn conns_in(alloc: Global, matches: &ArgMatches<'_>) -> Result<Option<u32>, Orde
 fn idle_in(alloc: Global, matches: &ArgMatches<'_>) -> Result<u32, OrderFault>
     ensures range { IfOk result IsIdle }
     ensures idle { IfOk result (Gives (rows_of (found_of matches.now)) (codes "idle")) }
-    ensures fault { IfErr result (IsOrderFault (rows_of (found_of matches.now))) }
+    ensures fault { IfErr result (IsFaultOf (rows_of (found_of matches.now)) (Gives (rows_of (found_of matches.now)) (codes "idle"))) }
 {
     Ok(given_in(alloc, matches, "idle", MOST_IDLE)? as u32)
 }
@@ -255,7 +260,7 @@ fn idle_in(alloc: Global, matches: &ArgMatches<'_>) -> Result<u32, OrderFault>
 fn address_in(alloc: Global, matches: &ArgMatches<'_>) -> Result<SocketAddr, OrderFault>
     ensures range { IfOk result HasPort }
     ensures address { IfOk result (IsAddressOf (rows_of (found_of matches.now))) }
-    ensures fault { IfErr result (IsOrderFault (rows_of (found_of matches.now))) }
+    ensures fault { IfErr result (IsFaultOf (rows_of (found_of matches.now)) (IsAddressOf (rows_of (found_of matches.now)))) }
 {
     let port = given_in(alloc, matches, "port", 65_535)? as u16;
     Ok(SocketAddr::new(ip_in(alloc, matches)?, port))
@@ -263,8 +268,8 @@ fn address_in(alloc: Global, matches: &ArgMatches<'_>) -> Result<SocketAddr, Ord
 
 /// The IP address of a server. Its text is read here, since `clap` reads numbers alone.
 fn ip_in(alloc: Global, matches: &ArgMatches<'_>) -> Result<IpAddr, OrderFault>
-    ensures found { IfOk result (λ ip. (text : List ℕ) × (first_of (codes "address") (rows_of (found_of matches.now)) ≡ Some text) × IsIpText text ip) }
-    ensures fault { IfErr result (IsOrderFault (rows_of (found_of matches.now))) }
+    ensures found { IfOk result (IsIpOf (rows_of (found_of matches.now))) }
+    ensures fault { IfErr result (IsFaultOf (rows_of (found_of matches.now)) (IsIpOf (rows_of (found_of matches.now)))) }
 {
     let Some(text) = text_in(matches, "address") else {
         return Err(refused(alloc, "an option is missing")?);

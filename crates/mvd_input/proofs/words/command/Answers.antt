@@ -8,6 +8,7 @@ use Rattle.mvd_input.proofs.Commands.{adds, adds_below, adds_changed, is_tied, u
 use Rattle.mvd_input.proofs.words.command.Goals as goal
 
 pub returns : goal.returns
+unfolding spec.program
 returns c =
     let base = ap app_of_fields c.arg_required_else_help.ensures ∙ ap (on_top (λ s. record s { arg_required_else_help = true }))
         (ap app_of_fields c.subcommand_required.ensures ∙ ap (on_top (λ s. record s { subcommand_required = true }))

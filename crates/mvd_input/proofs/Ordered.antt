@@ -15,29 +15,29 @@ use Rattle.clap.specs.declared.error.kind.ErrorKind.TheVariants.{OutOfMemory}
 use Rattle.clap.specs.declared.parser.matches.ArgMatches.{ArgMatches}
 use Rattle.clap.specs.declared.parser.matches.SubCommand.{SubCommand}
 use Rattle.clap.specs.declared.parser.matches.ArgMatches.TheViews.{out-ArgMatches, out-SubCommand}
-use Rattle.mvd_input.specs.Orders.{AskFor, Gives, HasBadNumber, IsAddressOf, IsFaultBy, IsFaultOf, IsOrderOf, IsOutOfRange, ReadsGiven, ReadsOrder, ReadsWords}
+use Rattle.mvd_input.specs.Orders.{AskFor, Gives, HasBadNumber, IsAddressOf, IsFaultBy, IsOrderOf, IsOutOfRange, IsUnread, ReadsGiven, ReadsOrder, ReadsWords}
 use Rattle.mvd_input.specs.Words.{program}
 use Rattle.mvd_input.specs.declared.order.Order.{Order}
 use Rattle.mvd_input.specs.declared.order.Order.TheVariants.{Sim, Loop, Serve, Shell, RemoteShell, Sync}
+use Rattle.mvd_input.specs.declared.order.Unread.{Unread}
+use Rattle.mvd_input.specs.declared.order.Unread.TheVariants as unread
 use Rattle.mvd_input.specs.declared.order.OrderFault.{OrderFault}
 use Rattle.mvd_input.specs.declared.order.OrderFault.TheVariants.{Words, Range, Stopped}
 
 -- ---- what is not meant
 
 -- where a part is not meant, the whole is not either
-pub within : {X Y : Type 0} (rows : List Row) (Part : X → Type 0) (Whole : Y → Type 0) (fault : OrderFault) → ((y : Y) → Whole y → (x : X) × Part x)
-    → IsFaultOf rows Part fault → IsFaultOf rows Whole fault
-within rows Part Whole Range part h = h
-within rows Part Whole (Words _) part h = λ y w. h (part y w).0 (part y w).1
-within rows Part Whole (Stopped _) part h = h
+pub within : {X Y : Type 0} (rows : List Row) (Part : X → Type 0) (Whole : Y → Type 0) (why : Unread) → ((y : Y) → Whole y → (x : X) × Part x)
+    → IsUnread rows Part why → IsUnread rows Whole why
+within rows Part Whole unread.Range part h = h
+within rows Part Whole (unread.Text _) part h = λ y w. h (part y w).0 (part y w).1
 
 -- nor where a number is not given
-pub without : {Y : Type 0} (rows : List Row) (option : List ℕ) (most : ℕ) (Whole : Y → Type 0) (fault : OrderFault)
+pub without : {Y : Type 0} (rows : List Row) (option : List ℕ) (most : ℕ) (Whole : Y → Type 0) (why : Unread)
     → (IsOutOfRange rows option most → HasBadNumber rows) → ((y : Y) → Whole y → (n : ℕ) × Gives rows option n)
-    → ReadsGiven rows option most (Err fault) → IsFaultOf rows Whole fault
-without rows option most Whole Range bad part h = bad h
-without rows option most Whole (Words _) bad part h = λ y w. h (part y w).0 (part y w).1
-without rows option most Whole (Stopped _) bad part h = h
+    → ReadsGiven rows option most (Err why) → IsUnread rows Whole why
+without rows option most Whole unread.Range bad part h = bad h
+without rows option most Whole (unread.Text _) bad part h = λ y w. h (part y w).0 (part y w).1
 
 -- two texts that a test tells apart
 differ : {X : Type 0} (a b : List ℕ) → a ≡ b → bytes_eq a b ≡ false → X

@@ -18,6 +18,8 @@ use Rattle.mvd_input.specs.declared.order.Order.TheVariants.{Sim, Loop, Serve, S
 use Rattle.mvd_input.specs.declared.order.OrderFault.{OrderFault}
 use Rattle.mvd_input.specs.declared.order.OrderFault.TheVariants.{Words, Range, Stopped}
 use Rattle.mvd_input.specs.declared.order.Setup.{Setup}
+use Rattle.mvd_input.specs.declared.order.Unread.{Unread}
+use Rattle.mvd_input.specs.declared.order.Unread.TheVariants as unread
 
 -- a site is 1..=2^32 - 1, and it holds 1..=1,000,000 keys at the most
 abbrev pub IsSetUp : Setup → Type 0
@@ -58,31 +60,27 @@ IsCount rows option None = first_of option rows ≡ None
 IsCount rows option (Some number) = Gives rows option number
 
 -- the number of an option, or why there is none
-abbrev pub ReadsNumber : List Row → List ℕ → ℕ → Result (Option ℕ) OrderFault → Type 0
+abbrev pub ReadsNumber : List Row → List ℕ → ℕ → Result (Option ℕ) Unread → Type 0
 ReadsNumber rows option most (Ok None) = first_of option rows ≡ None
 ReadsNumber rows option most (Ok (Some number)) = Gives rows option number × (1 ≤ number) × (number ≤ most)
-ReadsNumber rows option most (Err Range) = IsOutOfRange rows option most
-ReadsNumber rows option most (Err (Words _)) = (text : List ℕ) × (first_of option rows ≡ Some text) × IsNoNumber text
-ReadsNumber rows option most (Err (Stopped refusal)) = refusal ≡ Memory
+ReadsNumber rows option most (Err unread.Range) = IsOutOfRange rows option most
+ReadsNumber rows option most (Err (unread.Text _)) = (text : List ℕ) × (first_of option rows ≡ Some text) × IsNoNumber text
 
 -- the same of a number that the command cannot do without
-abbrev pub ReadsGiven : List Row → List ℕ → ℕ → Result ℕ OrderFault → Type 0
+abbrev pub ReadsGiven : List Row → List ℕ → ℕ → Result ℕ Unread → Type 0
 ReadsGiven rows option most (Ok number) = Gives rows option number × (1 ≤ number) × (number ≤ most)
-ReadsGiven rows option most (Err Range) = IsOutOfRange rows option most
-ReadsGiven rows option most (Err (Words _)) = (number : ℕ) → Gives rows option number → ⊥
-ReadsGiven rows option most (Err (Stopped refusal)) = refusal ≡ Memory
+ReadsGiven rows option most (Err unread.Range) = IsOutOfRange rows option most
+ReadsGiven rows option most (Err (unread.Text _)) = (number : ℕ) → Gives rows option number → ⊥
 
 -- some number of the command is out of its range
 abbrev pub HasBadNumber : List Row → Type 0
 HasBadNumber rows = IsOutOfRange rows (codes "site") 4294967295 ⊎ (IsOutOfRange rows (codes "max-keys") 1000000
     ⊎ (IsOutOfRange rows (codes "port") 65535 ⊎ (IsOutOfRange rows (codes "conns") 1000 ⊎ IsOutOfRange rows (codes "idle") 86400)))
 
--- why the values of options mean nothing of a kind: `Range` tells of a number out of its range, `Words` that nothing is meant, and
--- what is stopped is so by want of memory
-abbrev pub IsFaultOf : {X : Type 0} → List Row → (X → Type 0) → OrderFault → Type 0
-IsFaultOf rows Means Range = HasBadNumber rows
-IsFaultOf {X} rows Means (Words _) = (x : X) → Means x → ⊥
-IsFaultOf rows Means (Stopped refusal) = refusal ≡ Memory
+-- why the values of options mean nothing of a kind: a number is out of its range, or nothing of the kind has these values
+abbrev pub IsUnread : {X : Type 0} → List Row → (X → Type 0) → Unread → Type 0
+IsUnread rows Means unread.Range = HasBadNumber rows
+IsUnread {X} rows Means (unread.Text _) = (x : X) → Means x → ⊥
 
 -- a site is set up with the values of its options
 pub record IsSetupOf (rows : List Row) (setup : Setup) : Type 0 where
@@ -116,9 +114,16 @@ IsOrderOf name rows (Sync db setup address idle verbose) = (name ≡ codes "sync
     × IsSetupOf rows setup × IsAddressOf rows address × Gives rows (codes "idle") idle × (IsTrue verbose ↔ (first_of (codes "verbose") rows ≡ Some (codes "true")))
 
 -- the order in its ranges, or why there is none
+abbrev pub ReadsOptions : List ℕ → List Row → Result Order Unread → Type 0
+ReadsOptions name rows (Ok order) = IsOrderOf name rows order × IsInRange order
+ReadsOptions name rows (Err why) = IsUnread rows (IsOrderOf name rows) why
+
+-- the same where memory may be refused
 abbrev pub ReadsOrder : List ℕ → List Row → Result Order OrderFault → Type 0
 ReadsOrder name rows (Ok order) = IsOrderOf name rows order × IsInRange order
-ReadsOrder name rows (Err fault) = IsFaultOf rows (IsOrderOf name rows) fault
+ReadsOrder name rows (Err Range) = HasBadNumber rows
+ReadsOrder name rows (Err (Words _)) = (order : Order) → IsOrderOf name rows order → ⊥
+ReadsOrder name rows (Err (Stopped refusal)) = refusal ≡ Memory
 
 -- the words name the command of this order, and its options have the values of the order
 abbrev pub AskFor : List Text → Order → Type 0

@@ -37,6 +37,10 @@ const IDLE: &str = "A server from which no byte comes for so many seconds is giv
 const SHELL: &str =
     "Answers the lines of standard input, each at once, on a database or through a server. The line `help` lists what may be asked.";
 
+const SHELL_USAGE: &str = "\
+mvd shell --db <FILE> --site <N> [--defs <FILE>] [--max-keys <N>]
+       mvd shell --port <P> [--address <IP>] [--idle <S>]";
+
 const SYNC: &str =
     "Runs a session of a database with a server, after which both hold all that one of them held. It prints how \
                     many keys differed, and the digest of all that the database holds then.";
@@ -62,6 +66,17 @@ pub fn command<'a>(alloc: Global) -> Result<Command<'a>, AllocError>
         .subcommand(serve_command(alloc)?)?
         .subcommand(shell_command(alloc)?)?
         .subcommand(sync_command(alloc)?)
+}
+
+/// The command of a name, or the program's.
+pub fn command_of<'a>(alloc: Global, name: &str) -> Result<Command<'a>, AllocError> {
+    match name {
+        "loop" => loop_command(alloc),
+        "serve" => serve_command(alloc),
+        "shell" => shell_command(alloc),
+        "sync" => sync_command(alloc),
+        _ => command(alloc),
+    }
 }
 
 fn loop_command<'a>(alloc: Global) -> Result<Command<'a>, AllocError>
@@ -101,7 +116,8 @@ fn shell_command<'a>(alloc: Global) -> Result<Command<'a>, AllocError>
         "shell",
         SHELL,
         "Example: echo 'put k - {\"a\":1}' | mvd shell --db a.db --site 1",
-    );
+    )
+    .override_usage(SHELL_USAGE);
     let command = instead_of_port(command, db(alloc))?;
     let command = instead_of_port(command, site(alloc))?;
     let command = apart_from(command, defs(alloc), "port")?;

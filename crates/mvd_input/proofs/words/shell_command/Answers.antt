@@ -10,7 +10,7 @@ use Rattle.mvd_input.proofs.words.shell_command.Goals as goal
 pub returns : goal.returns
 returns c =
     let both : Rule → Rule = λ r. spec.tied (spec.spare r) in
-    let one = adds_changed both _ _ _ _ _ c.in_ok-command.ensures c.named-command.ensures c.db.ensures refl in
+    let one = adds_changed both _ _ _ _ _ c.in_ok-command.ensures (ap app_of_fields c.override_usage-command.ensures ∙ c.named.ensures) c.db.ensures refl in
     let two = adds_changed both _ _ _ _ _ c.in_ok-command-2.ensures one c.site.ensures refl in
     let three = adds_changed spec.tied _ _ _ _ _ c.in_ok-command-3.ensures two c.defs.ensures refl in
     let four = adds_changed spec.tied _ _ _ _ _ c.in_ok-command-4.ensures three c.max_keys.ensures refl in

@@ -3,7 +3,6 @@ use Rattle.std.proofs.Common.{◌≡◌, ◌∙◌, ◌⊎◌, inl, inr, ap, ap�
 use Rattle.std.specs.Net.Socket.{socket_port}
 use Rattle.std.specs.Prelude.{Box}
 use Rattle.std.specs.Box.{box_value}
-
 use Rattle.std.specs.Str.{bytes_eq}
 use Rattle.std.proofs.lemmas.Slice.Eq.{bytes_eq-Decides}
 use Rattle.std.specs.declared.net.socket_addr.SocketAddr.{SocketAddr}
@@ -15,7 +14,7 @@ use Rattle.clap.specs.declared.error.kind.ErrorKind.TheVariants.{OutOfMemory}
 use Rattle.clap.specs.declared.parser.matches.ArgMatches.{ArgMatches}
 use Rattle.clap.specs.declared.parser.matches.SubCommand.{SubCommand}
 use Rattle.clap.specs.declared.parser.matches.ArgMatches.TheViews.{out-ArgMatches, out-SubCommand}
-use Rattle.mvd_input.specs.Orders.{AskFor, Gives, HasBadNumber, IsAddressOf, IsFaultBy, IsOrderOf, IsOutOfRange, IsUnread, ReadsGiven, ReadsOrder, ReadsWords}
+use Rattle.mvd_input.specs.Orders.{AskFor, Gives, HasBadNumber, IsAddressOf, IsFaultBy, IsOrderOf, IsOutOfRange, IsSeconds, IsUnread, ReadsGiven, ReadsOrder, ReadsWords}
 use Rattle.mvd_input.specs.Words.{program}
 use Rattle.mvd_input.specs.declared.order.Order.{Order}
 use Rattle.mvd_input.specs.declared.order.Order.TheVariants.{Sim, Loop, Serve, Shell, RemoteShell, Sync}
@@ -27,14 +26,14 @@ use Rattle.mvd_input.specs.declared.order.OrderFault.TheVariants.{Words, Range, 
 -- ---- what is not meant
 
 -- where a part is not meant, the whole is not either
-pub within : {X Y : Type 0} (rows : List Row) (Part : X → Type 0) (Whole : Y → Type 0) (why : Unread) → ((y : Y) → Whole y → (x : X) × Part x)
+pub within : {X Y : Type 0} (rows : List Row) (Part : List Row → X → Type 0) (Whole : List Row → Y → Type 0) (why : Unread) → ((y : Y) → Whole rows y → (x : X) × Part rows x)
     → IsUnread rows Part why → IsUnread rows Whole why
 within rows Part Whole unread.Range part h = h
 within rows Part Whole (unread.Text _) part h = λ y w. h (part y w).0 (part y w).1
 
 -- nor where a number is not given
-pub without : {Y : Type 0} (rows : List Row) (option : List ℕ) (most : ℕ) (Whole : Y → Type 0) (why : Unread)
-    → (IsOutOfRange rows option most → HasBadNumber rows) → ((y : Y) → Whole y → (n : ℕ) × Gives rows option n)
+pub without : {Y : Type 0} (rows : List Row) (option : List ℕ) (most : ℕ) (Whole : List Row → Y → Type 0) (why : Unread)
+    → (IsOutOfRange rows option most → HasBadNumber rows) → ((y : Y) → Whole rows y → (n : ℕ) × Gives rows option n)
     → ReadsGiven rows option most (Err why) → IsUnread rows Whole why
 without rows option most Whole unread.Range bad part h = bad h
 without rows option most Whole (unread.Text _) bad part h = λ y w. h (part y w).0 (part y w).1
@@ -45,7 +44,7 @@ differ a b e f = absurd (cc ((bytes_eq-Decides a b).1 e, f))
 
 -- an address and the seconds of an order
 abbrev pub Meets : List Row → Type 0
-Meets rows = ((address : SocketAddr) × IsAddressOf rows address) × ((idle : ℕ) × Gives rows (codes "idle") idle)
+Meets rows = ((address : SocketAddr) × IsAddressOf rows address) × ((idle : ℕ) × IsSeconds rows idle)
 
 pub serve_meets : (rows : List Row) (order : Order) → IsOrderOf (codes "serve") rows order → Meets rows
 serve_meets rows Sim h = differ _ _ h refl

@@ -7,8 +7,9 @@ use Rattle.std.specs.Option.{ForSome}
 use Rattle.std.specs.declared.net.ip_addr.IpAddr.{IpAddr}
 use Rattle.std.specs.declared.net.socket_addr.SocketAddr.{SocketAddr}
 use Rattle.clap.specs.Walk.{Text}
-use Rattle.clap.specs.Words.{Row, first_of, kind_of, subcommand_of, takes}
+use Rattle.clap.specs.Words.{Row, first_of, found_of, kind_of, rows_of, subcommand_of, takes}
 use Rattle.clap.specs.declared.error.Error.{Error}
+use Rattle.clap.specs.declared.parser.matches.ArgMatches.{ArgMatches}
 use Rattle.clap.specs.declared.error.kind.ErrorKind.TheVariants.{OutOfMemory}
 use Rattle.mvd_dots.specs.declared.refusals.Refusal.TheVariants.{Memory}
 use Rattle.mvd_input.specs.Lines.{IsNoNumber, IsNumber}
@@ -47,6 +48,10 @@ IsInRange (Sync _ setup address idle _) = IsSetUp setup × HasPort address × Is
 
 -- ---- the order that the words are
 
+-- the options of a command, with their values
+abbrev pub options_of : ArgMatches → List Row
+options_of matches = rows_of (found_of matches)
+
 -- the option's value, which is its default where the words have none, spells this number
 abbrev pub Gives : List Row → List ℕ → ℕ → Type 0
 Gives rows option number = (text : List ℕ) × (first_of option rows ≡ Some text) × IsNumber number text
@@ -54,10 +59,6 @@ Gives rows option number = (text : List ℕ) × (first_of option rows ≡ Some t
 -- the option's number is 0 or too great
 abbrev pub IsOutOfRange : List Row → List ℕ → ℕ → Type 0
 IsOutOfRange rows option most = (number : ℕ) × Gives rows option number × ((number ≡ 0) ⊎ (most < number))
-
-abbrev pub IsCount : List Row → List ℕ → Option ℕ → Type 0
-IsCount rows option None = first_of option rows ≡ None
-IsCount rows option (Some number) = Gives rows option number
 
 -- the number of an option, or why there is none
 abbrev pub ReadsNumber : List Row → List ℕ → ℕ → Result (Option ℕ) Unread → Type 0
@@ -78,9 +79,9 @@ HasBadNumber rows = IsOutOfRange rows (codes "site") 4294967295 ⊎ (IsOutOfRang
     ⊎ (IsOutOfRange rows (codes "port") 65535 ⊎ (IsOutOfRange rows (codes "conns") 1000 ⊎ IsOutOfRange rows (codes "idle") 86400)))
 
 -- why the values of options mean nothing of a kind: a number is out of its range, or nothing of the kind has these values
-abbrev pub IsUnread : {X : Type 0} → List Row → (X → Type 0) → Unread → Type 0
+abbrev pub IsUnread : {X : Type 0} → List Row → (List Row → X → Type 0) → Unread → Type 0
 IsUnread rows Means unread.Range = HasBadNumber rows
-IsUnread {X} rows Means (unread.Text _) = (x : X) → Means x → ⊥
+IsUnread {X} rows Means (unread.Text _) = (x : X) → Means rows x → ⊥
 
 -- a site is set up with the values of its options
 pub record IsSetupOf (rows : List Row) (setup : Setup) : Type 0 where
@@ -101,22 +102,30 @@ pub record IsAddressOf (rows : List Row) (address : SocketAddr) : Type 0 where
   pub port : Gives rows (codes "port") (socket_port address)
   pub ip : IsIpOf rows (socket_ip address)
 
+-- how many connections are served, where it is told, and how many seconds no byte need move
+abbrev pub IsConns : List Row → Option ℕ → Type 0
+IsConns rows None = first_of (codes "conns") rows ≡ None
+IsConns rows (Some number) = Gives rows (codes "conns") number
+
+abbrev pub IsSeconds : List Row → ℕ → Type 0
+IsSeconds rows seconds = Gives rows (codes "idle") seconds
+
 -- the order that a command with the values of its options is
 abbrev pub IsOrderOf : List ℕ → List Row → Order → Type 0
 IsOrderOf name rows Sim = name ≡ codes "sim"
 IsOrderOf name rows (Loop setup) = (name ≡ codes "loop") × IsSetupOf rows setup
 IsOrderOf name rows (Serve db setup address conns idle) = (name ≡ codes "serve") × IsDbOf rows db
-    × IsSetupOf rows setup × IsAddressOf rows address × IsCount rows (codes "conns") conns × Gives rows (codes "idle") idle
+    × IsSetupOf rows setup × IsAddressOf rows address × IsConns rows conns × IsSeconds rows idle
 IsOrderOf name rows (Shell db setup) = (name ≡ codes "shell") × IsDbOf rows db × IsSetupOf rows setup
 IsOrderOf name rows (RemoteShell address idle) = (name ≡ codes "shell") × (first_of (codes "db") rows ≡ None) × IsAddressOf rows address
-    × Gives rows (codes "idle") idle
+    × IsSeconds rows idle
 IsOrderOf name rows (Sync db setup address idle verbose) = (name ≡ codes "sync") × IsDbOf rows db
-    × IsSetupOf rows setup × IsAddressOf rows address × Gives rows (codes "idle") idle × (IsTrue verbose ↔ (first_of (codes "verbose") rows ≡ Some (codes "true")))
+    × IsSetupOf rows setup × IsAddressOf rows address × IsSeconds rows idle × (IsTrue verbose ↔ (first_of (codes "verbose") rows ≡ Some (codes "true")))
 
 -- the order in its ranges, or why there is none
 abbrev pub ReadsOptions : List ℕ → List Row → Result Order Unread → Type 0
 ReadsOptions name rows (Ok order) = IsOrderOf name rows order × IsInRange order
-ReadsOptions name rows (Err why) = IsUnread rows (IsOrderOf name rows) why
+ReadsOptions name rows (Err why) = IsUnread rows (IsOrderOf name) why
 
 -- the same where memory may be refused
 abbrev pub ReadsOrder : List ℕ → List Row → Result Order OrderFault → Type 0

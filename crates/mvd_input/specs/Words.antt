@@ -1,8 +1,10 @@
 -- The words that the program takes: its commands, and of each its options.
-use Rattle.std.specs.Prelude.{ℕ, List, [], ◌∷◌, ◌++◌, Option, Some, None, true, false, codes}
+use Rattle.std.specs.Prelude.{ℕ, List, [], ◌∷◌, ◌++◌, ◌≡◌, Option, Some, None, true, false, codes}
 use Rattle.clap.specs.Simple.{new_shape}
 use Rattle.clap.specs.Walk.{Text}
-use Rattle.clap.specs.Words.{App, Rule, Shape, new_rule, with_rule}
+use Rattle.clap.specs.Words.{App, Rule, Shape, app_of, new_rule, rule_of, with_rule}
+use Rattle.clap.specs.declared.builder.arg.Arg.{Arg}
+use Rattle.clap.specs.declared.builder.command.Command.{Command}
 use Rattle.clap.specs.declared.builder.action.ArgAction.TheVariants.{SetTrue}
 use Rattle.clap.specs.declared.builder.value_parser.ValueParser.TheVariants.{Unsigned}
 
@@ -79,6 +81,13 @@ leaf name options = record { top = record (new_shape name) { rules = options }; 
 abbrev pub with_rules : App → List Rule → App
 with_rules command [] = command
 with_rules command (option ∷ options) = with_rules (with_rule command option) options
+
+-- `new` is `old` with one more option, which another one says more about
+abbrev pub AddsTied : Command → Arg → Command → Type 0
+AddsTied old option new = (rule_of option).is_simple ≡ true → app_of new ≡ with_rule (app_of old) (tied (rule_of option))
+
+abbrev pub AddsSpare : Command → Arg → Command → Type 0
+AddsSpare old option new = (rule_of option).is_simple ≡ true → app_of new ≡ with_rule (app_of old) (tied (spare (rule_of option)))
 
 abbrev pub sim_words : App
 sim_words = leaf (codes "sim") []

@@ -1,8 +1,8 @@
 //! The command line.
 ghost use Rattle.std.specs.Prelude.{◌≡◌, ◌<◌, ◌≤◌, ◌^◌, ℕ, List, IfErr, IfOk, IfSome, Some, codes, option_map};
 ghost use Rattle.clap.specs.Walk.{texts};
-ghost use Rattle.clap.specs.Words.{first_of, found_of, rows_of};
-ghost use Rattle.mvd_input.specs.Orders.{Gives, HasPort, IsAddressOf, IsCount, IsIdle, IsDbOf, IsInRange, IsIpOf, IsSetUp, IsSetupOf, IsUnread, ReadsGiven, ReadsNumber, ReadsOptions, ReadsOrder, ReadsWords};
+ghost use Rattle.clap.specs.Words.{first_of};
+ghost use Rattle.mvd_input.specs.Orders.{HasPort, IsAddressOf, IsConns, IsDbOf, IsIdle, IsInRange, IsIpOf, IsSeconds, IsSetUp, IsSetupOf, IsUnread, ReadsGiven, ReadsNumber, ReadsOptions, ReadsOrder, ReadsWords, options_of};
 
 use crate::command::number_of;
 use crate::words::{command, command_of};
@@ -129,7 +129,7 @@ fn order_in<'a>(
     name: &str,
     matches: &ArgMatches<'a>,
 ) -> Result<Order<'a>, OrderFault>
-    ensures { ReadsOrder name.now (rows_of (found_of matches.now)) result }
+    ensures { ReadsOrder name.now (options_of matches.now) result }
 {
     match read_in(name, matches) {
         Ok(order) => Ok(order),
@@ -139,7 +139,7 @@ fn order_in<'a>(
 }
 
 fn read_in<'a>(name: &str, matches: &ArgMatches<'a>) -> Result<Order<'a>, Unread>
-    ensures { ReadsOptions name.now (rows_of (found_of matches.now)) result }
+    ensures { ReadsOptions name.now (options_of matches.now) result }
 {
     match name {
         "sim" => Ok(Order::Sim),
@@ -152,7 +152,7 @@ fn read_in<'a>(name: &str, matches: &ArgMatches<'a>) -> Result<Order<'a>, Unread
 }
 
 fn serve_of<'a>(matches: &ArgMatches<'a>) -> Result<Order<'a>, Unread>
-    ensures { ReadsOptions (codes "serve") (rows_of (found_of matches.now)) result }
+    ensures { ReadsOptions (codes "serve") (options_of matches.now) result }
 {
     Ok(Order::Serve {
         db: db_in(matches)?,
@@ -164,7 +164,7 @@ fn serve_of<'a>(matches: &ArgMatches<'a>) -> Result<Order<'a>, Unread>
 }
 
 fn sync_of<'a>(matches: &ArgMatches<'a>) -> Result<Order<'a>, Unread>
-    ensures { ReadsOptions (codes "sync") (rows_of (found_of matches.now)) result }
+    ensures { ReadsOptions (codes "sync") (options_of matches.now) result }
 {
     Ok(Order::Sync {
         db: db_in(matches)?,
@@ -176,7 +176,7 @@ fn sync_of<'a>(matches: &ArgMatches<'a>) -> Result<Order<'a>, Unread>
 }
 
 fn shell_of<'a>(matches: &ArgMatches<'a>) -> Result<Order<'a>, Unread>
-    ensures { ReadsOptions (codes "shell") (rows_of (found_of matches.now)) result }
+    ensures { ReadsOptions (codes "shell") (options_of matches.now) result }
 {
     match text_in(matches, "db") {
         Some(db) => Ok(Order::Shell {
@@ -193,8 +193,8 @@ fn shell_of<'a>(matches: &ArgMatches<'a>) -> Result<Order<'a>, Unread>
 /// What the options of a site say.
 fn setup_in<'a>(matches: &ArgMatches<'a>) -> Result<Setup<'a>, Unread>
     ensures range { IfOk result IsSetUp }
-    ensures setup { IfOk result (IsSetupOf (rows_of (found_of matches.now))) }
-    ensures fault { IfErr result (IsUnread (rows_of (found_of matches.now)) (IsSetupOf (rows_of (found_of matches.now)))) }
+    ensures setup { IfOk result (IsSetupOf (options_of matches.now)) }
+    ensures fault { IfErr result (IsUnread (options_of matches.now) IsSetupOf) }
 {
     Ok(Setup {
         site: given_in(matches, "site", 4_294_967_295)? as u32,
@@ -205,15 +205,15 @@ fn setup_in<'a>(matches: &ArgMatches<'a>) -> Result<Setup<'a>, Unread>
 
 /// The value of an option, as it is written, or its default.
 fn text_in<'a>(matches: &ArgMatches<'a>, option: &str) -> Option<&'a str>
-    ensures { first_of option.now (rows_of (found_of matches.now)) ≡ option_map (λ text. text.now) result }
+    ensures { first_of option.now (options_of matches.now) ≡ option_map (λ text. text.now) result }
 {
     matches.get_str(option)
 }
 
 /// The file of a database.
 fn db_in<'a>(matches: &ArgMatches<'a>) -> Result<&'a str, Unread>
-    ensures found { IfOk result (IsDbOf (rows_of (found_of matches.now))) }
-    ensures fault { IfErr result (IsUnread (rows_of (found_of matches.now)) (IsDbOf (rows_of (found_of matches.now)))) }
+    ensures found { IfOk result (IsDbOf (options_of matches.now)) }
+    ensures fault { IfErr result (IsUnread (options_of matches.now) IsDbOf) }
 {
     match text_in(matches, "db") {
         Some(db) => Ok(db),
@@ -222,12 +222,8 @@ fn db_in<'a>(matches: &ArgMatches<'a>) -> Result<&'a str, Unread>
 }
 
 /// The number of an option, where it is given: `Range` where it is 0 or too great.
-fn number_in(
-    matches: &ArgMatches<'_>,
-    option: &str,
-    most: u64,
-) -> Result<Option<u64>, Unread>
-    ensures { ReadsNumber (rows_of (found_of matches.now)) option.now most result }
+fn number_in(matches: &ArgMatches<'_>, option: &str, most: u64) -> Result<Option<u64>, Unread>
+    ensures { ReadsNumber (options_of matches.now) option.now most result }
 {
     let Some(text) = text_in(matches, option) else {
         return Ok(None);
@@ -240,12 +236,8 @@ fn number_in(
 }
 
 /// The number of an option that is given: `Range` where it is 0 or too great.
-fn given_in(
-    matches: &ArgMatches<'_>,
-    option: &str,
-    most: u64,
-) -> Result<u64, Unread>
-    ensures { ReadsGiven (rows_of (found_of matches.now)) option.now most result }
+fn given_in(matches: &ArgMatches<'_>, option: &str, most: u64) -> Result<u64, Unread>
+    ensures { ReadsGiven (options_of matches.now) option.now most result }
 {
     match number_in(matches, option, most)? {
         Some(number) => Ok(number),
@@ -255,8 +247,8 @@ fn given_in(
 
 fn conns_in(matches: &ArgMatches<'_>) -> Result<Option<u32>, Unread>
     ensures range { IfOk result (λ found. IfSome found (λ n. (1 ≤ n) × (n ≤ 1000))) }
-    ensures count { IfOk result (IsCount (rows_of (found_of matches.now)) (codes "conns")) }
-    ensures fault { IfErr result (IsUnread (rows_of (found_of matches.now)) (IsCount (rows_of (found_of matches.now)) (codes "conns"))) }
+    ensures count { IfOk result (IsConns (options_of matches.now)) }
+    ensures fault { IfErr result (IsUnread (options_of matches.now) IsConns) }
 {
     match number_in(matches, "conns", MOST_CONNECTIONS)? {
         Some(number) => Ok(Some(number as u32)),
@@ -267,8 +259,8 @@ fn conns_in(matches: &ArgMatches<'_>) -> Result<Option<u32>, Unread>
 /// The seconds for which no byte need move.
 fn idle_in(matches: &ArgMatches<'_>) -> Result<u32, Unread>
     ensures range { IfOk result IsIdle }
-    ensures idle { IfOk result (Gives (rows_of (found_of matches.now)) (codes "idle")) }
-    ensures fault { IfErr result (IsUnread (rows_of (found_of matches.now)) (Gives (rows_of (found_of matches.now)) (codes "idle"))) }
+    ensures idle { IfOk result (IsSeconds (options_of matches.now)) }
+    ensures fault { IfErr result (IsUnread (options_of matches.now) IsSeconds) }
 {
     Ok(given_in(matches, "idle", MOST_IDLE)? as u32)
 }
@@ -276,8 +268,8 @@ fn idle_in(matches: &ArgMatches<'_>) -> Result<u32, Unread>
 /// The address of a server, with its port.
 fn address_in(matches: &ArgMatches<'_>) -> Result<SocketAddr, Unread>
     ensures range { IfOk result HasPort }
-    ensures address { IfOk result (IsAddressOf (rows_of (found_of matches.now))) }
-    ensures fault { IfErr result (IsUnread (rows_of (found_of matches.now)) (IsAddressOf (rows_of (found_of matches.now)))) }
+    ensures address { IfOk result (IsAddressOf (options_of matches.now)) }
+    ensures fault { IfErr result (IsUnread (options_of matches.now) IsAddressOf) }
 {
     let port = given_in(matches, "port", 65_535)? as u16;
     Ok(SocketAddr::new(ip_in(matches)?, port))
@@ -285,17 +277,15 @@ fn address_in(matches: &ArgMatches<'_>) -> Result<SocketAddr, Unread>
 
 /// The IP address of a server. Its text is read here, since `clap` reads numbers alone.
 fn ip_in(matches: &ArgMatches<'_>) -> Result<IpAddr, Unread>
-    ensures found { IfOk result (IsIpOf (rows_of (found_of matches.now))) }
-    ensures fault { IfErr result (IsUnread (rows_of (found_of matches.now)) (IsIpOf (rows_of (found_of matches.now)))) }
+    ensures found { IfOk result (IsIpOf (options_of matches.now)) }
+    ensures fault { IfErr result (IsUnread (options_of matches.now) IsIpOf) }
 {
     let Some(text) = text_in(matches, "address") else {
         return Err(Unread::Text("an option is missing"));
     };
     match text.parse::<IpAddr>() {
         Ok(address) => Ok(address),
-        Err(_) => Err(Unread::Text(
-            "invalid value for '--address <IP>': it is no IP address",
-        )),
+        Err(_) => Err(Unread::Text("invalid value for '--address <IP>': it is no IP address")),
     }
 }
 

@@ -1,6 +1,6 @@
 //! The words that a command line may hold, and the help that it gives.
-ghost use Rattle.std.specs.Prelude.{◌≡◌, IfOk, true};
-ghost use Rattle.clap.specs.Words.{app_of, new_app, rule_of, with_rule};
+ghost use Rattle.std.specs.Prelude.{◌≡◌, IfOk};
+ghost use Rattle.clap.specs.Words.{app_of, new_app, rule_of};
 ghost use Rattle.mvd_input.specs.Words as spec;
 
 use clap::{Arg, ArgAction, Command, value_parser};
@@ -133,7 +133,7 @@ fn shell_command<'a>(alloc: Global) -> Result<Command<'a>, AllocError>
 
 /// Adds an option that is given where no port is.
 fn instead_of_port<'a>(command: Command<'a>, option: Arg<'a>) -> Result<Command<'a>, AllocError>
-    ensures { IfOk result (λ r. (rule_of option.entry).is_simple ≡ true → app_of r ≡ with_rule (app_of command.entry) (spec.tied (spec.spare (rule_of option.entry)))) }
+    ensures { IfOk result (spec.AddsSpare command.entry option.entry) }
 {
     let option = option.required(false).required_unless_present("port")?;
     apart_from(command, option, "port")
@@ -145,7 +145,7 @@ fn apart_from<'a>(
     option: Arg<'a>,
     other: &'a str,
 ) -> Result<Command<'a>, AllocError>
-    ensures { IfOk result (λ r. (rule_of option.entry).is_simple ≡ true → app_of r ≡ with_rule (app_of command.entry) (spec.tied (rule_of option.entry))) }
+    ensures { IfOk result (spec.AddsTied command.entry option.entry) }
 {
     command.arg(option.conflicts_with(other)?)
 }

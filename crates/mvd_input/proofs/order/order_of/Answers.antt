@@ -3,7 +3,7 @@ use Rattle.std.proofs.lemmas.Result.{err_from_is_err_and}
 use Rattle.std.specs.Net.Socket.{socket_port}
 use Rattle.clap.specs.Walk.{texts}
 use Rattle.clap.specs.Words.{found_of, rows_of, app_of, takes}
-use Rattle.mvd_input.specs.Orders.{Gives, IsAddressOf, IsIpOf, IsOrderOf, IsSetupOf}
+use Rattle.mvd_input.specs.Orders.{IsAddressOf, IsIpOf, IsOrderOf, IsSeconds, IsSetupOf}
 use Rattle.mvd_input.proofs.Ordered.{within, without, serve_meets, sync_meets, remote_meets, of_words, reads_words, refused_words, none_asked, met_rows, unmet_rows}
 use Rattle.mvd_input.proofs.order.order_of.Goals as goal
 

@@ -11,9 +11,9 @@ pub returns : goal.returns
 unfolding spec.program
 returns c =
     let base = ap app_of_fields c.arg_required_else_help.ensures ∙ ap (on_top (λ s. record s { arg_required_else_help = true }))
-        (ap app_of_fields c.subcommand_required.ensures ∙ ap (on_top (λ s. record s { subcommand_required = true }))
-        (ap app_of_fields c.version.ensures ∙ ap (on_top (λ s. record s { has_version = true }))
-        (ap app_of_fields c.after_help.ensures ∙ (ap app_of_fields c.about.ensures ∙ c.new.ensures.app)))) in
+    (ap app_of_fields c.subcommand_required.ensures ∙ ap (on_top (λ s. record s { subcommand_required = true }))
+    (ap app_of_fields c.version.ensures ∙ ap (on_top (λ s. record s { has_version = true }))
+    (ap app_of_fields c.after_help.ensures ∙ (ap app_of_fields c.about.ensures ∙ c.new.ensures.app)))) in
     let one = adds_below _ _ _ _ _ c.in_ok-subcommand.ensures base c.named-sim.ensures refl in
     let two = adds_below _ _ _ _ _ c.in_ok-subcommand-2.ensures one c.in_ok-loop_command.ensures refl in
     let three = adds_below _ _ _ _ _ c.in_ok-subcommand-3.ensures two c.in_ok-serve_command.ensures refl in

@@ -32,7 +32,7 @@ fn unread(rt: &impl Eprint, error: io::Error) -> io::Result<ExitCode> {
     if error.kind() != io::ErrorKind::InvalidData {
         return Err(error);
     }
-    eprintln!(rt; "mvd: a word is no UTF-8\nmvd: a file is named in UTF-8, as `--db` and `--defs` say it")?;
+    eprintln!(rt; "mvd: a word is no UTF-8\nmvd: name each file in UTF-8")?;
     Ok(ExitCode::from(2))
 }
 

@@ -1,5 +1,5 @@
 -- A command with one more option, or with one more command below it.
-use Rattle.std.proofs.Common.{◌≡◌, ◌∙◌, ◌∷◌, ◌++◌, ◌&&◌, ◌==◌, [], ℕ, List, ap, ap₂, refl, true, false, not, Bool, rules, is_some, length, arith, suc}
+use Rattle.std.proofs.Common.{◌≡◌, ◌∙◌, ◌∷◌, ◌++◌, ◌&&◌, ◌==◌, [], ℕ, List, ap, ap₂, refl, true, false, not, Bool, is_some, length, arith, suc}
 use Rattle.std.proofs.lemmas.Bool.{and_parts, and_right}
 use Rattle.std.proofs.lemmas.Bool.Decides.{nat_tests}
 use Rattle.std.specs.Borrow.{Bor}
@@ -9,7 +9,7 @@ use Rattle.clap.specs.Simple.{has_plain_fields}
 use Rattle.clap.specs.declared.builder.arg.Arg.{Arg}
 use Rattle.clap.specs.declared.builder.command.Command.{Command}
 use Rattle.clap.specs.declared.builder.command.Command.TheViews.{out-Command}
-use Rattle.mvd_input.specs.Words.{spare, tied}
+use Rattle.mvd_input.specs.Words.{tied}
 
 no : (b : Bool) → not b ≡ true → b ≡ false
 no true e = absurd (cc e)

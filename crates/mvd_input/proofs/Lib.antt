@@ -1,3 +1,4 @@
+mod Asked
 mod Commands
 mod Consumed
 mod Defined

@@ -1,8 +1,8 @@
 -- The words that the program takes: its commands, and of each its options.
-use Rattle.std.specs.Prelude.{ℕ, List, [], ◌∷◌, ◌++◌, ◌≡◌, Option, Some, None, true, false, codes}
+use Rattle.std.specs.Prelude.{List, [], ◌∷◌, ◌++◌, ◌≡◌, Some, true, false, codes}
 use Rattle.clap.specs.Simple.{new_shape}
 use Rattle.clap.specs.Walk.{Text}
-use Rattle.clap.specs.Words.{App, Rule, Shape, app_of, new_rule, rule_of, with_rule}
+use Rattle.clap.specs.Words.{App, Rule, app_of, new_rule, rule_of, with_rule}
 use Rattle.clap.specs.declared.builder.arg.Arg.{Arg}
 use Rattle.clap.specs.declared.builder.command.Command.{Command}
 use Rattle.clap.specs.declared.builder.action.ArgAction.TheVariants.{SetTrue}
@@ -67,7 +67,7 @@ idle seconds = by_default seconds (number_option (codes "idle"))
 abbrev pub verbose : Rule
 verbose = flag (codes "verbose")
 
--- what a command on a database that meets a peer begins with
+-- those with which a command begins on a database that meets a peer
 abbrev pub database : List Rule
 database = needed db ∷ needed site ∷ defs ∷ max_keys ∷ address ∷ []
 
@@ -76,18 +76,6 @@ database = needed db ∷ needed site ∷ defs ∷ max_keys ∷ address ∷ []
 -- a command with its options, and none below it
 abbrev pub leaf : Text → List Rule → App
 leaf name options = record { top = record (new_shape name) { rules = options }; subs = [] }
-
--- options in turn
-abbrev pub with_rules : App → List Rule → App
-with_rules command [] = command
-with_rules command (option ∷ options) = with_rules (with_rule command option) options
-
--- `new` is `old` with one more option, which another one says more about
-abbrev pub AddsTied : Command → Arg → Command → Type 0
-AddsTied old option new = (rule_of option).is_simple ≡ true → app_of new ≡ with_rule (app_of old) (tied (rule_of option))
-
-abbrev pub AddsSpare : Command → Arg → Command → Type 0
-AddsSpare old option new = (rule_of option).is_simple ≡ true → app_of new ≡ with_rule (app_of old) (tied (spare (rule_of option)))
 
 abbrev pub sim_words : App
 sim_words = leaf (codes "sim") []
@@ -118,3 +106,17 @@ program = record {
   };
   subs = sim_words.top ∷ loop_words.top ∷ serve_words.top ∷ shell_words.top ∷ sync_words.top ∷ [];
 }
+
+-- ---- a command as it is made
+
+-- options in turn
+abbrev pub with_rules : App → List Rule → App
+with_rules command [] = command
+with_rules command (option ∷ options) = with_rules (with_rule command option) options
+
+-- `new` is `old` with one more option, which another one says more about
+abbrev pub AddsTied : Command → Arg → Command → Type 0
+AddsTied old option new = (rule_of option).is_simple ≡ true → app_of new ≡ with_rule (app_of old) (tied (rule_of option))
+
+abbrev pub AddsSpare : Command → Arg → Command → Type 0
+AddsSpare old option new = (rule_of option).is_simple ≡ true → app_of new ≡ with_rule (app_of old) (tied (spare (rule_of option)))

@@ -1,10 +1,8 @@
-use Rattle.std.proofs.Common.{◌≡◌, ◌∙◌, inl, inr, ap, refl, rules, codes, true, ℕ, List, Some, None, sym}
+use Rattle.std.proofs.Common.{codes}
 use Rattle.std.proofs.lemmas.Result.{err_from_is_err_and}
-use Rattle.std.specs.Net.Socket.{socket_port}
-use Rattle.clap.specs.Walk.{texts}
-use Rattle.clap.specs.Words.{found_of, rows_of, app_of, takes}
-use Rattle.mvd_input.specs.Orders.{IsAddressOf, IsIpOf, IsOrderOf, IsSeconds, IsSetupOf}
-use Rattle.mvd_input.proofs.Ordered.{within, without, serve_meets, sync_meets, remote_meets, of_words, reads_words, refused_words, none_asked}
+use Rattle.clap.specs.Words.{found_of, rows_of}
+use Rattle.mvd_input.specs.Orders.{IsAddressOf, IsOrderOf, IsSeconds}
+use Rattle.mvd_input.proofs.Ordered.{within, remote_meets}
 use Rattle.mvd_input.proofs.order.shell_of.Goals as goal
 
 pub returns-in_err-idle_in-in-None : goal.returns-in_err-idle_in-in-None

@@ -1,8 +1,6 @@
-use Rattle.std.proofs.Common.{◌≡◌, ◌∙◌, ap, refl, rules, codes}
+use Rattle.std.proofs.Common.{refl}
 use Rattle.std.proofs.lemmas.Result.{IfOk-weaker}
-use Rattle.clap.specs.Words.{app_of, new_app, with_rule}
-use Rattle.mvd_input.specs.Words as spec
-use Rattle.mvd_input.proofs.Commands.{adds, adds_below, is_tied}
+use Rattle.mvd_input.proofs.Commands.{adds}
 use Rattle.mvd_input.proofs.words.loop_command.Goals as goal
 
 pub returns : goal.returns

@@ -1,10 +1,6 @@
-use Rattle.std.proofs.Common.{◌≡◌, ◌∙◌, ap, ap₂, refl, rules, codes, true}
+use Rattle.std.proofs.Common.{refl}
 use Rattle.std.proofs.lemmas.Result.{IfOk-weaker}
-use Rattle.clap.specs.Words.{App, Rule, app_of, new_app, rule_of, with_rule}
-use Rattle.clap.specs.Walk.{is_simple_arg}
-use Rattle.clap.specs.Simple.{app_of_fields, on_top}
-use Rattle.mvd_input.specs.Words as spec
-use Rattle.mvd_input.proofs.Commands.{adds, adds_below, adds_changed, is_tied, unless}
+use Rattle.mvd_input.proofs.Commands.{adds}
 use Rattle.mvd_input.proofs.words.with_database.Goals as goal
 
 pub returns : goal.returns

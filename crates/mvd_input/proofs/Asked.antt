@@ -1,5 +1,5 @@
 -- What one line asks for, computed from its words.
-use Rattle.std.proofs.Common.{◌≡◌, inl, inr, sym, refl, ℕ, List, [], ◌∷◌, None, true, rules, arith, codes}
+use Rattle.std.proofs.Common.{◌≡◌, inl, inr, sym, refl, List, [], ◌∷◌, None, true, rules, arith, codes}
 use Rattle.std.proofs.lemmas.Fmt.{decimal_digit}
 use Rattle.clap.proofs.OnLiterals.{clap_on_literals}
 use Rattle.clap.specs.Walk.{Text}

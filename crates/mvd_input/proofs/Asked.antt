@@ -17,7 +17,7 @@ loop_line = codes "mvd" ∷ codes "loop" ∷ codes "--site" ∷ codes "7" ∷ []
 abbrev loop_order : Order
 loop_order = Loop (record { site = 7; defs = None; max_keys = 1000000 })
 
-loop_taken : takes program loop_line ≡ true
+pub loop_taken : takes program loop_line ≡ true
 unfolding clap_on_literals program
 loop_taken = refl
 

@@ -189,4 +189,6 @@ refused "a script that cannot be read" 1 "fault 34 ReadFailed" "standard input c
 refused "a line of a script" 3 "line 1: not a command" \
   "standard input: docs/FORMATS.md lists the lines of a script, of which \`sites N\` is the first" b.db sim <bad
 refused "a bad number" 2 "bad number" "\`mvd help COMMAND\` tells the range of each" b.db serve --db b.db --site 0 --port "$port"
+refused "a word that is no text" 2 "a word is no UTF-8" "name each file in UTF-8" \
+  b.db shell --db $'\xff.db' --site 2
 echo "served: all as wanted"

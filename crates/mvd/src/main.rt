@@ -8,16 +8,32 @@ use std::process::ExitCode;
 use std::{env, io};
 
 fn main(rt: HostRuntime) -> io::Result<ExitCode> {
-    let words = words(&rt)?;
-    let texts = texts(&rt, &words)?;
+    match words(&rt) {
+        Ok(words) => obey(&rt, &words),
+        Err(error) => unread(&rt, error),
+    }
+}
+
+/// Does what the words ask for, and gives the status.
+fn obey(rt: &HostRuntime, words: &[String]) -> io::Result<ExitCode> {
+    let texts = texts(rt, words)?;
     match order_of(rt.alloc(), &texts) {
         // A torn write is taken to leave each byte old or new.
-        Ok(order) => match run(&rt, order, Unknown) {
+        Ok(order) => match run(rt, order, Unknown) {
             Ok(()) => Ok(ExitCode::SUCCESS),
-            Err(stop) => tell_stop(&rt, &stop),
+            Err(stop) => tell_stop(rt, &stop),
         },
-        Err(fault) => refused(&rt, &fault),
+        Err(fault) => refused(rt, &fault),
     }
+}
+
+/// Tells on standard error that a word is no text, and gives its status.
+fn unread(rt: &impl Eprint, error: io::Error) -> io::Result<ExitCode> {
+    if error.kind() != io::ErrorKind::InvalidData {
+        return Err(error);
+    }
+    eprintln!(rt; "mvd: a word is no UTF-8\nmvd: name each file in UTF-8")?;
+    Ok(ExitCode::from(2))
 }
 
 /// The words of the command line, of which the first is the program's own name.

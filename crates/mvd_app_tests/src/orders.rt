@@ -43,6 +43,18 @@ fn is_no_order(alloc: Global, line: &str) -> Result<bool, Fail> {
     Ok(matches!(order_of(alloc, &words), Err(OrderFault::Words(_))))
 }
 
+/// Whether the refusal of a line says this.
+fn says(alloc: Global, line: &str, part: &str) -> Result<bool, Fail> {
+    let words = words_of(alloc, line)?;
+    match order_of(alloc, &words) {
+        Err(OrderFault::Words(error)) => {
+            let text = format!(in alloc; "{error}")?;
+            Ok(text.as_str().contains(part))
+        }
+        _ => Ok(false),
+    }
+}
+
 #[test]
 fn an_order_has_its_options(rt: HostRuntime) -> Result<(), Fail> {
     let alloc = rt.alloc();
@@ -133,5 +145,19 @@ fn a_shell_is_on_a_database_or_a_server(rt: HostRuntime) -> Result<(), Fail> {
     assert!(rt; is_no_order(alloc, "mvd shell")?);
     assert!(rt; is_no_order(alloc, "mvd shell --db f")?);
     assert!(rt; is_no_order(alloc, "mvd shell --db f --site 1 --port 7")?);
+    Ok(())
+}
+
+#[test]
+fn a_refusal_shows_the_usage_of_its_command(rt: HostRuntime) -> Result<(), Fail> {
+    let alloc = rt.alloc();
+    let address = "mvd serve --db f --site 1 --port 1 --address here";
+    assert!(rt; says(alloc, address, "'--address <IP>': it is no IP address")?);
+    assert!(rt; says(alloc, address, "Usage: mvd serve ")?);
+    assert!(rt; says(alloc, "mvd loop --site +1", "Usage: mvd loop ")?);
+    assert!(rt; says(alloc, "mvd sync --db f --site 01 --port 1", "Usage: mvd sync ")?);
+    let shell = "Usage: mvd shell --db <FILE> --site <N> [--defs <FILE>] [--max-keys <N>]\n       mvd shell --port <P>";
+    assert!(rt; says(alloc, "mvd shell", shell)?);
+    assert!(rt; says(alloc, "mvd shell --port 7 --address here", shell)?);
     Ok(())
 }

@@ -1,7 +1,10 @@
+mod Asked
+mod Commands
 mod Consumed
 mod Defined
 pub mod Lines
 mod Numbers
+mod Ordered
 mod Parting
 mod Reading
 mod Refused

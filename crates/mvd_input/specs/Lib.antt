@@ -3,3 +3,4 @@ pub mod Ends
 pub mod Hexadecimal
 pub mod Lines
 pub mod Orders
+pub mod Words

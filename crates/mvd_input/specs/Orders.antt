@@ -1,17 +1,26 @@
 -- What a command line may ask for.
-use Rattle.std.specs.Prelude.{ℕ, Option, Some, None, ◌≡◌, ◌<◌, ◌≤◌, ◌^◌, ◌⊎◌, ◌↔◌, ⊤, List, Result, Ok, Err, IsTrue, codes, option_map}
+use Rattle.std.specs.Prelude.{ℕ, Option, Some, None, ◌≡◌, ◌<◌, ◌≤◌, ◌^◌, ◌⊎◌, ◌↔◌, ◌≢◌, ⊤, true, List, IsSomeAnd, Result, Ok, Err, IsTrue, codes, option_map}
 use Rattle.std.specs.Net.Grammar.{IsIpText}
 use Rattle.std.specs.Net.Socket.{socket_ip, socket_port}
+use Rattle.std.specs.Borrow.{Bor}
 use Rattle.std.specs.Option.{ForSome}
+use Rattle.std.specs.declared.net.ip_addr.IpAddr.{IpAddr}
 use Rattle.std.specs.declared.net.socket_addr.SocketAddr.{SocketAddr}
-use Rattle.clap.specs.Words.{Row, first_of}
+use Rattle.clap.specs.Walk.{Text}
+use Rattle.clap.specs.Words.{Row, first_of, found_of, kind_of, rows_of, subcommand_of, takes}
+use Rattle.clap.specs.declared.error.Error.{Error}
+use Rattle.clap.specs.declared.parser.matches.ArgMatches.{ArgMatches}
+use Rattle.clap.specs.declared.error.kind.ErrorKind.TheVariants.{OutOfMemory}
 use Rattle.mvd_dots.specs.declared.refusals.Refusal.TheVariants.{Memory}
 use Rattle.mvd_input.specs.Lines.{IsNoNumber, IsNumber}
+use Rattle.mvd_input.specs.Words.{program}
 use Rattle.mvd_input.specs.declared.order.Order.{Order}
 use Rattle.mvd_input.specs.declared.order.Order.TheVariants.{Sim, Loop, Serve, Shell, RemoteShell, Sync}
 use Rattle.mvd_input.specs.declared.order.OrderFault.{OrderFault}
 use Rattle.mvd_input.specs.declared.order.OrderFault.TheVariants.{Words, Range, Stopped}
 use Rattle.mvd_input.specs.declared.order.Setup.{Setup}
+use Rattle.mvd_input.specs.declared.order.Unread.{Unread}
+use Rattle.mvd_input.specs.declared.order.Unread.TheVariants as unread
 
 -- a site is 1..=2^32 - 1, and it holds 1..=1,000,000 keys at the most
 abbrev pub IsSetUp : Setup → Type 0
@@ -39,6 +48,10 @@ IsInRange (Sync _ setup address idle _) = IsSetUp setup × HasPort address × Is
 
 -- ---- the order that the words are
 
+-- the options of a command, with their values
+abbrev pub options_of : ArgMatches → List Row
+options_of matches = rows_of (found_of matches)
+
 -- the option's value, which is its default where the words have none, spells this number
 abbrev pub Gives : List Row → List ℕ → ℕ → Type 0
 Gives rows option number = (text : List ℕ) × (first_of option rows ≡ Some text) × IsNumber number text
@@ -47,35 +60,28 @@ Gives rows option number = (text : List ℕ) × (first_of option rows ≡ Some t
 abbrev pub IsOutOfRange : List Row → List ℕ → ℕ → Type 0
 IsOutOfRange rows option most = (number : ℕ) × Gives rows option number × ((number ≡ 0) ⊎ (most < number))
 
-abbrev pub IsCount : List Row → List ℕ → Option ℕ → Type 0
-IsCount rows option None = first_of option rows ≡ None
-IsCount rows option (Some number) = Gives rows option number
-
 -- the number of an option, or why there is none
-abbrev pub ReadsNumber : List Row → List ℕ → ℕ → Result (Option ℕ) OrderFault → Type 0
+abbrev pub ReadsNumber : List Row → List ℕ → ℕ → Result (Option ℕ) Unread → Type 0
 ReadsNumber rows option most (Ok None) = first_of option rows ≡ None
 ReadsNumber rows option most (Ok (Some number)) = Gives rows option number × (1 ≤ number) × (number ≤ most)
-ReadsNumber rows option most (Err Range) = IsOutOfRange rows option most
-ReadsNumber rows option most (Err (Words _)) = (text : List ℕ) × (first_of option rows ≡ Some text) × IsNoNumber text
-ReadsNumber rows option most (Err (Stopped refusal)) = refusal ≡ Memory
+ReadsNumber rows option most (Err unread.Range) = IsOutOfRange rows option most
+ReadsNumber rows option most (Err (unread.Text _)) = (text : List ℕ) × (first_of option rows ≡ Some text) × IsNoNumber text
 
 -- the same of a number that the command cannot do without
-abbrev pub ReadsGiven : List Row → List ℕ → ℕ → Result ℕ OrderFault → Type 0
+abbrev pub ReadsGiven : List Row → List ℕ → ℕ → Result ℕ Unread → Type 0
 ReadsGiven rows option most (Ok number) = Gives rows option number × (1 ≤ number) × (number ≤ most)
-ReadsGiven rows option most (Err Range) = IsOutOfRange rows option most
-ReadsGiven rows option most (Err (Words _)) = ⊤
-ReadsGiven rows option most (Err (Stopped refusal)) = refusal ≡ Memory
+ReadsGiven rows option most (Err unread.Range) = IsOutOfRange rows option most
+ReadsGiven rows option most (Err (unread.Text _)) = (number : ℕ) → Gives rows option number → ⊥
 
 -- some number of the command is out of its range
 abbrev pub HasBadNumber : List Row → Type 0
 HasBadNumber rows = IsOutOfRange rows (codes "site") 4294967295 ⊎ (IsOutOfRange rows (codes "max-keys") 1000000
     ⊎ (IsOutOfRange rows (codes "port") 65535 ⊎ (IsOutOfRange rows (codes "conns") 1000 ⊎ IsOutOfRange rows (codes "idle") 86400)))
 
--- `Range` tells of a number out of its range, and what is stopped is so by want of memory
-abbrev pub IsOrderFault : List Row → OrderFault → Type 0
-IsOrderFault rows Range = HasBadNumber rows
-IsOrderFault rows (Words _) = ⊤
-IsOrderFault rows (Stopped refusal) = refusal ≡ Memory
+-- why the values of options mean nothing of a kind: a number is out of its range, or nothing of the kind has these values
+abbrev pub IsUnread : {X : Type 0} → List Row → (List Row → X → Type 0) → Unread → Type 0
+IsUnread rows Means unread.Range = HasBadNumber rows
+IsUnread {X} rows Means (unread.Text _) = (x : X) → Means rows x → ⊥
 
 -- a site is set up with the values of its options
 pub record IsSetupOf (rows : List Row) (setup : Setup) : Type 0 where
@@ -83,26 +89,65 @@ pub record IsSetupOf (rows : List Row) (setup : Setup) : Type 0 where
   pub defs : first_of (codes "defs") rows ≡ option_map (λ file. file.now) setup.defs
   pub max_keys : Gives rows (codes "max-keys") setup.max_keys
 
--- so is an address
+-- the file of a database
+abbrev pub IsDbOf : List Row → Bor (List ℕ) → Type 0
+IsDbOf rows db = first_of (codes "db") rows ≡ Some db.now
+
+-- the IP address that is spelled
+abbrev pub IsIpOf : List Row → IpAddr → Type 0
+IsIpOf rows ip = (text : List ℕ) × (first_of (codes "address") rows ≡ Some text) × IsIpText text ip
+
+-- an address has both
 pub record IsAddressOf (rows : List Row) (address : SocketAddr) : Type 0 where
   pub port : Gives rows (codes "port") (socket_port address)
-  pub text : List ℕ
-  pub given : first_of (codes "address") rows ≡ Some text
-  pub ip : IsIpText text (socket_ip address)
+  pub ip : IsIpOf rows (socket_ip address)
+
+-- how many connections are served, where it is told, and how many seconds no byte need move
+abbrev pub IsConns : List Row → Option ℕ → Type 0
+IsConns rows None = first_of (codes "conns") rows ≡ None
+IsConns rows (Some number) = Gives rows (codes "conns") number
+
+abbrev pub IsSeconds : List Row → ℕ → Type 0
+IsSeconds rows seconds = Gives rows (codes "idle") seconds
 
 -- the order that a command with the values of its options is
 abbrev pub IsOrderOf : List ℕ → List Row → Order → Type 0
 IsOrderOf name rows Sim = name ≡ codes "sim"
 IsOrderOf name rows (Loop setup) = (name ≡ codes "loop") × IsSetupOf rows setup
-IsOrderOf name rows (Serve db setup address conns idle) = (name ≡ codes "serve") × (first_of (codes "db") rows ≡ Some db.now)
-    × IsSetupOf rows setup × IsAddressOf rows address × IsCount rows (codes "conns") conns × Gives rows (codes "idle") idle
-IsOrderOf name rows (Shell db setup) = (name ≡ codes "shell") × (first_of (codes "db") rows ≡ Some db.now) × IsSetupOf rows setup
+IsOrderOf name rows (Serve db setup address conns idle) = (name ≡ codes "serve") × IsDbOf rows db
+    × IsSetupOf rows setup × IsAddressOf rows address × IsConns rows conns × IsSeconds rows idle
+IsOrderOf name rows (Shell db setup) = (name ≡ codes "shell") × IsDbOf rows db × IsSetupOf rows setup
 IsOrderOf name rows (RemoteShell address idle) = (name ≡ codes "shell") × (first_of (codes "db") rows ≡ None) × IsAddressOf rows address
-    × Gives rows (codes "idle") idle
-IsOrderOf name rows (Sync db setup address idle verbose) = (name ≡ codes "sync") × (first_of (codes "db") rows ≡ Some db.now)
-    × IsSetupOf rows setup × IsAddressOf rows address × Gives rows (codes "idle") idle × (IsTrue verbose ↔ (first_of (codes "verbose") rows ≡ Some (codes "true")))
+    × IsSeconds rows idle
+IsOrderOf name rows (Sync db setup address idle verbose) = (name ≡ codes "sync") × IsDbOf rows db
+    × IsSetupOf rows setup × IsAddressOf rows address × IsSeconds rows idle × (IsTrue verbose ↔ (first_of (codes "verbose") rows ≡ Some (codes "true")))
 
 -- the order in its ranges, or why there is none
+abbrev pub ReadsOptions : List ℕ → List Row → Result Order Unread → Type 0
+ReadsOptions name rows (Ok order) = IsOrderOf name rows order × IsInRange order
+ReadsOptions name rows (Err why) = IsUnread rows (IsOrderOf name) why
+
+-- the same where memory may be refused
 abbrev pub ReadsOrder : List ℕ → List Row → Result Order OrderFault → Type 0
 ReadsOrder name rows (Ok order) = IsOrderOf name rows order × IsInRange order
-ReadsOrder name rows (Err fault) = IsOrderFault rows fault
+ReadsOrder name rows (Err Range) = HasBadNumber rows
+ReadsOrder name rows (Err (Words _)) = (order : Order) → IsOrderOf name rows order → ⊥
+ReadsOrder name rows (Err (Stopped refusal)) = refusal ≡ Memory
+
+-- the words name the command of this order, and its options have the values of the order
+abbrev pub AskFor : List Text → Order → Type 0
+AskFor words order = IsSomeAnd (subcommand_of program words) (λ command. IsOrderOf command.0 command.1 order)
+
+-- the order that the words ask for, in its ranges, or why there is none. `Words` comes of no words that `clap` takes and that ask for
+-- an order
+abbrev pub ReadsWords : List Text → Result Order OrderFault → Type 0
+ReadsWords words (Ok order) = AskFor words order × IsInRange order
+ReadsWords words (Err Range) = IsSomeAnd (subcommand_of program words) (λ command. HasBadNumber command.1)
+ReadsWords words (Err (Words _)) = takes program words ≡ true → (order : Order) → AskFor words order → ⊥
+ReadsWords words (Err (Stopped refusal)) = refusal ≡ Memory
+
+-- what an error of `clap` becomes
+abbrev pub IsFaultBy : Error → OrderFault → Type 0
+IsFaultBy error Range = ⊥
+IsFaultBy error (Words told) = (told ≡ error) × (kind_of error ≢ OutOfMemory)
+IsFaultBy error (Stopped refusal) = (refusal ≡ Memory) × (kind_of error ≡ OutOfMemory)

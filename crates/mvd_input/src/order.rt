@@ -1,13 +1,13 @@
 //! The command line.
 ghost use Rattle.std.specs.Prelude.{◌≡◌, ◌<◌, ◌≤◌, ◌^◌, ℕ, List, IfErr, IfOk, IfSome, Some, codes, option_map};
-ghost use Rattle.std.specs.Net.Grammar.{IsIpText};
-ghost use Rattle.clap.specs.Words.{first_of, found_of, rows_of};
-ghost use Rattle.mvd_input.specs.Orders.{Gives, HasPort, IsAddressOf, IsCount, IsIdle, IsInRange, IsOrderFault, IsSetUp, IsSetupOf, ReadsGiven, ReadsNumber, ReadsOrder};
+ghost use Rattle.clap.specs.Walk.{texts};
+ghost use Rattle.clap.specs.Words.{first_of};
+ghost use Rattle.mvd_input.specs.Orders.{HasPort, IsAddressOf, IsConns, IsDbOf, IsIdle, IsInRange, IsIpOf, IsSeconds, IsSetUp, IsSetupOf, IsUnread, ReadsGiven, ReadsNumber, ReadsOptions, ReadsOrder, ReadsWords, options_of};
 
 use crate::command::number_of;
-use crate::words::command;
+use crate::words::{command, command_of};
 use clap::error::ErrorKind;
-use clap::{ArgMatches, Error};
+use clap::{ArgMatches, Command, Error};
 use mvd_dots::Refusal;
 use std::alloc::{AllocError, Global};
 use std::net::{IpAddr, SocketAddr};
@@ -78,6 +78,10 @@ pub enum OrderFault {
 }
 
 impl From<Error> for OrderFault {
+    ghost use Rattle.mvd_input.specs.Orders.{IsFaultBy};
+
+    ghost from_gives = { IsFaultBy };
+
     fn from(error: Error) -> OrderFault {
         match error.kind() {
             ErrorKind::OutOfMemory => OrderFault::Stopped(Refusal::Memory),
@@ -98,14 +102,24 @@ impl From<AllocError> for OrderFault {
     }
 }
 
+/// Why the options of a command mean no order.
+#[derive(Debug, Clone, Copy)]
+enum Unread {
+    /// A number is out of its range.
+    Range,
+    /// This is amiss.
+    Text(&'static str),
+}
+
 /// What the words ask for, of which the first is the program's own name.
 pub fn order_of<'a>(alloc: Global, words: &'a [&'a str]) -> Result<Order<'a>, OrderFault>
-    ensures { IfOk result IsInRange }
+    ensures words { ReadsWords (texts words.now) result }
+    ensures range { IfOk result IsInRange }
 {
     let matches = command(alloc)?.try_get_matches_from(words)?;
     match matches.subcommand() {
         Some((name, matches)) => order_in(alloc, name, matches),
-        None => Err(refused(alloc, "a command is missing")?),
+        None => Err(refused(alloc, "", "a command is missing")?),
     }
 }
 
@@ -115,173 +129,176 @@ fn order_in<'a>(
     name: &str,
     matches: &ArgMatches<'a>,
 ) -> Result<Order<'a>, OrderFault>
-    ensures { ReadsOrder name.now (rows_of (found_of matches.now)) result }
+    ensures { ReadsOrder name.now (options_of matches.now) result }
 {
-    match name {
-        "sim" => Ok(Order::Sim),
-        "loop" => Ok(Order::Loop(setup_in(alloc, matches)?)),
-        "serve" => serve_of(alloc, matches),
-        "shell" => shell_of(alloc, matches),
-        "sync" => sync_of(alloc, matches),
-        _ => Err(refused(alloc, "there is no such command")?),
+    match read_in(name, matches) {
+        Ok(order) => Ok(order),
+        Err(Unread::Range) => Err(OrderFault::Range),
+        Err(Unread::Text(message)) => Err(refused(alloc, name, message)?),
     }
 }
 
-fn serve_of<'a>(alloc: Global, matches: &ArgMatches<'a>) -> Result<Order<'a>, OrderFault>
-    ensures { ReadsOrder (codes "serve") (rows_of (found_of matches.now)) result }
+fn read_in<'a>(name: &str, matches: &ArgMatches<'a>) -> Result<Order<'a>, Unread>
+    ensures { ReadsOptions name.now (options_of matches.now) result }
+{
+    match name {
+        "sim" => Ok(Order::Sim),
+        "loop" => Ok(Order::Loop(setup_in(matches)?)),
+        "serve" => serve_of(matches),
+        "shell" => shell_of(matches),
+        "sync" => sync_of(matches),
+        _ => Err(Unread::Text("there is no such command")),
+    }
+}
+
+fn serve_of<'a>(matches: &ArgMatches<'a>) -> Result<Order<'a>, Unread>
+    ensures { ReadsOptions (codes "serve") (options_of matches.now) result }
 {
     Ok(Order::Serve {
-        db: db_in(alloc, matches)?,
-        setup: setup_in(alloc, matches)?,
-        conns: conns_in(alloc, matches)?,
-        idle: idle_in(alloc, matches)?,
-        address: address_in(alloc, matches)?,
+        db: db_in(matches)?,
+        setup: setup_in(matches)?,
+        conns: conns_in(matches)?,
+        idle: idle_in(matches)?,
+        address: address_in(matches)?,
     })
 }
 
-fn sync_of<'a>(alloc: Global, matches: &ArgMatches<'a>) -> Result<Order<'a>, OrderFault>
-    ensures { ReadsOrder (codes "sync") (rows_of (found_of matches.now)) result }
+fn sync_of<'a>(matches: &ArgMatches<'a>) -> Result<Order<'a>, Unread>
+    ensures { ReadsOptions (codes "sync") (options_of matches.now) result }
 {
     Ok(Order::Sync {
-        db: db_in(alloc, matches)?,
-        setup: setup_in(alloc, matches)?,
-        address: address_in(alloc, matches)?,
-        idle: idle_in(alloc, matches)?,
+        db: db_in(matches)?,
+        setup: setup_in(matches)?,
+        address: address_in(matches)?,
+        idle: idle_in(matches)?,
         verbose: text_in(matches, "verbose") == Some("true"),
     })
 }
 
-fn shell_of<'a>(alloc: Global, matches: &ArgMatches<'a>) -> Result<Order<'a>, OrderFault>
-    ensures { ReadsOrder (codes "shell") (rows_of (found_of matches.now)) result }
+fn shell_of<'a>(matches: &ArgMatches<'a>) -> Result<Order<'a>, Unread>
+    ensures { ReadsOptions (codes "shell") (options_of matches.now) result }
 {
     match text_in(matches, "db") {
         Some(db) => Ok(Order::Shell {
             db,
-            setup: setup_in(alloc, matches)?,
+            setup: setup_in(matches)?,
         }),
         None => Ok(Order::RemoteShell {
-            address: address_in(alloc, matches)?,
-            idle: idle_in(alloc, matches)?,
+            address: address_in(matches)?,
+            idle: idle_in(matches)?,
         }),
     }
 }
 
 /// What the options of a site say.
-fn setup_in<'a>(alloc: Global, matches: &ArgMatches<'a>) -> Result<Setup<'a>, OrderFault>
+fn setup_in<'a>(matches: &ArgMatches<'a>) -> Result<Setup<'a>, Unread>
     ensures range { IfOk result IsSetUp }
-    ensures setup { IfOk result (IsSetupOf (rows_of (found_of matches.now))) }
-    ensures fault { IfErr result (IsOrderFault (rows_of (found_of matches.now))) }
+    ensures setup { IfOk result (IsSetupOf (options_of matches.now)) }
+    ensures fault { IfErr result (IsUnread (options_of matches.now) IsSetupOf) }
 {
     Ok(Setup {
-        site: given_in(alloc, matches, "site", 4_294_967_295)? as u32,
+        site: given_in(matches, "site", 4_294_967_295)? as u32,
         defs: text_in(matches, "defs"),
-        max_keys: given_in(alloc, matches, "max-keys", u64::from(MOST_KEYS))? as u32,
+        max_keys: given_in(matches, "max-keys", u64::from(MOST_KEYS))? as u32,
     })
 }
 
 /// The value of an option, as it is written, or its default.
 fn text_in<'a>(matches: &ArgMatches<'a>, option: &str) -> Option<&'a str>
-    ensures { first_of option.now (rows_of (found_of matches.now)) ≡ option_map (λ text. text.now) result }
+    ensures { first_of option.now (options_of matches.now) ≡ option_map (λ text. text.now) result }
 {
     matches.get_str(option)
 }
 
 /// The file of a database.
-fn db_in<'a>(alloc: Global, matches: &ArgMatches<'a>) -> Result<&'a str, OrderFault>
-    ensures found { IfOk result (λ db. first_of (codes "db") (rows_of (found_of matches.now)) ≡ Some db.now) }
-    ensures fault { IfErr result (IsOrderFault (rows_of (found_of matches.now))) }
+fn db_in<'a>(matches: &ArgMatches<'a>) -> Result<&'a str, Unread>
+    ensures found { IfOk result (IsDbOf (options_of matches.now)) }
+    ensures fault { IfErr result (IsUnread (options_of matches.now) IsDbOf) }
 {
     match text_in(matches, "db") {
         Some(db) => Ok(db),
-        None => Err(refused(alloc, "the option '--db <FILE>' is missing")?),
+        None => Err(Unread::Text("the option '--db <FILE>' is missing")),
     }
 }
 
 /// The number of an option, where it is given: `Range` where it is 0 or too great.
-fn number_in(
-    alloc: Global,
-    matches: &ArgMatches<'_>,
-    option: &str,
-    most: u64,
-) -> Result<Option<u64>, OrderFault>
-    ensures { ReadsNumber (rows_of (found_of matches.now)) option.now most result }
+fn number_in(matches: &ArgMatches<'_>, option: &str, most: u64) -> Result<Option<u64>, Unread>
+    ensures { ReadsNumber (options_of matches.now) option.now most result }
 {
     let Some(text) = text_in(matches, option) else {
         return Ok(None);
     };
     match number_of(text) {
-        Some(number) if number == 0 || number > most => Err(OrderFault::Range),
+        Some(number) if number == 0 || number > most => Err(Unread::Range),
         Some(number) => Ok(Some(number)),
-        None => Err(refused(alloc, "a number has a sign, or a zero that leads")?),
+        None => Err(Unread::Text("a number has a sign, or a zero that leads")),
     }
 }
 
 /// The number of an option that is given: `Range` where it is 0 or too great.
-fn given_in(
-    alloc: Global,
-    matches: &ArgMatches<'_>,
-    option: &str,
-    most: u64,
-) -> Result<u64, OrderFault>
-    ensures { ReadsGiven (rows_of (found_of matches.now)) option.now most result }
+fn given_in(matches: &ArgMatches<'_>, option: &str, most: u64) -> Result<u64, Unread>
+    ensures { ReadsGiven (options_of matches.now) option.now most result }
 {
-    match number_in(alloc, matches, option, most)? {
+    match number_in(matches, option, most)? {
         Some(number) => Ok(number),
-        None => Err(refused(alloc, "an option is missing")?),
+        None => Err(Unread::Text("an option is missing")),
     }
 }
 
-fn conns_in(alloc: Global, matches: &ArgMatches<'_>) -> Result<Option<u32>, OrderFault>
+fn conns_in(matches: &ArgMatches<'_>) -> Result<Option<u32>, Unread>
     ensures range { IfOk result (λ found. IfSome found (λ n. (1 ≤ n) × (n ≤ 1000))) }
-    ensures count { IfOk result (IsCount (rows_of (found_of matches.now)) (codes "conns")) }
-    ensures fault { IfErr result (IsOrderFault (rows_of (found_of matches.now))) }
+    ensures count { IfOk result (IsConns (options_of matches.now)) }
+    ensures fault { IfErr result (IsUnread (options_of matches.now) IsConns) }
 {
-    match number_in(alloc, matches, "conns", MOST_CONNECTIONS)? {
+    match number_in(matches, "conns", MOST_CONNECTIONS)? {
         Some(number) => Ok(Some(number as u32)),
         None => Ok(None),
     }
 }
 
 /// The seconds for which no byte need move.
-fn idle_in(alloc: Global, matches: &ArgMatches<'_>) -> Result<u32, OrderFault>
+fn idle_in(matches: &ArgMatches<'_>) -> Result<u32, Unread>
     ensures range { IfOk result IsIdle }
-    ensures idle { IfOk result (Gives (rows_of (found_of matches.now)) (codes "idle")) }
-    ensures fault { IfErr result (IsOrderFault (rows_of (found_of matches.now))) }
+    ensures idle { IfOk result (IsSeconds (options_of matches.now)) }
+    ensures fault { IfErr result (IsUnread (options_of matches.now) IsSeconds) }
 {
-    Ok(given_in(alloc, matches, "idle", MOST_IDLE)? as u32)
+    Ok(given_in(matches, "idle", MOST_IDLE)? as u32)
 }
 
 /// The address of a server, with its port.
-fn address_in(alloc: Global, matches: &ArgMatches<'_>) -> Result<SocketAddr, OrderFault>
+fn address_in(matches: &ArgMatches<'_>) -> Result<SocketAddr, Unread>
     ensures range { IfOk result HasPort }
-    ensures address { IfOk result (IsAddressOf (rows_of (found_of matches.now))) }
-    ensures fault { IfErr result (IsOrderFault (rows_of (found_of matches.now))) }
+    ensures address { IfOk result (IsAddressOf (options_of matches.now)) }
+    ensures fault { IfErr result (IsUnread (options_of matches.now) IsAddressOf) }
 {
-    let port = given_in(alloc, matches, "port", 65_535)? as u16;
-    Ok(SocketAddr::new(ip_in(alloc, matches)?, port))
+    let port = given_in(matches, "port", 65_535)? as u16;
+    Ok(SocketAddr::new(ip_in(matches)?, port))
 }
 
 /// The IP address of a server. Its text is read here, since `clap` reads numbers alone.
-fn ip_in(alloc: Global, matches: &ArgMatches<'_>) -> Result<IpAddr, OrderFault>
-    ensures found { IfOk result (λ ip. (text : List ℕ) × (first_of (codes "address") (rows_of (found_of matches.now)) ≡ Some text) × IsIpText text ip) }
-    ensures fault { IfErr result (IsOrderFault (rows_of (found_of matches.now))) }
+fn ip_in(matches: &ArgMatches<'_>) -> Result<IpAddr, Unread>
+    ensures found { IfOk result (IsIpOf (options_of matches.now)) }
+    ensures fault { IfErr result (IsUnread (options_of matches.now) IsIpOf) }
 {
     let Some(text) = text_in(matches, "address") else {
-        return Err(refused(alloc, "an option is missing")?);
+        return Err(Unread::Text("an option is missing"));
     };
     match text.parse::<IpAddr>() {
         Ok(address) => Ok(address),
-        Err(_) => Err(refused(
-            alloc,
-            "invalid value for '--address <IP>': it is no IP address",
-        )?),
+        Err(_) => Err(Unread::Text("invalid value for '--address <IP>': it is no IP address")),
     }
 }
 
-/// What is told of words that are none of the program's.
-fn refused(alloc: Global, message: &str) -> Result<OrderFault, AllocError>
+/// What is told of words that are none of the program's, with the usage of the command of a name.
+fn refused(alloc: Global, name: &str, message: &str) -> Result<OrderFault, AllocError>
     ensures { IfOk result (λ fault. (error : Error) × (fault ≡ OrderFault.Words error)) }
 {
-    let error = command(alloc)?.error(ErrorKind::ValueValidation, message)?;
+    let error = command_in(alloc, name)?.error(ErrorKind::ValueValidation, message)?;
     Ok(OrderFault::Words(error))
+}
+
+/// The command of a name, which its usage calls by the program's name too.
+fn command_in<'a>(alloc: Global, name: &str) -> Result<Command<'a>, AllocError> {
+    let usage = format!(in alloc; "mvd {name}")?;
+    command_of(alloc, name)?.bin_name(usage.trim_end())
 }

@@ -1,4 +1,8 @@
 //! The words that a command line may hold, and the help that it gives.
+ghost use Rattle.std.specs.Prelude.{◌≡◌, IfOk};
+ghost use Rattle.clap.specs.Words.{app_of, new_app, rule_of};
+ghost use Rattle.mvd_input.specs.Words as spec;
+
 use clap::{Arg, ArgAction, Command, value_parser};
 use std::alloc::{AllocError, Global};
 
@@ -33,12 +37,18 @@ const IDLE: &str = "A server from which no byte comes for so many seconds is giv
 const SHELL: &str =
     "Answers the lines of standard input, each at once, on a database or through a server. The line `help` lists what may be asked.";
 
+const SHELL_USAGE: &str = "\
+mvd shell --db <FILE> --site <N> [--defs <FILE>] [--max-keys <N>]
+       mvd shell --port <P> [--address <IP>] [--idle <S>]";
+
 const SYNC: &str =
     "Runs a session of a database with a server, after which both hold all that one of them held. It prints how \
                     many keys differed, and the digest of all that the database holds then.";
 
 /// The program's command, with one command below it for each order.
-pub fn command<'a>(alloc: Global) -> Result<Command<'a>, AllocError> {
+pub fn command<'a>(alloc: Global) -> Result<Command<'a>, AllocError>
+    ensures { IfOk result (λ command. app_of command ≡ spec.program) }
+{
     let sim = named(
         alloc,
         "sim",
@@ -58,7 +68,20 @@ pub fn command<'a>(alloc: Global) -> Result<Command<'a>, AllocError> {
         .subcommand(sync_command(alloc)?)
 }
 
-fn loop_command<'a>(alloc: Global) -> Result<Command<'a>, AllocError> {
+/// The command of a name, or the program's.
+pub fn command_of<'a>(alloc: Global, name: &str) -> Result<Command<'a>, AllocError> {
+    match name {
+        "loop" => loop_command(alloc),
+        "serve" => serve_command(alloc),
+        "shell" => shell_command(alloc),
+        "sync" => sync_command(alloc),
+        _ => command(alloc),
+    }
+}
+
+fn loop_command<'a>(alloc: Global) -> Result<Command<'a>, AllocError>
+    ensures { IfOk result (λ command. app_of command ≡ spec.loop_words) }
+{
     named(
         alloc,
         "loop",
@@ -70,7 +93,9 @@ fn loop_command<'a>(alloc: Global) -> Result<Command<'a>, AllocError> {
     .arg(max_keys(alloc))
 }
 
-fn serve_command<'a>(alloc: Global) -> Result<Command<'a>, AllocError> {
+fn serve_command<'a>(alloc: Global) -> Result<Command<'a>, AllocError>
+    ensures { IfOk result (λ command. app_of command ≡ spec.serve_words) }
+{
     let command = named(
         alloc,
         "serve",
@@ -83,13 +108,16 @@ fn serve_command<'a>(alloc: Global) -> Result<Command<'a>, AllocError> {
         .arg(idle(alloc, SERVED_IDLE, "300"))
 }
 
-fn shell_command<'a>(alloc: Global) -> Result<Command<'a>, AllocError> {
+fn shell_command<'a>(alloc: Global) -> Result<Command<'a>, AllocError>
+    ensures { IfOk result (λ command. app_of command ≡ spec.shell_words) }
+{
     let command = named(
         alloc,
         "shell",
         SHELL,
         "Example: echo 'put k - {\"a\":1}' | mvd shell --db a.db --site 1",
-    );
+    )
+    .override_usage(SHELL_USAGE);
     let command = instead_of_port(command, db(alloc))?;
     let command = instead_of_port(command, site(alloc))?;
     let command = apart_from(command, defs(alloc), "port")?;
@@ -104,7 +132,9 @@ fn shell_command<'a>(alloc: Global) -> Result<Command<'a>, AllocError> {
 }
 
 /// Adds an option that is given where no port is.
-fn instead_of_port<'a>(command: Command<'a>, option: Arg<'a>) -> Result<Command<'a>, AllocError> {
+fn instead_of_port<'a>(command: Command<'a>, option: Arg<'a>) -> Result<Command<'a>, AllocError>
+    ensures { IfOk result (spec.AddsSpare command.entry option.entry) }
+{
     let option = option.required(false).required_unless_present("port")?;
     apart_from(command, option, "port")
 }
@@ -114,11 +144,15 @@ fn apart_from<'a>(
     command: Command<'a>,
     option: Arg<'a>,
     other: &'a str,
-) -> Result<Command<'a>, AllocError> {
+) -> Result<Command<'a>, AllocError>
+    ensures { IfOk result (spec.AddsTied command.entry option.entry) }
+{
     command.arg(option.conflicts_with(other)?)
 }
 
-fn sync_command<'a>(alloc: Global) -> Result<Command<'a>, AllocError> {
+fn sync_command<'a>(alloc: Global) -> Result<Command<'a>, AllocError>
+    ensures { IfOk result (λ command. app_of command ≡ spec.sync_words) }
+{
     let command = named(
         alloc,
         "sync",
@@ -132,12 +166,16 @@ fn sync_command<'a>(alloc: Global) -> Result<Command<'a>, AllocError> {
 }
 
 /// A command below the program's: what it does, and an example of it.
-fn named<'a>(alloc: Global, name: &'a str, about: &'a str, example: &'a str) -> Command<'a> {
+fn named<'a>(alloc: Global, name: &'a str, about: &'a str, example: &'a str) -> Command<'a>
+    ensures { app_of result ≡ new_app name.now }
+{
     Command::new(alloc, name).about(about).after_help(example)
 }
 
 /// The options of a command on a database that meets a peer.
-fn with_database<'a>(alloc: Global, command: Command<'a>) -> Result<Command<'a>, AllocError> {
+fn with_database<'a>(alloc: Global, command: Command<'a>) -> Result<Command<'a>, AllocError>
+    ensures { IfOk result (λ r. app_of r ≡ spec.with_rules (app_of command.entry) spec.database) }
+{
     command
         .arg(db(alloc))?
         .arg(site(alloc))?
@@ -146,7 +184,9 @@ fn with_database<'a>(alloc: Global, command: Command<'a>) -> Result<Command<'a>,
         .arg(address(alloc))
 }
 
-fn db<'a>(alloc: Global) -> Arg<'a> {
+fn db<'a>(alloc: Global) -> Arg<'a>
+    ensures { rule_of result ≡ spec.needed spec.db }
+{
     text(
         alloc,
         "db",
@@ -156,7 +196,9 @@ fn db<'a>(alloc: Global) -> Arg<'a> {
     .required(true)
 }
 
-fn address<'a>(alloc: Global) -> Arg<'a> {
+fn address<'a>(alloc: Global) -> Arg<'a>
+    ensures { rule_of result ≡ spec.address }
+{
     text(
         alloc,
         "address",
@@ -166,7 +208,9 @@ fn address<'a>(alloc: Global) -> Arg<'a> {
     .default_value("127.0.0.1")
 }
 
-fn site<'a>(alloc: Global) -> Arg<'a> {
+fn site<'a>(alloc: Global) -> Arg<'a>
+    ensures { rule_of result ≡ spec.needed spec.site }
+{
     number(
         alloc,
         "site",
@@ -176,11 +220,15 @@ fn site<'a>(alloc: Global) -> Arg<'a> {
     .required(true)
 }
 
-fn port<'a>(alloc: Global, help: &'a str) -> Arg<'a> {
+fn port<'a>(alloc: Global, help: &'a str) -> Arg<'a>
+    ensures { rule_of result ≡ spec.needed spec.port }
+{
     number(alloc, "port", "P", help).required(true)
 }
 
-fn defs<'a>(alloc: Global) -> Arg<'a> {
+fn defs<'a>(alloc: Global) -> Arg<'a>
+    ensures { rule_of result ≡ spec.defs }
+{
     text(
         alloc,
         "defs",
@@ -189,7 +237,9 @@ fn defs<'a>(alloc: Global) -> Arg<'a> {
     )
 }
 
-fn max_keys<'a>(alloc: Global) -> Arg<'a> {
+fn max_keys<'a>(alloc: Global) -> Arg<'a>
+    ensures { rule_of result ≡ spec.max_keys }
+{
     number(
         alloc,
         "max-keys",
@@ -199,7 +249,9 @@ fn max_keys<'a>(alloc: Global) -> Arg<'a> {
     .default_value("1000000")
 }
 
-fn conns<'a>(alloc: Global) -> Arg<'a> {
+fn conns<'a>(alloc: Global) -> Arg<'a>
+    ensures { rule_of result ≡ spec.conns }
+{
     number(
         alloc,
         "conns",
@@ -208,11 +260,15 @@ fn conns<'a>(alloc: Global) -> Arg<'a> {
     )
 }
 
-fn idle<'a>(alloc: Global, help: &'a str, seconds: &'a str) -> Arg<'a> {
+fn idle<'a>(alloc: Global, help: &'a str, seconds: &'a str) -> Arg<'a>
+    ensures { rule_of result ≡ spec.idle seconds.now }
+{
     number(alloc, "idle", "S", help).default_value(seconds)
 }
 
-fn verbose<'a>(alloc: Global) -> Arg<'a> {
+fn verbose<'a>(alloc: Global) -> Arg<'a>
+    ensures { rule_of result ≡ spec.verbose }
+{
     Arg::new(alloc, "verbose")
         .long("verbose")
         .action(ArgAction::SetTrue)
@@ -220,7 +276,9 @@ fn verbose<'a>(alloc: Global) -> Arg<'a> {
 }
 
 /// An option whose value is a text.
-fn text<'a>(alloc: Global, name: &'a str, value: &'a str, help: &'a str) -> Arg<'a> {
+fn text<'a>(alloc: Global, name: &'a str, value: &'a str, help: &'a str) -> Arg<'a>
+    ensures { rule_of result ≡ spec.text_option name.now }
+{
     Arg::new(alloc, name)
         .long(name)
         .value_name(value)
@@ -228,6 +286,8 @@ fn text<'a>(alloc: Global, name: &'a str, value: &'a str, help: &'a str) -> Arg<
 }
 
 /// An option whose value is a number.
-fn number<'a>(alloc: Global, name: &'a str, value: &'a str, help: &'a str) -> Arg<'a> {
+fn number<'a>(alloc: Global, name: &'a str, value: &'a str, help: &'a str) -> Arg<'a>
+    ensures { rule_of result ≡ spec.number_option name.now }
+{
     text(alloc, name, value, help).value_parser(value_parser!(u64))
 }

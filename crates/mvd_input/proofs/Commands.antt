@@ -1,0 +1,68 @@
+-- A command with one more option, or with one more command below it.
+use Rattle.std.proofs.Common.{◌≡◌, ◌∙◌, ◌∷◌, ◌++◌, ◌&&◌, ◌==◌, [], ℕ, List, ap, ap₂, refl, true, false, not, Bool, is_some, length, arith, suc}
+use Rattle.std.proofs.lemmas.Bool.{and_parts, and_right}
+use Rattle.std.proofs.lemmas.Bool.Decides.{nat_tests}
+use Rattle.std.specs.Borrow.{Bor}
+use Rattle.clap.specs.Words.{App, Rule, app_of, rule_of, with_rule, with_subcommand, AddsArg, AddsSubcommand, AddsConflicts, AddsRequiredUnless}
+use Rattle.clap.specs.Walk.{is_empty, is_free_arg, is_simple_arg}
+use Rattle.clap.specs.Simple.{has_plain_fields}
+use Rattle.clap.specs.declared.builder.arg.Arg.{Arg}
+use Rattle.clap.specs.declared.builder.command.Command.{Command}
+use Rattle.clap.specs.declared.builder.command.Command.TheViews.{out-Command}
+use Rattle.mvd_input.specs.Words.{tied}
+
+no : (b : Bool) → not b ≡ true → b ≡ false
+no true e = absurd (cc e)
+no false e = refl
+
+-- a simple argument is not global
+local : (a : Arg) → is_simple_arg a ≡ true → a.global ≡ false
+local a e =
+    let e1 = and_parts (is_empty a.overrides.items) _ e in
+    let e2 = and_parts (is_empty a.default_vals_ifs.items) _ e1.1 in
+    let e3 = and_parts (is_empty a.groups.items) _ e2.1 in
+    let e4 = and_parts (not (is_some a.val_delim)) _ e3.1 in
+    let e5 = and_parts (not (is_some a.terminator)) _ e4.1 in
+    let e6 = and_parts (not a.allow_hyphen_values) _ e5.1 in
+    let e7 = and_parts (not a.allow_negative_numbers) _ e6.1 in
+    let e8 = and_parts (not a.require_equals) _ e7.1 in
+    let e9 = and_parts (not a.last) (not a.global) e8.1 in
+    no a.global e9.1
+
+-- a plain command has no global argument
+plain : (c : Command) → has_plain_fields (out-Command c) ≡ true → (out-Command c).has_globals ≡ false
+plain c e =
+    let e1 = and_parts (is_empty (out-Command c).groups.items) _ e in
+    let e2 = and_parts (not (out-Command c).allow_external_subcommands) _ e1.1 in
+    let e3 = and_parts (not (out-Command c).has_globals) _ e2.1 in
+    no (out-Command c).has_globals e3.0
+
+pub adds : (old : Command) (a : Arg) (new : Command) (s : App) (r : Rule) → AddsArg old a new → app_of old ≡ s → rule_of a ≡ r → r.is_simple ≡ true → app_of new ≡ with_rule s r
+adds old a new s r h e f simple =
+    h.shape (local a (ap (λ (x : Rule). x.is_simple) f ∙ simple)) ∙ ap₂ with_rule e f
+
+pub adds_below : (old sub new : Command) (s below : App) → AddsSubcommand old sub new → app_of old ≡ s → app_of sub ≡ below → below.top.is_plain ≡ true → app_of new ≡ with_subcommand s below.top
+adds_below old sub new s below h e f simple =
+    h.shape (plain sub (ap (λ (x : App). x.top.is_plain) f ∙ simple)) ∙ ap₂ with_subcommand e (ap (λ (x : App). x.top) f)
+
+positive : (n : ℕ) → (suc n == 0) ≡ false
+positive n = grind (arith, nat_tests)
+
+not_empty : {X : Type 0} (xs : List X) (x : X) → is_empty (xs ++ x ∷ []) ≡ false
+not_empty [] x = refl
+not_empty (y ∷ ys) x = positive (length (ys ++ x ∷ []))
+
+-- an option with a rule on another one is not free
+pub is_tied : (a b : Arg) (x : Bor (List ℕ)) → AddsConflicts a b (x ∷ []) → rule_of b ≡ tied (rule_of a)
+is_tied a b x h =
+    let some : is_empty b.conflicts.items ≡ false = ap is_empty h.1 ∙ not_empty a.conflicts.items x in
+    let bound : is_free_arg b ≡ false = and_right (not b.exclusive) _ (ap₂ (λ (x y : Bool). x && y) some refl) in
+    ap (λ (y : Bool). record (rule_of b) { is_free = y }) bound ∙ ap (λ (z : Arg). tied (rule_of z)) h.0
+
+pub unless : (a b : Arg) (x : Bor (List ℕ)) → AddsRequiredUnless a b (x ∷ []) → tied (rule_of b) ≡ tied (rule_of a)
+unless a b x h = ap (λ (z : Arg). tied (rule_of z)) h.0
+
+-- an option that is changed before it is added
+pub adds_changed : (f : Rule → Rule) (new s t : App) (q r : Rule) → (q.is_simple ≡ true → new ≡ with_rule s (f q)) → s ≡ t → q ≡ r → r.is_simple ≡ true → new ≡ with_rule t (f r)
+adds_changed f new s t q r h e g simple =
+    h (ap (λ (x : Rule). x.is_simple) g ∙ simple) ∙ ap₂ with_rule e (ap f g)

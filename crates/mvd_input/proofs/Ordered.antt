@@ -1,0 +1,113 @@
+-- What the words ask for.
+use Rattle.std.proofs.Common.{◌≡◌, ◌∙◌, ap, refl, sym, subst, ℕ, List, Option, Some, None, Result, Ok, Err, true, false, is_some, codes, option_map, IsSomeAnd}
+use Rattle.std.specs.Prelude.{Box}
+use Rattle.std.specs.Box.{box_value}
+use Rattle.std.specs.Str.{bytes_eq}
+use Rattle.std.proofs.lemmas.Slice.Eq.{bytes_eq-Decides}
+use Rattle.std.specs.declared.net.socket_addr.SocketAddr.{SocketAddr}
+use Rattle.clap.specs.Walk.{Text}
+use Rattle.clap.specs.Words.{HasMatchesOf, Row, app_of, first_of, has_subcommand, is_simple, kind_of, subcommand_name_of, subcommand_of, subcommand_rows, subcommand_rows_of, takes}
+use Rattle.clap.specs.declared.builder.command.Command.{Command}
+use Rattle.clap.specs.declared.error.Error.{Error}
+use Rattle.clap.specs.declared.error.kind.ErrorKind.TheVariants.{OutOfMemory}
+use Rattle.clap.specs.declared.parser.matches.ArgMatches.{ArgMatches}
+use Rattle.clap.specs.declared.parser.matches.SubCommand.{SubCommand}
+use Rattle.clap.specs.declared.parser.matches.ArgMatches.TheViews.{out-ArgMatches, out-SubCommand}
+use Rattle.mvd_input.specs.Orders.{AskFor, Gives, HasBadNumber, IsAddressOf, IsFaultBy, IsOrderOf, IsOutOfRange, IsSeconds, IsUnread, ReadsGiven, ReadsOrder, ReadsWords}
+use Rattle.mvd_input.specs.Words.{program}
+use Rattle.mvd_input.specs.declared.order.Order.{Order}
+use Rattle.mvd_input.specs.declared.order.Order.TheVariants.{Sim, Loop, Serve, Shell, RemoteShell, Sync}
+use Rattle.mvd_input.specs.declared.order.Unread.{Unread}
+use Rattle.mvd_input.specs.declared.order.Unread.TheVariants as unread
+use Rattle.mvd_input.specs.declared.order.OrderFault.{OrderFault}
+use Rattle.mvd_input.specs.declared.order.OrderFault.TheVariants.{Words, Range, Stopped}
+
+-- ---- what is not meant
+
+-- where a part is not meant, the whole is not either
+pub within : {X Y : Type 0} (rows : List Row) (Part : List Row → X → Type 0) (Whole : List Row → Y → Type 0) (why : Unread) → ((y : Y) → Whole rows y → (x : X) × Part rows x)
+    → IsUnread rows Part why → IsUnread rows Whole why
+within rows Part Whole unread.Range part h = h
+within rows Part Whole (unread.Text _) part h = λ y w. h (part y w).0 (part y w).1
+
+-- nor where a number is not given
+pub without : {Y : Type 0} (rows : List Row) (option : List ℕ) (most : ℕ) (Whole : List Row → Y → Type 0) (why : Unread)
+    → (IsOutOfRange rows option most → HasBadNumber rows) → ((y : Y) → Whole rows y → (n : ℕ) × Gives rows option n)
+    → ReadsGiven rows option most (Err why) → IsUnread rows Whole why
+without rows option most Whole unread.Range bad part h = bad h
+without rows option most Whole (unread.Text _) bad part h = λ y w. h (part y w).0 (part y w).1
+
+-- two texts that a test tells apart
+differ : {X : Type 0} (a b : List ℕ) → a ≡ b → bytes_eq a b ≡ false → X
+differ a b e f = absurd (cc ((bytes_eq-Decides a b).1 e, f))
+
+-- an address and the seconds of an order
+abbrev pub Meets : List Row → Type 0
+Meets rows = ((address : SocketAddr) × IsAddressOf rows address) × ((idle : ℕ) × IsSeconds rows idle)
+
+pub serve_meets : (rows : List Row) (order : Order) → IsOrderOf (codes "serve") rows order → Meets rows
+serve_meets rows Sim h = differ _ _ h refl
+serve_meets rows (Loop _) h = differ _ _ h.0 refl
+serve_meets rows (Serve _ _ address _ idle) h = ((address, h.3), (idle, h.5))
+serve_meets rows (Shell _ _) h = differ _ _ h.0 refl
+serve_meets rows (RemoteShell _ _) h = differ _ _ h.0 refl
+serve_meets rows (Sync _ _ _ _ _) h = differ _ _ h.0 refl
+
+pub sync_meets : (rows : List Row) (order : Order) → IsOrderOf (codes "sync") rows order → Meets rows
+sync_meets rows Sim h = differ _ _ h refl
+sync_meets rows (Loop _) h = differ _ _ h.0 refl
+sync_meets rows (Serve _ _ _ _ _) h = differ _ _ h.0 refl
+sync_meets rows (Shell _ _) h = differ _ _ h.0 refl
+sync_meets rows (RemoteShell _ _) h = differ _ _ h.0 refl
+sync_meets rows (Sync _ _ address idle _) h = ((address, h.3), (idle, h.4))
+
+pub remote_meets : (rows : List Row) → first_of (codes "db") rows ≡ None → (order : Order) → IsOrderOf (codes "shell") rows order → Meets rows
+remote_meets rows e Sim h = differ _ _ h refl
+remote_meets rows e (Loop _) h = differ _ _ h.0 refl
+remote_meets rows e (Serve _ _ _ _ _) h = differ _ _ h.0 refl
+remote_meets rows e (Shell _ _) h = absurd (cc (h.1, e))
+remote_meets rows e (RemoteShell address idle) h = ((address, h.2), (idle, h.3))
+remote_meets rows e (Sync _ _ _ _ _) h = differ _ _ h.0 refl
+
+-- ---- the matches are those of the words
+
+pub simple_program : is_simple program ≡ true
+unfolding program
+simple_program = refl
+
+pub of_words : (command : Command) (words : List Text) (m : ArgMatches) → app_of command ≡ program → HasMatchesOf (app_of command) words m
+    → subcommand_rows_of m ≡ subcommand_of program words
+of_words command words m e h = (h (ap is_simple e ∙ simple_program)).1 ∙ ap (λ a. subcommand_of a words) e
+
+module _ {Z : Type 0} where
+  met : (o : Option (Box SubCommand Z)) (name : Text) (rows : List Row) → option_map (λ b. (out-SubCommand (box_value b)).name.now) o ≡ Some name
+      → option_map (λ p. p.1) (subcommand_rows o) ≡ Some rows → subcommand_rows o ≡ Some (name, rows)
+  met None name rows e f = absurd (cc e)
+  met (Some b) name rows e f = cc
+
+  unmet : (o : Option (Box SubCommand Z)) → false ≡ is_some o → subcommand_rows o ≡ None
+  unmet None e = refl
+  unmet (Some b) e = absurd (cc e)
+
+pub met_rows : (m : ArgMatches) (name : Text) (rows : List Row) → subcommand_name_of m ≡ Some name
+    → option_map (λ p. p.1) (subcommand_rows (out-ArgMatches m).subcommand) ≡ Some rows → subcommand_rows_of m ≡ Some (name, rows)
+met_rows m name rows e f = met (out-ArgMatches m).subcommand name rows e f
+
+pub unmet_rows : (m : ArgMatches) → false ≡ has_subcommand m → subcommand_rows_of m ≡ None
+unmet_rows m e = unmet (out-ArgMatches m).subcommand e
+
+pub none_asked : (words : List Text) → subcommand_of program words ≡ None → (order : Order) → AskFor words order → ⊥
+none_asked words e order h = subst (λ s. IsSomeAnd s (λ command. IsOrderOf command.0 command.1 order)) e h
+
+pub reads_words : (words : List Text) (name : Text) (rows : List Row) (result : Result Order OrderFault) → subcommand_of program words ≡ Some (name, rows)
+    → ReadsOrder name rows result → ReadsWords words result
+reads_words words name rows (Ok order) e h = (subst (λ s. IsSomeAnd s (λ command. IsOrderOf command.0 command.1 order)) (sym e) h.0, h.1)
+reads_words words name rows (Err Range) e h = subst (λ s. IsSomeAnd s (λ command. HasBadNumber command.1)) (sym e) h
+reads_words words name rows (Err (Words _)) e h = λ _ order asked. h order (subst (λ s. IsSomeAnd s (λ command. IsOrderOf command.0 command.1 order)) e asked)
+reads_words words name rows (Err (Stopped _)) e h = h
+
+pub refused_words : (words : List Text) (error : Error) (fault : OrderFault) → (takes program words ≡ true → kind_of error ≡ OutOfMemory)
+    → IsFaultBy error fault → ReadsWords words (Err fault)
+refused_words words error Range passes h = absurd h
+refused_words words error (Words _) passes h = λ taken order asked. h.1 (passes taken)
+refused_words words error (Stopped _) passes h = h.0

@@ -14,6 +14,7 @@ pub record QueuesOn (replies : List Reply) (old new : History) : Type 0 where
   pub told : AreQueued replies queued
   pub taken : new.taken ≡ old.taken
   pub moved : NoneMoved old new
+  pub none : replies ≡ [] → new ≡ old
 
 -- each client's own replies were queued on its connection, in order
 abbrev pub Queues : List (ℕ × Reply) → List (ℕ × History) → List (ℕ × History) → Type 0

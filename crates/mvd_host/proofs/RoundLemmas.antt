@@ -190,7 +190,7 @@ due_front xs ys clients due n = due_less (own n xs) (own n ys) (client_in client
 
 -- ---- what is true of a host still
 
-was : (a : Option History) (k : History) (R : History → History → Type 0) → Both a (Some k) R → (h : History) × (a ≡ Some h) × R h k
+pub was : (a : Option History) (k : History) (R : History → History → Type 0) → Both a (Some k) R → (h : History) × (a ≡ Some h) × R h k
 was None k R both = absurd both
 was (Some h) k R both = (h, refl, both)
 

@@ -65,6 +65,11 @@ abbrev pub Admits : HostValue → Option ℕ → HostValue → Type 0
 Admits old None new = (new ≡ old) × ((clients_most ≤ length old.clients) ⊎ (old.admitted ≡ admitted_most))
 Admits old (Some n) new = AdmitsOne old new n
 
+-- a client goes, if there is such a one, and the others stay
+pub record Leaves (old : HostValue) (n : ℕ) (new : HostValue) : Type 0 where
+  pub clients : (q : ℕ) → client_of new q ≡ (if q == n then None else client_of old q)
+  pub admitted : new.admitted ≡ old.admitted
+
 -- The clients' numbers were given, and each frame that was taken of one was answered
 pub record AreKept (clients : List (ℕ × History)) (admitted : ℕ) : Type 0 where
   pub given : (n : ℕ) (h : History) → client_in clients n ≡ Some h → n < admitted

@@ -1,5 +1,5 @@
 -- A round, from the frames that were taken and the replies that were queued.
-use Rattle.std.proofs.Common.{◌≡◌, ◌≢◌, ℕ, ◌+◌, ◌≤◌, ◌<◌, ◌==◌, Bool, true, false, cond, List, [], ◌∷◌, ◌++◌, map, zip, length, Option, Some, None, Result, Ok, Err, refl, sym, ap, ap₂, ◌∙◌, subst, subst₂, arith}
+use Rattle.std.proofs.Common.{◌≡◌, ℕ, ◌+◌, ◌≤◌, ◌==◌, Bool, true, false, cond, List, [], ◌∷◌, ◌++◌, map, zip, length, Option, Some, None, Result, Ok, refl, sym, ap, ap₂, ◌∙◌, subst, arith}
 use Rattle.std.proofs.lemmas.List.{map-append, length-append, length-map}
 use Rattle.std.specs.List.{AllByRecursion}
 use Rattle.mvd_dots.specs.declared.refusals.Refusal.{Refusal}
@@ -11,9 +11,9 @@ use Rattle.mvd_wire.specs.Frames.{FrameValue}
 use Rattle.mvd_wire.specs.Replies.{CanBeSent}
 use Rattle.mvd_conn.specs.History.{History}
 use Rattle.mvd_replica.specs.Turns.{Turn}
-use Rattle.mvd_host.specs.Hosts.{AreKept, HostValue, IfClient, client_in}
+use Rattle.mvd_host.specs.Hosts.{AreKept, IfClient, client_in}
 use Rattle.mvd_host.specs.Course.{AreQueued, Both, IsOut, asked_by, own}
-use Rattle.mvd_host.specs.Taking.{AreFaults, Holds, TakesAll, TakesOn, TakesOnly}
+use Rattle.mvd_host.specs.Taking.{AreFaults, TakesAll, TakesOn, TakesOnly}
 use Rattle.mvd_host.specs.Queueing.{AreDue, Queues, QueuesOn, refused_all, refused_faults}
 use Rattle.mvd_site.specs.Sites.{SiteValue}
 use Rattle.mvd_replica.specs.Batch.{AnswersAll}
@@ -22,7 +22,7 @@ use Rattle.mvd_host.specs.Round.{Course, Round, Serves, Spares, turns_of}
 use Rattle.mvd_host.specs.declared.taking.Taken.{Taken}
 use Rattle.mvd_host.proofs.Own.{both_on, own-append}
 use Rattle.mvd_host.proofs.Serving.{IsStill, serves_none, serves_on, serves_still, serves_turns}
-use Rattle.mvd_host.proofs.ToldLemmas.{due_later, on, queued_length, queues_none, untouched}
+use Rattle.mvd_host.proofs.ToldLemmas.{on, queued_length, queues_none, untouched}
 
 -- what of a client's own things is looked at
 own_mapped : {X Y : Type 0} (n : ℕ) (g : X → Y) (xs : List (ℕ × X)) → own n (map {B = ℕ × Y} (λ x. (x.0, g x.1)) xs) ≡ map g (own n xs)

@@ -1,10 +1,10 @@
 -- Rounds, and what comes between them, one after the other.
-use Rattle.std.proofs.Common.{◌≡◌, ℕ, ◌+◌, ◌≤◌, ◌<◌, ◌==◌, Bool, true, false, cond, List, [], ◌∷◌, ◌++◌, map, length, Option, Some, None, refl, sym, ap, ap₂, ◌∙◌, subst, append-nil, append_assoc, arith}
+use Rattle.std.proofs.Common.{◌≡◌, ℕ, ◌≤◌, ◌<◌, ◌==◌, Bool, true, false, cond, List, [], ◌∷◌, ◌++◌, map, Option, Some, None, refl, sym, ap, ap₂, ◌∙◌, subst, append-nil, append_assoc, arith}
 use Rattle.std.proofs.lemmas.Bool.Decides.{nat_tests}
 use Rattle.std.proofs.lemmas.List.{map-append}
 use Rattle.std.specs.Ordering.{nat_cmp}
 use Rattle.std.specs.BTreeMap.{is_at}
-use Rattle.std.specs.Map.{lookup, set_value}
+use Rattle.std.specs.Map.{set_value}
 use Rattle.mvd_conn.specs.History.{History, new_history}
 use Rattle.mvd_replica.specs.Turns.{Turn}
 use Rattle.mvd_host.specs.Hosts.{AdmitsOne, HostValue, Leaves, altered, altered_if, client_in, client_of, new_host, with_client}
@@ -232,16 +232,20 @@ gone_on f n side (Goes m host) may gone =
     either : (b : Bool) → ◌≡◌ {A = Option History} (cond b None None) None
     either true = refl
     either false = refl
-gone_on f n side (Calls m call) may gone =
-    (refl, record {
-      given = subst (λ a. n < a) (sym (admitted_called side.host m (after_call call) (client_of side.host m))) gone.given;
-      none = none_called side.host m (after_call call) n (client_of side.host m) refl gone.none;
-    })
-gone_on f n side (Rounds ready more new) may gone =
-    (may.spares.none n gone.none, record {
-      given = subst (λ a. n < a) (sym may.admitted) gone.given;
-      none = both_gone (client_of side.host n) (client_of new.host n) (may.clients n) gone.none;
-    })
+gone_on f n side (Calls m call) may gone = (
+  refl,
+  record {
+    given = subst (λ a. n < a) (sym (admitted_called side.host m (after_call call) (client_of side.host m))) gone.given;
+    none = none_called side.host m (after_call call) n (client_of side.host m) refl gone.none;
+  },
+)
+gone_on f n side (Rounds ready more new) may gone = (
+  may.spares.none n gone.none,
+  record {
+    given = subst (λ a. n < a) (sym may.admitted) gone.given;
+    none = both_gone (client_of side.host n) (client_of new.host n) (may.clients n) gone.none;
+  },
+)
   where
     both_gone : (a b : Option History) → Both a b (Course (own n more)) → a ≡ None → b ≡ None
     both_gone None None both is = refl

@@ -1,5 +1,5 @@
 -- The frames of clients, one client after the other.
-use Rattle.std.proofs.Common.{◌≡◌, ◌⊎◌, inl, inr, ℕ, ◌+◌, ◌==◌, Bool, true, false, cond, List, [], ◌∷◌, ◌++◌, map, length, slice_index, ◌<◌, ◌||◌, true≢false, Option, Some, None, Ok, refl, sym, ap, ap₂, ◌≢◌, ◌∙◌, subst, subst₂, append-nil, arith}
+use Rattle.std.proofs.Common.{◌≡◌, ◌⊎◌, inl, inr, ℕ, ◌+◌, ◌==◌, Bool, true, false, cond, List, [], ◌∷◌, ◌++◌, map, length, slice_index, ◌<◌, ◌||◌, true≢false, Option, Some, None, refl, sym, ap, ap₂, ◌≢◌, ◌∙◌, subst, subst₂, append-nil, arith}
 use Rattle.std.proofs.lemmas.Bool.Decides.{nat_tests}
 use Rattle.std.specs.Ordering.{nat_cmp}
 use Rattle.std.specs.BTreeMap.{is_at}
@@ -79,16 +79,17 @@ module _ (client : ℕ) (old mid new : List (ℕ × History)) (before after : Ta
   unfolding more_requests more_faulty
   apart_too n apart none = (
     own-append n all.requests more_requests ∙ ap₂ (λ a b. a ++ b) none.0 (own-other client n one.requests apart),
-    own-append n all.faulty more_faulty ∙ ap₂ (λ a b. a ++ b) none.1 (own-other client n one.faulty apart)
+    own-append n all.faulty more_faulty ∙ ap₂ (λ a b. a ++ b) none.1 (own-other client n one.faulty apart),
   )
 
   none_too : (n : ℕ) (b : Bool) → (n == client) ≡ b → client_in mid n ≡ None → (own n all.requests ≡ []) × (own n all.faulty ≡ []) → (own n (all.requests ++ more_requests) ≡ []) × (own n (all.faulty ++ more_faulty) ≡ [])
   unfolding more_requests more_faulty
   none_too n false is gone none = apart_too n is none
   none_too n true is gone none =
-      let nothing = one.none (ap (client_in mid) (same_there n client is) ∙ gone) in
-      (own-append n all.requests more_requests ∙ ap₂ (λ a b. a ++ b) none.0 (ap (λ (l : List Request). own n (map {B = ℕ × Request} (λ r. (client, r)) l)) nothing.0),
-       own-append n all.faulty more_faulty ∙ ap₂ (λ a b. a ++ b) none.1 (ap (λ (l : List FrameValue). own n (map {B = ℕ × FrameValue} (λ f. (client, f)) l)) nothing.1))
+      let nothing = one.none (ap (client_in mid) (same_there n client is) ∙ gone) in (
+        own-append n all.requests more_requests ∙ ap₂ (λ a b. a ++ b) none.0 (ap (λ (l : List Request). own n (map {B = ℕ × Request} (λ r. (client, r)) l)) nothing.0),
+        own-append n all.faulty more_faulty ∙ ap₂ (λ a b. a ++ b) none.1 (ap (λ (l : List FrameValue). own n (map {B = ℕ × FrameValue} (λ f. (client, f)) l)) nothing.1),
+      )
 
 gone_too : (a b : Option History) (rs : List Request) (fs : List FrameValue) → Both a b (TakesOn rs fs) → a ≡ None → b ≡ None
 gone_too None None rs fs both gone = refl

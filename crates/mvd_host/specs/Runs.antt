@@ -1,5 +1,5 @@
 -- What happens to a host, one thing after the other: rounds, and what comes between them.
-use Rattle.std.specs.Prelude.{◌≡◌, ℕ, ◌+◌, ◌≤◌, List, [], ◌∷◌, ◌++◌, map, Some, None, ⊤}
+use Rattle.std.specs.Prelude.{◌≡◌, ℕ, List, [], ◌∷◌, ◌++◌, map, Some, ⊤}
 use Rattle.mvd_conn.specs.declared.ending.Source.{Source}
 use Rattle.mvd_conn.specs.History.{History, closed, cut, fed, released, sent}
 use Rattle.mvd_site.specs.Sites.{SiteValue}

@@ -1,5 +1,5 @@
 -- The frames that are taken in one round.
-use Rattle.std.specs.Prelude.{◌≡◌, ◌==◌, ℕ, ◌+◌, ◌≤◌, ◌<◌, ◌⊎◌, List, [], ◌∷◌, ◌++◌, map, length, Result, Ok, Err, None, ⊤, false, vec_len, vec_capacity}
+use Rattle.std.specs.Prelude.{◌≡◌, ◌==◌, ℕ, ◌+◌, ◌≤◌, ◌<◌, ◌⊎◌, List, [], ◌∷◌, ◌++◌, map, length, Ok, Err, None, ⊤, false, vec_len, vec_capacity}
 use Rattle.mvd_dots.specs.declared.refusals.Refusal.{Refusal}
 use Rattle.mvd_dots.specs.Answer.{IsAnswer}
 use Rattle.mvd_wire.specs.declared.request.Request.{Request}

@@ -1,7 +1,4 @@
-use Rattle.std.proofs.Common.{◌≡◌, ◌∙◌, ◌==◌, cond, Option, None, refl, ap}
-use Rattle.mvd_conn.specs.History.{History}
-use Rattle.mvd_host.specs.Hosts.{client_in}
-use Rattle.mvd_host.proofs.Hosts.{at_is, kept_removed}
+use Rattle.mvd_host.proofs.Hosts.{kept_removed}
 use Rattle.mvd_host.proofs.host.Host.dismiss.Goals as goal
 
 pub invariant_of-self : goal.invariant_of-self

@@ -1,5 +1,4 @@
-use Rattle.std.proofs.Common.{◌≡◌, ◌+◌, rules, ◌==◌, Bool, true, [], ◌∷◌, length, true≢false, arith, Ok, ◌∙◌, ◌++◌, ℕ, List, map, zip, sym, ap, ap₂, subst, subst₂}
-use Rattle.mvd_conn.specs.History.{History}
+use Rattle.std.proofs.Common.{◌≡◌, ◌+◌, rules, [], length, true≢false, Ok, ◌∙◌, ℕ, List, map, zip, sym, ap, subst, subst₂}
 use Rattle.mvd_wire.specs.declared.request.Request.{Request}
 use Rattle.mvd_wire.specs.declared.reply.Reply.{Reply}
 use Rattle.mvd_host.specs.Queueing.{AreDue, Queues, refused_all, refused_faults}

@@ -1,4 +1,4 @@
-use Rattle.std.proofs.Common.{◌≡◌, ◌∙◌, ◌<◌, true, false, sym, true≢false, slice_index, length, subst, arith, rules}
+use Rattle.std.proofs.Common.{◌≡◌, ◌∙◌, sym, true≢false, length, subst, arith, rules}
 use Rattle.mvd_host.specs.Taking.{TakesOnly}
 use Rattle.mvd_host.proofs.TakingAll.{idle_all, only_nothing, only_of}
 use Rattle.mvd_host.proofs.taking.Taken.take_all.Goals.{then-take_of, else-take_of}

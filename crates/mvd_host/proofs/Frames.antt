@@ -1,5 +1,5 @@
 -- The frames of one connection, taken one by one.
-use Rattle.std.proofs.Common.{◌≡◌, ◌⊎◌, inl, inr, ℕ, ◌-◌, ◌==◌, Bool, true, false, List, [], ◌∷◌, ◌++◌, map, length, Option, Some, None, Result, Ok, Err, cond, refl, sym, ap, ◌∙◌, subst, append_assoc, append-nil, ap₂}
+use Rattle.std.proofs.Common.{◌≡◌, ◌⊎◌, inl, inr, ◌==◌, Bool, true, false, List, [], ◌∷◌, ◌++◌, map, Some, Result, Ok, cond, refl, sym, ap, ◌∙◌, subst, append_assoc, append-nil, ap₂}
 use Rattle.std.proofs.lemmas.List.{map-append}
 use Rattle.mvd_dots.specs.declared.refusals.Refusal.{Refusal}
 use Rattle.mvd_wire.specs.declared.request.Request.{Request}

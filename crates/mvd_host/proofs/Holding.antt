@@ -1,5 +1,5 @@
 -- What was taken, as it grows.
-use Rattle.std.proofs.Common.{◌≡◌, ℕ, List, [], ◌∷◌, ◌++◌, map, Result, Ok, Err, refl, sym, ap, ◌∙◌, subst, append_assoc, append-nil}
+use Rattle.std.proofs.Common.{◌≡◌, ℕ, List, [], ◌∷◌, ◌++◌, map, Err, refl, sym, ap, ◌∙◌, subst, append_assoc, append-nil}
 use Rattle.std.proofs.lemmas.List.{map-append}
 use Rattle.mvd_dots.specs.declared.refusals.Refusal.{Refusal}
 use Rattle.mvd_dots.specs.Answer.{IsAnswer}
@@ -8,7 +8,7 @@ use Rattle.mvd_wire.specs.Frames.{FrameValue}
 use Rattle.mvd_host.specs.Course.{asked_by}
 use Rattle.mvd_conn.specs.History.{History}
 use Rattle.mvd_host.specs.Taking.{AreFaults, Holds, Keeps, TakesMore, TakesOn, TakesRequests}
-use Rattle.mvd_host.proofs.Frames.{Same, none_moved, same, takes_on}
+use Rattle.mvd_host.proofs.Frames.{none_moved, same, takes_on}
 use Rattle.mvd_host.specs.declared.taking.Taken.{Taken}
 
 pub holds_same : (asked : List (ℕ × Request)) (faults : List (ℕ × FrameValue)) (old new : Taken) → Keeps old new → Holds asked faults old → Holds (asked ++ []) (faults ++ []) new

@@ -1,10 +1,10 @@
 -- The clients of a host, as they come and go.
-use Rattle.std.proofs.Common.{◌≡◌, ℕ, ◌+◌, ◌≤◌, ◌<◌, ◌==◌, if◌then◌else◌, cond, Bool, true, false, List, [], ◌∷◌, length, Option, Some, None, refl, sym, ap, ◌∙◌, subst, arith}
+use Rattle.std.proofs.Common.{◌≡◌, ℕ, ◌+◌, ◌<◌, ◌==◌, cond, Bool, true, false, List, [], length, Option, Some, None, refl, sym, ap, ◌∙◌, subst, arith}
 use Rattle.std.proofs.lemmas.Bool.Decides.{nat_tests}
 use Rattle.std.specs.Ordering.{nat_cmp}
 use Rattle.std.specs.BTreeMap.{is_at}
 use Rattle.mvd_conn.specs.History.{History, new_history}
-use Rattle.mvd_host.specs.Hosts.{AdmitsOne, AreKept, HostValue, client_in, clients_most}
+use Rattle.mvd_host.specs.Hosts.{AdmitsOne, AreKept, client_in, clients_most}
 
 -- a query finds just its number
 pub at_is : (n q : ℕ) → is_at (nat_cmp n) q ≡ (q == n)

@@ -6,3 +6,4 @@ pub mod TakingAll
 pub mod ToldLemmas
 pub mod Serving
 pub mod RoundLemmas
+pub mod Runs

@@ -1,5 +1,5 @@
 -- A round, from the frames that were taken and the replies that were queued.
-use Rattle.std.proofs.Common.{◌≡◌, ◌≢◌, ℕ, ◌+◌, ◌≤◌, ◌<◌, ◌==◌, Bool, true, false, cond, List, [], ◌∷◌, ◌++◌, map, zip, length, Option, Some, None, Result, Ok, Err, refl, sym, ap, ap₂, ◌∙◌, subst, subst₂, arith}
+use Rattle.std.proofs.Common.{◌≡◌, ℕ, ◌+◌, ◌≤◌, ◌==◌, Bool, true, false, cond, List, [], ◌∷◌, ◌++◌, map, zip, length, Option, Some, None, Result, Ok, refl, sym, ap, ap₂, ◌∙◌, subst, arith}
 use Rattle.std.proofs.lemmas.List.{map-append, length-append, length-map}
 use Rattle.std.specs.List.{AllByRecursion}
 use Rattle.mvd_dots.specs.declared.refusals.Refusal.{Refusal}
@@ -11,18 +11,18 @@ use Rattle.mvd_wire.specs.Frames.{FrameValue}
 use Rattle.mvd_wire.specs.Replies.{CanBeSent}
 use Rattle.mvd_conn.specs.History.{History}
 use Rattle.mvd_replica.specs.Turns.{Turn}
-use Rattle.mvd_host.specs.Hosts.{AreKept, HostValue, IfClient, client_in}
-use Rattle.mvd_host.specs.Course.{AreQueued, Both, asked_by, own}
-use Rattle.mvd_host.specs.Taking.{AreFaults, Holds, TakesAll, TakesOn}
+use Rattle.mvd_host.specs.Hosts.{AreKept, IfClient, client_in}
+use Rattle.mvd_host.specs.Course.{AreQueued, Both, IsOut, asked_by, own}
+use Rattle.mvd_host.specs.Taking.{AreFaults, TakesAll, TakesOn, TakesOnly}
 use Rattle.mvd_host.specs.Queueing.{AreDue, Queues, QueuesOn, refused_all, refused_faults}
 use Rattle.mvd_site.specs.Sites.{SiteValue}
 use Rattle.mvd_replica.specs.Batch.{AnswersAll}
 use Rattle.sqlite.specs.State.{State}
-use Rattle.mvd_host.specs.Round.{Course, Round, Serves, turns_of}
+use Rattle.mvd_host.specs.Round.{Course, Round, Serves, Spares, turns_of}
 use Rattle.mvd_host.specs.declared.taking.Taken.{Taken}
 use Rattle.mvd_host.proofs.Own.{both_on, own-append}
 use Rattle.mvd_host.proofs.Serving.{IsStill, serves_none, serves_on, serves_still, serves_turns}
-use Rattle.mvd_host.proofs.ToldLemmas.{due_later, on, queued_length, queues_none}
+use Rattle.mvd_host.proofs.ToldLemmas.{on, queued_length, queues_none, untouched}
 
 -- what of a client's own things is looked at
 own_mapped : {X Y : Type 0} (n : ℕ) (g : X → Y) (xs : List (ℕ × X)) → own n (map {B = ℕ × Y} (λ x. (x.0, g x.1)) xs) ≡ map g (own n xs)
@@ -190,7 +190,7 @@ due_front xs ys clients due n = due_less (own n xs) (own n ys) (client_in client
 
 -- ---- what is true of a host still
 
-was : (a : Option History) (k : History) (R : History → History → Type 0) → Both a (Some k) R → (h : History) × (a ≡ Some h) × R h k
+pub was : (a : Option History) (k : History) (R : History → History → Type 0) → Both a (Some k) R → (h : History) × (a ≡ Some h) × R h k
 was None k R both = absurd both
 was (Some h) k R both = (h, refl, both)
 
@@ -256,14 +256,18 @@ answered_none rs ns clients site s numbers none = record {
 pub no_faults : (es : List (ℕ × Refusal)) (clients : List (ℕ × History)) → es ≡ [] → Queues (refused_faults es) clients clients
 no_faults es clients none = subst (λ (l : List (ℕ × Refusal)). Queues (refused_faults l) clients clients) (sym none) (queues_none clients)
 
-module _ (old mid between new : List (ℕ × History)) (taken : Taken) (all : TakesAll old mid taken) (admitted : ℕ) (site later : SiteValue) (before after : State)
-    (a : Answered all.requests mid between site later before after) (queued : Queues (refused_faults taken.faults.items) between new) where
+nothing_mapped : {X Y : Type 0} (f : X → Y) (xs : List X) → map f xs ≡ [] → xs ≡ []
+nothing_mapped f [] nothing = refl
+nothing_mapped {X} {Y} f (x ∷ xs) nothing = absurd (let no : ◌≡◌ {A = List Y} (f x ∷ map f xs) [] = nothing in cc)
+
+module _ (ready : List ℕ) (old mid between new : List (ℕ × History)) (taken : Taken) (took : TakesOnly ready (length ready) old mid taken) (admitted : ℕ) (site later : SiteValue) (before after : State)
+    (a : Answered took.all.requests mid between site later before after) (queued : Queues (refused_faults taken.faults.items) between new) where
   all_turns : List (ℕ × Turn)
-  all_turns = a.ts ++ fault_turns all.faulty taken.faults.items
+  all_turns = a.ts ++ fault_turns took.all.faulty taken.faults.items
 
   round_clients : (n : ℕ) → Both (client_in old n) (client_in new n) (Course (own n all_turns))
   unfolding all_turns faults_after
-  round_clients = courses old mid between new taken all a.ts a.asked a.queued queued
+  round_clients = courses old mid between new taken took.all a.ts a.asked a.queued queued
 
   pub round_kept : AreKept old admitted → AreKept new admitted
   round_kept kept = kept_after old new admitted all_turns kept round_clients
@@ -271,11 +275,38 @@ module _ (old mid between new : List (ℕ × History)) (taken : Taken) (all : Ta
   round_serves : Serves (turns_of all_turns) site later before after
   unfolding all_turns
   round_serves =
-      let faults = fault_turns all.faulty taken.faults.items in
+      let faults = fault_turns took.all.faulty taken.faults.items in
       subst (λ l. Serves l site later before after) (sym (map-append (λ (t : ℕ × Turn). t.1) a.ts faults))
-      (serves_on (turns_of a.ts) (turns_of faults) site later later before after after a.serves (serves_still (turns_of faults) later after (fault_still all.faulty taken.faults.items all.holds.faults)))
+      (serves_on (turns_of a.ts) (turns_of faults) site later later before after after a.serves (serves_still (turns_of faults) later after (fault_still took.all.faulty taken.faults.items took.all.holds.faults)))
 
-  pub round_of : (turns : List (ℕ × Turn)) × Round turns
+  -- no frame of a client, no turn
+  no_turns : (n : ℕ) → (own n took.all.requests ≡ []) × (own n took.all.faulty ≡ []) → (own n a.ts ≡ []) × (own n (fault_turns took.all.faulty taken.faults.items) ≡ [])
+  no_turns n none =
+      let faults = fault_turns took.all.faulty taken.faults.items in
+      let first : map (λ (t : Turn). t.asked) (own n a.ts) ≡ [] =
+      sym (own_mapped n (λ (t : Turn). t.asked) a.ts) ∙ ap (own n) a.asked ∙ own_mapped n (λ (r : Request). Ok r) took.all.requests ∙ ap (λ (l : List Request). map {B = Result Request Refusal} (λ r. Ok r) l) none.0 in
+      let second : map (λ (t : Turn). t.asked) (own n faults) ≡ [] =
+      sym (own_mapped n (λ (t : Turn). t.asked) faults) ∙ ap (own n) (fault_asks took.all.faulty taken.faults.items took.all.holds.faults) ∙ own_mapped n asked_by took.all.faulty ∙ ap (λ (l : List FrameValue). map asked_by l) none.1 in
+      (nothing_mapped (λ (t : Turn). t.asked) (own n a.ts) first, nothing_mapped (λ (t : Turn). t.asked) (own n faults) second)
+
+  none_of_all : (n : ℕ) → (own n took.all.requests ≡ []) × (own n took.all.faulty ≡ []) → own n all_turns ≡ []
+  unfolding all_turns
+  none_of_all n none = let both = no_turns n none in own-append n a.ts (fault_turns took.all.faulty taken.faults.items) ∙ ap₂ (λ x y. x ++ y) both.0 both.1
+
+  same_after : (n : ℕ) → IsOut n ready (length ready) → client_in new n ≡ client_in old n
+  same_after n out =
+      let both = no_turns n (took.only n out) in
+      let faults = fault_turns took.all.faulty taken.faults.items in
+      let first : own n (tells a.ts) ≡ [] = own_mapped n (λ (t : Turn). t.reply) a.ts ∙ ap (λ (l : List Turn). map (λ t. t.reply) l) both.0 in
+      let second : own n (refused_faults taken.faults.items) ≡ [] =
+      ap (own n) (sym (fault_tells took.all.faulty taken.faults.items took.all.holds.faults)) ∙ own_mapped n (λ (t : Turn). t.reply) faults ∙ ap (λ (l : List Turn). map (λ t. t.reply) l) both.1 in
+      untouched (own n (refused_faults taken.faults.items)) (client_in between n) (client_in new n) second (queued n)
+      ∙ untouched (own n (tells a.ts)) (client_in mid n) (client_in between n) first (a.queued n) ∙ took.same n out
+
+  round_spares : Spares ready all_turns (record { clients = old; admitted = admitted }) (record { clients = new; admitted = admitted })
+  round_spares = record { none = λ n gone. none_of_all n (took.none n gone); only = λ n out. none_of_all n (took.only n out); same = same_after }
+
+  pub round_of : (turns : List (ℕ × Turn)) × Round ready turns
       (record { host = record { clients = old; admitted = admitted }; site = site; store = before })
       (record { host = record { clients = new; admitted = admitted }; site = later; store = after })
-  round_of = (all_turns, record { serves = round_serves; clients = round_clients; admitted = refl })
+  round_of = (all_turns, record { serves = round_serves; clients = round_clients; spares = round_spares; admitted = refl })

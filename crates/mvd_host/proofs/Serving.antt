@@ -1,18 +1,18 @@
 -- Turns of a replica, one after the other, and turns that leave it as it is.
-use Rattle.std.proofs.Common.{◌≡◌, ◌≢◌, ◌⊎◌, inl, inr, ℕ, Bool, true, false, List, [], ◌∷◌, ◌++◌, map, Result, Ok, Err, refl, sym, ap, ◌∙◌, subst, true≢false, append-nil}
+use Rattle.std.proofs.Common.{◌≡◌, ◌≢◌, ◌⊎◌, inl, inr, Bool, true, false, List, [], ◌∷◌, ◌++◌, Result, Ok, Err, refl, sym, ap, ◌∙◌, subst, true≢false}
 use Rattle.std.specs.List.{AllByRecursion}
 use Rattle.mvd_dots.specs.declared.refusals.Refusal.{Refusal}
 use Rattle.mvd_dots.specs.declared.refusals.Refusal.TheVariants.{Broken, Memory}
-use Rattle.mvd_keys.specs.Writes.{Stands, Write}
+use Rattle.mvd_keys.specs.Writes.{Write}
 use Rattle.mvd_wire.specs.declared.request.Request.{Request}
 use Rattle.mvd_wire.specs.declared.reply.Reply.{Reply}
 use Rattle.mvd_wire.specs.declared.reply.Reply.TheVariants.{Refused}
 use Rattle.mvd_site.specs.Config.{ConfigValue}
-use Rattle.mvd_site.specs.Sites.{SiteStands, SiteValue}
+use Rattle.mvd_site.specs.Sites.{SiteValue}
 use Rattle.mvd_site.proofs.Outcomes.{memory_or_not}
 use Rattle.mvd_site.proofs.Pushes.{refusal_is}
 use Rattle.mvd_site.proofs.Steps.{Stands-nothing}
-use Rattle.mvd_replica.specs.Turns.{AddsAt, Event, IsToldElse, MayTell, RepliesOne, Tells, Turn}
+use Rattle.mvd_replica.specs.Turns.{Event, IsToldElse, MayTell, RepliesOne, Turn}
 use Rattle.mvd_replica.specs.Batch.{TakesTurns, TurnsFollow}
 use Rattle.mvd_replica.proofs.Batched.{TakesTurns-none, TurnsFollow-append}
 use Rattle.mvd_replica.proofs.Breaking.{else_both}

@@ -1,5 +1,5 @@
 -- The frames of clients, one client after the other.
-use Rattle.std.proofs.Common.{◌≡◌, ◌⊎◌, inl, inr, ℕ, ◌+◌, ◌==◌, Bool, true, false, cond, List, [], ◌∷◌, ◌++◌, map, length, slice_index, ◌<◌, ◌||◌, true≢false, Option, Some, None, Ok, refl, sym, ap, ◌∙◌, subst, subst₂, append-nil, arith}
+use Rattle.std.proofs.Common.{◌≡◌, ◌⊎◌, inl, inr, ℕ, ◌+◌, ◌==◌, Bool, true, false, cond, List, [], ◌∷◌, ◌++◌, map, length, slice_index, ◌<◌, ◌||◌, true≢false, Option, Some, None, refl, sym, ap, ap₂, ◌≢◌, ◌∙◌, subst, subst₂, append-nil, arith}
 use Rattle.std.proofs.lemmas.Bool.Decides.{nat_tests}
 use Rattle.std.specs.Ordering.{nat_cmp}
 use Rattle.std.specs.BTreeMap.{is_at}
@@ -10,7 +10,7 @@ use Rattle.mvd_wire.specs.Frames.{FrameValue}
 use Rattle.mvd_conn.specs.History.{History}
 use Rattle.mvd_host.specs.Hosts.{IfClient, client_in}
 use Rattle.mvd_host.specs.Course.{Both, own}
-use Rattle.mvd_host.specs.Taking.{AreFaults, Grows, Holds, IsIdle, IsMore, IsNone, TakesAll, TakesMore, TakesOf, TakesOn}
+use Rattle.mvd_host.specs.Taking.{AreFaults, Grows, Holds, IsIdle, IsMore, IsNone, TakesAll, TakesMore, TakesOf, TakesOn, TakesOnly}
 use Rattle.mvd_host.specs.declared.taking.Taken.{Taken}
 use Rattle.mvd_host.proofs.Frames.{none_moved, same, takes_on, then_none}
 use Rattle.mvd_host.proofs.Holding.{holds_same}
@@ -74,6 +74,51 @@ module _ (client : ℕ) (old mid new : List (ℕ × History)) (before after : Ta
     takes = λ n. at n (n == client) refl;
   }
 
+  -- of a client that is not this one, no more was taken
+  apart_too : (n : ℕ) → (n == client) ≡ false → (own n all.requests ≡ []) × (own n all.faulty ≡ []) → (own n (all.requests ++ more_requests) ≡ []) × (own n (all.faulty ++ more_faulty) ≡ [])
+  unfolding more_requests more_faulty
+  apart_too n apart none = (
+    own-append n all.requests more_requests ∙ ap₂ (λ a b. a ++ b) none.0 (own-other client n one.requests apart),
+    own-append n all.faulty more_faulty ∙ ap₂ (λ a b. a ++ b) none.1 (own-other client n one.faulty apart),
+  )
+
+  none_too : (n : ℕ) (b : Bool) → (n == client) ≡ b → client_in mid n ≡ None → (own n all.requests ≡ []) × (own n all.faulty ≡ []) → (own n (all.requests ++ more_requests) ≡ []) × (own n (all.faulty ++ more_faulty) ≡ [])
+  unfolding more_requests more_faulty
+  none_too n false is gone none = apart_too n is none
+  none_too n true is gone none =
+      let nothing = one.none (ap (client_in mid) (same_there n client is) ∙ gone) in (
+        own-append n all.requests more_requests ∙ ap₂ (λ a b. a ++ b) none.0 (ap (λ (l : List Request). own n (map {B = ℕ × Request} (λ r. (client, r)) l)) nothing.0),
+        own-append n all.faulty more_faulty ∙ ap₂ (λ a b. a ++ b) none.1 (ap (λ (l : List FrameValue). own n (map {B = ℕ × FrameValue} (λ f. (client, f)) l)) nothing.1),
+      )
+
+gone_too : (a b : Option History) (rs : List Request) (fs : List FrameValue) → Both a b (TakesOn rs fs) → a ≡ None → b ≡ None
+gone_too None None rs fs both gone = refl
+gone_too None (Some y) rs fs both gone = absurd both
+gone_too (Some x) b rs fs both gone = absurd (let no : ◌≡◌ {A = Option History} (Some x) None = gone in cc)
+
+apart_is : (n m : ℕ) → m ≢ n → (n == m) ≡ false
+apart_is n m other = by_eq (n == m) refl
+  where
+    by_eq : (b : Bool) → (n == m) ≡ b → (n == m) ≡ false
+    by_eq true is = absurd (other (same_there n m is))
+    by_eq false is = is
+
+pub only_nothing : (ready : List ℕ) (clients : List (ℕ × History)) (taken : Taken) → Holds [] [] taken → TakesOnly ready 0 clients clients taken
+unfolding takes_nothing
+only_nothing ready clients taken holds = record { all = takes_nothing clients taken holds; none = λ n _. (refl, refl); only = λ n _. (refl, refl); same = λ n _. refl }
+
+pub only_of : (ready : List ℕ) (at : ℕ) (old mid new : List (ℕ × History)) (before after : Taken) → TakesOnly ready at old mid before → TakesOf (slice_index ready at) mid new before after → TakesOnly ready (at + 1) old new after
+unfolding takes_of
+only_of ready at old mid new before after so_far one =
+    let client = slice_index ready at in
+    record {
+      all = takes_of client old mid new before after so_far.all one;
+      none = λ n gone. none_too client old mid new before after so_far.all one n (n == client) refl
+          (gone_too (client_in old n) (client_in mid n) (own n so_far.all.requests) (own n so_far.all.faulty) (so_far.all.takes n) gone) (so_far.none n gone);
+      only = λ n out. apart_too client old mid new before after so_far.all one n (apart_is n client (out at (omega arith))) (so_far.only n (λ i below. out i (omega (arith, below))));
+      same = λ n out. one.others n (apart_is n client (out at (omega arith))) ∙ so_far.same n (λ i below. out i (omega (arith, below)));
+    }
+
 -- ---- one of the clients
 
 own_none : (client : ℕ) (fs : List (ℕ × FrameValue)) (es : List (ℕ × Refusal)) → AreFaults fs es → list_any (λ (e : ℕ × Refusal). e.0 == client) es ≡ false → own client fs ≡ []
@@ -96,6 +141,7 @@ takes_here client old new h k before after was is at none more = record {
   faulty = more.faulty;
   first = λ asked faults holds. inl (own_none client faults before.faults.items holds.faults none);
   one = subst₂ (λ a b. Both a b (TakesOn more.requests more.faulty)) (sym was) (sym is) more.conn;
+  none = λ gone. absurd (let no : ◌≡◌ {A = Option History} (Some h) None = sym was ∙ gone in cc);
   others = λ q apart. at q ∙ ap (λ b. cond b (Some k) (client_in old q)) (at_is client q ∙ apart);
   holds = more.holds;
 }
@@ -106,6 +152,7 @@ takes_nowhere client old new taken is = record {
   faulty = [];
   first = λ asked faults holds. inr (refl, refl);
   one = subst (λ l. Both (client_in old client) (client_in l client) (TakesOn [] [])) (sym is) (both_self (client_in old client) (TakesOn [] []) (λ x. same x x (record { taken = refl; answers = refl; moved = none_moved x })));
+  none = λ _. (refl, refl);
   others = λ q apart. ap (λ l. client_in l q) is;
   holds = λ asked faults holds. holds_same asked faults taken taken (record { clients = refl; requests = refl; faults = refl }) holds;
 }

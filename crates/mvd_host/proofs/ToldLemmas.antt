@@ -1,6 +1,5 @@
 -- The replies, one after the other.
-use Rattle.std.proofs.Common.{◌≡◌, ℕ, ◌+◌, ◌≤◌, ◌<◌, ◌==◌, Bool, true, false, cond, List, [], ◌∷◌, ◌++◌, map, length, Option, Some, None, refl, sym, ap, ap₂, ◌∙◌, subst, subst₂, append_assoc, append-nil, true≢false, arith}
-use Rattle.std.proofs.lemmas.Bool.Decides.{nat_tests}
+use Rattle.std.proofs.Common.{◌≡◌, ℕ, ◌+◌, ◌≤◌, ◌<◌, cond, List, [], ◌∷◌, ◌++◌, map, length, Option, Some, None, refl, sym, ap, ◌∙◌, subst, append_assoc, append-nil, arith}
 use Rattle.std.proofs.lemmas.List.{length-append}
 use Rattle.std.specs.List.{AllByRecursion}
 use Rattle.mvd_wire.specs.declared.reply.Reply.{Reply}
@@ -25,7 +24,22 @@ queued_on (x ∷ xs) ys [] cs one other = absurd one
 queued_on (x ∷ xs) ys (b ∷ bs) cs one other = (one.0, queued_on xs ys bs cs one.1 other)
 
 pub queues_none : (clients : List (ℕ × History)) → Queues [] clients clients
-queues_none clients n = both_self (client_in clients n) (QueuesOn []) (λ x. record { queued = []; answers = sym (append-nil x.answers); told = tt; taken = refl; moved = none_moved x })
+queues_none clients n = both_self (client_in clients n) (QueuesOn []) (λ x. record { queued = []; answers = sym (append-nil x.answers); told = tt; taken = refl; moved = none_moved x; none = λ _. refl })
+
+no_first : {X : Type 0} (xs ys : List X) → xs ++ ys ≡ [] → xs ≡ []
+no_first [] ys nothing = refl
+no_first {X} (x ∷ xs) ys nothing = absurd (let no : ◌≡◌ {A = List X} (x ∷ (xs ++ ys)) [] = nothing in cc)
+
+no_second : {X : Type 0} (xs ys : List X) → xs ++ ys ≡ [] → ys ≡ []
+no_second [] ys nothing = nothing
+no_second {X} (x ∷ xs) ys nothing = absurd (let no : ◌≡◌ {A = List X} (x ∷ (xs ++ ys)) [] = nothing in cc)
+
+-- where no reply is queued for a client, it is as it was
+pub untouched : (replies : List Reply) (a b : Option History) → replies ≡ [] → Both a b (QueuesOn replies) → b ≡ a
+untouched replies None None nothing both = refl
+untouched replies None (Some y) nothing both = absurd both
+untouched replies (Some x) None nothing both = absurd both
+untouched replies (Some x) (Some y) nothing both = ap (λ h. Some h) (both.none nothing)
 
 pub on : (xs ys : List Reply) (x y z : History) → QueuesOn xs x y → QueuesOn ys y z → QueuesOn (xs ++ ys) x z
 on xs ys x y z p q = record {
@@ -34,6 +48,7 @@ on xs ys x y z p q = record {
   told = queued_on xs ys p.queued q.queued p.told q.told;
   taken = q.taken ∙ p.taken;
   moved = record { came = q.moved.came ∙ p.moved.came; source = q.moved.source ∙ p.moved.source; left = q.moved.left ∙ p.moved.left; failed = q.moved.failed ∙ p.moved.failed };
+  none = λ nothing. q.none (no_second xs ys nothing) ∙ p.none (no_first xs ys nothing);
 }
 
 pub queues_on : (xs ys : List (ℕ × Reply)) (old mid new : List (ℕ × History)) → Queues xs old mid → Queues ys mid new → Queues (xs ++ ys) old new

@@ -1,5 +1,5 @@
 -- What of a list is a client's own, and what a connection is from one moment to a later one.
-use Rattle.std.specs.Prelude.{◌≡◌, ℕ, ◌==◌, if◌then◌else◌, List, [], ◌∷◌, ◌++◌, map, length, Option, Some, None, Result, Ok, ⊤}
+use Rattle.std.specs.Prelude.{◌≡◌, ◌≢◌, ◌<◌, slice_index, ℕ, ◌==◌, if◌then◌else◌, List, [], ◌∷◌, Option, Some, None, Result, ⊤}
 use Rattle.mvd_dots.specs.declared.refusals.Refusal.{Refusal}
 use Rattle.mvd_wire.specs.declared.request.Request.{Request}
 use Rattle.mvd_wire.specs.declared.reply.Reply.{Reply}
@@ -13,6 +13,10 @@ use Rattle.mvd_conn.specs.Stands.{IsQueued}
 abbrev pub own : {X : Type 0} → ℕ → List (ℕ × X) → List X
 own n [] = []
 own n (x ∷ xs) = if x.0 == n then x.1 ∷ own n xs else own n xs
+
+-- the client is none of the first of these
+abbrev pub IsOut : ℕ → List ℕ → ℕ → Type 0
+IsOut n ready count = (i : ℕ) → i < count → slice_index ready i ≢ n
 
 -- a client that was there is there, and this is true of what its connection was and is
 abbrev pub Both : Option History → Option History → (History → History → Type 0) → Type 0

@@ -1,5 +1,5 @@
 -- The connections of many clients, and what calls on one of them make of it.
-use Rattle.std.specs.Prelude.{◌≡◌, ℕ, ◌+◌, ◌<◌, ◌≤◌, ◌⊎◌, ◌==◌, if◌then◌else◌, Bool, List, [], length, Option, Some, None, ⊤}
+use Rattle.std.specs.Prelude.{◌≡◌, ℕ, ◌+◌, ◌<◌, ◌≤◌, ◌⊎◌, ◌==◌, if◌then◌else◌, List, [], length, Option, Some, None, ⊤}
 use Rattle.std.specs.Ordering.{nat_cmp}
 use Rattle.std.specs.BTreeMap.{is_at}
 use Rattle.std.specs.Map.{lookup, set_value, remove_entry}
@@ -64,6 +64,11 @@ pub record AdmitsOne (old new : HostValue) (n : ℕ) : Type 0 where
 abbrev pub Admits : HostValue → Option ℕ → HostValue → Type 0
 Admits old None new = (new ≡ old) × ((clients_most ≤ length old.clients) ⊎ (old.admitted ≡ admitted_most))
 Admits old (Some n) new = AdmitsOne old new n
+
+-- a client goes, if there is such a one, and the others stay
+pub record Leaves (old : HostValue) (n : ℕ) (new : HostValue) : Type 0 where
+  pub clients : (q : ℕ) → client_of new q ≡ (if q == n then None else client_of old q)
+  pub admitted : new.admitted ≡ old.admitted
 
 -- The clients' numbers were given, and each frame that was taken of one was answered
 pub record AreKept (clients : List (ℕ × History)) (admitted : ℕ) : Type 0 where

@@ -4,3 +4,4 @@ pub mod Course
 pub mod Taking
 pub mod Queueing
 pub mod Round
+pub mod Runs

@@ -1,5 +1,5 @@
 -- The replies, each queued on its own client's connection.
-use Rattle.std.specs.Prelude.{◌≡◌, ℕ, ◌+◌, ◌≤◌, List, [], ◌∷◌, ◌++◌, length, map}
+use Rattle.std.specs.Prelude.{◌≡◌, ℕ, ◌+◌, ◌≤◌, List, [], ◌++◌, length, map}
 use Rattle.mvd_dots.specs.declared.refusals.Refusal.{Refusal}
 use Rattle.mvd_wire.specs.declared.reply.Reply.{Reply}
 use Rattle.mvd_wire.specs.declared.reply.Reply.TheVariants.{Refused}
@@ -14,6 +14,7 @@ pub record QueuesOn (replies : List Reply) (old new : History) : Type 0 where
   pub told : AreQueued replies queued
   pub taken : new.taken ≡ old.taken
   pub moved : NoneMoved old new
+  pub none : replies ≡ [] → new ≡ old
 
 -- each client's own replies were queued on its connection, in order
 abbrev pub Queues : List (ℕ × Reply) → List (ℕ × History) → List (ℕ × History) → Type 0

@@ -1,5 +1,5 @@
 -- One round: frames of many clients, as turns of one list.
-use Rattle.std.specs.Prelude.{◌≡◌, ℕ, List, [], ◌++◌, map, false}
+use Rattle.std.specs.Prelude.{◌≡◌, ℕ, List, [], ◌++◌, map, length, None, false}
 use Rattle.std.specs.List.{AllByRecursion}
 use Rattle.mvd_wire.specs.Frames.{FrameValue}
 use Rattle.mvd_conn.specs.History.{History}
@@ -7,7 +7,7 @@ use Rattle.mvd_site.specs.Sites.{SiteValue}
 use Rattle.mvd_replica.specs.Turns.{Event, IsToldElse, Replies, StandsOn, Tells, Turn}
 use Rattle.mvd_replica.specs.Batch.{TurnsFollow}
 use Rattle.mvd_host.specs.Hosts.{HostValue, client_of}
-use Rattle.mvd_host.specs.Course.{AreQueued, Both, NoneMoved, asked_by, own}
+use Rattle.mvd_host.specs.Course.{AreQueued, Both, IsOut, NoneMoved, asked_by, own}
 use Rattle.sqlite.specs.State.{State}
 
 -- a host, and the replica that answers its clients
@@ -41,8 +41,16 @@ pub record Course (turns : List Turn) (old new : History) : Type 0 where
   pub told : AreQueued (map (λ t. t.reply) turns) queued
   pub moved : NoneMoved old new
 
--- The turns of the list are those of one replica, and each client's own turns are the course of its connection
-pub record Round (turns : List (ℕ × Turn)) (old new : Side) : Type 0 where
+-- A client that is not ready has no turn and is as it was, and where there is no such client there is no turn of it
+pub record Spares (ready : List ℕ) (turns : List (ℕ × Turn)) (old new : HostValue) : Type 0 where
+  pub none : (n : ℕ) → client_of old n ≡ None → own n turns ≡ []
+  pub only : (n : ℕ) → IsOut n ready (length ready) → own n turns ≡ []
+  pub same : (n : ℕ) → IsOut n ready (length ready) → client_of new n ≡ client_of old n
+
+-- The turns of the list are those of one replica, and each client's own turns are the course of its connection. Only ready clients
+-- have turns
+pub record Round (ready : List ℕ) (turns : List (ℕ × Turn)) (old new : Side) : Type 0 where
   pub serves : Serves (turns_of turns) old.site new.site old.store new.store
   pub clients : (n : ℕ) → Both (client_of old.host n) (client_of new.host n) (Course (own n turns))
+  pub spares : Spares ready turns old.host new.host
   pub admitted : new.host.admitted ≡ old.host.admitted

@@ -1,12 +1,12 @@
 -- The frames that are taken in one round.
-use Rattle.std.specs.Prelude.{◌≡◌, ◌==◌, ℕ, ◌+◌, ◌≤◌, ◌<◌, ◌⊎◌, List, [], ◌∷◌, ◌++◌, map, length, Result, Ok, Err, ⊤, false, vec_len, vec_capacity}
+use Rattle.std.specs.Prelude.{◌≡◌, ◌==◌, ℕ, ◌+◌, ◌≤◌, ◌<◌, ◌⊎◌, List, [], ◌∷◌, ◌++◌, map, length, Ok, Err, None, ⊤, false, vec_len, vec_capacity}
 use Rattle.mvd_dots.specs.declared.refusals.Refusal.{Refusal}
 use Rattle.mvd_dots.specs.Answer.{IsAnswer}
 use Rattle.mvd_wire.specs.declared.request.Request.{Request}
 use Rattle.mvd_wire.specs.Frames.{FrameValue}
 use Rattle.mvd_conn.specs.History.{History, after_next}
 use Rattle.mvd_host.specs.Hosts.{client_in}
-use Rattle.mvd_host.specs.Course.{Both, NoneMoved, asked_by, own}
+use Rattle.mvd_host.specs.Course.{Both, IsOut, NoneMoved, asked_by, own}
 use Rattle.mvd_host.specs.declared.taking.Taken.{Taken}
 
 -- frames of clients that are no requests, and what each is told: its fault, or want of memory
@@ -78,6 +78,7 @@ pub record TakesOf (client : ℕ) (old new : List (ℕ × History)) (before afte
   pub faulty : List FrameValue
   pub first : (asked : List (ℕ × Request)) (faults : List (ℕ × FrameValue)) → Holds asked faults before → (own client faults ≡ []) ⊎ ((requests ≡ []) × (faulty ≡ []))
   pub one : Both (client_in old client) (client_in new client) (TakesOn requests faulty)
+  pub none : client_in old client ≡ None → (requests ≡ []) × (faulty ≡ [])
   pub others : (q : ℕ) → (q == client) ≡ false → client_in new q ≡ client_in old q
   pub holds : (asked : List (ℕ × Request)) (faults : List (ℕ × FrameValue)) → Holds asked faults before →
       Holds (asked ++ map (λ r. (client, r)) requests) (faults ++ map (λ f. (client, f)) faulty) after
@@ -88,6 +89,13 @@ pub record TakesAll (old new : List (ℕ × History)) (taken : Taken) : Type 0 w
   pub faulty : List (ℕ × FrameValue)
   pub holds : Holds requests faulty taken
   pub takes : Takes requests faulty old new
+
+-- and of the first of these clients alone: where there is no such client, or it is not looked at, no frame of it was taken
+pub record TakesOnly (ready : List ℕ) (count : ℕ) (old new : List (ℕ × History)) (taken : Taken) : Type 0 where
+  pub all : TakesAll old new taken
+  pub none : (n : ℕ) → client_in old n ≡ None → (own n all.requests ≡ []) × (own n all.faulty ≡ [])
+  pub only : (n : ℕ) → IsOut n ready count → (own n all.requests ≡ []) × (own n all.faulty ≡ [])
+  pub same : (n : ℕ) → IsOut n ready count → client_in new n ≡ client_in old n
 
 -- nothing was taken
 abbrev pub IsNone : Taken → Type 0

@@ -3,6 +3,7 @@ ghost use Rattle.std.specs.Prelude.{◌≡◌, ◌≤◌, ◌⊎◌, ◌↔◌, 
 ghost use Rattle.std.specs.Option.{option_and_then};
 ghost use Rattle.mvd_dots.specs.declared.refusals.Refusal.TheVariants as Refusal;
 ghost use Rattle.mvd_conn.specs.History.{WantsInput, closed, cut, ending_of, fed, is_done, piece_most, released, sent};
+ghost use Rattle.mvd_conn.specs.Stands.{Stands};
 ghost use Rattle.mvd_conn.specs.declared.ending.Source.TheVariants as Source;
 
 use mvd_conn::{Connection, Ending};
@@ -37,7 +38,7 @@ impl Model for Host {
 }
 
 impl Host {
-    ghost use Rattle.mvd_host.specs.Hosts.{Admits, IfClient, IsClient, altered, client_of, new_host, without};
+    ghost use Rattle.mvd_host.specs.Hosts.{Admits, IfClient, IsClient, Leaves, altered, client_of, new_host, without};
 
     /// A host without clients.
     pub fn new(alloc: Global) -> Host
@@ -74,7 +75,8 @@ impl Host {
 
     /// Lets a client go, whose number is not used again.
     pub fn dismiss(&mut self, client: u64)
-        ensures { self.new ≡ without self.old client }
+        ensures removed { self.new ≡ without self.old client }
+        ensures leaves { Leaves self.old client self.new }
     {
         self.clients.remove(&client);
     }
@@ -157,6 +159,15 @@ impl Host {
         match self.clients.get(&client) {
             Some(connection) => connection.ending(),
             None => None,
+        }
+    }
+
+    /// What is true of a client's connection.
+    pub fn stands(&self, client: u64)
+        ensures { IfClient (client_of self.now client) Stands }
+    {
+        if let Some(connection) = self.clients.get(&client) {
+            connection.stands();
         }
     }
 

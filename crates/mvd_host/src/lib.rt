@@ -3,6 +3,7 @@
 #![tactic(auto)]
 
 mod host;
+pub mod laws;
 mod queueing;
 mod round;
 mod taking;

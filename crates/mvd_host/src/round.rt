@@ -17,7 +17,7 @@ impl Host {
     /// Takes at most 64 frames of each ready client, answers them together, and queues each reply on its own client's connection.
     /// Whether there may be more to do at once: it is `false` where no frame was taken, and memory was not refused for one.
     pub fn round<S: Alter>(&mut self, replica: &mut Replica<S>, ready: &[u64]) -> bool
-        ensures round { (turns : List (ℕ × Turn)) × Round turns
+        ensures round { (turns : List (ℕ × Turn)) × Round ready.now turns
             (record { host = self.old; site = replica.old.site; store = state S.Store replica.old.records.conn })
             (record { host = self.new; site = replica.new.site; store = state S.Store replica.new.records.conn }) }
         ensures idle { result ≡ false → (i : ℕ) → i < length ready.now → IfClient (client_of self.new (slice_index ready.now i)) IsIdle }

@@ -28,7 +28,7 @@ pub(crate) struct Taken {
 impl Taken {
     ghost use Rattle.mvd_host.specs.Course.{own};
     ghost use Rattle.mvd_host.specs.Hosts.{IfClient, client_in};
-    ghost use Rattle.mvd_host.specs.Taking.{EndsTaking, Grows, HasRoom, Holds, IsIdle, Keeps, IsMore, IsNone, Takes, TakesAll, TakesMore, TakesOf, TakesRequests};
+    ghost use Rattle.mvd_host.specs.Taking.{EndsTaking, Grows, HasRoom, Holds, IsIdle, Keeps, IsMore, IsNone, Takes, TakesMore, TakesOf, TakesOnly, TakesRequests};
 
     pub(crate) fn new(alloc: Global) -> Taken
         ensures { Holds [] [] result }
@@ -136,7 +136,7 @@ impl Taken {
         ready: &[u64],
     ) -> bool
         requires none { Holds [] [] self.old }
-        ensures took { TakesAll clients.old.entries clients.new.entries self.new }
+        ensures took { TakesOnly ready.now (length ready.now) clients.old.entries clients.new.entries self.new }
         ensures idle { result ≡ false → IsNone self.new → (i : ℕ) → i < length ready.now → IfClient (client_in clients.new.entries (slice_index ready.now i)) IsIdle }
     {
         let mut refused = false;

@@ -1,5 +1,5 @@
-use Rattle.std.proofs.Common.{length, zip}
-use Rattle.mvd_host.specs.Queueing.{refused_all, refused_faults}
+use Rattle.std.proofs.Common.{length}
+use Rattle.mvd_host.specs.Queueing.{refused_faults}
 use Rattle.mvd_host.proofs.ToldLemmas.{Queueing}
 use Rattle.mvd_host.proofs.queueing.queue_faults.Given as goal
 

@@ -1,5 +1,4 @@
 use Rattle.std.proofs.Common.{length, zip}
-use Rattle.mvd_host.specs.Queueing.{refused_all, refused_faults}
 use Rattle.mvd_host.proofs.ToldLemmas.{Queueing}
 use Rattle.mvd_host.proofs.queueing.queue_replies.Given as goal
 

@@ -1,8 +1,8 @@
-use Rattle.std.proofs.Common.{◌≡◌, ◌<◌, ◌+◌, length, List, ℕ, sym, ap, ◌∙◌, subst, cond, if◌then◌else◌, Option, Some, None, is_some, refl, arith}
+use Rattle.std.proofs.Common.{◌≡◌, ◌<◌, ◌+◌, length, List, ℕ, sym, ap, ◌∙◌, subst, cond, if◌then◌else◌, Option, Some, None, is_some, arith}
 use Rattle.std.proofs.lemmas.Bool.Decides.{nat_tests}
 use Rattle.std.specs.Ordering.{nat_cmp}
 use Rattle.std.specs.BTreeMap.{is_at}
-use Rattle.mvd_conn.specs.History.{History, new_history}
+use Rattle.mvd_conn.specs.History.{History}
 use Rattle.mvd_host.specs.Hosts.{AdmitsOne, AreKept, HostValue, client_in}
 use Rattle.mvd_host.proofs.Hosts.{admits, kept_inserted, none_at}
 use Rattle.mvd_host.proofs.host.Host.admit.Goals as goal

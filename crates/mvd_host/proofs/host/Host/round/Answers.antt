@@ -1,5 +1,4 @@
-use Rattle.std.proofs.Common.{◌≡◌, ◌+◌, rules, ◌==◌, Bool, true, [], ◌∷◌, length, true≢false, arith, Ok, ◌∙◌, ◌++◌, ℕ, List, map, zip, sym, ap, ap₂, subst, subst₂}
-use Rattle.mvd_conn.specs.History.{History}
+use Rattle.std.proofs.Common.{◌≡◌, ◌+◌, rules, [], length, true≢false, Ok, ◌∙◌, ℕ, List, map, zip, sym, ap, subst, subst₂}
 use Rattle.mvd_wire.specs.declared.request.Request.{Request}
 use Rattle.mvd_wire.specs.declared.reply.Reply.{Reply}
 use Rattle.mvd_host.specs.Queueing.{AreDue, Queues, refused_all, refused_faults}
@@ -19,7 +18,8 @@ use Rattle.mvd_host.proofs.host.Host.round.Goals as goal
 
 pub queue_replies-requires-clause-due : goal.queue_replies-requires-clause-due
 queue_replies-requires-clause-due g c =
-    let all = c.take_all-refused.ensures.took in
+    let took = c.take_all-refused.ensures.took in
+    let all = took.all in
     let taken = c.take_all-refused.new.self in
     let a = c.in-Ok.ensures.answers in
     let old = c.self.inside.clients.entries in
@@ -31,7 +31,8 @@ queue_replies-requires-clause-due g c =
 
 pub queue_refused-requires : goal.queue_refused-requires
 queue_refused-requires g c =
-    let all = c.take_all-refused.ensures.took in
+    let took = c.take_all-refused.ensures.took in
+    let all = took.all in
     let taken = c.take_all-refused.new.self in
     let old = c.self.inside.clients.entries in
     let mid = c.take_all-refused.new.clients.entries in
@@ -48,7 +49,8 @@ queue_replies-requires-clause-fits g c =
 
 pub queue_faults-requires : goal.queue_faults-requires
 queue_faults-requires g c =
-    let all = c.take_all-refused.ensures.took in
+    let took = c.take_all-refused.ensures.took in
+    let all = took.all in
     let taken = c.take_all-refused.new.self in
     let old = c.self.inside.clients.entries in
     let mid = c.take_all-refused.new.clients.entries in
@@ -70,7 +72,8 @@ queue_faults-requires g c =
 -- nothing was taken
 pub invariant_of-self : goal.invariant_of-self
 invariant_of-self g c =
-    let all = c.take_all-refused.ensures.took in
+    let took = c.take_all-refused.ensures.took in
+    let all = took.all in
     let taken = c.take_all-refused.new.self in
     let old = c.self.inside.clients.entries in
     let mid = c.take_all-refused.new.clients.entries in
@@ -81,11 +84,12 @@ invariant_of-self g c =
     let sound : taken.faults.items ≡ [] = later_items (length taken.clients.items) taken.faults.items zero in
     let a = answered_none all.requests taken.clients.items mid site store all.holds.clients none in
     let faults = no_faults taken.faults.items mid sound in
-    round_kept old mid mid mid taken all c.self.inside.admitted site site store store a faults c.self.invariant
+    round_kept c.args.ready.now old mid mid mid taken took c.self.inside.admitted site site store store a faults c.self.invariant
 
 pub returns-then-is_empty-2-clause-round : goal.returns-then-is_empty-2-clause-round
 returns-then-is_empty-2-clause-round g c =
-    let all = c.take_all-refused.ensures.took in
+    let took = c.take_all-refused.ensures.took in
+    let all = took.all in
     let taken = c.take_all-refused.new.self in
     let old = c.self.inside.clients.entries in
     let mid = c.take_all-refused.new.clients.entries in
@@ -96,13 +100,14 @@ returns-then-is_empty-2-clause-round g c =
     let sound : taken.faults.items ≡ [] = later_items (length taken.clients.items) taken.faults.items zero in
     let a = answered_none all.requests taken.clients.items mid site store all.holds.clients none in
     let faults = no_faults taken.faults.items mid sound in
-    subst (λ (h : HostValue). (turns : List (ℕ × Turn)) × Round turns (record { host = h; site = site; store = store }) (record { host = record { clients = mid; admitted = c.self.inside.admitted }; site = site; store = store }))
-    c.self.view_is (round_of old mid mid mid taken all c.self.inside.admitted site site store store a faults)
+    subst (λ (h : HostValue). (turns : List (ℕ × Turn)) × Round c.args.ready.now turns (record { host = h; site = site; store = store }) (record { host = record { clients = mid; admitted = c.self.inside.admitted }; site = site; store = store }))
+    c.self.view_is (round_of c.args.ready.now old mid mid mid taken took c.self.inside.admitted site site store store a faults)
 
 -- something was
 pub invariant_of-self-2 : goal.invariant_of-self-2
 invariant_of-self-2 g c =
-    let all = c.take_all-refused.ensures.took in
+    let took = c.take_all-refused.ensures.took in
+    let all = took.all in
     let taken = c.take_all-refused.new.self in
     let old = c.self.inside.clients.entries in
     let mid = c.take_all-refused.new.clients.entries in
@@ -127,11 +132,12 @@ invariant_of-self-2 g c =
     let store = state g.S.Store c.args.replica.now.records.conn in
     let after = state g.S.Store c.answer_all.new.self.records.conn in
     let faults = subst (λ (l : List (ℕ × Refusal)). Queues (refused_faults l) between new) c.deref-2.ensures.value c.queue_faults.ensures.queues in
-    subst (λ n. AreKept new n) (sym admitted) (round_kept old mid between new taken all c.self.inside.admitted site later store after a faults c.self.invariant)
+    subst (λ n. AreKept new n) (sym admitted) (round_kept c.args.ready.now old mid between new taken took c.self.inside.admitted site later store after a faults c.self.invariant)
 
 pub returns-clause-round : goal.returns-clause-round
 returns-clause-round g c =
-    let all = c.take_all-refused.ensures.took in
+    let took = c.take_all-refused.ensures.took in
+    let all = took.all in
     let taken = c.take_all-refused.new.self in
     let old = c.self.inside.clients.entries in
     let mid = c.take_all-refused.new.clients.entries in
@@ -156,8 +162,8 @@ returns-clause-round g c =
     let store = state g.S.Store c.args.replica.now.records.conn in
     let after = state g.S.Store c.answer_all.new.self.records.conn in
     let faults = subst (λ (l : List (ℕ × Refusal)). Queues (refused_faults l) between new) c.deref-2.ensures.value c.queue_faults.ensures.queues in
-    subst₂ (λ (h : HostValue) (n : ℕ). (turns : List (ℕ × Turn)) × Round turns (record { host = h; site = site; store = store }) (record { host = record { clients = new; admitted = n }; site = later; store = after }))
-    c.self.view_is (sym admitted) (round_of old mid between new taken all c.self.inside.admitted site later store after a faults)
+    subst₂ (λ (h : HostValue) (n : ℕ). (turns : List (ℕ × Turn)) × Round c.args.ready.now turns (record { host = h; site = site; store = store }) (record { host = record { clients = new; admitted = n }; site = later; store = after }))
+    c.self.view_is (sym admitted) (round_of c.args.ready.now old mid between new taken took c.self.inside.admitted site later store after a faults)
 
 pub returns-clause-idle : goal.returns-clause-idle
 returns-clause-idle g c = λ no. absurd (true≢false no)

@@ -1,5 +1,5 @@
-use Rattle.std.proofs.Common.{◌≡◌, ◌+◌, ◌-◌, ◌<◌, ℕ, length, refl, sym, subst, arith}
-use Rattle.mvd_host.specs.Taking.{HasRoom, TakesMore, TakesRequests}
+use Rattle.std.proofs.Common.{◌≡◌, ◌+◌, ◌-◌, ◌<◌, refl, subst, arith}
+use Rattle.mvd_host.specs.Taking.{HasRoom}
 use Rattle.mvd_host.proofs.Frames.{none_moved, same}
 use Rattle.mvd_host.proofs.Holding.{kept_more, kept_nothing, took_no_request, takes_more, takes_requests}
 use Rattle.mvd_host.proofs.taking.Taken.take.Goals as goal

@@ -1,4 +1,4 @@
-use Rattle.std.proofs.Common.{◌≡◌, ◌≤◌, ◌+◌, ◌-◌, length}
+use Rattle.std.proofs.Common.{◌≡◌, ◌+◌, ◌-◌, length}
 use Rattle.mvd_host.specs.Taking.{HasRoom, TakesRequests}
 use Rattle.mvd_host.proofs.taking.Taken.take.Given as goal
 

@@ -1,5 +1,4 @@
-use Rattle.std.proofs.Common.{◌≡◌, ◌∙◌, Some, List, ℕ, IsSome, refl, sym, ap, subst}
-use Rattle.mvd_conn.specs.History.{History}
+use Rattle.std.proofs.Common.{◌≡◌, ◌∙◌, Some, IsSome, refl, sym, ap, subst}
 use Rattle.mvd_host.specs.Hosts.{client_in}
 use Rattle.mvd_host.proofs.TakingAll.{takes_here, takes_nowhere}
 use Rattle.mvd_host.proofs.taking.Taken.take_of.Goals as goal

@@ -1,10 +1,6 @@
-use Rattle.std.proofs.Common.{◌≡◌, ◌++◌, ◌∷◌, [], List, ℕ, Bool, true, false, Ok, Err, refl, sym, ap, ◌∙◌, subst, inr}
-use Rattle.mvd_dots.specs.Answer.{IsAnswer}
-use Rattle.mvd_wire.specs.declared.request.Request.{Request}
-use Rattle.mvd_wire.specs.Frames.{FrameValue}
+use Rattle.std.proofs.Common.{◌≡◌, ◌∷◌, [], Bool, true, false, refl, sym, ap, ◌∙◌, subst, inr}
 use Rattle.mvd_conn.specs.History.{History, after_next}
-use Rattle.mvd_host.specs.Course.{asked_by}
-use Rattle.mvd_host.specs.Taking.{Holds, TakesMore, TakesOn}
+use Rattle.mvd_host.specs.Taking.{TakesOn}
 use Rattle.mvd_host.proofs.Frames.{TookOne, idle_after, took_fault, took_none, took_nothing, took_one, took_request}
 use Rattle.mvd_host.proofs.Holding.{holds_fault, holds_request, holds_same, kept_nothing}
 use Rattle.mvd_host.proofs.taking.Taken.take_one.Goals as goal

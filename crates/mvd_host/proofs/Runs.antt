@@ -1,0 +1,276 @@
+-- Rounds, and what comes between them, one after the other.
+use Rattle.std.proofs.Common.{◌≡◌, ℕ, ◌≤◌, ◌<◌, ◌==◌, Bool, true, false, cond, List, [], ◌∷◌, ◌++◌, map, Option, Some, None, refl, sym, ap, ap₂, ◌∙◌, subst, append-nil, append_assoc, arith}
+use Rattle.std.proofs.lemmas.Bool.Decides.{nat_tests}
+use Rattle.std.proofs.lemmas.List.{map-append}
+use Rattle.std.specs.Ordering.{nat_cmp}
+use Rattle.std.specs.BTreeMap.{is_at}
+use Rattle.std.specs.Map.{set_value}
+use Rattle.mvd_conn.specs.History.{History, new_history}
+use Rattle.mvd_replica.specs.Turns.{Turn}
+use Rattle.mvd_host.specs.Hosts.{AdmitsOne, HostValue, Leaves, altered, altered_if, client_in, client_of, new_host, with_client}
+use Rattle.mvd_host.specs.Course.{AreQueued, Both, asked_by, own}
+use Rattle.mvd_host.specs.Round.{Course, Round, Serves, turns_of}
+use Rattle.mvd_host.specs.Runs.{Call, Calls, Closes, Comes, Cuts, Feeds, Goes, Happening, May, Moment, OneList, Releases, Rounds, Runs, Sends, Tells, after_call, after_one, after_run, side_of, turns_at, turns_in}
+use Rattle.mvd_host.proofs.Hosts.{at_is}
+use Rattle.mvd_host.proofs.Own.{own-append}
+use Rattle.mvd_host.proofs.RoundLemmas.{was}
+use Rattle.mvd_host.proofs.Serving.{serves_none, serves_on}
+use Rattle.mvd_host.proofs.ToldLemmas.{queued_on}
+use Rattle.sqlite.specs.State.{State}
+
+-- ---- a call on one client
+
+set_other : (n q : ℕ) → (q == n) ≡ false → (es : List (ℕ × History)) (w : History) → client_in (set_value (is_at (nat_cmp n)) es w) q ≡ client_in es q
+set_other n q apart [] w = refl
+set_other n q apart (e ∷ es) w = on (set_other n q apart es w) (is_at (nat_cmp n) e.0) refl
+  where
+    on : client_in (set_value (is_at (nat_cmp n)) es w) q ≡ client_in es q → (b : Bool) → is_at (nat_cmp n) e.0 ≡ b → client_in (cond b ((e.0, w) ∷ es) (e ∷ set_value (is_at (nat_cmp n)) es w)) q ≡ cond (is_at (nat_cmp q) e.0) (Some e.1) (client_in es q)
+    on rest true is =
+        let hit : (e.0 == n) ≡ true = sym (at_is n e.0) ∙ is in
+        let miss : (e.0 == q) ≡ false = grind (arith, nat_tests, hit, apart) in
+        let off : is_at (nat_cmp q) e.0 ≡ false = at_is q e.0 ∙ miss in
+        ap (λ c. cond c (Some w) (client_in es q)) off ∙ sym (ap (λ c. cond c (Some e.1) (client_in es q)) off)
+    on rest false is = ap (λ (o : Option History). cond (is_at (nat_cmp q) e.0) (Some e.1) o) rest
+
+set_here : (n : ℕ) (es : List (ℕ × History)) (w h : History) → client_in es n ≡ Some h → client_in (set_value (is_at (nat_cmp n)) es w) n ≡ Some w
+set_here n [] w h found = absurd (let no : ◌≡◌ {A = Option History} None (Some h) = found in cc)
+set_here n (e ∷ es) w h found = on (set_here n es w h) (is_at (nat_cmp n) e.0) refl found
+  where
+    on : (client_in es n ≡ Some h → client_in (set_value (is_at (nat_cmp n)) es w) n ≡ Some w) → (b : Bool) → is_at (nat_cmp n) e.0 ≡ b → cond (is_at (nat_cmp n) e.0) (Some e.1) (client_in es n) ≡ Some h → client_in (cond b ((e.0, w) ∷ es) (e ∷ set_value (is_at (nat_cmp n)) es w)) n ≡ Some w
+    on rest true is at = ap (λ c. cond c (Some w) (client_in es n)) is
+    on rest false is at =
+        ap (λ c. cond c (Some e.1) (client_in (set_value (is_at (nat_cmp n)) es w) n)) is
+        ∙ rest (sym (ap (λ c. cond c (Some e.1) (client_in es n)) is) ∙ at)
+
+-- what is true of each client before a call and after it
+called_if : (host : HostValue) (n : ℕ) (f : History → History) (P : ℕ → History → Type 0) → ((q : ℕ) (h : History) → P q h → P q (f h)) → (o : Option History) → client_of host n ≡ o
+    → ((q : ℕ) (h : History) → client_of host q ≡ Some h → P q h) → (q : ℕ) (h : History) → client_of (altered_if host n o f) q ≡ Some h → P q h
+called_if host n f P keeps None at each q h found = each q h found
+called_if host n f P keeps (Some x) at each q h found = on (q == n) refl
+  where
+    on : (b : Bool) → (q == n) ≡ b → P q h
+    on true is =
+        let same : q ≡ n = grind (arith, nat_tests, is) in
+        let here : client_of (with_client host n (f x)) n ≡ Some (f x) = set_here n host.clients (f x) x at in
+        let some : ◌≡◌ {A = Option History} (Some (f x)) (Some h) = sym here ∙ ap (client_of (with_client host n (f x))) (sym same) ∙ found in
+        let eq : f x ≡ h = cc in
+        subst (P q) eq (keeps q x (each q x (ap (client_of host) same ∙ at)))
+    on false is = each q h (sym (set_other n q is host.clients (f x)) ∙ found)
+
+called : (host : HostValue) (n : ℕ) (f : History → History) (P : ℕ → History → Type 0) → ((q : ℕ) (h : History) → P q h → P q (f h))
+    → ((q : ℕ) (h : History) → client_of host q ≡ Some h → P q h) → (q : ℕ) (h : History) → client_of (altered host n f) q ≡ Some h → P q h
+called host n f P keeps each = called_if host n f P keeps (client_of host n) refl each
+
+none_called : (host : HostValue) (n : ℕ) (f : History → History) (q : ℕ) → (o : Option History) → client_of host n ≡ o → client_of host q ≡ None → client_of (altered_if host n o f) q ≡ None
+none_called host n f q None at gone = gone
+none_called host n f q (Some x) at gone = on (q == n) refl
+  where
+    on : (b : Bool) → (q == n) ≡ b → client_of (with_client host n (f x)) q ≡ None
+    on true is =
+        let same : q ≡ n = grind (arith, nat_tests, is) in
+        absurd (let no : ◌≡◌ {A = Option History} (Some x) None = sym at ∙ ap (client_of host) (sym same) ∙ gone in cc)
+    on false is = set_other n q is host.clients (f x) ∙ gone
+
+admitted_called : (host : HostValue) (n : ℕ) (f : History → History) (o : Option History) → (altered_if host n o f).admitted ≡ host.admitted
+admitted_called host n f None = refl
+admitted_called host n f (Some x) = refl
+
+call_taken : (call : Call) (h : History) → (after_call call h).taken ≡ h.taken
+call_taken (Feeds bytes) h = refl
+call_taken Releases h = refl
+call_taken (Closes source) h = refl
+call_taken (Sends count) h = refl
+call_taken Cuts h = refl
+
+call_answers : (call : Call) (h : History) → (after_call call h).answers ≡ h.answers
+call_answers (Feeds bytes) h = refl
+call_answers Releases h = refl
+call_answers (Closes source) h = refl
+call_answers (Sends count) h = refl
+call_answers Cuts h = refl
+
+tells_call : (turns : List Turn) (call : Call) (h : History) → Tells turns h → Tells turns (after_call call h)
+tells_call turns call h t = record {
+  asked = ap (map asked_by) (call_taken call h) ∙ t.asked;
+  told = subst (AreQueued (map (λ (t : Turn). t.reply) turns)) (sym (call_answers call h)) t.told;
+}
+
+-- ---- what holds from round to round
+
+pub record SoFar {C : Type 0} (f : C → State) (old : Moment C) (turns : List (ℕ × Turn)) (side : Moment C) : Type 0 where
+  pub serves : Serves (turns_of turns) old.site side.site (f old.conn) (f side.conn)
+  pub tells : (n : ℕ) (h : History) → client_of side.host n ≡ Some h → Tells (own n turns) h
+  pub given : (n : ℕ) (h : History) → client_of side.host n ≡ Some h → n < side.host.admitted
+  pub later : (n : ℕ) → side.host.admitted ≤ n → own n turns ≡ []
+
+no_client : (n : ℕ) (h : History) → client_of new_host n ≡ Some h → ⊥
+no_client n h found = let no : ◌≡◌ {A = Option History} None (Some h) = found in cc
+
+pub begins : {C : Type 0} (f : C → State) → (side : Moment C) → side.host ≡ new_host → SoFar f side [] side
+begins f side empty = record {
+  serves = serves_none side.site (f side.conn);
+  tells = λ n h found. absurd (no_client n h (ap (λ host. client_of host n) (sym empty) ∙ found));
+  given = λ n h found. absurd (no_client n h (ap (λ host. client_of host n) (sym empty) ∙ found));
+  later = λ n above. refl;
+}
+
+tells_none : (turns : List Turn) (h : History) → turns ≡ [] → h ≡ new_history → Tells turns h
+tells_none turns h none new = subst (λ l. Tells l h) (sym none) (subst (Tells []) (sym new) (record { asked = refl; told = tt }))
+
+came : {C : Type 0} (f : C → State) → (old : Moment C) (turns : List (ℕ × Turn)) (side : Moment C) (n : ℕ) (host : HostValue) → AdmitsOne side.host host n → SoFar f old turns side → SoFar f old turns (record side { host = host })
+came f old turns side n host one s = record {
+  serves = s.serves;
+  tells = λ q h found. on q h (q == n) refl (sym (one.clients q) ∙ found);
+  given = λ q h found. given q h (q == n) refl (sym (one.clients q) ∙ found);
+  later = λ q above. let next = one.next in s.later q (omega (arith, above, next));
+}
+  where
+    on : (q : ℕ) (h : History) (b : Bool) → (q == n) ≡ b → cond (q == n) (Some new_history) (client_of side.host q) ≡ Some h → Tells (own q turns) h
+    on q h true is found =
+        let some : ◌≡◌ {A = Option History} (Some new_history) (Some h) = sym (ap (λ b. cond b (Some new_history) (client_of side.host q)) is) ∙ found in
+        let eq : new_history ≡ h = cc in
+        let number = one.number in
+        let same : q ≡ n = grind (arith, nat_tests, is) in
+        tells_none (own q turns) h (s.later q (omega (arith, number, same))) (sym eq)
+    on q h false is found = s.tells q h (sym (ap (λ b. cond b (Some new_history) (client_of side.host q)) is) ∙ found)
+
+    given : (q : ℕ) (h : History) (b : Bool) → (q == n) ≡ b → cond (q == n) (Some new_history) (client_of side.host q) ≡ Some h → q < host.admitted
+    given q h true is found =
+        let number = one.number in
+        let next = one.next in
+        let same : q ≡ n = grind (arith, nat_tests, is) in
+        omega (arith, number, next, same)
+    given q h false is found =
+        let next = one.next in
+        let below : q < side.host.admitted = s.given q h (sym (ap (λ b. cond b (Some new_history) (client_of side.host q)) is) ∙ found) in
+        omega (arith, next, below)
+
+stayed : (b : Bool) (o : Option History) (h : History) → cond b None o ≡ Some h → o ≡ Some h
+stayed true o h found = absurd (let no : ◌≡◌ {A = Option History} None (Some h) = found in cc)
+stayed false o h found = found
+
+left : {C : Type 0} (f : C → State) → (old : Moment C) (turns : List (ℕ × Turn)) (side : Moment C) (n : ℕ) (host : HostValue) → Leaves side.host n host → SoFar f old turns side → SoFar f old turns (record side { host = host })
+left f old turns side n host one s = record {
+  serves = s.serves;
+  tells = λ q h found. s.tells q h (stayed (q == n) (client_of side.host q) h (sym (one.clients q) ∙ found));
+  given = λ q h found. subst (λ a. q < a) (sym one.admitted) (s.given q h (stayed (q == n) (client_of side.host q) h (sym (one.clients q) ∙ found)));
+  later = λ q above. s.later q (subst (λ a. a ≤ q) one.admitted above);
+}
+
+was_called : {C : Type 0} (f : C → State) → (old : Moment C) (turns : List (ℕ × Turn)) (side : Moment C) (n : ℕ) (call : Call) → SoFar f old turns side → SoFar f old turns (record side { host = altered side.host n (after_call call) })
+was_called f old turns side n call s =
+    let same : (altered side.host n (after_call call)).admitted ≡ side.host.admitted = admitted_called side.host n (after_call call) (client_of side.host n) in
+    record {
+      serves = s.serves;
+      tells = called side.host n (after_call call) (λ q h. Tells (own q turns) h) (λ q h t. tells_call (own q turns) call h t) s.tells;
+      given = λ q h found. subst (λ a. q < a) (sym same) (called side.host n (after_call call) (λ q h. q < side.host.admitted) (λ q h below. below) s.given q h found);
+      later = λ q above. s.later q (subst (λ a. a ≤ q) same above);
+    }
+
+tells_on : (first second : List Turn) (h k : History) → Tells first h → Course second h k → Tells (first ++ second) k
+tells_on first second h k t c = record {
+  asked = ap (map asked_by) c.taken ∙ map-append asked_by h.taken c.frames ∙ ap₂ (λ a b. a ++ b) t.asked c.asked ∙ sym (map-append (λ (t : Turn). t.asked) first second);
+  told = subst (AreQueued (map (λ (t : Turn). t.reply) (first ++ second))) (sym c.answers)
+      (subst (λ l. AreQueued l (h.answers ++ c.queued)) (sym (map-append (λ (t : Turn). t.reply) first second))
+      (queued_on (map (λ t. t.reply) first) (map (λ t. t.reply) second) h.answers c.queued t.told c.told));
+}
+
+none_given : (o : Option History) (n a : ℕ) → a ≤ n → ((h : History) → o ≡ Some h → n < a) → o ≡ None
+none_given None n a above given = refl
+none_given (Some h) n a above given = absurd (let below : n < a = given h refl in omega (arith, above, below))
+
+answered : {C : Type 0} (f : C → State) → (old : Moment C) (turns : List (ℕ × Turn)) (side : Moment C) (ready : List ℕ) (more : List (ℕ × Turn)) (new : Moment C) → Round ready more (side_of f side) (side_of f new) → SoFar f old turns side → SoFar f old (turns ++ more) new
+answered f old turns side ready more new r s = record {
+  serves = subst (λ l. Serves l old.site new.site (f old.conn) (f new.conn)) (sym (map-append (λ (t : ℕ × Turn). t.1) turns more))
+      (serves_on (turns_of turns) (turns_of more) old.site side.site new.site (f old.conn) (f side.conn) (f new.conn) s.serves r.serves);
+  tells = λ n k found.
+      let h = was (client_of side.host n) k (Course (own n more)) (subst (λ o. Both (client_of side.host n) o (Course (own n more))) found (r.clients n)) in
+      subst (λ l. Tells l k) (sym (own-append n turns more)) (tells_on (own n turns) (own n more) h.0 k (s.tells n h.0 h.1) h.2);
+  given = λ n k found.
+      let h = was (client_of side.host n) k (Course (own n more)) (subst (λ o. Both (client_of side.host n) o (Course (own n more))) found (r.clients n)) in
+      subst (λ a. n < a) (sym r.admitted) (s.given n h.0 h.1);
+  later = λ n above.
+      let before : side.host.admitted ≤ n = subst (λ a. a ≤ n) r.admitted above in
+      own-append n turns more ∙ ap₂ (λ a b. a ++ b) (s.later n before) (r.spares.none n (none_given (client_of side.host n) n side.host.admitted before (s.given n)));
+}
+
+one_more : {C : Type 0} (f : C → State) → (old : Moment C) (turns : List (ℕ × Turn)) (side : Moment C) (x : Happening C) → May f side x → SoFar f old turns side → SoFar f old (turns ++ turns_at x) (after_one side x)
+one_more f old turns side (Comes n host) may s = subst (λ l. SoFar f old l (record side { host = host })) (sym (append-nil turns)) (came f old turns side n host may s)
+one_more f old turns side (Goes n host) may s = subst (λ l. SoFar f old l (record side { host = host })) (sym (append-nil turns)) (left f old turns side n host may s)
+one_more f old turns side (Calls n call) may s = subst (λ l. SoFar f old l (record side { host = altered side.host n (after_call call) })) (sym (append-nil turns)) (was_called f old turns side n call s)
+one_more f old turns side (Rounds ready more new) may s = answered f old turns side ready more new may s
+
+pub goes_on : {C : Type 0} (f : C → State) → (old : Moment C) (turns : List (ℕ × Turn)) (side : Moment C) (xs : List (Happening C)) → Runs f side xs → SoFar f old turns side → SoFar f old (turns ++ turns_in xs) (after_run side xs)
+goes_on f old turns side [] runs s = subst (λ l. SoFar f old l side) (sym (append-nil turns)) s
+goes_on f old turns side (x ∷ xs) runs s =
+    subst (λ l. SoFar f old l (after_run (after_one side x) xs)) (append_assoc turns (turns_at x) (turns_in xs))
+    (goes_on f old (turns ++ turns_at x) (after_one side x) xs runs.1 (one_more f old turns side x runs.0 s))
+
+pub so_far : {C : Type 0} (f : C → State) → (side : Moment C) (xs : List (Happening C)) → side.host ≡ new_host → Runs f side xs → SoFar f side (turns_in xs) (after_run side xs)
+so_far f side xs empty runs = goes_on f side [] side xs runs (begins f side empty)
+
+pub one_list : {C : Type 0} (f : C → State) → (side : Moment C) (xs : List (Happening C)) → side.host ≡ new_host → Runs f side xs → OneList (turns_in xs) (side_of f side) (side_of f (after_run side xs))
+one_list f side xs empty runs = let s = so_far f side xs empty runs in record { serves = s.serves; clients = s.tells }
+
+-- ---- a client that went
+
+-- no client has this number, which no other gets
+record IsGone (n : ℕ) (host : HostValue) : Type 0 where
+  given : n < host.admitted
+  none : client_of host n ≡ None
+
+gone_on : {C : Type 0} (f : C → State) → (n : ℕ) (side : Moment C) (x : Happening C) → May f side x → IsGone n side.host → (own n (turns_at x) ≡ []) × IsGone n (after_one side x).host
+gone_on f n side (Comes m host) may gone =
+    let number = may.number in
+    let next = may.next in
+    let given = gone.given in
+    let apart : (n == m) ≡ false = grind (arith, nat_tests, number, given) in
+    (refl, record { given = omega (arith, next, given); none = may.clients n ∙ ap (λ b. cond b (Some new_history) (client_of side.host n)) apart ∙ gone.none })
+gone_on f n side (Goes m host) may gone =
+    (refl, record { given = subst (λ a. n < a) (sym may.admitted) gone.given; none = may.clients n ∙ ap (λ o. cond (n == m) None o) gone.none ∙ either (n == m) })
+  where
+    either : (b : Bool) → ◌≡◌ {A = Option History} (cond b None None) None
+    either true = refl
+    either false = refl
+gone_on f n side (Calls m call) may gone = (
+  refl,
+  record {
+    given = subst (λ a. n < a) (sym (admitted_called side.host m (after_call call) (client_of side.host m))) gone.given;
+    none = none_called side.host m (after_call call) n (client_of side.host m) refl gone.none;
+  },
+)
+gone_on f n side (Rounds ready more new) may gone = (
+  may.spares.none n gone.none,
+  record {
+    given = subst (λ a. n < a) (sym may.admitted) gone.given;
+    none = both_gone (client_of side.host n) (client_of new.host n) (may.clients n) gone.none;
+  },
+)
+  where
+    both_gone : (a b : Option History) → Both a b (Course (own n more)) → a ≡ None → b ≡ None
+    both_gone None None both is = refl
+    both_gone None (Some y) both is = absurd both
+    both_gone (Some x) b both is = absurd (let no : ◌≡◌ {A = Option History} (Some x) None = is in cc)
+
+gone_for_good : {C : Type 0} (f : C → State) → (n : ℕ) (side : Moment C) (xs : List (Happening C)) → Runs f side xs → IsGone n side.host → own n (turns_in xs) ≡ []
+gone_for_good f n side [] runs gone = refl
+gone_for_good f n side (x ∷ xs) runs gone =
+    let one = gone_on f n side x runs.0 gone in
+    own-append n (turns_at x) (turns_in xs) ∙ ap₂ (λ a b. a ++ b) one.0 (gone_for_good f n (after_one side x) xs runs.1 one.1)
+
+turns-append : {C : Type 0} (xs ys : List (Happening C)) → turns_in (xs ++ ys) ≡ turns_in xs ++ turns_in ys
+turns-append [] ys = refl
+turns-append (x ∷ xs) ys = ap (λ l. turns_at x ++ l) (turns-append xs ys) ∙ sym (append_assoc (turns_at x) (turns_in xs) (turns_in ys))
+
+pub tells_gone : {C : Type 0} (f : C → State) → (side : Moment C) (before after : List (Happening C)) (n : ℕ) (host : HostValue) (h : History) → side.host ≡ new_host → Runs f side before → Runs f (after_run side before) (Goes n host ∷ after)
+    → client_of (after_run side before).host n ≡ Some h → Tells (own n (turns_in (before ++ Goes n host ∷ after))) h
+tells_gone f side before after n host h empty first second found =
+    let s = so_far f side before empty first in
+    let mid = after_run side before in
+    let one : Leaves mid.host n host = second.0 in
+    let here : (n == n) ≡ true = grind (arith, nat_tests) in
+    let gone : IsGone n host = record { given = subst (λ a. n < a) (sym one.admitted) (s.given n h found); none = one.clients n ∙ ap (λ b. cond b None (client_of mid.host n)) here } in
+    let nothing : own n (turns_in after) ≡ [] = gone_for_good f n (record mid { host = host }) after second.1 gone in
+    let all : own n (turns_in (before ++ Goes n host ∷ after)) ≡ own n (turns_in before) =
+    ap (own n) (turns-append before (Goes n host ∷ after)) ∙ own-append n (turns_in before) (turns_in after) ∙ ap (λ l. own n (turns_in before) ++ l) nothing ∙ append-nil (own n (turns_in before)) in
+    subst (λ l. Tells l h) (sym all) (s.tells n h found)

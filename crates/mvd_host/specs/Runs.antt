@@ -1,0 +1,88 @@
+-- What happens to a host, one thing after the other: rounds, and what comes between them.
+use Rattle.std.specs.Prelude.{◌≡◌, ℕ, List, [], ◌∷◌, ◌++◌, map, Some, ⊤}
+use Rattle.mvd_conn.specs.declared.ending.Source.{Source}
+use Rattle.mvd_conn.specs.History.{History, closed, cut, fed, released, sent}
+use Rattle.mvd_site.specs.Sites.{SiteValue}
+use Rattle.mvd_replica.specs.Turns.{Turn}
+use Rattle.mvd_host.specs.Hosts.{AdmitsOne, HostValue, Leaves, altered, client_of}
+use Rattle.mvd_host.specs.Course.{AreQueued, asked_by, own}
+use Rattle.mvd_host.specs.Round.{Round, Serves, Side, turns_of}
+use Rattle.sqlite.specs.State.{State}
+
+-- a host, and the replica that answers its clients, with its connection
+pub record Moment (C : Type 0) : Type 0 where
+  pub host : HostValue
+  pub site : SiteValue
+  pub conn : C
+
+abbrev pub side_of : {C : Type 0} → (C → State) → Moment C → Side
+side_of f m = record { host = m.host; site = m.site; store = f m.conn }
+
+-- What happens to one client's connection between rounds: bytes came, memory was refused for them, no more is read of it, bytes left,
+-- or its writer failed
+pub data Call : Type 0 where
+  Feeds : List ℕ → Call
+  Releases : Call
+  Closes : Source → Call
+  Sends : ℕ → Call
+  Cuts : Call
+
+abbrev pub after_call : Call → History → History
+after_call (Feeds bytes) h = fed h bytes
+after_call Releases h = released h
+after_call (Closes source) h = closed h source
+after_call (Sends count) h = sent h count
+after_call Cuts h = cut h
+
+-- A client comes, or a client goes, with the host afterwards; a call on a client; a round of ready clients, with its turns, and all
+-- afterwards
+pub data Happening (C : Type 0) : Type 0 where
+  Comes : ℕ → HostValue → Happening C
+  Goes : ℕ → HostValue → Happening C
+  Calls : ℕ → Call → Happening C
+  Rounds : List ℕ → List (ℕ × Turn) → Moment C → Happening C
+
+-- what is there afterwards
+abbrev pub after_one : {C : Type 0} → Moment C → Happening C → Moment C
+after_one side (Comes n host) = record side { host = host }
+after_one side (Goes n host) = record side { host = host }
+after_one side (Calls n call) = record side { host = altered side.host n (after_call call) }
+after_one side (Rounds ready turns new) = new
+
+-- a client comes and goes as the host lets it, and a round is one
+abbrev pub May : {C : Type 0} → (C → State) → Moment C → Happening C → Type 0
+May f side (Comes n host) = AdmitsOne side.host host n
+May f side (Goes n host) = Leaves side.host n host
+May f side (Calls n call) = ⊤
+May f side (Rounds ready turns new) = Round ready turns (side_of f side) (side_of f new)
+
+abbrev pub turns_at : {C : Type 0} → Happening C → List (ℕ × Turn)
+turns_at (Comes n host) = []
+turns_at (Goes n host) = []
+turns_at (Calls n call) = []
+turns_at (Rounds ready turns new) = turns
+
+-- the turns of all rounds, in order
+abbrev pub turns_in : {C : Type 0} → List (Happening C) → List (ℕ × Turn)
+turns_in [] = []
+turns_in (x ∷ xs) = turns_at x ++ turns_in xs
+
+abbrev pub after_run : {C : Type 0} → Moment C → List (Happening C) → Moment C
+after_run side [] = side
+after_run side (x ∷ xs) = after_run (after_one side x) xs
+
+-- each of these may happen to what the one before it left
+abbrev pub Runs : {C : Type 0} → (C → State) → Moment C → List (Happening C) → Type 0
+Runs f side [] = ⊤
+Runs f side (x ∷ xs) = May f side x × Runs f (after_one side x) xs
+
+-- The frames that were taken of a client are those of these turns, in order, and what was queued for it are the frames of their
+-- replies, in order
+pub record Tells (turns : List Turn) (h : History) : Type 0 where
+  pub asked : map asked_by h.taken ≡ map (λ t. t.asked) turns
+  pub told : AreQueued (map (λ t. t.reply) turns) h.answers
+
+-- The turns of the list are those of one replica, and what each client asked and was told are its own turns
+pub record OneList (turns : List (ℕ × Turn)) (old new : Side) : Type 0 where
+  pub serves : Serves (turns_of turns) old.site new.site old.store new.store
+  pub clients : (n : ℕ) (h : History) → client_of new.host n ≡ Some h → Tells (own n turns) h

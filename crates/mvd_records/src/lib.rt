@@ -1,6 +1,7 @@
 //! Stored states, as tables of a database.
 #![tactic(auto)]
 
+mod foreign;
 mod loading;
 mod moving;
 mod open;

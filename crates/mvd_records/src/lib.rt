@@ -1,7 +1,7 @@
 //! Stored states, as tables of a database.
 #![tactic(auto)]
 
-mod foreign;
+pub mod foreign;
 mod loading;
 mod moving;
 mod open;
@@ -10,4 +10,5 @@ mod records;
 mod statements;
 mod storing;
 
+pub use foreign::is_foreign;
 pub use records::Records;

@@ -233,6 +233,8 @@ impl<S: Alter> Replica<S> {
         ensures follows { ReplicaFollows (λ asked. asked ≡ Push key.now pushed.now) self.old.site self.new.site (state S.Store self.old.records.conn) (state S.Store self.new.records.conn) }
         ensures stored { IsSound (state S.Store self.new.records.conn) → HoldsSite self.old.site (state S.Store self.old.records.conn).committed → self.old.site.broken ≡ false → result ≡ Err Broken →
             HoldsStates self.old.site.config.site (after_from self.old.site.config self.old.site.states (Push key.now pushed.now)) (state S.Store self.new.records.conn).committed }
+        // A crash leaves what it left before the call, or the states with the push.
+        ensures survives { Survives (state S.Store self.old.records.conn) (state S.Store self.new.records.conn) (LeavesAnswered self.old.site (Push key.now pushed.now) (state S.Store self.old.records.conn)) }
     {
         // Here it is known that the pushed state's siblings have been seen.
         let _seen = pushed.context();

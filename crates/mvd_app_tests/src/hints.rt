@@ -53,6 +53,20 @@ fn whose_a_file_is_is_told(rt: HostRuntime) -> Result<(), Fail> {
     Ok(())
 }
 
+fn run(conn: &mut Connection<MemStore>, sql: &str) -> bool {
+    conn.execute_batch(sql).is_ok()
+}
+
+#[test]
+fn another_programs_file_is_told(rt: HostRuntime) -> Result<(), Fail> {
+    let mut conn = Connection::open_in_memory(rt.alloc())?;
+    assert!(rt; run(&mut conn, "CREATE TABLE note (title TEXT)"));
+    let wanted =
+        "mvd: fault 17 Damaged\nmvd: a.db is the file of another program: name another file";
+    assert!(rt; matches!(opened(rt.alloc(), conn, 7), Err(stop) if tells(rt.alloc(), &stop, wanted)?));
+    Ok(())
+}
+
 #[test]
 fn a_port_in_use_is_told(rt: HostRuntime) -> Result<(), Fail> {
     let address = SocketAddr::new(IpAddr::V4(Ipv4Addr::LOCALHOST), 7007);

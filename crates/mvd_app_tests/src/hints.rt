@@ -57,13 +57,23 @@ fn run(conn: &mut Connection<MemStore>, sql: &str) -> bool {
     conn.execute_batch(sql).is_ok()
 }
 
+/// What is told where a file with such a table is opened.
+fn told_of(alloc: Global, table: &str, wanted: &str) -> Result<bool, Fail> {
+    let mut conn = Connection::open_in_memory(alloc)?;
+    if !run(&mut conn, table) {
+        return Ok(false);
+    }
+    match opened(alloc, conn, 7) {
+        Ok(_) => Ok(false),
+        Err(stop) => Ok(tells(alloc, &stop, wanted)?),
+    }
+}
+
 #[test]
 fn another_programs_file_is_told(rt: HostRuntime) -> Result<(), Fail> {
-    let mut conn = Connection::open_in_memory(rt.alloc())?;
-    assert!(rt; run(&mut conn, "CREATE TABLE note (title TEXT)"));
     let wanted =
         "mvd: fault 17 Damaged\nmvd: a.db is the file of another program: name another file";
-    assert!(rt; matches!(opened(rt.alloc(), conn, 7), Err(stop) if tells(rt.alloc(), &stop, wanted)?));
+    assert!(rt; told_of(rt.alloc(), "CREATE TABLE note (title TEXT)", wanted)?);
     Ok(())
 }
 

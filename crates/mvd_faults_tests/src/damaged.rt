@@ -151,7 +151,7 @@ fn damaged_records_are_refused_and_stay(rt: HostRuntime) -> Result<(), Fail> {
 }
 
 /// Databases of other programs, some with a table of one of our names.
-const FOREIGN: &[&str] = &[
+const FOREIGN: [&str; 4] = [
     "CREATE TABLE note (id INTEGER PRIMARY KEY, title TEXT NOT NULL); INSERT INTO note (title) VALUES ('a');",
     "CREATE VIEW one AS SELECT 1 AS x;",
     "CREATE TABLE meta (key TEXT, value TEXT); CREATE TABLE urls (url TEXT); INSERT INTO meta VALUES ('version', '9');",

@@ -173,6 +173,10 @@ sqlite3 damaged.db "PRAGMA journal_mode = delete; UPDATE states2 SET state = x'0
 refused "a damaged row" 1 "fault 17 Damaged" \
   "damaged.db is damaged, or of a later version of mvd: name another file, or a copy of this one" \
   damaged.db serve --db damaged.db --site 2 --port "$port"
+sqlite3 other.db "CREATE TABLE note (title TEXT); INSERT INTO note VALUES ('a')"
+refused "another program's database" 1 "fault 17 Damaged" "other.db is the file of another program: name another file" \
+  other.db serve --db other.db --site 2 --port "$port"
+same "its journal and its rows" "delete a" "$(sqlite3 other.db 'PRAGMA journal_mode; SELECT title FROM note' | tr '\n' ' ' | sed 's/ $//')"
 seq 2000 >none.db
 refused "no database" 1 "fault 21 Store" "none.db is no database of mvd, or damaged: name another file, or a copy of this one" \
   none.db serve --db none.db --site 2 --port "$port"

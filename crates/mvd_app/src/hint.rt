@@ -37,6 +37,8 @@ pub enum Hint<'a> {
     OtherSite(&'a str, u32),
     #[error("{0} is damaged, or of a later version of mvd: name another file, or a copy of this one")]
     Damaged(&'a str),
+    #[error("{0} is the file of another program: name another file")]
+    Foreign(&'a str),
     #[error("the file has no room for so many keys: raise --max-keys, up to 1000000")]
     Full,
     #[error("{0} is in use: end the program that listens there, or name another --port")]
@@ -164,6 +166,14 @@ impl<'a> Stop<'a> {
             (Refusal::Store, _) => Stop::new(refusal, Hint::NoDatabase(file)),
             _ => Stop::from(refusal),
         }
+    }
+
+    /// A file is another program's.
+    pub fn in_foreign(file: &'a str) -> Stop<'a>
+        ensures fault { result.fault ≡ Stopped Damaged }
+        ensures hint { result.hint ≡ Some (Hint.Foreign file.entry) }
+    {
+        Stop::new(Refusal::Damaged, Hint::Foreign(file))
     }
 
     /// Nothing can listen at an address.

@@ -8,7 +8,7 @@ use crate::progress::Watched;
 use mvd_dots::Refusal;
 use mvd_input::{Fault, write_out};
 use mvd_keys::Path;
-use mvd_replica::Replica;
+use mvd_replica::{Replica, is_foreign};
 use mvd_site::Config;
 use mvd_sync::{Remote, SyncFault, sync};
 use sqlite::{Alter, Connection};
@@ -31,12 +31,15 @@ pub fn replica_in<'a, S: Alter + Drop>(
     }
 }
 
-/// Why the records of a file are refused, with the site that they name.
+/// Why the records of a file are refused: it is another program's, or another site's, which is named, or the refusal says it.
 pub fn refused_in<'a, S: Alter + Drop>(
     file: &'a str,
     refusal: Refusal,
     mut conn: Connection<S>,
 ) -> Stop<'a> {
+    if is_foreign(&conn) {
+        return Stop::in_foreign(file);
+    }
     Stop::in_records(file, refusal, owner_in(&mut conn))
 }
 

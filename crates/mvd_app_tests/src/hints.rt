@@ -53,6 +53,30 @@ fn whose_a_file_is_is_told(rt: HostRuntime) -> Result<(), Fail> {
     Ok(())
 }
 
+fn run(conn: &mut Connection<MemStore>, sql: &str) -> bool {
+    conn.execute_batch(sql).is_ok()
+}
+
+/// What is told where a file with such a table is opened.
+fn told_of(alloc: Global, table: &str, wanted: &str) -> Result<bool, Fail> {
+    let mut conn = Connection::open_in_memory(alloc)?;
+    if !run(&mut conn, table) {
+        return Ok(false);
+    }
+    match opened(alloc, conn, 7) {
+        Ok(_) => Ok(false),
+        Err(stop) => Ok(tells(alloc, &stop, wanted)?),
+    }
+}
+
+#[test]
+fn another_programs_file_is_told(rt: HostRuntime) -> Result<(), Fail> {
+    let wanted =
+        "mvd: fault 17 Damaged\nmvd: a.db is the file of another program: name another file";
+    assert!(rt; told_of(rt.alloc(), "CREATE TABLE note (title TEXT)", wanted)?);
+    Ok(())
+}
+
 #[test]
 fn a_port_in_use_is_told(rt: HostRuntime) -> Result<(), Fail> {
     let address = SocketAddr::new(IpAddr::V4(Ipv4Addr::LOCALHOST), 7007);

@@ -3,15 +3,10 @@
 
 ghost use Rattle.std.specs.Prelude.{◌<◌};
 
-use mvd_docs::{Document, Field, Term};
-use mvd_dots::{Context, Refusal};
-use mvd_keys::{Key, KeyState, Place};
-use mvd_replica::Replica;
-use mvd_rows::Defs;
-use mvd_site::Config;
-use mvd_sync::{SyncFault, sync};
-use mvd_wire::{Reply, Request};
-use sqlite::{Alter, Connection, MemStore};
+use mvd_replica::{
+    Alter, Config, Connection, Context, Defs, Document, Field, Key, KeyState, MemStore, Place, Refusal,
+    Replica, SyncFault, Term, sync,
+};
 use std::alloc::Global;
 use std::fmt::Write;
 use std::io;
@@ -83,25 +78,8 @@ fn put<S: Alter>(
     text: &str,
 ) -> Result<(), Refusal> {
     let document = Document::read(alloc, text)?;
-    let request = Request::Put(Key::read(alloc, key)?, seen, document);
-    let reply = ask(replica, request);
-    let ended = refusal_of(&reply);
-    drop(reply);
-    ended
-}
-
-/// The reply to a request.
-fn ask<S: Alter>(replica: &mut Replica<S>, request: Request) -> Reply {
-    let reply = replica.answer(&request);
-    drop(request);
-    reply
-}
-
-fn refusal_of(reply: &Reply) -> Result<(), Refusal> {
-    match reply {
-        Reply::Refused(refusal) => Err(*refusal),
-        _ => Ok(()),
-    }
+    let _dot = replica.put(Key::read(alloc, key)?, seen, document)?;
+    Ok(())
 }
 
 /// Prints the documents of a key, and gives the context to hand to the next write.
@@ -129,26 +107,16 @@ fn print_state(key: &str, state: &KeyState, out: &mut String) -> Result<Context,
 /// Prints the keys whose documents have a term at an indexed field: the first page of them.
 fn find<S: Alter>(
     alloc: Global,
-    replica: &mut Replica<S>,
+    replica: &Replica<S>,
     field: &str,
     term: &str,
     out: &mut String,
 ) -> Result<(), Refusal> {
     let field = Field::read(alloc, field)?;
-    let reply = ask(
-        replica,
-        Request::Find(field, Term::read(alloc, term)?, None),
-    );
-    let ended = print_found(&reply, out);
-    drop(reply);
+    let (places, _) = replica.find(field, Term::read(alloc, term)?, None)?;
+    let ended = print_places(places.as_slice(), out);
+    drop(places);
     ended
-}
-
-fn print_found(reply: &Reply, out: &mut String) -> Result<(), Refusal> {
-    match reply {
-        Reply::Places(places, _) => print_places(places.as_slice(), out),
-        reply => refusal_of(reply),
-    }
 }
 
 fn print_places(places: &[Place], out: &mut String) -> Result<(), Refusal> {

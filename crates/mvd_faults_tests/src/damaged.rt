@@ -150,6 +150,51 @@ fn damaged_records_are_refused_and_stay(rt: HostRuntime) -> Result<(), Fail> {
     Ok(())
 }
 
+/// Databases of other programs, some with a table of one of our names.
+const FOREIGN: [&str; 4] = [
+    "CREATE TABLE note (id INTEGER PRIMARY KEY, title TEXT NOT NULL); INSERT INTO note (title) VALUES ('a');",
+    "CREATE VIEW one AS SELECT 1 AS x;",
+    "CREATE TABLE meta (key TEXT, value TEXT); CREATE TABLE urls (url TEXT); INSERT INTO meta VALUES ('version', '9');",
+    "CREATE TABLE states (id INTEGER PRIMARY KEY, state TEXT); CREATE TABLE events (id INTEGER PRIMARY KEY);",
+];
+
+/// A file of these tables.
+fn file_of(alloc: Global, tables: &str) -> Result<Vec<u8>, Refusal> {
+    let Ok(mut conn) = connected(alloc, no_files(alloc)) else {
+        return Err(Refusal::Store);
+    };
+    run(&mut conn, tables)?;
+    Ok(closed(alloc, conn))
+}
+
+/// The same file, whose journal is of this mode: 1 is a rollback journal, and 2 a log.
+fn with_mode(alloc: Global, bytes: &[u8], mode: u8) -> Vec<u8> {
+    let mut copy = Vec::new(alloc);
+    for (at, byte) in bytes.iter().enumerate() {
+        let byte = if at == 18 || at == 19 { mode } else { *byte };
+        push(&mut copy, &[byte]);
+    }
+    copy
+}
+
+fn is_foreign_refused(alloc: Global, bytes: &[u8], mode: u8) -> Result<bool, Refusal> {
+    let file = with_mode(alloc, bytes, mode);
+    let found = is_damaged(alloc, file.as_slice());
+    drop(file);
+    found
+}
+
+#[test]
+fn another_programs_database_is_refused_and_stays(rt: HostRuntime) -> Result<(), Fail> {
+    for tables in FOREIGN {
+        let bytes = file_of(rt.alloc(), tables)?;
+        for mode in [1, 2] {
+            assert!(rt; is_foreign_refused(rt.alloc(), bytes.as_slice(), mode)?, "{tables} {mode}");
+        }
+    }
+    Ok(())
+}
+
 /// A put of a document of so many letters at a key of one letter.
 fn long_put(alloc: Global, key: u8, letters: u32) -> Vec<u8> {
     let mut frame = Vec::new(alloc);

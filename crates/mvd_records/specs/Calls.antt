@@ -15,6 +15,7 @@ use Rattle.mvd_keys.specs.Key.{key_cmp}
 use Rattle.mvd_records.specs.declared.loading.Half.{Half}
 use Rattle.mvd_records.specs.Records.{HasNone, IsOpenRefusal, IsOurs, IsSound, LacksKey, LeavesOpened, LeavesRefused}
 use Rattle.mvd_records.specs.Records.{OpensRecords, TellsVersion, marks_of}
+use Rattle.mvd_records.specs.Foreign.{HoldsForeign}
 use Rattle.mvd_records.specs.Pairs.{Pair, entries_of, rises}
 use Rattle.mvd_records.specs.Contents.{CanLoad, Contents, EndsMoves, Holds, MovesKey, SetsStates, half_of}
 use Rattle.mvd_records.specs.Seen.{RecordsValue, Seen, seen}
@@ -99,6 +100,8 @@ pub record IsOpened (store : State) (site : ℕ) (records : Seen) : Type 0 where
   pub opened : IsSound records.store → IsOurs store.committed →
       OpensRecords records.version site store.committed records.store.committed
   pub survives : Survives store records.store (LeavesOpened store site)
+  -- another program's database is never made one of ours
+  pub own : ¬ HoldsForeign store
 
 pub record IsRefused (store : State) (site : ℕ) (e : Refusal) (after : State) : Type 0 where
   pub before : IsSound after → IsSound store
@@ -108,7 +111,11 @@ pub record IsRefused (store : State) (site : ℕ) (e : Refusal) (after : State) 
   pub unchanged : IsSound after → SameCommit store after
   pub survives : Survives store after (LeavesRefused e store site)
 
+-- another program's database is refused with 17, and the connection that comes back is the one that was handed in
+abbrev pub SparesForeign : {S : Type 0} → Ghosts S → Held S → Refusal × Held S → Type 0
+SparesForeign g conn refused = HoldsForeign (state g conn) → refused ≡ (Damaged, conn)
+
 -- the records of the site, or a refusal with the connection
 abbrev pub Opens : {S : Type 0} → Ghosts S → Held S → ℕ → Result (RecordsValue S) (Refusal × Held S) → Type 0
 Opens g conn site (Ok records) = IsOpened (state g conn) site (seen g records)
-Opens g conn site (Err refused) = IsRefused (state g conn) site refused.0 (state g refused.1)
+Opens g conn site (Err refused) = IsRefused (state g conn) site refused.0 (state g refused.1) × SparesForeign g conn refused

@@ -1,6 +1,7 @@
 //! Stored states, as tables of a database.
 #![tactic(auto)]
 
+pub mod foreign;
 mod loading;
 mod moving;
 mod open;
@@ -9,4 +10,5 @@ mod records;
 mod statements;
 mod storing;
 
+pub use foreign::is_foreign;
 pub use records::Records;

@@ -11,7 +11,7 @@ ghost use Rattle.mvd_keys.specs.Key.{key_cmp};
 ghost use Rattle.mvd_records.specs.Pairs.{entries_of, rises};
 
 use crate::loading::Half;
-use crate::{loading, moving, open, statements, storing};
+use crate::{foreign, loading, moving, open, statements, storing};
 use mvd_dots::Refusal;
 use mvd_keys::Key;
 use sqlite::{Alter, Connection};
@@ -44,7 +44,8 @@ impl<S: Alter> Records<S> {
 
     /// Opens the records of a site, and makes in one transaction what is missing. A refusal gives
     /// the connection back: 21, or 17 where the marks are none of ours, or 16 where they are
-    /// another site's.
+    /// another site's. Another program's database is refused with 17 before anything is written,
+    /// and the connection is as it was.
     pub fn open(
         alloc: Global,
         mut conn: Connection<S>,
@@ -65,6 +66,9 @@ impl<S: Alter> Records<S> {
             (state S.Store conn) site)) (λ e. Survives (state S.Store conn) (state S.Store e.1) (LeavesRefused e.0
             (state S.Store conn) site)) }
     {
+        if foreign::is_foreign(&conn) {
+            return Err((Refusal::Damaged, conn));
+        }
         match open::open(&mut conn, site) {
             Ok(version) => Ok(Records {
                 alloc,

@@ -18,3 +18,4 @@ pub mod OpenRefusals
 pub mod Follows
 pub mod Files
 pub mod Stops
+pub mod Asking

@@ -25,8 +25,9 @@ use Rattle.mvd_sync.specs.Session.{ComesByPushes}
 use Rattle.mvd_sync.proofs.Steps.{no_pushes}
 use Rattle.mvd_sync.proofs.SiteSides.{is_broken, push_refuses as site_push_refuses, put_is_pushed}
 use Rattle.mvd_records.specs.Records.{IsSound}
-use Rattle.sqlite.specs.State.{HasCleanDisk, State as Shown}
+use Rattle.sqlite.specs.State.{HasCleanDisk, State as Shown, Survives}
 use Rattle.mvd_replica.specs.Kept.{HoldsSite, HoldsStates, PutsIn, broken_site}
+use Rattle.mvd_replica.specs.Stops.{LeavesAnswered}
 use Rattle.mvd_replica.specs.Sides.{AnswersFromStored, HoldsBroken, ReplicaFollows, ReplicaRefuses, StoreRefusedFrom}
 
 -- ---- one request, from the states
@@ -148,6 +149,11 @@ the_request a b e = cc
 pub follows_made : (made asked : Request) (old new : SiteValue) (before after : Shown) → ◌≡◌ {A = Result Request Refusal} (Ok asked) (Ok made) → ReplicaFollows (λ request. request ≡ made) old new before after →
     ReplicaFollows (λ request. request ≡ asked) old new before after
 follows_made made asked old new before after same it = subst (λ r. ReplicaFollows (λ request. request ≡ r) old new before after) (sym (the_request asked made same)) it
+
+-- and what a crash leaves
+pub survives_made : (made asked : Request) (old : SiteValue) (before after : Shown) → ◌≡◌ {A = Result Request Refusal} (Ok asked) (Ok made) → Survives before after (LeavesAnswered old made before) →
+    Survives before after (LeavesAnswered old asked before)
+survives_made made asked old before after same it = subst (λ r. Survives before after (LeavesAnswered old r before)) (sym (the_request asked made same)) it
 
 -- the same of any requests of which it holds where the site broke
 pub follows_where : (asks wider : Request → Type 0) (old new : SiteValue) (before after : Shown) → (old.broken ≡ false → new.broken ≡ true → (request : Request) → asks request → wider request) →

@@ -1,9 +1,11 @@
 -- A site in a file: what the file and its log hold, as one image of both, and what opening and closing it comes to.
 use Rattle.std.specs.Prelude.{◌≡◌, ℕ}
 use Rattle.mvd_dots.specs.declared.refusals.Refusal.{Refusal}
+use Rattle.mvd_dots.specs.declared.refusals.Refusal.TheVariants.{Damaged}
 use Rattle.mvd_site.specs.Config.{ConfigValue}
 use Rattle.mvd_site.specs.Held.{States}
 use Rattle.mvd_site.specs.Sites.{SiteValue}
+use Rattle.mvd_records.specs.Foreign.{IsForeign}
 use Rattle.mvd_records.specs.Records.{IsOurs}
 use Rattle.sqlite_disk.specs.declared.Disk.{Ghosts}
 use Rattle.sqlite_disk.specs.declared.Files.{Files}
@@ -35,6 +37,8 @@ pub record OpensFile (image : Image) (config : ConfigValue) (site : SiteValue) (
   pub was : Database
   pub found : IsFoundIn image was
   pub opened : IsOurs was → OpensSite config was site now
+  -- it is not another program's
+  pub own : ¬ IsForeign was
   -- where the image held some states, the site has just these
   pub just : (number : ℕ) (states : States) → HoldsFile image number states → site.states ≡ states
 
@@ -43,6 +47,8 @@ pub record RefusesFile (image : Image) (config : ConfigValue) (e : Refusal) (now
   pub was : Database
   pub found : IsFoundIn image was
   pub refused : IsOurs was → RefusesSite config was e now
+  -- another program's database is 17, and stays as it is
+  pub foreign : IsForeign was → (e ≡ Damaged) × (now ≡ was)
 
 -- What the database held of a site, the files hold: as they read now, and as whatever a crash leaves of them reads
 pub record ClosesFile {D : Type 0} (g : Ghosts D) (db : Database) (files : Files D) : Type 0 where

@@ -10,3 +10,4 @@ pub mod Steps
 pub mod Sides
 pub mod Batch
 pub mod Groups
+pub mod Asks

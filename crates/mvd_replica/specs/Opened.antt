@@ -3,6 +3,7 @@ use Rattle.std.specs.Prelude.{◌≡◌, ◌⊎◌, false, ℕ, List, Ok, Err}
 use Rattle.mvd_dots.specs.declared.refusals.Refusal.{Refusal}
 use Rattle.mvd_dots.specs.declared.refusals.Refusal.TheVariants.{Damaged, Full, Memory, SiteMismatch}
 use Rattle.mvd_keys.specs.Writes.{Stands, Write}
+use Rattle.mvd_records.specs.Foreign.{HoldsForeign}
 use Rattle.mvd_records.specs.Records.{IsOpenRefusal, IsOurs, IsSound, TellsVersion, marks_of}
 use Rattle.mvd_site.specs.Config.{ConfigValue}
 use Rattle.mvd_site.specs.Sites.{SiteValue}
@@ -44,11 +45,15 @@ pub record IsOpened (config : ConfigValue) (store : State) (site : SiteValue) (a
   pub stands : (known : List Write) × Stands site.states known
   pub before : IsSound after → IsSound store
   pub opened : OfOurs store after (OpensSite config store.committed site after.committed)
+  -- another program's database is never made one of ours
+  pub own : ¬ HoldsForeign store
 
 -- the refusal, and the store that it leaves
 pub record IsRefused (config : ConfigValue) (store : State) (e : Refusal) (after : State) : Type 0 where
   pub refusal : IsSiteRefusal e
   pub before : IsSound after → IsSound store
   pub refused : OfOurs store after (RefusesSite config store.committed e after.committed)
+  -- another program's database is 17, and stays as it is
+  pub foreign : HoldsForeign store → (e ≡ Damaged) × (after.committed ≡ store.committed)
   -- the records of another site stay as they are, whatever else the database holds
   pub untouched : IsSound after → e ≡ SiteMismatch → after.committed ≡ store.committed

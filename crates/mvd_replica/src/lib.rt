@@ -2,6 +2,7 @@
 #![tactic(auto)]
 
 mod batch;
+pub mod calls;
 pub mod file;
 mod groups;
 pub mod laws;
@@ -11,6 +12,16 @@ pub mod serving;
 mod side;
 mod turns;
 
+pub use calls::ViewRows;
 pub use file::{FileFault, open_file};
+pub use mvd_docs::{Document, Field, Term, ViewName};
+pub use mvd_dots::{Context, Dot, Refusal};
+pub use mvd_keys::{Key, KeyState, Place};
+pub use mvd_records::is_foreign;
+pub use mvd_rows::Defs;
+pub use mvd_site::Config;
+pub use mvd_sync::{Report, SyncFault, sync};
+pub use mvd_wire::{Items, RowValue};
 pub use replica::Replica;
 pub use serving::{Ended, FRAMES_MAX, serve};
+pub use sqlite::{Alter, Connection, MemStore};

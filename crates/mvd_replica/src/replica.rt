@@ -40,6 +40,7 @@ pub struct Replica<S: Alter> {
 }
 
 impl<S: Alter> Replica<S> {
+    ghost use Rattle.mvd_records.specs.Foreign.{HoldsForeign};
     ghost use Rattle.mvd_replica.specs.Kept.{HoldsSite, HoldsStates, PutsIn, Stores, broken_site};
     ghost use Rattle.mvd_replica.specs.Sides.{AnswersFromStored, ReplicaFollows};
     ghost use Rattle.mvd_replica.specs.Opened.{IsOpened, IsRefused};
@@ -47,13 +48,15 @@ impl<S: Alter> Replica<S> {
     ghost use Rattle.mvd_replica.specs.Turns.{AnswersStored};
 
     /// The replica of a site, with the states that its records hold. Records of version 1 are moved to version 2 first, key by
-    /// key. A refusal gives the connection back.
+    /// key. A refusal gives the connection back. Another program's database is refused with `Damaged` before anything is written.
     pub fn open(
         alloc: Global,
         conn: Connection<S>,
         config: Config,
     ) -> Result<Replica<S>, (Refusal, Connection<S>)>
         ensures opens { MatchResult result (λ replica. IsOpened config (state S.Store conn) replica.site (state S.Store replica.records.conn)) (λ e. IsRefused config (state S.Store conn) e.0 (state S.Store e.1)) }
+        // The connection to another program's database is given back as it was.
+        ensures foreign { HoldsForeign (state S.Store conn) → result ≡ Err (Refusal.Damaged, conn) }
     {
         let mut records = match Records::open(alloc, conn, config.site()) {
             Ok(records) => records,
@@ -230,6 +233,8 @@ impl<S: Alter> Replica<S> {
         ensures follows { ReplicaFollows (λ asked. asked ≡ Push key.now pushed.now) self.old.site self.new.site (state S.Store self.old.records.conn) (state S.Store self.new.records.conn) }
         ensures stored { IsSound (state S.Store self.new.records.conn) → HoldsSite self.old.site (state S.Store self.old.records.conn).committed → self.old.site.broken ≡ false → result ≡ Err Broken →
             HoldsStates self.old.site.config.site (after_from self.old.site.config self.old.site.states (Push key.now pushed.now)) (state S.Store self.new.records.conn).committed }
+        // A crash leaves what it left before the call, or the states with the push.
+        ensures survives { Survives (state S.Store self.old.records.conn) (state S.Store self.new.records.conn) (LeavesAnswered self.old.site (Push key.now pushed.now) (state S.Store self.old.records.conn)) }
     {
         // Here it is known that the pushed state's siblings have been seen.
         let _seen = pushed.context();

@@ -22,7 +22,13 @@ returns-in-Ok-open-clause-opens g c sound =
     let it = c.in-Ok-open.ensures.opens in
     let was = it.before sound in
     let found = found_in _ _ (c.in-Ok.ensures.found was.clean) ((c.in-Ok.ensures.opened was.clean).1 was.is_open).1 in
-    record { was = _; found = found; opened = it.opened sound; just = just_held _ _ _ _ _ found (it.opened sound) }
+    record {
+      was = _;
+      found = found;
+      opened = it.opened sound;
+      own = λ foreign. it.own (record { foreign = foreign; autocommit = c.in-Ok.ensures.fresh.autocommit; is_open = was.is_open });
+      just = just_held _ _ _ _ _ found (it.opened sound);
+    }
 
 pub returns-in-Err-clause-refused : goal.returns-in-Err-clause-refused
 returns-in-Err-clause-refused g c =
@@ -43,5 +49,6 @@ returns-in-Err-open-clause-refused g c =
             was = _;
             found = found_in _ _ (c.in-Ok.ensures.found was.clean) ((c.in-Ok.ensures.opened was.clean).1 was.is_open).1;
             refused = it.refused sound;
+            foreign = λ foreign. it.foreign (record { foreign = foreign; autocommit = c.in-Ok.ensures.fresh.autocommit; is_open = was.is_open });
           }),
     )

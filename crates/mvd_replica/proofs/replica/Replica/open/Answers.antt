@@ -1,4 +1,4 @@
-use Rattle.std.proofs.Common.{Ok, inl, inr, sym, subst}
+use Rattle.std.proofs.Common.{Ok, Err, inl, inr, sym, subst, ap}
 use Rattle.mvd_dots.specs.declared.refusals.Refusal.TheVariants.{Damaged, SiteMismatch}
 use Rattle.sqlite.specs.Held.{state}
 use Rattle.mvd_records.specs.Records.{IsSound, TellsVersion, marks_of}
@@ -27,7 +27,9 @@ returns-in-Ok-site_in g c = record {
           holds = holds_opened c.in-Ok-site_in.site c.args.config c.site.result _ c.in-Ok-site_in.ensures.config.0 c.site.ensures.site both.0 none both.1;
           states = same;
         });
+    own = c.in-Ok.ensures.opens.own;
   };
+  foreign = λ foreign. absurd (c.in-Ok.ensures.opens.own foreign);
 }
 
 pub returns-in-Err : goal.returns-in-Err
@@ -45,8 +47,12 @@ returns-in-Err g c = record {
           full = λ is. absurd (open_not_full _ c.in-Err.ensures.refusal is);
           resumes = inl (c.in-Err.ensures.unchanged sound);
         });
+    foreign = λ foreign. (
+        let same = c.in-Err.ensures.opens.1 foreign in
+        (ap (λ r. r.0) same, ap (λ r. (state g.S.Store r.1).committed) same));
     untouched = λ sound is. c.in-Err.ensures.unchanged sound;
   };
+  foreign = λ foreign. ap (λ r. Err r) (c.in-Err.ensures.opens.1 foreign);
 }
 
 pub returns-in-Err-site_in : goal.returns-in-Err-site_in
@@ -74,6 +80,8 @@ returns-in-Err-site_in g c = record {
             resumes_opened version c.args.config.site number _ _ _ c.site.ensures.site opened.states (c.in-Err-site_in.ensures.resumes number real opened.holds),
           );
         }));
+    foreign = λ foreign. absurd (c.in-Ok.ensures.opens.own foreign);
     untouched = λ sound is. absurd (read_no_mismatch _ c.in-Err-site_in.ensures.refusal is);
   };
+  foreign = λ foreign. absurd (c.in-Ok.ensures.opens.own foreign);
 }

@@ -1,0 +1,27 @@
+use Rattle.std.proofs.Common.{◌≡◌, ◌∙◌, false, true, Ok, Err, inl, inr, sym, ap, subst, refl}
+use Rattle.mvd_dots.specs.declared.refusals.Refusal.TheVariants.{Broken}
+use Rattle.mvd_wire.specs.declared.reply.Reply.TheVariants.{Refused}
+use Rattle.mvd_site.specs.FromStates.{answer_from, unless_broken}
+use Rattle.mvd_site.specs.Prepared.{PreparesFrom}
+use Rattle.mvd_site.proofs.Alike.{still}
+use Rattle.mvd_site.proofs.Outcomes.{whole_where_ok}
+use Rattle.mvd_replica.proofs.Asking.{tells_refusal, told_is, whole_tells}
+use Rattle.mvd_replica.proofs.Sides.{changes_states}
+use Rattle.mvd_replica.proofs.replica.Replica.told.Goals as goal
+
+pub returns-in-Ok-Answer-clause-tells : goal.returns-in-Ok-Answer-clause-tells
+returns-in-Ok-Answer-clause-tells g c =
+    let site = c.args.self.now.site in
+    let whole : site.broken ≡ false = whole_where_ok site.broken c.in-Ok-Answer.field-0 c.in-Ok-Answer.ensures.broken in
+    whole_tells site c.args.request.now _ whole
+    (subst (λ p. PreparesFrom site.config site.states c.args.request.now (Ok p)) c.in-Ok-Answer.field-0-is (c.in-Ok-Answer.ensures.states whole)).answers
+
+pub returns-in-Ok-Answer-clause-kind : goal.returns-in-Ok-Answer-clause-kind
+returns-in-Ok-Answer-clause-kind g c = told_is _ _ _ (returns-in-Ok-Answer-clause-tells g c)
+
+pub returns-in-Err-clause-tells : goal.returns-in-Err-clause-tells
+returns-in-Err-clause-tells g c =
+    tells_refusal c.args.self.now.site c.args.request.now c.in-Err.refusal c.in-Err.ensures.broken c.in-Err.ensures.states
+
+pub returns-in-Err-clause-kind : goal.returns-in-Err-clause-kind
+returns-in-Err-clause-kind g c = told_is _ _ _ (returns-in-Err-clause-tells g c)

@@ -1,0 +1,84 @@
+-- What a program asks of a replica by a call of its own, as the request that it is and the reply that its result stands for.
+use Rattle.std.specs.Prelude.{◌≡◌, ◌≢◌, ◌⊎◌, ⊤, Bool, false, Result, Ok, Err}
+use Rattle.mvd_dots.specs.Dot.{DotValue}
+use Rattle.mvd_dots.specs.declared.refusals.Refusal.{Refusal}
+use Rattle.mvd_dots.specs.declared.refusals.Refusal.TheVariants.{Broken, Memory}
+use Rattle.mvd_wire.specs.declared.request.Request.{Request}
+use Rattle.mvd_wire.specs.declared.request.Request.TheVariants.{Put, Delete, Find, Row, Rows, Range}
+use Rattle.mvd_wire.specs.declared.reply.Reply.{Reply}
+use Rattle.mvd_wire.specs.declared.reply.Reply.TheVariants as reply
+use Rattle.mvd_wire.specs.declared.reply.RowValue.{RowValue}
+use Rattle.mvd_records.specs.Records.{IsSound}
+use Rattle.mvd_site.specs.FromStates.{answer_from, unless_broken}
+use Rattle.mvd_site.specs.Sites.{SiteValue}
+use Rattle.mvd_replica.specs.Batch.{AnswersOneFrom}
+use Rattle.mvd_replica.specs.Sides.{ReplicaFollows}
+use Rattle.mvd_replica.specs.Stops.{LeavesAnswered}
+use Rattle.mvd_replica.specs.Turns.{AnswersStored}
+use Rattle.sqlite.specs.State.{State, Survives}
+
+-- ---- a write
+
+-- the reply to a put that came to this
+abbrev pub put_reply : Result DotValue Refusal → Reply
+put_reply (Ok dot) = reply.Written dot
+put_reply (Err refusal) = reply.Refused refusal
+
+-- What `answer` says of a request and its reply: from the writes known and from the states that are held, of the records, and of a
+-- crash. A refusal but 22 changes nothing
+pub record Asks (request : Request) (told : Reply) (old new : SiteValue) (before after : State) : Type 0 where
+  pub known : AnswersStored old new request told
+  pub states : AnswersOneFrom old new request told
+  pub follows : ReplicaFollows (λ asked. asked ≡ request) old new before after
+  pub survives : Survives before after (LeavesAnswered old request before)
+  pub unchanged : (refusal : Refusal) → told ≡ reply.Refused refusal → refusal ≢ Broken → new ≡ old
+  pub unstored : (refusal : Refusal) → IsSound after → told ≡ reply.Refused refusal → refusal ≢ Broken → after.committed ≡ before.committed
+
+-- ---- a question
+
+-- The reply that `answer` gives to a question, from the states that are held: 22 of a broken replica, and 20 where memory was refused
+abbrev pub Tells : SiteValue → Request → Reply → Type 0
+Tells site request told =
+    (told ≡ unless_broken site.broken (reply.Refused Broken) (answer_from site.config site.states request)) ⊎ ((site.broken ≡ false) × (told ≡ reply.Refused Memory))
+
+-- the reply to a question of a row that came to this
+abbrev pub row_told : Result RowValue Refusal → Reply
+row_told (Ok row) = reply.Row row
+row_told (Err refusal) = reply.Refused refusal
+
+-- ---- replies of a kind, or a refusal
+
+abbrev pub IsWritten : Reply → Type 0
+IsWritten (reply.Written dot) = ⊤
+IsWritten (reply.Refused refusal) = ⊤
+IsWritten told = ⊥
+
+abbrev pub IsDone : Reply → Type 0
+IsDone reply.Done = ⊤
+IsDone (reply.Refused refusal) = ⊤
+IsDone told = ⊥
+
+abbrev pub ArePlaces : Reply → Type 0
+ArePlaces (reply.Places places more) = ⊤
+ArePlaces (reply.Refused refusal) = ⊤
+ArePlaces told = ⊥
+
+abbrev pub IsRow : Reply → Type 0
+IsRow (reply.Row row) = ⊤
+IsRow (reply.Refused refusal) = ⊤
+IsRow told = ⊥
+
+abbrev pub AreRows : Reply → Type 0
+AreRows (reply.Rows rows more) = ⊤
+AreRows (reply.Refused refusal) = ⊤
+AreRows told = ⊥
+
+-- the reply is of the kind that a put, a delete or a question of an index or a view asks for
+abbrev pub IsReplyTo : Request → Reply → Type 0
+IsReplyTo (Put key seen document) told = IsWritten told
+IsReplyTo (Delete key seen) told = IsDone told
+IsReplyTo (Find field term after) told = ArePlaces told
+IsReplyTo (Range field from to after) told = ArePlaces told
+IsReplyTo (Row view term) told = IsRow told
+IsReplyTo (Rows view after) told = AreRows told
+IsReplyTo request told = ⊤

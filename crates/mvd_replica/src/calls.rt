@@ -1,0 +1,195 @@
+//! The calls of a program: each gives what it asks for, or the refusal.
+ghost use Rattle.std.specs.Prelude.{◌≡◌, ◌≢◌, [], Ok, Err, IfErr, true};
+ghost use Rattle.mvd_dots.specs.Answer.{IsAnswer};
+ghost use Rattle.mvd_dots.specs.declared.refusals.Refusal.TheVariants.{Broken, Memory};
+ghost use Rattle.mvd_tree.specs.HashTree.{node_digest};
+ghost use Rattle.mvd_wire.specs.declared.request.Request.TheVariants.{Put, Delete, Find, Range, Row, Rows};
+ghost use Rattle.mvd_site.specs.Answer.{digests, is_question, places_reply, rows_reply};
+ghost use Rattle.mvd_site.specs.FromStates.{push_reply, unless_broken};
+ghost use Rattle.mvd_replica.specs.Asks.{ArePlaces, AreRows, Asks, IsDone, IsReplyTo, IsRow, IsWritten, Tells, put_reply, row_told};
+ghost use Rattle.sqlite.specs.Held.{state};
+
+use crate::replica::Replica;
+use mvd_docs::{Document, Field, Term, ViewName};
+use mvd_dots::{Context, Dot, Refusal};
+use mvd_keys::{Key, Path, Place};
+use mvd_site::Prepared;
+use mvd_wire::{Items, Reply, Request, RowValue};
+use sqlite::Alter;
+
+/// The rows of a view: of each its term, how many siblings it has, the sum of their numbers, and the least and the greatest of these.
+pub type ViewRows = Items<(Term, u64, i128, Option<(i64, i64)>)>;
+
+impl<S: Alter> Replica<S> {
+    /// Writes a document in place of the documents that were seen, and gives its dot. Once this returns, it is stored.
+    pub fn put(&mut self, key: Key, seen: Context, document: Document) -> Result<Dot, Refusal>
+        ensures asks { Asks (Put key seen document) (put_reply result) self.old.site self.new.site
+            (state S.Store self.old.records.conn) (state S.Store self.new.records.conn) }
+    {
+        let request = Request::Put(key, seen, document);
+        let reply = self.asked(&request);
+        spend(request);
+        dot_in(reply)
+    }
+
+    /// Removes the documents that were seen. Once this returns, that is stored.
+    pub fn delete(&mut self, key: Key, seen: Context) -> Result<(), Refusal>
+        ensures asks { Asks (Delete key seen) (push_reply result) self.old.site self.new.site
+            (state S.Store self.old.records.conn) (state S.Store self.new.records.conn) }
+    {
+        let request = Request::Delete(key, seen);
+        let reply = self.asked(&request);
+        spend(request);
+        done_in(reply)
+    }
+
+    /// The places of a term at an indexed field: at most 1,000, those after a place if one is given, and whether more follow.
+    pub fn find(
+        &self,
+        field: Field,
+        term: Term,
+        after: Option<(Key, Dot)>,
+    ) -> Result<(Items<Place>, bool), Refusal>
+        ensures { Tells self.now.site (Find field term after) (places_reply result) }
+    {
+        let request = Request::Find(field, term, after);
+        let reply = self.told(&request);
+        spend(request);
+        places_in(reply)
+    }
+
+    /// The places of all terms from one to another at an indexed field: a page, as `find` gives it.
+    pub fn range(
+        &self,
+        field: Field,
+        from: Term,
+        to: Term,
+        after: Option<Place>,
+    ) -> Result<(Items<Place>, bool), Refusal>
+        ensures { Tells self.now.site (Range field from to after) (places_reply result) }
+    {
+        let request = Request::Range(field, from, to, after);
+        let reply = self.told(&request);
+        spend(request);
+        places_in(reply)
+    }
+
+    /// One row of a view.
+    pub fn row(&self, view: ViewName, term: Term) -> Result<RowValue, Refusal>
+        ensures { Tells self.now.site (Row view term) (row_told result) }
+    {
+        let request = Request::Row(view, term);
+        let reply = self.told(&request);
+        spend(request);
+        row_in(reply)
+    }
+
+    /// The rows of a view: at most 1,000, those after a term if one is given, and whether more follow.
+    pub fn rows(&self, view: ViewName, after: Option<Term>) -> Result<(ViewRows, bool), Refusal>
+        ensures { Tells self.now.site (Rows view after) (rows_reply result) }
+    {
+        let request = Request::Rows(view, after);
+        let reply = self.told(&request);
+        spend(request);
+        rows_in(reply)
+    }
+
+    /// The digest of the root of the hash tree: replicas with the same states have the same.
+    pub fn root(&self) -> Result<[u8; 32], Refusal>
+        ensures { IsAnswer result (unless_broken self.now.site.broken (Err Broken) (Ok (node_digest (digests self.now.site.states) []))) }
+    {
+        if self.is_broken() {
+            return Err(Refusal::Broken);
+        }
+        let path = Path::new(self.alloc, &[])?;
+        match self.node(&path) {
+            Ok(digests) => Ok(digests.own),
+            Err(refusal) => Err(refusal),
+        }
+    }
+
+    /// Has a request answered.
+    fn asked(&mut self, request: &Request) -> Reply
+        ensures asks { Asks request.now result self.old.site self.new.site
+            (state S.Store self.old.records.conn) (state S.Store self.new.records.conn) }
+        ensures kind { IsReplyTo request.now result }
+    {
+        self.answer(request)
+    }
+
+    /// The reply to a question, which changes nothing.
+    fn told(&self, request: &Request) -> Reply
+        requires { is_question request.now ≡ true }
+        ensures tells { Tells self.now.site request.now result }
+        ensures kind { IsReplyTo request.now result }
+    {
+        match self.site.prepare(request) {
+            Ok(Prepared::Answer(reply)) => reply,
+            Ok(Prepared::Change(_)) => unreachable!(),
+            Err(refusal) => Reply::Refused(refusal),
+        }
+    }
+}
+
+// It stands by itself, so that a call does not carry how each part of a request is dropped.
+fn spend(_request: Request) {}
+
+/// The dot of a put that was taken.
+fn dot_in(reply: Reply) -> Result<Dot, Refusal>
+    requires { IsWritten reply }
+    ensures { put_reply result ≡ reply }
+{
+    match reply {
+        Reply::Written(dot) => Ok(dot),
+        Reply::Refused(refusal) => Err(refusal),
+        _ => unreachable!(),
+    }
+}
+
+/// That a delete was taken.
+fn done_in(reply: Reply) -> Result<(), Refusal>
+    requires { IsDone reply }
+    ensures { push_reply result ≡ reply }
+{
+    match reply {
+        Reply::Done => Ok(()),
+        Reply::Refused(refusal) => Err(refusal),
+        _ => unreachable!(),
+    }
+}
+
+/// A page of an index.
+fn places_in(reply: Reply) -> Result<(Items<Place>, bool), Refusal>
+    requires { ArePlaces reply }
+    ensures { places_reply result ≡ reply }
+{
+    match reply {
+        Reply::Places(places, more) => Ok((places, more)),
+        Reply::Refused(refusal) => Err(refusal),
+        _ => unreachable!(),
+    }
+}
+
+/// A row of a view.
+fn row_in(reply: Reply) -> Result<RowValue, Refusal>
+    requires { IsRow reply }
+    ensures { row_told result ≡ reply }
+{
+    match reply {
+        Reply::Row(row) => Ok(row),
+        Reply::Refused(refusal) => Err(refusal),
+        _ => unreachable!(),
+    }
+}
+
+/// A page of a view.
+fn rows_in(reply: Reply) -> Result<(ViewRows, bool), Refusal>
+    requires { AreRows reply }
+    ensures { rows_reply result ≡ reply }
+{
+    match reply {
+        Reply::Rows(rows, more) => Ok((rows, more)),
+        Reply::Refused(refusal) => Err(refusal),
+        _ => unreachable!(),
+    }
+}

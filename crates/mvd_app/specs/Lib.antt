@@ -1,4 +1,5 @@
 pub mod Asked
+pub mod Output
 pub mod Script
 pub mod Staged
 pub mod Talk

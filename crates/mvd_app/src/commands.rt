@@ -4,6 +4,7 @@ ghost use Rattle.mvd_input.specs.Orders.{IsInRange, IsSetUp};
 use crate::hint::{Hint, Stop};
 use crate::looping::loop_run;
 use crate::many::{Terms, serve_run};
+use crate::output::Output;
 use crate::script::sim;
 use crate::serving::{refused_in, sync_run};
 use crate::shell::{remote_shell_run, shell_run};
@@ -59,7 +60,7 @@ pub fn run<'a, S: Start>(rt: &HostRuntime, order: Order<'a>, start: S) -> Result
 
 fn run_sim<'a>(rt: &HostRuntime) -> Result<(), Stop<'a>> {
     let mut reader = input(rt)?;
-    match sim(rt.alloc(), &mut reader, &mut io::writer(rt)) {
+    match sim(rt.alloc(), &mut reader, &mut Output::new(io::writer(rt))) {
         Ok(()) => Ok(()),
         Err(fault) => Err(Stop::in_input(fault, Hint::Script)),
     }

@@ -4,8 +4,8 @@
 ghost use Rattle.std.specs.Prelude.{◌<◌};
 
 use mvd_replica::{
-    Alter, Config, Connection, Context, Defs, Document, Field, Key, KeyState, MemStore, Place, Refusal,
-    Replica, SyncFault, Term, sync,
+    Alter, Config, Connection, Context, Defs, Document, Field, Key, KeyState, MemStore, Place,
+    Refusal, Replica, SyncFault, Term, sync,
 };
 use std::alloc::Global;
 use std::fmt::Write;

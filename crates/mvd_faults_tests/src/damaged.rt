@@ -189,7 +189,10 @@ fn another_programs_database_is_refused_and_stays(rt: HostRuntime) -> Result<(),
     for tables in FOREIGN {
         let bytes = file_of(rt.alloc(), tables)?;
         for mode in [1, 2] {
-            assert!(rt; is_foreign_refused(rt.alloc(), bytes.as_slice(), mode)?, "{tables} {mode}");
+            assert!(rt;
+                is_foreign_refused(rt.alloc(), bytes.as_slice(), mode)?,
+                "{tables} {mode}"
+            );
         }
     }
     Ok(())

@@ -174,8 +174,12 @@ refused "a damaged row" 1 "fault 17 Damaged" \
   "damaged.db is damaged, or of a later version of mvd: name another file, or a copy of this one" \
   damaged.db serve --db damaged.db --site 2 --port "$port"
 sqlite3 other.db "CREATE TABLE note (title TEXT); INSERT INTO note VALUES ('a')"
+other=$(cksum <other.db)
 refused "another program's database" 1 "fault 17 Damaged" "other.db is the file of another program: name another file" \
   other.db serve --db other.db --site 2 --port "$port"
+same "its bytes" "$other" "$(cksum <other.db)"
+# The log that the open left beside it is empty, but for its head.
+rm -f other.db-wal
 same "its journal and its rows" "delete a" "$(sqlite3 other.db 'PRAGMA journal_mode; SELECT title FROM note' | tr '\n' ' ' | sed 's/ $//')"
 seq 2000 >none.db
 refused "no database" 1 "fault 21 Store" "none.db is no database of mvd, or damaged: name another file, or a copy of this one" \
@@ -194,5 +198,5 @@ refused "a line of a script" 3 "line 1: not a command" \
   "standard input: docs/FORMATS.md lists the lines of a script, of which \`sites N\` is the first" b.db sim <bad
 refused "a bad number" 2 "bad number" "\`mvd help COMMAND\` tells the range of each" b.db serve --db b.db --site 0 --port "$port"
 refused "a word that is no text" 2 "a word is no UTF-8" "name each file in UTF-8" \
-  b.db shell --db $'\xff.db' --site 2
+  b.db shell --db "$(printf '\377').db" --site 2
 echo "served: all as wanted"

@@ -155,8 +155,15 @@ fn a_refusal_shows_the_usage_of_its_command(rt: HostRuntime) -> Result<(), Fail>
     assert!(rt; says(alloc, address, "'--address <IP>': it is no IP address")?);
     assert!(rt; says(alloc, address, "Usage: mvd serve ")?);
     assert!(rt; says(alloc, "mvd loop --site +1", "Usage: mvd loop ")?);
-    assert!(rt; says(alloc, "mvd sync --db f --site 01 --port 1", "Usage: mvd sync ")?);
-    let shell = "Usage: mvd shell --db <FILE> --site <N> [--defs <FILE>] [--max-keys <N>]\n       mvd shell --port <P>";
+    assert!(rt;
+        says(
+            alloc,
+            "mvd sync --db f --site 01 --port 1",
+            "Usage: mvd sync "
+        )?
+    );
+    let shell =
+        "Usage: mvd shell --db <FILE> --site <N> [--defs <FILE>] [--max-keys <N>]\n       mvd shell --port <P>";
     assert!(rt; says(alloc, "mvd shell", shell)?);
     assert!(rt; says(alloc, "mvd shell --port 7 --address here", shell)?);
     Ok(())

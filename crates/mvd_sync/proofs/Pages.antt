@@ -31,24 +31,24 @@ fresh_listing held path after page more p m = record {
 
 -- ---- which key comes next
 
-pub next_less : (xs ys xs' : List Entry) (e : Entry) → xs ≡ e ∷ xs' → order_of_first xs ys ≡ Some Less → TakesNext xs ys e.0 true xs' ys
-next_less xs [] xs' e p o = of_first e p refl refl refl tt
+pub next_less : (xs ys xs' : List Entry) (e : Entry) → xs ≡ e ∷ xs' → order_of_first xs ys ≡ Some Less → TakesNext xs ys e.0 true false true xs' ys
+next_less xs [] xs' e p o = of_first e p refl refl refl refl refl tt
 next_less xs (f ∷ fs) xs' e p o =
     let q : Some (slice_cmp nat_cmp e.0 f.0) ≡ Some Less = ap (λ zs. order_of_first zs (f ∷ fs)) (sym p) ∙ o in
-    of_first e p refl refl refl (cc)
+    of_first e p refl refl refl refl refl (cc)
 
-pub next_greater : (xs ys ys' : List Entry) (f : Entry) → ys ≡ f ∷ ys' → order_of_first xs ys ≡ Some Greater → TakesNext xs ys f.0 true xs ys'
-next_greater [] ys ys' f p o = of_second f refl p refl refl tt
+pub next_greater : (xs ys ys' : List Entry) (f : Entry) → ys ≡ f ∷ ys' → order_of_first xs ys ≡ Some Greater → TakesNext xs ys f.0 false true true xs ys'
+next_greater [] ys ys' f p o = of_second f refl p refl refl refl refl tt
 next_greater (e ∷ es) ys ys' f p o =
     let q : Some (slice_cmp nat_cmp e.0 f.0) ≡ Some Greater = ap (order_of_first (e ∷ es)) (sym p) ∙ o in
     let g : slice_cmp nat_cmp e.0 f.0 ≡ Greater = cc in
-    of_second f refl p refl refl (nat_list_cmp_total.antisymm f.0 e.0 ∙ ap ordering_reverse g)
+    of_second f refl p refl refl refl refl (nat_list_cmp_total.antisymm f.0 e.0 ∙ ap ordering_reverse g)
 
 not_is : (b : Bool) (P : Type 0) → (IsTrue b ↔ P) → IsTrue (not b) ↔ (P → ⊥)
 not_is true P h = (λ no. absurd (cc), λ no. absurd (no (h.0 refl)))
 not_is false P h = (λ _ p. let t = h.1 p in absurd (cc), λ _. refl)
 
-pub next_both : (xs ys xs' ys' : List Entry) (e f : Entry) (same : Bool) → xs ≡ e ∷ xs' → ys ≡ f ∷ ys' → order_of_first xs ys ≡ Some Equal → (IsTrue same ↔ (e.1 ≡ f.1)) → TakesNext xs ys e.0 (not same) xs' ys'
+pub next_both : (xs ys xs' ys' : List Entry) (e f : Entry) (same : Bool) → xs ≡ e ∷ xs' → ys ≡ f ∷ ys' → order_of_first xs ys ≡ Some Equal → (IsTrue same ↔ (e.1 ≡ f.1)) → TakesNext xs ys e.0 true true (not same) xs' ys'
 next_both xs ys xs' ys' e f same p q o h =
     let r : Some (slice_cmp nat_cmp e.0 f.0) ≡ Some Equal = (λ i. order_of_first (sym p i) (sym q i)) ∙ o in
-    of_both e f p q refl (keys_same e.0 f.0 (cc)) (not_is same (e.1 ≡ f.1) h)
+    of_both e f p q refl (keys_same e.0 f.0 (cc)) refl refl (not_is same (e.1 ≡ f.1) h)

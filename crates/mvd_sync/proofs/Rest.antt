@@ -177,10 +177,10 @@ stable xs ys h =
       | false ↦ λ e. absurd (h (λ s. let t : pointwise nat_eq xs ys ≡ true = (bytes_eq-Decides xs ys).1 s in cc))
     ] refl
 
-pub heads : (m n : KeyDigests) (path : List ℕ) (b : Option (List ℕ)) (k : List ℕ) (differs : Bool) (xs ys xs' ys' : List Entry) (more more' : Bool)
+pub heads : (m n : KeyDigests) (path : List ℕ) (b : Option (List ℕ)) (k : List ℕ) (has has' differs : Bool) (xs ys xs' ys' : List Entry) (more more' : Bool)
     → (p : IsListing m path b xs more) → (q : IsListing n path b ys more') → (xs ≡ [] → more ≡ false) → (ys ≡ [] → more' ≡ false)
-    → TakesNext xs ys k differs xs' ys' → Heads m n path b k differs (xs' ++ p.later) (ys' ++ q.later)
-heads m n path b k differs xs ys xs' ys' more more' p q ended ended' (of_first e is same key sure starts) =
+    → TakesNext xs ys k has has' differs xs' ys' → Heads m n path b k differs (xs' ++ p.later) (ys' ++ q.later)
+heads m n path b k has has' differs xs ys xs' ys' more more' p q ended ended' (of_first e is same key mine_is theirs_is sure starts) =
     let mine = head_taken m path b k xs xs' p.later e p.is is key in
     let theirs = head_left n path b k ys q.later q.is starts (λ none. q.ended (ended' none)) in
     let at = head_where m path b k e.1 (xs' ++ p.later) mine in
@@ -194,7 +194,7 @@ heads m n path b k differs xs ys xs' ys' more more' p q ended ended' (of_first e
       below = at.0;
       next = at.1;
     }
-heads m n path b k differs xs ys xs' ys' more more' p q ended ended' (of_second f same is key sure starts) =
+heads m n path b k has has' differs xs ys xs' ys' more more' p q ended ended' (of_second f same is key mine_is theirs_is sure starts) =
     let mine = head_left m path b k xs p.later p.is starts (λ none. p.ended (ended none)) in
     let theirs = head_taken n path b k ys ys' q.later f q.is is key in
     let at = head_where n path b k f.1 (ys' ++ q.later) theirs in
@@ -208,7 +208,7 @@ heads m n path b k differs xs ys xs' ys' more more' p q ended ended' (of_second 
       below = at.0;
       next = at.1;
     }
-heads m n path b k differs xs ys xs' ys' more more' p q ended ended' (of_both e f is is' key key' h) =
+heads m n path b k has has' differs xs ys xs' ys' more more' p q ended ended' (of_both e f is is' key key' mine_is theirs_is h) =
     let mine = head_taken m path b k xs xs' p.later e p.is is key in
     let theirs = head_taken n path b k ys ys' q.later f q.is is' key' in
     let at = head_where m path b k e.1 (xs' ++ p.later) mine in

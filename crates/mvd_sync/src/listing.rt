@@ -1,11 +1,13 @@
 //! What a session has left of a side's page of a bucket.
-ghost use Rattle.std.specs.Prelude.{◌≡◌, ◌≢◌, ◌+◌, ◌*◌, ◌≤◌, [], ◌∷◌, length, IfOk, IfErr, IfSome, IfNone, OnSome, ◌<◌, ◌^◌, OnOk, MatchOption, option_copied, false};
+ghost use Rattle.std.specs.Prelude.{◌≡◌, ◌≢◌, ◌+◌, ◌-◌, ◌*◌, ◌≤◌, [], ◌∷◌, length, IfOk, IfErr, IfSome, IfNone, OnSome, ◌<◌, ◌^◌, OnOk, MatchOption, option_copied, false};
 ghost use Rattle.mvd_site.specs.Answer.{digests};
-ghost use Rattle.mvd_sync.specs.Answers.{IsListing, TakesNext, order_of_first};
-ghost use Rattle.mvd_sync.specs.Sides.{Blames};
+ghost use Rattle.mvd_sync.specs.Answers.{IsListing, IsPage, TakesNext, order_of_first};
+ghost use Rattle.mvd_sync.specs.Questions.{AllAnswered, ComesToEnd, Fills, Keeps, Tells};
+ghost use Rattle.mvd_sync.specs.Sides.{HasAnswered, side as side_of};
 
-use crate::peer::Peer;
-use crate::walk::{ask, is_same};
+use crate::levels::is_same;
+use crate::peer::{Page, Peer};
+use crate::questions::take_one;
 use mvd_dots::Refusal;
 use mvd_keys::{Key, Path};
 use std::cmp::Ordering;
@@ -27,6 +29,15 @@ impl Model for Listing {
     ghost view = { λ a. (reverse a.page.items, a.more) };
 }
 
+/// A key that a page of either side tells: which sides hold it, and whether its digests differ.
+#[derive(Drop)]
+pub struct Entry {
+    pub key: Key,
+    pub mine: bool,
+    pub theirs: bool,
+    pub differs: bool,
+}
+
 /// Whether the keys of a page strictly rise from a key on.
 fn rises(after: Option<&Key>, page: &[(Key, [u8; 32])]) -> bool {
     let mut last = after;
@@ -42,6 +53,22 @@ fn rises(after: Option<&Key>, page: &[(Key, [u8; 32])]) -> bool {
 }
 
 impl Listing {
+    /// A page that comes after a key. Keys that do not rise, or more without a key, are 33.
+    pub fn of_page(after: Option<&Key>, page: Page) -> Result<Self, Refusal>
+        ensures page { IfOk result (λ listing. listing ≡ (page.0.items, page.1)) }
+        ensures rises { IfOk result (λ listing. IsPage (option_copied after.entry) listing.0 listing.1) }
+        ensures bad { IfErr result (λ refusal. (refusal ≡ Refusal.BadBody) × (IsPage (option_copied after.entry) page.0.items page.1 → ⊥)) }
+        ensures length { IfOk result (λ page. length page.0 < 2 ^ 64) }
+    {
+        let (mut page, more) = page;
+        let count = page.len();
+        if !rises(after, page.as_slice()) || (more && count == 0) {
+            return Err(Refusal::BadBody);
+        }
+        page.reverse();
+        Ok(Listing { page, more })
+    }
+
     /// The page of a bucket that comes after a key. Keys that do not rise, or more without a key, are 33.
     pub fn fetch<P: Peer>(
         side: &mut P,
@@ -49,25 +76,17 @@ impl Listing {
         path: &Path,
         after: Option<&Key>,
     ) -> Result<Self, Refusal>
-        ensures kept { P.is_faithful side.old → P.is_faithful side.new × (P.states side.new ≡ P.states side.old) }
-        ensures page { P.is_faithful side.old → IfOk result (λ page. IsListing (digests (P.states side.old)) path.now (option_copied after.entry) page.0 page.1) }
-        ensures no_clash { P.is_faithful side.old → IfErr result (λ refusal. refusal ≢ Refusal.DotClash) }
-        ensures follows { P.follows side.old side.new }
-        ensures refuses { IfErr result (Blames (P.can_refuse side.new)) }
-        ensures answers { OnOk result (P.can_answer side.new) }
-        ensures more { IfOk result (λ page. page.0 ≡ [] → page.1 ≡ false) }
-        ensures left { OnOk result (left.new + 1 ≡ left.old) }
-        ensures least { left.new ≤ left.old }
-        ensures length { IfOk result (λ page. length page.0 < 2 ^ 64) }
+        ensures told { let s = side_of P.states P.is_faithful P.can_give P.follows P.can_refuse P.can_answer P.most_keys P.number in
+            let q = (path.now, option_copied after.entry) in
+            IfOk result
+            (λ listing. AllAnswered s (λ q page. IsPage q.1 page.0 page.1 × (length page.0 < 2 ^ 64) × HasAnswered P.follows P.can_answer side.old side.new)
+            (Tells s (λ q page. IsListing (digests (P.states side.old)) q.0 q.1 page.0 page.1) (q ∷ []) (listing ∷ []) side.old side.new)
+            (q ∷ []) (listing ∷ []) left.old left.new side.old side.new) }
+        ensures ended { let s = side_of P.states P.is_faithful P.can_give P.follows P.can_refuse P.can_answer P.most_keys P.number in
+            IfErr result (ComesToEnd s (Keeps s side.old side.new) 1 left.old side.old side.new) }
     {
-        ask(left)?;
-        let (mut page, more) = side.bucket(path, after)?;
-        let count = page.len();
-        if !rises(after, page.as_slice()) || (more && count == 0) {
-            return Err(Refusal::BadBody);
-        }
-        page.reverse();
-        Ok(Listing { page, more })
+        take_one(left)?;
+        Listing::of_page(after, side.bucket(path, after)?)
     }
 
     /// Makes sure that an entry is there, unless none is left.
@@ -78,15 +97,10 @@ impl Listing {
         path: &Path,
         after: Option<&Key>,
     ) -> Result<(), Refusal>
-        ensures kept { P.is_faithful side.old → P.is_faithful side.new × (P.states side.new ≡ P.states side.old) }
-        ensures page { P.is_faithful side.old → IsListing (digests (P.states side.old)) path.now (option_copied after.entry) self.old.0 self.old.1 → OnOk result (IsListing (digests (P.states side.old)) path.now (option_copied after.entry) self.new.0 self.new.1) }
-        ensures no_clash { P.is_faithful side.old → IfErr result (λ refusal. refusal ≢ Refusal.DotClash) }
-        ensures follows { P.follows side.old side.new }
-        ensures refuses { IfErr result (Blames (P.can_refuse side.new)) }
-        ensures answers { P.can_answer side.old → OnOk result (P.can_answer side.new) }
-        ensures more { OnOk result (self.new.0 ≡ [] → self.new.1 ≡ false) }
-        ensures measure { OnOk result (2 ^ 64 * left.new + length self.new.0 ≤ 2 ^ 64 * left.old + length self.old.0) }
-        ensures least { left.new ≤ left.old }
+        ensures filled { let s = side_of P.states P.is_faithful P.can_give P.follows P.can_refuse P.can_answer P.most_keys P.number in
+            OnOk result (Fills s path.now (option_copied after.entry) self.old self.new left.old left.new side.old side.new) }
+        ensures ended { let s = side_of P.states P.is_faithful P.can_give P.follows P.can_refuse P.can_answer P.most_keys P.number in
+            IfErr result (ComesToEnd s (Keeps s side.old side.new) 1 left.old side.old side.new) }
     {
         if self.page.is_empty() && self.more {
             *self = Listing::fetch(side, left, path, after)?;
@@ -114,27 +128,41 @@ impl Listing {
     }
 }
 
-/// Takes the lesser first key of two listings, from both where both begin with it, and says
-/// whether its digests differ.
-pub fn next(mine: &mut Listing, theirs: &mut Listing) -> Option<(Key, bool)>
+/// Takes the lesser first key of two listings, from both where both begin with it.
+pub fn next(mine: &mut Listing, theirs: &mut Listing) -> Option<Entry>
     ensures none { IfNone result ((mine.old.0 ≡ []) × (theirs.old.0 ≡ [])) }
-    ensures next { IfSome result (λ r. TakesNext mine.old.0 theirs.old.0 r.0 r.1 mine.new.0 theirs.new.0) }
+    ensures next { IfSome result (λ e. TakesNext mine.old.0 theirs.old.0 e.key e.mine e.theirs e.differs mine.new.0 theirs.new.0) }
     ensures fewer { OnSome result (length mine.new.0 + length theirs.new.0 < length mine.old.0 + length theirs.old.0) }
     ensures more { (mine.new.1 ≡ mine.old.1) × (theirs.new.1 ≡ theirs.old.1) }
 {
     match mine.order(theirs)? {
         Ordering::Less => {
             let (key, _) = mine.take()?;
-            Some((key, true))
+            Some(Entry {
+                key,
+                mine: true,
+                theirs: false,
+                differs: true,
+            })
         }
         Ordering::Greater => {
             let (key, _) = theirs.take()?;
-            Some((key, true))
+            Some(Entry {
+                key,
+                mine: false,
+                theirs: true,
+                differs: true,
+            })
         }
         Ordering::Equal => {
             let (key, first) = mine.take()?;
             let (_, second) = theirs.take()?;
-            Some((key, !is_same(&first, &second)))
+            Some(Entry {
+                key,
+                mine: true,
+                theirs: true,
+                differs: !is_same(&first, &second),
+            })
         }
     }
 }

@@ -11,7 +11,8 @@ ghost use Rattle.mvd_wire.specs.Requests.{request_frame};
 ghost use Rattle.std.specs.FinMap.{empty};
 ghost use Rattle.std.specs.Option.{option_copied};
 
-use crate::peer::Peer;
+use crate::peer::{Page, Peer};
+use crate::windows::room_for;
 use mvd_dots::Refusal;
 use mvd_keys::{Key, KeyState, Path};
 use mvd_wire::{
@@ -48,13 +49,36 @@ fn answered_by(request: &Request) -> u8
 
 /// The refusal that a reply tells which accepts nothing.
 fn told(reply: &Reply) -> Refusal
-    requires { kind_of reply.now ≡ 0xEE }
-    ensures { reply.now ≡ Refused result }
+    ensures { kind_of reply.now ≡ 0xEE → reply.now ≡ Refused result }
 {
     match reply {
         Reply::Refused(refusal) => *refusal,
         _ => Refusal::BadKind,
     }
+}
+
+/// The frame of one more request of a window, or why it has none; want of memory ends the window before anything is sent.
+fn add_frame(
+    frames: &mut Vec<Result<Vec<u8>, Refusal>>,
+    frame: Result<Vec<u8>, Refusal>,
+) -> Result<(), Refusal> {
+    if let Err(Refusal::Memory) = frame {
+        return Err(Refusal::Memory);
+    }
+    frames.push(frame)?;
+    Ok(())
+}
+
+/// The refusal that a reply of a window tells, or why it is none. A side that tells that it is broken refuses the whole window.
+fn refusal_of(reply: Result<Reply, Refusal>) -> Result<Refusal, Refusal> {
+    let refusal = match reply {
+        Ok(reply) => told(&reply),
+        Err(refusal) => refusal,
+    };
+    if refusal == Refusal::Broken {
+        return Err(refusal);
+    }
+    Ok(refusal)
 }
 
 impl<R: Read + Drop, W: Write + Drop> Remote<R, W> {
@@ -85,41 +109,79 @@ impl<R: Read + Drop, W: Write + Drop> Remote<R, W> {
         (reader, writer)
     }
 
+    /// The link itself refuses, from now on.
+    fn breaks(&mut self, refusal: Refusal) -> Refusal {
+        self.refused = Some(refusal);
+        refusal
+    }
+
+    /// Reads a reply, which is of this kind or a refusal.
+    fn read(&mut self, kind: u8) -> Result<Reply, Refusal> {
+        let came = match read_frame(self.alloc, &mut self.reader) {
+            Ok(Some(came)) => came,
+            Ok(None) => return Err(self.breaks(Refusal::Truncated)),
+            Err(refusal) => return Err(self.breaks(refusal)),
+        };
+        if came.kind != kind && came.kind != 0xEE {
+            return Err(self.breaks(Refusal::BadKind));
+        }
+        match decode_reply(self.alloc, came.kind, &came.payload) {
+            Ok(reply) => Ok(reply),
+            Err(refusal) => {
+                if refusal.number() < 30 {
+                    return Err(refusal);
+                }
+                Err(self.breaks(refusal))
+            }
+        }
+    }
+
     /// Sends a frame, and reads the reply, which is of this kind or a refusal.
     fn send(&mut self, frame: &[u8], kind: u8) -> Result<Reply, Refusal>
         requires { self.old.refused ≡ None }
         ensures sends { Sends (link R.remaining W.contents self.old) (link R.remaining W.contents self.new) frame.now kind result }
         ensures of_kind { IfOk result (λ reply. (kind_of reply ≡ kind) ⊎ (kind_of reply ≡ 0xEE)) }
     {
-        if let Err(refusal) = write_frame(&mut self.writer, frame) {
-            self.refused = Some(refusal);
-            return Err(refusal);
+        match write_frame(&mut self.writer, frame) {
+            Ok(()) => self.read(kind),
+            Err(refusal) => Err(self.breaks(refusal)),
         }
-        let came = match read_frame(self.alloc, &mut self.reader) {
-            Ok(Some(came)) => came,
-            Ok(None) => {
-                self.refused = Some(Refusal::Truncated);
-                return Err(Refusal::Truncated);
+    }
+
+    /// Writes all frames of a window.
+    fn write_all(&mut self, frames: &[Result<Vec<u8>, Refusal>]) -> Result<(), Refusal> {
+        for frame in frames {
+            if let Ok(frame) = frame
+                && let Err(refusal) = write_frame(&mut self.writer, frame)
+            {
+                return Err(self.breaks(refusal));
             }
-            Err(refusal) => {
-                self.refused = Some(refusal);
+        }
+        Ok(())
+    }
+
+    /// Writes all frames of a window, and then reads all replies, each of this kind or a refusal, also after one was a refusal. A
+    /// request that has no frame is answered by the refusal of its encoding, and nothing is sent for it.
+    fn send_all(
+        &mut self,
+        frames: &[Result<Vec<u8>, Refusal>],
+        kind: u8,
+    ) -> Result<Vec<Result<Reply, Refusal>>, Refusal> {
+        let mut replies = room_for(self.alloc, frames.len())?;
+        self.write_all(frames)?;
+        for frame in frames {
+            let reply = match frame {
+                Ok(_) => self.read(kind),
+                Err(refusal) => Err(*refusal),
+            };
+            if let Some(refusal) = self.refused {
                 return Err(refusal);
             }
-        };
-        if came.kind != kind && came.kind != 0xEE {
-            self.refused = Some(Refusal::BadKind);
-            return Err(Refusal::BadKind);
-        }
-        match decode_reply(self.alloc, came.kind, &came.payload) {
-            Ok(reply) => return Ok(reply),
-            Err(refusal) => {
-                if refusal.number() < 30 {
-                    return Err(refusal);
-                }
-                self.refused = Some(refusal);
-                return Err(refusal);
+            if replies.push(reply).is_err() {
+                return Err(self.breaks(Refusal::Memory));
             }
         }
+        Ok(replies)
     }
 
     /// Asks one question: writes just the frame of the request, and reads just one frame, which spells the reply. After a
@@ -167,11 +229,7 @@ impl<R: Read + Drop, W: Write + Drop> Remote<R, W> {
     }
 
     /// A page of a bucket after a key, and whether more are left.
-    pub fn bucket(
-        &mut self,
-        path: &Path,
-        after: Option<&Key>,
-    ) -> Result<(Vec<(Key, [u8; 32])>, bool), Refusal>
+    pub fn bucket(&mut self, path: &Path, after: Option<&Key>) -> Result<Page, Refusal>
         ensures asked { MatchResult result (λ page. SendsFrame (link R.remaining W.contents self.old) (link R.remaining W.contents self.new) (Bucket path.now (option_copied after.entry)) (Ok (Keys page.0.items page.1))) (λ refusal. Refuses (link R.remaining W.contents self.old) (link R.remaining W.contents self.new) (Bucket path.now (option_copied after.entry)) refusal) }
         ensures stays { (refusal : Refusal) → self.old.refused ≡ Some refusal → (result ≡ Err refusal) × (self.new ≡ self.old) }
     {
@@ -227,6 +285,92 @@ impl<R: Read + Drop, W: Write + Drop> Remote<R, W> {
         }
     }
 
+    /// The digests of several nodes, asked at once.
+    pub fn nodes(&mut self, paths: &[Path]) -> Result<Vec<Result<Digests, Refusal>>, Refusal> {
+        if let Some(refusal) = self.refused {
+            return Err(refusal);
+        }
+        let mut frames = room_for(self.alloc, paths.len())?;
+        for path in paths {
+            add_frame(&mut frames, encode_node(self.alloc, path))?;
+        }
+        let replies = self.send_all(&frames, 0xA7)?;
+        let mut told = room_for(self.alloc, replies.len())?;
+        for reply in replies {
+            told.push(match reply {
+                Ok(Reply::Digests(digests)) => Ok(digests),
+                other => Err(refusal_of(other)?),
+            })?;
+        }
+        Ok(told)
+    }
+
+    /// Pages of several buckets, asked at once.
+    pub fn pages(
+        &mut self,
+        asked: &[(Path, Option<Key>)],
+    ) -> Result<Vec<Result<Page, Refusal>>, Refusal> {
+        if let Some(refusal) = self.refused {
+            return Err(refusal);
+        }
+        let mut frames = room_for(self.alloc, asked.len())?;
+        for (path, after) in asked {
+            add_frame(&mut frames, encode_bucket(self.alloc, path, after))?;
+        }
+        let replies = self.send_all(&frames, 0xA8)?;
+        let mut told = room_for(self.alloc, replies.len())?;
+        for reply in replies {
+            told.push(match reply {
+                Ok(Reply::Keys(keys, more)) => Ok((keys.into_vec(), more)),
+                other => Err(refusal_of(other)?),
+            })?;
+        }
+        Ok(told)
+    }
+
+    /// The states that the site has of several keys, asked at once.
+    pub fn get_all(&mut self, keys: &[Key]) -> Result<Vec<Result<KeyState, Refusal>>, Refusal> {
+        if let Some(refusal) = self.refused {
+            return Err(refusal);
+        }
+        let mut frames = room_for(self.alloc, keys.len())?;
+        for key in keys {
+            add_frame(&mut frames, encode_get(self.alloc, key))?;
+        }
+        let replies = self.send_all(&frames, 0xA1)?;
+        let mut told = room_for(self.alloc, replies.len())?;
+        for reply in replies {
+            told.push(match reply {
+                Ok(Reply::State(state)) => Ok(state),
+                other => Err(refusal_of(other)?),
+            })?;
+        }
+        Ok(told)
+    }
+
+    /// Joins several states to those that the site has of their keys, all sent at once.
+    pub fn push_all(
+        &mut self,
+        pairs: &[(Key, KeyState)],
+    ) -> Result<Vec<Result<(), Refusal>>, Refusal> {
+        if let Some(refusal) = self.refused {
+            return Err(refusal);
+        }
+        let mut frames = room_for(self.alloc, pairs.len())?;
+        for (key, state) in pairs {
+            add_frame(&mut frames, encode_push(self.alloc, key, state))?;
+        }
+        let replies = self.send_all(&frames, 0xA3)?;
+        let mut told = room_for(self.alloc, replies.len())?;
+        for reply in replies {
+            told.push(match reply {
+                Ok(Reply::Done) => Ok(()),
+                other => Err(refusal_of(other)?),
+            })?;
+        }
+        Ok(told)
+    }
+
     /// Ends the connection.
     pub fn bye(&mut self) -> Result<(), Refusal>
         ensures asked { MatchResult result (λ _. SendsFrame (link R.remaining W.contents self.old) (link R.remaining W.contents self.new) (Bye) (Ok (Done))) (λ refusal. Refuses (link R.remaining W.contents self.old) (link R.remaining W.contents self.new) (Bye) refusal) }
@@ -256,18 +400,32 @@ impl<R: Read + Drop, W: Write + Drop> Peer for Remote<R, W> {
     ghost can_give = { λ _ _. Unit {0} };
 
     // A link that refuses stays as it is.
-    ghost follows = { Stays (λ remote. (refusal : Refusal) × (remote.refused ≡ Some refusal)) };
+    ghost follows = { λ _. Stays (λ remote. (refusal : Refusal) × (remote.refused ≡ Some refusal)) };
 
     // Where the link itself refuses, it refuses so.
     ghost can_refuse = { λ remote refusal. (own : Refusal) → remote.refused ≡ Some own → refusal ≡ own };
 
     ghost can_answer = { λ remote. remote.refused ≡ None };
 
+    ghost most_keys = { λ _. 0 };
+
+    ghost number = { λ _. None };
+
     ghost in_form = { λ _ never. absurd never };
 
     ghost follows_self = { λ _ _. refl };
 
-    ghost follows_on = { stays_on _ };
+    ghost follows_on = { λ _ _. stays_on _ };
+
+    ghost most_stays = { λ _ _ _ _. refl };
+
+    fn alloc(&self) -> Global {
+        self.alloc
+    }
+
+    fn number(&self) -> Option<u32> {
+        None
+    }
 
     fn node(&mut self, path: &Path) -> Result<Digests, Refusal>
         ensures asked { MatchResult result (λ digests. SendsFrame (link R.remaining W.contents self.old) (link R.remaining W.contents self.new) (Node path.now) (Ok (Told digests))) (λ refusal. Refuses (link R.remaining W.contents self.old) (link R.remaining W.contents self.new) (Node path.now) refusal) }
@@ -276,11 +434,7 @@ impl<R: Read + Drop, W: Write + Drop> Peer for Remote<R, W> {
         Remote::node(self, path)
     }
 
-    fn bucket(
-        &mut self,
-        path: &Path,
-        after: Option<&Key>,
-    ) -> Result<(Vec<(Key, [u8; 32])>, bool), Refusal>
+    fn bucket(&mut self, path: &Path, after: Option<&Key>) -> Result<Page, Refusal>
         ensures asked { MatchResult result (λ page. SendsFrame (link R.remaining W.contents self.old) (link R.remaining W.contents self.new) (Bucket path.now (option_copied after.entry)) (Ok (Keys page.0.items page.1))) (λ refusal. Refuses (link R.remaining W.contents self.old) (link R.remaining W.contents self.new) (Bucket path.now (option_copied after.entry)) refusal) }
         ensures stays { (refusal : Refusal) → self.old.refused ≡ Some refusal → (result ≡ Err refusal) × (self.new ≡ self.old) }
     {
@@ -299,5 +453,24 @@ impl<R: Read + Drop, W: Write + Drop> Peer for Remote<R, W> {
         ensures stays { (refusal : Refusal) → self.old.refused ≡ Some refusal → (result ≡ Err refusal) × (self.new ≡ self.old) }
     {
         Remote::push(self, key, state)
+    }
+
+    fn nodes(&mut self, paths: &[Path]) -> Result<Vec<Result<Digests, Refusal>>, Refusal> {
+        Remote::nodes(self, paths)
+    }
+
+    fn pages(
+        &mut self,
+        asked: &[(Path, Option<Key>)],
+    ) -> Result<Vec<Result<Page, Refusal>>, Refusal> {
+        Remote::pages(self, asked)
+    }
+
+    fn get_all(&mut self, keys: &[Key]) -> Result<Vec<Result<KeyState, Refusal>>, Refusal> {
+        Remote::get_all(self, keys)
+    }
+
+    fn push_all(&mut self, pairs: &[(Key, KeyState)]) -> Result<Vec<Result<(), Refusal>>, Refusal> {
+        Remote::push_all(self, pairs)
     }
 }

@@ -8,7 +8,7 @@ use Rattle.mvd_tree.specs.HashTree.{KeyDigests, node_digest}
 use Rattle.mvd_tree.specs.Page.{children_digests}
 use Rattle.mvd_wire.specs.Codecs.{spell_state}
 use Rattle.mvd_site.specs.Answer.{digests}
-use Rattle.mvd_sync.specs.Answers.{Entry, IsListing}
+use Rattle.mvd_sync.specs.Answers.{Entry, IsPageOf}
 use Rattle.mvd_sync.specs.Sides.{Blames, Side, is_of_key}
 use Rattle.mvd_sync.specs.Windows.{Pushes, PushesFirst}
 use Rattle.mvd_sync.specs.declared.questions.Node.{Node}
@@ -83,7 +83,7 @@ pub record Fills {S : Type 0} (s : Side S) (path : List ℕ) (after : Option (Li
   pub short : length listing.0 < 2 ^ 64 → length listing'.0 < 2 ^ 64
   pub ended : listing'.0 ≡ [] → listing'.1 ≡ false
   pub kept : s.is_faithful old → Keeps s old new
-  pub page : s.is_faithful old → IsListing (digests (s.states old)) path after listing.0 listing.1 → IsListing (digests (s.states old)) path after listing'.0 listing'.1
+  pub page : s.is_faithful old → 1 ≤ asked → IsPageOf (digests (s.states old)) path after listing'.0 listing'.1
 
 -- ---- answers
 

@@ -1,7 +1,7 @@
 //! What a session has left of a side's page of a bucket.
-ghost use Rattle.std.specs.Prelude.{◌≡◌, ◌≢◌, ◌+◌, ◌-◌, ◌*◌, ◌≤◌, [], ◌∷◌, length, IfOk, IfErr, IfSome, IfNone, OnSome, ◌<◌, ◌^◌, OnOk, MatchOption, option_copied, false};
+ghost use Rattle.std.specs.Prelude.{◌≡◌, ◌≢◌, ◌+◌, ◌-◌, ◌*◌, ◌≤◌, [], ◌∷◌, length, IfOk, IfErr, IfSome, IfNone, OnSome, ◌<◌, ◌^◌, OnOk, OnErr, MatchOption, option_copied, false, true};
 ghost use Rattle.mvd_site.specs.Answer.{digests};
-ghost use Rattle.mvd_sync.specs.Answers.{IsListing, IsPage, TakesNext, order_of_first};
+ghost use Rattle.mvd_sync.specs.Answers.{IsPage, IsPageOf, TakesNext, order_of_first};
 ghost use Rattle.mvd_sync.specs.Questions.{AllAnswered, ComesToEnd, Fills, Keeps, Tells};
 ghost use Rattle.mvd_sync.specs.Sides.{HasAnswered, side as side_of};
 
@@ -80,7 +80,7 @@ impl Listing {
             let q = (path.now, option_copied after.entry) in
             IfOk result
             (λ listing. AllAnswered s (λ q page. IsPage q.1 page.0 page.1 × (length page.0 < 2 ^ 64) × HasAnswered P.follows P.can_answer side.old side.new)
-            (Tells s (λ q page. IsListing (digests (P.states side.old)) q.0 q.1 page.0 page.1) (q ∷ []) (listing ∷ []) side.old side.new)
+            (Tells s (λ q page. IsPageOf (digests (P.states side.old)) q.0 q.1 page.0 page.1) (q ∷ []) (listing ∷ []) side.old side.new)
             (q ∷ []) (listing ∷ []) left.old left.new side.old side.new) }
         ensures ended { let s = side_of P.states P.is_faithful P.can_give P.follows P.can_refuse P.can_answer P.most_keys P.number in
             IfErr result (ComesToEnd s (Keeps s side.old side.new) 1 left.old side.old side.new) }
@@ -101,6 +101,7 @@ impl Listing {
             OnOk result (Fills s path.now (option_copied after.entry) self.old self.new left.old left.new side.old side.new) }
         ensures ended { let s = side_of P.states P.is_faithful P.can_give P.follows P.can_refuse P.can_answer P.most_keys P.number in
             IfErr result (ComesToEnd s (Keeps s side.old side.new) 1 left.old side.old side.new) }
+        ensures needed { OnErr result ((self.old.0 ≡ []) × (self.old.1 ≡ true)) }
     {
         if self.page.is_empty() && self.more {
             *self = Listing::fetch(side, left, path, after)?;

@@ -68,6 +68,6 @@ loop-rest-preserved g c =
       done ++ window,
       window_moves c.args.paths.now done c.loop-rest.rest.now c.min-count.result c.loop-rest.invariant.1,
       subst (λ xs. Descends _ _ (done ++ window) _ after _ _ _ _ xs)
-      (sym (c.in-Ok-add_all_children.ensures.added ∙ (λ i. below ++ told_all window (c.deref.ensures.value i) (c.deref-in-loop-rest.ensures.value i))))
-      (descends_more _ _ g.met.L.Peer.follows_on g.met.P.Peer.follows_on done window c.args.left.now c.loop-rest.left after _ _ _ _ _ _ below c.in-Ok.mine.items c.in-Ok-ask_nodes.theirs.items c.loop-rest.invariant.2 c.in-Ok.ensures.told c.in-Ok-ask_nodes.ensures.told),
+          (sym (c.in-Ok-add_all_children.ensures.added ∙ (λ i. below ++ told_all window (c.deref.ensures.value i) (c.deref-in-loop-rest.ensures.value i))))
+          (descends_more _ _ g.met.L.Peer.follows_on g.met.P.Peer.follows_on done window c.args.left.now c.loop-rest.left after _ _ _ _ _ _ below c.in-Ok.mine.items c.in-Ok-ask_nodes.theirs.items c.loop-rest.invariant.2 c.in-Ok.ensures.told c.in-Ok-ask_nodes.ensures.told),
     )

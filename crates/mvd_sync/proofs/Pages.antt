@@ -14,7 +14,7 @@ use Rattle.mvd_sync.specs.Answers.{Entry, IsListing, IsPageOf, TakesNext, of_fir
 
 -- ---- a page that was fetched
 
-no_entries : {A : Type 0} (xs : List A) → length xs ≡ 0 → xs ≡ []
+pub no_entries : {A : Type 0} (xs : List A) → length xs ≡ 0 → xs ≡ []
 no_entries [] e = refl
 no_entries (x ∷ xs) e = absurd (omega arith)
 

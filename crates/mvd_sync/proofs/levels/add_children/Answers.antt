@@ -1,4 +1,4 @@
-use Rattle.std.proofs.Common.{◌<◌, ◌≡◌, ℕ, List, ap, arith, subst, sym, true≢false, ◌++◌, ◌∷◌, [], ◌∙◌}
+use Rattle.std.proofs.Common.{◌≡◌, ℕ, List, ap, arith, sym, true≢false, ◌++◌, ◌∷◌, [], ◌∙◌}
 use Rattle.mvd_sync.proofs.Nodes.{told_first, told_last, told_step}
 use Rattle.mvd_sync.proofs.levels.add_children.Goals as goal
 use Rattle.mvd_sync.proofs.levels.add_children.Goals.{then-not-is_same+in_ok-child+in_ok-push, else-not-is_same}

@@ -80,7 +80,7 @@ loop-rest-preserved g c =
       done ++ window,
       window_moves c.args.paths.now done c.loop-rest.rest.now c.min-count.result c.loop-rest.invariant.1,
       descends_on l p g.met.L.Peer.follows_on g.met.P.Peer.follows_on done window c.args.left.now c.loop-rest.left after c.args.local.now c.loop-rest.local c.ask_nodes.new.side c.args.peer.now c.loop-rest.peer c.ask_nodes-in-loop-rest.new.side below mine theirs c.loop-rest.invariant.2 c.in-Ok.ensures.told c.in-Ok-ask_nodes.ensures.told
-      c.add_all_children.new.below.items (told ∙ (λ i. below ++ told_all window (first i) (second i))),
+          c.add_all_children.new.below.items (told ∙ (λ i. below ++ told_all window (first i) (second i))),
     )
 
 pub returns-clause-descends : goal.returns-clause-descends

@@ -1,11 +1,16 @@
--- A page that no true side tells.
-use Rattle.std.proofs.Common.{◌≡◌, ℕ, ◌+◌, arith}
+-- Pages that are asked for.
+use Rattle.std.proofs.Common.{◌≡◌, ◌≢◌, ℕ, ◌+◌, ◌≤◌, Bool, List, Option, refl, arith}
 use Rattle.std.specs.Prelude.{IfErr, Result, Ok, Err}
 use Rattle.mvd_dots.specs.declared.refusals.Refusal.{Refusal}
-use Rattle.mvd_dots.specs.declared.refusals.Refusal.TheVariants.{BadBody}
-use Rattle.mvd_sync.specs.Questions.{ComesToEnd, Keeps}
+use Rattle.mvd_dots.specs.declared.refusals.Refusal.TheVariants.{BadBody, DotClash}
+use Rattle.mvd_sync.specs.Answers.{Entry}
+use Rattle.mvd_sync.specs.Buckets.{FillEnds, IsSpent}
+use Rattle.mvd_sync.specs.Questions.{ComesToEnd, Fills, Keeps}
 use Rattle.mvd_sync.specs.Sides.{Side, of_answer}
+use Rattle.mvd_sync.specs.declared.questions.Questions.{Questions}
+use Rattle.mvd_sync.specs.declared.report.SyncFault.TheVariants.{Local, Peer}
 
+-- a page that no true side tells
 pub page_refused : {S X : Type 0} (s : Side S) (IsTold : Type 0) (result : Result X Refusal) (left left' : ℕ) (old new : S) → left ≡ left' + 1 → s.follows 1 old new → (s.is_faithful old → Keeps s old new) → (s.is_faithful old → IsTold)
     → IfErr result (λ refusal. (refusal ≡ BadBody) × (IsTold → ⊥)) → IfErr result (ComesToEnd s (Keeps s old new) 1 left old new)
 page_refused s IsTold (Ok page) left left' old new spent follows kept told bad = tt
@@ -18,3 +23,36 @@ page_refused s IsTold (Err refusal) left left' old new spent follows kept told b
   no_clash = λ t e. let q = bad.0 in absurd (cc);
   right = kept;
 }
+
+module _ {L P : Type 0} (l : Side L) (p : Side P) (path : List ℕ) (after : Option (List ℕ)) (mine theirs : List Entry × Bool) (left : Questions) (local : L) (peer : P) where
+  -- the local listing was not filled
+  pub local_unfilled : (self : (s : P) → p.follows 0 s s) (local' : L) (refusal : Refusal) → ComesToEnd l (Keeps l local local') 1 left.local local local' refusal → IsSpent mine → FillEnds l p mine theirs left local local' peer peer (Local refusal)
+  local_unfilled self local' refusal e spent = record {
+    ends = record {
+      asked_local = e.asked;
+      asked_peer = 0;
+      within = (e.within, omega arith);
+      few = (e.few, omega arith);
+      follows = (e.follows, self peer);
+      cause = e.cause;
+      kept_local = e.right;
+      kept_peer = λ t. record { still = t; states = refl };
+    };
+    needed = (λ _. spent, λ h. absurd (omega (arith, h)));
+  }
+
+  -- or the peer's was not, after it
+  pub peer_unfilled : (mine' : List Entry × Bool) (left_l : ℕ) (local' : L) (peer' : P) (refusal : Refusal) → Fills l path after mine mine' left.local left_l local local' → ComesToEnd p (Keeps p peer peer') 1 left.peer peer peer' refusal → IsSpent theirs → FillEnds l p mine theirs left local local' peer peer' (Peer refusal)
+  peer_unfilled mine' left_l local' peer' refusal f e spent = record {
+    ends = record {
+      asked_local = f.asked;
+      asked_peer = e.asked;
+      within = let s = f.spent in (omega (arith, s), e.within);
+      few = (f.one, e.few);
+      follows = (f.follows, e.follows);
+      cause = e.cause;
+      kept_local = f.kept;
+      kept_peer = e.right;
+    };
+    needed = (f.needed, λ _. spent);
+  }

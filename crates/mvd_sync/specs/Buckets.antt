@@ -1,15 +1,19 @@
 -- The buckets that differ are gone over, and the keys that differ in them are exchanged.
-use Rattle.std.specs.Prelude.{◌≡◌, ◌≢◌, ◌<◌, ◌≤◌, ◌+◌, ◌*◌, ℕ, false, List, [], ◌∷◌, ◌++◌, length, Option, None, IsTrue, Result, IfErr, OnOk, MatchResult}
+use Rattle.std.specs.Prelude.{◌≡◌, ◌≢◌, ◌<◌, ◌≤◌, ◌+◌, ◌*◌, ℕ, Bool, true, false, cond, List, [], ◌∷◌, ◌++◌, length, Option, None, IsTrue, Result, IfErr, OnOk, MatchResult}
 use Rattle.std.specs.FinMap.{entries, get, len}
 use Rattle.mvd_dots.specs.declared.refusals.Refusal.TheVariants.{Broken}
 use Rattle.mvd_keys.specs.Writes.{Key}
+use Rattle.mvd_tree.specs.HashTree.{KeyDigests}
 use Rattle.mvd_tree.specs.Page.{rest_of}
 use Rattle.mvd_site.specs.Answer.{digests}
 use Rattle.mvd_site.specs.Held.{States}
+use Rattle.mvd_sync.specs.Answers.{IsPageOf}
 use Rattle.mvd_sync.specs.Exchanges.{AreNext, Counts, Done, Exchanging, GoesOn, JoinsSome, SoFar, keys_done, keys_next}
 use Rattle.mvd_sync.specs.Nodes.{has_below}
+use Rattle.mvd_sync.specs.Questions.{Fills, ForEach}
 use Rattle.mvd_sync.specs.Session.{AreDistinct, Changes, Each, IsIn}
 use Rattle.mvd_sync.specs.Sides.{Blames, IsFaultOf, IsSilent, Side}
+use Rattle.mvd_sync.specs.Walk.{ReadsEnd}
 use Rattle.mvd_sync.specs.declared.listing.Entry.{Entry}
 use Rattle.mvd_sync.specs.declared.questions.Questions.{Questions}
 use Rattle.mvd_sync.specs.declared.report.SyncFault.{SyncFault}
@@ -67,12 +71,55 @@ abbrev pub held_in : States → List (List ℕ) → ℕ
 held_in states [] = 0
 held_in states (path ∷ paths) = length (entries (rest_of (digests states) path None)) + held_in states paths
 
+-- ---- one key
+
+-- a listing with no entry left, of a bucket that goes on
+abbrev pub IsSpent : List (Key × List ℕ) × Bool → Type 0
+IsSpent listing = (listing.0 ≡ []) × (listing.1 ≡ true)
+
+-- both listings were filled
+pub record FillsBoth {L P : Type 0} (l : Side L) (p : Side P) (path : List ℕ) (after : Option (List ℕ)) (mine mine' theirs theirs' : List (Key × List ℕ) × Bool) (left left' : Questions) (local local' : L) (peer peer' : P) : Type 0 where
+  pub local_side : Fills l path after mine mine' left.local left'.local local local'
+  pub peer_side : Fills p path after theirs theirs' left.peer left'.peer peer peer'
+
+-- or one side came to an end; of each side no more was asked than was needed
+pub record FillEnds {L P : Type 0} (l : Side L) (p : Side P) (mine theirs : List (Key × List ℕ) × Bool) (left : Questions) (local local' : L) (peer peer' : P) (fault : SyncFault) : Type 0 where
+  pub ends : ReadsEnd l p (λ asked. asked ≤ 1) left local local' peer peer' fault
+  pub needed : (1 ≤ ends.asked_local → IsSpent mine) × (1 ≤ ends.asked_peer → IsSpent theirs)
+
+-- the entry, if it differs
+abbrev pub waits_if : Entry → List Entry
+waits_if e = cond e.differs (e ∷ []) []
+
+-- of two true sides: some of these are exchanged, by two questions to each side for each, and the others wait
+pub record SettlesAll {L P A : Type 0} (l : Side L) (p : Side P) (number : Option ℕ) (a b : States) (done : List Done) (next : List Entry) (asked_l asked_p : ℕ) (local' : L) (peer' : P) (most_local most_peer : ℕ) (after : Exchanging) (result : Result A SyncFault) : Type 0 where
+  pub few : (asked_l ≤ 2 * length next) × (asked_p ≤ 2 * length next)
+  pub fewer : OnOk result ((asked_l + 2 * length after.waiting ≤ 2 * length next) × (asked_p + 2 * length after.waiting ≤ 2 * length next))
+  pub ends : MatchResult result (λ _. GoesOn l p number a b done next local' peer' most_local most_peer after) (λ _. JoinsSome (l.is_faithful local') (p.is_faithful peer') a b (l.states local') (p.states peer'))
+
+-- a key waits, if it differs, or is exchanged with the others
+pub record Settles {L P A : Type 0} (l : Side L) (p : Side P) (e : Entry) (left left' : Questions) (local local' : L) (peer peer' : P) (before after : Exchanging) (result : Result A SyncFault) : Type 0 where
+  pub goes : Goes l p left left' local local' peer peer' before after result
+  pub meets : l.is_faithful local → p.is_faithful peer
+      → (a b : States) (done : List Done) → SoFar (l.most_keys local) (p.most_keys peer) before.number a b (l.states local) (p.states peer) done → Counts done before
+      → AreNext a b done (before.waiting ++ waits_if e)
+      → SettlesAll l p before.number a b done (before.waiting ++ waits_if e) goes.asked_local goes.asked_peer local' peer' (l.most_keys local) (p.most_keys peer) after result
+
 -- ---- buckets
 
--- BUCKETS ARE GONE OVER, with so many questions about their first pages, and what differs in them is exchanged, or waits
-pub record GoesOver {L P A : Type 0} (l : Side L) (p : Side P) (paths : List (List ℕ)) (firsts : ℕ) (left left' : Questions) (local local' : L) (peer peer' : P) (before after : Exchanging) (result : Result A SyncFault) : Type 0 where
+-- the first page of each bucket
+abbrev pub ArePages : KeyDigests → List (List ℕ) → List (List (Key × List ℕ) × Bool) → Type 0
+ArePages held paths pages = ForEach (λ path page. IsPageOf held path None page.0 page.1) paths pages
+
+-- Buckets are gone over, with so many questions about their first pages, and what differs in them is exchanged, or waits; where
+-- this was told of the states of true sides
+pub record GoesThrough {L P A : Type 0} (l : Side L) (p : Side P) (Told : States → States → Type 0) (paths : List (List ℕ)) (firsts : ℕ) (left left' : Questions) (local local' : L) (peer peer' : P) (before after : Exchanging) (result : Result A SyncFault) : Type 0 where
   pub goes : Goes l p left left' local local' peer peer' before after result
   pub meets : l.is_faithful local → p.is_faithful peer → AreDistinct paths → Each (λ path. length path ≡ 3) paths
       → (a b : States) (done : List Done) → SoFar (l.most_keys local) (p.most_keys peer) before.number a b (l.states local) (p.states peer) done → Counts done before
-      → AreNext a b done before.waiting → AreElsewhere paths (keys_done done ++ keys_next before.waiting)
+      → AreNext a b done before.waiting → AreElsewhere paths (keys_done done ++ keys_next before.waiting) → Told a b
       → Finds l p before.number a b done paths firsts (held_in a paths) (held_in b paths) goes.asked_local goes.asked_peer local' peer' (l.most_keys local) (p.most_keys peer) before after result
+
+-- BUCKETS ARE GONE OVER, with so many questions about their first pages, and what differs in them is exchanged, or waits
+abbrev pub GoesOver : {L P A : Type 0} → Side L → Side P → List (List ℕ) → ℕ → (left left' : Questions) (local local' : L) (peer peer' : P) (before after : Exchanging) → Result A SyncFault → Type 0
+GoesOver l p paths firsts left left' local local' peer peer' before after result = GoesThrough l p (λ a b. Unit {0}) paths firsts left left' local local' peer peer' before after result

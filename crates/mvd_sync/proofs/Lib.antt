@@ -15,6 +15,8 @@ pub mod Compose
 pub mod Fails
 pub mod Fetching
 pub mod Going
+pub mod Nexts
+pub mod Gone
 pub mod Walks
 pub mod Answering
 pub mod ToldPages

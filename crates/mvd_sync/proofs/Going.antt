@@ -47,7 +47,7 @@ changes_on T U broken can_give old mid new x result first then =
 -- ---- two sides
 
 module _ {L P : Type 0} (l : Side L) (p : Side P) where
-  pub goes_of_exchange : {A : Type 0} (next : List Entry) (left left' : Questions) (local local' : L) (peer peer' : P) (before after : Exchanging) (result : Result A SyncFault) → length next ≤ length before.waiting + 1 → Exchanges l p next left left' local local' peer peer' before after result
+  unfoldable pub goes_of_exchange : {A : Type 0} (next : List Entry) (left left' : Questions) (local local' : L) (peer peer' : P) (before after : Exchanging) (result : Result A SyncFault) → length next ≤ length before.waiting + 1 → Exchanges l p next left left' local local' peer peer' before after result
       → Goes l p left left' local local' peer peer' before after result
   goes_of_exchange next left left' local local' peer peer' before after result one e = record {
     asked_local = e.asked_local;
@@ -66,7 +66,7 @@ module _ {L P : Type 0} (l : Side L) (p : Side P) where
   }
 
   -- questions that change nothing
-  pub goes_of_reads : {A : Type 0} (x : A) (n m : ℕ) (left left' : Questions) (local local' : L) (peer peer' : P) (e : Exchanging) → Reads l n left.local left'.local local local' → Reads p m left.peer left'.peer peer peer'
+  unfoldable pub goes_of_reads : {A : Type 0} (x : A) (n m : ℕ) (left left' : Questions) (local local' : L) (peer peer' : P) (e : Exchanging) → Reads l n left.local left'.local local local' → Reads p m left.peer left'.peer peer peer'
       → Goes l p left left' local local' peer peer' e e (Ok x)
   goes_of_reads x n m left left' local local' peer peer' e r q = record {
     asked_local = n;
@@ -85,7 +85,7 @@ module _ {L P : Type 0} (l : Side L) (p : Side P) where
   }
 
   -- they came to an end
-  pub goes_of_end : {A : Type 0} (Few : ℕ → Type 0) (left left' : Questions) (local local' : L) (peer peer' : P) (e : Exchanging) (fault : SyncFault) → ReadsEnd l p Few left local local' peer peer' fault
+  unfoldable pub goes_of_end : {A : Type 0} (Few : ℕ → Type 0) (left left' : Questions) (local local' : L) (peer peer' : P) (e : Exchanging) (fault : SyncFault) → ReadsEnd l p Few left local local' peer peer' fault
       → Goes {A = A} l p left left' local local' peer peer' e e (Err fault)
   goes_of_end {A} Few left left' local local' peer peer' e fault r = record {
     asked_local = r.asked_local;
@@ -104,7 +104,8 @@ module _ {L P : Type 0} (l : Side L) (p : Side P) where
   }
 
   -- nothing was asked
-  pub goes_nowhere : {A : Type 0} (self : (s : L) → l.follows 0 s s) (self' : (s : P) → p.follows 0 s s) (x : A) (left : Questions) (local : L) (peer : P) (e : Exchanging) → Goes l p left left local local peer peer e e (Ok x)
+  unfoldable pub goes_nowhere : {A : Type 0} (self : (s : L) → l.follows 0 s s) (self' : (s : P) → p.follows 0 s s) (x : A) (left : Questions) (local : L) (peer : P) (e : Exchanging) → Goes l p left left local local peer peer e e (Ok x)
+  unfolding goes_of_reads
   goes_nowhere self self' x left local peer e =
       goes_of_reads x 0 0 left left local local peer peer e
       (record { spent = omega arith; follows = self local; kept = λ t. record { still = t; states = refl } })
@@ -114,18 +115,18 @@ module _ {L P : Type 0} (l : Side L) (p : Side P) where
       (on' : (m n : ℕ) (old mid new : P) → p.follows m old mid → p.follows n mid new → p.follows (m + n) old new)
       {A B : Type 0} (left mid left' : Questions) (local local1 local2 : L) (peer peer1 peer2 : P) (before at after : Exchanging) (x : A) (result : Result B SyncFault)
       (first : Goes l p left mid local local1 peer peer1 before at (Ok x)) (second : Goes l p mid left' local1 local2 peer1 peer2 at after result) where
-    fault_on : (fault : SyncFault) → IsFaultOf (Blames l mid.local second.asked_local local1 local2) (Blames p mid.peer second.asked_peer peer1 peer2) fault
+    pub fault_on : (fault : SyncFault) → IsFaultOf (Blames l mid.local second.asked_local local1 local2) (Blames p mid.peer second.asked_peer peer1 peer2) fault
         → IsFaultOf (Blames l left.local (first.asked_local + second.asked_local) local local2) (Blames p left.peer (first.asked_peer + second.asked_peer) peer peer2) fault
     fault_on (Local refusal) h = blames_later l on left.local mid.local first.asked_local local local1 local2 first.spent.0 first.follows.0 (λ t. (first.local_side t).after_ok) second.asked_local refusal h
     fault_on (Peer refusal) h = blames_later p on' left.peer mid.peer first.asked_peer peer peer1 peer2 first.spent.1 first.follows.1 (λ t. (first.peer_side t).after_ok) second.asked_peer refusal h
 
-    silent_local : IsSilent l.follows l.can_answer local → IsSilent l.follows l.can_answer local1
+    pub silent_local : IsSilent l.follows l.can_answer local → IsSilent l.follows l.can_answer local1
     silent_local silent after reaches = silent after (first.asked_local + reaches.0, on first.asked_local reaches.0 local local1 after first.follows.0 reaches.1)
 
-    silent_peer : IsSilent p.follows p.can_answer peer → IsSilent p.follows p.can_answer peer1
+    pub silent_peer : IsSilent p.follows p.can_answer peer → IsSilent p.follows p.can_answer peer1
     silent_peer silent after reaches = silent after (first.asked_peer + reaches.0, on' first.asked_peer reaches.0 peer peer1 after first.follows.1 reaches.1)
 
-    pub goes_on : Goes l p left left' local local2 peer peer2 before after result
+    unfoldable pub goes_on : Goes l p left left' local local2 peer peer2 before after result
     goes_on = record {
       asked_local = first.asked_local + second.asked_local;
       asked_peer = first.asked_peer + second.asked_peer;

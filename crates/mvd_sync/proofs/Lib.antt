@@ -17,6 +17,7 @@ pub mod Fetching
 pub mod Going
 pub mod Nexts
 pub mod Gone
+pub mod Bucket
 pub mod Walks
 pub mod Answering
 pub mod ToldPages

@@ -55,3 +55,9 @@ pub next_both : (xs ys xs' ys' : List Entry) (e f : Entry) (same : Bool) → xs 
 next_both xs ys xs' ys' e f same p q o h =
     let r : Some (slice_cmp nat_cmp e.0 f.0) ≡ Some Equal = (λ i. order_of_first (sym p i) (sym q i)) ∙ o in
     of_both e f p q refl (keys_same e.0 f.0 (cc)) refl refl (not_is same (e.1 ≡ f.1) h)
+
+-- what is left is no longer than it was
+pub takes_shorter : (xs ys xs' ys' : List Entry) (key : List ℕ) (mine theirs differs : Bool) → TakesNext xs ys key mine theirs differs xs' ys' → (length xs' ≤ length xs) × (length ys' ≤ length ys)
+takes_shorter xs ys xs' ys' key mine theirs differs (of_first e is same _ _ _ _ _) = let n = ap length is in let m = ap length same in (omega (arith, n), omega (arith, m))
+takes_shorter xs ys xs' ys' key mine theirs differs (of_second f same is _ _ _ _ _) = let n = ap length is in let m = ap length same in (omega (arith, m), omega (arith, n))
+takes_shorter xs ys xs' ys' key mine theirs differs (of_both e f is is' _ _ _ _ _) = let n = ap length is in let m = ap length is' in (omega (arith, n), omega (arith, m))

@@ -18,6 +18,7 @@ pub mod Going
 pub mod Nexts
 pub mod Gone
 pub mod Bucket
+pub mod Through
 pub mod Walks
 pub mod Answering
 pub mod ToldPages

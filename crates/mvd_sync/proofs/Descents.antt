@@ -55,7 +55,7 @@ told_all-last (q ∷ ps) (x ∷ ms) [] p m t e f = absurd (omega arith)
 told_all-last (q ∷ ps) (x ∷ ms) (y ∷ ts) p m t e f =
     ap (λ xs. told q x y ++ xs) (told_all-last ps ms ts p m t (omega arith) (omega arith)) ∙ sym (append_assoc (told q x y) (told_all ps ms ts) (told p m t))
 
-one_taken : {X : Type 0} (xs : List X) (i : ℕ) (x : X) → i < length xs → x ≡ get_or xs i x → take (i + 1) xs ≡ take i xs ++ x ∷ []
+pub one_taken : {X : Type 0} (xs : List X) (i : ℕ) (x : X) → i < length xs → x ≡ get_or xs i x → take (i + 1) xs ≡ take i xs ++ x ∷ []
 one_taken xs i x h is = rw add-one (take-suc xs i x h ∙ ap (λ y. take i xs ++ y ∷ []) (sym is))
 
 pub told_all-more : (below old : List (List ℕ)) (ps : List (List ℕ)) (ms ts : List Node) (i : ℕ) (p : List ℕ) (d : Node) → length ms ≡ length ps → length ts ≡ length ps → i < length ps → p ≡ get_or ps i p

@@ -1,5 +1,6 @@
 -- Pages that are asked for.
-use Rattle.std.proofs.Common.{◌≡◌, ◌≢◌, ℕ, ◌+◌, ◌≤◌, Bool, List, Option, refl, arith}
+use Rattle.std.proofs.Common.{◌≡◌, ◌≢◌, ℕ, ◌+◌, ◌-◌, ◌<◌, ◌≤◌, Bool, List, length, drop, get_or, Option, refl, ap, ◌∙◌, arith, length-drop}
+use Rattle.std.proofs.lemmas.List.{drop-drop, get_or-drop}
 use Rattle.std.specs.Prelude.{IfErr, Result, Ok, Err}
 use Rattle.mvd_dots.specs.declared.refusals.Refusal.{Refusal}
 use Rattle.mvd_dots.specs.declared.refusals.Refusal.TheVariants.{BadBody, DotClash}
@@ -56,3 +57,17 @@ module _ {L P : Type 0} (l : Side L) (p : Side P) (path : List ℕ) (after : Opt
     };
     needed = (f.needed, λ _. spent);
   }
+
+-- ---- pages that are taken one by one
+
+pub first_left : {X : Type 0} (xs ys : List X) (i : ℕ) (x : X) → ys ≡ drop i xs → x ≡ get_or ys 0 x → x ≡ get_or xs i x
+first_left xs ys i x e is = is ∙ ap (λ zs. get_or zs 0 x) e ∙ get_or-drop i xs 0 x ∙ ap (λ n. get_or xs n x) (omega arith)
+
+pub rest_left : {X : Type 0} (xs ys zs : List X) (i : ℕ) → ys ≡ drop i xs → zs ≡ drop 1 ys → zs ≡ drop (i + 1) xs
+rest_left xs ys zs i e is = is ∙ ap (drop 1) e ∙ drop-drop 1 i xs
+
+pub some_left : {X : Type 0} (xs ys : List X) (i n : ℕ) → ys ≡ drop i xs → length xs ≡ n → i < n → 0 < length ys
+some_left xs ys i n e same low =
+    let a = ap length e in
+    let b = length-drop i xs in
+    omega (arith, a, b, same, low)

@@ -5,7 +5,7 @@ use Rattle.std.specs.Prelude.{IsTrue, ◌↔◌, ◌≢◌, ◌≡◌, ℕ, Bool
 use Rattle.std.specs.FinMap.{entries}
 use Rattle.mvd_keys.specs.Key.{key_cmp}
 use Rattle.mvd_tree.specs.HashTree.{KeyDigests}
-use Rattle.mvd_tree.specs.Page.{is_after, rest_of}
+use Rattle.mvd_tree.specs.Page.{is_after, is_more_after_page, page_of, rest_of}
 
 -- an entry of a bucket: a key and its digest
 abbrev pub Entry : Type 0
@@ -20,6 +20,11 @@ Rises after (e ∷ es) = IsTrue (is_after after e.0) × Rises (Some e.0) es
 pub record IsPage (after : Option (List ℕ)) (page : List Entry) (more : Bool) : Type 0 where
   pub rises : Rises after page
   pub ended : page ≡ [] → more ≡ false
+
+-- what a true side tells of a bucket after a key: so many of its entries as a page has, and whether there are more
+pub record IsPageOf (held : KeyDigests) (path : List ℕ) (after : Option (List ℕ)) (page : List Entry) (more : Bool) : Type 0 where
+  pub is : page ≡ page_of held path after
+  pub goes_on : more ≡ is_more_after_page held path after
 
 -- these are the first entries of a bucket after a key, and unless there is more all of them
 pub record IsListing (held : KeyDigests) (path : List ℕ) (after : Option (List ℕ)) (page : List Entry) (more : Bool) : Type 0 where

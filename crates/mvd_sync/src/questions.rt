@@ -2,7 +2,7 @@
 ghost use Rattle.std.specs.Prelude.{◌≡◌, ◌≢◌, ◌+◌, ◌-◌, ◌<◌, ◌≤◌, ◌^◌, [], length, false, OnOk, IfOk, IfErr, IsTrue, ◌↔◌, ◌⊎◌, ◌++◌, All, Contains, Some, None, min};
 ghost use Rattle.mvd_site.specs.Answer.{digests};
 ghost use Rattle.mvd_site.specs.Held.{state_at};
-ghost use Rattle.mvd_sync.specs.Answers.{IsListing, IsPage};
+ghost use Rattle.mvd_sync.specs.Answers.{IsPage, IsPageOf};
 ghost use Rattle.mvd_sync.specs.Questions.{AllAnswered, ComesToEnd, ForEach, IsInner, IsOfKey, IsWindow, Keeps, Takes, TakesFirst, TakesIn, Tells, push_bytes};
 ghost use Rattle.mvd_sync.specs.Session.{Each};
 ghost use Rattle.mvd_sync.specs.Sides.{HasAnswered, is_of_key, side as side_of};
@@ -106,7 +106,7 @@ pub fn ask_pages<P: Peer>(
     ensures told { let s = side_of P.states P.is_faithful P.can_give P.follows P.can_refuse P.can_answer P.most_keys P.number in
         IfOk result
         (λ pages. AllAnswered s (λ q page. IsPage None page.0 page.1 × (length page.0 < 2 ^ 64) × HasAnswered P.follows P.can_answer side.old side.new)
-        (Tells s (λ q page. IsListing (digests (P.states side.old)) q.0 q.1 page.0 page.1) asked.now pages.items side.old side.new)
+        (Tells s (λ q page. IsPageOf (digests (P.states side.old)) q.0 q.1 page.0 page.1) asked.now pages.items side.old side.new)
         asked.now pages.items left.old left.new side.old side.new) }
     ensures ended { let s = side_of P.states P.is_faithful P.can_give P.follows P.can_refuse P.can_answer P.most_keys P.number in
         IfErr result

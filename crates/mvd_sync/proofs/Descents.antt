@@ -186,13 +186,13 @@ module _ {L P : Type 0} (l : Side L) (p : Side P)
 
   -- ---- a window more
 
-  pub nothing_asked : (self : (s : L) → l.follows 0 s s) (self' : (s : P) → p.follows 0 s s) (left : Questions) (local : L) (peer : P) → Descends l p [] left left local local peer peer []
-  nothing_asked self self' left local peer = record {
+  pub nothing_asked : (self : (s : L) → l.follows 0 s s) (self' : (s : P) → p.follows 0 s s) (left : Questions) (local : L) (peer : P) (below : List (List ℕ)) → below ≡ [] → Descends l p [] left left local local peer peer below
+  nothing_asked self self' left local peer below none = record {
     local_side = record { spent = omega arith; follows = self local; kept = λ t. record { still = t; states = refl } };
     peer_side = record { spent = omega arith; follows = self' peer; kept = λ t. record { still = t; states = refl } };
     answers = λ some. absurd (some refl);
-    longer = λ n e. tt;
-    is = λ u v. refl;
+    longer = λ n e. subst (Each (λ path. length path ≡ n + 1)) (sym none) tt;
+    is = λ u v. none;
   }
 
   module _ (done window : List (List ℕ)) (left mid left' : Questions) (local local1 local2 : L) (peer peer1 peer2 : P) (below : List (List ℕ)) (mine theirs : List Node)
@@ -229,3 +229,6 @@ module _ {L P : Type 0} (l : Side L) (p : Side P)
               let other = subst (λ m. ForEach (IsInner (digests m)) window theirs) j.states (second.right j.still).right in
               (λ i. before.is u v i ++ told_all-is a b window mine theirs own other i) ∙ sym (differing_children-append a b done window);
         }
+
+    pub descends_on : (all : List (List ℕ)) → all ≡ below ++ told_all window mine theirs → Descends l p (done ++ window) left left' local local2 peer peer2 all
+    descends_on all e = subst (Descends l p (done ++ window) left left' local local2 peer peer2) (sym e) descends_more

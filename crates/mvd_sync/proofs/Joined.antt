@@ -105,7 +105,7 @@ module _ (most_local most_peer : ℕ) (a b a' b' : States) where
     part = λ k h. given_part k done h;
     met = λ k h. if_true (is_member (joined_keys done) k) (CanMeet a b k) (Unit {0})
         (member_at (λ d. is_joined d.refused) (CanMeet a b) (λ _. Unit {0}) k done so.distinct
-            (each_of number (λ d. MatchBool (is_joined d.refused) (CanMeet a b d.key) (Unit {0})) (λ d h. came_met d.key d.refused h) done so.each) (λ _. tt)) h;
+        (each_of number (λ d. MatchBool (is_joined d.refused) (CanMeet a b d.key) (Unit {0})) (λ d h. came_met d.key d.refused h) done so.each) (λ _. tt)) h;
     local_side = λ _ k. member_at (λ d. is_joined d.refused) (λ k. state_at a' k ≡ join (state_at a k) (state_at b k)) (λ k. get a' k ≡ get a k) k done so.distinct
         (each_of number (λ d. MatchBool (is_joined d.refused) (state_at a' d.key ≡ join (state_at a d.key) (state_at b d.key)) (get a' d.key ≡ get a d.key)) (λ d h. came_local d.key d.refused h) done so.each) (λ no. (so.rest k no).0);
     peer_side = λ _ k. member_at (λ d. is_given d.refused) (λ k. state_at b' k ≡ join (state_at a k) (state_at b k)) (λ k. get b' k ≡ get b k) k done so.distinct

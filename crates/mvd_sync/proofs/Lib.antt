@@ -13,6 +13,9 @@ pub mod Taking
 pub mod Plans
 pub mod Compose
 pub mod Fails
+pub mod Fetching
+pub mod Going
+pub mod Walks
 pub mod Answering
 pub mod ToldPages
 pub mod Window

@@ -206,10 +206,10 @@ distinct-below n [] l d = tt
 distinct-below n (p ∷ ps) l d =
     distinct-append (IsChildOf p) (IsBelowOne ps)
     (λ k c e.
-      let long : length e.0 ≡ n = member_has (λ path. length path ≡ n) ps l.1 e.0 e.1 in
-      let same : p ≡ e.0 = begins-one p e.0 k (l.0 ∙ sym long) c.begins e.2.begins in
-      let none : is_member ps p ≡ false = d.0 in
-      absurd (true≢false (sym e.1 ∙ ap (is_member ps) (sym same) ∙ none)))
+    let long : length e.0 ≡ n = member_has (λ path. length path ≡ n) ps l.1 e.0 e.1 in
+    let same : p ≡ e.0 = begins-one p e.0 k (l.0 ∙ sym long) c.begins e.2.begins in
+    let none : is_member ps p ≡ false = d.0 in
+    absurd (true≢false (sym e.1 ∙ ap (is_member ps) (sym same) ∙ none)))
     (children_of p) (flat_map children_of ps) (are_children p) (below_one ps) (distinct_children p) (distinct-below n ps l.1 d.1)
 
 pub long-below : (n : ℕ) (paths : List (List ℕ)) → AreLong n paths → AreLong (n + 1) (flat_map children_of paths)
@@ -258,13 +258,14 @@ few_nodes n (p ∷ ps) ks l d h =
     others : (p : List ℕ) (ps : List (List ℕ)) → is_member ps p ≡ false → Each (λ q. eq_by_cmp (slice_cmp nat_cmp) p q ≡ false) ps
     others p [] h = tt
     others p (q ∷ ps) h = (or_left (eq_by_cmp (slice_cmp nat_cmp) p q) (is_member ps p) h, others p ps (or_right (eq_by_cmp (slice_cmp nat_cmp) p q) (is_member ps p) h))
+
     Each-three : (p : List ℕ) (n : ℕ) (ks ps : List (List ℕ)) → length p ≡ n → AreLong n ps → Each (λ q. eq_by_cmp (slice_cmp nat_cmp) p q ≡ false) ps → Each (λ q. has_key q ks ≡ true) ps → Each (λ q. has_key q (elsewhere p ks) ≡ true) ps
     Each-three p n ks [] e l a h = tt
     Each-three p n ks (q ∷ ps) e l a h = (
       any-filter (is_under q) (λ k. not (is_under p k)) ks
-      (Each-all (λ k. is_under q k ≡ true → not (is_under p k) ≡ true) (λ k u. is_not (is_under p k) (λ v.
-      let same : p ≡ q = begins-one p q (place_of k) (e ∙ sym l.0) v u in
-      absurd (true≢false (sym (member_itself p) ∙ ap (eq_by_cmp (slice_cmp nat_cmp) p) same ∙ a.0)))) ks) h.0,
+          (Each-all (λ k. is_under q k ≡ true → not (is_under p k) ≡ true) (λ k u. is_not (is_under p k) (λ v.
+          let same : p ≡ q = begins-one p q (place_of k) (e ∙ sym l.0) v u in
+          absurd (true≢false (sym (member_itself p) ∙ ap (eq_by_cmp (slice_cmp nat_cmp) p) same ∙ a.0)))) ks) h.0,
       Each-three p n ks ps e l.1 a.1 h.1,
     )
 
@@ -307,15 +308,15 @@ any-children n (p ∷ ps) k short l h =
     list_any-append (λ path. is_under path k) (children_of p) (flat_map children_of ps)
     ∙ elim (or_cases (is_under p k) (has_below ps k) h) [
       | inl u ↦
-        let d = get_or (place_of k) (length p) 0 in
-        let small : d < 16 = digits_small k (length p) in
-        let sixteen = sixteen_digits in
-        let long = length-map digits (λ d. p ++ d ∷ []) in
-        let three = place_length k in
-        let more = begins-more p (place_of k) (omega (arith, three, short, l.0)) u in
-        let at : get_or (children_of p) d [] ≡ p ++ d ∷ [] = get_or-map (λ d. p ++ d ∷ []) digits d 0 [] (omega (arith, small, sixteen)) ∙ ap (λ d. p ++ d ∷ []) (digit_at d small) in
-        or_first (has_below (children_of p) k) (has_below (flat_map children_of ps) k)
-        (list_any_at (λ path. is_under path k) (children_of p) d [] (omega (arith, small, sixteen, long)) (ap (λ path. is_under path k) at ∙ more))
+          let d = get_or (place_of k) (length p) 0 in
+          let small : d < 16 = digits_small k (length p) in
+          let sixteen = sixteen_digits in
+          let long = length-map digits (λ d. p ++ d ∷ []) in
+          let three = place_length k in
+          let more = begins-more p (place_of k) (omega (arith, three, short, l.0)) u in
+          let at : get_or (children_of p) d [] ≡ p ++ d ∷ [] = get_or-map (λ d. p ++ d ∷ []) digits d 0 [] (omega (arith, small, sixteen)) ∙ ap (λ d. p ++ d ∷ []) (digit_at d small) in
+          or_first (has_below (children_of p) k) (has_below (flat_map children_of ps) k)
+          (list_any_at (λ path. is_under path k) (children_of p) d [] (omega (arith, small, sixteen, long)) (ap (λ path. is_under path k) at ∙ more))
       | inr r ↦ or_second (has_below (children_of p) k) (has_below (flat_map children_of ps) k) (any-children n ps k short l.1 r)
     ]
 
@@ -359,7 +360,7 @@ told-is a b path mine theirs own children own' children' =
     let g : ℕ → Bool = λ d. not (bytes_eq (get_or mine.1 d []) (get_or theirs.1 d [])) in
     let same : bytes_eq mine.0 theirs.0 ≡ bytes_eq (node_digest a path) (node_digest b path) = λ i. bytes_eq (own i) (own' i) in
     let all : filter D (children_of path) ≡ map f (filter g digits) =
-      filter-map D g f digits (Each-weaker (λ d. d < 16) (λ d. D (f d) ≡ g d) (λ d small. let p = child_digest a path d small mine.1 children in let q = child_digest b path d small theirs.1 children' in sym (λ i. not (bytes_eq (p i) (q i)))) digits small_digits) in
+    filter-map D g f digits (Each-weaker (λ d. d < 16) (λ d. D (f d) ≡ g d) (λ d small. let p = child_digest a path d small mine.1 children in let q = child_digest b path d small theirs.1 children' in sym (λ i. not (bytes_eq (p i) (q i)))) digits small_digits) in
     ap (λ b. cond b [] (map f (filter g digits))) same
     ∙ elim (bytes_eq (node_digest a path) (node_digest b path)) as (λ x. cond x [] (map f (filter g digits)) ≡ filter D (flat_map children_of (cond (not x) (path ∷ []) []))) [
       | true ↦ refl
@@ -381,7 +382,7 @@ told_first-more path d mine theirs h =
     ∙ ap (map f) (filter-append g (take d digits) (d ∷ []))
     ∙ map-append f (filter g (take d digits)) (filter g (d ∷ []))
     ∙ ap (λ xs. map f (filter g (take d digits)) ++ xs)
-      (elim (bytes_eq (get_or mine.1 d []) (get_or theirs.1 d [])) as (λ b. map f (cond (not b) (d ∷ []) []) ≡ cond b [] (f d ∷ [])) [ true ↦ refl | false ↦ refl ])
+    (elim (bytes_eq (get_or mine.1 d []) (get_or theirs.1 d [])) as (λ b. map f (cond (not b) (d ∷ []) []) ≡ cond b [] (f d ∷ [])) [ true ↦ refl | false ↦ refl ])
 
 -- a child that is told, or not
 pub told_step : (below old : List (List ℕ)) (path : List ℕ) (d : ℕ) (mine theirs : List ℕ × List (List ℕ)) → d < 16 → below ≡ old ++ told_first path d mine theirs
@@ -391,9 +392,10 @@ told_step below old path d mine theirs h e =
     let more = told_first-more path d mine theirs h in
     let at = bytes_eq-Decides (get_or mine.1 d []) (get_or theirs.1 d []) in
     let both : (b : Bool) → bytes_eq (get_or mine.1 d []) (get_or theirs.1 d []) ≡ b → below ++ cond b [] ((path ++ d ∷ []) ∷ []) ≡ old ++ told_first path (d + 1) mine theirs =
-      λ b is. ap (λ xs. xs ++ cond b [] ((path ++ d ∷ []) ∷ [])) e ∙ append_assoc old (told_first path d mine theirs) (cond b [] ((path ++ d ∷ []) ∷ [])) ∙ ap (λ xs. old ++ xs) (ap (λ b. told_first path d mine theirs ++ cond b [] ((path ++ d ∷ []) ∷ [])) (sym is) ∙ sym more) in
-    (λ other. both false (is_false (bytes_eq (get_or mine.1 d []) (get_or theirs.1 d [])) (λ t. other (at.0 t))),
-      λ same. sym (append-nil below) ∙ both true (at.1 same))
+    λ b is. ap (λ xs. xs ++ cond b [] ((path ++ d ∷ []) ∷ [])) e ∙ append_assoc old (told_first path d mine theirs) (cond b [] ((path ++ d ∷ []) ∷ [])) ∙ ap (λ xs. old ++ xs) (ap (λ b. told_first path d mine theirs ++ cond b [] ((path ++ d ∷ []) ∷ [])) (sym is) ∙ sym more) in (
+      λ other. both false (is_false (bytes_eq (get_or mine.1 d []) (get_or theirs.1 d [])) (λ t. other (at.0 t))),
+      λ same. sym (append-nil below) ∙ both true (at.1 same),
+    )
   where
     is_false : (b : Bool) → (b ≡ true → ⊥) → b ≡ false
     is_false true h = absurd (h refl)

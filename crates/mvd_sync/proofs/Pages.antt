@@ -10,11 +10,11 @@ use Rattle.std.proofs.lemmas.List.{take-append-drop}
 use Rattle.mvd_tree.specs.HashTree.{KeyDigests}
 use Rattle.mvd_tree.proofs.Under.{keys_same}
 use Rattle.mvd_tree.specs.Page.{rest_of, page_of, is_more_after_page}
-use Rattle.mvd_sync.specs.Answers.{Entry, IsListing, TakesNext, of_first, of_second, of_both, order_of_first}
+use Rattle.mvd_sync.specs.Answers.{Entry, IsListing, IsPageOf, TakesNext, of_first, of_second, of_both, order_of_first}
 
 -- ---- a page that was fetched
 
-no_entries : {A : Type 0} (xs : List A) → length xs ≡ 0 → xs ≡ []
+pub no_entries : {A : Type 0} (xs : List A) → length xs ≡ 0 → xs ≡ []
 no_entries [] e = refl
 no_entries (x ∷ xs) e = absurd (omega arith)
 
@@ -28,6 +28,9 @@ fresh_listing held path after page more p m = record {
       let small : length (entries (rest_of held path after)) ≤ 1000 = grind (arith, nat_tests) in
       no_entries _ (omega (arith, n, small));
 }
+
+pub listing_of_page : (held : KeyDigests) (path : List ℕ) (after : Option (List ℕ)) (page : List Entry) (more : Bool) → IsPageOf held path after page more → IsListing held path after page more
+listing_of_page held path after page more h = fresh_listing held path after page more h.is h.goes_on
 
 -- ---- which key comes next
 

@@ -38,9 +38,9 @@ pub plans_more : (number : Option ℕ) (e : Entry) (es : List Entry) (mine their
 plans_more number e es mine theirs mine' theirs' own other r m ms o o' t t' plan old more =
     let at : (x y : Option State) → own ≡ x → other ≡ y → (IsPlan e.key m.is_old x y m) × ((m.is_old ≡ true) ↔ HasUnseen number (or_empty x) (or_empty y))
     = λ x y p q.
-        subst (λ x. (IsPlan e.key m.is_old x y m) × ((m.is_old ≡ true) ↔ HasUnseen number (or_empty x) (or_empty y))) p
-        (subst (λ y. (IsPlan e.key m.is_old own y m) × ((m.is_old ≡ true) ↔ HasUnseen number (or_empty own) (or_empty y))) q
-        (subst (λ b. (IsPlan e.key b own other m) × ((b ≡ true) ↔ HasUnseen number (or_empty own) (or_empty other))) (sym plan.told_old) (plan, old))) in
+    subst (λ x. (IsPlan e.key m.is_old x y m) × ((m.is_old ≡ true) ↔ HasUnseen number (or_empty x) (or_empty y))) p
+    (subst (λ y. (IsPlan e.key m.is_old own y m) × ((m.is_old ≡ true) ↔ HasUnseen number (or_empty own) (or_empty y))) q
+    (subst (λ b. (IsPlan e.key b own other m) × ((b ≡ true) ↔ HasUnseen number (or_empty own) (or_empty other))) (sym plan.told_old) (plan, old))) in
     let both = at (first_if e.mine mine) (first_if e.theirs theirs) o t in
     (both.0, both.1, subst (λ v. ArePlans number es (rest_if e.mine mine) v ms) t' (subst (λ v. ArePlans number es v theirs' ms) o' more))
 

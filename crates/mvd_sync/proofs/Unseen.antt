@@ -87,9 +87,9 @@ module _ (site : ℕ) (mine theirs : State) (e : EntryValue) (at : IsEntryAt the
   pub unseen_back : HasUnseen (Some site) mine theirs → IsTrue (not r)
   unseen_back (dot, same, there, not_here) =
       not_true r (λ h.
-          let held : Holds theirs.context site dot.counter = subst (λ s. Holds theirs.context s dot.counter) same there in
-          let here : Holds mine.context dot.site dot.counter = subst (λ s. Holds mine.context s dot.counter) (at.at ∙ sym same) (is.0 h dot.counter (at.there dot.counter held)) in
-          true≢false (sym here ∙ not_here))
+      let held : Holds theirs.context site dot.counter = subst (λ s. Holds theirs.context s dot.counter) same there in
+      let here : Holds mine.context dot.site dot.counter = subst (λ s. Holds mine.context s dot.counter) (at.at ∙ sym same) (is.0 h dot.counter (at.there dot.counter held)) in
+      true≢false (sym here ∙ not_here))
 
 -- where the peer has no dot of the site, none is unseen
 pub none_unseen : (site : ℕ) (mine theirs : State) → ((n : ℕ) → Holds theirs.context site n → ⊥) → HasUnseen (Some site) mine theirs → ⊥

@@ -183,7 +183,8 @@ module _ (ml mp : ℕ) (number : Option ℕ) (a b x y x' y' : States) (done : Li
     facts : Each (λ (m : Meeting). (get a m.key ≢ get b m.key) × (get y m.key ≡ get b m.key) × (is_too_large (state_at a m.key) ≡ false) × IsValid (state_at a m.key) × IsValid (state_at b m.key)) ms
     facts = Each-weaker (λ (m : Meeting). IsPlanned number a b m × ((get x m.key ≡ get a m.key) × (get y m.key ≡ get b m.key))) (λ (m : Meeting). (get a m.key ≢ get b m.key) × (get y m.key ≡ get b m.key) × (is_too_large (state_at a m.key) ≡ false) × IsValid (state_at a m.key) × IsValid (state_at b m.key))
         (λ m h. (
-          h.0.differ, h.1.1,
+          h.0.differ,
+          h.1.1,
           ap is_too_large (sym (same_state x a m.key h.1.0)) ∙ short_at x held_a none m.key,
           subst IsValid (same_state x a m.key h.1.0) (valid_at x held_a m.key),
           subst IsValid (same_state y b m.key h.1.1) (valid_at y held_b m.key),

@@ -1,6 +1,5 @@
 -- A window: its keys are asked for, and what each side lacks is pushed into it.
 use Rattle.std.specs.Prelude.{◌≡◌, ◌≤◌, ◌+◌, ◌*◌, ℕ, List, ◌++◌, length, map, filter_map, Option, Result, Vec, IfErr, OnOk, MatchResult}
-
 use Rattle.mvd_dots.specs.declared.refusals.Refusal.{Refusal}
 use Rattle.mvd_dots.specs.declared.refusals.Refusal.TheVariants.{Broken}
 use Rattle.mvd_keys.specs.State.{State}
@@ -22,8 +21,8 @@ use Rattle.mvd_sync.specs.declared.report.SyncFault.TheVariants.{Local, Peer}
 abbrev pub Gives : {S : Type 0} → SideOf S → Side → List Entry → List State → ℕ → ℕ → S → S → Type 0
 Gives s name entries states left left' old new =
     AllAnswered s (λ key state. s.can_give key state × HasAnswered s.follows s.can_answer old new)
-        (Tells s (λ key state. state ≡ state_at (s.states old) key) (held_keys name entries) states old new)
-        (held_keys name entries) states left left' old new
+    (Tells s (λ key state. state ≡ state_at (s.states old) key) (held_keys name entries) states old new)
+    (held_keys name entries) states left left' old new
 
 -- both gave the states that they hold, and this is to be done
 pub record Planned {L P : Type 0} (l : SideOf L) (p : SideOf P) (number : Option ℕ) (entries : List Entry) (left left' : Questions) (local local' : L) (peer peer' : P) (meetings : List Meeting) : Type 0 where
@@ -67,4 +66,4 @@ pub record ExchangesAll {L P A : Type 0} (l : SideOf L) (p : SideOf P) (number :
   pub same : MatchResult result (λ meetings. keys_done (map done_of meetings.items) ≡ keys_next entries) (λ _. Unit {0})
   pub meets : l.is_faithful local → p.is_faithful peer → (a b : States) (done : List Done) → SoFar (l.most_keys local) (p.most_keys peer) number a b (l.states local) (p.states peer) done → AreNext a b done entries →
       MatchResult result (λ meetings. SoFar (l.most_keys local) (p.most_keys peer) number a b (l.states local') (p.states peer') (done ++ map done_of meetings.items) × l.is_faithful local' × p.is_faithful peer')
-          (λ _. JoinsSome (l.is_faithful local') (p.is_faithful peer') a b (l.states local') (p.states peer'))
+      (λ _. JoinsSome (l.is_faithful local') (p.is_faithful peer') a b (l.states local') (p.states peer'))

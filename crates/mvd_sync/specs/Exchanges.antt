@@ -142,7 +142,8 @@ pub record Exchanges {L P A : Type 0} (l : SideOf L) (p : SideOf P) (next : List
   pub few : (asked_local ≤ 2 * length next) × (asked_peer ≤ 2 * length next)
   pub fewer : OnOk result ((asked_local + 2 * length after.waiting ≤ 2 * length next) × (asked_peer + 2 * length after.waiting ≤ 2 * length next))
   -- and one at least
-  pub room : OnOk result (after.keys + after.refused + length after.waiting + left'.local + left'.peer ≤ before.keys + before.refused + length next + left.local + left.peer)
+  pub room : OnOk result (after.keys + after.refused + left'.local + left'.peer ≤ before.keys + before.refused + left.local + left.peer)
+  pub short : length next ≤ 1000 → OnOk result (length after.waiting < 1000)
   pub follows : l.follows asked_local local local' × p.follows asked_peer peer peer'
   pub cause : IfErr result (IsFaultOf (Blames l left.local asked_local local local') (Blames p left.peer asked_peer peer peer'))
   -- whatever the other side is
@@ -154,4 +155,4 @@ pub record Exchanges {L P A : Type 0} (l : SideOf L) (p : SideOf P) (next : List
   pub same : after.number ≡ before.number
   pub meets : l.is_faithful local → p.is_faithful peer → (a b : States) (done : List Done) → SoFar (l.most_keys local) (p.most_keys peer) before.number a b (l.states local) (p.states peer) done → Counts done before → AreNext a b done next →
       MatchResult result (λ _. GoesOn l p before.number a b done next local' peer' (l.most_keys local) (p.most_keys peer) after)
-          (λ _. JoinsSome (l.is_faithful local') (p.is_faithful peer') a b (l.states local') (p.states peer'))
+      (λ _. JoinsSome (l.is_faithful local') (p.is_faithful peer') a b (l.states local') (p.states peer'))

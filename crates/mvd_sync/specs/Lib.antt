@@ -7,6 +7,7 @@ pub mod Answers
 pub mod Walk
 pub mod Questions
 pub mod Exchanges
+pub mod Buckets
 pub mod Meetings
 pub mod Carries
 pub mod Nodes

@@ -8,7 +8,7 @@ use Rattle.mvd_tree.specs.HashTree.{KeyDigests, node_digest}
 use Rattle.mvd_tree.specs.Page.{children_digests}
 use Rattle.mvd_wire.specs.Codecs.{spell_state}
 use Rattle.mvd_site.specs.Answer.{digests}
-use Rattle.mvd_sync.specs.Answers.{Entry, IsListing}
+use Rattle.mvd_sync.specs.Answers.{Entry, IsPage, IsPageOf}
 use Rattle.mvd_sync.specs.Sides.{Blames, Side, is_of_key}
 use Rattle.mvd_sync.specs.Windows.{Pushes, PushesFirst}
 use Rattle.mvd_sync.specs.declared.questions.Node.{Node}
@@ -72,6 +72,15 @@ pub record TakesFirst {S : Type 0} (s : Side S) (pairs : List (Key × State)) (o
 
 -- ---- a listing
 
+-- A page of a bucket after a key was asked for
+pub record Fetches {S : Type 0} (s : Side S) (path : List ℕ) (after : Option (List ℕ)) (listing : List Entry × Bool) (left left' : ℕ) (old new : S) : Type 0 where
+  pub spent : left ≡ left' + 1
+  pub follows : s.follows 1 old new
+  pub page : IsPage after listing.0 listing.1
+  pub short : length listing.0 < 2 ^ 64
+  pub kept : s.is_faithful old → Keeps s old new
+  pub right : s.is_faithful old → IsPageOf (digests (s.states old)) path after listing.0 listing.1
+
 -- A listing of the keys of a bucket after a key was filled, by a question more where it had come to its end and there are more
 pub record Fills {S : Type 0} (s : Side S) (path : List ℕ) (after : Option (List ℕ)) (listing listing' : List Entry × Bool) (left left' : ℕ) (old new : S) : Type 0 where
   pub asked : ℕ
@@ -83,7 +92,7 @@ pub record Fills {S : Type 0} (s : Side S) (path : List ℕ) (after : Option (Li
   pub short : length listing.0 < 2 ^ 64 → length listing'.0 < 2 ^ 64
   pub ended : listing'.0 ≡ [] → listing'.1 ≡ false
   pub kept : s.is_faithful old → Keeps s old new
-  pub page : s.is_faithful old → IsListing (digests (s.states old)) path after listing.0 listing.1 → IsListing (digests (s.states old)) path after listing'.0 listing'.1
+  pub page : s.is_faithful old → 1 ≤ asked → IsPageOf (digests (s.states old)) path after listing'.0 listing'.1
 
 -- ---- answers
 

@@ -1,10 +1,7 @@
 -- What a session does to its two sides, and what it tells.
-use Rattle.std.specs.Prelude.{◌≡◌, ◌≢◌, ◌⊎◌, ◌<◌, ◌≤◌, ◌+◌, ◌*◌, ◌/◌, ℕ, ◌==◌, Bool, true, false, cond, ◌&&◌, ◌||◌, List, [], ◌∷◌, ◌++◌, length, map, take, Option, Some, None, IsTrue, Result, Ok, Err, IfOk, IfErr, OnOk, MatchBool, ◌↔◌}
+use Rattle.std.specs.Prelude.{◌≡◌, ◌≢◌, ◌⊎◌, ◌<◌, ◌≤◌, ◌+◌, ◌*◌, ◌/◌, ℕ, ◌==◌, Bool, true, false, cond, ◌&&◌, ◌||◌, List, [], ◌∷◌, ◌++◌, length, map, take, Option, None, IsTrue, Result, IfOk, IfErr, OnOk, MatchBool, ◌↔◌}
 use Rattle.std.specs.Ordering.{eq_by_cmp}
 use Rattle.std.specs.FinMap.{get, insert, len, remove}
-use Rattle.std.specs.FinSet.{contains}
-use Rattle.mvd_dots.specs.Dot.{DotValue}
-use Rattle.mvd_dots.specs.Context.{DotSet}
 use Rattle.mvd_dots.specs.declared.refusals.Refusal.{Refusal}
 use Rattle.mvd_dots.specs.declared.refusals.Refusal.TheVariants.{Broken, DotClash, Full, StateTooLarge}
 use Rattle.mvd_keys.specs.Key.{key_cmp}

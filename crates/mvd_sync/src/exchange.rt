@@ -58,15 +58,11 @@ fn gives<S: Peer>(
     entries: &[Entry],
     name: Side,
 ) -> Result<Vec<KeyState>, Refusal>
-    ensures told {
-        let s = side_of S.states S.is_faithful S.can_give S.follows S.can_refuse S.can_answer S.most_keys S.number in
-        IfOk result (λ states. Gives s name entries.now states.items left.old left.new side.old side.new)
-    }
-    ensures ended {
-        let s = side_of S.states S.is_faithful S.can_give S.follows S.can_refuse S.can_answer S.most_keys S.number in
+    ensures told { let s = side_of S.states S.is_faithful S.can_give S.follows S.can_refuse S.can_answer S.most_keys S.number in
+        IfOk result (λ states. Gives s name entries.now states.items left.old left.new side.old side.new) }
+    ensures ended { let s = side_of S.states S.is_faithful S.can_give S.follows S.can_refuse S.can_answer S.most_keys S.number in
         IfErr result
-            (ComesToEnd s (Keeps s side.old side.new) (length (held_keys name entries.now)) left.old side.old side.new)
-    }
+        (ComesToEnd s (Keeps s side.old side.new) (length (held_keys name entries.now)) left.old side.old side.new) }
 {
     let asked = match keys_held(alloc, entries, name) {
         Ok(keys) => keys,
@@ -84,17 +80,13 @@ fn plans<L: Peer, P: Peer>(
     left: &mut Questions,
     entries: Vec<Entry>,
 ) -> Result<Vec<Meeting>, SyncFault>
-    ensures plans {
-        let l = side_of L.states L.is_faithful L.can_give L.follows L.can_refuse L.can_answer L.most_keys L.number in
+    ensures plans { let l = side_of L.states L.is_faithful L.can_give L.follows L.can_refuse L.can_answer L.most_keys L.number in
         let p = side_of P.states P.is_faithful P.can_give P.follows P.can_refuse P.can_answer P.most_keys P.number in
         IfOk result
-            (λ meetings. Planned l p number entries.items left.old left.new local.old local.new peer.old peer.new meetings.items)
-    }
-    ensures ended {
-        let l = side_of L.states L.is_faithful L.can_give L.follows L.can_refuse L.can_answer L.most_keys L.number in
+        (λ meetings. Planned l p number entries.items left.old left.new local.old local.new peer.old peer.new meetings.items) }
+    ensures ended { let l = side_of L.states L.is_faithful L.can_give L.follows L.can_refuse L.can_answer L.most_keys L.number in
         let p = side_of P.states P.is_faithful P.can_give P.follows P.can_refuse P.can_answer P.most_keys P.number in
-        IfErr result (PlanEnds l p (length entries.items) left.old local.old local.new peer.old peer.new)
-    }
+        IfErr result (PlanEnds l p (length entries.items) left.old local.old local.new peer.old peer.new) }
 {
     let mine = match gives(alloc, local, &mut left.local, &entries, Side::Local) {
         Ok(states) => states,
@@ -118,17 +110,13 @@ fn carry<S: Peer>(
     meetings: Vec<Meeting>,
     name: Side,
 ) -> Result<Vec<Meeting>, Refusal>
-    ensures told {
-        let s = side_of S.states S.is_faithful S.can_give S.follows S.can_refuse S.can_answer S.most_keys S.number in
-        IfOk result (λ after. Carried s name meetings.items after.items left.old left.new side.old side.new)
-    }
-    ensures ended {
-        let s = side_of S.states S.is_faithful S.can_give S.follows S.can_refuse S.can_answer S.most_keys S.number in
+    ensures told { let s = side_of S.states S.is_faithful S.can_give S.follows S.can_refuse S.can_answer S.most_keys S.number in
+        IfOk result (λ after. Carried s name meetings.items after.items left.old left.new side.old side.new) }
+    ensures ended { let s = side_of S.states S.is_faithful S.can_give S.follows S.can_refuse S.can_answer S.most_keys S.number in
         let pairs = filter_map (pair_of name) meetings.items in
         IfErr result
-            (λ refusal. ComesToEnd s (TakesFirst s pairs side.old side.new refusal) (length pairs) left.old
-                side.old side.new refusal)
-    }
+        (λ refusal. ComesToEnd s (TakesFirst s pairs side.old side.new refusal) (length pairs) left.old
+        side.old side.new refusal) }
 {
     let (meetings, pairs) = match taken(alloc, meetings, name) {
         Ok(both) => both,
@@ -148,11 +136,9 @@ fn exchange_all<L: Peer, P: Peer>(
     entries: Vec<Entry>,
 ) -> Result<Vec<Meeting>, SyncFault>
     requires { Each IsHeldByEither entries.items }
-    ensures {
-        let l = side_of L.states L.is_faithful L.can_give L.follows L.can_refuse L.can_answer L.most_keys L.number in
+    ensures { let l = side_of L.states L.is_faithful L.can_give L.follows L.can_refuse L.can_answer L.most_keys L.number in
         let p = side_of P.states P.is_faithful P.can_give P.follows P.can_refuse P.can_answer P.most_keys P.number in
-        ExchangesAll l p number entries.items left.old left.new local.old local.new peer.old peer.new result
-    }
+        ExchangesAll l p number entries.items left.old left.new local.old local.new peer.old peer.new result }
 {
     let meetings = match plans(alloc, number, local, peer, left, entries) {
         Ok(meetings) => meetings,
@@ -209,12 +195,10 @@ impl Exchange {
     ) -> Result<(), SyncFault>
         requires held { IsHeldByEither entry }
         requires room { self.old.keys + self.old.refused + length self.old.waiting + left.old.local + left.old.peer + 1 < 2 ^ 64 }
-        ensures {
-            let l = side_of L.states L.is_faithful L.can_give L.follows L.can_refuse L.can_answer L.most_keys L.number in
+        ensures { let l = side_of L.states L.is_faithful L.can_give L.follows L.can_refuse L.can_answer L.most_keys L.number in
             let p = side_of P.states P.is_faithful P.can_give P.follows P.can_refuse P.can_answer P.most_keys P.number in
             Exchanges l p (self.old.waiting ++ entry ∷ []) left.old left.new local.old local.new peer.old peer.new
-                self.old self.new result
-        }
+            self.old self.new result }
     {
         if self.waiting.push(entry).is_err() {
             return Err(SyncFault::Local(Refusal::Memory));
@@ -233,12 +217,10 @@ impl Exchange {
         left: &mut Questions,
     ) -> Result<(), SyncFault>
         requires room { self.old.keys + self.old.refused + length self.old.waiting + left.old.local + left.old.peer < 2 ^ 64 }
-        ensures {
-            let l = side_of L.states L.is_faithful L.can_give L.follows L.can_refuse L.can_answer L.most_keys L.number in
+        ensures { let l = side_of L.states L.is_faithful L.can_give L.follows L.can_refuse L.can_answer L.most_keys L.number in
             let p = side_of P.states P.is_faithful P.can_give P.follows P.can_refuse P.can_answer P.most_keys P.number in
             Exchanges l p self.old.waiting left.old left.new local.old local.new peer.old peer.new self.old self.new
-                result
-        }
+            result }
     {
         let entries = std::mem::replace(&mut self.waiting, Vec::new(self.alloc));
         let meetings = exchange_all(self.alloc, self.number, local, peer, left, entries)?;

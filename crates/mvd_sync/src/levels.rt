@@ -86,17 +86,13 @@ fn descend<L: Peer, P: Peer>(
     paths: &[Path],
 ) -> Result<Vec<Path>, SyncFault>
     requires inner { Each (λ path. length path < 3) paths.now }
-    ensures descends {
-        let l = side L.states L.is_faithful L.can_give L.follows L.can_refuse L.can_answer L.most_keys L.number in
+    ensures descends { let l = side L.states L.is_faithful L.can_give L.follows L.can_refuse L.can_answer L.most_keys L.number in
         let p = side P.states P.is_faithful P.can_give P.follows P.can_refuse P.can_answer P.most_keys P.number in
-        IfOk result (λ below. Descends l p paths.now left.old left.new local.old local.new peer.old peer.new below.items)
-    }
-    ensures ended {
-        let l = side L.states L.is_faithful L.can_give L.follows L.can_refuse L.can_answer L.most_keys L.number in
+        IfOk result (λ below. Descends l p paths.now left.old left.new local.old local.new peer.old peer.new below.items) }
+    ensures ended { let l = side L.states L.is_faithful L.can_give L.follows L.can_refuse L.can_answer L.most_keys L.number in
         let p = side P.states P.is_faithful P.can_give P.follows P.can_refuse P.can_answer P.most_keys P.number in
         IfErr result
-            (ReadsEnd l p (λ asked. asked ≤ length paths.now) left.old local.old local.new peer.old peer.new)
-    }
+        (ReadsEnd l p (λ asked. asked ≤ length paths.now) left.old local.old local.new peer.old peer.new) }
 {
     let mut below = Vec::new(alloc);
     let mut rest = paths;
@@ -137,22 +133,24 @@ pub fn differing_buckets<L: Peer, P: Peer>(
     peer: &mut P,
     left: &mut Questions,
 ) -> Result<Vec<Path>, SyncFault>
-    ensures found {
-        let l = side L.states L.is_faithful L.can_give L.follows L.can_refuse L.can_answer L.most_keys L.number in
+    ensures found { let l = side L.states L.is_faithful L.can_give L.follows L.can_refuse L.can_answer L.most_keys L.number in
         let p = side P.states P.is_faithful P.can_give P.follows P.can_refuse P.can_answer P.most_keys P.number in
-        IfOk result (λ buckets. FindsBuckets l p left.old left.new local.old local.new peer.old peer.new buckets.items)
-    }
-    ensures ended {
-        let l = side L.states L.is_faithful L.can_give L.follows L.can_refuse L.can_answer L.most_keys L.number in
+        IfOk result (λ buckets. FindsBuckets l p left.old left.new local.old local.new peer.old peer.new buckets.items) }
+    ensures ended { let l = side L.states L.is_faithful L.can_give L.follows L.can_refuse L.can_answer L.most_keys L.number in
         let p = side P.states P.is_faithful P.can_give P.follows P.can_refuse P.can_answer P.most_keys P.number in
         IfErr result
-            (ReadsEnd l p (λ asked. AreFewFor l p local.old peer.old (λ most. asked ≤ 1 + 2 * most)) left.old local.old
-                local.new peer.old peer.new)
-    }
+        (ReadsEnd l p (λ asked. AreFewFor l p local.old peer.old (λ most. asked ≤ 1 + 2 * most)) left.old local.old
+        local.new peer.old peer.new) }
 {
-    let mut paths = root(alloc).map_err(SyncFault::Local)?;
+    let mut paths = match root(alloc) {
+        Ok(paths) => paths,
+        Err(refusal) => return Err(SyncFault::Local(refusal)),
+    };
     for _ in 0..3u8 {
-        paths = descend(alloc, local, peer, left, &paths)?;
+        paths = match descend(alloc, local, peer, left, &paths) {
+            Ok(below) => below,
+            Err(fault) => return Err(fault),
+        };
     }
     Ok(paths)
 }

@@ -1,9 +1,9 @@
 //! What a session has left of a side's page of a bucket.
-ghost use Rattle.std.specs.Prelude.{◌≡◌, ◌≢◌, ◌+◌, ◌-◌, ◌*◌, ◌≤◌, [], ◌∷◌, length, IfOk, IfErr, IfSome, IfNone, OnSome, ◌<◌, ◌^◌, OnOk, MatchOption, option_copied, false};
-ghost use Rattle.mvd_site.specs.Answer.{digests};
-ghost use Rattle.mvd_sync.specs.Answers.{IsListing, IsPage, TakesNext, order_of_first};
-ghost use Rattle.mvd_sync.specs.Questions.{AllAnswered, ComesToEnd, Fills, Keeps, Tells};
-ghost use Rattle.mvd_sync.specs.Sides.{HasAnswered, side as side_of};
+ghost use Rattle.std.specs.Prelude.{◌≡◌, ◌≢◌, ◌+◌, ◌-◌, ◌*◌, ◌≤◌, [], ◌∷◌, length, IfOk, IfErr, IfSome, IfNone, OnSome, ◌<◌, ◌^◌, OnOk, OnErr, MatchOption, option_copied, true, IsTrue, ◌↔◌};
+ghost use Rattle.mvd_tree.specs.Page.{is_after};
+ghost use Rattle.mvd_sync.specs.Answers.{IsPage, Rises, TakesNext, order_of_first};
+ghost use Rattle.mvd_sync.specs.Questions.{ComesToEnd, Fetches, Fills, Keeps};
+ghost use Rattle.mvd_sync.specs.Sides.{side as side_of};
 
 use crate::levels::is_same;
 use crate::peer::{Page, Peer};
@@ -38,13 +38,23 @@ pub struct Entry {
     pub differs: bool,
 }
 
+/// Whether a key comes after another, or after none.
+fn comes_after(last: Option<&Key>, key: &Key) -> bool
+    ensures { result ≡ is_after (option_copied last.entry) key.now }
+{
+    match last {
+        Some(last) => last.cmp(key).is_lt(),
+        None => true,
+    }
+}
+
 /// Whether the keys of a page strictly rise from a key on.
-fn rises(after: Option<&Key>, page: &[(Key, [u8; 32])]) -> bool {
+fn rises(after: Option<&Key>, page: &[(Key, [u8; 32])]) -> bool
+    ensures { IsTrue result ↔ Rises (option_copied after.entry) page.now }
+{
     let mut last = after;
     for (key, _) in page {
-        if let Some(last) = last
-            && last.cmp(key).is_ge()
-        {
+        if !comes_after(last, key) {
             return false;
         }
         last = Some(key);
@@ -61,8 +71,10 @@ impl Listing {
         ensures length { IfOk result (λ page. length page.0 < 2 ^ 64) }
     {
         let (mut page, more) = page;
-        let count = page.len();
-        if !rises(after, page.as_slice()) || (more && count == 0) {
+        if !rises(after, page.as_slice()) {
+            return Err(Refusal::BadBody);
+        }
+        if more && page.is_empty() {
             return Err(Refusal::BadBody);
         }
         page.reverse();
@@ -70,23 +82,33 @@ impl Listing {
     }
 
     /// The page of a bucket that comes after a key. Keys that do not rise, or more without a key, are 33.
-    pub fn fetch<P: Peer>(
+    fn fetch<P: Peer>(
         side: &mut P,
         left: &mut u64,
         path: &Path,
         after: Option<&Key>,
     ) -> Result<Self, Refusal>
         ensures told { let s = side_of P.states P.is_faithful P.can_give P.follows P.can_refuse P.can_answer P.most_keys P.number in
-            let q = (path.now, option_copied after.entry) in
             IfOk result
-            (λ listing. AllAnswered s (λ q page. IsPage q.1 page.0 page.1 × (length page.0 < 2 ^ 64) × HasAnswered P.follows P.can_answer side.old side.new)
-            (Tells s (λ q page. IsListing (digests (P.states side.old)) q.0 q.1 page.0 page.1) (q ∷ []) (listing ∷ []) side.old side.new)
-            (q ∷ []) (listing ∷ []) left.old left.new side.old side.new) }
+            (λ listing. Fetches s path.now (option_copied after.entry) listing left.old left.new side.old side.new) }
         ensures ended { let s = side_of P.states P.is_faithful P.can_give P.follows P.can_refuse P.can_answer P.most_keys P.number in
             IfErr result (ComesToEnd s (Keeps s side.old side.new) 1 left.old side.old side.new) }
     {
-        take_one(left)?;
-        Listing::of_page(after, side.bucket(path, after)?)
+        match take_one(left) {
+            Ok(()) => {}
+            Err(refusal) => return Err(refusal),
+        }
+        match side.bucket(path, after) {
+            Ok(page) => Listing::of_page(after, page),
+            Err(refusal) => Err(refusal),
+        }
+    }
+
+    /// Whether no entry is left, and the bucket goes on.
+    fn is_spent(&self) -> bool
+        ensures { IsTrue result ↔ ((self.now.0 ≡ []) × (self.now.1 ≡ true)) }
+    {
+        self.page.is_empty() && self.more
     }
 
     /// Makes sure that an entry is there, unless none is left.
@@ -98,14 +120,22 @@ impl Listing {
         after: Option<&Key>,
     ) -> Result<(), Refusal>
         ensures filled { let s = side_of P.states P.is_faithful P.can_give P.follows P.can_refuse P.can_answer P.most_keys P.number in
-            OnOk result (Fills s path.now (option_copied after.entry) self.old self.new left.old left.new side.old side.new) }
+            OnOk result
+            (Fills s path.now (option_copied after.entry) self.old self.new left.old left.new side.old side.new) }
         ensures ended { let s = side_of P.states P.is_faithful P.can_give P.follows P.can_refuse P.can_answer P.most_keys P.number in
             IfErr result (ComesToEnd s (Keeps s side.old side.new) 1 left.old side.old side.new) }
+        ensures needed { OnErr result ((self.old.0 ≡ []) × (self.old.1 ≡ true)) }
     {
-        if self.page.is_empty() && self.more {
-            *self = Listing::fetch(side, left, path, after)?;
+        if !self.is_spent() {
+            return Ok(());
         }
-        Ok(())
+        match Listing::fetch(side, left, path, after) {
+            Ok(listing) => {
+                *self = listing;
+                Ok(())
+            }
+            Err(refusal) => Err(refusal),
+        }
     }
 
     /// The first entry, which is taken out.

@@ -67,7 +67,11 @@ fn meet(
         Ok(joined) => Ok(Meeting {
             key,
             is_old,
-            give: if joined.same(&theirs) { None } else { Some(mine) },
+            give: if joined.same(&theirs) {
+                None
+            } else {
+                Some(mine)
+            },
             pull: Some(theirs),
             asked: false,
             refused: None,
@@ -85,12 +89,7 @@ fn meet(
 }
 
 /// What is to be done for a key that one side holds: the other is to take its state.
-fn hand_over(
-    key: Key,
-    is_old: bool,
-    pull: Option<KeyState>,
-    give: Option<KeyState>,
-) -> Meeting
+fn hand_over(key: Key, is_old: bool, pull: Option<KeyState>, give: Option<KeyState>) -> Meeting
     ensures { result ≡ record { key = key; is_old = is_old; pull = pull; give = give; asked = false; refused = None } }
 {
     Meeting {
@@ -169,7 +168,11 @@ fn take_out(meeting: &mut Meeting, side: Side) -> Option<KeyState>
         Side::Local => meeting.pull.take(),
         Side::Peer => meeting.give.take(),
     };
-    let wanted = if meeting.refused.is_some() { None } else { state };
+    let wanted = if meeting.refused.is_some() {
+        None
+    } else {
+        state
+    };
     meeting.asked = wanted.is_some();
     wanted
 }

@@ -65,11 +65,7 @@ fn has_any_other(number: Option<u32>, mine: Option<&KeyState>, theirs: &KeyState
 }
 
 /// Whether the peer's state of a key has a dot of this site that the local state has not seen.
-pub fn has_unseen(
-    number: Option<u32>,
-    mine: Option<&KeyState>,
-    theirs: Option<&KeyState>,
-) -> bool
+pub fn has_unseen(number: Option<u32>, mine: Option<&KeyState>, theirs: Option<&KeyState>) -> bool
     ensures { IsTrue result ↔ HasUnseen number (unwrap_or (option_copied mine.entry) empty_state) (unwrap_or (option_copied theirs.entry) empty_state) }
 {
     match theirs {

@@ -1,4 +1,4 @@
-use Rattle.std.proofs.Common.{◌<◌, ◌≡◌, ℕ, List, ap, arith, subst, sym, true≢false, ◌++◌, ◌∷◌, [], ◌∙◌}
+use Rattle.std.proofs.Common.{◌≡◌, ℕ, List, ap, arith, sym, true≢false, ◌++◌, ◌∷◌, [], ◌∙◌}
 use Rattle.mvd_sync.proofs.Nodes.{told_first, told_last, told_step}
 use Rattle.mvd_sync.proofs.levels.add_children.Goals as goal
 use Rattle.mvd_sync.proofs.levels.add_children.Goals.{then-not-is_same+in_ok-child+in_ok-push, else-not-is_same}
@@ -10,8 +10,8 @@ loop-digit-preserved c =
     let step = told_step c.loop-digit.below.items c.args.below.now.items c.args.path.now c.loop-digit.digit mine theirs c.loop-digit-test.true c.loop-digit.invariant in
     elim c.if-not-is_same.branch [
       | then-not-is_same+in_ok-child+in_ok-push w ↦
-        ap (λ b. b.items) w.below-is ∙ w.in_ok-push.ensures.items ∙ ap (λ x. c.loop-digit.below.items ++ x ∷ []) w.in_ok-child.ensures.child
-        ∙ step.0 (λ e. let t = c.is_same-in-loop-digit.ensures.1 e in let f = w.if-not-is_same.true in absurd (cc))
+          ap (λ b. b.items) w.below-is ∙ w.in_ok-push.ensures.items ∙ ap (λ x. c.loop-digit.below.items ++ x ∷ []) w.in_ok-child.ensures.child
+          ∙ step.0 (λ e. let t = c.is_same-in-loop-digit.ensures.1 e in let f = w.if-not-is_same.true in absurd (cc))
       | else-not-is_same w ↦ ap (λ b. b.items) w.below-is ∙ step.1 (c.is_same-in-loop-digit.ensures.0 (let f = w.if-not-is_same.false in cc))
     ]
 

@@ -1,10 +1,12 @@
-use Rattle.std.proofs.Common.{◌≡◌, ◌<◌, ◌≤◌, ◌+◌, ℕ, List, [], ◌++◌, length, take, drop, refl, sym, ap, subst, ◌∙◌, arith, rules, append-nil}
+use Rattle.std.proofs.Common.{◌≡◌, ◌<◌, ◌≤◌, ◌+◌, ℕ, List, [], ◌++◌, length, take, drop, refl, sym, ap, subst, ◌∙◌, arith, append-nil, true, ◌∷◌, ◌==◌}
 use Rattle.std.proofs.lemmas.List.{length-take, length-drop}
 use Rattle.mvd_sync.specs.Session.{Each}
 use Rattle.mvd_sync.specs.Sides.{side}
 use Rattle.mvd_sync.specs.Walk.{Descends, told_all}
 use Rattle.mvd_sync.specs.declared.questions.Questions.{Questions}
-use Rattle.mvd_sync.proofs.Descents.{Each-right, Each-take, answers_long, descends_more, nothing_asked, reads_of, reads_on}
+use Rattle.mvd_sync.proofs.Descents.{Each-right, Each-take, answers_long, descends_on, nothing_asked, reads_of, reads_on}
+use Rattle.std.specs.Cmp.{unsigned_Decides}
+use Rattle.mvd_sync.proofs.Pages.{no_entries}
 use Rattle.mvd_sync.proofs.Fails.{local_fails, memory_fails, peer_fails, window_fits, window_moves}
 use Rattle.mvd_sync.proofs.levels.descend.Goals as goal
 
@@ -12,7 +14,10 @@ inner_window : (paths done rest : List (List ℕ)) (n : ℕ) → paths ≡ done 
 inner_window paths done rest n e inner = Each-take (λ path. length path < 3) n rest (Each-right (λ path. length path < 3) done rest (subst (Each (λ path. length path < 3)) e inner))
 
 pub loop-rest-init : goal.loop-rest-init
-loop-rest-init g c = ([], refl, subst (λ xs. Descends _ _ [] _ _ _ _ _ _ xs) (sym c.new-below.ensures.items) (nothing_asked _ _ g.met.L.Peer.follows_on g.met.P.Peer.follows_on g.met.L.Peer.follows_self g.met.P.Peer.follows_self _ _ _))
+loop-rest-init g c =
+    let l = side g.L.Peer.states g.L.Peer.is_faithful g.L.Peer.can_give g.L.Peer.follows g.L.Peer.can_refuse g.L.Peer.can_answer g.L.Peer.most_keys g.L.Peer.number in
+    let p = side g.P.Peer.states g.P.Peer.is_faithful g.P.Peer.can_give g.P.Peer.follows g.P.Peer.can_refuse g.P.Peer.can_answer g.P.Peer.most_keys g.P.Peer.number in
+    ([], refl, nothing_asked l p g.met.L.Peer.follows_on g.met.P.Peer.follows_on g.met.L.Peer.follows_self g.met.P.Peer.follows_self c.args.left.now c.args.local.now c.args.peer.now c.new-below.result.items c.new-below.ensures.items)
 
 pub ask_nodes-requires : goal.ask_nodes-requires
 ask_nodes-requires g c = record { inner = inner_window c.args.paths.now c.loop-rest.invariant.0 c.loop-rest.rest.now c.min-count.result c.loop-rest.invariant.1 c.requires.inner }
@@ -61,13 +66,28 @@ returns-in-Err-add_all_children-clause-ended g c =
 
 pub loop-rest-preserved : goal.loop-rest-preserved
 loop-rest-preserved g c =
+    let l = side g.L.Peer.states g.L.Peer.is_faithful g.L.Peer.can_give g.L.Peer.follows g.L.Peer.can_refuse g.L.Peer.can_answer g.L.Peer.most_keys g.L.Peer.number in
+    let p = side g.P.Peer.states g.P.Peer.is_faithful g.P.Peer.can_give g.P.Peer.follows g.P.Peer.can_refuse g.P.Peer.can_answer g.P.Peer.most_keys g.P.Peer.number in
     let done = c.loop-rest.invariant.0 in
     let window = take c.min-count.result c.loop-rest.rest.now in
     let after : Questions = record { local = c.ask_nodes.new.left; peer = c.ask_nodes-in-loop-rest.new.left } in
-    let below = c.loop-rest.below.items in (
+    let below = c.loop-rest.below.items in
+    let mine = c.in-Ok.mine.items in
+    let theirs = c.in-Ok-ask_nodes.theirs.items in
+    let told : c.add_all_children.new.below.items ≡ below ++ told_all window c.deref.result.now c.deref-in-loop-rest.result.now = c.in-Ok-add_all_children.ensures.added in
+    let first : c.deref.result.now ≡ mine = c.deref.ensures.value in
+    let second : c.deref-in-loop-rest.result.now ≡ theirs = c.deref-in-loop-rest.ensures.value in (
       done ++ window,
       window_moves c.args.paths.now done c.loop-rest.rest.now c.min-count.result c.loop-rest.invariant.1,
-      subst (λ xs. Descends _ _ (done ++ window) _ after _ _ _ _ xs)
-      (sym (c.in-Ok-add_all_children.ensures.added ∙ (λ i. below ++ told_all window (c.deref.ensures.value i) (c.deref-in-loop-rest.ensures.value i))))
-      (descends_more _ _ g.met.L.Peer.follows_on g.met.P.Peer.follows_on done window c.args.left.now c.loop-rest.left after _ _ _ _ _ _ below c.in-Ok.mine.items c.in-Ok-ask_nodes.theirs.items c.loop-rest.invariant.2 c.in-Ok.ensures.told c.in-Ok-ask_nodes.ensures.told),
+      descends_on l p g.met.L.Peer.follows_on g.met.P.Peer.follows_on done window c.args.left.now c.loop-rest.left after c.args.local.now c.loop-rest.local c.ask_nodes.new.side c.args.peer.now c.loop-rest.peer c.ask_nodes-in-loop-rest.new.side below mine theirs c.loop-rest.invariant.2 c.in-Ok.ensures.told c.in-Ok-ask_nodes.ensures.told
+          c.add_all_children.new.below.items (told ∙ (λ i. below ++ told_all window (first i) (second i))),
     )
+
+pub returns-clause-descends : goal.returns-clause-descends
+returns-clause-descends g c =
+    let l = side g.L.Peer.states g.L.Peer.is_faithful g.L.Peer.can_give g.L.Peer.follows g.L.Peer.can_refuse g.L.Peer.can_answer g.L.Peer.most_keys g.L.Peer.number in
+    let p = side g.P.Peer.states g.P.Peer.is_faithful g.P.Peer.can_give g.P.Peer.follows g.P.Peer.can_refuse g.P.Peer.can_answer g.P.Peer.most_keys g.P.Peer.number in
+    let at = c.loop-rest.invariant in
+    let none = no_entries c.loop-rest.rest.now ((unsigned_Decides (length c.loop-rest.rest.now) 0).0 (sym c.is_empty.ensures ∙ c.loop-rest-test.false)) in
+    let all : c.args.paths.now ≡ at.0 = at.1 ∙ ap (λ xs. at.0 ++ xs) none ∙ append-nil at.0 in
+    subst (λ xs. Descends l p xs c.args.left.now c.loop-rest.left c.args.local.now c.loop-rest.local c.args.peer.now c.loop-rest.peer c.loop-rest.below.items) (sym all) at.2

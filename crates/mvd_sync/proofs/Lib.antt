@@ -27,3 +27,4 @@ pub mod Planning
 pub mod Handing
 pub mod ManyPushes
 pub mod Inner
+pub mod Pushing

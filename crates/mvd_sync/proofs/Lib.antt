@@ -28,3 +28,4 @@ pub mod Handing
 pub mod ManyPushes
 pub mod Inner
 pub mod Pushing
+pub mod Turns

@@ -31,3 +31,5 @@ pub mod Planning
 pub mod Handing
 pub mod ManyPushes
 pub mod Inner
+pub mod Pushing
+pub mod Turns

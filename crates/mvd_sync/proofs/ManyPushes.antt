@@ -45,5 +45,5 @@ pushes_more most most' old mid new all i p ts us a low at told same before is ap
     subst (λ qs. Pushes most old qs us new) (sym more) (subst (λ us. Pushes most old (take i all ++ p ∷ []) us new) (sym told) (pushes-append most old mid new (take i all) ts (p ∷ []) (a ∷ []) before one))
 
 -- the first of several windows
-pub first_later : (most : ℕ) (old mid new : States) (ps : List (Key × State)) (ts : List Told) (qs : List (Key × State)) → Pushes most old ps ts mid → PushesFirst most mid qs new → PushesFirst most old (ps ++ qs) new
-first_later most old mid new ps ts qs h f = (length ps + f.0, ts ++ f.1, subst (λ xs. Pushes most old xs (ts ++ f.1) new) (sym (take-append-add ps qs f.0)) (pushes-append most old mid new ps ts (take f.0 qs) f.1 h f.2))
+pub first_later : (still : Type 0) (most : ℕ) (old mid new : States) (ps : List (Key × State)) (ts : List Told) (qs : List (Key × State)) → Pushes most old ps ts mid → PushesFirst still most mid qs new → PushesFirst still most old (ps ++ qs) new
+first_later still most old mid new ps ts qs h f = (length ps + f.0, ts ++ f.1, f.2, subst (λ (xs : List (Key × State)). Pushes most old xs (ts ++ f.1) f.2) (sym (take-append-add ps qs f.0)) (pushes-append most old mid f.2 ps ts (take f.0 qs) f.1 h f.3), f.4)

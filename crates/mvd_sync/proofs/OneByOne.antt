@@ -1,6 +1,6 @@
 -- Questions one after the other.
 use Rattle.std.proofs.Common.{◌≡◌, ◌≢◌, ◌⊎◌, inl, inr, ℕ, suc, ◌+◌, ◌<◌, ◌≤◌, List, [], ◌∷◌, ◌++◌, length, take, get_or, refl, sym, ap, subst, ◌∙◌, arith, length-append}
-use Rattle.std.specs.Prelude.{Result, Ok, Err, IfErr, IfOk, OnOk, IsErr}
+use Rattle.std.specs.Prelude.{Result, Ok, Err, IfErr, IfOk, OnErr, OnOk, IsErr}
 use Rattle.std.specs.Result.{IsErrAnd}
 use Rattle.std.proofs.lemmas.Result.{err_from_is_err_and}
 use Rattle.std.proofs.lemmas.List.{length-take-le, take_more}
@@ -56,6 +56,9 @@ both_ok P Q (Err x) p q = tt
 -- the error that a `?` hands on
 pub at_err : {X : Type 0} (Q : Refusal → Type 0) (r : Result X Refusal) (P : Refusal → Type 0) → IsErr r × IsErrAnd r P → ((e : Refusal) → P e → Q e) → IfErr r Q
 at_err Q r P h f = let p = err_from_is_err_and r h.1 in subst (λ r. IfErr r Q) (sym p.1) (f p.0 p.2)
+
+pub on_err : {X Q : Type 0} (r : Result X Refusal) (P : Refusal → Type 0) → IsErr r × IsErrAnd r P → Q → OnErr r Q
+on_err {X} {Q} r P h q = let p = err_from_is_err_and r h.1 in subst (λ r. OnErr r Q) (sym p.1) q
 
 pub at_err_same : {X : Type 0} (Q : Refusal → Type 0) (r : Result X Refusal) (P : Refusal → Type 0) (x : Refusal) → IsErr r × IsErrAnd r P → ((e : Refusal) → P e → e ≡ x) → Q x → IfErr r Q
 at_err_same Q r P x h f q = at_err Q r P h (λ e p. subst Q (sym (f e p)) q)

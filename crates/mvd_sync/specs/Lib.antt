@@ -1,4 +1,5 @@
 pub mod Links
+pub mod LinkWindows
 pub mod Olds
 pub mod Session
 pub mod Sides

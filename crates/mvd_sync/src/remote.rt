@@ -1,9 +1,14 @@
 //! A site at the other end of a connection.
+mod answer;
+mod many;
+mod window;
+
 ghost use Rattle.std.specs.Prelude.{◌≡◌, ◌⊎◌, IfOk, MatchResult, None, Some, Ok, Err, refl};
 ghost use Rattle.mvd_dots.specs.declared.refusals.Refusal.{Refusal};
 ghost use Rattle.mvd_wire.specs.declared.request.Request.TheVariants.{Get, Node, Bucket, Push, Bye};
 ghost use Rattle.mvd_wire.specs.declared.reply.Reply.TheVariants.{State as Shown, Done, Digests as Told, Keys, Refused};
-ghost use Rattle.mvd_sync.specs.Links.{Asks, Refuses, SendsFrame, Sends, answered_by, link};
+ghost use Rattle.mvd_sync.specs.LinkWindows.{AsksAll, RefusesAll, frames_of};
+ghost use Rattle.mvd_sync.specs.Links.{Asks, ReadsReply, Refuses, SendsFrame, Sends, answered_by, link};
 ghost use Rattle.mvd_sync.specs.Sides.{Stays, stays_on};
 ghost use Rattle.mvd_wire.specs.Codec.{Gives};
 ghost use Rattle.mvd_wire.specs.Replies.{kind_of};
@@ -12,7 +17,6 @@ ghost use Rattle.std.specs.FinMap.{empty};
 ghost use Rattle.std.specs.Option.{option_copied};
 
 use crate::peer::{Page, Peer};
-use crate::windows::room_for;
 use mvd_dots::Refusal;
 use mvd_keys::{Key, KeyState, Path};
 use mvd_wire::{
@@ -57,30 +61,6 @@ fn told(reply: &Reply) -> Refusal
     }
 }
 
-/// The frame of one more request of a window, or why it has none; want of memory ends the window before anything is sent.
-fn add_frame(
-    frames: &mut Vec<Result<Vec<u8>, Refusal>>,
-    frame: Result<Vec<u8>, Refusal>,
-) -> Result<(), Refusal> {
-    if let Err(Refusal::Memory) = frame {
-        return Err(Refusal::Memory);
-    }
-    frames.push(frame)?;
-    Ok(())
-}
-
-/// The refusal that a reply of a window tells, or why it is none. A side that tells that it is broken refuses the whole window.
-fn refusal_of(reply: Result<Reply, Refusal>) -> Result<Refusal, Refusal> {
-    let refusal = match reply {
-        Ok(reply) => told(&reply),
-        Err(refusal) => refusal,
-    };
-    if refusal == Refusal::Broken {
-        return Err(refusal);
-    }
-    Ok(refusal)
-}
-
 impl<R: Read + Drop, W: Write + Drop> Remote<R, W> {
     pub fn new(alloc: Global, reader: R, writer: W) -> Self
         ensures reader { result.reader ≡ reader }
@@ -110,13 +90,21 @@ impl<R: Read + Drop, W: Write + Drop> Remote<R, W> {
     }
 
     /// The link itself refuses, from now on.
-    fn breaks(&mut self, refusal: Refusal) -> Refusal {
+    fn breaks(&mut self, refusal: Refusal) -> Refusal
+        ensures refused { (self.new.refused ≡ Some refusal) × (result ≡ refusal) }
+        ensures kept { (self.new.reader ≡ self.old.reader) × (self.new.writer ≡ self.old.writer) }
+    {
         self.refused = Some(refusal);
         refusal
     }
 
     /// Reads a reply, which is of this kind or a refusal.
-    fn read(&mut self, kind: u8) -> Result<Reply, Refusal> {
+    fn read(&mut self, kind: u8) -> Result<Reply, Refusal>
+        requires { self.old.refused ≡ None }
+        ensures reads { ReadsReply (R.remaining self.old.reader) (R.remaining self.new.reader) kind self.new.refused result }
+        ensures of_kind { IfOk result (λ reply. (kind_of reply ≡ kind) ⊎ (kind_of reply ≡ 0xEE)) }
+        ensures writer { self.new.writer ≡ self.old.writer }
+    {
         let came = match read_frame(self.alloc, &mut self.reader) {
             Ok(Some(came)) => came,
             Ok(None) => return Err(self.breaks(Refusal::Truncated)),
@@ -146,42 +134,6 @@ impl<R: Read + Drop, W: Write + Drop> Remote<R, W> {
             Ok(()) => self.read(kind),
             Err(refusal) => Err(self.breaks(refusal)),
         }
-    }
-
-    /// Writes all frames of a window.
-    fn write_all(&mut self, frames: &[Result<Vec<u8>, Refusal>]) -> Result<(), Refusal> {
-        for frame in frames {
-            if let Ok(frame) = frame
-                && let Err(refusal) = write_frame(&mut self.writer, frame)
-            {
-                return Err(self.breaks(refusal));
-            }
-        }
-        Ok(())
-    }
-
-    /// Writes all frames of a window, and then reads all replies, each of this kind or a refusal, also after one was a refusal. A
-    /// request that has no frame is answered by the refusal of its encoding, and nothing is sent for it.
-    fn send_all(
-        &mut self,
-        frames: &[Result<Vec<u8>, Refusal>],
-        kind: u8,
-    ) -> Result<Vec<Result<Reply, Refusal>>, Refusal> {
-        let mut replies = room_for(self.alloc, frames.len())?;
-        self.write_all(frames)?;
-        for frame in frames {
-            let reply = match frame {
-                Ok(_) => self.read(kind),
-                Err(refusal) => Err(*refusal),
-            };
-            if let Some(refusal) = self.refused {
-                return Err(refusal);
-            }
-            if replies.push(reply).is_err() {
-                return Err(self.breaks(Refusal::Memory));
-            }
-        }
-        Ok(replies)
     }
 
     /// Asks one question: writes just the frame of the request, and reads just one frame, which spells the reply. After a
@@ -283,92 +235,6 @@ impl<R: Read + Drop, W: Write + Drop> Remote<R, W> {
             Ok(reply) => Err(told(&reply)),
             Err(refusal) => Err(refusal),
         }
-    }
-
-    /// The digests of several nodes, asked at once.
-    pub fn nodes(&mut self, paths: &[Path]) -> Result<Vec<Result<Digests, Refusal>>, Refusal> {
-        if let Some(refusal) = self.refused {
-            return Err(refusal);
-        }
-        let mut frames = room_for(self.alloc, paths.len())?;
-        for path in paths {
-            add_frame(&mut frames, encode_node(self.alloc, path))?;
-        }
-        let replies = self.send_all(&frames, 0xA7)?;
-        let mut told = room_for(self.alloc, replies.len())?;
-        for reply in replies {
-            told.push(match reply {
-                Ok(Reply::Digests(digests)) => Ok(digests),
-                other => Err(refusal_of(other)?),
-            })?;
-        }
-        Ok(told)
-    }
-
-    /// Pages of several buckets, asked at once.
-    pub fn pages(
-        &mut self,
-        asked: &[(Path, Option<Key>)],
-    ) -> Result<Vec<Result<Page, Refusal>>, Refusal> {
-        if let Some(refusal) = self.refused {
-            return Err(refusal);
-        }
-        let mut frames = room_for(self.alloc, asked.len())?;
-        for (path, after) in asked {
-            add_frame(&mut frames, encode_bucket(self.alloc, path, after))?;
-        }
-        let replies = self.send_all(&frames, 0xA8)?;
-        let mut told = room_for(self.alloc, replies.len())?;
-        for reply in replies {
-            told.push(match reply {
-                Ok(Reply::Keys(keys, more)) => Ok((keys.into_vec(), more)),
-                other => Err(refusal_of(other)?),
-            })?;
-        }
-        Ok(told)
-    }
-
-    /// The states that the site has of several keys, asked at once.
-    pub fn get_all(&mut self, keys: &[Key]) -> Result<Vec<Result<KeyState, Refusal>>, Refusal> {
-        if let Some(refusal) = self.refused {
-            return Err(refusal);
-        }
-        let mut frames = room_for(self.alloc, keys.len())?;
-        for key in keys {
-            add_frame(&mut frames, encode_get(self.alloc, key))?;
-        }
-        let replies = self.send_all(&frames, 0xA1)?;
-        let mut told = room_for(self.alloc, replies.len())?;
-        for reply in replies {
-            told.push(match reply {
-                Ok(Reply::State(state)) => Ok(state),
-                other => Err(refusal_of(other)?),
-            })?;
-        }
-        Ok(told)
-    }
-
-    /// Joins several states to those that the site has of their keys, all sent at once.
-    pub fn push_all(
-        &mut self,
-        pairs: &[(Key, KeyState)],
-    ) -> Result<Vec<Result<(), Refusal>>, Refusal> {
-        if let Some(refusal) = self.refused {
-            return Err(refusal);
-        }
-        let mut frames = room_for(self.alloc, pairs.len())?;
-        for (key, state) in pairs {
-            add_frame(&mut frames, encode_push(self.alloc, key, state))?;
-        }
-        let replies = self.send_all(&frames, 0xA3)?;
-        let mut told = room_for(self.alloc, replies.len())?;
-        for reply in replies {
-            told.push(match reply {
-                Ok(Reply::Done) => Ok(()),
-                other => Err(refusal_of(other)?),
-            })?;
-        }
-        Ok(told)
     }
 
     /// Ends the connection.

@@ -52,7 +52,7 @@ returns-in_err-inner-clause-ended g c =
     let was : c.in-Some.answer ≡ Ok c.in_ok-answer.field-0 = c.in_ok-answer.was in
     let bad = c.in_err-inner.ensures.none in
     at_err_same _ _ _ c.in_err-inner.field-0.0 c.from_residual-in_err-inner.ensures (λ e is. cc) (ended_by s c.args.paths.now c.args.left.now c.take-taken.new.left c.take-taken.result c.args.side.now c.nodes.new.self c.take-taken.ensures _ _ asked.count
-    (of_answer bad.0 (λ t. not_without (digests (g.P.Peer.states c.args.side.now)) (take c.take-taken.result c.args.paths.now) c.in_ok-told.told.items (length c.loop-answer.yielded) c.in_ok-answer.field-0 (each-take _ _ _ c.requires) (asked.right t) turn.0 (sym was ∙ turn.1 ∙ ap (λ a. get_or c.in_ok-told.told.items (length c.loop-answer.yielded) a) was) bad.1))
+    (of_answer bad.0 (λ t. not_without (digests (g.P.Peer.states c.args.side.now)) (take c.take-taken.result c.args.paths.now) c.in_ok-told.told.items (length c.loop-answer.yielded) c.in_ok-answer.field-0 (each-take _ _ _ c.requires.inner) (asked.right t) turn.0 (sym was ∙ turn.1 ∙ ap (λ a. get_or c.in_ok-told.told.items (length c.loop-answer.yielded) a) was) bad.1))
     (λ _ e. let q = bad.0 in absurd (cc)) (λ t. let k = c.nodes.ensures.kept t in record { still = k.0; states = k.1 }))
 
 pub returns-in_err-push-clause-ended : goal.returns-in_err-push-clause-ended
@@ -69,4 +69,4 @@ returns-clause-told g c =
     let made = subst (λ (ts : List (Result Digests Refusal)). ForEach (Passes IsNodeOf) ts c.loop-answer.nodes.items) (sym (map-id c.loop-answer.yielded) ∙ end.0) c.loop-answer.invariant in
     answered_all s c.args.paths.now c.args.left.now c.take-taken.new.left c.take-taken.result c.args.side.now c.nodes.new.self c.take-taken.ensures _ _ _ c.in_ok-are_all.ensures.all asked.count
     (passed _ _ _ IsNodeOf _ (λ q a b may told is. told) _ _ _ asked.may asked.told made)
-    (λ t. (let k = c.nodes.ensures.kept t in record { still = k.0; states = k.1 }, inner_right (digests (g.P.Peer.states c.args.side.now)) _ _ _ _ _ (each-take _ _ _ c.requires) (asked.right t) asked.told made))
+    (λ t. (let k = c.nodes.ensures.kept t in record { still = k.0; states = k.1 }, inner_right (digests (g.P.Peer.states c.args.side.now)) _ _ _ _ _ (each-take _ _ _ c.requires.inner) (asked.right t) asked.told made))

@@ -22,7 +22,7 @@ either_false true b e f = absurd (true≢false e)
 either_false false b e f = f
 
 -- what is not in a list is not in a part of it
-filtered : (Q : Done → Bool) (k : List ℕ) (ds : List Done) → is_member (keys_done ds) k ≡ false → is_member (keys_done (filter Q ds)) k ≡ false
+pub filtered : (Q : Done → Bool) (k : List ℕ) (ds : List Done) → is_member (keys_done ds) k ≡ false → is_member (keys_done (filter Q ds)) k ≡ false
 filtered Q k [] none = refl
 filtered Q k (d ∷ ds) none =
     let rest = filtered Q k ds (or_right (eq_by_cmp (slice_cmp nat_cmp) k d.key) (is_member (keys_done ds) k) none) in
@@ -32,7 +32,7 @@ filtered Q k (d ∷ ds) none =
     ]
 
 -- this of a key in the part, and that of any other
-member_at : (Q : Done → Bool) (P N : List ℕ → Type 0) (k : List ℕ) (ds : List Done) → AreDistinct (keys_done ds) → Each (λ d. MatchBool (Q d) (P d.key) (N d.key)) ds → (is_member (keys_done ds) k ≡ false → N k) → MatchBool (is_member (keys_done (filter Q ds)) k) (P k) (N k)
+pub member_at : (Q : Done → Bool) (P N : List ℕ → Type 0) (k : List ℕ) (ds : List Done) → AreDistinct (keys_done ds) → Each (λ d. MatchBool (Q d) (P d.key) (N d.key)) ds → (is_member (keys_done ds) k ≡ false → N k) → MatchBool (is_member (keys_done (filter Q ds)) k) (P k) (N k)
 member_at Q P N k [] distinct each none = none refl
 member_at Q P N k (d ∷ ds) distinct each none =
     elim (eq_by_cmp (slice_cmp nat_cmp) k d.key) as (λ t. eq_by_cmp (slice_cmp nat_cmp) k d.key ≡ t → MatchBool (is_member (keys_done (cond (Q d) (d ∷ filter Q ds) (filter Q ds))) k) (P k) (N k)) [

@@ -33,3 +33,6 @@ pub mod ManyPushes
 pub mod Inner
 pub mod Pushing
 pub mod Turns
+pub mod Cut
+pub mod Stages
+pub mod CutOff

@@ -131,12 +131,12 @@ pub data Pulled (most : ℕ) (a b new : States) (key : List ℕ) (give : Option 
   took : refused ≡ None → clashes (state_at a key) (state_at b key) ≡ false → state_at new key ≡ join (state_at a key) (state_at b key) → IsGive (state_at a key) (state_at b key) give → Pulled most a b new key give refused
 
 -- what the local side was to take
-data Wants (s t : State) (w : Option State) (give : Option State) (refused : Option (Side × Refusal)) : Type 0 where
+pub data Wants (s t : State) (w : Option State) (give : Option State) (refused : Option (Side × Refusal)) : Type 0 where
   nothing : w ≡ None → clashes s t ≡ true → refused ≡ Some (AtLocal, DotClash) → Wants s t w give refused
   included : w ≡ None → join s t ≡ s → clashes s t ≡ false → refused ≡ None → IsGive s t give → Wants s t w give refused
   theirs : w ≡ Some t → clashes s t ≡ false → refused ≡ None → IsGive s t give → Wants s t w give refused
 
-wants_local : (s t : State) (m : Meeting) → Plan s t m → Wants s t (wanted AtLocal m) m.give m.refused
+pub wants_local : (s t : State) (m : Meeting) → Plan s t m → Wants s t (wanted AtLocal m) m.give m.refused
 wants_local s t m (clashing h r) = nothing (ap (λ o. cond (is_some o) None m.pull) r) h r
 wants_local s t m (meeting r h (inl p) g) = theirs (ap (λ o. cond (is_some o) None m.pull) r ∙ p) h r g
 wants_local s t m (meeting r h (inr p) g) = included (ap (λ o. cond (is_some o) None m.pull) r ∙ p.0) p.1 h r g
@@ -180,12 +180,12 @@ module _ (most : ℕ) (a b x new : States) where
 
 -- ---- after the peer
 
-data Wants_peer (most : ℕ) (a b a' : States) (key : List ℕ) (w : Option State) (refused : Option (Side × Refusal)) : Type 0 where
+pub data Wants_peer (most : ℕ) (a b a' : States) (key : List ℕ) (w : Option State) (refused : Option (Side × Refusal)) : Type 0 where
   not_asked : (refusal : Refusal) → w ≡ None → refused ≡ Some (AtLocal, refusal) → get a' key ≡ get a key → CannotMeet most a b key refusal → Wants_peer most a b a' key w refused
   it_has : w ≡ None → refused ≡ None → clashes (state_at a key) (state_at b key) ≡ false → state_at a' key ≡ join (state_at a key) (state_at b key) → join (state_at a key) (state_at b key) ≡ state_at b key → Wants_peer most a b a' key w refused
   mine : w ≡ Some (state_at a key) → refused ≡ None → clashes (state_at a key) (state_at b key) ≡ false → state_at a' key ≡ join (state_at a key) (state_at b key) → Wants_peer most a b a' key w refused
 
-wants_peer : (most : ℕ) (a b a' : States) (m : Meeting) → Pulled most a b a' m.key m.give m.refused → Wants_peer most a b a' m.key (wanted AtPeer m) m.refused
+pub wants_peer : (most : ℕ) (a b a' : States) (m : Meeting) → Pulled most a b a' m.key m.give m.refused → Wants_peer most a b a' m.key (wanted AtPeer m) m.refused
 wants_peer most a b a' m (left refusal r same why) = not_asked refusal (ap (λ o. cond (is_some o) None m.give) r) r same why
 wants_peer most a b a' m (took r h is (inl g)) = mine (ap (λ o. cond (is_some o) None m.give) r ∙ g) r h is
 wants_peer most a b a' m (took r h is (inr g)) = it_has (ap (λ o. cond (is_some o) None m.give) r ∙ g.0) r h is g.1

@@ -155,20 +155,20 @@ module _ (ml mp : ℕ) (number : Option ℕ) (a b x y x' y' : States) (done : Li
   pub all_planned : ArePlanned number a b es ms
   all_planned = planned number a b x y es mine theirs ms next.each still_next p q plans
 
-  still_keys : Each (λ (m : Meeting). (get x m.key ≡ get a m.key) × (get y m.key ≡ get b m.key)) ms
+  pub still_keys : Each (λ (m : Meeting). (get x m.key ≡ get a m.key) × (get y m.key ≡ get b m.key)) ms
   still_keys = each_meeting (λ k. (get x k ≡ get a k) × (get y k ≡ get b k)) ms (subst (Each (λ k. (get x k ≡ get a k) × (get y k ≡ get b k))) (sym all_planned.keys)
       (Each-weaker (λ k. is_member (keys_done done) k ≡ false) (λ k. (get x k ≡ get a k) × (get y k ≡ get b k)) (λ k no. so.rest k no) (keys_next es) fresh))
 
-  here : Each (λ (m : Meeting). (get a m.key ≢ None) ⊎ (get b m.key ≢ None)) ms
+  pub here : Each (λ (m : Meeting). (get a m.key ≢ None) ⊎ (get b m.key ≢ None)) ms
   here = Each-weaker (IsPlanned number a b) (λ (m : Meeting). (get a m.key ≢ None) ⊎ (get b m.key ≢ None)) (λ m h. one_held a b m.key h.differ) ms all_planned.each
 
-  same_x : Each (λ (m : Meeting). get x m.key ≡ get a m.key) ms
+  pub same_x : Each (λ (m : Meeting). get x m.key ≡ get a m.key) ms
   same_x = Each-weaker (λ (m : Meeting). (get x m.key ≡ get a m.key) × (get y m.key ≡ get b m.key)) (λ (m : Meeting). get x m.key ≡ get a m.key) (λ m h. h.0) ms still_keys
 
   short_b : Each (λ (m : Meeting). is_too_large (state_at b m.key) ≡ false) ms
   short_b = Each-weaker (λ (m : Meeting). (get x m.key ≡ get a m.key) × (get y m.key ≡ get b m.key)) (λ (m : Meeting). is_too_large (state_at b m.key) ≡ false) (λ m h. ap is_too_large (sym (same_state y b m.key h.1)) ∙ short_at y held_b none m.key) ms still_keys
 
-  distinct_keys : AreDistinct (meeting_keys ms)
+  pub distinct_keys : AreDistinct (meeting_keys ms)
   distinct_keys = subst AreDistinct (sym all_planned.keys) (distinct_later (keys_done done) (keys_next es) next.distinct)
 
   module _ (first : Pushes ml x (filter_map (pair_of AtLocal) ms) told x') (one : Each IsOfKey told) where
@@ -180,7 +180,7 @@ module _ (ml mp : ℕ) (number : Option ℕ) (a b x y x' y' : States) (done : Li
     pub pulled : Each (λ (m : Meeting). Pulled ml a b x' m.key m.give m.refused) (noted AtLocal (map (taken_from AtLocal) ms) told)
     pulled = local_after ml a b x x' ms told same_x short_b one (Each-weaker (IsPlanned number a b) (λ (m : Meeting). Plan (state_at a m.key) (state_at b m.key) m) (λ m h. h.plan) ms all_planned.each) local_phase.took
 
-    facts : Each (λ (m : Meeting). (get a m.key ≢ get b m.key) × (get y m.key ≡ get b m.key) × (is_too_large (state_at a m.key) ≡ false) × IsValid (state_at a m.key) × IsValid (state_at b m.key)) ms
+    pub facts : Each (λ (m : Meeting). (get a m.key ≢ get b m.key) × (get y m.key ≡ get b m.key) × (is_too_large (state_at a m.key) ≡ false) × IsValid (state_at a m.key) × IsValid (state_at b m.key)) ms
     facts = Each-weaker (λ (m : Meeting). IsPlanned number a b m × ((get x m.key ≡ get a m.key) × (get y m.key ≡ get b m.key))) (λ (m : Meeting). (get a m.key ≢ get b m.key) × (get y m.key ≡ get b m.key) × (is_too_large (state_at a m.key) ≡ false) × IsValid (state_at a m.key) × IsValid (state_at b m.key))
         (λ m h. (
           h.0.differ,

@@ -117,11 +117,15 @@ fn carry<S: Peer>(
         IfErr result
         (λ refusal. ComesToEnd s (TakesFirst s pairs side.old side.new refusal) (length pairs) left.old
         side.old side.new refusal) }
+    ensures alone { IfErr result (λ _. filter_map (pair_of name) meetings.items ≡ [] → side.new ≡ side.old) }
 {
     let (meetings, pairs) = match taken(alloc, meetings, name) {
         Ok(both) => both,
         Err(refusal) => return Err(refusal),
     };
+    if pairs.is_empty() {
+        return note(alloc, meetings, name, Vec::new(alloc));
+    }
     let told = ask_pushes(side, left, &pairs)?;
     note(alloc, meetings, name, told)
 }

@@ -31,7 +31,7 @@ take_short zero xs = omega arith
 take_short (suc n) [] = omega arith
 take_short (suc n) (x ∷ xs) = let rest = take_short n xs in omega (arith, rest)
 
-given_append : (xs ys : List Done) → given_keys (xs ++ ys) ≡ given_keys xs ++ given_keys ys
+pub given_append : (xs ys : List Done) → given_keys (xs ++ ys) ≡ given_keys xs ++ given_keys ys
 given_append xs ys = ap keys_done (filter-append (λ d. is_given d.refused) xs ys) ∙ map-append (λ d. d.key) (filter (λ d. is_given d.refused) xs) (filter (λ d. is_given d.refused) ys)
 
 pub adds_none : (e : Exchanging) → Adds [] e e
@@ -63,7 +63,7 @@ adds_on xs ys e f g p q = record {
 abbrev count_if : Bool → ℕ
 count_if b = cond b 1 0
 
-given_one : (d : Done) → length (given_keys (d ∷ [])) ≡ count_if (is_given d.refused)
+pub given_one : (d : Done) → length (given_keys (d ∷ [])) ≡ count_if (is_given d.refused)
 given_one d = elim (is_given d.refused) as (λ b. length (keys_done (cond b (d ∷ []) [])) ≡ count_if b) [ true ↦ refl | false ↦ refl ]
 
 old_one : (d : Done) → length (filter (λ (d : Done). d.is_old) (d ∷ [])) ≡ count_if d.is_old
@@ -100,12 +100,12 @@ adds_left d r e f some number waiting keys refused named full old =
       older = let n = old_one d in omega (arith, n, old);
     }
 
-left_one : (d : Done) → length (left_keys (d ∷ [])) ≡ count_if (is_some d.refused)
+pub left_one : (d : Done) → length (left_keys (d ∷ [])) ≡ count_if (is_some d.refused)
 left_one d =
     let named : Side × Refusal → Left = λ r. (d.key, r) in
     elim d.refused as (λ o. length (cons_option (option_map named o) []) ≡ count_if (is_some o)) [ None ↦ refl | Some r ↦ refl ]
 
-one_of_two : (b : Bool) → count_if (not b) + count_if b ≡ 1
+pub one_of_two : (b : Bool) → count_if (not b) + count_if b ≡ 1
 one_of_two true = refl
 one_of_two false = refl
 

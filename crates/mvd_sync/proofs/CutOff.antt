@@ -23,7 +23,7 @@ use Rattle.mvd_sync.proofs.Joined.{filtered, joins_of, member_at}
 use Rattle.mvd_sync.proofs.Keys.{Each-weaker, member_has}
 use Rattle.mvd_sync.proofs.Pushes.{tied}
 use Rattle.mvd_sync.proofs.Taking.{Ask, Phase, ask_keys, pairs_of, phase, same_state}
-use Rattle.mvd_sync.proofs.Window.{IsPlanned, IsState, Plan, Pulled, Wants, Wants_peer, asked_keys, asks_of, included, it_has, left, mine as asks_mine, not_asked, nothing, pairs_same, theirs as asks_theirs, took, wants_local, wants_peer}
+use Rattle.mvd_sync.proofs.Window.{ArePlanned, IsPlanned, IsState, Plan, Pulled, Wants, Wants_peer, asked_keys, asks_of, included, it_has, left, mine as asks_mine, not_asked, nothing, pairs_same, theirs as asks_theirs, took, wants_local, wants_peer}
 use Rattle.mvd_sync.proofs.Windowed.{all_planned, distinct_keys, each_both, each_noted, facts, from_so_far, here, keys_noted, keys_of_done, local_phase, meeting_keys, not_after, not_before, pulled, same_x}
 
 Told : Type 0
@@ -115,6 +115,7 @@ met_local most a b x x' m differ same (took r h is g) =
 module _ (ml mp : ℕ) (number : Option ℕ) (a b x y x' y' : States) (done : List Done) (es : List Entry) (mine theirs : List State) (ms : List Meeting) (told told' : List (Result (Unit {0}) Refusal))
     (so : SoFar ml mp number a b x y done) (next : AreNext a b done es) (held_a : AreHeld x) (held_b : AreHeld y) (none : is_too_large empty_state ≡ false)
     (p : ForEach (IsState x) (held_keys AtLocal es) mine) (q : ForEach (IsState y) (held_keys AtPeer es) theirs) (plans : ArePlans number es mine theirs ms) where
+  plan_of_all : ArePlanned number a b es ms
   plan_of_all = all_planned ml mp number a b x y x' y' done es mine theirs ms told told' so next held_a held_b none p q plans
 
   keys_are : meeting_keys ms ≡ keys_next es

@@ -36,3 +36,6 @@ pub mod Turns
 pub mod Cut
 pub mod Stages
 pub mod CutOff
+pub mod Exchanged
+pub mod Exchanging
+pub mod Telling

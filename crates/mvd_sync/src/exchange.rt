@@ -227,14 +227,21 @@ impl Exchange {
             result }
     {
         let entries = std::mem::replace(&mut self.waiting, Vec::new(self.alloc));
-        let meetings = exchange_all(self.alloc, self.number, local, peer, left, entries)?;
-        self.tell(meetings).map_err(SyncFault::Local)
+        let meetings = match exchange_all(self.alloc, self.number, local, peer, left, entries) {
+            Ok(meetings) => meetings,
+            Err(fault) => return Err(fault),
+        };
+        match self.tell(meetings) {
+            Ok(()) => Ok(()),
+            Err(refusal) => Err(SyncFault::Local(refusal)),
+        }
     }
 
     /// Counts the keys of a window, and names the first that were refused.
     fn tell(&mut self, meetings: Vec<Meeting>) -> Result<(), Refusal>
         requires room { self.old.keys + self.old.refused + length meetings.items < 2 ^ 64 }
         ensures adds { OnOk result (Adds (map done_of meetings.items) self.old self.new) }
+        ensures number { self.new.number ≡ self.old.number }
         ensures memory { IfErr result (λ refusal. refusal ≡ Refusal.Memory) }
     {
         for meeting in meetings {
@@ -252,6 +259,7 @@ impl Exchange {
     ) -> Result<(), Refusal>
         requires room { self.old.keys + self.old.refused + 1 < 2 ^ 64 }
         ensures adds { OnOk result (Adds (record { key = key; is_old = is_old; refused = refused } ∷ []) self.old self.new) }
+        ensures number { self.new.number ≡ self.old.number }
         ensures memory { IfErr result (λ refusal. refusal ≡ Refusal.Memory) }
     {
         match refused {
@@ -271,7 +279,7 @@ impl Exchange {
     /// Counts a key that was refused, and names it if it is among the first.
     fn leave(&mut self, key: Key, refused: (Side, Refusal)) -> Result<(), Refusal>
         requires room { self.old.keys + self.old.refused + 1 < 2 ^ 64 }
-        ensures number { OnOk result (self.new.number ≡ self.old.number) }
+        ensures number { self.new.number ≡ self.old.number }
         ensures waiting { OnOk result (self.new.waiting ≡ self.old.waiting) }
         ensures keys { OnOk result (self.new.keys ≡ self.old.keys) }
         ensures refused { OnOk result (self.new.refused ≡ self.old.refused + 1) }

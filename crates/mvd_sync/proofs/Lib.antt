@@ -39,3 +39,4 @@ pub mod CutOff
 pub mod Exchanged
 pub mod Exchanging
 pub mod Telling
+pub mod Sessions

@@ -60,20 +60,20 @@ either_no true b e f = absurd (true≢false e)
 either_no false b e f = f
 
 took_in : (k : List ℕ) (qs : List Ask) (ts : List Told) → is_member (ask_keys qs) k ≡ false → is_member (took_keys qs ts) k ≡ false
-took_in k [] ts no = refl
-took_in k ((key, None) ∷ qs) ts no = took_in k qs ts (or_right (eq_by_cmp (slice_cmp nat_cmp) k key) (is_member (ask_keys qs) k) no)
-took_in k ((key, Some s) ∷ qs) [] no = refl
-took_in k ((key, Some s) ∷ qs) (Ok done ∷ ts) no =
-    either_no (eq_by_cmp (slice_cmp nat_cmp) k key) (is_member (took_keys qs ts) k) (or_left (eq_by_cmp (slice_cmp nat_cmp) k key) (is_member (ask_keys qs) k) no)
-    (took_in k qs ts (or_right (eq_by_cmp (slice_cmp nat_cmp) k key) (is_member (ask_keys qs) k) no))
-took_in k ((key, Some s) ∷ qs) (Err refusal ∷ ts) no = took_in k qs ts (or_right (eq_by_cmp (slice_cmp nat_cmp) k key) (is_member (ask_keys qs) k) no)
+took_in k [] ts out = refl
+took_in k ((key, None) ∷ qs) ts out = took_in k qs ts (or_right (eq_by_cmp (slice_cmp nat_cmp) k key) (is_member (ask_keys qs) k) out)
+took_in k ((key, Some s) ∷ qs) [] out = refl
+took_in k ((key, Some s) ∷ qs) (Ok done ∷ ts) out =
+    either_no (eq_by_cmp (slice_cmp nat_cmp) k key) (is_member (took_keys qs ts) k) (or_left (eq_by_cmp (slice_cmp nat_cmp) k key) (is_member (ask_keys qs) k) out)
+    (took_in k qs ts (or_right (eq_by_cmp (slice_cmp nat_cmp) k key) (is_member (ask_keys qs) k) out))
+took_in k ((key, Some s) ∷ qs) (Err refusal ∷ ts) out = took_in k qs ts (or_right (eq_by_cmp (slice_cmp nat_cmp) k key) (is_member (ask_keys qs) k) out)
 
 -- what is not among the keys asked is not among those taken
 pub took_asked : (k : List ℕ) (qs : List Ask) (ts : List Told) → is_member (took_keys qs ts) k ≡ true → is_member (ask_keys qs) k ≡ true
 took_asked k qs ts h =
     elim (is_member (ask_keys qs) k) as (λ t. is_member (ask_keys qs) k ≡ t → t ≡ true) [
       | true ↦ λ _. refl
-      | false ↦ λ no. absurd (true≢false (sym h ∙ took_in k qs ts no))
+      | false ↦ λ out. absurd (true≢false (sym h ∙ took_in k qs ts out))
     ] refl
 
 -- of two sides that held `a` and `b`, one that holds `x` is asked to take what makes the join
@@ -113,9 +113,9 @@ module _ (many : Type 0) (a b x new : States) where
       subst (λ t. IsMetBy (t || rest) k) (sym e) (subst (λ q. CanMeet a b q × (state_at new q ≡ join (state_at a q) (state_at b q))) (sym same) h)
 
   kept_first : (key k : List ℕ) (t : Bool) → eq_by_cmp (slice_cmp nat_cmp) k key ≡ true → t ≡ false → get new key ≡ get x key → IsMetBy t k
-  kept_first key k t e no h =
+  kept_first key k t e out h =
       let same : k ≡ key = keys_same k key ((Equal-is _).0 e) in
-      subst (λ t. IsMetBy t k) (sym no) (subst (λ q. get new q ≡ get x q) (sym same) h)
+      subst (λ t. IsMetBy t k) (sym out) (subst (λ q. get new q ≡ get x q) (sym same) h)
 
   -- the list with a key, or as it is
   later : (key k : List ℕ) (t : Bool) → eq_by_cmp (slice_cmp nat_cmp) k key ≡ false → IsMetBy t k → IsMetBy (eq_by_cmp (slice_cmp nat_cmp) k key || t) k
@@ -125,23 +125,23 @@ module _ (many : Type 0) (a b x new : States) where
   by_key key k R f g = elim (eq_by_cmp (slice_cmp nat_cmp) k key) as (λ t. eq_by_cmp (slice_cmp nat_cmp) k key ≡ t → R) [ true ↦ λ e. f e | false ↦ λ e. g e ] refl
 
   not_taken : (key k : List ℕ) (qs : List Ask) (ts : List Told) → is_member (ask_keys qs) key ≡ false → eq_by_cmp (slice_cmp nat_cmp) k key ≡ true → is_member (took_keys qs ts) k ≡ false
-  not_taken key k qs ts no e = took_in k qs ts (ap (is_member (ask_keys qs)) (keys_same k key ((Equal-is _).0 e)) ∙ no)
+  not_taken key k qs ts out e = took_in k qs ts (ap (is_member (ask_keys qs)) (keys_same k key ((Equal-is _).0 e)) ∙ out)
 
   pub took_at : (qs : List Ask) (ts : List Told) → AreDistinct (ask_keys qs) → Each (IsAsk a b x) qs → EachTook many x new qs ts → (k : List ℕ) → (is_member (ask_keys qs) k ≡ false → get new k ≡ get x k) → IsMet a b x new (took_keys qs ts) k
   took_at [] ts distinct asks took k rest = rest refl
   took_at ((key, None) ∷ qs) ts distinct asks took k rest =
       by_key key k (IsMet a b x new (took_keys qs ts) k)
       (λ e. kept_first key k (is_member (took_keys qs ts) k) e (not_taken key k qs ts distinct.0 e) took.0)
-      (λ e. took_at qs ts distinct.1 asks.1 took.1 k (λ no. rest (either_no (eq_by_cmp (slice_cmp nat_cmp) k key) (is_member (ask_keys qs) k) e no)))
+      (λ e. took_at qs ts distinct.1 asks.1 took.1 k (λ out. rest (either_no (eq_by_cmp (slice_cmp nat_cmp) k key) (is_member (ask_keys qs) k) e out)))
   took_at ((key, Some s) ∷ qs) [] distinct asks took k rest = absurd took
   took_at ((key, Some s) ∷ qs) (Ok done ∷ ts) distinct asks took k rest =
       by_key key k (IsMet a b x new (key ∷ took_keys qs ts) k)
       (λ e. met_first key k (is_member (took_keys qs ts) k) e (asks.0.0, took.0.1 ∙ asks.0.1))
-      (λ e. later key k (is_member (took_keys qs ts) k) e (took_at qs ts distinct.1 asks.1 took.1 k (λ no. rest (either_no (eq_by_cmp (slice_cmp nat_cmp) k key) (is_member (ask_keys qs) k) e no))))
+      (λ e. later key k (is_member (took_keys qs ts) k) e (took_at qs ts distinct.1 asks.1 took.1 k (λ out. rest (either_no (eq_by_cmp (slice_cmp nat_cmp) k key) (is_member (ask_keys qs) k) e out))))
   took_at ((key, Some s) ∷ qs) (Err refusal ∷ ts) distinct asks took k rest =
       by_key key k (IsMet a b x new (took_keys qs ts) k)
       (λ e. kept_first key k (is_member (took_keys qs ts) k) e (not_taken key k qs ts distinct.0 e) took.0.0)
-      (λ e. took_at qs ts distinct.1 asks.1 took.1 k (λ no. rest (either_no (eq_by_cmp (slice_cmp nat_cmp) k key) (is_member (ask_keys qs) k) e no)))
+      (λ e. took_at qs ts distinct.1 asks.1 took.1 k (λ out. rest (either_no (eq_by_cmp (slice_cmp nat_cmp) k key) (is_member (ask_keys qs) k) e out)))
 
 -- ---- more keys are joined
 
@@ -175,7 +175,7 @@ or_later false b e = e
 
 in_either : (ks js : List (List ℕ)) (k : List ℕ) (R : Type 0) → is_member (ks ++ js) k ≡ true → (is_member ks k ≡ true → R) → (is_member js k ≡ true → R) → R
 in_either ks js k R h f g =
-    by_bool (is_member ks k) R f (λ no. g (ap (λ b. b || is_member js k) (sym no) ∙ sym (is_member-append ks js k) ∙ h))
+    by_bool (is_member ks k) R f (λ out. g (ap (λ b. b || is_member js k) (sym out) ∙ sym (is_member-append ks js k) ∙ h))
 
 module _ (a b : States) where
   -- a side had these keys joined, and more are
@@ -189,10 +189,10 @@ module _ (a b : States) where
       (by_bool (is_member ks k) (MatchBool (is_member ks k || is_member js k) J N)
       (λ yes. put_true (is_member ks k || is_member js k) J N (or_true (is_member ks k) (is_member js k) yes)
       (same_state new x k (at_false (is_member js k) M K (apart k yes) (met k)) ∙ at_true (is_member ks k) (state_at x k ≡ join (state_at a k) (state_at b k)) (get x k ≡ get old k) yes (was k)))
-      (λ no. by_bool (is_member js k) (MatchBool (is_member ks k || is_member js k) J N)
+      (λ out. by_bool (is_member js k) (MatchBool (is_member ks k || is_member js k) J N)
       (λ yes. put_true (is_member ks k || is_member js k) J N (or_later (is_member ks k) (is_member js k) yes) (at_true (is_member js k) M K yes (met k)).1)
-      (λ no'. put_false (is_member ks k || is_member js k) J N (either_no (is_member ks k) (is_member js k) no no')
-      (at_false (is_member js k) M K no' (met k) ∙ at_false (is_member ks k) (state_at x k ≡ join (state_at a k) (state_at b k)) (get x k ≡ get old k) no (was k)))))
+      (λ out'. put_false (is_member ks k || is_member js k) J N (either_no (is_member ks k) (is_member js k) out out')
+      (at_false (is_member js k) M K out' (met k) ∙ at_false (is_member ks k) (state_at x k ≡ join (state_at a k) (state_at b k)) (get x k ≡ get old k) out (was k)))))
 
   module _ (x y x' y' : States) (joined given more_joined more_given : List (List ℕ)) (was : (T U : Type 0) → Joins T U a b x y joined given)
       (local_met : (k : List ℕ) → IsMet a b x x' more_joined k) (peer_met : (k : List ℕ) → IsMet a b y y' more_given k)
@@ -200,7 +200,7 @@ module _ (a b : States) where
     apart_given : (k : List ℕ) → is_member given k ≡ true → is_member more_given k ≡ false
     apart_given k h =
         by_bool (is_member more_given k) (is_member more_given k ≡ false)
-        (λ yes. absurd (true≢false (sym (part k yes) ∙ apart k ((was (Unit {0}) (Unit {0})).part k h)))) (λ no. no)
+        (λ yes. absurd (true≢false (sym (part k yes) ∙ apart k ((was (Unit {0}) (Unit {0})).part k h)))) (λ out. out)
 
     pub joins_more : (T U : Type 0) → Joins T U a b x' y' (joined ++ more_joined) (given ++ more_given)
     joins_more T U =

@@ -38,10 +38,10 @@ by_bool false R f g = g refl
 -- the keys that were done are not among those of the window
 not_in : (Q : Done → Bool) (done : List Done) (js : List (List ℕ)) (k : List ℕ) → AreDistinct (keys_done done ++ js) → is_member (keys_done (filter Q done)) k ≡ true → is_member js k ≡ false
 not_in Q done js k distinct h =
-    by_bool (is_member (keys_done done) k) (is_member js k ≡ false) (λ yes. not_after (keys_done done) js k distinct yes) (λ no. absurd (true≢false (sym h ∙ filtered Q k done no)))
+    by_bool (is_member (keys_done done) k) (is_member js k ≡ false) (λ yes. not_after (keys_done done) js k distinct yes) (λ out. absurd (true≢false (sym h ∙ filtered Q k done out)))
 
 no_part : (ks js : List (List ℕ)) (k : List ℕ) → (is_member ks k ≡ true → is_member js k ≡ true) → is_member js k ≡ false → is_member ks k ≡ false
-no_part ks js k f no = by_bool (is_member ks k) (is_member ks k ≡ false) (λ yes. absurd (true≢false (sym (f yes) ∙ no))) (λ n. n)
+no_part ks js k f out = by_bool (is_member ks k) (is_member ks k ≡ false) (λ yes. absurd (true≢false (sym (f yes) ∙ out))) (λ n. n)
 
 given_more : (d : Done) (ds : List Done) (k : List ℕ) → is_member (given_keys ds) k ≡ true → is_member (given_keys (d ∷ ds)) k ≡ true
 given_more d ds k h =
@@ -138,7 +138,7 @@ module _ (ml mp : ℕ) (number : Option ℕ) (a b x y x' y' : States) (done : Li
 
   -- the local side took the first of them
   module _ (n : ℕ) (ts : List (Result (Unit {0}) Refusal)) (mid : States) (first : Pushes ml x (take n (filter_map (pair_of AtLocal) ms)) ts mid) where
-    local_asks : List Ask
+    abbrev local_asks : List Ask
     local_asks = cut n (asks_of AtLocal ms)
 
     local_keys : ask_keys local_asks ≡ meeting_keys ms
@@ -161,19 +161,19 @@ module _ (ml mp : ℕ) (number : Option ℕ) (a b x y x' y' : States) (done : Li
 
     pub cut_local : (T U : Type 0) → Joins T U a b mid y (joined_keys done ++ took_keys local_asks ts) (given_keys done ++ [])
     cut_local = joins_more a b x y mid y (joined_keys done) (given_keys done) (took_keys local_asks ts) [] done_joins
-        (λ k. took_at (Rattle.mvd_sync.specs.Session.AreTooMany ml a b) a b x mid local_asks ts (subst AreDistinct (sym local_keys) distinct) local_good local_cut.took k (λ no. local_cut.rest k no))
+        (λ k. took_at (Rattle.mvd_sync.specs.Session.AreTooMany ml a b) a b x mid local_asks ts (subst AreDistinct (sym local_keys) distinct) local_good local_cut.took k (λ out. local_cut.rest k out))
         (λ k. refl) (λ k h. absurd (true≢false (sym h))) apart_local
 
   -- the local side took all, and the peer the first of them
   module _ (first : Pushes ml x (filter_map (pair_of AtLocal) ms) told x') (one : Each IsOfKey told) (n : ℕ) (ts : List (Result (Unit {0}) Refusal)) (mid : States)
       (second : Pushes mp y (take n (filter_map (pair_of AtPeer) (noted AtLocal (map (taken_from AtLocal) ms) told))) ts mid) where
-    after : List Meeting
+    abbrev after : List Meeting
     after = noted AtLocal (map (taken_from AtLocal) ms) told
 
-    now : List Done
+    abbrev now : List Done
     now = map done_of after
 
-    peer_asks : List Ask
+    abbrev peer_asks : List Ask
     peer_asks = cut n (asks_of AtPeer after)
 
     after_keys : meeting_keys after ≡ meeting_keys ms
@@ -233,10 +233,10 @@ module _ (ml mp : ℕ) (number : Option ℕ) (a b x y x' y' : States) (done : Li
     all_met k = member_at (λ d. is_given d.refused) JoinedAt (λ k. get x' k ≡ get x k) k now (subst AreDistinct (sym (keys_of_done after ∙ after_keys)) distinct)
         (each_done (λ d. MatchBool (is_given d.refused) (JoinedAt d.key) (get x' d.key ≡ get x d.key)) after
         (Each-weaker Both (λ (m : Meeting). MatchBool (is_given m.refused) (JoinedAt m.key) (get x' m.key ≡ get x m.key)) (λ m h. met_local ml a b x x' m h.0.0.0 h.0.1 h.1) after both))
-        (λ no. (local_phase ml mp number a b x y x' y' done es mine theirs ms told told' so next held_a held_b none p q plans first one).rest k (ap (λ ks. is_member ks k) (asked_keys AtLocal ms ∙ keys_are ∙ sym now_keys) ∙ no))
+        (λ out. (local_phase ml mp number a b x y x' y' done es mine theirs ms told told' so next held_a held_b none p q plans first one).rest k (ap (λ ks. is_member ks k) (asked_keys AtLocal ms ∙ keys_are ∙ sym now_keys) ∙ out))
 
     pub cut_peer : (T U : Type 0) → Joins T U a b x' mid (joined_keys done ++ given_keys now) (given_keys done ++ took_keys peer_asks ts)
     cut_peer = joins_more a b x y x' mid (joined_keys done) (given_keys done) (given_keys now) (took_keys peer_asks ts) done_joins all_met
-        (λ k. took_at (Rattle.mvd_sync.specs.Session.AreTooMany mp a b) a b y mid peer_asks ts (subst AreDistinct (sym peer_keys) distinct) peer_good peer_cut.took k (λ no. peer_cut.rest k no))
+        (λ k. took_at (Rattle.mvd_sync.specs.Session.AreTooMany mp a b) a b y mid peer_asks ts (subst AreDistinct (sym peer_keys) distinct) peer_good peer_cut.took k (λ out. peer_cut.rest k out))
         (λ k h. member_has Has (took_keys peer_asks ts) were_given k h)
         (λ k h. filtered (λ d. is_given d.refused) k now (ap (λ ks. is_member ks k) now_keys ∙ not_in (λ d. Rattle.mvd_sync.specs.Exchanges.is_joined d.refused) done (keys_next es) k next.distinct h))

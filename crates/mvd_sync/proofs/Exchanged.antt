@@ -1,5 +1,5 @@
 -- What the keys of a window come to, at each of its ends.
-use Rattle.std.proofs.Common.{◌≡◌, ◌≢◌, ℕ, ◌+◌, ◌*◌, ◌≤◌, List, [], ◌∷◌, ◌++◌, length, map, filter_map, refl, sym, ap, subst, ◌∙◌, arith, Option, le-ltb}
+use Rattle.std.proofs.Common.{◌≡◌, ◌≢◌, ℕ, ◌+◌, ◌*◌, ◌≤◌, List, [], ◌∷◌, ◌++◌, length, map, filter_map, refl, sym, ap, subst, ◌∙◌, arith, false, Option, le-ltb}
 use Rattle.std.specs.Prelude.{Result, Ok, Err, IfErr, OnOk, Vec, take}
 use Rattle.mvd_dots.specs.declared.refusals.Refusal.{Refusal}
 use Rattle.mvd_dots.specs.declared.refusals.Refusal.TheVariants.{Broken}
@@ -45,11 +45,11 @@ all_of_key [] (t ∷ ts) h = absurd h
 all_of_key (p ∷ ps) [] h = absurd h
 all_of_key (p ∷ ps) (t ∷ ts) h = (h.0, all_of_key ps ts h.1)
 
-module _ {L P : Type 0} {A : Type 0} (l : SideOf L) (p : SideOf P) (number : Option ℕ) (entries : List Entry) where
+module _ {L P : Type 0} (l : SideOf L) (p : SideOf P) (number : Option ℕ) (entries : List Entry) where
   -- the questions about the keys came to an end
-  unfoldable pub ends_at_plans : (left left' : Questions) (local local' : L) (peer peer' : P) (fault : SyncFault) → PlanEnds l p (length entries) left local local' peer peer' fault
+  pub ends_at_plans : {A : Type 0} (left left' : Questions) (local local' : L) (peer peer' : P) (fault : SyncFault) → PlanEnds l p (length entries) left local local' peer peer' fault
       → ExchangesAll {A = A} l p number entries left left' local local' peer peer' (Err fault)
-  ends_at_plans left left' local local' peer peer' fault e = record {
+  ends_at_plans {A} left left' local local' peer peer' fault e = record {
     asked_local = e.asked_local;
     asked_peer = e.asked_peer;
     within = e.within;
@@ -101,9 +101,9 @@ module _ {L P : Type 0} {A : Type 0} (l : SideOf L) (p : SideOf P) (number : Opt
     no_pulls silent = pulls l p number entries left left1 local local1 peer peer1 ms plan (λ _ _. ⊥) (λ k s h. silent_gives p.follows p.can_answer peer peer1 (p.can_give k s) silent h)
 
     -- the local side came to an end
-    unfoldable pub ends_at_local : (left' : Questions) (local2 : L) (refusal : Refusal) → ComesToEnd l (TakesFirst l pairs_l local1 local2 refusal) (length pairs_l) left1.local local1 local2 refusal → (pairs_l ≡ [] → local2 ≡ local1)
+    pub ends_at_local : {A : Type 0} → (left' : Questions) (local2 : L) (refusal : Refusal) → ComesToEnd l (TakesFirst l pairs_l local1 local2 refusal) (length pairs_l) left1.local local1 local2 refusal → (pairs_l ≡ [] → local2 ≡ local1)
         → ExchangesAll {A = A} l p number entries left left' local local2 peer peer1 (Err (Local refusal))
-    ends_at_local left' local2 refusal e alone = record {
+    ends_at_local {A} left' local2 refusal e alone = record {
       asked_local = n_l + e.asked;
       asked_peer = n_p;
       within = (let a = plan.from_local.spent in let b = e.within in omega (arith, a, b), let a = plan.from_peer.spent in omega (arith, a));
@@ -177,7 +177,7 @@ module _ {L P : Type 0} {A : Type 0} (l : SideOf L) (p : SideOf P) (number : Opt
       one_l : Each IsOfKey c.told
       one_l = all_of_key pairs_l c.told c.answered.may
 
-      asked_l : ℕ
+      abbrev asked_l : ℕ
       asked_l = n_l + length pairs_l
 
       spent_l : left.local ≡ left2 + asked_l
@@ -193,9 +193,9 @@ module _ {L P : Type 0} {A : Type 0} (l : SideOf L) (p : SideOf P) (number : Opt
       beside_l t silent = ((took_l t).still, pushed_none (l.states local) (l.states local2) (comes_l (λ _ _. ⊥) (no_pulls silent) t))
 
       -- the peer came to an end
-      unfoldable pub ends_at_peer : (left' : Questions) (peer2 : P) (refusal : Refusal) → ComesToEnd p (TakesFirst p (filter_map (pair_of AtPeer) ms1) peer1 peer2 refusal) (length (filter_map (pair_of AtPeer) ms1)) left1.peer peer1 peer2 refusal
+      pub ends_at_peer : {A : Type 0} → (left' : Questions) (peer2 : P) (refusal : Refusal) → ComesToEnd p (TakesFirst p (filter_map (pair_of AtPeer) ms1) peer1 peer2 refusal) (length (filter_map (pair_of AtPeer) ms1)) left1.peer peer1 peer2 refusal
           → (filter_map (pair_of AtPeer) ms1 ≡ [] → peer2 ≡ peer1) → ExchangesAll {A = A} l p number entries left left' local local2 peer peer2 (Err (Peer refusal))
-      ends_at_peer left' peer2 refusal e' alone =
+      ends_at_peer {A} left' peer2 refusal e' alone =
           let e : ComesToEnd p (TakesFirst p pairs_p peer1 peer2 refusal) (length pairs_p) left1.peer peer1 peer2 refusal = subst (λ qs. ComesToEnd p (TakesFirst p qs peer1 peer2 refusal) (length qs) left1.peer peer1 peer2 refusal) same_pairs e' in
           record {
             asked_local = asked_l;
@@ -234,9 +234,9 @@ module _ {L P : Type 0} {A : Type 0} (l : SideOf L) (p : SideOf P) (number : Opt
           }
 
       -- the peer took what it was to take, too
-      unfoldable pub all_done : Each IsHeldByEither entries → (left' : Questions) (peer2 : P) (made : Vec Meeting A) → left'.local ≡ left2 → Carried p AtPeer ms1 made.items left1.peer left'.peer peer1 peer2
+      pub all_done : {A : Type 0} → Each IsHeldByEither entries → (left' : Questions) (peer2 : P) (made : Vec Meeting A) → left'.local ≡ left2 → Carried p AtPeer ms1 made.items left1.peer left'.peer peer1 peer2
           → ExchangesAll {A = A} l p number entries left left' local local2 peer peer2 (Ok made)
-      all_done held left' peer2 made same_left d' =
+      all_done {A} held left' peer2 made same_left d' =
           let d : Carried p AtPeer after made.items left1.peer left'.peer peer1 peer2 = subst (λ m. Carried p AtPeer m made.items left1.peer left'.peer peer1 peer2) c.is d' in
           let took_p : p.is_faithful peer → TakesIn p pairs_p d.told peer1 peer2 = λ t. d.answered.right (keep_p t).still in
           let comes_p : (C : List ℕ → State → Type 0) → Each (λ q. C q.0 q.1 × Rattle.mvd_keys.specs.State.IsValid q.1) pairs_p → (t : p.is_faithful peer) → ComesByPushes C (p.states peer) (p.states peer2)

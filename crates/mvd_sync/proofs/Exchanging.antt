@@ -47,7 +47,7 @@ changes_still T broken C old new x fault c = record { after_ok = tt; after_fault
 
 module _ {L P : Type 0} (l : SideOf L) (p : SideOf P) {A B : Type 0} (next : List Entry) (left left' : Questions) (local local' : L) (peer peer' : P) (before after : Exchanging) where
   -- the window came to an end
-  unfoldable pub exchanges_end : (fault : SyncFault) → after.number ≡ before.number → ExchangesAll {A = A} l p before.number next left left' local local' peer peer' (Err fault) → Exchanges {A = B} l p next left left' local local' peer peer' before after (Err fault)
+  pub exchanges_end : (fault : SyncFault) → after.number ≡ before.number → ExchangesAll {A = A} l p before.number next left left' local local' peer peer' (Err fault) → Exchanges {A = B} l p next left left' local local' peer peer' before after (Err fault)
   exchanges_end fault number e = record {
     asked_local = e.asked_local;
     asked_peer = e.asked_peer;
@@ -69,7 +69,7 @@ module _ {L P : Type 0} (l : SideOf L) (p : SideOf P) {A B : Type 0} (next : Lis
 
   module _ (made : Vec Meeting A) (e : ExchangesAll {A = A} l p before.number next left left' local local' peer peer' (Ok made)) where
     -- memory was refused for the names of the keys
-    unfoldable pub exchanges_memory : (refusal : Refusal) → refusal ≡ Memory → after.number ≡ before.number → Exchanges {A = B} l p next left left' local local' peer peer' before after (Err (Local refusal))
+    pub exchanges_memory : (refusal : Refusal) → refusal ≡ Memory → after.number ≡ before.number → Exchanges {A = B} l p next left left' local local' peer peer' before after (Err (Local refusal))
     exchanges_memory refusal is number = record {
       asked_local = e.asked_local;
       asked_peer = e.asked_peer;
@@ -91,7 +91,7 @@ module _ {L P : Type 0} (l : SideOf L) (p : SideOf P) {A B : Type 0} (next : Lis
     }
 
     -- all are exchanged, and counted
-    unfoldable pub exchanges_all : (x : B) → Adds (map done_of made.items) (record before { waiting = [] }) after → Exchanges {A = B} l p next left left' local local' peer peer' before after (Ok x)
+    pub exchanges_all : (x : B) → Adds (map done_of made.items) (record before { waiting = [] }) after → Exchanges {A = B} l p next left left' local local' peer peer' before after (Ok x)
     exchanges_all x adds =
         let now = map done_of made.items in
         let count = all_count now in
@@ -130,7 +130,7 @@ module _ {L P : Type 0} (l : SideOf L) (p : SideOf P) {A B : Type 0} (next : Lis
         }
 
   -- from keys that waited before
-  unfoldable pub exchanges_from : (mid : Exchanging) (result : Result B SyncFault) → mid ≡ record before { waiting = next } → Exchanges {A = B} l p mid.waiting left left' local local' peer peer' mid after result → Exchanges {A = B} l p next left left' local local' peer peer' before after result
+  pub exchanges_from : (mid : Exchanging) (result : Result B SyncFault) → mid ≡ record before { waiting = next } → Exchanges {A = B} l p mid.waiting left left' local local' peer peer' mid after result → Exchanges {A = B} l p next left left' local local' peer peer' before after result
   exchanges_from mid result is h =
       let e : Exchanges {A = B} l p next left left' local local' peer peer' (record before { waiting = next }) after result
       = subst (λ (m : Exchanging). Exchanges {A = B} l p m.waiting left left' local local' peer peer' m after result) is h in
@@ -155,7 +155,7 @@ module _ {L P : Type 0} (l : SideOf L) (p : SideOf P) {A B : Type 0} (next : Lis
 
 module _ {L P : Type 0} (l : SideOf L) (p : SideOf P) {B : Type 0} (self : (s : L) → l.follows 0 s s) (self' : (s : P) → p.follows 0 s s) (next : List Entry) (left : Questions) (local : L) (peer : P) (before after : Exchanging) where
   -- memory was refused for one more
-  unfoldable pub exchanges_none : (refusal : Refusal) → refusal ≡ Memory → after.number ≡ before.number → Exchanges {A = B} l p next left left local local peer peer before after (Err (Local refusal))
+  pub exchanges_none : (refusal : Refusal) → refusal ≡ Memory → after.number ≡ before.number → Exchanges {A = B} l p next left left local local peer peer before after (Err (Local refusal))
   exchanges_none refusal is number = record {
     asked_local = 0;
     asked_peer = 0;
@@ -176,7 +176,7 @@ module _ {L P : Type 0} (l : SideOf L) (p : SideOf P) {B : Type 0} (self : (s : 
   }
 
   -- one more waits
-  unfoldable pub exchanges_later : (x : B) → after ≡ record before { waiting = next } → length next < 1000 → Exchanges {A = B} l p next left left local local peer peer before after (Ok x)
+  pub exchanges_later : (x : B) → after ≡ record before { waiting = next } → length next < 1000 → Exchanges {A = B} l p next left left local local peer peer before after (Ok x)
   exchanges_later x is low =
       let wait : after.waiting ≡ next = ap (λ (v : Exchanging). v.waiting) is in
       let many = ap length wait in

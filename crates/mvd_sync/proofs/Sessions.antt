@@ -89,7 +89,7 @@ module _ {L P : Type 0} (l : SideOf L) (p : SideOf P) (most : ℕ) (local local'
   abbrev all_left : Questions
   all_left = record { local = most; peer = most }
 
-  unfoldable pub session_ends : {A : Type 0} (fault : SyncFault) (g : Goes {A = A} l p all_left left' local local' peer peer' before after (Err fault))
+  pub session_ends : {A : Type 0} (fault : SyncFault) (g : Goes {A = A} l p all_left left' local local' peer peer' before after (Err fault))
       → (l.is_faithful local → p.is_faithful peer → JoinsSome (l.is_faithful local') (p.is_faithful peer') (l.states local) (p.states peer) (l.states local') (p.states peer'))
       → (l.is_faithful local → p.is_faithful peer → (differing : List (List ℕ)) → HasAllThatDiffer (l.states local) (p.states peer) differing → AreFew g.asked_local (l.states local) differing × AreFew g.asked_peer (p.states peer) differing)
       → Session l p most local local' peer peer' (Err fault)
@@ -108,7 +108,7 @@ module _ {L P : Type 0} (l : SideOf L) (p : SideOf P) (most : ℕ) (local local'
     few = few;
   }
 
-  unfoldable pub session_done : {A : Type 0} (x : A) (report : Report) (g : Goes {A = A} l p all_left left' local local' peer peer' before after (Ok x))
+  pub session_done : {A : Type 0} (x : A) (report : Report) (g : Goes {A = A} l p all_left left' local local' peer peer' before after (Ok x))
       → HasAnswered l.follows l.can_answer local local' × HasAnswered p.follows p.can_answer peer peer'
       → (l.is_faithful local → p.is_faithful peer → Meets (l.is_faithful local') (p.is_faithful peer') (l.most_keys local) (p.most_keys peer) (l.number local) (l.states local) (p.states peer) (l.states local') (p.states peer') (Ok report))
       → (l.is_faithful local → p.is_faithful peer → (differing : List (List ℕ)) → HasAllThatDiffer (l.states local) (p.states peer) differing → AreFew g.asked_local (l.states local) differing × AreFew g.asked_peer (p.states peer) differing)
@@ -137,7 +137,7 @@ begins_with number = record { number = number; waiting = []; keys = 0; refused =
 
 -- the walk came to an end
 module _ {L P : Type 0} (l : SideOf L) (p : SideOf P) (most : ℕ) (local local1 : L) (peer peer1 : P) where
-  unfoldable pub session_walks : (fault : SyncFault) → ReadsEnd l p (λ asked. AreFewFor l p local peer (λ m. asked ≤ 1 + 2 * m)) (record { local = most; peer = most }) local local1 peer peer1 fault → Session l p most local local1 peer peer1 (Err fault)
+  pub session_walks : (fault : SyncFault) → ReadsEnd l p (λ asked. AreFewFor l p local peer (λ m. asked ≤ 1 + 2 * m)) (record { local = most; peer = most }) local local1 peer peer1 fault → Session l p most local local1 peer peer1 (Err fault)
   unfolding goes_of_end
   session_walks fault r =
       let left : Questions = record { local = most; peer = most } in
@@ -163,12 +163,12 @@ module _ {L P : Type 0} (l : SideOf L) (p : SideOf P)
   abbrev total : Questions
   total = record { local = most; peer = most }
 
-  unfoldable walked : Goes l p total mid local local1 peer peer1 start start (Ok (tt {0}))
+  walked : Goes l p total mid local local1 peer peer1 start start (Ok (tt {0}))
   unfolding goes_of_reads
   walked = goes_of_reads l p (tt {0}) w.asked w.asked total mid local local1 peer peer1 start w.local_side w.peer_side
 
   module _ {A : Type 0} (r2 : Result A SyncFault) (second : GoesOver l p paths (length paths) mid left2 local1 local2 peer1 peer2 start e2 r2) where
-    unfoldable pub gone : Goes l p total left2 local local2 peer peer2 start e2 r2
+    pub gone : Goes l p total left2 local local2 peer peer2 start e2 r2
     gone = goes_on l p on on' total mid left2 local local1 local2 peer peer1 peer2 start start e2 (tt {0}) r2 walked second.goes
 
     abbrev Found : ℕ → ℕ → Type 0
@@ -197,7 +197,7 @@ module _ {L P : Type 0} (l : SideOf L) (p : SideOf P)
         (omega (arith, i, pages.0), omega (arith, j, pages.1))
 
   -- the buckets came to an end
-  unfoldable pub session_buckets : {A : Type 0} (fault : SyncFault) → GoesOver {A = A} l p paths (length paths) mid left2 local1 local2 peer1 peer2 start e2 (Err fault) → Session l p most local local2 peer peer2 (Err fault)
+  pub session_buckets : {A : Type 0} (fault : SyncFault) → GoesOver {A = A} l p paths (length paths) mid left2 local1 local2 peer1 peer2 start e2 (Err fault) → Session l p most local local2 peer peer2 (Err fault)
   unfolding gone walked goes_on goes_of_reads
   session_buckets {A} fault second = session_ends {A = A} l p most local local2 peer peer2 left2 start e2 fault (gone (Err fault) second)
       (λ t u. (found_there (Err fault) second t u).ends)
@@ -211,7 +211,7 @@ module _ {L P : Type 0} (l : SideOf L) (p : SideOf P)
 
   module _ {A B : Type 0} (x2 : A) (second : GoesOver l p paths (length paths) mid left2 local1 local2 peer1 peer2 start e2 (Ok x2)) (left3 : Questions) (local3 : L) (peer3 : P) (e3 : Exchanging) (r3 : Result B SyncFault)
       (third : Exchanges l p e2.waiting left2 left3 local2 local3 peer2 peer3 e2 e3 r3) where
-    unfoldable all_gone : Goes l p total left3 local local3 peer peer3 start e3 r3
+    all_gone : Goes l p total left3 local local3 peer peer3 start e3 r3
     all_gone = goes_on l p on on' total left2 left3 local local2 local3 peer peer2 peer3 start e2 e3 x2 r3 (gone (Ok x2) second) (goes_of_exchange l p e2.waiting left2 left3 local2 local3 peer2 peer3 e2 e3 r3 (omega arith) third)
 
     most_l2 : l.most_keys local2 ≡ l.most_keys local
@@ -249,14 +249,14 @@ module _ {L P : Type 0} (l : SideOf L) (p : SideOf P)
         (omega (arith, pages.0, fewer.0, few.0, walk, keys), omega (arith, pages.1, fewer.1, few.1, walk, keys))
 
   -- the last window came to an end
-  unfoldable pub session_exchanges : {A B : Type 0} (x2 : A) (second : GoesOver l p paths (length paths) mid left2 local1 local2 peer1 peer2 start e2 (Ok x2)) (left3 : Questions) (local3 : L) (peer3 : P) (e3 : Exchanging) (fault : SyncFault)
+  pub session_exchanges : {A B : Type 0} (x2 : A) (second : GoesOver l p paths (length paths) mid left2 local1 local2 peer1 peer2 start e2 (Ok x2)) (left3 : Questions) (local3 : L) (peer3 : P) (e3 : Exchanging) (fault : SyncFault)
       → Exchanges {A = B} l p e2.waiting left2 left3 local2 local3 peer2 peer3 e2 e3 (Err fault) → Session l p most local local3 peer peer3 (Err fault)
   unfolding all_gone gone walked goes_on goes_of_reads goes_of_exchange
   session_exchanges {A} {B} x2 second left3 local3 peer3 e3 fault third = session_ends {A = B} l p most local local3 peer peer3 left3 start e3 fault (all_gone x2 second left3 local3 peer3 e3 (Err fault) third)
       (λ t u. ended x2 second left3 local3 peer3 e3 (Err fault) third t u) (all_few x2 second left3 local3 peer3 e3 (Err fault) third)
 
   -- all was done
-  unfoldable pub session_all : {A B : Type 0} (x2 : A) (second : GoesOver l p paths (length paths) mid left2 local1 local2 peer1 peer2 start e2 (Ok x2)) (left3 : Questions) (local3 : L) (peer3 : P) (e3 : Exchanging) (x3 : B)
+  pub session_all : {A B : Type 0} (x2 : A) (second : GoesOver l p paths (length paths) mid left2 local1 local2 peer1 peer2 start e2 (Ok x2)) (left3 : Questions) (local3 : L) (peer3 : P) (e3 : Exchanging) (x3 : B)
       → Exchanges {A = B} l p e2.waiting left2 left3 local2 local3 peer2 peer3 e2 e3 (Ok x3) → e3.waiting ≡ [] → (report : Report) → report.keys ≡ e3.keys → report.refused ≡ e3.refused → report.old ≡ e3.older → report.first_refused ≡ e3.first_refused
       → Session l p most local local3 peer peer3 (Ok report)
   unfolding all_gone gone walked goes_on goes_of_reads goes_of_exchange

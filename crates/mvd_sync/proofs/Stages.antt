@@ -62,16 +62,13 @@ same_length ms es h =
     let b = length-map es (λ (e : Entry). e.key) in
     sym a ∙ ap length h ∙ b
 
-count_if : Bool → ℕ
-count_if b = cond b 1 0
-
 held_one : (side : Side) (e : Entry) (es : List Entry) → length (held_keys side (e ∷ es)) ≡ cond (is_held side e) 1 0 + length (held_keys side es)
 held_one side e es =
     elim (is_held side e) as (λ b. length (map (λ (e : Entry). e.key) (cond b (e ∷ filter (is_held side) es) (filter (is_held side) es))) ≡ cond b 1 0 + length (held_keys side es)) [ true ↦ omega arith | false ↦ omega arith ]
 
 one_holds : (m t : Bool) → (m ≡ false → t ≡ true) → 1 ≤ cond m 1 0 + cond t 1 0
 one_holds true t h = omega arith
-one_holds false t h = subst (λ b. 1 ≤ cond b 1 0) (sym (h refl)) (omega arith)
+one_holds false t h = subst (λ b. 1 ≤ 0 + cond b 1 0) (sym (h refl)) (omega arith)
 
 -- each entry is asked for at one side at least
 pub held_by_one : (es : List Entry) → Each IsHeldByEither es → length es ≤ length (held_keys AtLocal es) + length (held_keys AtPeer es)

@@ -1,4 +1,4 @@
--- What a session with no fault tells of the keys that are done.
+-- What a session with out fault tells of the keys that are done.
 use Rattle.std.proofs.Common.{◌≡◌, ◌≢◌, ◌⊎◌, inl, inr, ◌↔◌, ℕ, Bool, true, false, cond, ◌||◌, List, [], ◌∷◌, ◌++◌, length, map, filter, filter_map, take, refl, sym, ap, subst, ◌∙◌, Some, None, Option, option_map, true≢false}
 use Rattle.std.specs.Prelude.{MatchBool}
 use Rattle.std.specs.List.{cons_option}
@@ -63,11 +63,11 @@ parts_are ds k = is_member-append (given_keys ds) (names (left_keys ds)) k ∙ i
 
 -- one list goes on with a key where the other two do
 insert_later : (k : List ℕ) (gs ls : List (List ℕ)) → is_member (gs ++ ls) k ≡ false → AreDistinct (gs ++ ls) → AreDistinct (gs ++ k ∷ ls)
-insert_later k [] ls no d = (no, d)
-insert_later k (g ∷ gs) ls no d =
-    let apart : tie k g ≡ false = or_left (tie k g) (is_member (gs ++ ls) k) no in
+insert_later k [] ls out d = (out, d)
+insert_later k (g ∷ gs) ls out d =
+    let apart : tie k g ≡ false = or_left (tie k g) (is_member (gs ++ ls) k) out in
     let apart' : tie g k ≡ false = by_bool (tie g k) (tie g k ≡ false) (λ h. absurd (true≢false (sym h ∙ subst (λ q. tie q k ≡ false) (sym (keys_same g k ((Equal-is _).0 h))) (subst (λ q. tie k q ≡ false) (keys_same g k ((Equal-is _).0 h)) apart)))) (λ h. h) in
-    let rest = or_right (tie k g) (is_member (gs ++ ls) k) no in (
+    let rest = or_right (tie k g) (is_member (gs ++ ls) k) out in (
       is_member-append gs (k ∷ ls) g ∙ both_no (is_member gs g) (tie g k || is_member ls g) (or_left (is_member gs g) (is_member ls g) (sym (is_member-append gs ls g) ∙ d.0)) (both_no (tie g k) (is_member ls g) apart' (or_right (is_member gs g) (is_member ls g) (sym (is_member-append gs ls g) ∙ d.0))),
       insert_later k gs ls rest d.1,
     )
@@ -167,16 +167,16 @@ module _ (ml mp : ℕ) (number : Option ℕ) (a b a' b' : States) where
       let at : MatchBool (is_member (olds ds) key) (IsOld number a b key) ((IsOld number a b key → ⊥) ⊎ (is_member (keys_done ds) key ≡ false))
       = member_at (λ (d : Done). d.is_old) (IsOld number a b) (λ k. (IsOld number a b k → ⊥) ⊎ (is_member (keys_done ds) k ≡ false)) key ds so.distinct
           (Each-weaker (IsDone ml mp number a b a' b') (λ (d : Done). MatchBool d.is_old (IsOld number a b d.key) ((IsOld number a b d.key → ⊥) ⊎ (is_member (keys_done ds) d.key ≡ false)))
-          (λ d h. or_else d.is_old (IsOld number a b d.key) (IsOld number a b d.key → ⊥) (is_member (keys_done ds) d.key ≡ false) (old_at d h.old)) ds so.each) (λ no. inr no) in (
+          (λ d h. or_else d.is_old (IsOld number a b d.key) (IsOld number a b d.key → ⊥) (is_member (keys_done ds) d.key ≡ false) (old_at d h.old)) ds so.each) (λ out. inr out) in (
         λ h. (
           by_bool (is_member (given_keys ds ++ names (left_keys ds)) key) (IsIn (given_keys ds ++ names (left_keys ds)) key) (λ yes. yes)
-              (λ no. absurd (true≢false (sym h ∙ filtered (λ (d : Done). d.is_old) key ds (sym (parts_are ds key) ∙ no)))),
+              (λ out. absurd (true≢false (sym h ∙ filtered (λ (d : Done). d.is_old) key ds (sym (parts_are ds key) ∙ out)))),
           when (is_member (olds ds) key) (IsOld number a b key) ((IsOld number a b key → ⊥) ⊎ (is_member (keys_done ds) key ≡ false)) h at,
         ),
         λ h. by_bool (is_member (olds ds) key) (IsIn (olds ds) key) (λ yes. yes)
-            (λ no. absurd (elim (unless (is_member (olds ds) key) (IsOld number a b key) ((IsOld number a b key → ⊥) ⊎ (is_member (keys_done ds) key ≡ false)) no at) [
+            (λ out. absurd (elim (unless (is_member (olds ds) key) (IsOld number a b key) ((IsOld number a b key → ⊥) ⊎ (is_member (keys_done ds) key ≡ false)) out at) [
               | inl never ↦ never h.1
-              | inr out ↦ true≢false (sym h.0 ∙ parts_are ds key ∙ out)
+              | inr gone ↦ true≢false (sym h.0 ∙ parts_are ds key ∙ gone)
             ])),
       )
 
@@ -189,7 +189,7 @@ module _ (ml mp : ℕ) (number : Option ℕ) (a b a' b' : States) where
     old_keys = olds done;
     distinct = parts_distinct done so.distinct;
     whole = λ key h. by_bool (is_member (given_keys done ++ names (left_keys done)) key) (IsIn (given_keys done ++ names (left_keys done)) key) (λ yes. yes)
-        (λ no. absurd (true≢false (sym h ∙ filtered (λ (d : Done). is_joined d.refused) key done (sym (parts_are done key) ∙ no))));
+        (λ out. absurd (true≢false (sym h ∙ filtered (λ (d : Done). is_joined d.refused) key done (sym (parts_are done key) ∙ out))));
     sides = left_each (λ (d : Done). is_member (joined_keys done) d.key ≡ is_joined d.refused) (IsLeft (joined_keys done))
         (λ d r h e. left_side (joined_keys done) d.key r (h ∙ ap is_joined e)) done (joined_is done so.distinct);
     causes = left_each (IsDone ml mp number a b a' b') (λ l. CannotMeet (most_of ml mp l.1.0) a b l.0 l.1.1) (λ d r h e. (left_cause d.key d.refused r e h.came).0) done so.each;

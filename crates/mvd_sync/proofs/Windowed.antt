@@ -83,7 +83,7 @@ each_ask : (P : List ℕ → Type 0) (side : Side) (ms : List Meeting) → Each 
 each_ask P side [] h = tt
 each_ask P side (m ∷ ms) h = (h.0, each_ask P side ms h.1)
 
-each_both : {X : Type 0} (P Q : X → Type 0) (xs : List X) → Each P xs → Each Q xs → Each (λ x. P x × Q x) xs
+pub each_both : {X : Type 0} (P Q : X → Type 0) (xs : List X) → Each P xs → Each Q xs → Each (λ x. P x × Q x) xs
 each_both P Q [] h i = tt
 each_both P Q (x ∷ xs) h i = ((h.0, i.0), each_both P Q xs h.1 i.1)
 

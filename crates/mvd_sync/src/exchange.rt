@@ -221,10 +221,11 @@ impl Exchange {
         left: &mut Questions,
     ) -> Result<(), SyncFault>
         requires room { self.old.keys + self.old.refused + length self.old.waiting + left.old.local + left.old.peer < 2 ^ 64 }
-        ensures { let l = side_of L.states L.is_faithful L.can_give L.follows L.can_refuse L.can_answer L.most_keys L.number in
+        ensures exchanges { let l = side_of L.states L.is_faithful L.can_give L.follows L.can_refuse L.can_answer L.most_keys L.number in
             let p = side_of P.states P.is_faithful P.can_give P.follows P.can_refuse P.can_answer P.most_keys P.number in
             Exchanges l p self.old.waiting left.old left.new local.old local.new peer.old peer.new self.old self.new
             result }
+        ensures none { OnOk result (self.new.waiting ≡ []) }
     {
         let entries = std::mem::replace(&mut self.waiting, Vec::new(self.alloc));
         let meetings = match exchange_all(self.alloc, self.number, local, peer, left, entries) {

@@ -25,16 +25,28 @@ pub fn sync_within<L: Peer, P: Peer>(
 ) -> Result<Report, SyncFault>
     requires some { 1 ≤ questions }
     requires limit { questions ≤ MOST_QUESTIONS }
+    ensures session { let l = side L.states L.is_faithful L.can_give L.follows L.can_refuse L.can_answer L.most_keys L.number in
+        let p = side P.states P.is_faithful P.can_give P.follows P.can_refuse P.can_answer P.most_keys P.number in
+        Session l p questions local.old local.new peer.old peer.new result }
 {
+    let number = local.number();
     let mut left = Questions {
         local: questions,
         peer: questions,
     };
-    let paths = differing_buckets(alloc, local, peer, &mut left)?;
-    let mut exchange = Exchange::new(alloc, local.number());
-    exchange_buckets(alloc, local, peer, &mut left, &paths, &mut exchange)?;
-    exchange.exchange(local, peer, &mut left)?;
-    Ok(exchange.report())
+    let paths = match differing_buckets(alloc, local, peer, &mut left) {
+        Ok(paths) => paths,
+        Err(fault) => return Err(fault),
+    };
+    let mut exchange = Exchange::new(alloc, number);
+    match exchange_buckets(alloc, local, peer, &mut left, &paths, &mut exchange) {
+        Ok(()) => {}
+        Err(fault) => return Err(fault),
+    }
+    match exchange.exchange(local, peer, &mut left) {
+        Ok(()) => Ok(exchange.report()),
+        Err(fault) => Err(fault),
+    }
 }
 
 /// Compares two sides from the root, and exchanges what differs.
@@ -42,6 +54,10 @@ pub fn sync<L: Peer, P: Peer>(
     alloc: Global,
     local: &mut L,
     peer: &mut P,
-) -> Result<Report, SyncFault> {
+) -> Result<Report, SyncFault>
+    ensures session { let l = side L.states L.is_faithful L.can_give L.follows L.can_refuse L.can_answer L.most_keys L.number in
+        let p = side P.states P.is_faithful P.can_give P.follows P.can_refuse P.can_answer P.most_keys P.number in
+        Session l p 10000000 local.old local.new peer.old peer.new result }
+{
     sync_within(alloc, local, peer, MOST_QUESTIONS)
 }

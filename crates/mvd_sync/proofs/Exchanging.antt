@@ -1,5 +1,5 @@
 -- The keys that wait are exchanged, or one more waits.
-use Rattle.std.proofs.Common.{◌≡◌, ◌≢◌, ℕ, ◌+◌, ◌*◌, ◌<◌, ◌≤◌, List, [], ◌∷◌, ◌++◌, length, map, filter, filter_map, refl, sym, ap, subst, ◌∙◌, arith, Option, length-append}
+use Rattle.std.proofs.Common.{◌≡◌, ◌≢◌, ℕ, ◌+◌, ◌*◌, ◌<◌, ◌≤◌, List, [], ◌∷◌, ◌++◌, length, map, filter, filter_map, refl, sym, ap, subst, ◌∙◌, arith, Option, length-append, ◌↔◌, Bool, true, false, true≢false, inl, inr}
 use Rattle.std.specs.Prelude.{Result, Ok, Err, OnOk, Vec, is_some}
 use Rattle.std.proofs.lemmas.List.{append-nil, length-map, map-append}
 use Rattle.mvd_dots.specs.declared.refusals.Refusal.{Refusal}
@@ -19,6 +19,16 @@ use Rattle.mvd_sync.specs.declared.report.SyncFault.TheVariants.{Local, Peer}
 use Rattle.mvd_sync.proofs.Counting.{counts_on, given_one, left_one, one_of_two}
 use Rattle.mvd_sync.proofs.Going.{changes_none}
 use Rattle.mvd_sync.proofs.Joined.{joins_some}
+
+-- a window of what waited
+pub window_at : {L P A : Type 0} (l : SideOf L) (p : SideOf P) (n m : Option ℕ) (es fs : List Entry) (left left' : Questions) (local local' : L) (peer peer' : P) (result : Result (Vec Meeting A) SyncFault) → n ≡ m → es ≡ fs
+    → ExchangesAll l p n es left left' local local' peer peer' result → ExchangesAll l p m fs left left' local local' peer peer' result
+window_at l p n m es fs left left' local local' peer peer' result e f h =
+    subst (λ o. ExchangesAll l p o fs left left' local local' peer peer' result) e (subst (λ es. ExchangesAll l p n es left left' local local' peer peer' result) f h)
+
+-- and then none waits
+pub none_waits : (inside before : Exchanging) (waiting : List Entry) → inside ≡ before → waiting ≡ [] → record inside { waiting = waiting } ≡ record before { waiting = [] }
+none_waits inside before waiting e f = λ i. record (e i) { waiting = f i }
 
 -- each key counts once
 all_count : (ds : List Done) → length (given_keys ds) + length (left_keys ds) ≡ length ds
@@ -125,10 +135,11 @@ module _ {L P : Type 0} (l : SideOf L) (p : SideOf P) {A B : Type 0} (next : Lis
                 so_far = met.0;
                 counts = counts_on done now (record before { waiting = [] }) after (record { keys = counts.keys; refused = counts.refused; first_refused = counts.first_refused; older = counts.older }) adds;
                 waits = subst (AreNext a b (done ++ now)) (sym adds.waiting) (record { distinct = subst AreDistinct (sym (append-nil (keys_done (done ++ now)))) met.0.distinct; each = tt });
-                still = met.1;
+                still = (met.1, met.2);
               };
         }
 
+module _ {L P : Type 0} (l : SideOf L) (p : SideOf P) {B : Type 0} (next : List Entry) (left left' : Questions) (local local' : L) (peer peer' : P) (before after : Exchanging) where
   -- from keys that waited before
   pub exchanges_from : (mid : Exchanging) (result : Result B SyncFault) → mid ≡ record before { waiting = next } → Exchanges {A = B} l p mid.waiting left left' local local' peer peer' mid after result → Exchanges {A = B} l p next left left' local local' peer peer' before after result
   exchanges_from mid result is h =
@@ -209,3 +220,10 @@ module _ {L P : Type 0} (l : SideOf L) (p : SideOf P) {B : Type 0} (self : (s : 
               still = (t, u);
             };
       }
+
+-- a window that is not full
+pub low_of : (full : Bool) (n m : ℕ) → ((full ≡ true) ↔ (1000 ≤ n)) → full ≡ false → n ≡ m → m < 1000
+low_of full n m h no_room e = elim (Rattle.std.proofs.lemmas.Bool.cases_lt m 1000) [
+  | inl less ↦ less
+  | inr more ↦ absurd (true≢false (sym (h.1 (omega (arith, more, e))) ∙ no_room))
+]

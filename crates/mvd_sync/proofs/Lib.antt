@@ -40,3 +40,4 @@ pub mod Exchanged
 pub mod Exchanging
 pub mod Telling
 pub mod Sessions
+pub mod HeldFew

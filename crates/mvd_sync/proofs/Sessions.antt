@@ -142,7 +142,7 @@ module _ {L P : Type 0} (l : SideOf L) (p : SideOf P) (most : ℕ) (local local1
   session_walks fault r =
       let left : Questions = record { local = most; peer = most } in
       let e = begins_with (l.number local) in
-      session_ends {A = Unit {0}} l p most local local1 peer peer1 left e e fault (goes_of_end l p (λ asked. AreFewFor l p local peer (λ m. asked ≤ 1 + 2 * m)) left left local local1 peer peer1 e fault r)
+      session_ends l p most local local1 peer peer1 left e e fault (goes_of_end l p (λ asked. AreFewFor l p local peer (λ m. asked ≤ 1 + 2 * m)) left left local local1 peer peer1 e fault r)
       (λ t u. joins_some (l.most_keys local) (p.most_keys peer) (l.states local) (p.states peer) (l.states local1) (p.states peer1) (l.number local) (l.is_faithful local1) (p.is_faithful peer1) []
       (so_none (l.most_keys local) (p.most_keys peer) (l.number local) (l.states local) (p.states peer) (l.states local1) (p.states peer1) (r.kept_local t).states (r.kept_peer u).states))
       (λ t u differing all.
@@ -199,7 +199,7 @@ module _ {L P : Type 0} (l : SideOf L) (p : SideOf P)
   -- the buckets came to an end
   pub session_buckets : {A : Type 0} (fault : SyncFault) → GoesOver {A = A} l p paths (length paths) mid left2 local1 local2 peer1 peer2 start e2 (Err fault) → Session l p most local local2 peer peer2 (Err fault)
   unfolding gone walked goes_on goes_of_reads
-  session_buckets {A} fault second = session_ends {A = A} l p most local local2 peer peer2 left2 start e2 fault (gone (Err fault) second)
+  session_buckets {A} fault second = session_ends l p most local local2 peer peer2 left2 start e2 fault (gone (Err fault) second)
       (λ t u. (found_there (Err fault) second t u).ends)
       (λ t u differing all.
           let f = found_there (Err fault) second t u in
@@ -252,7 +252,7 @@ module _ {L P : Type 0} (l : SideOf L) (p : SideOf P)
   pub session_exchanges : {A B : Type 0} (x2 : A) (second : GoesOver l p paths (length paths) mid left2 local1 local2 peer1 peer2 start e2 (Ok x2)) (left3 : Questions) (local3 : L) (peer3 : P) (e3 : Exchanging) (fault : SyncFault)
       → Exchanges {A = B} l p e2.waiting left2 left3 local2 local3 peer2 peer3 e2 e3 (Err fault) → Session l p most local local3 peer peer3 (Err fault)
   unfolding all_gone gone walked goes_on goes_of_reads goes_of_exchange
-  session_exchanges {A} {B} x2 second left3 local3 peer3 e3 fault third = session_ends {A = B} l p most local local3 peer peer3 left3 start e3 fault (all_gone x2 second left3 local3 peer3 e3 (Err fault) third)
+  session_exchanges {A} {B} x2 second left3 local3 peer3 e3 fault third = session_ends l p most local local3 peer peer3 left3 start e3 fault (all_gone x2 second left3 local3 peer3 e3 (Err fault) third)
       (λ t u. ended x2 second left3 local3 peer3 e3 (Err fault) third t u) (all_few x2 second left3 local3 peer3 e3 (Err fault) third)
 
   -- all was done
@@ -263,7 +263,7 @@ module _ {L P : Type 0} (l : SideOf L) (p : SideOf P)
   session_all {A} {B} x2 second left3 local3 peer3 e3 x3 third none report keys refused old first =
       let follow_l = on second.goes.asked_local third.asked_local local1 local2 local3 second.goes.follows.0 third.follows.0 in
       let follow_p = on' second.goes.asked_peer third.asked_peer peer1 peer2 peer3 second.goes.follows.1 third.follows.1 in
-      session_done {A = B} l p most local local3 peer peer3 left3 start e3 x3 report (all_gone x2 second left3 local3 peer3 e3 (Ok x3) third)
+      session_done l p most local local3 peer peer3 left3 start e3 x3 report (all_gone x2 second left3 local3 peer3 e3 (Ok x3) third)
       (answered_still l on local local1 local3 (second.goes.asked_local + third.asked_local, follow_l) w.answers.0, answered_still p on' peer peer1 peer3 (second.goes.asked_peer + third.asked_peer, follow_p) w.answers.1)
       (λ t u.
           let a = l.states local in

@@ -72,19 +72,19 @@ less_not_tied : (k q : List ℕ) → T (is_lt (slice_cmp nat_cmp k q)) → eq_by
 less_not_tied k q h =
     elim (slice_cmp nat_cmp k q) as (λ o. T (is_lt o) → is_eq o ≡ false) [ Less ↦ λ _. refl | Equal ↦ λ h. absurd h | Greater ↦ λ h. absurd h ] h
 
-not_below : (k : List ℕ) (es : List (List ℕ × State)) → T (below_all (slice_cmp nat_cmp) k es) → is_member (map (λ e. e.0) es) k ≡ false
+not_below : {X : Type 0} (k : List ℕ) (es : List (List ℕ × X)) → T (below_all (slice_cmp nat_cmp) k es) → is_member (map (λ e. e.0) es) k ≡ false
 not_below k [] h = refl
 not_below k (e ∷ es) h =
     let parts = both_true (is_lt (slice_cmp nat_cmp k e.0)) (below_all (slice_cmp nat_cmp) k es) h in
     ap (λ b. b || is_member (map (λ e. e.0) es) k) (less_not_tied k e.0 parts.0) ∙ not_below k es parts.1
 
-sorted_distinct : (es : List (List ℕ × State)) → T (is_sorted (slice_cmp nat_cmp) es) → AreDistinct (map (λ e. e.0) es)
+pub sorted_distinct : {X : Type 0} (es : List (List ℕ × X)) → T (is_sorted (slice_cmp nat_cmp) es) → AreDistinct (map (λ e. e.0) es)
 sorted_distinct [] h = tt
 sorted_distinct (e ∷ es) h =
     let parts = both_true (below_all (slice_cmp nat_cmp) e.0 es) (is_sorted (slice_cmp nat_cmp) es) h in
     (not_below e.0 es parts.0, sorted_distinct es parts.1)
 
-any_member : (k : List ℕ) (ks : List (List ℕ)) → list_any (eq_by_cmp (slice_cmp nat_cmp) k) ks ≡ is_member ks k
+pub any_member : (k : List ℕ) (ks : List (List ℕ)) → list_any (eq_by_cmp (slice_cmp nat_cmp) k) ks ≡ is_member ks k
 any_member k [] = refl
 any_member k (q ∷ ks) = ap (λ b. eq_by_cmp (slice_cmp nat_cmp) k q || b) (any_member k ks)
 
@@ -95,7 +95,7 @@ held_member m k = contains_key-keys m k ∙ any_member k (keys m)
 is_held_some : {X : Type 0} (o : Option X) → is_some o ≡ true → o ≢ None
 is_held_some o h e = true≢false (sym h ∙ ap is_some e)
 
-each_member : (P : List ℕ → Type 0) (ks : List (List ℕ)) → ((k : List ℕ) → is_member ks k ≡ true → P k) → Each P ks
+pub each_member : (P : List ℕ → Type 0) (ks : List (List ℕ)) → ((k : List ℕ) → is_member ks k ≡ true → P k) → Each P ks
 each_member P [] f = tt
 each_member P (k ∷ ks) f = (
   f k (ap (λ b. b || is_member ks k) (tied k)),

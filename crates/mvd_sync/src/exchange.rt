@@ -1,5 +1,5 @@
 //! The exchange of keys, a window after the other.
-ghost use Rattle.std.specs.Prelude.{◌≡◌, ◌<◌, ◌+◌, ◌^◌, ◌++◌, ◌∷◌, [], length, map, filter_map, IfOk, IfErr, OnOk, cond, ◌≤◌};
+ghost use Rattle.std.specs.Prelude.{◌≡◌, ◌<◌, ◌+◌, ◌^◌, ◌++◌, ◌∷◌, [], length, map, filter_map, IfOk, IfErr, OnOk, cond, ◌≤◌, ◌↔◌, IsTrue};
 ghost use Rattle.mvd_sync.specs.Exchanges.{Adds, Exchanges, IsHeldByEither};
 ghost use Rattle.mvd_sync.specs.Meetings.{done_of, held_keys, pair_of};
 ghost use Rattle.mvd_sync.specs.Questions.{ComesToEnd, Keeps, TakesFirst};
@@ -204,13 +204,32 @@ impl Exchange {
             Exchanges l p (self.old.waiting ++ entry ∷ []) left.old left.new local.old local.new peer.old peer.new
             self.old self.new result }
     {
-        if self.waiting.push(entry).is_err() {
-            return Err(SyncFault::Local(Refusal::Memory));
+        match self.wait(entry) {
+            Ok(()) => {}
+            Err(refusal) => return Err(SyncFault::Local(refusal)),
         }
-        if self.waiting.len() < WINDOW {
-            return Ok(());
+        if self.is_full() {
+            return self.exchange(local, peer, left);
         }
-        self.exchange(local, peer, left)
+        Ok(())
+    }
+
+    /// One more key waits.
+    fn wait(&mut self, entry: Entry) -> Result<(), Refusal>
+        requires held { IsHeldByEither entry }
+        ensures waits { OnOk result (self.new ≡ record self.old { waiting = self.old.waiting ++ entry ∷ [] }) }
+        ensures number { self.new.number ≡ self.old.number }
+        ensures memory { IfErr result (λ refusal. refusal ≡ Refusal.Memory) }
+    {
+        self.waiting.push(entry)?;
+        Ok(())
+    }
+
+    /// Whether as many keys wait as are exchanged at once.
+    fn is_full(&self) -> bool
+        ensures { IsTrue result ↔ (1000 ≤ length self.now.waiting) }
+    {
+        self.waiting.len() >= WINDOW
     }
 
     /// Exchanges the keys that wait.

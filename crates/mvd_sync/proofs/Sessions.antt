@@ -142,7 +142,7 @@ module _ {L P : Type 0} (l : SideOf L) (p : SideOf P) (most : ℕ) (local local1
   session_walks fault r =
       let left : Questions = record { local = most; peer = most } in
       let e = begins_with (l.number local) in
-      session_ends l p most local local1 peer peer1 left e e fault (goes_of_end l p (λ asked. AreFewFor l p local peer (λ m. asked ≤ 1 + 2 * m)) left left local local1 peer peer1 e fault r)
+      session_ends l p most local local1 peer peer1 left e e {A = Unit {0}} fault (goes_of_end l p (λ asked. AreFewFor l p local peer (λ m. asked ≤ 1 + 2 * m)) left left local local1 peer peer1 e fault r)
       (λ t u. joins_some (l.most_keys local) (p.most_keys peer) (l.states local) (p.states peer) (l.states local1) (p.states peer1) (l.number local) (l.is_faithful local1) (p.is_faithful peer1) []
       (so_none (l.most_keys local) (p.most_keys peer) (l.number local) (l.states local) (p.states peer) (l.states local1) (p.states peer1) (r.kept_local t).states (r.kept_peer u).states))
       (λ t u differing all.
@@ -282,3 +282,9 @@ module _ {L P : Type 0} (l : SideOf L) (p : SideOf P)
                 (λ apart key differ. ap (λ ks. is_member ks key) (sym done_keys) ∙ f.all key ((w.right t u).whole apart key differ) (digests_differ a b (form_l local t) (form_p peer u) apart key differ));
           })
       (all_few x2 second left3 local3 peer3 e3 (Ok x3) third)
+
+-- buckets by the names that a session has for them
+pub over_at : {L P A : Type 0} (l : SideOf L) (p : SideOf P) (qs ps : List (List ℕ)) (left left' : Questions) (local local' : L) (peer peer' : P) (e f after : Exchanging) (result : Result A SyncFault) → qs ≡ ps → e ≡ f
+    → GoesOver l p qs (length qs) left left' local local' peer peer' e after result → GoesOver l p ps (length ps) left left' local local' peer peer' f after result
+over_at l p qs ps left left' local local' peer peer' e f after result same start h =
+    subst (λ x. GoesOver l p ps (length ps) left left' local local' peer peer' x after result) start (subst (λ xs. GoesOver l p xs (length xs) left left' local local' peer peer' e after result) same h)

@@ -3,8 +3,6 @@ use Rattle.mvd_sync.specs.Exchanges.{Adds, Exchanging}
 use Rattle.mvd_sync.specs.Meetings.{done_of}
 use Rattle.mvd_sync.specs.Sides.{side as side_of}
 use Rattle.mvd_sync.proofs.Exchanging.{exchanges_all, exchanges_end, exchanges_memory, none_waits, window_at}
-use Rattle.mvd_sync.proofs.Sessions.{session_all}
-use Rattle.mvd_sync.proofs.HeldFew.{held_few}
 use Rattle.mvd_sync.proofs.exchange.Exchange.exchange.Goals as goal
 
 pub returns-in-Err-clause-exchanges : goal.returns-in-Err-clause-exchanges

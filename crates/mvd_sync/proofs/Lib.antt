@@ -29,3 +29,4 @@ pub mod ManyPushes
 pub mod Inner
 pub mod Pushing
 pub mod Turns
+pub mod RemoteSides

@@ -3,7 +3,7 @@ mod answer;
 mod many;
 mod window;
 
-ghost use Rattle.std.specs.Prelude.{◌≡◌, ◌⊎◌, IfOk, MatchResult, None, Some, Ok, Err, refl};
+ghost use Rattle.std.specs.Prelude.{◌≡◌, ◌⊎◌, IfOk, MatchResult, None, Some, Ok, Err, map, refl};
 ghost use Rattle.mvd_dots.specs.declared.refusals.Refusal.{Refusal};
 ghost use Rattle.mvd_wire.specs.declared.request.Request.TheVariants.{Get, Node, Bucket, Push, Bye};
 ghost use Rattle.mvd_wire.specs.declared.reply.Reply.TheVariants.{State as Shown, Done, Digests as Told, Keys, Refused};
@@ -321,22 +321,46 @@ impl<R: Read + Drop, W: Write + Drop> Peer for Remote<R, W> {
         Remote::push(self, key, state)
     }
 
-    fn nodes(&mut self, paths: &[Path]) -> Result<Vec<Result<Digests, Refusal>>, Refusal> {
+    fn nodes(&mut self, paths: &[Path]) -> Result<Vec<Result<Digests, Refusal>>, Refusal>
+        ensures asked { let frames = frames_of (map (λ path. Node path) paths.now) in
+            let old = link R.remaining W.contents self.old in
+            let new = link R.remaining W.contents self.new in
+            MatchResult result (λ told. AsksAll (λ digests. Told digests) 0xA7 frames told.items old new) (RefusesAll 0xA7 frames old new) }
+        ensures stays { (refusal : Refusal) → self.old.refused ≡ Some refusal → (result ≡ Err refusal) × (self.new ≡ self.old) }
+    {
         Remote::nodes(self, paths)
     }
 
     fn pages(
         &mut self,
         asked: &[(Path, Option<Key>)],
-    ) -> Result<Vec<Result<Page, Refusal>>, Refusal> {
+    ) -> Result<Vec<Result<Page, Refusal>>, Refusal>
+        ensures asked { let frames = frames_of (map (λ q. Bucket q.0 q.1) asked.now) in
+            let old = link R.remaining W.contents self.old in
+            let new = link R.remaining W.contents self.new in
+            MatchResult result (λ told. AsksAll (λ page. Keys page.0.items page.1) 0xA8 frames told.items old new) (RefusesAll 0xA8 frames old new) }
+        ensures stays { (refusal : Refusal) → self.old.refused ≡ Some refusal → (result ≡ Err refusal) × (self.new ≡ self.old) }
+    {
         Remote::pages(self, asked)
     }
 
-    fn get_all(&mut self, keys: &[Key]) -> Result<Vec<Result<KeyState, Refusal>>, Refusal> {
+    fn get_all(&mut self, keys: &[Key]) -> Result<Vec<Result<KeyState, Refusal>>, Refusal>
+        ensures asked { let frames = frames_of (map (λ key. Get key) keys.now) in
+            let old = link R.remaining W.contents self.old in
+            let new = link R.remaining W.contents self.new in
+            MatchResult result (λ told. AsksAll (λ state. Shown state) 0xA1 frames told.items old new) (RefusesAll 0xA1 frames old new) }
+        ensures stays { (refusal : Refusal) → self.old.refused ≡ Some refusal → (result ≡ Err refusal) × (self.new ≡ self.old) }
+    {
         Remote::get_all(self, keys)
     }
 
-    fn push_all(&mut self, pairs: &[(Key, KeyState)]) -> Result<Vec<Result<(), Refusal>>, Refusal> {
+    fn push_all(&mut self, pairs: &[(Key, KeyState)]) -> Result<Vec<Result<(), Refusal>>, Refusal>
+        ensures asked { let frames = frames_of (map (λ pair. Push pair.0 pair.1) pairs.now) in
+            let old = link R.remaining W.contents self.old in
+            let new = link R.remaining W.contents self.new in
+            MatchResult result (λ told. AsksAll (λ _. Done) 0xA3 frames told.items old new) (RefusesAll 0xA3 frames old new) }
+        ensures stays { (refusal : Refusal) → self.old.refused ≡ Some refusal → (result ≡ Err refusal) × (self.new ≡ self.old) }
+    {
         Remote::push_all(self, pairs)
     }
 }

@@ -82,7 +82,7 @@ module _ {S : Type 0} (refused : S → Option Refusal) where
         let m = many_after ([], []) (map request qs) in
         let n = many_turns kind (frames_of (map request qs)).1 a.replies l.input l'.input a.answered.read in
         let o = many_each (Answers as_reply) a.replies ts a.tells in
-        let p = length-map request qs in
+        let p = length-map qs request in
         record {
           count = still;
           may = each_free May qs ts free (omega arith);

@@ -68,8 +68,8 @@ module _ {S : Type 0} (refused : S → Option Refusal) where
   Goes s = refused s ≡ None
 
   module _ {V A Q : Type 0} (as_reply : A → Reply) (items : V → List (Result A Refusal)) (kind : ℕ) (request : Q → Request) (qs : List Q) (old new : S) (result : Result V Refusal) (l l' : Link) (was : l.refused ≡ refused old) (is : l'.refused ≡ refused new)
-    (stays : (refusal : Refusal) → refused old ≡ Some refusal → (result ≡ Err refusal) × (new ≡ old))
-    (asked : MatchResult result (λ v. AsksAll as_reply kind (frames_of (map request qs)) (items v) l l') (RefusesAll kind (frames_of (map request qs)) l l')) where
+      (stays : (refusal : Refusal) → refused old ≡ Some refusal → (result ≡ Err refusal) × (new ≡ old))
+      (asked : MatchResult result (λ v. AsksAll as_reply kind (frames_of (map request qs)) (items v) l l') (RefusesAll kind (frames_of (map request qs)) l l')) where
     still : Stays Over old new
     still over = (stays over.0 over.1).1
 

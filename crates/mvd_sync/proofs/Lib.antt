@@ -41,3 +41,4 @@ pub mod Exchanging
 pub mod Telling
 pub mod Sessions
 pub mod HeldFew
+pub mod RemoteSides

@@ -1,14 +1,13 @@
 -- Pushes by windows.
-use Rattle.std.proofs.Common.{◌≡◌, ◌≢◌, ◌⊎◌, inl, inr, ℕ, zero, suc, ◌+◌, ◌-◌, ◌<◌, ◌≤◌, true, false, List, [], ◌∷◌, ◌++◌, length, take, drop, get_or, refl, sym, ap, subst, ◌∙◌, arith, length-append, length-drop, append_assoc}
+use Rattle.std.proofs.Common.{◌≡◌, ◌≢◌, ◌⊎◌, inl, inr, ℕ, zero, suc, ◌+◌, ◌-◌, ◌≤◌, false, List, [], ◌∷◌, ◌++◌, length, take, drop, refl, sym, ap, subst, ◌∙◌, arith, length-append, length-drop, append_assoc}
 use Rattle.std.specs.Prelude.{Result, Ok, Err, All, Contains}
-use Rattle.std.proofs.Math.Seq.{take-append-add, take-append_seam}
+use Rattle.std.proofs.Math.Seq.{take-append_seam}
 use Rattle.std.proofs.lemmas.List.{append-nil, length-take-le, take-append-drop, take_all}
 use Rattle.mvd_dots.specs.declared.refusals.Refusal.{Refusal}
 use Rattle.mvd_dots.specs.declared.refusals.Refusal.TheVariants.{Broken, DotClash, Memory, TooManyRequests}
 use Rattle.mvd_keys.specs.State.{State}
 use Rattle.mvd_keys.specs.Writes.{Key}
-use Rattle.mvd_site.specs.Held.{States}
-use Rattle.mvd_sync.specs.Questions.{AllAnswered, ComesToEnd, ForEach, IsOfKey, Takes, TakesFirst, TakesIn}
+use Rattle.mvd_sync.specs.Questions.{AllAnswered, ComesToEnd, ForEach, IsOfKey, TakesFirst, TakesIn}
 use Rattle.mvd_sync.specs.Sides.{Blames, HasAnswered, HasRefused, Side, is_of_key, of_memory, of_questions, of_side}
 use Rattle.mvd_sync.specs.Windows.{Asked, EachAnswer, EachTold, Ends, Pushes, PushesFirst}
 use Rattle.mvd_sync.proofs.Answering.{told_at}
@@ -198,7 +197,7 @@ module _ {S : Type 0} (s : Side S) (on : (m n : ℕ) (old mid new : S) → s.fol
               record {
                 still = unbroken k.0;
                 pushes = subst (λ (ps : List Pair). PushesFirst (s.is_faithful new) (s.most_keys old) (s.states old) ps (s.states new)) (sym before.whole)
-                (first_later (s.is_faithful new) (s.most_keys old) (s.states old) (s.states mid) (s.states new) before.done told rest k.1
-                (at.0, p.1, p.2, subst (λ (ps : List Pair). Pushes (s.most_keys old) (s.states mid) ps p.1 p.2) at.1 (subst (λ (m : ℕ). Pushes m (s.states mid) (take p.0 (take taken rest)) p.1 p.2) most p.3), p.4));
+                    (first_later (s.is_faithful new) (s.most_keys old) (s.states old) (s.states mid) (s.states new) before.done told rest k.1
+                    (at.0, p.1, p.2, subst (λ (ps : List Pair). Pushes (s.most_keys old) (s.states mid) ps p.1 p.2) at.1 (subst (λ (m : ℕ). Pushes m (s.states mid) (take p.0 (take taken rest)) p.1 p.2) most p.3), p.4));
               };
         }

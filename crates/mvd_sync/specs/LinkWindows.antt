@@ -1,6 +1,8 @@
 -- Many questions over a connection: all their frames go out, and then a reply comes in for each.
-use Rattle.std.specs.Prelude.{◌≡◌, ◌⊎◌, ◌<◌, ℕ, List, [], ◌∷◌, ◌++◌, length, take, Option, Some, None, Result, Ok, Err, Contains}
+use Rattle.std.specs.Prelude.{◌≡◌, ◌⊎◌, ◌<◌, ℕ, List, [], ◌∷◌, ◌++◌, take, Option, Some, None, Result, Ok, Err, Contains, MatchResult}
 use Rattle.std.specs.Io.KnownBytes.{Appends}
+use Rattle.std.specs.declared.alloc.Global.{Global}
+use Rattle.std.specs.declared.vec.Vec.{Vec}
 use Rattle.mvd_dots.specs.Refusal.{number_of}
 use Rattle.mvd_dots.specs.declared.refusals.Refusal.{Refusal}
 use Rattle.mvd_dots.specs.declared.refusals.Refusal.TheVariants.{Broken, Memory, WriteFailed}
@@ -83,6 +85,11 @@ pub data RefusesAll (kind : ℕ) (frames : Frames) (old new : Link) (refusal : R
   -- all were answered, and one by that the side is broken, or memory was refused
   of_answer : (replies : List (Result Reply Refusal)) → Answered kind frames replies old new → (refusal ≡ Memory) ⊎ ((refusal ≡ Broken) × (Contains replies (Ok (Refused Broken)) ⊎ Contains replies (Err Broken)))
       → RefusesAll kind frames old new refusal
+
+-- what many questions for answers give, whose replies are of this kind
+abbrev pub AsksForAll : {A : Type 0} → (A → Reply) → ℕ → List Request → Link → Link → Result (Vec (Result A Refusal) Global) Refusal → Type 0
+AsksForAll as_reply kind requests old new result =
+    MatchResult result (λ told. AsksAll as_reply kind (frames_of requests) told.items old new) (RefusesAll kind (frames_of requests) old new)
 
 -- a reply of a kind that was asked for, or a refusal
 abbrev pub IsOfKind : ℕ → Result Reply Refusal → Type 0

@@ -1,5 +1,5 @@
 -- Questions over a connection: a frame goes out, and a frame comes in.
-use Rattle.std.specs.Prelude.{◌≡◌, ◌≢◌, ◌⊎◌, ◌<◌, ◌≤◌, ℕ, List, Option, Some, None, Result, Ok, Err}
+use Rattle.std.specs.Prelude.{◌≡◌, ◌≢◌, ◌⊎◌, ◌<◌, ◌≤◌, ℕ, List, Option, Some, None, Result, Ok, Err, MatchResult}
 use Rattle.std.specs.Io.KnownBytes.{Appends}
 use Rattle.mvd_dots.specs.Refusal.{number_of}
 use Rattle.mvd_dots.specs.declared.refusals.Refusal.{Refusal}
@@ -118,3 +118,11 @@ Asks old new request (Err refusal) = SendsNothing old new request refusal ⊎ Se
 -- a refusal of a question: the link gave it, or the peer told it
 abbrev pub Refuses : Link → Link → Request → Refusal → Type 0
 Refuses old new request refusal = Asks old new request (Err refusal) ⊎ SendsFrame old new request (Ok (Refused refusal))
+
+-- what a question for an answer gives: a reply that tells it, or a refusal
+abbrev pub AsksFor : {A : Type 0} → (A → Reply) → Request → Link → Link → Result A Refusal → Type 0
+AsksFor as_reply request old new result = MatchResult result (λ answer. SendsFrame old new request (Ok (as_reply answer))) (λ refusal. Refuses old new request refusal)
+
+-- a link that has refused refuses so again, and stays as it is
+abbrev pub StaysRefused : {R W A : Type 0} → Remote R W → Remote R W → Result A Refusal → Type 0
+StaysRefused old new result = (refusal : Refusal) → old.refused ≡ Some refusal → (result ≡ Err refusal) × (new ≡ old)

@@ -30,7 +30,8 @@ pub trait Answer: Sized + Drop {
     /// What a reply of this kind tells, or the refusal that it is.
     fn of(reply: Reply) -> Result<Self, Refusal>
         ensures told { IfOk result (λ answer. reply ≡ as_reply answer) }
-        ensures refused { (kind_of reply ≡ of_kind) ⊎ (kind_of reply ≡ 0xEE) → IfErr result (λ refusal. reply ≡ Refused refusal) };
+        ensures refused { (kind_of reply ≡ of_kind) ⊎ (kind_of reply ≡ 0xEE) →
+            IfErr result (λ refusal. reply ≡ Refused refusal) };
 }
 
 impl Answer for Digests {
@@ -105,7 +106,8 @@ impl Answer for () {
 fn answer_of<A: Answer>(reply: Result<Reply, Refusal>) -> Result<Result<A, Refusal>, Refusal>
     requires { IsOfKind A.of_kind reply }
     ensures told { IfOk result (Answers A.as_reply reply) }
-    ensures broken { IfErr result (λ refusal. (refusal ≡ Broken) × ((reply ≡ Ok (Refused Broken)) ⊎ (reply ≡ Err Broken))) }
+    ensures broken { IfErr result
+        (λ refusal. (refusal ≡ Broken) × ((reply ≡ Ok (Refused Broken)) ⊎ (reply ≡ Err Broken))) }
 {
     let answer = match reply {
         Ok(reply) => A::of(reply),
@@ -124,7 +126,8 @@ pub fn answers<A: Answer>(
 ) -> Result<Vec<Result<A, Refusal>>, Refusal>
     requires { All (IsOfKind A.of_kind) replies.items }
     ensures told { IfOk result (λ told. ForEach (Answers A.as_reply) replies.items told.items) }
-    ensures ended { IfErr result (λ refusal. (refusal ≡ Memory) ⊎ ((refusal ≡ Broken) × (Contains replies.items (Ok (Refused Broken)) ⊎ Contains replies.items (Err Broken)))) }
+    ensures ended { IfErr result (λ refusal. (refusal ≡ Memory) ⊎ ((refusal ≡ Broken) ×
+        (Contains replies.items (Ok (Refused Broken)) ⊎ Contains replies.items (Err Broken)))) }
 {
     let mut told = room_for(alloc, replies.len())?;
     for reply in replies {

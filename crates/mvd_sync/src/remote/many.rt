@@ -1,10 +1,9 @@
 //! Many questions to a site at the other end of a connection, asked at once.
-ghost use Rattle.std.specs.Prelude.{◌≡◌, None, Some, Ok, Err, MatchResult, map};
-ghost use Rattle.mvd_dots.specs.declared.refusals.Refusal.{Refusal};
+ghost use Rattle.std.specs.Prelude.{map};
 ghost use Rattle.mvd_wire.specs.declared.request.Request.TheVariants.{Get, Node, Bucket, Push};
 ghost use Rattle.mvd_wire.specs.declared.reply.Reply.TheVariants.{State, Done, Digests as Told, Keys};
-ghost use Rattle.mvd_sync.specs.LinkWindows.{AsksAll, RefusesAll, frames_of};
-ghost use Rattle.mvd_sync.specs.Links.{link};
+ghost use Rattle.mvd_sync.specs.LinkWindows.{AsksForAll};
+ghost use Rattle.mvd_sync.specs.Links.{StaysRefused, link};
 
 use super::Remote;
 use super::window::Window;
@@ -17,11 +16,9 @@ use std::io::{Read, Write};
 impl<R: Read + Drop, W: Write + Drop> Remote<R, W> {
     /// The digests of several nodes, asked at once.
     pub fn nodes(&mut self, paths: &[Path]) -> Result<Vec<Result<Digests, Refusal>>, Refusal>
-        ensures asked { let frames = frames_of (map (λ path. Node path) paths.now) in
-            let old = link R.remaining W.contents self.old in
-            let new = link R.remaining W.contents self.new in
-            MatchResult result (λ told. AsksAll (λ digests. Told digests) 0xA7 frames told.items old new) (RefusesAll 0xA7 frames old new) }
-        ensures stays { (refusal : Refusal) → self.old.refused ≡ Some refusal → (result ≡ Err refusal) × (self.new ≡ self.old) }
+        ensures asked { AsksForAll (λ digests. Told digests) 0xA7 (map (λ path. Node path) paths.now)
+            (link R.remaining W.contents self.old) (link R.remaining W.contents self.new) result }
+        ensures stays { StaysRefused self.old self.new result }
     {
         if let Some(refusal) = self.refused {
             return Err(refusal);
@@ -34,12 +31,13 @@ impl<R: Read + Drop, W: Write + Drop> Remote<R, W> {
     }
 
     /// Pages of several buckets, asked at once.
-    pub fn pages(&mut self, asked: &[(Path, Option<Key>)]) -> Result<Vec<Result<Page, Refusal>>, Refusal>
-        ensures asked { let frames = frames_of (map (λ q. Bucket q.0 q.1) asked.now) in
-            let old = link R.remaining W.contents self.old in
-            let new = link R.remaining W.contents self.new in
-            MatchResult result (λ told. AsksAll (λ page. Keys page.0.items page.1) 0xA8 frames told.items old new) (RefusesAll 0xA8 frames old new) }
-        ensures stays { (refusal : Refusal) → self.old.refused ≡ Some refusal → (result ≡ Err refusal) × (self.new ≡ self.old) }
+    pub fn pages(
+        &mut self,
+        asked: &[(Path, Option<Key>)],
+    ) -> Result<Vec<Result<Page, Refusal>>, Refusal>
+        ensures asked { AsksForAll (λ page. Keys page.0.items page.1) 0xA8 (map (λ q. Bucket q.0 q.1) asked.now)
+            (link R.remaining W.contents self.old) (link R.remaining W.contents self.new) result }
+        ensures stays { StaysRefused self.old self.new result }
     {
         if let Some(refusal) = self.refused {
             return Err(refusal);
@@ -53,11 +51,9 @@ impl<R: Read + Drop, W: Write + Drop> Remote<R, W> {
 
     /// The states that the site has of several keys, asked at once.
     pub fn get_all(&mut self, keys: &[Key]) -> Result<Vec<Result<KeyState, Refusal>>, Refusal>
-        ensures asked { let frames = frames_of (map (λ key. Get key) keys.now) in
-            let old = link R.remaining W.contents self.old in
-            let new = link R.remaining W.contents self.new in
-            MatchResult result (λ told. AsksAll (λ state. State state) 0xA1 frames told.items old new) (RefusesAll 0xA1 frames old new) }
-        ensures stays { (refusal : Refusal) → self.old.refused ≡ Some refusal → (result ≡ Err refusal) × (self.new ≡ self.old) }
+        ensures asked { AsksForAll (λ state. State state) 0xA1 (map (λ key. Get key) keys.now)
+            (link R.remaining W.contents self.old) (link R.remaining W.contents self.new) result }
+        ensures stays { StaysRefused self.old self.new result }
     {
         if let Some(refusal) = self.refused {
             return Err(refusal);
@@ -70,12 +66,13 @@ impl<R: Read + Drop, W: Write + Drop> Remote<R, W> {
     }
 
     /// Joins several states to those that the site has of their keys, all sent at once.
-    pub fn push_all(&mut self, pairs: &[(Key, KeyState)]) -> Result<Vec<Result<(), Refusal>>, Refusal>
-        ensures asked { let frames = frames_of (map (λ pair. Push pair.0 pair.1) pairs.now) in
-            let old = link R.remaining W.contents self.old in
-            let new = link R.remaining W.contents self.new in
-            MatchResult result (λ told. AsksAll (λ _. Done) 0xA3 frames told.items old new) (RefusesAll 0xA3 frames old new) }
-        ensures stays { (refusal : Refusal) → self.old.refused ≡ Some refusal → (result ≡ Err refusal) × (self.new ≡ self.old) }
+    pub fn push_all(
+        &mut self,
+        pairs: &[(Key, KeyState)],
+    ) -> Result<Vec<Result<(), Refusal>>, Refusal>
+        ensures asked { AsksForAll (λ _. Done) 0xA3 (map (λ pair. Push pair.0 pair.1) pairs.now)
+            (link R.remaining W.contents self.old) (link R.remaining W.contents self.new) result }
+        ensures stays { StaysRefused self.old self.new result }
     {
         if let Some(refusal) = self.refused {
             return Err(refusal);

@@ -45,7 +45,8 @@ impl Window {
 
     /// Adds the frame of a request, or why it has none; want of memory ends the window before anything is sent.
     pub fn add(&mut self, frame: Result<Vec<u8>, Refusal>) -> Result<(), Refusal>
-        ensures added { (spelled : Spelled (List ℕ) Cause) → Gives (λ v. v.items) frame spelled → OnOk result (self.new ≡ and_frame self.old spelled) }
+        ensures added { (spelled : Spelled (List ℕ) Cause) → Gives (λ v. v.items) frame spelled →
+            OnOk result (self.new ≡ and_frame self.old spelled) }
         ensures memory { IfErr result (λ refusal. refusal ≡ Memory) }
     {
         match frame {
@@ -64,10 +65,12 @@ impl<R: Read + Drop, W: Write + Drop> Remote<R, W> {
     /// Answers a request in its turn: by the next reply, or by the refusal of its encoding.
     fn turn(&mut self, none: Option<Refusal>, kind: u8) -> Result<Result<Reply, Refusal>, Refusal>
         requires { self.old.refused ≡ None }
-        ensures told { IfOk result (λ told. TakesTurn kind none told (R.remaining self.old.reader) (R.remaining self.new.reader)) }
+        ensures told { IfOk result
+            (λ told. TakesTurn kind none told (R.remaining self.old.reader) (R.remaining self.new.reader)) }
         ensures of_kind { IfOk result (IsOfKind kind) }
         ensures goes_on { OnOk result (self.new.refused ≡ None) }
-        ensures broke { IfErr result (λ refusal. ReadCause (R.remaining self.old.reader) (R.remaining self.new.reader) kind refusal × (self.new.refused ≡ Some refusal)) }
+        ensures broke { IfErr result (λ refusal. ReadCause (R.remaining self.old.reader) (R.remaining self.new.reader)
+            kind refusal × (self.new.refused ≡ Some refusal)) }
         ensures writer { self.new.writer ≡ self.old.writer }
     {
         if let Some(refusal) = none {
@@ -89,10 +92,13 @@ impl<R: Read + Drop, W: Write + Drop> Remote<R, W> {
     ) -> Result<(), Refusal>
         requires goes_on { self.old.refused ≡ None }
         requires empty { replies.old.items ≡ [] }
-        ensures came { OnOk result (TakeTurns kind nones.now replies.new.items (R.remaining self.old.reader) (R.remaining self.new.reader)) }
+        ensures came { OnOk result
+            (TakeTurns kind nones.now replies.new.items (R.remaining self.old.reader) (R.remaining self.new.reader)) }
         ensures of_kind { OnOk result (All (IsOfKind kind) replies.new.items) }
         ensures goes_on { OnOk result (self.new.refused ≡ None) }
-        ensures broke { IfErr result (λ refusal. TurnBreaks kind nones.now (R.remaining self.old.reader) (R.remaining self.new.reader) refusal × (self.new.refused ≡ Some refusal)) }
+        ensures broke { IfErr result
+            (λ refusal. TurnBreaks kind nones.now (R.remaining self.old.reader) (R.remaining self.new.reader) refusal
+            × (self.new.refused ≡ Some refusal)) }
         ensures writer { self.new.writer ≡ self.old.writer }
     {
         for none in nones {
@@ -105,11 +111,17 @@ impl<R: Read + Drop, W: Write + Drop> Remote<R, W> {
     }
 
     /// Writes all frames of a window, and then answers each request in its turn.
-    fn send_all(&mut self, window: &Window, kind: u8) -> Result<Vec<Result<Reply, Refusal>>, Refusal>
+    fn send_all(
+        &mut self,
+        window: &Window,
+        kind: u8,
+    ) -> Result<Vec<Result<Reply, Refusal>>, Refusal>
         requires { self.old.refused ≡ None }
         ensures sent { MatchResult result
-            (λ replies. Answered kind window.now replies.items (link R.remaining W.contents self.old) (link R.remaining W.contents self.new))
-            (RefusesAll kind window.now (link R.remaining W.contents self.old) (link R.remaining W.contents self.new)) }
+            (λ replies. Answered kind window.now replies.items
+            (link R.remaining W.contents self.old) (link R.remaining W.contents self.new))
+            (RefusesAll kind window.now
+            (link R.remaining W.contents self.old) (link R.remaining W.contents self.new)) }
         ensures of_kind { IfOk result (λ replies. All (IsOfKind kind) replies.items) }
     {
         let mut replies = room_for(self.alloc, window.nones.len())?;
@@ -121,11 +133,16 @@ impl<R: Read + Drop, W: Write + Drop> Remote<R, W> {
     }
 
     /// Asks all questions of a window.
-    pub(super) fn ask_all<A: Answer>(&mut self, window: &Window) -> Result<Vec<Result<A, Refusal>>, Refusal>
+    pub(super) fn ask_all<A: Answer>(
+        &mut self,
+        window: &Window,
+    ) -> Result<Vec<Result<A, Refusal>>, Refusal>
         requires { self.old.refused ≡ None }
         ensures { MatchResult result
-            (λ told. AsksAll A.as_reply A.of_kind window.now told.items (link R.remaining W.contents self.old) (link R.remaining W.contents self.new))
-            (RefusesAll A.of_kind window.now (link R.remaining W.contents self.old) (link R.remaining W.contents self.new)) }
+            (λ told. AsksAll A.as_reply A.of_kind window.now told.items
+            (link R.remaining W.contents self.old) (link R.remaining W.contents self.new))
+            (RefusesAll A.of_kind window.now
+            (link R.remaining W.contents self.old) (link R.remaining W.contents self.new)) }
     {
         let replies = self.send_all(window, A::kind())?;
         answers(self.alloc, replies)

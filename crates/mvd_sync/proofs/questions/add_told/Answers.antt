@@ -1,4 +1,4 @@
-use Rattle.std.proofs.Common.{◌≡◌, ◌∙◌, ap, subst, List, ◌∷◌, ◌++◌, []}
+use Rattle.std.proofs.Common.{◌∙◌, ap, subst, List, ◌∷◌, ◌++◌, []}
 use Rattle.std.specs.Prelude.{Result}
 use Rattle.mvd_dots.specs.declared.refusals.Refusal.{Refusal}
 use Rattle.std.proofs.lemmas.List.{append_assoc}

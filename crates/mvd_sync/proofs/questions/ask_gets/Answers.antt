@@ -1,4 +1,4 @@
-use Rattle.std.proofs.Common.{◌≡◌, ◌≢◌, ◌∙◌, ◌∷◌, ◌++◌, [], List, length, map, refl, sym, subst, rules}
+use Rattle.std.proofs.Common.{◌≡◌, ◌≢◌, ◌∙◌, ◌∷◌, ◌++◌, [], List, length, refl, sym, subst, rules}
 use Rattle.std.specs.Prelude.{Result, Ok, Err}
 use Rattle.std.proofs.lemmas.Iterator.Adapters.{YieldsList-from_vec}
 use Rattle.std.proofs.lemmas.Iterator.Consumers.{YieldsList-end, YieldsList-turn}
@@ -6,8 +6,6 @@ use Rattle.std.proofs.lemmas.List.{map-id}
 use Rattle.mvd_dots.specs.declared.refusals.Refusal.{Refusal}
 use Rattle.mvd_dots.specs.declared.refusals.Refusal.TheVariants.{DotClash}
 use Rattle.mvd_keys.specs.State.{State}
-use Rattle.mvd_keys.specs.Writes.{Key}
-use Rattle.mvd_site.specs.Held.{state_at}
 use Rattle.mvd_sync.specs.Questions.{ForEach}
 use Rattle.mvd_sync.specs.Sides.{HasAnswered, HasRefused, of_side, side}
 use Rattle.mvd_sync.specs.Windows.{EachTold}

@@ -1,7 +1,5 @@
-use Rattle.std.proofs.Common.{◌≡◌, ◌≢◌, ◌<◌, ◌^◌, List, ℕ, Option, None}
-use Rattle.mvd_sync.specs.Answers.{IsPage}
+use Rattle.std.proofs.Common.{◌≡◌}
 use Rattle.mvd_sync.specs.Questions.{ForEach}
-use Rattle.mvd_sync.specs.Windows.{EachTold}
 use Rattle.mvd_sync.proofs.Answering.{Passes}
 use Rattle.mvd_sync.proofs.questions.ask_gets.Given as goal
 

@@ -1,12 +1,11 @@
-use Rattle.std.proofs.Common.{◌≡◌, ◌≢◌, ◌∙◌, ◌∷◌, ◌++◌, [], List, length, take, get_or, map, refl, sym, subst, rules}
+use Rattle.std.proofs.Common.{◌≡◌, ◌≢◌, ◌∙◌, ◌∷◌, ◌++◌, [], List, length, take, get_or, sym, subst, rules}
 use Rattle.std.specs.Prelude.{Result, Ok, Err}
 use Rattle.std.proofs.lemmas.Iterator.Adapters.{YieldsList-from_vec}
 use Rattle.std.proofs.lemmas.Iterator.Consumers.{YieldsList-end, YieldsList-turn}
 use Rattle.std.proofs.lemmas.List.{map-id}
 use Rattle.mvd_dots.specs.declared.refusals.Refusal.{Refusal}
 use Rattle.mvd_dots.specs.declared.refusals.Refusal.TheVariants.{DotClash}
-use Rattle.std.specs.Prelude.{None, Some}
-use Rattle.std.proofs.Common.{ℕ, ◌<◌, ap, arith}
+use Rattle.std.proofs.Common.{ap}
 use Rattle.mvd_site.specs.Answer.{digests}
 use Rattle.std.specs.Prelude.{Bool}
 use Rattle.mvd_sync.specs.Answers.{Entry}
@@ -14,7 +13,7 @@ use Rattle.mvd_sync.proofs.ToldPages.{TellsPage, Told, listing_right, not_bad}
 use Rattle.mvd_sync.specs.Questions.{ForEach}
 use Rattle.mvd_sync.specs.Sides.{HasAnswered, HasRefused, of_answer, of_side, side}
 use Rattle.mvd_sync.specs.Windows.{EachTold}
-use Rattle.mvd_sync.proofs.Answering.{IsListingOf, Passes, answer_at, answered_all, each-take, ended_by, ended_memory, ended_within, for_each_more, passed, told_at}
+use Rattle.mvd_sync.proofs.Answering.{IsListingOf, Passes, answered_all, ended_by, ended_memory, ended_within, for_each_more, passed, told_at}
 use Rattle.mvd_sync.proofs.OneByOne.{at_err, at_err_same}
 use Rattle.mvd_sync.proofs.questions.ask_pages.Goals as goal
 

@@ -1,7 +1,4 @@
-use Rattle.std.proofs.Common.{◌≡◌, ◌≢◌, ◌<◌, ◌^◌, List, ℕ, Option, None}
-use Rattle.mvd_sync.specs.Answers.{IsPage}
 use Rattle.mvd_sync.specs.Questions.{ForEach}
-use Rattle.mvd_sync.specs.Windows.{EachTold}
 use Rattle.mvd_sync.proofs.Answering.{Passes, IsListingOf}
 use Rattle.mvd_sync.proofs.questions.ask_pages.Given as goal
 

@@ -1,4 +1,4 @@
-use Rattle.std.proofs.Common.{◌≡◌, ◌≤◌, ◌∷◌, ◌++◌, [], List, length, refl, sym, subst, arith}
+use Rattle.std.proofs.Common.{◌≡◌, ◌≤◌, [], List, length, refl, sym, subst, arith}
 use Rattle.std.specs.Prelude.{All, Result}
 use Rattle.std.proofs.lemmas.List.Elements.{All-append}
 use Rattle.mvd_dots.specs.declared.refusals.Refusal.{Refusal}

@@ -54,7 +54,7 @@ distinct_second [] qs d = d
 distinct_second (p ∷ ps) qs d = distinct_second ps qs d.1
 
 -- a key below a bucket is below no other
-not_below : (p : List ℕ) (qs : List (List ℕ)) (key : Key) → is_member qs p ≡ false → length p ≡ 3 → AreLong 3 qs → IsTrue (is_under p key) → has_below qs key ≡ false
+pub not_below : (p : List ℕ) (qs : List (List ℕ)) (key : Key) → is_member qs p ≡ false → length p ≡ 3 → AreLong 3 qs → IsTrue (is_under p key) → has_below qs key ≡ false
 not_below p [] key other e l u = refl
 not_below p (q ∷ qs) key other e l u =
     let rest = not_below p qs key (or_right (eq_by_cmp (slice_cmp nat_cmp) p q) (is_member qs p) other) e l.1 u in

@@ -198,7 +198,7 @@ module _ {S : Type 0} (s : Side S) (on : (m n : ℕ) (old mid new : S) → s.fol
               record {
                 still = unbroken k.0;
                 pushes = subst (λ (ps : List Pair). PushesFirst (s.is_faithful new) (s.most_keys old) (s.states old) ps (s.states new)) (sym before.whole)
-                (first_later (s.is_faithful new) (s.most_keys old) (s.states old) (s.states mid) (s.states new) before.done told rest k.1
-                (at.0, p.1, p.2, subst (λ (ps : List Pair). Pushes (s.most_keys old) (s.states mid) ps p.1 p.2) at.1 (subst (λ (m : ℕ). Pushes m (s.states mid) (take p.0 (take taken rest)) p.1 p.2) most p.3), p.4));
+                    (first_later (s.is_faithful new) (s.most_keys old) (s.states old) (s.states mid) (s.states new) before.done told rest k.1
+                    (at.0, p.1, p.2, subst (λ (ps : List Pair). Pushes (s.most_keys old) (s.states mid) ps p.1 p.2) at.1 (subst (λ (m : ℕ). Pushes m (s.states mid) (take p.0 (take taken rest)) p.1 p.2) most p.3), p.4));
               };
         }

@@ -34,7 +34,10 @@ impl<R: Read + Drop, W: Write + Drop> Remote<R, W> {
     }
 
     /// Pages of several buckets, asked at once.
-    pub fn pages(&mut self, asked: &[(Path, Option<Key>)]) -> Result<Vec<Result<Page, Refusal>>, Refusal>
+    pub fn pages(
+        &mut self,
+        asked: &[(Path, Option<Key>)],
+    ) -> Result<Vec<Result<Page, Refusal>>, Refusal>
         ensures asked { let frames = frames_of (map (λ q. Bucket q.0 q.1) asked.now) in
             let old = link R.remaining W.contents self.old in
             let new = link R.remaining W.contents self.new in
@@ -70,7 +73,10 @@ impl<R: Read + Drop, W: Write + Drop> Remote<R, W> {
     }
 
     /// Joins several states to those that the site has of their keys, all sent at once.
-    pub fn push_all(&mut self, pairs: &[(Key, KeyState)]) -> Result<Vec<Result<(), Refusal>>, Refusal>
+    pub fn push_all(
+        &mut self,
+        pairs: &[(Key, KeyState)],
+    ) -> Result<Vec<Result<(), Refusal>>, Refusal>
         ensures asked { let frames = frames_of (map (λ pair. Push pair.0 pair.1) pairs.now) in
             let old = link R.remaining W.contents self.old in
             let new = link R.remaining W.contents self.new in

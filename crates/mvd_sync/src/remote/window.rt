@@ -105,7 +105,11 @@ impl<R: Read + Drop, W: Write + Drop> Remote<R, W> {
     }
 
     /// Writes all frames of a window, and then answers each request in its turn.
-    fn send_all(&mut self, window: &Window, kind: u8) -> Result<Vec<Result<Reply, Refusal>>, Refusal>
+    fn send_all(
+        &mut self,
+        window: &Window,
+        kind: u8,
+    ) -> Result<Vec<Result<Reply, Refusal>>, Refusal>
         requires { self.old.refused ≡ None }
         ensures sent { MatchResult result
             (λ replies. Answered kind window.now replies.items (link R.remaining W.contents self.old) (link R.remaining W.contents self.new))
@@ -121,7 +125,10 @@ impl<R: Read + Drop, W: Write + Drop> Remote<R, W> {
     }
 
     /// Asks all questions of a window.
-    pub(super) fn ask_all<A: Answer>(&mut self, window: &Window) -> Result<Vec<Result<A, Refusal>>, Refusal>
+    pub(super) fn ask_all<A: Answer>(
+        &mut self,
+        window: &Window,
+    ) -> Result<Vec<Result<A, Refusal>>, Refusal>
         requires { self.old.refused ≡ None }
         ensures { MatchResult result
             (λ told. AsksAll A.as_reply A.of_kind window.now told.items (link R.remaining W.contents self.old) (link R.remaining W.contents self.new))

@@ -31,7 +31,7 @@ returns-in-Err g c =
     let long : (length done + length window) + length later ≡ length c.args.paths.now = ap (λ k. k + length later) (sym (length-append done window)) ∙ sym (length-append (done ++ window) later) ∙ ap length all in
     subst (λ k. GoesThrough {A = Unit {0}} l p Told c.args.paths.now k c.args.left.now c.exchange_window.new.left c.args.local.now c.exchange_window.new.local c.args.peer.now c.exchange_window.new.peer c.args.exchange.now c.exchange_window.new.exchange (Err c.in-Err.fault)) long
     (subst (λ qs. GoesThrough {A = Unit {0}} l p Told qs ((length done + length window) + length later) c.args.left.now c.exchange_window.new.left c.args.local.now c.exchange_window.new.local c.args.peer.now c.exchange_window.new.peer c.args.exchange.now c.exchange_window.new.exchange (Err c.in-Err.fault)) all
-      (through_cut l p Told (done ++ window) later (length done + length window) (length later) c.args.left.now c.exchange_window.new.left c.args.local.now c.exchange_window.new.local c.args.peer.now c.exchange_window.new.peer c.args.exchange.now c.exchange_window.new.exchange c.in-Err.fault more))
+    (through_cut l p Told (done ++ window) later (length done + length window) (length later) c.args.left.now c.exchange_window.new.left c.args.local.now c.exchange_window.new.local c.args.peer.now c.exchange_window.new.peer c.args.exchange.now c.exchange_window.new.exchange c.in-Err.fault more))
 
 pub loop-rest-preserved : goal.loop-rest-preserved
 loop-rest-preserved g c =

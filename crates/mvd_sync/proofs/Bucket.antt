@@ -178,13 +178,13 @@ module _ {L P : Type 0} (l : Side L) (p : Side P)
       let t = g.still in
       let next : AreNext a b done ((before.waiting ++ f.found) ++ waits_if e) = subst (AreNext a b done) (sym (append_assoc before.waiting f.found (waits_if e))) f.gone.next in
       let so : SoFar (l.most_keys local2) (p.most_keys peer2) at.number a b (l.states local2) (p.states peer2) (done ++ g.now) =
-        subst (λ o. SoFar (l.most_keys local2) (p.most_keys peer2) o a b (l.states local2) (p.states peer2) (done ++ g.now)) (sym same)
-        (subst (λ i. SoFar i (p.most_keys peer2) before.number a b (l.states local2) (p.states peer2) (done ++ g.now)) (sym same_local)
-          (subst (λ j. SoFar (l.most_keys local) j before.number a b (l.states local2) (p.states peer2) (done ++ g.now)) (sym same_peer) g.so_far)) in
+      subst (λ o. SoFar (l.most_keys local2) (p.most_keys peer2) o a b (l.states local2) (p.states peer2) (done ++ g.now)) (sym same)
+      (subst (λ i. SoFar i (p.most_keys peer2) before.number a b (l.states local2) (p.states peer2) (done ++ g.now)) (sym same_local)
+      (subst (λ j. SoFar (l.most_keys local) j before.number a b (l.states local2) (p.states peer2) (done ++ g.now)) (sym same_peer) g.so_far)) in
       let all = s.meets t.0 t.1 a b (done ++ g.now) so g.counts (still_next done g.now (before.waiting ++ f.found) at.waiting (waits_if e) g.is a b g.waits.each next) in
       subst (λ o. SettlesAll l p o a b (done ++ g.now) (at.waiting ++ waits_if e) s.goes.asked_local s.goes.asked_peer local3 peer3 (l.most_keys local) (p.most_keys peer) after result) same
       (subst (λ i. SettlesAll l p at.number a b (done ++ g.now) (at.waiting ++ waits_if e) s.goes.asked_local s.goes.asked_peer local3 peer3 i (p.most_keys peer) after result) same_local
-        (subst (λ j. SettlesAll l p at.number a b (done ++ g.now) (at.waiting ++ waits_if e) s.goes.asked_local s.goes.asked_peer local3 peer3 (l.most_keys local2) j after result) same_peer all))
+      (subst (λ j. SettlesAll l p at.number a b (done ++ g.now) (at.waiting ++ waits_if e) s.goes.asked_local s.goes.asked_peer local3 peer3 (l.most_keys local2) j after result) same_peer all))
 
   lengths : (length (before.waiting ++ (f.found ++ waits_if e)) ≡ length (before.waiting ++ f.found) + length (waits_if e)) × (length (at.waiting ++ waits_if e) ≡ length at.waiting + length (waits_if e))
   lengths = (

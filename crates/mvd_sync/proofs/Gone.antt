@@ -156,8 +156,8 @@ pub past_all : (done : List Done) (waiting found : List Entry) (path : List ℕ)
 past_all done waiting found path upto elsewhere below =
     subst (Each (IsPast path upto)) (sym (all_split done waiting found))
     (Each-append (IsPast path upto) (keys_done done ++ keys_next waiting) (keys_next found)
-      (Each-weaker (λ key. is_under path key ≡ false) (IsPast path upto) (λ key lacks u h. true≢false (sym u ∙ lacks)) (keys_done done ++ keys_next waiting) elsewhere)
-      (each_keys (IsPast path upto) found (Each-weaker (λ e. IsTrue (is_under path e.key) × (is_after upto e.key ≡ false)) (λ e. IsPast path upto e.key) (λ e at u h. true≢false (sym h ∙ at.1)) found below)))
+    (Each-weaker (λ key. is_under path key ≡ false) (IsPast path upto) (λ key lacks u h. true≢false (sym u ∙ lacks)) (keys_done done ++ keys_next waiting) elsewhere)
+    (each_keys (IsPast path upto) found (Each-weaker (λ e. IsTrue (is_under path e.key) × (is_after upto e.key ≡ false)) (λ e. IsPast path upto e.key) (λ e at u h. true≢false (sym h ∙ at.1)) found below)))
 
 -- ---- the next key
 
@@ -239,8 +239,8 @@ module _ (a b : States) (done : List Done) (waiting : List Entry) (path : List �
                 | false ↦ λ lacks. absurd (differ (ap (get (digests a)) is ∙ at_first ∙ both_heads.same lacks ∙ sym at_second ∙ ap (get (digests b)) (sym is)))
               ] refl
           | false ↦ λ apart. absurd (differ (
-            gap (digests a) path upto e.key both_heads.first (mine'.0 ++ gone.first.listed.later) both_heads.mine key u h apart past
-            ∙ sym (gap (digests b) path upto e.key both_heads.second (theirs'.0 ++ gone.second.listed.later) both_heads.theirs key u h apart past)))
+              gap (digests a) path upto e.key both_heads.first (mine'.0 ++ gone.first.listed.later) both_heads.mine key u h apart past
+              ∙ sym (gap (digests b) path upto e.key both_heads.second (theirs'.0 ++ gone.second.listed.later) both_heads.theirs key u h apart past)))
         ] refl
       ] refl
 
@@ -252,10 +252,10 @@ module _ (a b : States) (done : List Done) (waiting : List Entry) (path : List �
   one_more =
       let before = past_all done waiting found path upto elsewhere gone.below in
       let is : (keys_done done ++ keys_next (waiting ++ found)) ++ e.key ∷ [] ≡ keys_done done ++ keys_next (waiting ++ (found ++ e ∷ [])) =
-        append_assoc (keys_done done) (keys_next (waiting ++ found)) (e.key ∷ []) ∙ ap (λ ks. keys_done done ++ ks) (sym (keys_next-append (waiting ++ found) (e ∷ [])) ∙ ap keys_next (append_assoc waiting found (e ∷ []))) in
+      append_assoc (keys_done done) (keys_next (waiting ++ found)) (e.key ∷ []) ∙ ap (λ ks. keys_done done ++ ks) (sym (keys_next-append (waiting ++ found) (e ∷ [])) ∙ ap keys_next (append_assoc waiting found (e ∷ []))) in
       subst AreDistinct is
       (distinct-append (IsPast path upto) (λ k. k ≡ e.key) (λ k past same. past (ap (is_under path) same ∙ both_heads.below) (ap (is_after upto) same ∙ both_heads.next))
-        (keys_done done ++ keys_next (waiting ++ found)) (e.key ∷ []) before (refl, tt) gone.next.distinct (refl, tt))
+      (keys_done done ++ keys_next (waiting ++ found)) (e.key ∷ []) before (refl, tt) gone.next.distinct (refl, tt))
 
   gone_with : IsTrue e.differs → Gone a b done waiting path (Some e.key) mine' theirs' (found ++ e ∷ []) i j
   gone_with sure = record {
@@ -299,6 +299,6 @@ gone_ends a b done waiting path upto mine theirs found i j gone mine_more theirs
     elim (is_after upto key) as (λ x. is_after upto key ≡ x → IsIn (keys_next found) key) [
       | false ↦ λ h. gone.all key u h differ
       | true ↦ λ h. absurd (differ (
-        none_left (digests a) path upto (first.is ∙ (λ k. p k ++ first.ended (mine_more p) k)) key u h
-        ∙ sym (none_left (digests b) path upto (second.is ∙ (λ k. q k ++ second.ended (theirs_more q) k)) key u h)))
+          none_left (digests a) path upto (first.is ∙ (λ k. p k ++ first.ended (mine_more p) k)) key u h
+          ∙ sym (none_left (digests b) path upto (second.is ∙ (λ k. q k ++ second.ended (theirs_more q) k)) key u h)))
     ] refl

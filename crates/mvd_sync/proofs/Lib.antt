@@ -19,6 +19,7 @@ pub mod Nexts
 pub mod Gone
 pub mod Bucket
 pub mod Through
+pub mod HeldFew
 pub mod Walks
 pub mod Answering
 pub mod ToldPages

@@ -54,7 +54,7 @@ distinct_second [] qs d = d
 distinct_second (p ∷ ps) qs d = distinct_second ps qs d.1
 
 -- a key below a bucket is below no other
-not_below : (p : List ℕ) (qs : List (List ℕ)) (key : Key) → is_member qs p ≡ false → length p ≡ 3 → AreLong 3 qs → IsTrue (is_under p key) → has_below qs key ≡ false
+pub not_below : (p : List ℕ) (qs : List (List ℕ)) (key : Key) → is_member qs p ≡ false → length p ≡ 3 → AreLong 3 qs → IsTrue (is_under p key) → has_below qs key ≡ false
 not_below p [] key other e l u = refl
 not_below p (q ∷ qs) key other e l u =
     let rest = not_below p qs key (or_right (eq_by_cmp (slice_cmp nat_cmp) p q) (is_member qs p) other) e l.1 u in
@@ -89,7 +89,7 @@ elsewhere_second ps qs done now waiting found at d l is elsewhere below =
     let new : Each Other (keys_next found) = each_keys Other found (Each-weaker (λ e. IsTrue (has_below ps e.key)) (λ e. Other e.key) (λ e h. below_apart ps qs e.key d l h) found below) in
     let all : Each Other (keys_done done ++ keys_next (waiting ++ found)) = subst (Each Other) (sym (all_split done waiting found)) (Each-append Other (keys_done done ++ keys_next waiting) (keys_next found) old new) in
     let same : keys_done done ++ keys_next (waiting ++ found) ≡ keys_done (done ++ now) ++ keys_next at =
-      ap (λ ks. keys_done done ++ ks) is ∙ sym (append_assoc (keys_done done) (keys_done now) (keys_next at)) ∙ ap (λ ks. ks ++ keys_next at) (sym (keys_done-append done now)) in
+    ap (λ ks. keys_done done ++ ks) is ∙ sym (append_assoc (keys_done done) (keys_done now) (keys_next at)) ∙ ap (λ ks. ks ++ keys_next at) (sym (keys_done-append done now)) in
     subst (Each Other) same all
 
 -- ---- what was found in the first buckets and in the others
@@ -117,9 +117,9 @@ module _ {L P A : Type 0} (l : Side L) (p : Side P) (number : Option ℕ) (a b :
 
   ends_both : (r : Result A SyncFault)
       → MatchResult r (λ _. FindsAll l p number a b (done ++ first.ends.goes_on.now) qs second.found (at.waiting ++ second.found) (firsts2 + second.pages_local) (firsts2 + second.pages_peer) asked_l2 asked_p2 local2 peer2 most_local most_peer after)
-          (λ _. JoinsSome (l.is_faithful local2) (p.is_faithful peer2) a b (l.states local2) (p.states peer2))
+      (λ _. JoinsSome (l.is_faithful local2) (p.is_faithful peer2) a b (l.states local2) (p.states peer2))
       → MatchResult r (λ _. FindsAll l p number a b done (ps ++ qs) (first.found ++ second.found) (before.waiting ++ (first.found ++ second.found)) ((firsts1 + firsts2) + (first.pages_local + second.pages_local)) ((firsts1 + firsts2) + (first.pages_peer + second.pages_peer)) (asked_l1 + asked_l2) (asked_p1 + asked_p2) local2 peer2 most_local most_peer after)
-          (λ _. JoinsSome (l.is_faithful local2) (p.is_faithful peer2) a b (l.states local2) (p.states peer2))
+      (λ _. JoinsSome (l.is_faithful local2) (p.is_faithful peer2) a b (l.states local2) (p.states peer2))
   ends_both (Err fault) h = h
   ends_both (Ok done_) h = record {
     all = all_both h.all;
@@ -191,13 +191,13 @@ module _ {L P : Type 0} (l : Side L) (p : Side P)
   as_now F h =
       subst (λ i. F i (p.most_keys peer1) at.number) (sym (stays n local local1 follows.0))
       (subst (λ j. F (l.most_keys local) j at.number) (sym (stays' m peer peer1 follows.1))
-        (subst (F (l.most_keys local) (p.most_keys peer)) (sym same) h))
+      (subst (F (l.most_keys local) (p.most_keys peer)) (sym same) h))
 
   pub as_then : (F : ℕ → ℕ → Option ℕ → Type 0) → F (l.most_keys local1) (p.most_keys peer1) at.number → F (l.most_keys local) (p.most_keys peer) before.number
   as_then F h =
       subst (λ i. F i (p.most_keys peer) before.number) (stays n local local1 follows.0)
       (subst (λ j. F (l.most_keys local1) j before.number) (stays' m peer peer1 follows.1)
-        (subst (F (l.most_keys local1) (p.most_keys peer1)) same h))
+      (subst (F (l.most_keys local1) (p.most_keys peer1)) same h))
 
 module _ {L P : Type 0} (l : Side L) (p : Side P)
     (on : (m n : ℕ) (old mid new : L) → l.follows m old mid → l.follows n mid new → l.follows (m + n) old new)
@@ -218,7 +218,7 @@ module _ {L P : Type 0} (l : Side L) (p : Side P)
         let j = first.goes.asked_peer in
         let now = as_now l p stays stays' local local1 peer peer1 i j before at first.goes.follows first.goes.same (λ x y o. SoFar x y o a b (l.states local1) (p.states peer1) (done ++ g.now)) g.so_far in
         let two = second.meets g.still.0 g.still.1 (distinct_second ps qs distinct) (Each-right (λ path. length path ≡ 3) ps qs long) a b (done ++ g.now) now g.counts g.waits
-            (elsewhere_second ps qs done g.now before.waiting one.found at.waiting distinct long g.is elsewhere one.below) (then a b told) in
+        (elsewhere_second ps qs done g.now before.waiting one.found at.waiting distinct long g.is elsewhere one.below) (then a b told) in
         finds_both l p before.number a b done ps qs (l.most_keys local) (p.most_keys peer) firsts1 firsts2 first.goes.asked_local first.goes.asked_peer second.goes.asked_local second.goes.asked_peer local1 local2 peer1 peer2 before at after one result
         (as_then l p stays stays' local local1 peer peer1 i j before at first.goes.follows first.goes.same (λ x y o. Finds l p o a b (done ++ g.now) qs firsts2 (held_in a qs) (held_in b qs) second.goes.asked_local second.goes.asked_peer local2 peer2 x y at after result) two);
   }
@@ -254,8 +254,8 @@ module _ {L P : Type 0} (l : Side L) (p : Side P)
         let j = q.kept u in
         let kept = kept_below before.number (l.most_keys local) (p.most_keys peer) a b (l.states local) (p.states peer) done (keys_next before.waiting) paths so elsewhere in
         let here : SoFar (l.most_keys local) (p.most_keys peer) before.number a b (l.states local1) (p.states peer1) done =
-          subst (λ m. SoFar (l.most_keys local) (p.most_keys peer) before.number a b m (p.states peer1) done) (sym k.states)
-          (subst (λ m. SoFar (l.most_keys local) (p.most_keys peer) before.number a b (l.states local) m done) (sym j.states) so) in
+        subst (λ m. SoFar (l.most_keys local) (p.most_keys peer) before.number a b m (p.states peer1) done) (sym k.states)
+        (subst (λ m. SoFar (l.most_keys local) (p.most_keys peer) before.number a b (l.states local) m done) (sym j.states) so) in
         let now = as_now l p stays stays' local local1 peer peer1 n n before before (r.follows, q.follows) refl (λ x y o. SoFar x y o a b (l.states local1) (p.states peer1) done) here in
         let told : ArePages (digests a) paths mine × ArePages (digests b) paths theirs = (
           pages_then a (l.states local) paths mine (λ x h. (kept x h).0) (told_l t),
@@ -271,6 +271,7 @@ module _ {L P : Type 0} (l : Side L) (p : Side P)
           → MatchResult r (λ _. FindsAll l p number a b done paths found next (n + i) (n + j) (n + asked_l) (n + asked_p) local' peer' most_local most_peer after) (λ _. JoinsSome (l.is_faithful local') (p.is_faithful peer') a b (l.states local') (p.states peer'))
       ends_later number a b done paths found next n i j asked_l asked_p local' peer' most_local most_peer after (Err fault) h = h
       ends_later number a b done paths found next n i j asked_l asked_p local' peer' most_local most_peer after (Ok x) h = record { all = h.all; goes_on = h.goes_on; fewer = let k = h.fewer in (omega (arith, k.0), omega (arith, k.1)) }
+
       later : {B : Type 0} (number : Option ℕ) (a b : States) (done : List Done) (paths : List (List ℕ)) (n held_local held_peer asked_l asked_p : ℕ) (local' : L) (peer' : P) (most_local most_peer : ℕ) (before after : Exchanging) (r : Result B SyncFault)
           → Finds l p number a b done paths 0 held_local held_peer asked_l asked_p local' peer' most_local most_peer before after r → Finds l p number a b done paths n held_local held_peer (n + asked_l) (n + asked_p) local' peer' most_local most_peer before after r
       later number a b done paths n held_local held_peer asked_l asked_p local' peer' most_local most_peer before after r f = record {
@@ -293,8 +294,8 @@ module _ {L P : Type 0} (l : Side L) (p : Side P)
         let k = r.kept_local t in
         let j = r.kept_peer u in
         let here : SoFar (l.most_keys local) (p.most_keys peer) before.number a b (l.states local') (p.states peer') done =
-          subst (λ m. SoFar (l.most_keys local) (p.most_keys peer) before.number a b m (p.states peer') done) (sym k.states)
-          (subst (λ m. SoFar (l.most_keys local) (p.most_keys peer) before.number a b (l.states local) m done) (sym j.states) so) in
+        subst (λ m. SoFar (l.most_keys local) (p.most_keys peer) before.number a b m (p.states peer') done) (sym k.states)
+        (subst (λ m. SoFar (l.most_keys local) (p.most_keys peer) before.number a b (l.states local) m done) (sym j.states) so) in
         record {
           found = [];
           below = tt;

@@ -5,8 +5,8 @@ use Rattle.mvd_site.specs.Answer.{digests}
 use Rattle.mvd_site.specs.Held.{States}
 use Rattle.mvd_sync.specs.Buckets.{ArePages, GoesThrough}
 use Rattle.mvd_sync.specs.Sides.{side}
-use Rattle.mvd_sync.proofs.Descents.{Each-at, one_taken}
-use Rattle.mvd_sync.proofs.Fetching.{first_left, rest_left, some_left}
+use Rattle.mvd_sync.proofs.Descents.{one_taken}
+use Rattle.mvd_sync.proofs.Fetching.{IsGoodPage, first_left, page_left, rest_left, some_left}
 use Rattle.mvd_sync.proofs.Through.{page_at, through_cut, through_none, through_on}
 use Rattle.mvd_sync.proofs.buckets.go_over_all.Goals as goal
 
@@ -31,10 +31,10 @@ remove-second-requires g c =
     omega (arith, n, c.loop-path.theirs.ok.0)
 
 pub go_over-requires-clause-mine : goal.go_over-requires-clause-mine
-go_over-requires-clause-mine g c = ?
+go_over-requires-clause-mine g c = page_left IsGoodPage c.args.mine.items c.loop-path.mine.items c.loop-path.path-index (length c.args.paths.now) c.remove-first.result c.requires.mine c.loop-path.invariant.mine c.requires.lengths.0 c.loop-path-test.true c.remove-first.ensures.value
 
 pub go_over-requires-clause-theirs : goal.go_over-requires-clause-theirs
-go_over-requires-clause-theirs g c = ?
+go_over-requires-clause-theirs g c = page_left IsGoodPage c.args.theirs.items c.loop-path.theirs.items c.loop-path.path-index (length c.args.paths.now) c.remove-second.result c.requires.theirs c.loop-path.invariant.theirs c.requires.lengths.1 c.loop-path-test.true c.remove-second.ensures.value
 
 pub go_over-requires-clause-waiting : goal.go_over-requires-clause-waiting
 go_over-requires-clause-waiting g c = c.loop-path.invariant.over.goes.short c.requires.waiting

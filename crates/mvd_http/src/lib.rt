@@ -1,13 +1,9 @@
 //! The same site over HTTP: what a request asks, and the response that a reply is.
 #![tactic(auto)]
 
-ghost use Rattle.std.specs.Prelude.{◌≤◌};
 mod page;
+mod paths;
+pub mod question;
 
 pub use page::PAGE;
-
-pub fn page_len() -> usize
-    ensures { 0 ≤ result }
-{
-    PAGE.len()
-}
+pub use question::{Question, Verb};

@@ -2,8 +2,10 @@
 -- refusal decides.
 use Rattle.std.specs.Prelude.{ℕ, ◌-◌, ◌+◌, ◌==◌, ◌<◌, ◌^◌, ◌≡◌, ◌&&◌, nat_lt, nat_le, if◌then◌else◌, Bool, true, false, List, [], ◌∷◌, codes, length, map, Option, Some, None, Result, Ok, Err}
 use Rattle.std.specs.FinSet as set
-use Rattle.std.specs.Str.{bytes_eq, is_utf8, all_ascii_digits}
-use Rattle.std.specs.Char.{digits_value}
+use Rattle.std.specs.Char.{is_ascii_digit}
+use Rattle.std.specs.List.{list_all}
+use Rattle.std.specs.Str.{bytes_eq, is_utf8}
+use Rattle.std.specs.Str.Parse.{digits_value}
 use Rattle.percent_encoding.specs.Percent.{percent_decode}
 use Rattle.mvd_dots.specs.Answer.{IsAnswer, IsReading}
 use Rattle.mvd_dots.specs.Context.{DotSet}
@@ -67,7 +69,7 @@ if_given read (b ∷ bs) = then_read (read (b ∷ bs)) (λ value. Ok (Some value
 
 -- the number of at most 15 decimal digits
 abbrev pub number_in : List ℕ → Option ℕ
-number_in text = if all_ascii_digits text && nat_lt 0 (length text) && nat_le (length text) 15 then Some (digits_value 10 text) else None
+number_in text = if list_all is_ascii_digit text && nat_lt 0 (length text) && nat_le (length text) 15 then Some (digits_value 10 text) else None
 
 abbrev pub dot_of : Option ℕ → Option ℕ → Result DotValue Refusal
 dot_of (Some site) (Some counter) =

@@ -1,9 +1,13 @@
 //! The same site over HTTP: what a request asks, and the response that a reply is.
 #![tactic(auto)]
 
+mod asked;
 mod page;
 mod paths;
+mod place;
 pub mod question;
+mod reading;
 
+pub use asked::question_of;
 pub use page::PAGE;
 pub use question::{Question, Verb};

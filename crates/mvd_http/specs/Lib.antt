@@ -1,2 +1,4 @@
 pub mod Paths
 pub mod Asked
+pub mod Json
+pub mod Answers

@@ -7,7 +7,11 @@ mod paths;
 mod place;
 pub mod question;
 mod reading;
+mod replies;
+mod words;
+mod lists;
 
 pub use asked::question_of;
 pub use page::PAGE;
+pub use replies::{refused_response, refused_status, response_of};
 pub use question::{Question, Verb};

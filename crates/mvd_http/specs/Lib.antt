@@ -2,3 +2,4 @@ pub mod Paths
 pub mod Asked
 pub mod Json
 pub mod Answers
+pub mod Guard

@@ -9,9 +9,11 @@ pub mod question;
 mod reading;
 mod replies;
 mod words;
+mod guard;
 mod lists;
 
 pub use asked::question_of;
+pub use guard::is_own;
 pub use page::PAGE;
-pub use replies::{refused_response, refused_status, response_of};
+pub use replies::{push_root, refused_response, refused_status, response_of};
 pub use question::{Question, Verb};

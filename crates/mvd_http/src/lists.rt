@@ -23,7 +23,8 @@ fn push_sibling(out: &mut String, sibling: &Sibling) -> Result<(), AllocError>
     push_dot(out, sibling.dot)?;
     push_word(out, "\",\"document\":")?;
     push_word(out, sibling.document.text())?;
-    push_word(out, "}")
+    push_word(out, "}")?;
+    Ok(())
 }
 
 fn push_more_siblings(out: &mut String, siblings: &[Sibling]) -> Result<(), AllocError>
@@ -87,7 +88,8 @@ fn push_two(out: &mut String, least: i64, greatest: i64) -> Result<(), AllocErro
     push_word(out, ",\"least\":")?;
     push_whole(out, least)?;
     push_word(out, ",\"greatest\":")?;
-    push_whole(out, greatest)
+    push_whole(out, greatest)?;
+    Ok(())
 }
 
 /// The least and the greatest number, where there are any.

@@ -1,15 +1,15 @@
 //! The response that a reply is: its status, and its body.
 ghost use Rattle.std.specs.Prelude.{◌≡◌, ◌++◌, Ok, OnOk, IfOk, IsOkUnless, option_copied, string_bytes};
 ghost use Rattle.std.specs.List.{flat_map};
-ghost use Rattle.mvd_dots.specs.Refusal.{number_of};
+ghost use Rattle.mvd_dots.specs.Text.{text_of};
 ghost use Rattle.mvd_dots.specs.declared.refusals.Refusal.TheVariants.{Memory};
 ghost use Rattle.mvd_http.specs.Answers.{IsTold, Pushes, Responds, found_status as status_found, key_asked as asked_key, ok_told, refused_status as status_of, refused_told, reply_told, row_told, state_told, term_asked as asked_term, told as told_of};
-ghost use Rattle.mvd_http.specs.Json.{children_text, commaed, digest_text, led, keys_text, node_text, places_text, refused_text, rows_text, state_text, written_text};
+ghost use Rattle.mvd_http.specs.Json.{children_text, commaed, digest_text, led, keys_text, node_text, places_text, refused_text, root_text, rows_text, state_text, written_text};
 
 use crate::lists::{KeyDigest, ViewRow, push_keys_page, push_places_page, push_row, push_rows_page, push_siblings};
 use crate::words::{push_digest, push_dot, push_number, push_quoted, push_word};
 use mvd_docs::Term;
-use mvd_dots::{Dot, Refusal};
+use mvd_dots::{Context, Dot, Refusal};
 use mvd_keys::{Key, KeyState, Place};
 use mvd_wire::{Digests, Reply, Request, RowValue};
 use std::alloc::{AllocError, Global};
@@ -43,7 +43,8 @@ fn push_refused(out: &mut String, refusal: Refusal) -> Result<(), AllocError>
     push_number(out, u64::from(refusal.number()))?;
     push_word(out, ",\"name\":\"")?;
     push_word(out, refusal.name())?;
-    push_word(out, "\"}")
+    push_word(out, "\"}")?;
+    Ok(())
 }
 
 /// Puts the body of a refusal in place of what `out` held, and gives its status.
@@ -169,23 +170,26 @@ fn found_status(state: &KeyState) -> u16
     if state.siblings().is_empty() { 404 } else { 200 }
 }
 
-fn push_state(
-    alloc: Global,
-    key: &Key,
-    state: &KeyState,
-    out: &mut String,
-) -> Result<(), Refusal>
+fn push_context(out: &mut String, context: &Context) -> Result<(), Refusal>
+    ensures text { OnOk result (string_bytes out.new ≡ string_bytes out.old ++ text_of context.now) }
+    ensures memory { IsOkUnless result Refusal.Memory }
+{
+    let text = context.print()?;
+    Ok(push_word(out, text.as_str())?)
+}
+
+fn push_state(alloc: Global, key: &Key, state: &KeyState, out: &mut String) -> Result<(), Refusal>
     ensures text { OnOk result (string_bytes out.new ≡ string_bytes out.old ++ state_text key.now state.now) }
     ensures memory { IsOkUnless result Refusal.Memory }
 {
-    let context = state.context().print()?;
     push_word(out, "{\"key\":")?;
     push_quoted(alloc, out, key.text())?;
     push_word(out, ",\"context\":\"")?;
-    push_word(out, context.as_str())?;
+    push_context(out, state.context())?;
     push_word(out, "\",\"siblings\":[")?;
     push_siblings(out, state.siblings())?;
-    Ok(push_word(out, "]}")?)
+    push_word(out, "]}")?;
+    Ok(())
 }
 
 fn push_written(out: &mut String, dot: Dot) -> Result<u16, Refusal>
@@ -258,4 +262,25 @@ fn push_node(alloc: Global, digests: &Digests, out: &mut String) -> Result<u16, 
     push_children(alloc, out, &digests.children)?;
     push_word(out, "}")?;
     Ok(200)
+}
+
+/// The root of the hash tree, with the number of keys and the site, behind what `out` holds.
+pub fn push_root(
+    alloc: Global,
+    out: &mut String,
+    digest: [u8; 32],
+    keys: u64,
+    site: u32,
+) -> Result<(), Refusal>
+    ensures text { OnOk result (string_bytes out.new ≡ string_bytes out.old ++ root_text digest keys site) }
+    ensures memory { IsOkUnless result Refusal.Memory }
+{
+    push_word(out, "{\"root\":")?;
+    push_digest(alloc, out, digest)?;
+    push_word(out, ",\"keys\":")?;
+    push_number(out, keys)?;
+    push_word(out, ",\"site\":")?;
+    push_number(out, u64::from(site))?;
+    push_word(out, "}")?;
+    Ok(())
 }

@@ -14,10 +14,14 @@ steps4 old s1 s2 s3 s4 a b c d e1 e2 e3 e4 = rw (e4, e3, e2, e1) (simp append_as
 pub steps5 : (old s1 s2 s3 s4 s5 a b c d e : List ℕ) → s1 ≡ old ++ a → s2 ≡ s1 ++ b → s3 ≡ s2 ++ c → s4 ≡ s3 ++ d → s5 ≡ s4 ++ e → s5 ≡ old ++ (a ++ (b ++ (c ++ (d ++ e))))
 steps5 old s1 s2 s3 s4 s5 a b c d e e1 e2 e3 e4 e5 = rw (e5, e4, e3, e2, e1) (simp append_assoc)
 
+steps3 : (old s1 s2 s3 a b c : List ℕ) → s1 ≡ old ++ a → s2 ≡ s1 ++ b → s3 ≡ s2 ++ c → s3 ≡ old ++ (a ++ (b ++ c))
+steps3 old s1 s2 s3 a b c e1 e2 e3 = rw (e3, e2, e1) (simp append_assoc)
+
 -- one entry more of a list, behind a comma
 pub entry_more : {X : Type 0} (f : X → List ℕ) (xs : List X) (i : ℕ) (x : X) (old s0 s1 s2 : List ℕ) → i < length xs → x ≡ get_or xs i x → s0 ≡ old ++ flat_map (led f) (take i xs) → s1 ≡ s0 ++ codes "," → s2 ≡ s1 ++ f x → s2 ≡ old ++ flat_map (led f) (take (i + 1) xs)
 entry_more f xs i x old s0 s1 s2 within is e0 e1 e2 =
-    rw (e2, e1, e0, flat_map-take_more (led f) xs i x within is) (simp append_assoc)
+    steps3 old s0 s1 s2 (flat_map (led f) (take i xs)) (codes ",") (f x) e0 e1 e2
+    ∙ ap (λ t. old ++ t) (ap (λ y. flat_map (led f) (take i xs) ++ led f y) is ∙ flat_map-take_more (led f) xs i x within)
 
 pub steps7 : (old s1 s2 s3 s4 s5 s6 s7 a b c d e f g : List ℕ) → s1 ≡ old ++ a → s2 ≡ s1 ++ b → s3 ≡ s2 ++ c → s4 ≡ s3 ++ d → s5 ≡ s4 ++ e → s6 ≡ s5 ++ f → s7 ≡ s6 ++ g → s7 ≡ old ++ (a ++ (b ++ (c ++ (d ++ (e ++ (f ++ g))))))
 steps7 old s1 s2 s3 s4 s5 s6 s7 a b c d e f g e1 e2 e3 e4 e5 e6 e7 = rw (e7, e6, e5, e4, e3, e2, e1) (simp append_assoc)

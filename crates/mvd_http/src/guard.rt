@@ -1,6 +1,7 @@
 //! Which requests are of this server's own pages.
 ghost use Rattle.std.specs.Prelude.{◌≡◌, option_copied};
-ghost use Rattle.mvd_http.specs.Guard.{is_origin as origin_own, is_own as request_own, is_safe_host as host_safe, is_safe_name as name_safe};
+ghost use Rattle.std.specs.List.{list_all};
+ghost use Rattle.mvd_http.specs.Guard.{is_number_byte, is_origin as origin_own, is_own as request_own, is_safe_host as host_safe, is_safe_name as name_safe};
 
 use crate::paths::{before, without};
 
@@ -14,11 +15,21 @@ pub fn is_own(host: Option<&[u8]>, origin: Option<&[u8]>) -> bool
     }
 }
 
+/// Whether there are but digits and points.
+fn are_number_bytes(name: &[u8]) -> bool
+    ensures { result ≡ list_all is_number_byte name.now }
+{
+    name.iter()
+        .all(|byte| byte.is_ascii_digit() || *byte == b'.')
+}
+
 fn is_safe_name(name: &[u8]) -> bool
     ensures { result ≡ name_safe name.now }
 {
-    name == b"localhost".as_slice()
-        || (!name.is_empty() && name.iter().all(|byte| byte.is_ascii_digit() || *byte == b'.'))
+    if name == b"localhost".as_slice() {
+        return true;
+    }
+    !name.is_empty() && are_number_bytes(name)
 }
 
 fn is_safe_host(host: &[u8]) -> bool

@@ -12,7 +12,9 @@ ghost use Rattle.mvd_http.specs.Paths.{without as left_behind};
 use crate::paths::{before, behind, given, without, without_end};
 use crate::place::place_if_given;
 use crate::question::{Question, Verb};
-use crate::reading::{document_in, field_in, key_if_given, key_in, path_in, term_if_given, term_in, view_in};
+use crate::reading::{
+    document_in, field_in, key_if_given, key_in, path_in, term_if_given, term_in, view_in,
+};
 use mvd_dots::{Context, Refusal};
 use mvd_keys::{Key, Path};
 use mvd_wire::Request;

@@ -2,6 +2,8 @@
 #![tactic(auto)]
 
 mod asked;
+mod guard;
+mod lists;
 mod page;
 mod paths;
 mod place;
@@ -9,11 +11,9 @@ pub mod question;
 mod reading;
 mod replies;
 mod words;
-mod guard;
-mod lists;
 
 pub use asked::question_of;
 pub use guard::is_own;
 pub use page::PAGE;
-pub use replies::{push_root, refused_response, refused_status, response_of};
 pub use question::{Question, Verb};
+pub use replies::{push_root, refused_response, refused_status, response_of};

@@ -4,7 +4,9 @@ ghost use Rattle.std.specs.List.{flat_map};
 ghost use Rattle.mvd_keys.specs.State.{pair_of};
 ghost use Rattle.mvd_http.specs.Json.{commaed, ends_text, key_digest_text, keys_text, led, next_of, next_text, key_mark, row_mark, place_mark as mark_of_place, place_text, places_text, row_text, rows_text, sibling_text, view_row_text};
 
-use crate::words::{push_digest, push_dot, push_number, push_quoted, push_signed, push_term, push_whole, push_word};
+use crate::words::{
+    push_digest, push_dot, push_number, push_quoted, push_signed, push_term, push_whole, push_word,
+};
 use mvd_docs::Term;
 use mvd_dots::Refusal;
 use mvd_keys::{Key, Place, Sibling};
@@ -228,7 +230,12 @@ fn push_place_next(
     push_next(alloc, out, text.as_str())
 }
 
-fn push_row_next(alloc: Global, out: &mut String, rows: &[ViewRow], more: bool) -> Result<(), Refusal>
+fn push_row_next(
+    alloc: Global,
+    out: &mut String,
+    rows: &[ViewRow],
+    more: bool,
+) -> Result<(), Refusal>
     ensures text { OnOk result (string_bytes out.new ≡ string_bytes out.old ++ next_text (next_of row_mark more rows.now)) }
     ensures memory { IsOkUnless result Refusal.Memory }
 {
@@ -242,7 +249,12 @@ fn push_row_next(alloc: Global, out: &mut String, rows: &[ViewRow], more: bool) 
     push_next(alloc, out, text.as_str())
 }
 
-fn push_key_next(alloc: Global, out: &mut String, keys: &[KeyDigest], more: bool) -> Result<(), Refusal>
+fn push_key_next(
+    alloc: Global,
+    out: &mut String,
+    keys: &[KeyDigest],
+    more: bool,
+) -> Result<(), Refusal>
     ensures text { OnOk result (string_bytes out.new ≡ string_bytes out.old ++ next_text (next_of key_mark more keys.now)) }
     ensures memory { IsOkUnless result Refusal.Memory }
 {

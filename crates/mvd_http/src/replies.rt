@@ -6,7 +6,9 @@ ghost use Rattle.mvd_dots.specs.declared.refusals.Refusal.TheVariants.{Memory};
 ghost use Rattle.mvd_http.specs.Answers.{IsTold, Pushes, Responds, found_status as status_found, key_asked as asked_key, ok_told, refused_status as status_of, refused_told, reply_told, row_told, state_told, term_asked as asked_term, told as told_of};
 ghost use Rattle.mvd_http.specs.Json.{children_text, commaed, digest_text, led, keys_text, node_text, places_text, refused_text, root_text, rows_text, state_text, written_text};
 
-use crate::lists::{KeyDigest, ViewRow, push_keys_page, push_places_page, push_row, push_rows_page, push_siblings};
+use crate::lists::{
+    KeyDigest, ViewRow, push_keys_page, push_places_page, push_row, push_rows_page, push_siblings,
+};
 use crate::words::{push_digest, push_dot, push_number, push_quoted, push_word};
 use mvd_docs::Term;
 use mvd_dots::{Context, Dot, Refusal};
@@ -167,7 +169,11 @@ fn push_found(
 fn found_status(state: &KeyState) -> u16
     ensures { result ≡ status_found state.now }
 {
-    if state.siblings().is_empty() { 404 } else { 200 }
+    if state.siblings().is_empty() {
+        404
+    } else {
+        200
+    }
 }
 
 fn push_context(out: &mut String, context: &Context) -> Result<(), Refusal>

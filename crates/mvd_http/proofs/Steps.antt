@@ -31,3 +31,6 @@ pub siblings_alike : (siblings : List Sibling) (pairs : List (DotValue × Text))
 siblings_alike [] pairs same = ap (λ t. commaed sibling_text t) same
 siblings_alike (s ∷ ss) pairs same =
     ap (λ t. sibling_text (pair_of s) ++ t) (sym (flat_map-map (led sibling_text) pair_of ss)) ∙ ap (λ t. commaed sibling_text t) same
+
+pub items3 : {A : Type 0} (old s1 s2 s3 : List A) (a b c : A) → s1 ≡ old ++ a ∷ [] → s2 ≡ s1 ++ b ∷ [] → s3 ≡ s2 ++ c ∷ [] → s3 ≡ old ++ a ∷ b ∷ c ∷ []
+items3 old s1 s2 s3 a b c e1 e2 e3 = rw (e3, e2, e1) (simp append_assoc)

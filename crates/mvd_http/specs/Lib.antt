@@ -3,3 +3,4 @@ pub mod Asked
 pub mod Json
 pub mod Answers
 pub mod Guard
+pub mod Fields

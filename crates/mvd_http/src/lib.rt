@@ -2,6 +2,7 @@
 #![tactic(auto)]
 
 mod asked;
+pub mod fields;
 mod guard;
 mod lists;
 mod page;
@@ -13,6 +14,7 @@ mod replies;
 mod words;
 
 pub use asked::question_of;
+pub use fields::{Content, fill};
 pub use guard::is_own;
 pub use page::PAGE;
 pub use question::{Question, Verb};

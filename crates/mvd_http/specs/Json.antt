@@ -1,5 +1,5 @@
 -- The JSON that replies are told in (RFC 8259), this repository's own form.
-use Rattle.std.specs.Prelude.{ℕ, ℤ, ◌-◌, ◌++◌, Bool, true, false, List, [], ◌∷◌, codes, length, map, Option, Some, None, option_map}
+use Rattle.std.specs.Prelude.{ℕ, ℤ, ◌-◌, ◌++◌, Bool, true, false, List, [], ◌∷◌, codes, length, Option, Some, None, option_map}
 use Rattle.std.specs.Fmt.{decimal, signed_decimal}
 use Rattle.std.specs.List.{flat_map, slice_get}
 use Rattle.std.specs.FinMap.{entries}

@@ -1,5 +1,5 @@
 -- The parts of a target (RFC 3986, path and query), and the options of a query, as texts.
-use Rattle.std.specs.Prelude.{ℕ, ◌+◌, ◌-◌, ◌==◌, not, if◌then◌else◌, List, [], length, take, drop, Option, Some, None, Result, Ok, Err}
+use Rattle.std.specs.Prelude.{ℕ, ◌+◌, ◌-◌, ◌==◌, not, if◌then◌else◌, List, [], length, take, drop, Option, Some, None, Result, Err}
 use Rattle.std.specs.List.{prefix_len}
 use Rattle.std.specs.Str.{bytes_eq, is_utf8}
 use Rattle.percent_encoding.specs.Percent.{percent_decode}

@@ -18,7 +18,8 @@ pub enum Content {
     Plain,
 }
 
-const POLICY: &str = "default-src 'none'; script-src 'sha256-x2nRk1XET9ed5+SOAbPsjiSRa72AbdyxHVrW2N5xPPs='; style-src 'sha256-Msy/8q7YNwWdxtVl8fIgKxlzyrbWs/8mNZnJFQpkzXE='; connect-src 'self'; img-src data:; base-uri 'none'; form-action 'none'; frame-ancestors 'none'; require-trusted-types-for 'script'; trusted-types 'none'";
+const POLICY: &str =
+    "default-src 'none'; script-src 'sha256-x2nRk1XET9ed5+SOAbPsjiSRa72AbdyxHVrW2N5xPPs='; style-src 'sha256-Msy/8q7YNwWdxtVl8fIgKxlzyrbWs/8mNZnJFQpkzXE='; connect-src 'self'; img-src data:; base-uri 'none'; form-action 'none'; frame-ancestors 'none'; require-trusted-types-for 'script'; trusted-types 'none'";
 
 /// Fills a response.
 pub fn fill(
@@ -66,8 +67,13 @@ fn add_type(response: &mut Response, content: Content) -> Result<(), AllocError>
     match content {
         Content::Nothing => Ok(()),
         Content::Json => add_typed(response, HeaderValue::from_static("application/json")),
-        Content::Html => add_typed(response, HeaderValue::from_static("text/html; charset=utf-8")),
-        Content::Plain =>
-            add_typed(response, HeaderValue::from_static("text/plain; charset=utf-8")),
+        Content::Html => add_typed(
+            response,
+            HeaderValue::from_static("text/html; charset=utf-8"),
+        ),
+        Content::Plain => add_typed(
+            response,
+            HeaderValue::from_static("text/plain; charset=utf-8"),
+        ),
     }
 }

@@ -7,19 +7,48 @@ use std::test::Fail;
 fn lists_are_told(rt: HostRuntime) -> Result<(), Fail> {
     let alloc = rt.alloc();
     let mut site = site(alloc)?;
-    put(alloc, &mut site, "/keys/a", b"{\"amount\":5,\"city\":\"Oslo\"}")?;
-    put(alloc, &mut site, "/keys/a", b"{\"amount\":-7,\"city\":\"Oslo\"}")?;
+    put(
+        alloc,
+        &mut site,
+        "/keys/a",
+        b"{\"amount\":5,\"city\":\"Oslo\"}",
+    )?;
+    put(
+        alloc,
+        &mut site,
+        "/keys/a",
+        b"{\"amount\":-7,\"city\":\"Oslo\"}",
+    )?;
     put(alloc, &mut site, "/keys/b", b"{\"city\":\"Rome\"}")?;
     let text = get(alloc, &mut site, "/index/city?is=%22Oslo%22")?;
-    assert_eq!(rt; text.as_str(), "200 {\"places\":[{\"term\":\"Oslo\",\"key\":\"a\",\"dot\":\"1:1\"},{\"term\":\"Oslo\",\"key\":\"a\",\"dot\":\"1:2\"}]}");
-    let text = get(alloc, &mut site, "/index/city?from=0&to=%22Z%22&after=1:1%20a%20%22Oslo%22")?;
-    assert_eq!(rt; text.as_str(), "200 {\"places\":[{\"term\":\"Oslo\",\"key\":\"a\",\"dot\":\"1:2\"},{\"term\":\"Rome\",\"key\":\"b\",\"dot\":\"1:1\"}]}");
+    assert_eq!(rt;
+        text.as_str(),
+        "200 {\"places\":[{\"term\":\"Oslo\",\"key\":\"a\",\"dot\":\"1:1\"},{\"term\":\"Oslo\",\"key\":\"a\",\"dot\":\"1:2\"}]}"
+    );
+    let text = get(
+        alloc,
+        &mut site,
+        "/index/city?from=0&to=%22Z%22&after=1:1%20a%20%22Oslo%22",
+    )?;
+    assert_eq!(rt;
+        text.as_str(),
+        "200 {\"places\":[{\"term\":\"Oslo\",\"key\":\"a\",\"dot\":\"1:2\"},{\"term\":\"Rome\",\"key\":\"b\",\"dot\":\"1:1\"}]}"
+    );
     let text = get(alloc, &mut site, "/views/spend/rows")?;
-    assert_eq!(rt; text.as_str(), "200 {\"rows\":[{\"term\":\"Oslo\",\"count\":2,\"sum\":-2,\"least\":-7,\"greatest\":5},{\"term\":\"Rome\",\"count\":1,\"sum\":0}]}");
+    assert_eq!(rt;
+        text.as_str(),
+        "200 {\"rows\":[{\"term\":\"Oslo\",\"count\":2,\"sum\":-2,\"least\":-7,\"greatest\":5},{\"term\":\"Rome\",\"count\":1,\"sum\":0}]}"
+    );
     let text = get(alloc, &mut site, "/views/spend/rows?after=%22Oslo%22")?;
-    assert_eq!(rt; text.as_str(), "200 {\"rows\":[{\"term\":\"Rome\",\"count\":1,\"sum\":0}]}");
+    assert_eq!(rt;
+        text.as_str(),
+        "200 {\"rows\":[{\"term\":\"Rome\",\"count\":1,\"sum\":0}]}"
+    );
     let text = get(alloc, &mut site, "/views/spend/row?is=%22Rome%22")?;
-    assert_eq!(rt; text.as_str(), "200 {\"term\":\"Rome\",\"count\":1,\"sum\":0}");
+    assert_eq!(rt;
+        text.as_str(),
+        "200 {\"term\":\"Rome\",\"count\":1,\"sum\":0}"
+    );
     Ok(())
 }
 

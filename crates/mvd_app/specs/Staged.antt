@@ -49,7 +49,7 @@ IsStage script Blank = (script.head ≡ None) × (script.defs ≡ no_definitions
 IsStage script (Headed sites most defs) = ((head : Head) × (script.head ≡ Some head) × IsHead head sites most) × (script.defs ≡ defs) × (script.world ≡ None)
 IsStage script (Running setting knowledge) = (member : Member) × (script.world ≡ Some member) × IsWorld setting member.world knowledge
 
--- a line that may stand here is taken; one that may not leaves all as it was
+-- a line that may stand here is taken; of one that may not only that is told
 abbrev pub Takes : Line → Script → Script → Bool → List ℕ → Type 0
 Takes line old new true text = (stage : Stage) → IsStage old stage → (next : Stage) × Plays line stage next text × IsStage new next
 Takes line old new false text = (stage : Stage) → IsStage old stage → MayNotStand line stage
@@ -77,7 +77,7 @@ StartsAt Blank setting knowledge = ⊥
 StartsAt (Headed sites most defs) setting knowledge = (setting ≡ setting_of sites (unwrap_or most 1000000) defs) × (knowledge ≡ nothing_yet)
 StartsAt (Running setting' knowledge') setting knowledge = (setting' ≡ setting) × (knowledge' ≡ knowledge)
 
--- where there is a head or are sites, there are sites; else all is as it was
+-- where there was a head or were sites, there are sites; else nothing was read yet
 abbrev pub Begins : Script → Script → Bool → Type 0
 Begins old new true = IsSome new.world × ((stage : Stage) → IsStage old stage → (setting : Setting) × (knowledge : Knowledge) × StartsAt stage setting knowledge × IsStage new (Running setting knowledge))
 Begins old new false = (stage : Stage) → IsStage old stage → stage ≡ Blank

@@ -58,10 +58,6 @@ refused_text refusal = line (codes "refused" ∷ decimal (number_of refusal) ∷
 abbrev pub message_text : ℕ → List ℕ
 message_text number = line (codes "message" ∷ decimal number ∷ [])
 
--- a typed line, of this number, is no command
-abbrev pub no_command_text : ℕ → List ℕ
-no_command_text number = codes "line " ++ (decimal number ++ codes ": not a command\n")
-
 -- how many keys a session exchanged
 abbrev pub keys_text : ℕ → List ℕ
 keys_text count = line (codes "keys" ∷ decimal count ∷ [])

@@ -7,5 +7,5 @@ mod replies;
 mod states;
 mod words;
 
-pub use lines::{print_keys, print_message, print_no_command, print_none_such, print_refusal};
+pub use lines::{print_keys, print_message, print_none_such, print_refusal};
 pub use replies::{print_reply, print_short};

@@ -1,7 +1,7 @@
 //! Lines of a few words.
 ghost use Rattle.std.specs.Prelude.{◌≡◌, ◌++◌, OnOk, string_bytes};
 ghost use Rattle.mvd_print.specs.Added.{Extends};
-ghost use Rattle.mvd_print.specs.Text.{done_text, keys_text, message_text, no_command_text, none_such_text, refused_text, written_text};
+ghost use Rattle.mvd_print.specs.Text.{done_text, keys_text, message_text, none_such_text, refused_text, written_text};
 
 use crate::words::{push_dot, push_number, push_word};
 use mvd_dots::{Dot, Refusal};
@@ -34,16 +34,6 @@ pub fn print_message(number: u64, out: &mut String) -> Result<(), AllocError>
     push_word(out, "message ")?;
     push_number(out, number)?;
     push_word(out, "\n")
-}
-
-/// That a line of this number is no command.
-pub fn print_no_command(number: u64, out: &mut String) -> Result<(), AllocError>
-    ensures text { OnOk result (string_bytes out.new ≡ string_bytes out.old ++ no_command_text number) }
-    ensures kept { Extends (string_bytes out.old) (string_bytes out.new) }
-{
-    push_word(out, "line ")?;
-    push_number(out, number)?;
-    push_word(out, ": not a command\n")
 }
 
 /// How many keys a session exchanged.

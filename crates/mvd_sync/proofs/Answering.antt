@@ -113,7 +113,7 @@ module _ {S Q : Type 0} (s : Side S) (qs : List Q) (left left' taken : ℕ) (old
         few = omega arith;
         within = omega arith;
         follows = ends.count.2;
-        cause = elim ends.cause [ inl told ↦ of_side told | inr memory ↦ of_memory memory ];
+        cause = elim ends.cause [ inl told ↦ of_side told no_clash | inr memory ↦ of_memory memory ];
         no_clash = no_clash;
         right = then;
       }

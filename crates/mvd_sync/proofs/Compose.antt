@@ -20,7 +20,7 @@ module _ {S : Type 0} (s : Side S) (on : (m n : ℕ) (old mid new : S) → s.fol
   module _ (left left' n : ℕ) (old mid new : S) (spent : left ≡ left' + n) (before : s.follows n old mid) (still : s.is_faithful old → s.is_faithful mid) where
     -- a cause after questions is one with them
     pub blames_later : (asked : ℕ) (refusal : Refusal) → Blames s left' asked mid new refusal → Blames s left (n + asked) old new refusal
-    blames_later asked refusal (of_side h) = of_side (refused_later old mid new refusal (n, before) h)
+    blames_later asked refusal (of_side h apart) = of_side (refused_later old mid new refusal (n, before) h) (λ t. apart (still t))
     blames_later asked refusal (of_answer e false_one) = of_answer e (λ t. false_one (still t))
     blames_later asked refusal (of_questions e all) = of_questions e (omega arith)
     blames_later asked refusal (of_memory e) = of_memory e

@@ -170,7 +170,7 @@ module _ {S : Type 0} (s : Side S) (on : (m n : ℕ) (old mid new : S) → s.fol
         elim why [
           | inl memory ↦ ended_for_memory s pairs left old (drop taken rest) (told ++ answers) left'' new refusal f memory
           | inr other ↦ ended_after s pairs left old (drop taken rest) (told ++ answers) left'' new refusal f
-              (of_side (refused_later s on old mid new refusal (length before.done, before.follows) (told_in (HasAnswered s.follows s.can_answer mid new) (HasRefused s.follows s.can_refuse mid new) answers refusal asked.told other.0)))
+              (of_side (refused_later s on old mid new refusal (length before.done, before.follows) (told_in (HasAnswered s.follows s.can_answer mid new) (HasRefused s.follows s.can_refuse mid new) answers refusal asked.told other.0)) (λ _ e. let no = other.1 in absurd (cc)))
               (λ e. let no = other.1 in absurd (cc))
         ]
 
@@ -188,7 +188,7 @@ module _ {S : Type 0} (s : Side S) (on : (m n : ℕ) (old mid new : S) → s.fol
           few = omega arith;
           within = omega arith;
           follows = on (length before.done) ends.count.0 old mid new before.follows ends.count.2;
-          cause = elim ends.cause [ inl told ↦ of_side (refused_later s on old mid new refusal (length before.done, before.follows) told) | inr memory ↦ of_memory memory ];
+          cause = elim ends.cause [ inl told ↦ of_side (refused_later s on old mid new refusal (length before.done, before.follows) told) (λ t. no_clash (before.took t).0) | inr memory ↦ of_memory memory ];
           no_clash = λ t. no_clash (before.took t).0;
           right = λ t.
               let k = before.took t in

@@ -32,8 +32,8 @@ returns-in_err-answer-clause-ended g c =
     let R = HasRefused g.P.Peer.follows g.P.Peer.can_refuse c.args.side.now c.nodes.new.self in
     let was : c.in-Some.answer ≡ Err c.in_err-answer.field-0.0 = c.in_err-answer.was in
     let told = subst (λ (a : Result Digests Refusal). EachTold U R (a ∷ [])) was (told_at U R c.in_ok-told.told.items (length c.loop-answer.yielded) c.in-Some.answer asked.told turn.0 turn.1) in
-    at_err_same _ _ _ c.in_err-answer.field-0.0 c.from_residual-in_err-answer.ensures (λ e is. cc) (ended_by s c.args.paths.now c.args.left.now c.take-taken.new.left c.take-taken.result c.args.side.now c.nodes.new.self c.take-taken.ensures _ _ asked.count (of_side told.0)
-    (λ t. (subst (λ (a : Result Digests Refusal). EachTold (Unit {0}) (λ r. r ≢ DotClash) (a ∷ [])) was (told_at (Unit {0}) (λ r. r ≢ DotClash) c.in_ok-told.told.items (length c.loop-answer.yielded) c.in-Some.answer (asked.no_clash t) turn.0 turn.1)).0) (λ t. let k = c.nodes.ensures.kept t in record { still = k.0; states = k.1 }))
+    let apart : g.P.Peer.is_faithful c.args.side.now → c.in_err-answer.field-0.0 ≢ DotClash = λ t. (subst (λ (a : Result Digests Refusal). EachTold (Unit {0}) (λ r. r ≢ DotClash) (a ∷ [])) was (told_at (Unit {0}) (λ r. r ≢ DotClash) c.in_ok-told.told.items (length c.loop-answer.yielded) c.in-Some.answer (asked.no_clash t) turn.0 turn.1)).0 in
+    at_err_same _ _ _ c.in_err-answer.field-0.0 c.from_residual-in_err-answer.ensures (λ e is. cc) (ended_by s c.args.paths.now c.args.left.now c.take-taken.new.left c.take-taken.result c.args.side.now c.nodes.new.self c.take-taken.ensures _ _ asked.count (of_side told.0 apart) apart (λ t. let k = c.nodes.ensures.kept t in record { still = k.0; states = k.1 }))
 
 pub loop-answer-preserved : goal.loop-answer-preserved
 loop-answer-preserved g c =

@@ -4,7 +4,7 @@ use Rattle.mvd_dots.specs.declared.refusals.Refusal.{Refusal}
 use Rattle.mvd_input.specs.declared.command.Ask.{Ask}
 use Rattle.mvd_input.specs.declared.command.Ask.TheVariants.{Put, Delete, Get, Row, Node, Find, Range, Rows}
 use Rattle.mvd_print.specs.Text.{keys_text, message_text, none_such_text, reply_text, short_text}
-use Rattle.mvd_sync.specs.declared.session.SyncFault.TheVariants.{Local, Peer}
+use Rattle.mvd_sync.specs.declared.report.SyncFault.TheVariants.{Local, Peer}
 use Rattle.mvd_wire.specs.declared.reply.Reply.{Reply}
 use Rattle.mvd_world.specs.declared.steps.Outcome.{Outcome}
 use Rattle.mvd_world.specs.declared.steps.Outcome.TheVariants.{Replied, Sent, Met, Failed, NoSuch}

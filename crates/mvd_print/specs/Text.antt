@@ -62,6 +62,14 @@ message_text number = line (codes "message" ∷ decimal number ∷ [])
 abbrev pub keys_text : ℕ → List ℕ
 keys_text count = line (codes "keys" ∷ decimal count ∷ [])
 
+-- a key that a session left, and how it was refused
+abbrev pub left_text : List ℕ → Refusal → List ℕ
+left_text key refusal = line (codes "left" ∷ key ∷ decimal (number_of refusal) ∷ name_of refusal ∷ [])
+
+-- how many keys more a session left
+abbrev pub more_left_text : ℕ → List ℕ
+more_left_text count = line (codes "left" ∷ decimal count ∷ [])
+
 -- a put was taken, and has this dot
 abbrev pub written_text : DotValue → List ℕ
 written_text dot = line (codes "dot" ∷ dot_text dot ∷ [])

@@ -33,7 +33,7 @@ use Rattle.mvd_sync.proofs.SiteSides.{is_broken, push_cause}
 use Rattle.mvd_replica.specs.Batch.{AnswersOneFrom, AreAmong, HoldsLost, TakesAllFrom, TakesFrom, TurnsFollow}
 use Rattle.mvd_replica.specs.Kept.{broken_site}
 use Rattle.mvd_replica.specs.Pushes.{push_of, told_of}
-use Rattle.mvd_replica.specs.Sides.{AnswersFromStored, HoldsPushed, IsPush, ReplicaRefuses, SideFollows}
+use Rattle.mvd_replica.specs.Sides.{AnswersFromStored, HoldsBroken, HoldsPushed, IsPush, ReplicaFollows, ReplicaRefuses, SideFollows}
 use Rattle.mvd_replica.specs.Turns.{Turn}
 use Rattle.mvd_replica.proofs.Batching.{whole_all}
 use Rattle.mvd_replica.proofs.Sides.{push_refuses, pushed_reply, stored_facts}
@@ -284,6 +284,30 @@ follows_pushes turns old new before after all follows comes = record {
     stored = λ sound holds whole broken. pushes_lost turns new after.committed all (follows.stored sound holds whole broken);
     clean = follows.clean;
     shut = follows.shut;
+  };
+  comes = comes;
+}
+
+one_lost : (key : Key) (s : State) (site : SiteValue) (db : Database) → HoldsBroken (λ asked. asked ≡ Push key s) site db → HoldsPushed site db
+one_lost key s site db lost = record {
+  request = lost.request;
+  changes = lost.changes;
+  rest = [];
+  are_pushes = ((key, s, lost.asked), tt);
+  holds = lost.holds;
+}
+
+-- the same of one push
+pub follows_push : (key : Key) (s : State) (old new : SiteValue) (before after : Shown) → ReplicaFollows (λ asked. asked ≡ Push key s) old new before after → ComesByPushes (λ _ _. Unit {0}) old.states new.states → SideFollows old new before after
+follows_push key s old new before after follows comes = record {
+  site = follows.site;
+  store = record {
+    sound = follows.store.sound;
+    holds = follows.store.holds;
+    stays = follows.store.stays;
+    stored = λ sound holds whole broken. one_lost key s new after.committed (follows.store.stored sound holds whole broken);
+    clean = follows.store.clean;
+    shut = follows.store.shut;
   };
   comes = comes;
 }

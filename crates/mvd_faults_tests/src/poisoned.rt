@@ -100,21 +100,26 @@ fn brings(alloc: Global, keys: u32, calls: u64) -> Result<bool, Refusal> {
     }
 }
 
-/// How many calls of the log a session needs that brings so many keys.
-fn calls_for(alloc: Global, keys: u32) -> Result<u64, Fail> {
-    for calls in 0..1_000u64 {
-        if brings(alloc, keys, calls)? {
-            return Ok(calls);
+/// How many calls of the log a session needs that brings so many keys, of which it needs less than 512.
+fn calls_for(alloc: Global, keys: u32) -> Result<u64, Refusal> {
+    let mut least = 0u64;
+    let mut most = 512u64;
+    for _ in 0..9u32 {
+        let middle = least.saturating_add(most) / 2;
+        if brings(alloc, keys, middle)? {
+            most = middle;
+        } else {
+            least = middle.saturating_add(1);
         }
     }
-    Err("no session ended")?
+    Ok(most)
 }
 
 #[test]
 fn a_window_is_one_commit(rt: HostRuntime) -> Result<(), Fail> {
     let one = calls_for(rt.alloc(), 1)?;
-    let many = calls_for(rt.alloc(), 90)?;
-    println!(rt; "{one} calls of the log for a key, {many} for ninety")?;
+    let many = calls_for(rt.alloc(), 40)?;
+    println!(rt; "{one} calls of the log for a key, {many} for forty")?;
     assert!(rt; many < one.saturating_add(20));
     Ok(())
 }

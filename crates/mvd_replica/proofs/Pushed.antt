@@ -2,6 +2,7 @@
 use Rattle.std.proofs.Common.{arith, ◌≡◌, ◌≢◌, ◌⊎◌, ◌∙◌, ◌&&◌, ◌==◌, Bool, true, false, cond, ℕ, length, List, [], ◌∷◌, ◌++◌, map, Option, Some, None, Result, Ok, Err, refl, sym, ap, subst, inl, inr, true≢false, if◌then◌else◌}
 use Rattle.std.specs.Prelude.{unwrap_or}
 use Rattle.std.specs.List.{AllByRecursion}
+use Rattle.std.proofs.lemmas.List.{length-map}
 use Rattle.std.specs.Result.{IfErr, MatchResult, OnOk}
 use Rattle.std.specs.FinMap.{get, insert, remove, len, get-remove, same_map}
 use Rattle.std.specs.Ordering.{nat_cmp, eq_by_cmp}
@@ -30,7 +31,7 @@ use Rattle.mvd_sync.proofs.JoinLaws.{nothing_empty}
 use Rattle.mvd_sync.proofs.ManyPushes.{one_push, pushes-append}
 use Rattle.mvd_sync.proofs.Pushes.{more_pushes, no_pushes}
 use Rattle.mvd_sync.proofs.SiteSides.{is_broken, push_cause}
-use Rattle.mvd_replica.specs.Batch.{AnswersOneFrom, AreAmong, HoldsLost, TakesAllFrom, TakesFrom, TurnsFollow}
+use Rattle.mvd_replica.specs.Batch.{AnswersAll, AnswersOneFrom, AreAmong, HoldsLost, TakesAllFrom, TakesFrom, TurnsFollow}
 use Rattle.mvd_replica.specs.Kept.{broken_site}
 use Rattle.mvd_replica.specs.Pushes.{push_of, told_of}
 use Rattle.mvd_replica.specs.Sides.{AnswersFromStored, HoldsBroken, HoldsPushed, IsPush, ReplicaFollows, ReplicaRefuses, SideFollows}
@@ -311,3 +312,32 @@ follows_push key s old new before after follows comes = record {
   };
   comes = comes;
 }
+
+-- ---- what is answered at once
+
+ok_pushes : (pairs : List (Key × State)) → map (λ (r : Request). Ok r) (map push_of pairs) ≡ map (λ (p : Key × State). Ok (push_of p)) pairs
+ok_pushes [] = refl
+ok_pushes (p ∷ pairs) = ap (λ l. Ok (push_of p) ∷ l) (ok_pushes pairs)
+
+module _ (pairs : List (Key × State)) (requests : List Request) (replies : List Reply) (old new : SiteValue) (before after : Shown) (same : requests ≡ map push_of pairs) (it : AnswersAll requests replies old new before after)
+    (held : AreHeld old.states) (valid : Each (λ p. IsValid p.1) pairs) where
+  asks : AskPushes pairs it.turns
+  asks = it.asked ∙ ap (map (λ (r : Request). Ok r)) same ∙ ok_pushes pairs
+
+  pub answered_follow : SideFollows old new before after
+  answered_follow = follows_pushes it.turns old new before after (all_ask pairs it.turns asks) it.takes.follows (all_come pairs it.turns old new asks it.states (held_seen old.states held) valid)
+
+  pub answered_told : new.broken ≡ false → Pushes old.config.max_keys old.states pairs (map told_of replies) new.states × EachTold (Unit {0}) (ReplicaRefuses new) (map told_of replies)
+  answered_told whole =
+      subst (λ rs. Pushes old.config.max_keys old.states pairs (map told_of rs) new.states × EachTold (Unit {0}) (ReplicaRefuses new) (map told_of rs)) it.told
+      (all_told pairs it.turns old new asks it.states (held_seen old.states held) valid whole)
+
+  pub answered_each : EachAnswer (λ _ _. Unit {0}) pairs (map told_of replies)
+  answered_each =
+      let asked = ap length it.asked in
+      let told = ap length it.told in
+      let one = length-map (λ (t : Turn). t.asked) it.turns in
+      let other = length-map (λ (t : Turn). t.reply) it.turns in
+      let as = length-map (λ (r : Request). Ok r) requests in
+      let by = ap length same ∙ length-map push_of pairs in
+      each_told pairs (map told_of replies) (length-map told_of replies ∙ sym told ∙ other ∙ sym one ∙ asked ∙ as ∙ by)

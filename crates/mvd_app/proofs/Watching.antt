@@ -32,19 +32,23 @@ module _ {S T : Type 0} (inner : T → S) (outer : S → T) (is : (s : S) → in
     (after.0, subst (λ s. follows after.0 s (inner new)) (sym (is mid)) after.1),
   )
 
-  pub asked_within : {Q A : Type 0} (May Right : Q → A → Type 0) (was_true : Type 0) (qs : List Q) (ts : List (Result A Refusal)) (old new : T)
-      → Asked follows can_refuse can_answer May Right was_true qs ts (inner old) (inner new) → Asked (λ n a b. follows n (inner a) (inner b)) (λ t. can_refuse (inner t)) (λ t. can_answer (inner t)) May Right was_true qs ts old new
-  asked_within May Right was_true qs ts old new it = record {
-    count = it.count;
-    may = it.may;
-    right = it.right;
-    told = told_still (HasAnswered follows can_answer (inner old) (inner new)) (HasAnswered (λ n a b. follows n (inner a) (inner b)) (λ t. can_answer (inner t)) old new)
-        (HasRefused follows can_refuse (inner old) (inner new)) (HasRefused (λ n a b. follows n (inner a) (inner b)) (λ t. can_refuse (inner t)) old new) ts (answered old new) (refused old new) it.told;
-    no_clash = it.no_clash;
-  }
+  pub asked_within : {Q A : Type 0} (May Right : Q → A → Type 0) (was_true : Type 0) (qs : List Q) (ts : List (Result A Refusal)) (old new : T) (mid : S) → inner new ≡ mid
+      → Asked follows can_refuse can_answer May Right was_true qs ts (inner old) mid → Asked (λ n a b. follows n (inner a) (inner b)) (λ t. can_refuse (inner t)) (λ t. can_answer (inner t)) May Right was_true qs ts old new
+  asked_within May Right was_true qs ts old new mid same came =
+      let it : Asked follows can_refuse can_answer May Right was_true qs ts (inner old) (inner new) = subst (λ s. Asked follows can_refuse can_answer May Right was_true qs ts (inner old) s) (sym same) came in
+      record {
+        count = it.count;
+        may = it.may;
+        right = it.right;
+        told = told_still (HasAnswered follows can_answer (inner old) (inner new)) (HasAnswered (λ n a b. follows n (inner a) (inner b)) (λ t. can_answer (inner t)) old new)
+            (HasRefused follows can_refuse (inner old) (inner new)) (HasRefused (λ n a b. follows n (inner a) (inner b)) (λ t. can_refuse (inner t)) old new) ts (answered old new) (refused old new) it.told;
+        no_clash = it.no_clash;
+      }
 
-  pub ends_within : (most : ℕ) (old new : T) (refusal : Refusal) → Ends follows can_refuse most (inner old) (inner new) refusal → Ends (λ n a b. follows n (inner a) (inner b)) (λ t. can_refuse (inner t)) most old new refusal
-  ends_within most old new refusal it = record {
-    count = it.count;
-    cause = elim it.cause [ inl told ↦ inl (refused old new refusal told) | inr memory ↦ inr memory ];
-  }
+  pub ends_within : (most : ℕ) (old new : T) (mid : S) (refusal : Refusal) → inner new ≡ mid → Ends follows can_refuse most (inner old) mid refusal → Ends (λ n a b. follows n (inner a) (inner b)) (λ t. can_refuse (inner t)) most old new refusal
+  ends_within most old new mid refusal same came =
+      let it : Ends follows can_refuse most (inner old) (inner new) refusal = subst (λ s. Ends follows can_refuse most (inner old) s refusal) (sym same) came in
+      record {
+        count = it.count;
+        cause = elim it.cause [ inl told ↦ inl (refused old new refusal told) | inr memory ↦ inr memory ];
+      }

@@ -38,7 +38,10 @@ impl<P: Peer + Drop, E: Write> Watched<'_, P, E> {
 }
 
 /// How many of these are no refusal.
-fn taken<A>(told: &[Result<A, Refusal>]) -> u64 {
+fn taken<A>(told: &Result<Vec<Result<A, Refusal>>, Refusal>) -> u64 {
+    let Ok(told) = told else {
+        return 0;
+    };
     let mut count = 0u64;
     for answer in told {
         if answer.is_ok() {
@@ -110,14 +113,14 @@ impl<P: Peer + Drop, E: Write> Peer for Watched<'_, P, E> {
     }
 
     fn get_all(&mut self, keys: &[Key]) -> Result<Vec<Result<KeyState, Refusal>>, Refusal> {
-        let told = self.side.get_all(keys)?;
+        let told = self.side.get_all(keys);
         self.count(taken(&told));
-        Ok(told)
+        told
     }
 
     fn push_all(&mut self, pairs: &[(Key, KeyState)]) -> Result<Vec<Result<(), Refusal>>, Refusal> {
-        let told = self.side.push_all(pairs)?;
+        let told = self.side.push_all(pairs);
         self.count(taken(&told));
-        Ok(told)
+        told
     }
 }

@@ -51,6 +51,10 @@ ends_text ends = flat_map (λ word. codes " " ++ word) (ends_words ends)
 abbrev pub none_such_text : List ℕ
 none_such_text = line (codes "none" ∷ codes "such" ∷ [])
 
+-- the number and the name of a refusal
+abbrev pub two_words : Refusal → List ℕ
+two_words refusal = decimal (number_of refusal) ++ (32 ∷ name_of refusal)
+
 abbrev pub refused_text : Refusal → List ℕ
 refused_text refusal = line (codes "refused" ∷ decimal (number_of refusal) ∷ name_of refusal ∷ [])
 

@@ -7,7 +7,8 @@ ghost use Rattle.mvd_app.specs.Told.{answer_text, key_left_text, more_text, outc
 use mvd_dots::Refusal;
 use mvd_input::Ask;
 use mvd_print::{
-    print_keys, print_left, print_message, print_more_left, print_none_such, print_reply, print_short,
+    print_keys, print_left, print_message, print_more_left, print_none_such, print_reply,
+    print_short,
 };
 use mvd_sync::{Left, Report, SyncFault};
 use mvd_wire::Reply;

@@ -92,7 +92,13 @@ fn a_peer_that_is_none_is_told(rt: HostRuntime) -> Result<(), Fail> {
     let address = SocketAddr::new(IpAddr::V4(Ipv4Addr::LOCALHOST), 7007);
     let wanted =
         "mvd: fault 32 BadKind\nmvd: 127.0.0.1:7007 does not answer as mvd does: name another --address and --port, or bring both to one version";
-    assert!(rt; tells(rt.alloc(), &Stop::at_server(address, Refusal::BadKind), wanted)?);
+    assert!(rt;
+        tells(
+            rt.alloc(),
+            &Stop::at_server(address, Refusal::BadKind),
+            wanted
+        )?
+    );
     Ok(())
 }
 

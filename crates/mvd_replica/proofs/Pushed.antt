@@ -222,8 +222,7 @@ all_told (p ∷ pairs) (turn ∷ turns) old new asked all seen valid whole =
     let was : old.broken ≡ false = whole_all (turn ∷ turns) old new all whole in
     let it = one_turn old mid p seen valid.0 was turn.reply (first_takes old mid p turn asks.0 all.1) in
     let later = all_told pairs turns mid new asks.1 all.2 it.seen valid.1 whole in
-    let most = old.config.max_keys in
-    (
+    let most = old.config.max_keys in (
       pushes-append most old.states mid.states new.states (p ∷ []) (told_of turn.reply ∷ []) pairs (told_by turns) (one_push most old.states mid.states p (told_of turn.reply) it.ok it.apart it.same it.cause)
           (subst (λ n. Pushes n mid.states pairs (told_by turns) new.states) (ap (λ c. c.max_keys) it.config) later.0),
       told_first mid new (told_of turn.reply) (after ∙ sym whole) it.refuses (told_by turns) later.1,
@@ -338,6 +337,6 @@ module _ (pairs : List (Key × State)) (requests : List Request) (replies : List
       let told = ap length it.told in
       let one = length-map (λ (t : Turn). t.asked) it.turns in
       let other = length-map (λ (t : Turn). t.reply) it.turns in
-      let as = length-map (λ (r : Request). Ok r) requests in
+      let by_ok = length-map (λ (r : Request). Ok r) requests in
       let by = ap length same ∙ length-map push_of pairs in
-      each_told pairs (map told_of replies) (length-map told_of replies ∙ sym told ∙ other ∙ sym one ∙ asked ∙ as ∙ by)
+      each_told pairs (map told_of replies) (length-map told_of replies ∙ sym told ∙ other ∙ sym one ∙ asked ∙ by_ok ∙ by)

@@ -252,11 +252,7 @@ impl<S: Alter> Replica<S> {
 }
 
 /// The request to push a state.
-pub(crate) fn pushing(
-    alloc: Global,
-    key: &Key,
-    pushed: &KeyState,
-) -> Result<Request, Refusal>
+pub(crate) fn pushing(alloc: Global, key: &Key, pushed: &KeyState) -> Result<Request, Refusal>
     ensures { IsAnswer result (Ok (Push key.now pushed.now)) }
 {
     Ok(Request::Push(key.copy(alloc)?, pushed.copy(alloc)?))

@@ -20,10 +20,10 @@ returns-clause-exchange c =
     let whole' : c.args.peer.now.broken ≡ false = sym c.is_broken-2.ensures ∙ c.if-is_broken-2.false in
     let mine : (c.args.local.now.broken ≡ false) × AreHeld c.args.local.now.states = (whole, c.key_count.ensures.held) in
     let theirs : (c.args.peer.now.broken ≡ false) × AreHeld c.args.peer.now.states = (whole', c.key_count-2.ensures.held) in
-    sites_meet c.args.local.now c.args.peer.now c.sync-ended.new.local c.sync-ended.new.peer c.sync-ended.result mine theirs c.key_count-3.ensures.held c.key_count-4.ensures.held c.sync-ended.ensures
+    sites_meet c.args.local.now c.args.peer.now c.sync-ended.new.local c.sync-ended.new.peer c.sync-ended.result mine theirs c.key_count-3.ensures.held c.key_count-4.ensures.held c.sync-ended.ensures.session
 
 pub returns-clause-local_config : goal.returns-clause-local_config
-returns-clause-local_config c = c.sync-ended.ensures.follows.0.0
+returns-clause-local_config c = c.sync-ended.ensures.session.follows.0.0
 
 pub returns-clause-peer_config : goal.returns-clause-peer_config
-returns-clause-peer_config c = c.sync-ended.ensures.follows.1.0
+returns-clause-peer_config c = c.sync-ended.ensures.session.follows.1.0

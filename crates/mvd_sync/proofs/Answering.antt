@@ -1,5 +1,5 @@
 -- What is made of the answers to many questions.
-use Rattle.std.proofs.Common.{◌≡◌, ◌≢◌, inl, inr, ℕ, zero, suc, ◌<◌, ◌≤◌, List, [], ◌∷◌, ◌++◌, length, take, get_or, sym, subst, arith}
+use Rattle.std.proofs.Common.{◌≡◌, ◌≢◌, inl, inr, ℕ, zero, suc, ◌<◌, ◌≤◌, List, [], ◌∷◌, ◌++◌, length, take, get_or, sym, subst, arith, ap, false}
 use Rattle.std.specs.Prelude.{Bool, ◌^◌, None, Some, Result, Ok, Err}
 use Rattle.std.specs.declared.vec.Vec.{Vec}
 use Rattle.std.specs.declared.alloc.Global.{Global}
@@ -7,11 +7,11 @@ use Rattle.mvd_wire.specs.declared.reply.Digests.{Digests}
 use Rattle.mvd_sync.specs.Answers.{Entry, IsPage}
 use Rattle.mvd_sync.specs.declared.questions.Node.{Node}
 use Rattle.mvd_dots.specs.declared.refusals.Refusal.{Refusal}
-use Rattle.mvd_dots.specs.declared.refusals.Refusal.TheVariants.{DotClash, Memory, TooManyRequests}
+use Rattle.mvd_dots.specs.declared.refusals.Refusal.TheVariants.{Memory, TooManyRequests}
 use Rattle.std.proofs.lemmas.List.{length-take-le, take_all}
 use Rattle.mvd_sync.specs.Questions.{AllAnswered, ComesToEnd, ForEach, Keeps, Takes, Tells}
 use Rattle.mvd_sync.specs.Session.{Each}
-use Rattle.mvd_sync.specs.Sides.{Blames, Side, of_memory, of_questions, of_side}
+use Rattle.mvd_sync.specs.Sides.{Blames, Side, of_memory, of_questions, of_side, is_of_key}
 use Rattle.mvd_sync.specs.Windows.{EachAnswer, EachTold, Ends}
 
 -- ---- lists
@@ -90,20 +90,20 @@ module _ {S Q : Type 0} (s : Side S) (qs : List Q) (left left' taken : ℕ) (old
   asked_is = let most = takes.most in length-take-le taken qs most
 
   -- so many were asked, and this is why no more are
-  pub ended_by : (T : Type 0) (refusal : Refusal) → s.follows (length (take taken qs)) old new → Blames s left taken old new refusal → (s.is_faithful old → refusal ≢ DotClash) → (s.is_faithful old → T) → ComesToEnd s T (length qs) left old new refusal
-  ended_by T refusal follows why no_clash then = record {
+  pub ended_by : (T : Type 0) (refusal : Refusal) → s.follows (length (take taken qs)) old new → Blames s left taken old new refusal → (s.is_faithful old → is_of_key refusal ≡ false) → (s.is_faithful old → T) → ComesToEnd s T (length qs) left old new refusal
+  ended_by T refusal follows why not_of_key then = record {
     asked = taken;
     few = takes.most;
     within = let spent = takes.spent in omega arith;
     follows = subst (λ n. s.follows n old new) asked_is follows;
     cause = why;
-    no_clash = no_clash;
+    not_of_key = not_of_key;
     right = then;
   }
 
   -- the call itself was refused
-  pub ended_within : (T : Type 0) (refusal : Refusal) → Ends s.follows s.can_refuse (length (take taken qs)) old new refusal → (s.is_faithful old → refusal ≢ DotClash) → (s.is_faithful old → T) → ComesToEnd s T (length qs) left old new refusal
-  ended_within T refusal ends no_clash then =
+  pub ended_within : (T : Type 0) (refusal : Refusal) → Ends s.follows s.can_refuse (length (take taken qs)) old new refusal → (s.is_faithful old → is_of_key refusal ≡ false) → (s.is_faithful old → T) → ComesToEnd s T (length qs) left old new refusal
+  ended_within T refusal ends not_of_key then =
       let spent = takes.spent in
       let most = takes.most in
       let here = asked_is in
@@ -113,8 +113,8 @@ module _ {S Q : Type 0} (s : Side S) (qs : List Q) (left left' taken : ℕ) (old
         few = omega arith;
         within = omega arith;
         follows = ends.count.2;
-        cause = elim ends.cause [ inl told ↦ of_side told no_clash | inr memory ↦ of_memory memory ];
-        no_clash = no_clash;
+        cause = elim ends.cause [ inl told ↦ of_side told not_of_key | inr memory ↦ of_memory memory ];
+        not_of_key = not_of_key;
         right = then;
       }
 
@@ -123,11 +123,11 @@ module _ {S Q : Type 0} (s : Side S) (qs : List Q) (left left' taken : ℕ) (old
   ended_few T refusal is few follows then =
       let spent = takes.spent in
       let none = takes.all few in
-      ended_by T refusal follows (of_questions is (omega arith)) (λ _ e. absurd (cc)) then
+      ended_by T refusal follows (of_questions is (omega arith)) (λ _. ap is_of_key is) then
 
   -- memory was refused
   pub ended_memory : (T : Type 0) (refusal : Refusal) → refusal ≡ Memory → s.follows (length (take taken qs)) old new → (s.is_faithful old → T) → ComesToEnd s T (length qs) left old new refusal
-  ended_memory T refusal is follows then = ended_by T refusal follows (of_memory is) (λ _ e. absurd (cc)) then
+  ended_memory T refusal is follows then = ended_by T refusal follows (of_memory is) (λ _. ap is_of_key is) then
 
   -- all were answered
   pub answered_all : {A : Type 0} (May Right : Q → A → Type 0) (answers : List A) → length qs ≤ taken → s.follows (length (take taken qs)) old new → ForEach May (take taken qs) answers → (s.is_faithful old → Keeps s old new × ForEach Right (take taken qs) answers)

@@ -1,9 +1,9 @@
 -- Questions after questions, of those that are left.
-use Rattle.std.proofs.Common.{◌≡◌, ℕ, ◌+◌, ◌≤◌, ◌∙◌, arith}
+use Rattle.std.proofs.Common.{◌≡◌, ℕ, ◌+◌, ◌≤◌, ◌∙◌, arith, ap, false}
 use Rattle.mvd_dots.specs.declared.refusals.Refusal.{Refusal}
 use Rattle.mvd_dots.specs.declared.refusals.Refusal.TheVariants.{Memory}
 use Rattle.mvd_sync.specs.Questions.{ComesToEnd, Keeps}
-use Rattle.mvd_sync.specs.Sides.{Blames, HasAnswered, HasRefused, Reaches, Side, of_answer, of_memory, of_questions, of_side}
+use Rattle.mvd_sync.specs.Sides.{Blames, HasAnswered, HasRefused, Reaches, Side, of_answer, of_memory, of_questions, of_side, is_of_key}
 
 module _ {S : Type 0} (s : Side S) (on : (m n : ℕ) (old mid new : S) → s.follows m old mid → s.follows n mid new → s.follows (m + n) old new) where
   -- what was told after questions was told after more
@@ -33,7 +33,7 @@ module _ {S : Type 0} (s : Side S) (on : (m n : ℕ) (old mid new : S) → s.fol
       within = let within = e.within in omega arith;
       follows = on n e.asked old mid new before e.follows;
       cause = blames_later e.asked refusal e.cause;
-      no_clash = λ t. e.no_clash (still t);
+      not_of_key = λ t. e.not_of_key (still t);
       right = λ t. then t (e.right (still t));
     }
 
@@ -45,7 +45,7 @@ ends_for_memory s T questions left left' n old new refusal spent few follows the
   within = omega arith;
   follows = follows;
   cause = of_memory is;
-  no_clash = λ _ e. absurd (cc);
+  not_of_key = λ _. ap is_of_key is;
   right = then;
 }
 

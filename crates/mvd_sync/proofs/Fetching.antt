@@ -3,14 +3,14 @@ use Rattle.std.proofs.Common.{◌≡◌, ◌≢◌, ℕ, ◌+◌, ◌-◌, ◌<�
 use Rattle.std.proofs.lemmas.List.{drop-drop, get_or-drop, length-map}
 use Rattle.std.specs.Prelude.{IfErr, Result, Ok, Err}
 use Rattle.mvd_dots.specs.declared.refusals.Refusal.{Refusal}
-use Rattle.mvd_dots.specs.declared.refusals.Refusal.TheVariants.{BadBody, DotClash}
+use Rattle.mvd_dots.specs.declared.refusals.Refusal.TheVariants.{BadBody}
 use Rattle.mvd_site.specs.Answer.{digests}
 use Rattle.mvd_tree.specs.HashTree.{KeyDigests}
 use Rattle.mvd_sync.specs.Answers.{Entry, IsPage, IsPageOf}
 use Rattle.mvd_sync.specs.Buckets.{ArePages, FillEnds, IsSpent}
 use Rattle.mvd_sync.specs.Questions.{AllAnswered, ComesToEnd, Fills, ForEach, Keeps, Tells}
 use Rattle.mvd_sync.specs.Session.{Each}
-use Rattle.mvd_sync.specs.Sides.{Side, of_answer}
+use Rattle.mvd_sync.specs.Sides.{Side, of_answer, is_of_key}
 use Rattle.mvd_sync.specs.Walk.{Reads}
 use Rattle.mvd_sync.specs.declared.questions.Questions.{Questions}
 use Rattle.mvd_sync.specs.declared.report.SyncFault.TheVariants.{Local, Peer}
@@ -26,7 +26,7 @@ page_refused s IsTold (Err refusal) left left' old new spent follows kept told b
   within = omega (arith, spent);
   follows = follows;
   cause = of_answer bad.0 (λ t. bad.1 (told t));
-  no_clash = λ t e. let q = bad.0 in absurd (cc);
+  not_of_key = λ t. ap is_of_key bad.0;
   right = kept;
 }
 

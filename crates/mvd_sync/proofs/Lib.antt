@@ -41,5 +41,4 @@ pub mod Exchanged
 pub mod Exchanging
 pub mod Telling
 pub mod Sessions
-pub mod HeldFew
 pub mod RemoteSides

@@ -1,12 +1,12 @@
 -- Questions one after the other.
-use Rattle.std.proofs.Common.{◌≡◌, ◌≢◌, ◌⊎◌, inl, inr, ℕ, ◌+◌, ◌<◌, ◌≤◌, List, [], ◌∷◌, ◌++◌, length, take, get_or, sym, ap, subst, ◌∙◌, arith, length-append}
+use Rattle.std.proofs.Common.{◌≡◌, ◌≢◌, ◌⊎◌, inl, inr, ℕ, ◌+◌, ◌<◌, ◌≤◌, List, [], ◌∷◌, ◌++◌, length, take, get_or, sym, ap, subst, ◌∙◌, arith, length-append, false}
 use Rattle.std.specs.Prelude.{Result, Ok, Err, IfErr, IfOk, OnErr, OnOk, IsErr}
 use Rattle.std.specs.Result.{IsErrAnd}
 use Rattle.std.proofs.lemmas.Result.{err_from_is_err_and}
 use Rattle.std.proofs.lemmas.List.{length-take-le, take_more}
 use Rattle.mvd_dots.specs.declared.refusals.Refusal.{Refusal}
-use Rattle.mvd_dots.specs.declared.refusals.Refusal.TheVariants.{DotClash, Memory}
-use Rattle.mvd_sync.specs.Sides.{HasAnswered, HasRefused, Reaches}
+use Rattle.mvd_dots.specs.declared.refusals.Refusal.TheVariants.{Memory}
+use Rattle.mvd_sync.specs.Sides.{HasAnswered, HasRefused, Reaches, is_of_key}
 use Rattle.mvd_sync.specs.Windows.{Asked, EachAnswer, EachTold, Ends}
 
 pub each_more : {Q A : Type 0} (P : Q → A → Type 0) (qs : List Q) (ts : List (Result A Refusal)) (q : Q) (a : Result A Refusal) → EachAnswer P qs ts → EachAnswer P (q ∷ []) (a ∷ []) → EachAnswer P (qs ++ q ∷ []) (ts ++ a ∷ [])
@@ -99,13 +99,13 @@ module _ {S : Type 0} (follows : ℕ → S → S → Type 0) (can_refuse : S →
     may = tt;
     right = λ _. tt;
     told = tt;
-    no_clash = λ _. tt;
+    not_of_key = λ _. tt;
   }
 
   -- one question more
   module _ {Q A : Type 0} (May Right : Q → A → Type 0) (T : Type 0) (old mid new : S) (qs : List Q) (ts : List (Result A Refusal)) (q : Q) (a : Result A Refusal) where
-    pub one_more : Asked follows can_refuse can_answer May Right T qs ts old mid → follows 1 mid new → IfOk a (May q) → (T → IfOk a (Right q)) → IfErr a (can_refuse new) → OnOk a (can_answer new) → (T → IfErr a (λ refusal. refusal ≢ DotClash)) → Asked follows can_refuse can_answer May Right T (qs ++ q ∷ []) (ts ++ a ∷ []) old new
-    one_more before step may right refuses answers no_clash =
+    pub one_more : Asked follows can_refuse can_answer May Right T qs ts old mid → follows 1 mid new → IfOk a (May q) → (T → IfOk a (Right q)) → IfErr a (can_refuse new) → OnOk a (can_answer new) → (T → IfErr a (λ refusal. is_of_key refusal ≡ false)) → Asked follows can_refuse can_answer May Right T (qs ++ q ∷ []) (ts ++ a ∷ []) old new
+    one_more before step may right refuses answers not_of_key =
         let way : Reaches follows old mid = (length qs, before.count) in
         let last : Reaches follows mid new = (1, step) in
         let longer = length-append qs (q ∷ []) in
@@ -118,15 +118,15 @@ module _ {S : Type 0} (follows : ℕ → S → S → Type 0) (can_refuse : S →
           told = told_more U R ts a
               (told_still (HasAnswered follows can_answer old mid) U (HasRefused follows can_refuse old mid) R ts (answered_on old mid new last) (λ r. refused_on old mid new r last) before.told)
               (one_told U R a (ok_still a answers (answered_now old mid new way last)) (err_still a refuses (λ r. refused_now old mid new r way last)));
-          no_clash = λ t. told_more (Unit {0}) (λ r. r ≢ DotClash) ts a (before.no_clash t) (one_told (Unit {0}) (λ r. r ≢ DotClash) a (ok_still a answers (λ _. tt)) (no_clash t));
+          not_of_key = λ t. told_more (Unit {0}) (λ r. is_of_key r ≡ false) ts a (before.not_of_key t) (one_told (Unit {0}) (λ r. is_of_key r ≡ false) a (ok_still a answers (λ _. tt)) (not_of_key t));
         }
 
   -- in turn
   pub one_more_at : {Q A : Type 0} (May Right : Q → A → Type 0) (T : Type 0) (old mid new : S) (all : List Q) (i : ℕ) (q : Q) (ts us : List (Result A Refusal)) (a : Result A Refusal) → i < length all → q ≡ get_or all i q → us ≡ ts ++ a ∷ []
-      → Asked follows can_refuse can_answer May Right T (take i all) ts old mid → follows 1 mid new → IfOk a (May q) → (T → IfOk a (Right q)) → IfErr a (can_refuse new) → OnOk a (can_answer new) → (T → IfErr a (λ refusal. refusal ≢ DotClash))
+      → Asked follows can_refuse can_answer May Right T (take i all) ts old mid → follows 1 mid new → IfOk a (May q) → (T → IfOk a (Right q)) → IfErr a (can_refuse new) → OnOk a (can_answer new) → (T → IfErr a (λ refusal. is_of_key refusal ≡ false))
       → Asked follows can_refuse can_answer May Right T (take (i + 1) all) us old new
-  one_more_at May Right T old mid new all i q ts us a low at pushed before step may right refuses answers no_clash =
+  one_more_at May Right T old mid new all i q ts us a low at pushed before step may right refuses answers not_of_key =
       let more : take (i + 1) all ≡ take i all ++ q ∷ [] = take_more all i q low ∙ ap (λ x. take i all ++ x ∷ []) (sym at) in
       subst (λ qs. Asked follows can_refuse can_answer May Right T qs us old new) (sym more)
       (subst (λ us. Asked follows can_refuse can_answer May Right T (take i all ++ q ∷ []) us old new) (sym pushed)
-      (one_more May Right T old mid new (take i all) ts q a before step may right refuses answers no_clash))
+      (one_more May Right T old mid new (take i all) ts q a before step may right refuses answers not_of_key))

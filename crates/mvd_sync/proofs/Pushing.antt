@@ -4,7 +4,7 @@ use Rattle.std.specs.Prelude.{Result, Ok, Err, All, Contains}
 use Rattle.std.proofs.Math.Seq.{take-append_seam}
 use Rattle.std.proofs.lemmas.List.{append-nil, length-take-le, take-append-drop, take_all}
 use Rattle.mvd_dots.specs.declared.refusals.Refusal.{Refusal}
-use Rattle.mvd_dots.specs.declared.refusals.Refusal.TheVariants.{Broken, DotClash, Memory, TooManyRequests}
+use Rattle.mvd_dots.specs.declared.refusals.Refusal.TheVariants.{Broken, Memory, TooManyRequests}
 use Rattle.mvd_keys.specs.State.{State}
 use Rattle.mvd_keys.specs.Writes.{Key}
 use Rattle.mvd_sync.specs.Questions.{AllAnswered, ComesToEnd, ForEach, IsOfKey, TakesFirst, TakesIn}
@@ -95,8 +95,8 @@ module _ {S : Type 0} (s : Side S) (pairs : List Pair) (left : ℕ) (old : S) wh
       }
 
   -- and the last answer, or what was made of it, ended them
-  pub ended_after : (rest : List Pair) (told : List Told) (left' : ℕ) (new : S) (refusal : Refusal) (f : FrontPushed s pairs rest told left left' old new) → Blames s left (length f.done) old new refusal → refusal ≢ DotClash → ComesToEnd s (TakesFirst s pairs old new refusal) (length pairs) left old new refusal
-  ended_after rest told left' new refusal f why no_clash =
+  pub ended_after : (rest : List Pair) (told : List Told) (left' : ℕ) (new : S) (refusal : Refusal) (f : FrontPushed s pairs rest told left left' old new) → Blames s left (length f.done) old new refusal → is_of_key refusal ≡ false → ComesToEnd s (TakesFirst s pairs old new refusal) (length pairs) left old new refusal
+  ended_after rest told left' new refusal f why not_of_key =
       let longer : length pairs ≡ length f.done + length rest = ap length f.whole ∙ length-append f.done rest in
       record {
         asked = length f.done;
@@ -104,7 +104,7 @@ module _ {S : Type 0} (s : Side S) (pairs : List Pair) (left : ℕ) (old : S) wh
         within = let spent = f.spent in omega arith;
         follows = f.follows;
         cause = why;
-        no_clash = λ _. no_clash;
+        not_of_key = λ _. not_of_key;
         right = λ t.
             let k = f.took t in
             record {
@@ -120,11 +120,11 @@ module _ {S : Type 0} (s : Side S) (pairs : List Pair) (left : ℕ) (old : S) wh
       }
 
   pub ended_for_memory : (rest : List Pair) (told : List Told) (left' : ℕ) (new : S) (refusal : Refusal) → FrontPushed s pairs rest told left left' old new → refusal ≡ Memory → ComesToEnd s (TakesFirst s pairs old new refusal) (length pairs) left old new refusal
-  ended_for_memory rest told left' new refusal f is = ended_after rest told left' new refusal f (of_memory is) (λ e. absurd (cc))
+  ended_for_memory rest told left' new refusal f is = ended_after rest told left' new refusal f (of_memory is) (ap is_of_key is)
 
   -- no question was left
   pub ended_for_want : (rest : List Pair) (told : List Told) (left' : ℕ) (new : S) (refusal : Refusal) → FrontPushed s pairs rest told left left' old new → refusal ≡ TooManyRequests → left' ≡ 0 → ComesToEnd s (TakesFirst s pairs old new refusal) (length pairs) left old new refusal
-  ended_for_want rest told left' new refusal f is none = ended_after rest told left' new refusal f (of_questions is (let spent = f.spent in omega arith)) (λ e. absurd (cc))
+  ended_for_want rest told left' new refusal f is none = ended_after rest told left' new refusal f (of_questions is (let spent = f.spent in omega arith)) (ap is_of_key is)
 
 -- ---- one window more
 
@@ -170,15 +170,15 @@ module _ {S : Type 0} (s : Side S) (on : (m n : ℕ) (old mid new : S) → s.fol
         elim why [
           | inl memory ↦ ended_for_memory s pairs left old (drop taken rest) (told ++ answers) left'' new refusal f memory
           | inr other ↦ ended_after s pairs left old (drop taken rest) (told ++ answers) left'' new refusal f
-              (of_side (refused_later s on old mid new refusal (length before.done, before.follows) (told_in (HasAnswered s.follows s.can_answer mid new) (HasRefused s.follows s.can_refuse mid new) answers refusal asked.told other.0)) (λ _ e. let no = other.1 in absurd (cc)))
-              (λ e. let no = other.1 in absurd (cc))
+              (of_side (refused_later s on old mid new refusal (length before.done, before.follows) (told_in (HasAnswered s.follows s.can_answer mid new) (HasRefused s.follows s.can_refuse mid new) answers refusal asked.told other.0)) (λ _. other.1))
+              other.1
         ]
 
     -- the call was refused
-    pub ended_call : (refusal : Refusal) → Ends s.follows s.can_refuse (length (take taken rest)) mid new refusal → (s.is_faithful mid → refusal ≢ DotClash) → (s.is_faithful mid → refusal ≢ Broken → s.is_faithful new)
+    pub ended_call : (refusal : Refusal) → Ends s.follows s.can_refuse (length (take taken rest)) mid new refusal → (s.is_faithful mid → is_of_key refusal ≡ false) → (s.is_faithful mid → refusal ≢ Broken → s.is_faithful new)
         → (s.is_faithful mid → PushesFirst (s.is_faithful new) (s.most_keys mid) (s.states mid) (take taken rest) (s.states new))
         → ComesToEnd s (TakesFirst s pairs old new refusal) (length pairs) left old new refusal
-    ended_call refusal ends no_clash unbroken first =
+    ended_call refusal ends not_of_key unbroken first =
         let few = ends.count.1 in
         let n = many in
         let spent_before = before.spent in
@@ -188,8 +188,8 @@ module _ {S : Type 0} (s : Side S) (on : (m n : ℕ) (old mid new : S) → s.fol
           few = omega arith;
           within = omega arith;
           follows = on (length before.done) ends.count.0 old mid new before.follows ends.count.2;
-          cause = elim ends.cause [ inl told ↦ of_side (refused_later s on old mid new refusal (length before.done, before.follows) told) (λ t. no_clash (before.took t).0) | inr memory ↦ of_memory memory ];
-          no_clash = λ t. no_clash (before.took t).0;
+          cause = elim ends.cause [ inl told ↦ of_side (refused_later s on old mid new refusal (length before.done, before.follows) told) (λ t. not_of_key (before.took t).0) | inr memory ↦ of_memory memory ];
+          not_of_key = λ t. not_of_key (before.took t).0;
           right = λ t.
               let k = before.took t in
               let p = first k.0 in

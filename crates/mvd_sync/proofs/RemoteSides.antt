@@ -88,7 +88,7 @@ module _ {S : Type 0} (refused : S → Option Refusal) where
           may = each_free May qs ts free (omega arith);
           right = λ never. absurd never;
           told = told_free (HasAnswered (λ _. Stays Over) Goes old new) (HasRefused (λ _. Stays Over) Refuses old new) ts (new, (0, still), goes, (0, λ _. refl)) (λ refusal. refused_now refusal (λ own e. absurd (cc)));
-          no_clash = λ never. absurd never;
+          not_of_key = λ never. absurd never;
         }
 
     ended_so : (refusal : Refusal) → RefusesAll kind (frames_of (map request qs)) l l' refusal → HasRefused (λ _. Stays Over) Refuses old new refusal ⊎ (refusal ≡ Memory)

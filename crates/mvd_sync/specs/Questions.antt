@@ -1,7 +1,7 @@
 -- Questions to a side, of which no more are made than are left.
 use Rattle.std.specs.Prelude.{◌≡◌, ◌≢◌, ◌<◌, ◌≤◌, ◌+◌, ℕ, false, true, List, [], ◌∷◌, length, sum_by, take, Bool, ◌^◌, Option, Result, Ok, Err}
 use Rattle.mvd_dots.specs.declared.refusals.Refusal.{Refusal}
-use Rattle.mvd_dots.specs.declared.refusals.Refusal.TheVariants.{Broken, DotClash}
+use Rattle.mvd_dots.specs.declared.refusals.Refusal.TheVariants.{Broken}
 use Rattle.mvd_keys.specs.State.{State}
 use Rattle.mvd_keys.specs.Writes.{Key}
 use Rattle.mvd_tree.specs.HashTree.{KeyDigests, node_digest}
@@ -45,7 +45,7 @@ pub record ComesToEnd {S : Type 0} (s : Side S) (True : Type 0) (questions left 
   pub within : asked ≤ left
   pub follows : s.follows asked old new
   pub cause : Blames s left asked old new refusal
-  pub no_clash : s.is_faithful old → refusal ≢ DotClash
+  pub not_of_key : s.is_faithful old → is_of_key refusal ≡ false
   pub right : s.is_faithful old → True
 
 -- ---- what is so of a side that was true

@@ -11,7 +11,7 @@ use Rattle.mvd_wire.specs.declared.reply.Digests.{Digests}
 use Rattle.mvd_site.specs.Answer.{is_too_large}
 use Rattle.mvd_site.specs.Held.{States, state_at}
 use Rattle.mvd_sync.specs.Session.{pushed}
-use Rattle.mvd_sync.specs.Sides.{HasAnswered, HasRefused, Within}
+use Rattle.mvd_sync.specs.Sides.{HasAnswered, HasRefused, Within, is_of_key}
 
 -- each question with its answer, and this of each answer that is no refusal
 abbrev pub EachAnswer : {Q A : Type 0} → (Q → A → Type 0) → List Q → List (Result A Refusal) → Type 0
@@ -31,13 +31,13 @@ abbrev pub IsNode : KeyDigests → List ℕ → Digests → Type 0
 IsNode held path d = (d.own ≡ node_digest held path) × (length path < 3 → d.children ≡ Some (children_digests held path)) × (3 ≤ length path → d.children ≡ None)
 
 -- Questions that were asked one after the other and answered so: as many as there are, each answer one that the side may
--- give, and right if it was true; each refusal one that it gave on the way, and no clash
+-- give, and right if it was true; each refusal one that it gave on the way, and of a true side none of a key alone
 pub record Asked {S Q A : Type 0} (follows : ℕ → S → S → Type 0) (can_refuse : S → Refusal → Type 0) (can_answer : S → Type 0) (May : Q → A → Type 0) (Right : Q → A → Type 0) (was_true : Type 0) (questions : List Q) (answers : List (Result A Refusal)) (old new : S) : Type 0 where
   pub count : follows (length questions) old new
   pub may : EachAnswer May questions answers
   pub right : was_true → EachAnswer Right questions answers
   pub told : EachTold (HasAnswered follows can_answer old new) (HasRefused follows can_refuse old new) answers
-  pub no_clash : was_true → EachTold (Unit {0}) (λ refusal. refusal ≢ DotClash) answers
+  pub not_of_key : was_true → EachTold (Unit {0}) (λ refusal. is_of_key refusal ≡ false) answers
 
 -- Questions that were not all answered: the side refused one so that it refuses all (22, or its link's own), or memory was refused
 pub record Ends {S : Type 0} (follows : ℕ → S → S → Type 0) (can_refuse : S → Refusal → Type 0) (most : ℕ) (old new : S) (refusal : Refusal) : Type 0 where

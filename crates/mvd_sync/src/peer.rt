@@ -9,6 +9,7 @@ ghost use Rattle.mvd_tree.specs.Page.{children_digests, is_more_after_page, page
 ghost use Rattle.mvd_site.specs.Held.{AreHeld, States, state_at};
 ghost use Rattle.mvd_site.specs.Answer.{digests};
 ghost use Rattle.mvd_sync.specs.Session.{pushed};
+ghost use Rattle.mvd_sync.specs.Sides.{is_of_key};
 ghost use Rattle.mvd_sync.specs.Windows.{Asked, CannotTake, Ends, IsNode, Pushes, PushesFirst};
 
 use crate::windows::{is_over, room_for};
@@ -62,7 +63,7 @@ pub trait Peer {
     fn node(&mut self, path: &Path) -> Result<Digests, Refusal>
         ensures kept { is_faithful self.old → is_faithful self.new × (states self.new ≡ states self.old) }
         ensures answer { is_faithful self.old → IfOk result (IsNode (digests (states self.old)) path.now) }
-        ensures no_clash { is_faithful self.old → IfErr result (λ refusal. refusal ≢ Refusal.DotClash) }
+        ensures not_of_key { is_faithful self.old → IfErr result (λ refusal. is_of_key refusal ≡ false) }
         ensures follows { follows 1 self.old self.new }
         ensures refuses { IfErr result (can_refuse self.new) }
         ensures answers { OnOk result (can_answer self.new) };
@@ -72,7 +73,7 @@ pub trait Peer {
         ensures kept { is_faithful self.old → is_faithful self.new × (states self.new ≡ states self.old) }
         ensures page { is_faithful self.old → IfOk result (λ page. page.0.items ≡ page_of (digests (states self.old)) path.now (option_copied after.entry)) }
         ensures more { is_faithful self.old → IfOk result (λ page. page.1 ≡ is_more_after_page (digests (states self.old)) path.now (option_copied after.entry)) }
-        ensures no_clash { is_faithful self.old → IfErr result (λ refusal. refusal ≢ Refusal.DotClash) }
+        ensures not_of_key { is_faithful self.old → IfErr result (λ refusal. is_of_key refusal ≡ false) }
         ensures follows { follows 1 self.old self.new }
         ensures refuses { IfErr result (can_refuse self.new) }
         ensures answers { OnOk result (can_answer self.new) };
@@ -82,7 +83,7 @@ pub trait Peer {
         ensures kept { is_faithful self.old → is_faithful self.new × (states self.new ≡ states self.old) }
         ensures answer { is_faithful self.old → IfOk result (λ state. state ≡ state_at (states self.old) key.now) }
         ensures given { IfOk result (λ state. can_give key.now state) }
-        ensures no_clash { is_faithful self.old → IfErr result (λ refusal. refusal ≢ Refusal.DotClash) }
+        ensures not_of_key { is_faithful self.old → IfErr result (λ refusal. is_of_key refusal ≡ false) }
         ensures follows { follows 1 self.old self.new }
         ensures refuses { IfErr result (can_refuse self.new) }
         ensures answers { OnOk result (can_answer self.new) };
@@ -103,7 +104,7 @@ pub trait Peer {
         ensures kept { is_faithful self.old → is_faithful self.new × (states self.new ≡ states self.old) }
         ensures told { IfOk result (λ told. Asked follows can_refuse can_answer (λ _ _. Unit {0}) (IsNode (digests (states self.old))) (is_faithful self.old) paths.now told.items self.old self.new) }
         ensures ended { IfErr result (Ends follows can_refuse (length paths.now) self.old self.new) }
-        ensures no_clash { is_faithful self.old → IfErr result (λ refusal. refusal ≢ Refusal.DotClash) }
+        ensures not_of_key { is_faithful self.old → IfErr result (λ refusal. is_of_key refusal ≡ false) }
     {
         let mut told = room_for(self.alloc(), paths.len())?;
         for path in paths {
@@ -124,7 +125,7 @@ pub trait Peer {
         ensures kept { is_faithful self.old → is_faithful self.new × (states self.new ≡ states self.old) }
         ensures told { IfOk result (λ told. Asked follows can_refuse can_answer (λ _ _. Unit {0}) (λ q page. (page.0.items ≡ page_of (digests (states self.old)) q.0 q.1) × (page.1 ≡ is_more_after_page (digests (states self.old)) q.0 q.1)) (is_faithful self.old) asked.now told.items self.old self.new) }
         ensures ended { IfErr result (Ends follows can_refuse (length asked.now) self.old self.new) }
-        ensures no_clash { is_faithful self.old → IfErr result (λ refusal. refusal ≢ Refusal.DotClash) }
+        ensures not_of_key { is_faithful self.old → IfErr result (λ refusal. is_of_key refusal ≡ false) }
     {
         let mut told = room_for(self.alloc(), asked.len())?;
         for (path, after) in asked {
@@ -142,7 +143,7 @@ pub trait Peer {
         ensures kept { is_faithful self.old → is_faithful self.new × (states self.new ≡ states self.old) }
         ensures told { IfOk result (λ told. Asked follows can_refuse can_answer (can_give) (λ key state. state ≡ state_at (states self.old) key) (is_faithful self.old) keys.now told.items self.old self.new) }
         ensures ended { IfErr result (Ends follows can_refuse (length keys.now) self.old self.new) }
-        ensures no_clash { is_faithful self.old → IfErr result (λ refusal. refusal ≢ Refusal.DotClash) }
+        ensures not_of_key { is_faithful self.old → IfErr result (λ refusal. is_of_key refusal ≡ false) }
     {
         let mut told = room_for(self.alloc(), keys.len())?;
         for key in keys {
@@ -160,7 +161,7 @@ pub trait Peer {
         ensures told { IfOk result (λ told. Asked follows can_refuse can_answer (λ _ _. Unit {0}) (λ _ _. Unit {0}) ⊥ pairs.now told.items self.old self.new) }
         ensures pushes { is_faithful self.old → IfOk result (λ told. is_faithful self.new × Pushes (most_keys self.old) (states self.old) pairs.now told.items (states self.new)) }
         ensures ended { IfErr result (Ends follows can_refuse (length pairs.now) self.old self.new) }
-        ensures no_clash { is_faithful self.old → IfErr result (λ refusal. refusal ≢ Refusal.DotClash) }
+        ensures not_of_key { is_faithful self.old → IfErr result (λ refusal. is_of_key refusal ≡ false) }
         ensures unbroken { is_faithful self.old → IfErr result (λ refusal. refusal ≢ Refusal.Broken → is_faithful self.new) }
         ensures first { is_faithful self.old → OnErr result (PushesFirst (is_faithful self.new) (most_keys self.old) (states self.old) pairs.now (states self.new)) }
     {

@@ -38,13 +38,13 @@ pub fn sync_within<L: Peer, P: Peer>(
         Ok(paths) => paths,
         Err(fault) => return Err(fault),
     };
-    let mut exchange = Exchange::new(alloc, number);
-    match exchange_buckets(alloc, local, peer, &mut left, &paths, &mut exchange) {
+    let mut exchanging = Exchange::new(alloc, number);
+    match exchange_buckets(alloc, local, peer, &mut left, &paths, &mut exchanging) {
         Ok(()) => {}
         Err(fault) => return Err(fault),
     }
-    match exchange.exchange(local, peer, &mut left) {
-        Ok(()) => Ok(exchange.report()),
+    match exchanging.exchange(local, peer, &mut left) {
+        Ok(()) => Ok(exchanging.report()),
         Err(fault) => Err(fault),
     }
 }

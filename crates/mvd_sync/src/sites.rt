@@ -46,17 +46,17 @@ impl Peer for Site {
         Some(self.config().site())
     }
 
-    #[tactic(auto, using(crate::proofs::SiteSides::node_own, crate::proofs::SiteSides::node_inner, crate::proofs::SiteSides::node_bucket, crate::proofs::SiteSides::node_apart, crate::proofs::SiteSides::node_refuses, crate::proofs::SiteSides::node_answers))]
+    #[tactic(auto, using(crate::proofs::SiteSides::node_own, crate::proofs::SiteSides::node_inner, crate::proofs::SiteSides::node_bucket, crate::proofs::SiteSides::node_not_of_key, crate::proofs::SiteSides::node_refuses, crate::proofs::SiteSides::node_answers))]
     fn node(&mut self, path: &Path) -> Result<Digests, Refusal> {
         Site::node(self, path)
     }
 
-    #[tactic(auto, using(crate::proofs::SiteSides::bucket_refuses))]
+    #[tactic(auto, using(crate::proofs::SiteSides::bucket_not_of_key, crate::proofs::SiteSides::bucket_refuses))]
     fn bucket(&mut self, path: &Path, after: Option<&Key>) -> Result<Page, Refusal> {
         Site::bucket(self, path, after)
     }
 
-    #[tactic(auto, using(crate::proofs::SiteSides::get_refuses))]
+    #[tactic(auto, using(crate::proofs::SiteSides::get_not_of_key, crate::proofs::SiteSides::get_refuses))]
     fn get(&mut self, key: &Key) -> Result<KeyState, Refusal> {
         Site::get(self, key)
     }

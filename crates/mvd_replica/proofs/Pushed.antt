@@ -314,14 +314,17 @@ follows_push key s old new before after follows comes = record {
 
 -- ---- what is answered at once
 
-ok_pushes : (pairs : List (Key × State)) → map (λ (r : Request). Ok r) (map push_of pairs) ≡ map (λ (p : Key × State). Ok (push_of p)) pairs
+abbrev as_asked : Request → Result Request Refusal
+as_asked request = Ok request
+
+ok_pushes : (pairs : List (Key × State)) → map as_asked (map push_of pairs) ≡ map (λ (p : Key × State). as_asked (push_of p)) pairs
 ok_pushes [] = refl
-ok_pushes (p ∷ pairs) = ap (λ l. Ok (push_of p) ∷ l) (ok_pushes pairs)
+ok_pushes (p ∷ pairs) = ap (λ l. as_asked (push_of p) ∷ l) (ok_pushes pairs)
 
 module _ (pairs : List (Key × State)) (requests : List Request) (replies : List Reply) (old new : SiteValue) (before after : Shown) (same : requests ≡ map push_of pairs) (it : AnswersAll requests replies old new before after)
     (held : AreHeld old.states) (valid : Each (λ p. IsValid p.1) pairs) where
   asks : AskPushes pairs it.turns
-  asks = it.asked ∙ ap (map (λ (r : Request). Ok r)) same ∙ ok_pushes pairs
+  asks = it.asked ∙ ap (map as_asked) same ∙ ok_pushes pairs
 
   pub answered_follow : SideFollows old new before after
   answered_follow = follows_pushes it.turns old new before after (all_ask pairs it.turns asks) it.takes.follows (all_come pairs it.turns old new asks it.states (held_seen old.states held) valid)
@@ -335,8 +338,8 @@ module _ (pairs : List (Key × State)) (requests : List Request) (replies : List
   answered_each =
       let asked = ap length it.asked in
       let told = ap length it.told in
-      let one = length-map (λ (t : Turn). t.asked) it.turns in
-      let other = length-map (λ (t : Turn). t.reply) it.turns in
-      let by_ok = length-map (λ (r : Request). Ok r) requests in
-      let by = ap length same ∙ length-map push_of pairs in
-      each_told pairs (map told_of replies) (length-map told_of replies ∙ sym told ∙ other ∙ sym one ∙ asked ∙ by_ok ∙ by)
+      let one = length-map it.turns (λ (t : Turn). t.asked) in
+      let other = length-map it.turns (λ (t : Turn). t.reply) in
+      let by_ok = length-map requests as_asked in
+      let by = ap length same ∙ length-map pairs push_of in
+      each_told pairs (map told_of replies) (length-map replies told_of ∙ sym told ∙ other ∙ sym one ∙ asked ∙ by_ok ∙ by)

@@ -129,7 +129,7 @@ takes_apart setting before (Session local peer) (Met report) after sound may tol
       let tells = told.tells in
       let apart = no_states_clash before local peer sound in
       subst (λ (r : Report). Each (λ l. l.1.1 ≢ DotClash) r.first_refused) (met_is report other e)
-      (subst (Each (λ l. l.1.1 ≢ DotClash)) (sym tells.counted.2.1) (each-take (λ l. l.1.1 ≢ DotClash) tells.left 100
+      (subst (Each (λ l. l.1.1 ≢ DotClash)) (sym tells.counted.2) (each-take (λ l. l.1.1 ≢ DotClash) tells.left 100
       (Each-weaker (λ l. CannotMeet (most_of setting.max_keys setting.max_keys l.1.0) (states_of (before.known local)) (states_of (before.known peer)) l.0 l.1.1) (λ l. l.1.1 ≢ DotClash)
       (left_apart (states_of (before.known local)) (states_of (before.known peer)) setting.max_keys setting.max_keys apart) tells.left tells.causes)));
 }

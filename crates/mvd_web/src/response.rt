@@ -1,0 +1,107 @@
+//! The bytes of a response.
+ghost use Rattle.std.specs.Prelude.{◌≡◌, ◌++◌, OnOk, IfOk};
+ghost use Rattle.http1.specs.Head.{header_parts, pairs, response_text};
+ghost use Rattle.http1_typed.specs.Parts.{reason_of};
+ghost use Rattle.http_server.specs.Response.{fields as pairs_of, fields_of};
+ghost use Rattle.mvd_web.specs.Response.{framing_of, persistence as persistence_told, response_bytes, status_sent};
+
+use bytes::BytesMut;
+use http::{HeaderName, HeaderValue, StatusCode};
+use http_server::Response;
+use http1::Header;
+use http1::head::write_response;
+use mvd_http::{Content, fill};
+use std::alloc::{AllocError, Global};
+
+/// The answer to a request: its status, and its body.
+#[derive(Clone, Copy)]
+pub struct Answer<'a> {
+    pub status: u16,
+    pub content: Content,
+    pub body: &'a str,
+}
+
+/// How a response is sent.
+#[derive(Clone, Copy)]
+pub struct Manner {
+    /// No response follows on the connection.
+    pub is_last: bool,
+    /// The body is left out.
+    pub is_head: bool,
+}
+
+/// The field that says whether another response may follow.
+fn persistence(is_last: bool) -> Header<'static>
+    ensures { header_parts result ≡ persistence_told is_last }
+{
+    Header {
+        name: b"connection",
+        value: if is_last { b"close" } else { b"keep-alive" },
+    }
+}
+
+/// The fields of a response, as they are written.
+fn listed<'a>(
+    alloc: Global,
+    fields: &'a [(HeaderName, HeaderValue)],
+) -> Result<Vec<Header<'a>>, AllocError>
+    ensures { IfOk result (λ list. pairs list.items ≡ pairs_of fields.now) }
+{
+    let mut list = Vec::with_capacity(alloc, fields.len())?;
+    for field in fields {
+        list.push(Header {
+            name: field.0.as_bytes(),
+            value: field.1.as_bytes(),
+        })?;
+    }
+    Ok(list)
+}
+
+/// Puts the bytes of a response behind those of `out`.
+pub(crate) fn push_response(
+    alloc: Global,
+    out: &mut BytesMut,
+    answer: Answer<'_>,
+    manner: Manner,
+) -> Result<(), AllocError>
+    ensures { OnOk result (out.new.items ≡ out.old.items ++ response_bytes answer.status answer.content answer.body.now manner) }
+{
+    let mut filled = Response::new(alloc);
+    let status = StatusCode::from_u16(answer.status).unwrap_or(StatusCode::INTERNAL_SERVER_ERROR);
+    fill(&mut filled, status, answer.content, "")?;
+    push_head(alloc, out, &filled, answer.body.len(), manner.is_last)?;
+    if !manner.is_head {
+        out.extend_from_slice(answer.body.as_bytes())?;
+    }
+    Ok(())
+}
+
+/// Puts the head of a response behind what `out` holds. A 204 has no body, and no field for its length.
+fn push_head(
+    alloc: Global,
+    out: &mut BytesMut,
+    filled: &Response,
+    length: usize,
+    is_last: bool,
+) -> Result<(), AllocError>
+    ensures { OnOk result (out.new.items ≡ out.old.items
+        ++ response_text 1 filled.now.status (reason_of filled.now.status)
+        (fields_of filled.now ++ framing_of filled.now.status length is_last)) }
+{
+    let fields = listed(alloc, &filled.headers)?;
+    let digits = format!(in alloc; "{length}")?;
+    let status = filled.status.as_u16();
+    let reason = filled.status.canonical_reason().unwrap_or("").as_bytes();
+    let framing = [
+        persistence(is_last),
+        Header {
+            name: b"content-length",
+            value: digits.as_bytes(),
+        },
+    ];
+    let framing = if status == 204 { &framing[..1] } else { &framing[..] };
+    match write_response(out, 1, status, reason, &fields, framing) {
+        Ok(()) => Ok(()),
+        Err(_) => Err(AllocError),
+    }
+}

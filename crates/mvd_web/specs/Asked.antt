@@ -42,6 +42,9 @@ pub record IsAskedBy (request : Request (List ℕ)) (asked : Asked) : Type 0 whe
   pub own : asked.is_own ≡ is_own (host_of (head_of request)) (field_in (codes "origin") (head_of request).headers)
   pub head : asked.is_head ≡ bytes_eq (head_of request).method (codes "HEAD")
 
--- the desk keeps what the request asks
-abbrev pub Keeps : Desk → Request (List ℕ) → Response → Desk → Type 0
-Keeps old request response new = (asked : Asked) × (new.asked ≡ Some asked) × IsAskedBy request asked
+-- the desk kept nothing, and keeps what the request asks
+pub record Keeps (old : Desk) (request : Request (List ℕ)) (response : Response) (new : Desk) : Type 0 where
+  pub none : old.asked ≡ None
+  pub asked : Asked
+  pub kept : new.asked ≡ Some asked
+  pub asks : IsAskedBy request asked

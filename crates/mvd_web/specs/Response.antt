@@ -17,10 +17,12 @@ abbrev pub persistence : Bool → Header
 persistence true = (codes "connection", codes "close")
 persistence false = (codes "connection", codes "keep-alive")
 
--- the fields that frame a body of this length; a 204 has no body, and says no length
+-- the fields that frame a body whose length has these digits; a 204 has no body, and says no length
+abbrev pub framed : ℕ → List ℕ → Bool → List Header
+framed status digits is_last = persistence is_last ∷ (if status == 204 then [] else (codes "content-length", digits) ∷ [])
+
 abbrev pub framing_of : ℕ → ℕ → Bool → List Header
-framing_of status length is_last =
-    persistence is_last ∷ (if status == 204 then [] else (codes "content-length", decimal length) ∷ [])
+framing_of status length is_last = framed status (decimal length) is_last
 
 abbrev pub head_bytes : ℕ → Content → ℕ → Bool → List ℕ
 head_bytes status content length is_last =

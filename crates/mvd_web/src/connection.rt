@@ -1,6 +1,8 @@
 //! One connection: from the bytes that came to the bytes that leave.
-ghost use Rattle.std.specs.Prelude.{◌≡◌, ◌≤◌, ◌++◌, length, drop, None, IfOk, IfErr, OnOk};
-ghost use Rattle.mvd_dots.specs.declared.refusals.Refusal.TheVariants as Refusal;
+ghost use Rattle.std.specs.Prelude.{◌≡◌, ◌≤◌, length, None, Some, OnErr, true, option_copied};
+ghost use Rattle.mvd_web.specs.Response.{response_bytes};
+ghost use Rattle.mvd_web.specs.declared.asked.Asked.{Asked};
+ghost use Rattle.mvd_web.specs.declared.response.Manner.{Manner};
 
 use crate::asked::Asked;
 use crate::desk::Desk;
@@ -12,6 +14,7 @@ use mvd_conn::Ending;
 use mvd_dots::Refusal;
 use std::alloc::{AllocError, Global};
 use std::hash::RandomState;
+use std::marker::Model;
 
 /// Where as many bytes wait to leave, no request is taken and no input is wanted.
 pub const WAITS_MAX: usize = 262_144;
@@ -32,9 +35,23 @@ pub struct WebConnection {
     stopped: Option<Refusal>,
 }
 
+impl Model for WebConnection {
+    ghost use Rattle.mvd_web.specs.Web.{WebValue};
+
+    ghost Value = { WebValue };
+
+    ghost use Rattle.mvd_web.specs.Inside.{value_of};
+
+    ghost view = { value_of };
+}
+
 impl WebConnection {
+    ghost use Rattle.mvd_web.specs.Web.{Queues, Takes, TakesNone, new_web, sent, stopped_by, web_ending};
+
     /// A connection on which nothing happened yet. The keys hide in which order a peer's fields are kept.
-    pub fn new(alloc: Global, keys: RandomState) -> WebConnection {
+    pub fn new(alloc: Global, keys: RandomState) -> WebConnection
+        ensures { result ≡ new_web }
+    {
         // While anything waits there, the parser takes nothing further: so at most one request is taken at a time.
         let config = Config {
             max_body_len: BODY_MAX,
@@ -57,7 +74,9 @@ impl WebConnection {
     }
 
     /// Whether a request may be taken.
-    fn is_free(&self) -> bool {
+    fn is_free(&self) -> bool
+        ensures { result ≡ true → self.now.asked ≡ None }
+    {
         self.stopped.is_none() && self.desk.asked.is_none() && self.output.len() < WAITS_MAX
     }
 
@@ -90,20 +109,23 @@ impl WebConnection {
     }
 
     /// Ends the connection at once, for this cause.
-    pub fn stop(&mut self, refusal: Refusal) {
+    pub fn stop(&mut self, refusal: Refusal)
+        ensures { self.new ≡ stopped_by self.old refusal }
+    {
         if self.stopped.is_none() {
             self.stopped = Some(refusal);
         }
     }
 
     /// Takes the next request, where no other waits for its answer. Whether one was taken.
-    pub fn next(&mut self) -> bool {
+    pub fn next(&mut self) -> bool
+        ensures { Takes self.old result self.new }
+    {
         for _step in 0..u64::MAX {
             if !self.is_free() {
                 return false;
             }
-            self.parser.advance(&mut self.desk);
-            if self.desk.asked.is_some() {
+            if self.advance() {
                 self.drop_pending();
                 return true;
             }
@@ -119,12 +141,17 @@ impl WebConnection {
     }
 
     /// The request that waits for its answer.
-    pub fn asked(&self) -> Option<&Asked> {
+    pub fn asked(&self) -> Option<&Asked>
+        ensures { option_copied result ≡ self.now.asked }
+    {
         self.desk.asked.as_ref()
     }
 
     /// Queues the response to the request that waits for it. Where memory is refused, the connection stops.
-    pub fn respond(&mut self, answer: Answer<'_>) {
+    pub fn respond(&mut self, answer: Answer<'_>)
+        ensures { (asked : Asked) → self.old.asked ≡ Some asked → (manner : Manner) × (manner.is_head ≡ asked.is_head)
+            × Queues self.old (response_bytes answer.entry.status answer.entry.content answer.entry.body.now manner) self.new }
+    {
         let Some(asked) = self.desk.asked.take() else {
             return;
         };
@@ -139,18 +166,24 @@ impl WebConnection {
     }
 
     /// The bytes that wait to leave.
-    pub fn waiting(&self) -> &[u8] {
+    pub fn waiting(&self) -> &[u8]
+        ensures { result.now ≡ self.now.waits }
+    {
         self.output.as_slice()
     }
 
     /// Tells that so many of the waiting bytes left.
     pub fn sent(&mut self, count: usize)
+        requires { count ≤ length self.old.waits }
+        ensures { self.new ≡ sent self.old count }
     {
-        self.output.advance(count.min(self.output.len()));
+        self.output.advance(count);
     }
 
     /// How the connection ends, where no further request is taken.
-    pub fn ending(&self) -> Option<Ending> {
+    pub fn ending(&self) -> Option<Ending>
+        ensures { result ≡ web_ending self.now }
+    {
         match self.stopped {
             Some(refusal) => Some(Ending::Stopped(refusal)),
             None => ending_of(self.parser.state()),
@@ -165,8 +198,19 @@ impl WebConnection {
         self.parser.is_done() && self.desk.asked.is_none() && self.output.is_empty()
     }
 
+    /// Reads at most one request. Whether one was read.
+    fn advance(&mut self) -> bool
+        requires { self.old.asked ≡ None }
+        ensures { Takes self.old result self.new }
+    {
+        self.parser.advance(&mut self.desk);
+        self.desk.asked.is_some()
+    }
+
     /// What the parser answers for itself leaves as it is.
-    fn move_pending(&mut self) -> Result<(), AllocError> {
+    fn move_pending(&mut self) -> Result<(), AllocError>
+        ensures { TakesNone self.old self.new }
+    {
         for _piece in 0..u64::MAX {
             if !self.parser.wants_write() {
                 return Ok(());
@@ -180,7 +224,9 @@ impl WebConnection {
     }
 
     /// What stands in place of a response does not leave.
-    fn drop_pending(&mut self) {
+    fn drop_pending(&mut self)
+        ensures { TakesNone self.old self.new }
+    {
         for _piece in 0..u64::MAX {
             if !self.parser.wants_write() {
                 return;

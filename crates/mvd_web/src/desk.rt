@@ -7,7 +7,7 @@ use http::{Request, StatusCode};
 use http_server::{Response, Service};
 use std::alloc::{AllocError, Global};
 
-/// It keeps the request that it was called with last. What it answers is never sent: the response is queued once it is known.
+/// It keeps one request. What it answers is never sent: the response is queued once it is known.
 #[derive(Drop)]
 pub(crate) struct Desk {
     pub(crate) alloc: Global,
@@ -22,6 +22,9 @@ impl Service for Desk {
         request: &Request<Bytes>,
         response: &mut Response,
     ) -> Result<(), AllocError> {
+        if self.asked.is_some() {
+            return Err(AllocError);
+        }
         self.asked = Some(asked_by(self.alloc, request));
         // No request is refused this status.
         response.status = StatusCode::NOT_FOUND;

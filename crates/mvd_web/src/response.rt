@@ -3,7 +3,7 @@ ghost use Rattle.std.specs.Prelude.{◌≡◌, ◌++◌, OnOk, IfOk};
 ghost use Rattle.http1.specs.Head.{header_parts, pairs, response_text};
 ghost use Rattle.http1_typed.specs.Parts.{reason_of};
 ghost use Rattle.http_server.specs.Response.{fields as pairs_of, fields_of};
-ghost use Rattle.mvd_web.specs.Response.{framing_of, persistence as persistence_told, response_bytes, status_sent};
+ghost use Rattle.mvd_web.specs.Response.{framed, framing_of, persistence as persistence_told, response_bytes, status_sent};
 
 use bytes::BytesMut;
 use http::{HeaderName, HeaderValue, StatusCode};
@@ -40,14 +40,14 @@ fn persistence(is_last: bool) -> Header<'static>
     }
 }
 
-/// The fields of a response, as they are written.
-fn listed<'a>(
+/// The fields of a response as they are written, without those that frame it.
+fn own_fields<'a>(
     alloc: Global,
     fields: &'a [(HeaderName, HeaderValue)],
 ) -> Result<Vec<Header<'a>>, AllocError>
     ensures { IfOk result (λ list. pairs list.items ≡ pairs_of fields.now) }
 {
-    let mut list = Vec::with_capacity(alloc, fields.len())?;
+    let mut list = Vec::with_capacity(alloc, fields.len() + 2)?;
     for field in fields {
         list.push(Header {
             name: field.0.as_bytes(),
@@ -57,6 +57,41 @@ fn listed<'a>(
     Ok(list)
 }
 
+/// The fields of a response, with those that frame a body of so many bytes. A 204 has no body, and no field for its length.
+fn listed<'a>(
+    alloc: Global,
+    filled: &'a Response,
+    digits: &'a [u8],
+    is_last: bool,
+) -> Result<Vec<Header<'a>>, AllocError>
+    ensures { IfOk result (λ list. pairs list.items ≡ fields_of filled.now ++ framed filled.now.status digits.now is_last) }
+{
+    let mut list = own_fields(alloc, &filled.headers)?;
+    list.push(persistence(is_last))?;
+    if filled.status.as_u16() != 204 {
+        list.push(Header {
+            name: b"content-length",
+            value: digits,
+        })?;
+    }
+    Ok(list)
+}
+
+/// Writes a head.
+fn put_head(
+    out: &mut BytesMut,
+    status: StatusCode,
+    fields: &[Header<'_>],
+) -> Result<(), AllocError>
+    ensures { OnOk result (out.new.items ≡ out.old.items ++ response_text 1 status (reason_of status) (pairs fields.now)) }
+{
+    let reason = status.canonical_reason().unwrap_or("").as_bytes();
+    match write_response(out, 1, status.as_u16(), reason, fields, &[]) {
+        Ok(()) => Ok(()),
+        Err(_) => Err(AllocError),
+    }
+}
+
 /// Puts the bytes of a response behind those of `out`.
 pub(crate) fn push_response(
     alloc: Global,
@@ -64,7 +99,7 @@ pub(crate) fn push_response(
     answer: Answer<'_>,
     manner: Manner,
 ) -> Result<(), AllocError>
-    ensures { OnOk result (out.new.items ≡ out.old.items ++ response_bytes answer.status answer.content answer.body.now manner) }
+    ensures { OnOk result (out.new.items ≡ out.old.items ++ response_bytes answer.entry.status answer.entry.content answer.entry.body.now manner) }
 {
     let mut filled = Response::new(alloc);
     let status = StatusCode::from_u16(answer.status).unwrap_or(StatusCode::INTERNAL_SERVER_ERROR);
@@ -88,20 +123,7 @@ fn push_head(
         ++ response_text 1 filled.now.status (reason_of filled.now.status)
         (fields_of filled.now ++ framing_of filled.now.status length is_last)) }
 {
-    let fields = listed(alloc, &filled.headers)?;
     let digits = format!(in alloc; "{length}")?;
-    let status = filled.status.as_u16();
-    let reason = filled.status.canonical_reason().unwrap_or("").as_bytes();
-    let framing = [
-        persistence(is_last),
-        Header {
-            name: b"content-length",
-            value: digits.as_bytes(),
-        },
-    ];
-    let framing = if status == 204 { &framing[..1] } else { &framing[..] };
-    match write_response(out, 1, status, reason, &fields, framing) {
-        Ok(()) => Ok(()),
-        Err(_) => Err(AllocError),
-    }
+    let fields = listed(alloc, filled, digits.as_bytes(), is_last)?;
+    put_head(out, filled.status, &fields)
 }

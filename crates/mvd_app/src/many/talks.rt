@@ -140,7 +140,10 @@ impl Talks {
     /// So many of the bytes that wait left.
     pub fn sent(&mut self, number: u64, count: usize) {
         match self.webs.get_mut(&number) {
-            Some(web) => web.sent(count),
+            Some(web) => {
+                let count = count.min(web.waiting().len());
+                web.sent(count);
+            }
             None => sent(&mut self.host, number, count),
         }
     }

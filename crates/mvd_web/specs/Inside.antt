@@ -1,7 +1,7 @@
--- What a connection keeps.
+-- What a clause reads of a connection.
 use Rattle.http_server.specs.Connection.{history}
 use Rattle.mvd_web.specs.Web.{WebValue}
-use Rattle.mvd_web.specs.declared.connection.WebConnection.TheInside.{Inside}
+use Rattle.mvd_web.specs.declared.connection.WebConnection.{WebConnection}
 
-abbrev pub value_of : Inside → WebValue
-value_of w = record { heard = history w.parser; asked = w.desk.asked; waits = w.output.items; stopped = w.stopped }
+abbrev pub web_of : WebConnection → WebValue
+web_of w = record { heard = history w.parser; asked = w.desk.asked; waits = w.output.items; stopped = w.stopped }

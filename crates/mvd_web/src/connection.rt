@@ -14,7 +14,6 @@ use mvd_conn::Ending;
 use mvd_dots::Refusal;
 use std::alloc::{AllocError, Global};
 use std::hash::RandomState;
-use std::marker::Model;
 
 /// Where as many bytes wait to leave, no request is taken and no input is wanted.
 pub const WAITS_MAX: usize = 262_144;
@@ -35,22 +34,13 @@ pub struct WebConnection {
     stopped: Option<Refusal>,
 }
 
-impl Model for WebConnection {
-    ghost use Rattle.mvd_web.specs.Web.{WebValue};
-
-    ghost Value = { WebValue };
-
-    ghost use Rattle.mvd_web.specs.Inside.{value_of};
-
-    ghost view = { value_of };
-}
-
 impl WebConnection {
+    ghost use Rattle.mvd_web.specs.Inside.{web_of};
     ghost use Rattle.mvd_web.specs.Web.{Queues, Takes, TakesNone, new_web, sent, stopped_by, web_ending};
 
     /// A connection on which nothing happened yet. The keys hide in which order a peer's fields are kept.
     pub fn new(alloc: Global, keys: RandomState) -> WebConnection
-        ensures { result ≡ new_web }
+        ensures { web_of result ≡ new_web }
     {
         // While anything waits there, the parser takes nothing further: so at most one request is taken at a time.
         let config = Config {
@@ -75,7 +65,7 @@ impl WebConnection {
 
     /// Whether a request may be taken.
     fn is_free(&self) -> bool
-        ensures { result ≡ true → self.now.asked ≡ None }
+        ensures { result ≡ true → (web_of self.now).asked ≡ None }
     {
         self.stopped.is_none() && self.desk.asked.is_none() && self.output.len() < WAITS_MAX
     }
@@ -110,7 +100,7 @@ impl WebConnection {
 
     /// Ends the connection at once, for this cause.
     pub fn stop(&mut self, refusal: Refusal)
-        ensures { self.new ≡ stopped_by self.old refusal }
+        ensures { web_of self.new ≡ stopped_by (web_of self.old) refusal }
     {
         if self.stopped.is_none() {
             self.stopped = Some(refusal);
@@ -119,7 +109,7 @@ impl WebConnection {
 
     /// Takes the next request, where no other waits for its answer. Whether one was taken.
     pub fn next(&mut self) -> bool
-        ensures { Takes self.old result self.new }
+        ensures { Takes (web_of self.old) result (web_of self.new) }
     {
         for _step in 0..u64::MAX {
             if !self.is_free() {
@@ -142,15 +132,15 @@ impl WebConnection {
 
     /// The request that waits for its answer.
     pub fn asked(&self) -> Option<&Asked>
-        ensures { option_copied result ≡ self.now.asked }
+        ensures { option_copied result ≡ (web_of self.now).asked }
     {
         self.desk.asked.as_ref()
     }
 
     /// Queues the response to the request that waits for it. Where memory is refused, the connection stops.
     pub fn respond(&mut self, answer: Answer<'_>)
-        ensures { (asked : Asked) → self.old.asked ≡ Some asked → (manner : Manner) × (manner.is_head ≡ asked.is_head)
-            × Queues self.old (response_bytes answer.entry.status answer.entry.content answer.entry.body.now manner) self.new }
+        ensures { (asked : Asked) → (web_of self.old).asked ≡ Some asked → (manner : Manner) × (manner.is_head ≡ asked.is_head)
+            × Queues (web_of self.old) (response_bytes answer.entry.status answer.entry.content answer.entry.body.now manner) (web_of self.new) }
     {
         let Some(asked) = self.desk.asked.take() else {
             return;
@@ -167,22 +157,22 @@ impl WebConnection {
 
     /// The bytes that wait to leave.
     pub fn waiting(&self) -> &[u8]
-        ensures { result.now ≡ self.now.waits }
+        ensures { result.now ≡ (web_of self.now).waits }
     {
         self.output.as_slice()
     }
 
     /// Tells that so many of the waiting bytes left.
     pub fn sent(&mut self, count: usize)
-        requires { count ≤ length self.old.waits }
-        ensures { self.new ≡ sent self.old count }
+        requires { count ≤ length (web_of self.old).waits }
+        ensures { web_of self.new ≡ sent (web_of self.old) count }
     {
         self.output.advance(count);
     }
 
     /// How the connection ends, where no further request is taken.
     pub fn ending(&self) -> Option<Ending>
-        ensures { result ≡ web_ending self.now }
+        ensures { result ≡ web_ending (web_of self.now) }
     {
         match self.stopped {
             Some(refusal) => Some(Ending::Stopped(refusal)),
@@ -200,8 +190,8 @@ impl WebConnection {
 
     /// Reads at most one request. Whether one was read.
     fn advance(&mut self) -> bool
-        requires { self.old.asked ≡ None }
-        ensures { Takes self.old result self.new }
+        requires { (web_of self.old).asked ≡ None }
+        ensures { Takes (web_of self.old) result (web_of self.new) }
     {
         self.parser.advance(&mut self.desk);
         self.desk.asked.is_some()
@@ -209,7 +199,7 @@ impl WebConnection {
 
     /// What the parser answers for itself leaves as it is.
     fn move_pending(&mut self) -> Result<(), AllocError>
-        ensures { TakesNone self.old self.new }
+        ensures { TakesNone (web_of self.old) (web_of self.new) }
     {
         for _piece in 0..u64::MAX {
             if !self.parser.wants_write() {
@@ -225,7 +215,7 @@ impl WebConnection {
 
     /// What stands in place of a response does not leave.
     fn drop_pending(&mut self)
-        ensures { TakesNone self.old self.new }
+        ensures { TakesNone (web_of self.old) (web_of self.new) }
     {
         for _piece in 0..u64::MAX {
             if !self.parser.wants_write() {

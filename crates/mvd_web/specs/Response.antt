@@ -1,5 +1,5 @@
 -- The bytes of a response (RFC 9110 and 9112).
-use Rattle.std.specs.Prelude.{ℕ, ◌==◌, ◌&&◌, ◌++◌, nat_le, nat_lt, Bool, true, false, if◌then◌else◌, List, [], ◌∷◌, codes, length}
+use Rattle.std.specs.Prelude.{ℕ, ◌==◌, ◌++◌, Bool, true, false, if◌then◌else◌, List, [], ◌∷◌, codes, length}
 use Rattle.std.specs.Fmt.{decimal}
 use Rattle.http1.specs.Fields.{Header}
 use Rattle.http1.specs.Head.{response_text}
@@ -7,10 +7,6 @@ use Rattle.http1_typed.specs.Parts.{reason_of}
 use Rattle.mvd_http.specs.Fields.{fields_for}
 use Rattle.mvd_http.specs.declared.fields.Content.{Content}
 use Rattle.mvd_web.specs.declared.response.Manner.{Manner}
-
--- a number that is no status stands for a fault of the server
-abbrev pub status_sent : ℕ → ℕ
-status_sent status = if nat_le 100 status && nat_lt status 1000 then status else 500
 
 -- whether another response may follow
 abbrev pub persistence : Bool → Header
@@ -28,7 +24,11 @@ abbrev pub head_bytes : ℕ → Content → ℕ → Bool → List ℕ
 head_bytes status content length is_last =
     response_text 1 status (reason_of status) (fields_for content ++ framing_of status length is_last)
 
+abbrev pub body_sent : Bool → List ℕ → List ℕ
+body_sent true body = []
+body_sent false body = body
+
 -- a response of this status, with this body
 abbrev pub response_bytes : ℕ → Content → List ℕ → Manner → List ℕ
 response_bytes status content body manner =
-    head_bytes (status_sent status) content (length body) manner.is_last ++ (if manner.is_head then [] else body)
+    head_bytes status content (length body) manner.is_last ++ body_sent manner.is_head body

@@ -27,6 +27,10 @@ first_cause (Some first) refusal = Some first
 abbrev pub stopped_by : WebValue → Refusal → WebValue
 stopped_by w refusal = record w { stopped = first_cause w.stopped refusal }
 
+-- the request no longer waits for its answer
+abbrev pub unasked : WebValue → WebValue
+unasked w = record w { asked = None }
+
 -- so many of the waiting bytes left
 abbrev pub sent : WebValue → ℕ → WebValue
 sent w count = record w { waits = drop count w.waits }

@@ -1,5 +1,5 @@
 //! One connection: from the bytes that came to the bytes that leave.
-ghost use Rattle.std.specs.Prelude.{◌≡◌, ◌≤◌, length, None, Some, OnErr, true, option_copied};
+ghost use Rattle.std.specs.Prelude.{◌≡◌, ◌≤◌, length, None, Some, true, option_copied, option_map};
 ghost use Rattle.mvd_web.specs.Response.{response_bytes};
 ghost use Rattle.mvd_web.specs.declared.asked.Asked.{Asked};
 ghost use Rattle.mvd_web.specs.declared.response.Manner.{Manner};
@@ -36,7 +36,7 @@ pub struct WebConnection {
 
 impl WebConnection {
     ghost use Rattle.mvd_web.specs.Inside.{web_of};
-    ghost use Rattle.mvd_web.specs.Web.{Queues, Takes, TakesNone, new_web, sent, stopped_by, web_ending};
+    ghost use Rattle.mvd_web.specs.Web.{Queues, Takes, TakesNone, new_web, sent, stopped_by, unasked, web_ending};
 
     /// A connection on which nothing happened yet. The keys hide in which order a peer's fields are kept.
     pub fn new(alloc: Global, keys: RandomState) -> WebConnection
@@ -142,13 +142,35 @@ impl WebConnection {
         ensures { (asked : Asked) → (web_of self.old).asked ≡ Some asked → (manner : Manner) × (manner.is_head ≡ asked.is_head)
             × Queues (web_of self.old) (response_bytes answer.entry.status answer.entry.content answer.entry.body.now manner) (web_of self.new) }
     {
-        let Some(asked) = self.desk.asked.take() else {
+        let Some(is_head) = self.take_asked() else {
             return;
         };
-        let manner = Manner {
-            is_last: !matches!(self.parser.state(), State::Open),
-            is_head: asked.is_head,
-        };
+        let is_last = self.is_last();
+        self.queue(answer, Manner { is_last, is_head });
+    }
+
+    /// The request no longer waits. Whether its response is sent without the body.
+    fn take_asked(&mut self) -> Option<bool>
+        ensures head { result ≡ option_map (λ (asked : Asked). asked.is_head) (web_of self.old).asked }
+        ensures gone { web_of self.new ≡ unasked (web_of self.old) }
+    {
+        match self.desk.asked.take() {
+            Some(asked) => Some(asked.is_head),
+            None => None,
+        }
+    }
+
+    /// Whether no request is read after those that were.
+    fn is_last(&self) -> bool {
+        !matches!(self.parser.state(), State::Open)
+    }
+
+    /// Queues a response.
+    #[tactic(auto, using(crate::proofs::Calls::never_none))]
+    fn queue(&mut self, answer: Answer<'_>, manner: Manner)
+        requires { (web_of self.old).asked ≡ None }
+        ensures { Queues (web_of self.old) (response_bytes answer.entry.status answer.entry.content answer.entry.body.now manner) (web_of self.new) }
+    {
         self.rests = false;
         if push_response(self.alloc, &mut self.output, answer, manner).is_err() {
             self.stop(Refusal::Memory);

@@ -3,7 +3,7 @@ ghost use Rattle.std.specs.Prelude.{◌≡◌, ◌++◌, OnOk, IfOk};
 ghost use Rattle.http1.specs.Head.{header_parts, pairs, response_text};
 ghost use Rattle.http1_typed.specs.Parts.{reason_of};
 ghost use Rattle.http_server.specs.Response.{fields as pairs_of, fields_of};
-ghost use Rattle.mvd_web.specs.Response.{framed, framing_of, persistence as persistence_told, response_bytes, status_sent};
+ghost use Rattle.mvd_web.specs.Response.{framed, framing_of, persistence as persistence_told, response_bytes, body_sent};
 
 use bytes::BytesMut;
 use http::{HeaderName, HeaderValue, StatusCode};
@@ -16,7 +16,7 @@ use std::alloc::{AllocError, Global};
 /// The answer to a request: its status, and its body.
 #[derive(Clone, Copy)]
 pub struct Answer<'a> {
-    pub status: u16,
+    pub status: StatusCode,
     pub content: Content,
     pub body: &'a str,
 }
@@ -68,12 +68,13 @@ fn listed<'a>(
 {
     let mut list = own_fields(alloc, &filled.headers)?;
     list.push(persistence(is_last))?;
-    if filled.status.as_u16() != 204 {
-        list.push(Header {
-            name: b"content-length",
-            value: digits,
-        })?;
+    if filled.status.as_u16() == 204 {
+        return Ok(list);
     }
+    list.push(Header {
+        name: b"content-length",
+        value: digits,
+    })?;
     Ok(list)
 }
 
@@ -102,13 +103,19 @@ pub(crate) fn push_response(
     ensures { OnOk result (out.new.items ≡ out.old.items ++ response_bytes answer.entry.status answer.entry.content answer.entry.body.now manner) }
 {
     let mut filled = Response::new(alloc);
-    let status = StatusCode::from_u16(answer.status).unwrap_or(StatusCode::INTERNAL_SERVER_ERROR);
-    fill(&mut filled, status, answer.content, "")?;
+    fill(&mut filled, answer.status, answer.content, "")?;
     push_head(alloc, out, &filled, answer.body.len(), manner.is_last)?;
-    if !manner.is_head {
-        out.extend_from_slice(answer.body.as_bytes())?;
+    push_body(out, answer.body, manner.is_head)
+}
+
+/// Puts a body behind what `out` holds, unless it is left out.
+fn push_body(out: &mut BytesMut, body: &str, is_head: bool) -> Result<(), AllocError>
+    ensures { OnOk result (out.new.items ≡ out.old.items ++ body_sent is_head body.now) }
+{
+    if is_head {
+        return Ok(());
     }
-    Ok(())
+    out.extend_from_slice(body.as_bytes())
 }
 
 /// Puts the head of a response behind what `out` holds. A 204 has no body, and no field for its length.

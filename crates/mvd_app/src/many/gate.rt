@@ -1,6 +1,7 @@
 //! From a request of HTTP to the frame that the host answers, and from its reply to the response.
 use super::counts::{Counts, Now};
 use super::talks::{feed, sent};
+use http::StatusCode;
 use mvd_dots::Refusal;
 use mvd_host::Host;
 use mvd_http::{Content, PAGE, Question, push_root, refused_response, response_of};
@@ -69,15 +70,7 @@ pub(crate) fn ask<S: Alter + Drop>(
         Plan::Frame(frame) => hand_on(host, number, &frame),
         Plan::Root => tell_root(alloc, web, replica, counts),
         Plan::Metrics => tell_metrics(alloc, web, host, replica, counts),
-        Plan::Told(status, content, body) => respond(
-            web,
-            counts,
-            Answer {
-                status,
-                content,
-                body,
-            },
-        ),
+        Plan::Told(status, content, body) => respond(web, counts, status, content, body),
         Plan::Refused(refusal) => refuse(alloc, web, counts, refusal),
     }
 }
@@ -93,9 +86,20 @@ fn hand_on(host: &mut Host, number: u64, frame: &[u8]) {
     feed(host, number, rest);
 }
 
-fn respond(web: &mut WebConnection, counts: &mut Counts, answer: Answer<'_>) {
-    counts.note(answer.status);
-    web.respond(answer);
+fn respond(
+    web: &mut WebConnection,
+    counts: &mut Counts,
+    status: u16,
+    content: Content,
+    body: &str,
+) {
+    counts.note(status);
+    let status = StatusCode::from_u16(status).unwrap_or(StatusCode::INTERNAL_SERVER_ERROR);
+    web.respond(Answer {
+        status,
+        content,
+        body,
+    });
 }
 
 fn refuse(alloc: Global, web: &mut WebConnection, counts: &mut Counts, refusal: Refusal) {
@@ -112,15 +116,7 @@ fn respond_json(web: &mut WebConnection, counts: &mut Counts, status: u16, body:
     } else {
         Content::Json
     };
-    respond(
-        web,
-        counts,
-        Answer {
-            status,
-            content,
-            body,
-        },
-    );
+    respond(web, counts, status, content, body);
 }
 
 fn tell_root<S: Alter + Drop>(
@@ -159,15 +155,7 @@ fn tell_metrics<S: Alter + Drop>(
         open: host.len(),
     };
     match counts.print(now, &mut body) {
-        Ok(()) => respond(
-            web,
-            counts,
-            Answer {
-                status: 200,
-                content: Content::Plain,
-                body: body.as_str(),
-            },
-        ),
+        Ok(()) => respond(web, counts, 200, Content::Plain, body.as_str()),
         Err(refusal) => refuse(alloc, web, counts, refusal),
     }
 }

@@ -138,15 +138,15 @@ impl WebConnection {
     }
 
     /// Queues the response to the request that waits for it. Where memory is refused, the connection stops.
-    pub fn respond(&mut self, answer: Answer<'_>)
+    pub fn respond(&mut self, answer: Answer, body: &str)
         ensures { (asked : Asked) → (web_of self.old).asked ≡ Some asked → (manner : Manner) × (manner.is_head ≡ asked.is_head)
-            × Queues (web_of self.old) (response_bytes answer.entry.status answer.entry.content answer.entry.body.now manner) (web_of self.new) }
+            × Queues (web_of self.old) (response_bytes answer.status answer.content body.now manner) (web_of self.new) }
     {
         let Some(is_head) = self.take_asked() else {
             return;
         };
         let is_last = self.is_last();
-        self.queue(answer, Manner { is_last, is_head });
+        self.queue(answer, body, Manner { is_last, is_head });
     }
 
     /// The request no longer waits. Whether its response is sent without the body.
@@ -167,12 +167,12 @@ impl WebConnection {
 
     /// Queues a response.
     #[tactic(auto, using(crate::proofs::Calls::never_none))]
-    fn queue(&mut self, answer: Answer<'_>, manner: Manner)
+    fn queue(&mut self, answer: Answer, body: &str, manner: Manner)
         requires { (web_of self.old).asked ≡ None }
-        ensures { Queues (web_of self.old) (response_bytes answer.entry.status answer.entry.content answer.entry.body.now manner) (web_of self.new) }
+        ensures { Queues (web_of self.old) (response_bytes answer.status answer.content body.now manner) (web_of self.new) }
     {
         self.rests = false;
-        if push_response(self.alloc, &mut self.output, answer, manner).is_err() {
+        if push_response(self.alloc, &mut self.output, answer, body, manner).is_err() {
             self.stop(Refusal::Memory);
         }
     }

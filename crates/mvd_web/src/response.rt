@@ -13,12 +13,11 @@ use http1::head::write_response;
 use mvd_http::{Content, fill};
 use std::alloc::{AllocError, Global};
 
-/// The answer to a request: its status, and its body.
+/// What a response says of its body.
 #[derive(Clone, Copy)]
-pub struct Answer<'a> {
+pub struct Answer {
     pub status: StatusCode,
     pub content: Content,
-    pub body: &'a str,
 }
 
 /// How a response is sent.
@@ -97,15 +96,16 @@ fn put_head(
 pub(crate) fn push_response(
     alloc: Global,
     out: &mut BytesMut,
-    answer: Answer<'_>,
+    answer: Answer,
+    body: &str,
     manner: Manner,
 ) -> Result<(), AllocError>
-    ensures { OnOk result (out.new.items ≡ out.old.items ++ response_bytes answer.entry.status answer.entry.content answer.entry.body.now manner) }
+    ensures { OnOk result (out.new.items ≡ out.old.items ++ response_bytes answer.status answer.content body.now manner) }
 {
     let mut filled = Response::new(alloc);
     fill(&mut filled, answer.status, answer.content, "")?;
-    push_head(alloc, out, &filled, answer.body.len(), manner.is_last)?;
-    push_body(out, answer.body, manner.is_head)
+    push_head(alloc, out, &filled, body.len(), manner.is_last)?;
+    push_body(out, body, manner.is_head)
 }
 
 /// Puts a body behind what `out` holds, unless it is left out.

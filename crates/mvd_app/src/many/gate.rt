@@ -95,11 +95,7 @@ fn respond(
 ) {
     counts.note(status);
     let status = StatusCode::from_u16(status).unwrap_or(StatusCode::INTERNAL_SERVER_ERROR);
-    web.respond(Answer {
-        status,
-        content,
-        body,
-    });
+    web.respond(Answer { status, content }, body);
 }
 
 fn refuse(alloc: Global, web: &mut WebConnection, counts: &mut Counts, refusal: Refusal) {

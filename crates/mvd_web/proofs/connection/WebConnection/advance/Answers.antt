@@ -6,5 +6,7 @@ use Rattle.mvd_web.proofs.connection.WebConnection.advance.Goals as goal
 
 pub returns : goal.returns
 returns c =
-    subst (λ b. Takes (web_of c.args.self.now) b _) (sym c.is_some.ensures)
-    (takes c.args.self.now.desk c.advance.new.service (web_of c.args.self.now) _ c.advance.ensures.calls refl refl c.requires)
+    let old = web_of c.args.self.now in
+    let new = web_of (record (c.args.self.now) { parser = c.advance.new.self; desk = c.advance.new.service }) in
+    subst (λ b. Takes old b new) (sym c.is_some.ensures)
+    (takes c.args.self.now.desk c.advance.new.service old new c.advance.ensures.calls refl refl c.requires)

@@ -1,9 +1,11 @@
 -- The calls of a desk that keeps one request.
-use Rattle.std.proofs.Common.{◌≡◌, ◌⊎◌, ◌∙◌, ◌++◌, ap, append-nil, inl, inr, Option, refl, is_some, List, [], ◌∷◌, Some, None, subst, sym}
+use Rattle.std.proofs.Common.{◌≡◌, ◌⊎◌, ◌∙◌, ◌++◌, ap, append-nil, inl, inr, Option, refl, is_some, Bool, ℕ, option_map, List, [], ◌∷◌, Some, None, subst, sym}
 use Rattle.http_server.specs.Exchange.{Call, Calls, Chain}
 use Rattle.mvd_web.specs.Asked.{Keeps}
 use Rattle.mvd_dots.specs.declared.refusals.Refusal.{Refusal}
-use Rattle.mvd_web.specs.Web.{first_cause, Takes, TakesNone, TakesOne, WebValue}
+use Rattle.mvd_web.specs.Web.{first_cause, Queues, Takes, TakesNone, TakesOne, WebValue, unasked}
+use Rattle.mvd_web.specs.declared.asked.Asked.{Asked}
+use Rattle.mvd_web.specs.declared.response.Manner.{Manner}
 use Rattle.mvd_web.specs.declared.desk.Desk.{Desk}
 
 -- it was called once, and keeps that request
@@ -45,3 +47,12 @@ one_then_none a b c one two = record { call = one.call; calls = two.calls ∙ on
 pub never_none : (o : Option Refusal) (refusal : Refusal) → first_cause o refusal ≡ None → ⊥
 never_none None refusal e = absurd (cc e)
 never_none (Some first) refusal e = absurd (cc e)
+
+-- the response that is queued is the one to the request that waited
+pub responds : (old mid new : WebValue) (is_head : Bool) (manner : Manner) (bytes : Manner → List ℕ) → Some is_head ≡ option_map (λ (a : Asked). a.is_head) old.asked
+    → mid ≡ unasked old → manner.is_head ≡ is_head → Queues mid (bytes manner) new
+    → (asked : Asked) → old.asked ≡ Some asked → (m : Manner) × (m.is_head ≡ asked.is_head) × Queues old (bytes m) new
+responds old mid new is_head manner bytes h e k q asked some =
+    let both : Some is_head ≡ Some asked.is_head = h ∙ ap (option_map (λ (a : Asked). a.is_head)) some in
+    let same : is_head ≡ asked.is_head = cc in
+    (manner, k ∙ same, subst (λ w. Queues w (bytes manner) new) e q)

@@ -2,4 +2,6 @@ pub mod Talking
 pub mod Playing
 pub mod Heads
 pub mod Running
+pub mod Pieces
+pub mod Typing
 pub mod Clients

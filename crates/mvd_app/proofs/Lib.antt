@@ -4,4 +4,5 @@ pub mod Heads
 pub mod Running
 pub mod Pieces
 pub mod Typing
+pub mod Following
 pub mod Clients

@@ -7,6 +7,7 @@ use Rattle.std.proofs.lemmas.List.Folds.{concat-append}
 use Rattle.mvd_dots.specs.declared.refusals.Refusal.{Refusal}
 use Rattle.mvd_dots.specs.declared.refusals.Refusal.TheVariants.{FrameTooLong, Memory, ReadFailed, WriteFailed}
 use Rattle.mvd_input.specs.declared.command.Ask.{Ask}
+use Rattle.mvd_input.specs.declared.command.Typed.TheVariants.{Ask as Asked, Help}
 use Rattle.mvd_input.specs.declared.fault.Fault.{Fault}
 use Rattle.mvd_input.specs.declared.fault.Fault.TheVariants.{Line, Stopped}
 use Rattle.mvd_input.specs.Hexadecimal.{lines_of}
@@ -17,6 +18,7 @@ use Rattle.mvd_app.specs.Shell.{Breaks, IsNoTyped, IsUntold, Shells, TakesLine, 
 use Rattle.mvd_app.specs.Talk.{Answered, Asks, Speaks}
 use Rattle.mvd_app.proofs.Pieces.{consumes_none, consumes_on, lines_fed, lines_one}
 use Rattle.mvd_app.proofs.Running.{appends_none, appends_on}
+use Rattle.mvd_app.proofs.Talking.{answered_both}
 
 module _ {A : Type 0} (Answers : A → A → Request → Reply → Type 0) where
   -- ---- what was asked
@@ -154,3 +156,30 @@ module _ {A : Type 0} (Answers : A → A → Request → Reply → Type 0) where
   unfolding lines_of
   counted_out old new input input' out out' number far last =
       breaks FrameTooLong old new new input input' input' out out' out' number far [] [] [] (consumes_none input') refl (refl, refl, inr last)
+
+  -- ---- all that was asked
+
+  asks_both : (old mid new : A) → Asks Answers old mid → Asks Answers mid new → Asks Answers old new
+  asks_both old mid new first then = record {
+    exchanges = first.exchanges ++ then.exchanges;
+    answered = answered_both Answers first.exchanges then.exchanges old mid new first.answered then.answered;
+  }
+
+  asks_same : (old new : A) → new ≡ old → Asks Answers old new
+  asks_same old new same = subst (λ (a : A). Asks Answers old a) (sym same) (asks_none old)
+
+  line_asks : (number : ℕ) (line : List ℕ) (old new : A) (text : List ℕ) → TellsLine Answers number line old new text → Asks Answers old new
+  line_asks number line old new text (inl (utf8, inl (nothing, same, none))) = asks_same old new same
+  line_asks number line old new text (inl (utf8, inr (Help, is, same, help))) = asks_same old new same
+  line_asks number line old new text (inl (utf8, inr (Asked ask, is, prints))) = record { exchanges = prints.talks.exchanges; answered = prints.talks.answered }
+  line_asks number line old new text (inr (none, same, told)) = asks_same old new same
+
+  all_ask : (lines : List (List ℕ)) (number : ℕ) (old new : A) (texts : List (List ℕ)) → TellAll Answers number lines old new texts → Asks Answers old new
+  unfolding TellAll
+  all_ask [] number old new texts (same, none) = asks_same old new same
+  all_ask (line ∷ lines) number old new [] told = absurd told
+  all_ask (line ∷ lines) number old new (text ∷ texts) (between, short, one, others) = asks_both old between new (line_asks number line old between text one) (all_ask lines (number + 1) between new texts others)
+
+  -- whatever became of the next line
+  pub far_asks : (old mid new : A) (input input' out out' : Option (List ℕ)) (number : ℕ) → Far old mid input input' out out' number → Asks Answers mid new → Asks Answers old new
+  far_asks old mid new input input' out out' number far asks = asks_both old mid new (all_ask far.before 1 old mid far.told.texts far.told.told) asks

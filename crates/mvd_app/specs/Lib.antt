@@ -4,5 +4,6 @@ pub mod ReadLine
 pub mod Script
 pub mod Shell
 pub mod Staged
+pub mod Stored
 pub mod Talk
 pub mod Told

@@ -46,6 +46,8 @@ pub fn shell_run<A: Endpoint, R: BufRead, W: Write>(
     writer: &mut W,
 ) -> Result<(), Fault>
     ensures told { Shells A.answers asked.old asked.new (R.remaining reader.old) (R.remaining reader.new) (W.contents writer.old) (W.contents writer.new) result }
+    // Whatever ends it, only requests were asked, one after the other.
+    ensures asked { Asks A.answers asked.old asked.new }
     ensures ends { IfErr result EndsEarly }
 {
     let mut out = String::new(alloc);
@@ -60,6 +62,7 @@ pub fn shell_run<A: Endpoint, R: BufRead, W: Write>(
 }
 
 /// Reads the line of this number, answers it, and tells that; and whether another line follows.
+#[tactic(auto, using(crate::proofs::Typing::asks_none))]
 fn take_line<A: Endpoint, R: BufRead, W: Write>(
     alloc: Global,
     asked: &mut A,
@@ -69,6 +72,7 @@ fn take_line<A: Endpoint, R: BufRead, W: Write>(
     out: &mut String,
 ) -> Result<bool, Fault>
     ensures told { TakesLine A.answers number asked.old asked.new (R.remaining reader.old) (R.remaining reader.new) (W.contents writer.old) (W.contents writer.new) result }
+    ensures asked { Asks A.answers asked.old asked.new }
     ensures ends { IfErr result EndsEarly }
 {
     let mut line = Vec::new(alloc);

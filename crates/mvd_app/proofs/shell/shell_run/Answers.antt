@@ -1,6 +1,6 @@
 use Rattle.std.proofs.Common.{◌≡◌, ◌-◌, ◌^◌, Bool, Ok, arith, subst}
 use Rattle.mvd_app.specs.Shell.{TakesLine}
-use Rattle.mvd_app.proofs.Typing.{begins, counted_out, ends, fails, goes_on}
+use Rattle.mvd_app.proofs.Typing.{asks_none, begins, counted_out, ends, fails, far_asks, goes_on}
 use Rattle.mvd_app.proofs.shell.shell_run.Goals as goal
 
 pub loop-number-init : goal.loop-number-init
@@ -42,3 +42,15 @@ pub returns-clause-told : goal.returns-clause-told
 returns-clause-told g c =
     let counted : c.loop-number.number ≡ 2 ^ 64 - 1 = omega (arith, c.loop-number-test.false, c.loop-number.auto.number-end) in
     counted_out g.A.Endpoint.answers c.args.asked.now c.loop-number.asked (g.R.Read.remaining c.args.reader.now) (g.R.Read.remaining c.loop-number.reader) (g.W.Write.contents c.args.writer.now) (g.W.Write.contents c.loop-number.writer) c.loop-number.number c.loop-number.invariant counted
+
+pub returns-in-Ok-false-clause-asked : goal.returns-in-Ok-false-clause-asked
+returns-in-Ok-false-clause-asked g c =
+    far_asks g.A.Endpoint.answers c.args.asked.now c.loop-number.asked c.take_line.new.asked (g.R.Read.remaining c.args.reader.now) (g.R.Read.remaining c.loop-number.reader) (g.W.Write.contents c.args.writer.now) (g.W.Write.contents c.loop-number.writer) c.loop-number.number c.loop-number.invariant c.take_line.ensures.asked
+
+pub returns-in-Err-clause-asked : goal.returns-in-Err-clause-asked
+returns-in-Err-clause-asked g c =
+    far_asks g.A.Endpoint.answers c.args.asked.now c.loop-number.asked c.take_line.new.asked (g.R.Read.remaining c.args.reader.now) (g.R.Read.remaining c.loop-number.reader) (g.W.Write.contents c.args.writer.now) (g.W.Write.contents c.loop-number.writer) c.loop-number.number c.loop-number.invariant c.take_line.ensures.asked
+
+pub returns-clause-asked : goal.returns-clause-asked
+returns-clause-asked g c =
+    far_asks g.A.Endpoint.answers c.args.asked.now c.loop-number.asked c.loop-number.asked (g.R.Read.remaining c.args.reader.now) (g.R.Read.remaining c.loop-number.reader) (g.W.Write.contents c.args.writer.now) (g.W.Write.contents c.loop-number.writer) c.loop-number.number c.loop-number.invariant (asks_none g.A.Endpoint.answers c.loop-number.asked)

@@ -130,7 +130,8 @@ fn work_on<'a, S: Alter + Drop>(
 /// Answers the lines of standard input on a replica.
 fn typed<'a, S: Alter + Drop>(rt: &HostRuntime, replica: &mut Replica<S>) -> Result<(), Stop<'a>>
     // The records follow, however it ends.
-    ensures { ReplicaFollows (λ _. Unit {0}) replica.old.site replica.new.site (store S.Store replica.old.records.conn) (store S.Store replica.new.records.conn) }
+    ensures { ReplicaFollows (λ _. Unit {0}) replica.old.site replica.new.site
+        (store S.Store replica.old.records.conn) (store S.Store replica.new.records.conn) }
 {
     let mut reader = input(rt)?;
     let mut writer = Output::new(io::writer(rt));

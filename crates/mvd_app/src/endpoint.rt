@@ -67,7 +67,8 @@ fn reply_of(outcome: Outcome) -> Reply
 
 impl<S: Alter> Endpoint for Replica<S> {
     ghost answers = { λ old new request reply.
-        ReplicaAnswers old.site new.site (store S.Store old.records.conn) (store S.Store new.records.conn) request reply };
+        ReplicaAnswers old.site new.site
+        (store S.Store old.records.conn) (store S.Store new.records.conn) request reply };
 
     fn ask(&mut self, request: Request) -> Reply {
         let reply = self.answer(&request);

@@ -45,7 +45,8 @@ pub fn shell_run<A: Endpoint, R: BufRead, W: Write>(
     reader: &mut R,
     writer: &mut W,
 ) -> Result<(), Fault>
-    ensures told { Shells A.answers asked.old asked.new (R.remaining reader.old) (R.remaining reader.new) (W.contents writer.old) (W.contents writer.new) result }
+    ensures told { Shells A.answers asked.old asked.new (R.remaining reader.old) (R.remaining reader.new)
+        (W.contents writer.old) (W.contents writer.new) result }
     // Whatever ends it, only requests were asked, one after the other.
     ensures asked { Asks A.answers asked.old asked.new }
     ensures ends { IfErr result EndsEarly }
@@ -71,7 +72,8 @@ fn take_line<A: Endpoint, R: BufRead, W: Write>(
     writer: &mut W,
     out: &mut String,
 ) -> Result<bool, Fault>
-    ensures told { TakesLine A.answers number asked.old asked.new (R.remaining reader.old) (R.remaining reader.new) (W.contents writer.old) (W.contents writer.new) result }
+    ensures told { TakesLine A.answers number asked.old asked.new (R.remaining reader.old) (R.remaining reader.new)
+        (W.contents writer.old) (W.contents writer.new) result }
     ensures asked { Asks A.answers asked.old asked.new }
     ensures ends { IfErr result EndsEarly }
 {

@@ -170,7 +170,7 @@ module _ {A : Type 0} (Answers : A → A → Request → Reply → Type 0) where
 
   line_asks : (number : ℕ) (line : List ℕ) (old new : A) (text : List ℕ) → TellsLine Answers number line old new text → Asks Answers old new
   line_asks number line old new text (inl (utf8, inl (nothing, same, none))) = asks_same old new same
-  line_asks number line old new text (inl (utf8, inr (Help, is, same, help))) = asks_same old new same
+  line_asks number line old new text (inl (utf8, inr (Help, is, (same, help)))) = asks_same old new same
   line_asks number line old new text (inl (utf8, inr (Asked ask, is, prints))) = record { exchanges = prints.talks.exchanges; answered = prints.talks.answered }
   line_asks number line old new text (inr (none, same, told)) = asks_same old new same
 

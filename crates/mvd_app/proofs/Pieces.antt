@@ -1,5 +1,5 @@
 -- Pieces of a line that came in, and what they are of the lines of a text.
-use Rattle.std.proofs.Common.{◌≡◌, ◌∙◌, ◌<◌, ◌≤◌, ◌+◌, ◌-◌, ◌==◌, ℕ, Bool, true, false, List, [], ◌∷◌, ◌++◌, Option, Some, None, is_some, IfSome, Bor, Result, Ok, Err, inl, inr, length, take, refl, sym, ap, subst, arith, append_assoc, eqb-true}
+use Rattle.std.proofs.Common.{◌≡◌, ◌∙◌, ◌<◌, ◌≤◌, ◌+◌, ◌==◌, ℕ, Bool, true, false, List, [], ◌∷◌, ◌++◌, Option, Some, None, is_some, IfSome, Bor, Ok, Err, inl, inr, length, take, refl, sym, ap, subst, arith, append_assoc, eqb-true}
 use Rattle.std.specs.Io.{StartsWith}
 use Rattle.std.specs.Io.BufRead.{DropsConsumable}
 use Rattle.std.specs.Io.KnownBytes.{Consumes, IsAtEnd, Keeps}
@@ -7,11 +7,9 @@ use Rattle.std.specs.Option.{option_copied}
 use Rattle.std.proofs.BufReadLemmas.{Consumes_shown}
 use Rattle.std.proofs.lemmas.List.{append-nil, append_cancel_right, length-append, take_all, take_at}
 use Rattle.mvd_input.specs.declared.fault.Fault.{Fault}
-use Rattle.mvd_input.specs.declared.fault.Fault.TheVariants.{Line, Stopped}
 use Rattle.mvd_input.specs.Hexadecimal.{lines_after, lines_of, onto_first}
-use Rattle.mvd_app.specs.declared.lines.Piece.{Piece}
 use Rattle.mvd_app.specs.declared.lines.Piece.TheVariants.{End, Last, Part}
-use Rattle.mvd_app.specs.ReadLine.{Adds, CameIn, IsOneLine, IsUnread, ReadsLine, ReadsPiece}
+use Rattle.mvd_app.specs.ReadLine.{IsOneLine, ReadsLine, ReadsPiece}
 
 -- ---- bytes that are read
 

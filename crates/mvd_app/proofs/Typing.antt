@@ -1,11 +1,11 @@
 -- Lines that were typed, one after the other, and what was told of them.
-use Rattle.std.proofs.Common.{◌≡◌, ◌∙◌, ◌≤◌, ◌<◌, ◌+◌, ◌-◌, ◌^◌, ℕ, Bool, true, false, List, [], ◌∷◌, ◌++◌, IfSome, Option, Some, None, Result, Ok, Err, inl, inr, length, refl, sym, ap, subst, arith, append_assoc}
+use Rattle.std.proofs.Common.{◌≡◌, ◌∙◌, ◌≤◌, ◌+◌, ◌-◌, ◌^◌, ℕ, Bool, true, false, List, [], ◌∷◌, ◌++◌, IfSome, Option, Some, None, Result, Ok, Err, inl, inr, length, refl, sym, ap, subst, arith, append_assoc}
 use Rattle.std.specs.Io.KnownBytes.{Appends, Consumes}
 use Rattle.std.specs.List.{concat}
 use Rattle.std.proofs.lemmas.List.{append-nil, length-append}
 use Rattle.std.proofs.lemmas.List.Folds.{concat-append}
 use Rattle.mvd_dots.specs.declared.refusals.Refusal.{Refusal}
-use Rattle.mvd_dots.specs.declared.refusals.Refusal.TheVariants.{FrameTooLong, Memory, ReadFailed, WriteFailed}
+use Rattle.mvd_dots.specs.declared.refusals.Refusal.TheVariants.{FrameTooLong, Memory, WriteFailed}
 use Rattle.mvd_input.specs.declared.command.Ask.{Ask}
 use Rattle.mvd_input.specs.declared.command.Typed.TheVariants.{Ask as Asked, Help}
 use Rattle.mvd_input.specs.declared.fault.Fault.{Fault}
@@ -14,7 +14,7 @@ use Rattle.mvd_input.specs.Hexadecimal.{lines_of}
 use Rattle.mvd_wire.specs.declared.reply.Reply.{Reply}
 use Rattle.mvd_wire.specs.declared.request.Request.{Request}
 use Rattle.mvd_app.specs.ReadLine.{CameIn, ReadsLine}
-use Rattle.mvd_app.specs.Shell.{Breaks, IsNoTyped, IsUntold, Shells, TakesLine, TellAll, TellsLine, TellsLines, Told, no_command_text}
+use Rattle.mvd_app.specs.Shell.{IsNoTyped, IsUntold, Shells, TakesLine, TellAll, TellsLine, Told, no_command_text}
 use Rattle.mvd_app.specs.Talk.{Answered, Asks, Speaks}
 use Rattle.mvd_app.proofs.Pieces.{consumes_none, consumes_on, lines_fed, lines_one}
 use Rattle.mvd_app.proofs.Running.{appends_none, appends_on}

@@ -1,4 +1,4 @@
-use Rattle.std.proofs.Common.{◌≡◌, ◌<◌, Ok, ap, arith, inl, inr, length, refl, rules, subst}
+use Rattle.std.proofs.Common.{◌≡◌, ◌<◌, ap, arith, inl, inr, length, refl, rules, subst}
 use Rattle.std.specs.Io.BufRead.{FillKeeps}
 use Rattle.mvd_app.proofs.Pieces.{fed, nothing_left, whole}
 use Rattle.mvd_app.proofs.lines.read_piece.Goals as goal

@@ -74,7 +74,7 @@ sweep() { # CRATE TEST [STEP]: refuses growth 1, 1 + STEP and so on, each by its
 
 sweep_all() { # STEP: that of all tests but the cheapest
     local test
-    for test in a_site_is_asked_again a_replica_is_asked_again a_connection_tells_what_is_there a_fresh_replica_is_opened_again \
+    for test in a_site_is_asked_again a_replica_is_asked_again a_connection_tells_what_is_there a_round_tells_what_is_there a_fresh_replica_is_opened_again \
         an_old_replica_is_opened_again; do
         sweep mvd_faults_tests memory::$test "$1"
     done

@@ -82,6 +82,15 @@ impl Bytes {
         self.len = start.saturating_add(digits.len() / 2);
     }
 
+    /// Puts these behind the others, as far as they have room.
+    pub fn put(&mut self, bytes: &[u8]) {
+        let start = self.len.min(ROOM);
+        for (place, byte) in self.room[start..].iter_mut().zip(bytes) {
+            *place = *byte;
+        }
+        self.len = start.saturating_add(bytes.len()).min(ROOM);
+    }
+
     pub fn bytes(&self) -> &[u8] {
         &self.room[..self.len.min(ROOM)]
     }

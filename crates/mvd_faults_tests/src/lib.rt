@@ -1,5 +1,5 @@
-//! Tests of a stored site: its connections, its records when they are opened again, and faults of its streams, its bytes, its
-//! records, its store and its memory.
+//! Tests of a stored site: its connections, many clients at once, its records when they are opened again, and faults of its
+//! streams, its bytes, its records, its store and its memory.
 #![tactic(auto)]
 
 #[cfg(test)]
@@ -10,6 +10,8 @@ mod batches;
 mod bytes;
 #[cfg(test)]
 mod calls;
+#[cfg(test)]
+mod clients;
 #[cfg(test)]
 mod damaged;
 #[cfg(test)]

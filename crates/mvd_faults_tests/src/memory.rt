@@ -1,12 +1,14 @@
 //! One growth that is refused, whichever it is: tools/faults.sh refuses each in turn. With none refused all is as ever.
 use super::asked::{ASKED, Asked};
 use super::calls::{
-    Bytes, EMPTY, GET, PUT, STATE, Told, WRITTEN, asks, asks_again, config, conn_of, memory,
+    Bytes, EMPTY, GET, PUT, ROOM, STATE, Told, WRITTEN, asks, asks_again, config, conn_of, memory,
     new_replica, opened, or_refusal, run, serves, tells,
 };
+use super::clients::{admit, feed, round, take};
 use super::damaged::{OLD, ONE};
 use super::stops::OLD_ROWS;
 use mvd_dots::Refusal;
+use mvd_host::Host;
 use mvd_replica::Replica;
 use mvd_site::Site;
 use mvd_wire::{Reply, Request, decode_request, encode_reply, short_reply};
@@ -189,13 +191,13 @@ fn first_frame(bytes: &[u8]) -> (&[u8], &[u8]) {
 }
 
 /// Whether a put and the question behind it may be answered so, where the put is there afterwards or not. The put that breaks the
-/// site is there, and nothing behind it.
-fn may_tell(put: Told, question: Told, is_there: bool, was_broken: bool) -> bool {
+/// site is there; of those behind it only such as share its commit may be.
+fn may_tell(put: Told, question: Told, is_there: bool, was_broken: bool, shares: bool) -> bool {
     match (put, question) {
         (Told::Wanted, Told::Wanted | Told::Refused | Told::Nothing) => is_there,
-        (Told::Refused, Told::Wanted | Told::Nothing) => !is_there,
+        (Told::Refused, Told::Wanted | Told::Refused | Told::Nothing) => !is_there,
         (Told::Nothing, Told::Nothing) => !is_there,
-        (Told::Broken, Told::Broken) => is_there != was_broken,
+        (Told::Broken, Told::Broken) => is_there != was_broken || (shares && is_there),
         _ => false,
     }
 }
@@ -211,8 +213,13 @@ fn has_put(alloc: Global, replica: &mut Replica<MemStore>, pair: &Pair) -> Optio
     }
 }
 
-/// Whether the frames of a connection with the pairs tell what the replica has afterwards.
-fn pairs_tell(alloc: Global, replica: &mut Replica<MemStore>, mut output: &[u8]) -> bool {
+/// Whether the frames for the pairs tell what the replica has afterwards, where the puts may share a commit or not.
+fn pairs_tell(
+    alloc: Global,
+    replica: &mut Replica<MemStore>,
+    mut output: &[u8],
+    shares: bool,
+) -> bool {
     let mut was_broken = false;
     for pair in &PAIRS {
         let (put, rest) = first_frame(output);
@@ -222,7 +229,7 @@ fn pairs_tell(alloc: Global, replica: &mut Replica<MemStore>, mut output: &[u8])
         let wanted = if put == Told::Wanted { pair.2 } else { pair.3 };
         let question = tells(question, wanted);
         match has_put(alloc, replica, pair) {
-            Some(is_there) if may_tell(put, question, is_there, was_broken) => {}
+            Some(is_there) if may_tell(put, question, is_there, was_broken, shares) => {}
             _ => return false,
         }
         was_broken = was_broken || put == Told::Broken;
@@ -240,7 +247,7 @@ fn connection_tells(alloc: Global) -> Result<bool, Refusal> {
     let mut replica = made(alloc, 1)?;
     let (output, ended) = serves(alloc, &mut replica, &input);
     let mut replica = mended(alloc, replica, 1)?;
-    let is_told = pairs_tell(alloc, &mut replica, output.bytes());
+    let is_told = pairs_tell(alloc, &mut replica, output.bytes(), false);
     drop(replica);
     Ok(is_told && (ended == "end" || ended == "Memory"))
 }
@@ -248,6 +255,58 @@ fn connection_tells(alloc: Global) -> Result<bool, Refusal> {
 #[test]
 fn a_connection_tells_what_is_there(rt: HostRuntime) -> Result<(), Fail> {
     assert!(rt; connection_tells(rt.alloc())?);
+    Ok(())
+}
+
+/// Three clients send these frames, each one of them, which are answered in one round. It is done again where memory was refused.
+fn send(host: &mut Host, replica: &mut Replica<MemStore>, frames: [&str; 3]) {
+    for (client, frame) in (0..3u64).zip(frames) {
+        let bytes = Bytes::of(&[frame]);
+        if feed(host, client, bytes.bytes()) == 0 {
+            feed(host, client, bytes.bytes());
+        }
+    }
+    for _ in 0..2u32 {
+        round(host, replica, &[0, 1, 2]);
+    }
+}
+
+/// What three clients are told, each of a put and of the question behind it. The puts share a round, and so do the questions.
+fn told_in_rounds(host: &mut Host, replica: &mut Replica<MemStore>) -> Bytes {
+    let mut output = Bytes::of(&[]);
+    send(host, replica, [PAIRS[0].0, PAIRS[1].0, PAIRS[2].0]);
+    send(host, replica, [PAIRS[0].1, PAIRS[1].1, PAIRS[2].1]);
+    for client in 0..3u64 {
+        output.put(take(host, client, ROOM).bytes());
+    }
+    output
+}
+
+fn host_of_three(alloc: Global) -> Result<Host, Refusal> {
+    let mut host = Host::new(alloc);
+    for _ in 0..3u32 {
+        if admit(&mut host).is_err() {
+            admit(&mut host)?;
+        }
+    }
+    Ok(host)
+}
+
+/// Whether three clients are told what is there; a replica that is broken then is opened again.
+fn clients_are_told(alloc: Global) -> Result<bool, Refusal> {
+    let mut host = host_of_three(alloc)?;
+    let mut replica = made(alloc, 1)?;
+    let output = told_in_rounds(&mut host, &mut replica);
+    drop(host);
+    let mut replica = mended(alloc, replica, 1)?;
+    let is_told = pairs_tell(alloc, &mut replica, output.bytes(), true);
+    drop(replica);
+    Ok(is_told)
+}
+
+#[test]
+fn a_round_tells_what_is_there(rt: HostRuntime) -> Result<(), Fail> {
+    assert!(rt; clients_are_told(rt.alloc())?);
     Ok(())
 }
 

@@ -9,13 +9,13 @@ use std::test::Fail;
 
 /// Numbers that a seed determines.
 #[derive(Clone, Copy)]
-struct Random {
-    state: u64,
+pub struct Random {
+    pub state: u64,
 }
 
 impl Random {
     /// The next number below a limit, or 0 where that is 0.
-    fn below(&mut self, limit: u64) -> u64 {
+    pub fn below(&mut self, limit: u64) -> u64 {
         let mut x = self.state | 1;
         x ^= x << 13;
         x ^= x >> 7;

@@ -1,8 +1,10 @@
 //! Files that stop before some call, and are opened again.
 use super::calls::{Bytes, Root, conn_of, new_replica, opened, or_refusal, root_of, run, serves};
+use super::clients::{admit, feed, round, take};
 use super::damaged::{OLD, ONE};
 use super::memory::request_of;
 use mvd_dots::Refusal;
+use mvd_host::Host;
 use mvd_replica::Replica;
 use mvd_sync::sync_within;
 use mvd_wire::Reply;
@@ -81,6 +83,8 @@ enum Run {
     Puts,
     /// They are answered at once, in three commits of two.
     Batch,
+    /// They come of three clients, in two rounds of three.
+    Clients,
     /// Three keys of version 1 are moved, which is done when the files are opened.
     Move,
     /// A session, as its local side, and as the peer.
@@ -109,16 +113,42 @@ const THEIRS: [&str; 2] = [
     "0000001222016200000000000000077b2261223a347d",
 ];
 
-/// Serves puts, and tells how many were answered by a dot.
-fn put_all<S: Alter + Drop>(alloc: Global, replica: &mut Replica<S>, puts: &[&str]) -> usize {
-    let (output, _) = serves(alloc, replica, &Bytes::of(puts));
+/// How many puts were answered by a dot, before another answer.
+fn written(replies: &[u8]) -> usize {
     let mut written = 0usize;
-    for frame in output.bytes().chunks(17) {
+    for frame in replies.chunks(17) {
         if frame.len() == 17 && frame[4] == 0xA2 {
             written = written.saturating_add(1);
         }
     }
     written
+}
+
+/// Serves puts, and tells how many were answered by a dot.
+fn put_all<S: Alter + Drop>(alloc: Global, replica: &mut Replica<S>, puts: &[&str]) -> usize {
+    let (output, _) = serves(alloc, replica, &Bytes::of(puts));
+    written(output.bytes())
+}
+
+/// Puts of three clients, one of each in a round, and how many were answered by a dot.
+fn put_in_rounds<S: Alter + Drop>(
+    alloc: Global,
+    replica: &mut Replica<S>,
+    puts: &[&str],
+) -> Result<usize, Refusal> {
+    let mut host = Host::new(alloc);
+    let clients = [admit(&mut host)?, admit(&mut host)?, admit(&mut host)?];
+    for each in puts.chunks(3) {
+        for (client, put) in clients.iter().zip(each) {
+            feed(&mut host, *client, Bytes::of(&[put]).bytes());
+        }
+        round(&mut host, replica, &clients);
+    }
+    let mut count = 0usize;
+    for client in clients {
+        count = count.saturating_add(written(take(&mut host, client, 34).bytes()));
+    }
+    Ok(count)
 }
 
 /// Answers puts at once, and tells how many were answered by a dot.
@@ -161,15 +191,26 @@ fn does<S: Alter + Drop>(
     match run {
         Run::Puts => put_all(alloc, replica, &PUTS[..most.min(6)]),
         Run::Batch => put_at_once(alloc, replica, &PUTS[..most.min(6)]).unwrap_or(0),
+        Run::Clients => put_in_rounds(alloc, replica, &PUTS[..most.min(6)]).unwrap_or(0),
         Run::Move => 1,
         Run::Local => usize::from(meets(alloc, replica, other, most)),
         Run::Peer => usize::from(meets(alloc, other, replica, most)),
     }
 }
 
+/// After how many puts of a run a commit ends; none where a run is not of puts.
+fn commits(run: Run) -> &'static [usize] {
+    match run {
+        Run::Puts => &[0, 1, 2, 3, 4, 5, 6],
+        Run::Batch => &[0, 2, 4, 6],
+        Run::Clients => &[0, 2, 3, 6],
+        Run::Move | Run::Local | Run::Peer => &[],
+    }
+}
+
 /// Whether a run is of puts.
 fn puts(run: Run) -> bool {
-    run == Run::Puts || run == Run::Batch
+    !commits(run).is_empty()
 }
 
 /// How much is done when all of a run is.
@@ -203,7 +244,7 @@ fn with_mine(alloc: Global) -> Result<Files<Memory>, Refusal> {
 /// The files before a run.
 fn files_before(alloc: Global, run: Run) -> Result<Files<Memory>, Refusal> {
     match run {
-        Run::Puts | Run::Batch => Ok(no_files(alloc)),
+        Run::Puts | Run::Batch | Run::Clients => Ok(no_files(alloc)),
         Run::Move => three_old(alloc),
         Run::Local | Run::Peer => with_mine(alloc),
     }
@@ -297,32 +338,30 @@ fn roots(alloc: Global, run: Run) -> Result<Vec<Root>, Refusal> {
     Ok(roots)
 }
 
-/// Whether what a run left is what it may: the states after the puts that were answered, or with those of the next commit; those that the session
-/// has on its way, or at its end where it ended well; and after one more session those at the end, on both sides.
+/// Whether puts left what they may: the states after those that were answered, or with those of the next commit.
+fn puts_may_leave(run: Run, roots: &[Root], left: &Left) -> bool {
+    commits(run)
+        .iter()
+        .skip_while(|count| **count < left.done)
+        .take(2)
+        .any(|count| roots.get(*count) == Some(&left.kept))
+}
+
+/// Whether what a run left is what it may: of puts as above; of a session the states that it has on its way, or at its end where it
+/// ended well; and after one more session those at the end, on both sides.
 fn may_leave(run: Run, roots: &[Root], left: &Left) -> bool {
+    if puts(run) {
+        return puts_may_leave(run, roots, left);
+    }
     let Some(last) = roots.last() else {
         return false;
     };
-    let (from, count) = if run == Run::Puts {
-        (left.done, 2)
-    } else if run == Run::Batch {
-        (left.done, 3)
-    } else if left.done == 0 {
-        (0, roots.len())
+    let is_known = if left.done == 0 {
+        roots.contains(&left.kept)
     } else {
-        (roots.len().saturating_sub(1), 1)
+        left.kept == *last
     };
-    let is_known = roots
-        .iter()
-        .skip(from)
-        .take(count)
-        .step_by(if run == Run::Batch { 2 } else { 1 })
-        .any(|root| *root == left.kept);
-    match run {
-        Run::Puts | Run::Batch => is_known,
-        Run::Move => is_known && left.end == *last,
-        Run::Local | Run::Peer => is_known && left.end == *last && left.other == *last,
-    }
+    is_known && left.end == *last && (run == Run::Move || left.other == *last)
 }
 
 /// Stops one file before each of its calls, until all of a run is done, and tells how many calls that took.
@@ -340,9 +379,10 @@ fn until_done(alloc: Global, run: Run, of_log: bool) -> Result<u64, Fail> {
     Err("no run ended")?
 }
 
-const RUNS: [(&str, Run); 5] = [
+const RUNS: [(&str, Run); 6] = [
     ("six puts", Run::Puts),
     ("six puts at once", Run::Batch),
+    ("six puts of three clients", Run::Clients),
     ("three old keys", Run::Move),
     ("a session's local side", Run::Local),
     ("a session's peer", Run::Peer),

@@ -195,7 +195,7 @@ fn first_frame(bytes: &[u8]) -> (&[u8], &[u8]) {
 fn may_tell(put: Told, question: Told, is_there: bool, was_broken: bool, shares: bool) -> bool {
     match (put, question) {
         (Told::Wanted, Told::Wanted | Told::Refused | Told::Nothing) => is_there,
-        (Told::Refused, Told::Wanted | Told::Refused | Told::Nothing) => !is_there,
+        (Told::Refused, Told::Wanted | Told::Nothing) => !is_there,
         (Told::Nothing, Told::Nothing) => !is_there,
         (Told::Broken, Told::Broken) => is_there != was_broken || (shares && is_there),
         _ => false,

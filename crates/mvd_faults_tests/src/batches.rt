@@ -1,6 +1,6 @@
 //! Requests that are answered at once: as one after the other, and with one growth refused.
-use super::calls::{conn_of, memory, new_replica, opened, or_refusal, root_of};
-use super::memory::request_of;
+use super::calls::{conn_of, memory, opened, or_refusal, root_of};
+use super::memory::{made, open_again, request_of};
 use super::random::Maker;
 use mvd_dots::Refusal;
 use mvd_replica::Replica;
@@ -30,6 +30,19 @@ fn are_same(alloc: Global, first: &Reply, second: &Reply) -> Result<bool, Refusa
     Ok(bytes.as_slice() == others.as_slice())
 }
 
+/// Whether a replica answers a request so.
+fn is_answered_so(
+    alloc: Global,
+    replica: &mut Replica<MemStore>,
+    request: &Request,
+    wanted: &Reply,
+) -> Result<bool, Refusal> {
+    let reply = replica.answer(request);
+    let found = are_same(alloc, &reply, wanted);
+    drop(reply);
+    found
+}
+
 /// Whether one replica answers requests at once as another one after the other.
 fn are_alike(
     alloc: Global,
@@ -42,8 +55,7 @@ fn are_alike(
         return Ok(false);
     }
     for (request, reply) in requests.iter().zip(replies.as_slice()) {
-        let alone = single.answer(request);
-        if !are_same(alloc, reply, &alone)? {
+        if !is_answered_so(alloc, single, request, reply)? {
             return Ok(false);
         }
     }
@@ -108,21 +120,20 @@ fn written(replica: &mut Replica<MemStore>, requests: &[Request]) -> Result<u32,
     Ok(count)
 }
 
+/// The same, and once more where memory was refused.
+fn written_again(replica: &mut Replica<MemStore>, requests: &[Request]) -> Result<u32, Refusal> {
+    match written(replica, requests) {
+        Err(_) => written(replica, requests),
+        count => count,
+    }
+}
+
 /// Whether just the puts that a batch wrote are found when its records are opened again; after a break all of its commit are.
 fn finds_written(alloc: Global, requests: &[Request]) -> Result<bool, Refusal> {
-    let mut replica = match new_replica(alloc, 1) {
-        Ok(replica) => replica,
-        Err(_) => new_replica(alloc, 1)?,
-    };
-    let count = match written(&mut replica, requests) {
-        Ok(count) => count,
-        Err(_) => written(&mut replica, requests)?,
-    };
+    let mut replica = made(alloc, 1)?;
+    let count = written_again(&mut replica, requests)?;
     let is_broken = replica.is_broken();
-    let again = match opened(alloc, conn_of(replica), 1, 100) {
-        Ok(again) => again,
-        Err((_, conn)) => or_refusal(opened(alloc, conn, 1, 100))?,
-    };
+    let again = open_again(alloc, conn_of(replica), 1)?;
     let keys = again.key_count();
     drop(again);
     Ok(keys == count || (is_broken && keys > count))

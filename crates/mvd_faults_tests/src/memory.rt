@@ -88,7 +88,7 @@ fn a_site_is_asked_again(rt: HostRuntime) -> Result<(), Fail> {
     Ok(())
 }
 
-fn made(alloc: Global, number: u32) -> Result<Replica<MemStore>, Refusal> {
+pub fn made(alloc: Global, number: u32) -> Result<Replica<MemStore>, Refusal> {
     match new_replica(alloc, number) {
         Err(_) => new_replica(alloc, number),
         made => made,
@@ -96,7 +96,7 @@ fn made(alloc: Global, number: u32) -> Result<Replica<MemStore>, Refusal> {
 }
 
 /// The replica that records hold, which are opened once more where memory was refused.
-fn open_again(
+pub fn open_again(
     alloc: Global,
     conn: Connection<MemStore>,
     number: u32,

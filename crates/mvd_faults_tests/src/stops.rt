@@ -21,6 +21,10 @@ pub fn no_files(alloc: Global) -> Files<Memory> {
     }
 }
 
+/// As many pages of a file are kept in memory. The files here have fewer, so each page is read once, and an open takes 256 kB in
+/// place of 8 MB.
+const CACHE_PAGES: usize = 64;
+
 // Each call of the kit stands in a helper with no clause, so that no proof carries the clauses of two.
 pub fn connected<D: Disk + Drop>(
     alloc: Global,
@@ -29,7 +33,11 @@ pub fn connected<D: Disk + Drop>(
     if !files.may_be_used() {
         return Err(files);
     }
-    match Connection::open_files(alloc, files, Options::new(1)) {
+    let options = Options {
+        cache_pages: CACHE_PAGES,
+        ..Options::new(1)
+    };
+    match Connection::open_files(alloc, files, options) {
         Ok(conn) => Ok(conn),
         Err((_, left)) => Err(left.into_files()),
     }

@@ -2,10 +2,12 @@
 """Runs `mvd serve` as a process, and many clients of it at once over loopback: first what is to hold, then the figures.
 
 usage: tools/many.py PROGRAM
+       tools/many.py PROGRAM OTHER
 
 PROGRAM is `mvd` as built. It ends with 1 at the first answer that is not the one wanted, and else prints the rows of the tables in
 docs/PERFORMANCE.md. The files are made in TMPDIR (else /tmp), so the puts are those of its disk. MANY_SECONDS has another time for
-each figure than 3 seconds, and MANY_KILLS another number of servers that are killed than 5.
+each figure than 3 seconds, and MANY_KILLS another number of servers that are killed than 5. With OTHER, an `mvd` of before, it
+only compares how often one client puts, in MANY_TURNS turns (else 9) of a run of each program.
 """
 import contextlib
 import itertools
@@ -25,9 +27,11 @@ import time
 
 from measure_stored import REFUSED, context, document, frame, get, memory, processor, short
 
-PROGRAM = os.path.realpath(sys.argv[1]) if len(sys.argv) == 2 else sys.exit(__doc__)
+PROGRAMS = [os.path.realpath(path) for path in sys.argv[1:]] if len(sys.argv) in (2, 3) else sys.exit(__doc__)
+PROGRAM = PROGRAMS[0]
 SECONDS = float(os.environ.get("MANY_SECONDS", "3"))
 KILLS = int(os.environ.get("MANY_KILLS", "5"))
+TURNS = int(os.environ.get("MANY_TURNS", "9"))
 PATIENCE = 60
 BYE, DONE = frame(0x2F), frame(0xA3)
 WRITTEN, STATE = 0xA2, 0xA1
@@ -43,10 +47,10 @@ def wanted(what, holds):
 class Server:
     """A server on a file, whose lines are read when it has ended."""
 
-    def __init__(self, path, *words, site="1"):
+    def __init__(self, path, *words, site="1", program=PROGRAM):
         with socket.create_server(("127.0.0.1", 0)) as free:
             self.port = free.getsockname()[1]
-        words = [PROGRAM, "serve", "--db", path, "--site", site, "--port", str(self.port), *words]
+        words = [program, "serve", "--db", path, "--site", site, "--port", str(self.port), *words]
         self.process = subprocess.Popen(words, stdout=subprocess.PIPE)
         wanted("no server", self.process.stdout.readline() == b"listening 127.0.0.1:%d\n" % self.port)
 
@@ -365,8 +369,9 @@ def send_puts(key, count):
     begun += [time.perf_counter()] * count
 
 
-def figure(path, clients, in_flight):
-    with Server(path, "--conns", str(clients)) as server:
+def puts(path, clients, in_flight, program=PROGRAM):
+    """How long each put took, by rising time, and what the server used of the processor."""
+    with Server(path, "--conns", str(clients), program=program) as server:
         names = [f"n{n}" for n in range(clients)]
         workers = []
         for share in filter(None, (names[n::3] for n in range(3))):
@@ -383,15 +388,36 @@ def figure(path, clients, in_flight):
             worker.join()
         used = processor(server.process.pid)
         server.ended()
+    return took, used
+
+
+def figure(path, clients, in_flight):
+    took, used = puts(path, clients, in_flight)
     slowest = took[-len(took) // 100:]
     return (f"| {clients} | {in_flight} | {len(took) / SECONDS:.0f} | {took[len(took) // 2] * 1000:.2f} ms | "
             f"{slowest[0] * 1000:.2f} ms | {used / len(took) * 1e6:.0f} µs |")
+
+
+def compared(folder):
+    """One client's puts, by each program in turn, each on a file of its own."""
+    print("| program | puts a second: best | middle | least | the server's processor for a put: least |\n|---|---|---|---|---|")
+    seen = {program: [] for program in PROGRAMS}
+    for turn in range(TURNS):
+        for number, program in enumerate(PROGRAMS):
+            took, used = puts(os.path.join(folder, f"{turn}-{number}.db"), 1, 1, program)
+            seen[program].append((len(took) / SECONDS, used / len(took) * 1e6))
+    for program, runs in seen.items():
+        rates = sorted(rate for rate, _ in runs)
+        print(f"| {program} | {rates[-1]:.0f} | {rates[len(rates) // 2]:.0f} | {rates[0]:.0f} | {min(used for _, used in runs):.0f} µs |")
+    print(f"\nload {os.getloadavg()}")
 
 
 def main():
     resource.setrlimit(resource.RLIMIT_NOFILE, (4096, resource.getrlimit(resource.RLIMIT_NOFILE)[1]))
     checks = [beside_bad_clients, more_than_there_are_places, last_replies, killed, ends_when_idle, gives_up, costs_of_idle]
     with tempfile.TemporaryDirectory() as folder:
+        if len(PROGRAMS) > 1:
+            return compared(folder)
         print("| what | seen |\n|---|---|")
         for check in checks:
             path = os.path.join(folder, f"{check.__name__}.db")

@@ -1,4 +1,4 @@
-use Rattle.std.proofs.Common.{◌≡◌, ◌∙◌, ◌++◌, [], map, ap, refl, sym, subst, inl, inr, arith, false, true≢false}
+use Rattle.std.proofs.Common.{◌≡◌, ◌∙◌, ◌++◌, [], map, ap, refl, sym, subst, inl, arith, false, true≢false}
 use Rattle.sqlite.specs.Held.{state}
 use Rattle.mvd_sync.specs.Windows.{EachAnswer, EachTold, Pushes}
 use Rattle.mvd_sync.proofs.OneByOne.{on_err, told_still}

@@ -42,7 +42,7 @@ module _ {S T : Type 0} (inner : T → S) (outer : S → T) (is : (s : S) → in
         right = it.right;
         told = told_still (HasAnswered follows can_answer (inner old) (inner new)) (HasAnswered (λ n a b. follows n (inner a) (inner b)) (λ t. can_answer (inner t)) old new)
             (HasRefused follows can_refuse (inner old) (inner new)) (HasRefused (λ n a b. follows n (inner a) (inner b)) (λ t. can_refuse (inner t)) old new) ts (answered old new) (refused old new) it.told;
-        no_clash = it.no_clash;
+        not_of_key = it.not_of_key;
       }
 
   pub ends_within : (most : ℕ) (old new : T) (mid : S) (refusal : Refusal) → inner new ≡ mid → Ends follows can_refuse most (inner old) mid refusal → Ends (λ n a b. follows n (inner a) (inner b)) (λ t. can_refuse (inner t)) most old new refusal

@@ -109,7 +109,7 @@ pub fn tell_report<'a, S: Alter + Drop, W: Write, E: Write>(
     writer: &mut W,
     errors: &mut E,
 ) -> Result<(), Stop<'a>>
-    ensures left { report.now.first_refused.items ≢ [] → IsErr result }
+    ensures left { report.now.first_refused ≢ [] → IsErr result }
 {
     tell_counts(alloc, replica, report, writer)?;
     for left in report.first_refused.as_slice() {

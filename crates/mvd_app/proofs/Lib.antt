@@ -4,3 +4,4 @@ pub mod Heads
 pub mod Running
 pub mod Clients
 pub mod Watching
+pub mod Reporting

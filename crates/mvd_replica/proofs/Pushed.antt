@@ -1,5 +1,5 @@
 -- Many pushes to a replica at once: what the turns do to its states, what they tell, and its records.
-use Rattle.std.proofs.Common.{arith, ◌≡◌, ◌≢◌, ◌⊎◌, ◌∙◌, ◌&&◌, ◌==◌, Bool, true, false, cond, ℕ, length, List, [], ◌∷◌, ◌++◌, map, Option, Some, None, Result, Ok, Err, refl, sym, ap, subst, inl, inr, true≢false, if◌then◌else◌}
+use Rattle.std.proofs.Common.{arith, ◌≡◌, ◌∙◌, ◌&&◌, ◌==◌, Bool, true, false, cond, length, List, [], ◌∷◌, ◌++◌, map, Some, None, Result, Ok, Err, refl, sym, ap, subst, inl, inr, true≢false, if◌then◌else◌}
 use Rattle.std.specs.Prelude.{unwrap_or}
 use Rattle.std.specs.List.{AllByRecursion}
 use Rattle.std.proofs.lemmas.List.{length-map}
@@ -9,7 +9,7 @@ use Rattle.std.specs.Ordering.{nat_cmp, eq_by_cmp}
 use Rattle.std.specs.Cmp.{Equal-is}
 use Rattle.std.specs.Cmp.Lexicographic.{slice_cmp, nat_list_cmp_total}
 use Rattle.mvd_dots.specs.declared.refusals.Refusal.{Refusal}
-use Rattle.mvd_dots.specs.declared.refusals.Refusal.TheVariants.{Broken, Store}
+use Rattle.mvd_dots.specs.declared.refusals.Refusal.TheVariants.{Store}
 use Rattle.mvd_keys.specs.State.{IsValid, State, clashes, empty_state, join}
 use Rattle.mvd_keys.specs.Writes.{Key, is_empty}
 use Rattle.mvd_keys.proofs.Lists.{IsValid-empty, IsValid-join, join-empty, state_of_empty}
@@ -25,14 +25,12 @@ use Rattle.mvd_site.specs.Prepared.{is_refusal}
 use Rattle.mvd_site.specs.Sites.{SiteValue}
 use Rattle.mvd_site.proofs.Pushes.{PushFacts, refusal_is}
 use Rattle.mvd_sync.specs.Session.{ComesByPushes, Each, is_nothing, put_state, pushed}
-use Rattle.mvd_sync.specs.Sides.{SiteRefuses}
 use Rattle.mvd_sync.specs.Windows.{CannotTake, EachAnswer, EachTold, Pushes}
 use Rattle.mvd_sync.proofs.JoinLaws.{nothing_empty}
 use Rattle.mvd_sync.proofs.ManyPushes.{one_push, pushes-append}
 use Rattle.mvd_sync.proofs.Pushes.{more_pushes, no_pushes}
 use Rattle.mvd_sync.proofs.SiteSides.{is_broken, push_cause}
 use Rattle.mvd_replica.specs.Batch.{AnswersAll, AnswersOneFrom, AreAmong, HoldsLost, TakesAllFrom, TakesFrom, TurnsFollow}
-use Rattle.mvd_replica.specs.Kept.{broken_site}
 use Rattle.mvd_replica.specs.Pushes.{push_of, told_of}
 use Rattle.mvd_replica.specs.Sides.{AnswersFromStored, HoldsBroken, HoldsPushed, IsPush, ReplicaFollows, ReplicaRefuses, SideFollows}
 use Rattle.mvd_replica.specs.Turns.{Turn}

@@ -1,6 +1,6 @@
 -- Paths below a path, and what equal digests mean there.
-use Rattle.std.proofs.Common.{◌≡◌, ◌⊎◌, inl, inr, ℕ, zero, suc, ◌+◌, ◌-◌, ◌<◌, ◌≤◌, true, false, ◌&&◌, ◌==◌, List, [], ◌∷◌, ◌++◌, length, get_or, refl, sym, ap, subst, ◌∙◌, arith, length-append}
-use Rattle.std.specs.Prelude.{IsTrue, option_map, slice_index}
+use Rattle.std.proofs.Common.{◌≡◌, ℕ, zero, suc, ◌-◌, ◌<◌, ◌≤◌, true, false, ◌&&◌, ◌==◌, List, [], ◌∷◌, ◌++◌, length, get_or, refl, sym, ap, ◌∙◌, arith, length-append}
+use Rattle.std.specs.Prelude.{IsTrue, option_map}
 use Rattle.std.specs.Cmp.{nat_eq_equiv, unsigned_Decides}
 use Rattle.std.specs.FinMap.{get}
 use Rattle.mvd_site.specs.Held.{States}
@@ -11,8 +11,6 @@ use Rattle.mvd_tree.specs.Hashed.{SameUnder}
 use Rattle.mvd_tree.proofs.Under.{digest_above-same, begins-less}
 use Rattle.mvd_tree.proofs.KeyDigests.{get-digests_of}
 use Rattle.std.proofs.lemmas.List.{get_or-map}
-use Rattle.mvd_tree.proofs.Lists.{begins-more}
-use Rattle.mvd_tree.proofs.Bytes.{digits_small, place_length}
 use Rattle.mvd_tree.specs.Page.{children_digests}
 use Rattle.mvd_sync.specs.Walk.{DigestsTell}
 

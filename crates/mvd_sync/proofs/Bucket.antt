@@ -1,6 +1,6 @@
 -- One key after the other of a bucket, between two sides.
-use Rattle.std.proofs.Common.{◌≡◌, ◌≢◌, ℕ, ◌+◌, ◌*◌, ◌<◌, ◌≤◌, Bool, true, false, cond, ◌||◌, List, [], ◌∷◌, ◌++◌, length, refl, sym, ap, subst, ◌∙◌, arith, Some, None, Option, length-append, append_assoc, true≢false}
-use Rattle.std.specs.Prelude.{IsTrue, Result, Ok, Err, OnOk}
+use Rattle.std.proofs.Common.{◌≡◌, ℕ, ◌+◌, ◌*◌, ◌<◌, ◌≤◌, Bool, true, false, cond, ◌||◌, List, [], ◌∷◌, ◌++◌, length, refl, sym, ap, subst, ◌∙◌, arith, Some, None, Option, length-append, append_assoc}
+use Rattle.std.specs.Prelude.{IsTrue, Result, Ok, Err}
 use Rattle.std.specs.FinMap.{get}
 use Rattle.std.proofs.lemmas.List.{append-nil}
 use Rattle.mvd_keys.specs.Writes.{Key}
@@ -9,19 +9,18 @@ use Rattle.mvd_site.specs.Held.{States}
 use Rattle.mvd_tree.specs.HashTree.{is_under}
 use Rattle.mvd_tree.specs.Page.{is_after}
 use Rattle.mvd_sync.specs.Answers.{IsPageOf, TakesNext}
-use Rattle.mvd_sync.specs.Buckets.{AreElsewhere, ArePages, FillEnds, FillsBoth, Finds, FindsAll, Goes, GoesThrough, Settles, SettlesAll, held_in, waits_if}
-use Rattle.mvd_sync.specs.Exchanges.{AreNext, Counts, Done, Exchanges, Exchanging, GoesOn, JoinsSome, SoFar, keys_done, keys_next}
+use Rattle.mvd_sync.specs.Buckets.{AreElsewhere, ArePages, FillEnds, FillsBoth, Finds, Goes, GoesThrough, Settles, SettlesAll, held_in, waits_if}
+use Rattle.mvd_sync.specs.Exchanges.{AreNext, Counts, Done, Exchanges, Exchanging, GoesOn, SoFar, keys_done, keys_next}
 use Rattle.mvd_sync.specs.Nodes.{has_below}
-use Rattle.mvd_sync.specs.Questions.{Fills, Keeps}
-use Rattle.mvd_sync.specs.Session.{AreDistinct, Each, IsIn}
+use Rattle.mvd_sync.specs.Session.{Each}
 use Rattle.mvd_sync.specs.Sides.{Side}
-use Rattle.mvd_sync.specs.Walk.{Reads, ReadsEnd}
+use Rattle.mvd_sync.specs.Walk.{Reads}
 use Rattle.mvd_sync.specs.declared.listing.Entry.{Entry}
 use Rattle.mvd_sync.specs.declared.questions.Questions.{Questions}
 use Rattle.mvd_sync.specs.declared.report.SyncFault.{SyncFault}
 use Rattle.mvd_sync.proofs.Descents.{Each-left}
 use Rattle.mvd_sync.proofs.Going.{goes_nowhere, goes_of_end, goes_of_exchange, goes_of_reads, goes_on}
-use Rattle.mvd_sync.proofs.Gone.{Gone, IsPast, counted_fill, counted_more, each_keys, gone_begins, gone_ends, gone_next, held_at, page_same, past_all}
+use Rattle.mvd_sync.proofs.Gone.{Gone, IsPast, counted_fill, counted_more, gone_begins, gone_ends, gone_next, held_at, page_same, past_all}
 use Rattle.mvd_sync.proofs.Joined.{joins_some}
 use Rattle.mvd_sync.proofs.Keys.{Each-weaker, or_left}
 use Rattle.mvd_sync.proofs.Nexts.{goes_from, goes_further, goes_still, still_next, untouched}

@@ -1,5 +1,5 @@
 -- What a side took of the keys of a window that was cut off.
-use Rattle.std.proofs.Common.{◌≡◌, ◌≢◌, ◌⊎◌, inl, inr, ℕ, zero, suc, Bool, true, false, cond, ◌||◌, List, [], ◌∷◌, ◌++◌, length, map, refl, sym, ap, subst, ◌∙◌, Some, None, Option, true≢false}
+use Rattle.std.proofs.Common.{◌≡◌, ℕ, zero, suc, Bool, true, false, ◌||◌, List, [], ◌∷◌, ◌++◌, refl, sym, ap, subst, ◌∙◌, Some, None, true≢false}
 use Rattle.std.specs.Prelude.{Result, Ok, Err, IfSome, MatchBool, take}
 use Rattle.std.specs.Ordering.{nat_cmp, eq_by_cmp}
 use Rattle.std.specs.Cmp.{Equal-is}
@@ -11,7 +11,7 @@ use Rattle.mvd_tree.proofs.Under.{keys_same}
 use Rattle.mvd_site.specs.Held.{States, state_at}
 use Rattle.mvd_sync.specs.Session.{AreDistinct, CanMeet, Each, HasJoined, IsIn, Joins, is_member}
 use Rattle.mvd_sync.proofs.Keys.{is_member-append, or_left, or_right}
-use Rattle.mvd_sync.proofs.Taking.{Ask, EachTook, ask_keys, pairs_of, same_state, with_pair}
+use Rattle.mvd_sync.proofs.Taking.{Ask, EachTook, ask_keys, pairs_of, same_state}
 
 abbrev Told : Type 0
 Told = Result (Unit {0}) Refusal

@@ -1,19 +1,16 @@
 -- One level of the walk after the other.
-use Rattle.std.proofs.Common.{◌≡◌, ◌≢◌, ◌⊎◌, inl, inr, ℕ, zero, suc, ◌+◌, ◌*◌, ◌<◌, ◌≤◌, List, [], ◌∷◌, ◌++◌, length, take, drop, get_or, refl, sym, ap, subst, ◌∙◌, arith, add-one, append_assoc, length-append, true, false}
-use Rattle.std.specs.Prelude.{IsTrue}
+use Rattle.std.proofs.Common.{◌≡◌, ◌≢◌, ℕ, zero, suc, ◌+◌, ◌<◌, ◌≤◌, List, [], ◌∷◌, ◌++◌, length, take, get_or, refl, sym, ap, subst, ◌∙◌, arith, add-one, append_assoc, length-append, true, false}
 use Rattle.std.proofs.Math.Seq.{take-suc}
-use Rattle.std.proofs.lemmas.List.{append-nil, length-take, take-append-drop}
-use Rattle.std.specs.FinMap.{get}
+use Rattle.std.proofs.lemmas.List.{append-nil, length-take}
 use Rattle.mvd_dots.specs.declared.refusals.Refusal.{Refusal}
 use Rattle.mvd_dots.specs.declared.refusals.Refusal.TheVariants.{Memory}
-use Rattle.mvd_site.specs.Answer.{digests, spelled}
-use Rattle.mvd_site.specs.Held.{AreHeld, States}
-use Rattle.mvd_tree.specs.HashTree.{KeyDigests, is_under}
-use Rattle.mvd_sync.specs.Nodes.{differing_children, differs_at, has_below}
+use Rattle.mvd_site.specs.Answer.{digests}
+use Rattle.mvd_tree.specs.HashTree.{KeyDigests}
+use Rattle.mvd_sync.specs.Nodes.{differing_children}
 use Rattle.mvd_sync.specs.Questions.{AllAnswered, ComesToEnd, ForEach, IsInner, Keeps, Tells}
-use Rattle.mvd_sync.specs.Session.{AreDistinct, Each, HasAllThatDiffer}
-use Rattle.mvd_sync.specs.Sides.{Blames, HasAnswered, HasRefused, IsFaultOf, Reaches, Side, of_side, of_answer, of_questions, of_memory}
-use Rattle.mvd_sync.specs.Walk.{AreBuckets, AreFewFor, Descends, FindsBuckets, HaveAnswered, Reads, ReadsEnd, told, told_all}
+use Rattle.mvd_sync.specs.Session.{Each}
+use Rattle.mvd_sync.specs.Sides.{Blames, HasAnswered, IsFaultOf, Side, of_memory}
+use Rattle.mvd_sync.specs.Walk.{Descends, HaveAnswered, Reads, ReadsEnd, told, told_all}
 use Rattle.mvd_sync.specs.declared.questions.Node.{Node}
 use Rattle.mvd_sync.specs.declared.questions.Questions.{Questions}
 use Rattle.mvd_sync.specs.declared.report.SyncFault.{SyncFault}
@@ -22,7 +19,7 @@ use Rattle.std.specs.Prelude.{bytes_eq, cond, map, not}
 use Rattle.std.specs.List.{filter}
 use Rattle.std.proofs.Common.{slice_index_or}
 use Rattle.mvd_tree.specs.HashTree.{digits}
-use Rattle.mvd_sync.proofs.Compose.{answered_later, answered_still, blames_later, ends_later, keeps_on}
+use Rattle.mvd_sync.proofs.Compose.{answered_later, answered_still, blames_later, keeps_on}
 use Rattle.mvd_sync.proofs.Nodes.{AreLong, Each-append, differing_children-append, told-is}
 
 -- ---- lists

@@ -1,6 +1,6 @@
 -- What the keys of a window come to, at each of its ends.
-use Rattle.std.proofs.Common.{◌≡◌, ◌≢◌, ℕ, ◌+◌, ◌*◌, ◌≤◌, List, [], ◌∷◌, ◌++◌, length, map, filter_map, refl, sym, ap, subst, ◌∙◌, arith, false, Option, le-ltb}
-use Rattle.std.specs.Prelude.{Result, Ok, Err, IfErr, OnOk, Vec, take}
+use Rattle.std.proofs.Common.{◌≡◌, ℕ, ◌+◌, ◌*◌, ◌≤◌, List, [], ◌∷◌, ◌++◌, length, map, filter_map, refl, sym, ap, subst, ◌∙◌, arith, false, Option, le-ltb}
+use Rattle.std.specs.Prelude.{Result, Ok, Err, Vec, take}
 use Rattle.mvd_dots.specs.declared.refusals.Refusal.{Refusal}
 use Rattle.mvd_dots.specs.declared.refusals.Refusal.TheVariants.{Broken}
 use Rattle.mvd_keys.specs.State.{State, empty_state}
@@ -9,11 +9,11 @@ use Rattle.mvd_wire.proofs.Spellings.{length_empty}
 use Rattle.mvd_site.specs.Answer.{is_too_large}
 use Rattle.mvd_site.specs.Held.{AreHeld, States}
 use Rattle.mvd_sync.specs.Carries.{Carried, ExchangesAll, PlanEnds, Planned}
-use Rattle.mvd_sync.specs.Exchanges.{AreNext, Done, IsHeldByEither, JoinsSome, SoFar, keys_done, keys_next}
+use Rattle.mvd_sync.specs.Exchanges.{Done, IsHeldByEither, SoFar, keys_next}
 use Rattle.mvd_sync.specs.Meetings.{done_of, held_keys, noted, pair_of, taken_from}
 use Rattle.mvd_sync.specs.Questions.{ComesToEnd, ForEach, IsOfKey, Keeps, TakesFirst, TakesIn}
-use Rattle.mvd_sync.specs.Session.{Changes, ComesByPushes, Each}
-use Rattle.mvd_sync.specs.Sides.{HasAnswered, IsSilent, Side as SideOf}
+use Rattle.mvd_sync.specs.Session.{ComesByPushes, Each}
+use Rattle.mvd_sync.specs.Sides.{IsSilent, Side as SideOf}
 use Rattle.mvd_sync.specs.Windows.{Pushes}
 use Rattle.mvd_sync.specs.declared.listing.Entry.{Entry}
 use Rattle.mvd_sync.specs.declared.meetings.Meeting.{Meeting}
@@ -132,7 +132,7 @@ module _ {L P : Type 0} (l : SideOf L) (p : SideOf P) (number : Option ℕ) (ent
           let first = subst (λ m. Pushes m (l.states local1) (take f.0 pairs_l) f.1 f.2) (most_l n_l local local1 plan.from_local.follows) f.3 in
           let first = subst (λ m. Pushes (l.most_keys local) m (take f.0 pairs_l) f.1 f.2) k.states first in
           let joins = cut_local (l.most_keys local) (p.most_keys peer) number a b (l.states local) (p.states peer) (l.states local) (p.states peer) done entries plan.mine plan.theirs ms [] [] so next
-              (form_l local t) (form_p peer u) short_empty (plan.from_local.right t).right (plan.from_peer.right u).right plan.plans f.0 f.1 f.2 first in
+          (form_l local t) (form_p peer u) short_empty (plan.from_local.right t).right (plan.from_peer.right u).right plan.plans f.0 f.1 f.2 first in
           record {
             joined = _;
             given = _;
@@ -225,7 +225,7 @@ module _ {L P : Type 0} (l : SideOf L) (p : SideOf P) (number : Option ℕ) (ent
                 let second = subst (λ m. Pushes m (p.states peer1) (take f.0 pairs_p) f.1 f.2) (most_p n_p peer peer1 plan.from_peer.follows) f.3 in
                 let second = subst (λ m. Pushes (p.most_keys peer) m (take f.0 pairs_p) f.1 f.2) j.states second in
                 let joins = cut_peer (l.most_keys local) (p.most_keys peer) number a b (l.states local) (p.states peer) (l.states local2) (p.states peer) done entries plan.mine plan.theirs ms c.told [] so next
-                    (form_l local t) (form_p peer u) short_empty (plan.from_local.right t).right (plan.from_peer.right u).right plan.plans (pushes_l t) one_l f.0 f.1 f.2 second in
+                (form_l local t) (form_p peer u) short_empty (plan.from_local.right t).right (plan.from_peer.right u).right plan.plans (pushes_l t) one_l f.0 f.1 f.2 second in
                 record {
                   joined = _;
                   given = _;
@@ -263,6 +263,6 @@ module _ {L P : Type 0} (l : SideOf L) (p : SideOf P) (number : Option ℕ) (ent
                 let second = subst (λ m. Pushes m (p.states peer1) pairs_p d.told (p.states peer2)) (most_p n_p peer peer1 plan.from_peer.follows) (took_p u).pushes in
                 let second = subst (λ m. Pushes (p.most_keys peer) m pairs_p d.told (p.states peer2)) (keep_p u).states second in
                 let so_on = so_far_on (l.most_keys local) (p.most_keys peer) number a b (l.states local) (p.states peer) (l.states local2) (p.states peer2) done entries plan.mine plan.theirs ms c.told d.told so next
-                    (form_l local t) (form_p peer u) short_empty (plan.from_local.right t).right (plan.from_peer.right u).right plan.plans (pushes_l t) one_l second (all_of_key pairs_p d.told d.answered.may) in
+                (form_l local t) (form_p peer u) short_empty (plan.from_local.right t).right (plan.from_peer.right u).right plan.plans (pushes_l t) one_l second (all_of_key pairs_p d.told d.answered.may) in
                 (subst (λ m. SoFar (l.most_keys local) (p.most_keys peer) number a b (l.states local2) (p.states peer2) (done ++ map done_of m)) (sym d.is) so_on, (took_l t).still, (took_p u).still);
           }

@@ -1,6 +1,6 @@
 -- The keys that wait are exchanged, or one more waits.
-use Rattle.std.proofs.Common.{◌≡◌, ◌≢◌, ℕ, ◌+◌, ◌*◌, ◌<◌, ◌≤◌, List, [], ◌∷◌, ◌++◌, length, map, filter, filter_map, refl, sym, ap, subst, ◌∙◌, arith, Option, length-append, ◌↔◌, Bool, true, false, true≢false, inl, inr}
-use Rattle.std.specs.Prelude.{Result, Ok, Err, OnOk, Vec, is_some}
+use Rattle.std.proofs.Common.{◌≡◌, ℕ, ◌+◌, ◌<◌, ◌≤◌, List, [], ◌∷◌, ◌++◌, length, map, refl, sym, ap, subst, ◌∙◌, arith, Option, length-append, ◌↔◌, Bool, true, false, true≢false, inl, inr}
+use Rattle.std.specs.Prelude.{Result, Ok, Err, Vec, is_some}
 use Rattle.std.proofs.lemmas.List.{append-nil, length-map, map-append}
 use Rattle.mvd_dots.specs.declared.refusals.Refusal.{Refusal}
 use Rattle.mvd_dots.specs.declared.refusals.Refusal.TheVariants.{Broken, Memory}

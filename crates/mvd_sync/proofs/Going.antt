@@ -1,15 +1,13 @@
 -- What goes on after what went before.
-use Rattle.std.proofs.Common.{◌≡◌, ◌≢◌, ℕ, ◌+◌, ◌<◌, ◌≤◌, List, length, refl, ◌∙◌, arith}
+use Rattle.std.proofs.Common.{◌≡◌, ℕ, ◌+◌, ◌≤◌, List, length, refl, ◌∙◌, arith}
 use Rattle.std.specs.Prelude.{IfErr, OnOk, Result, Ok, Err}
-use Rattle.mvd_dots.specs.declared.refusals.Refusal.{Refusal}
 use Rattle.mvd_keys.specs.State.{State}
 use Rattle.mvd_keys.specs.Writes.{Key}
 use Rattle.mvd_site.specs.Held.{States}
 use Rattle.mvd_sync.specs.Buckets.{Goes}
 use Rattle.mvd_sync.specs.Exchanges.{Exchanges, Exchanging}
-use Rattle.mvd_sync.specs.Questions.{Keeps}
 use Rattle.mvd_sync.specs.Session.{Changes}
-use Rattle.mvd_sync.specs.Sides.{Blames, IsFaultOf, IsSilent, Reaches, Side}
+use Rattle.mvd_sync.specs.Sides.{Blames, IsFaultOf, IsSilent, Side}
 use Rattle.mvd_sync.specs.Walk.{Reads, ReadsEnd}
 use Rattle.mvd_sync.specs.declared.listing.Entry.{Entry}
 use Rattle.mvd_sync.specs.declared.questions.Questions.{Questions}

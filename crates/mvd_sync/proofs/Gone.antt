@@ -1,7 +1,6 @@
 -- How far a bucket is gone over.
-use Rattle.std.proofs.Common.{◌≡◌, ◌≢◌, ◌⊎◌, inl, inr, ◌↔◌, ℕ, zero, suc, ◌+◌, ◌*◌, ◌-◌, ◌<◌, ◌≤◌, Bool, true, false, not, cond, ◌&&◌, ◌||◌, List, [], ◌∷◌, ◌++◌, take, length, refl, sym, ap, subst, ◌∙◌, arith, Some, None, Option, length-append, append_assoc, true≢false}
+use Rattle.std.proofs.Common.{◌≡◌, ◌≢◌, ℕ, zero, suc, ◌+◌, ◌*◌, ◌<◌, ◌≤◌, Bool, true, false, cond, ◌&&◌, ◌||◌, List, [], ◌∷◌, ◌++◌, take, length, refl, sym, ap, subst, ◌∙◌, arith, Some, None, Option, length-append, append_assoc, true≢false}
 use Rattle.std.specs.Prelude.{IsTrue, option_map, nat_lt, min}
-use Rattle.std.specs.declared.cmp.Ordering.TheVariants.{Less}
 use Rattle.std.specs.Ordering.{nat_cmp, eq_by_cmp, is_lt}
 use Rattle.std.specs.Cmp.{Equal-is, tied_itself}
 use Rattle.std.specs.Cmp.Lexicographic.{slice_cmp, nat_list_cmp_total}
@@ -14,14 +13,14 @@ use Rattle.mvd_site.specs.Held.{States}
 use Rattle.mvd_tree.proofs.KeyDigests.{get-digests_of}
 use Rattle.mvd_tree.proofs.Under.{keys_same}
 use Rattle.mvd_tree.specs.HashTree.{KeyDigests, is_under}
-use Rattle.mvd_tree.specs.Page.{is_after, is_more_after_page, page_of, rest_of}
+use Rattle.mvd_tree.specs.Page.{is_after, rest_of}
 use Rattle.mvd_tree.specs.States.{key_digest}
-use Rattle.mvd_sync.specs.Answers.{IsListing, IsPageOf, TakesNext, of_both, of_first, of_second}
+use Rattle.mvd_sync.specs.Answers.{IsListing, IsPageOf, TakesNext}
 use Rattle.mvd_sync.specs.Buckets.{IsSpent, waits_if}
-use Rattle.mvd_sync.specs.Exchanges.{AreNext, Done, IsHeldByEither, IsNext, keys_done, keys_next}
+use Rattle.mvd_sync.specs.Exchanges.{AreNext, Done, IsNext, keys_done, keys_next}
 use Rattle.mvd_sync.specs.Session.{AreDistinct, Each, IsIn, is_member}
 use Rattle.mvd_sync.specs.declared.listing.Entry.{Entry}
-use Rattle.mvd_sync.proofs.Keys.{Each-weaker, distinct-append, is_member-append, no_member}
+use Rattle.mvd_sync.proofs.Keys.{Each-weaker, distinct-append, is_member-append}
 use Rattle.mvd_sync.proofs.Nexts.{keys_next-append}
 use Rattle.mvd_sync.proofs.Nodes.{Each-append}
 use Rattle.mvd_sync.proofs.Pages.{listing_of_page}

@@ -1,5 +1,5 @@
 -- What the sides of a window hand to each other.
-use Rattle.std.proofs.Common.{◌≡◌, ℕ, Bool, true, false, cond, List, [], ◌∷◌, ◌++◌, map, filter, filter_map, refl, sym, ap, subst, ◌∙◌, Some, None, Option, option_map}
+use Rattle.std.proofs.Common.{ℕ, Bool, true, false, cond, List, [], ◌∷◌, map, filter, filter_map, sym, subst, Some, None, Option, option_map}
 use Rattle.std.specs.Prelude.{Result, IfSome, is_some}
 use Rattle.std.specs.List.{cons_option}
 use Rattle.mvd_dots.specs.declared.refusals.Refusal.{Refusal}

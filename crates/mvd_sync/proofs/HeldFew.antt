@@ -1,6 +1,6 @@
 -- The buckets of a walk hold no more keys than a side.
-use Rattle.std.proofs.Common.{◌≡◌, ◌≢◌, ℕ, ◌+◌, ◌≤◌, Bool, true, false, cond, ◌&&◌, ◌||◌, List, [], ◌∷◌, ◌++◌, length, map, refl, sym, ap, subst, ◌∙◌, arith, Some, None, Option, option_map, true≢false, length-append, inl, inr}
-use Rattle.std.specs.Prelude.{IsTrue, is_some}
+use Rattle.std.proofs.Common.{◌≡◌, ℕ, ◌≤◌, Bool, true, false, cond, ◌&&◌, ◌||◌, List, [], ◌∷◌, ◌++◌, length, map, refl, sym, ap, ◌∙◌, arith, Some, None, Option, option_map, true≢false, length-append, inl, inr}
+use Rattle.std.specs.Prelude.{is_some}
 use Rattle.std.proofs.lemmas.List.{length-map}
 use Rattle.std.specs.Ordering.{nat_cmp, eq_by_cmp}
 use Rattle.std.specs.Cmp.Lexicographic.{slice_cmp}
@@ -93,7 +93,7 @@ all_distinct a (path ∷ paths) d longs =
 pub held_few : (a : States) (paths : List (List ℕ)) → AreDistinct paths → Each (λ path. length path ≡ 3) paths → held_in a paths ≤ len a
 held_few a paths d longs =
     let n = few_keys (all_keys a paths) (keys a) (all_distinct a paths d longs)
-            (Each-weaker (λ k. (has_below paths k ≡ true) × (is_member (keys a) k ≡ true)) (λ k. is_member (keys a) k ≡ true) (λ k h. h.1) (all_keys a paths) (all_below a paths)) in
+    (Each-weaker (λ k. (has_below paths k ≡ true) × (is_member (keys a) k ≡ true)) (λ k. is_member (keys a) k ≡ true) (λ k h. h.1) (all_keys a paths) (all_below a paths)) in
     let m = all_long a paths in
     let o = length-map (entries a) (λ e. e.0) in
     let q = len-entries a in

@@ -1,6 +1,6 @@
 -- What the keys that are done say of both sides, and of the report.
-use Rattle.std.proofs.Common.{◌≡◌, ◌≢◌, ◌⊎◌, inl, inr, ◌↔◌, ℕ, Bool, true, false, cond, ◌||◌, List, [], ◌∷◌, ◌++◌, map, filter, filter_map, length, refl, sym, ap, subst, ◌∙◌, Some, None, Option, option_map, true≢false}
-use Rattle.std.specs.Prelude.{IsTrue, MatchBool, is_some}
+use Rattle.std.proofs.Common.{◌≡◌, inl, inr, ℕ, Bool, true, false, cond, ◌||◌, List, [], ◌∷◌, filter, refl, sym, ap, subst, ◌∙◌, Some, None, Option, true≢false}
+use Rattle.std.specs.Prelude.{MatchBool}
 use Rattle.std.specs.Ordering.{nat_cmp, eq_by_cmp}
 use Rattle.std.specs.Cmp.{Equal-is}
 use Rattle.std.specs.Cmp.Lexicographic.{slice_cmp}
@@ -9,11 +9,11 @@ use Rattle.mvd_dots.specs.declared.refusals.Refusal.{Refusal}
 use Rattle.mvd_keys.specs.State.{join}
 use Rattle.mvd_tree.proofs.Under.{keys_same}
 use Rattle.mvd_site.specs.Held.{States, state_at}
-use Rattle.mvd_sync.specs.Exchanges.{CameTo, Done, IsDone, JoinsSome, SoFar, given_keys, is_given, is_joined, joined_keys, keys_done, left_keys, left_of}
-use Rattle.mvd_sync.specs.Session.{AreDistinct, CanMeet, CannotMeet, Each, IsIn, IsLeft, Joins, Left, is_member, most_of}
+use Rattle.mvd_sync.specs.Exchanges.{CameTo, Done, IsDone, JoinsSome, SoFar, given_keys, is_given, is_joined, joined_keys, keys_done}
+use Rattle.mvd_sync.specs.Session.{AreDistinct, CanMeet, Each, Joins, is_member}
 use Rattle.mvd_sync.specs.declared.report.Side.{Side}
 use Rattle.mvd_sync.specs.declared.report.Side.TheVariants.{Local as AtLocal, Peer as AtPeer}
-use Rattle.mvd_sync.proofs.Keys.{Each-weaker, is_member-append, or_cases, or_left, or_right}
+use Rattle.mvd_sync.proofs.Keys.{Each-weaker, or_cases, or_left, or_right}
 
 -- ---- a part of the keys
 

@@ -1,12 +1,12 @@
 -- Keys that are exchanged after others.
-use Rattle.std.proofs.Common.{◌≡◌, ◌≢◌, ◌⊎◌, inl, inr, ℕ, ◌+◌, ◌*◌, ◌≤◌, true, false, List, [], ◌∷◌, ◌++◌, map, length, refl, sym, ap, subst, ◌∙◌, arith, append_assoc, length-append}
-use Rattle.std.specs.Prelude.{IsTrue, Option}
+use Rattle.std.proofs.Common.{◌≡◌, ℕ, List, [], ◌∷◌, ◌++◌, refl, sym, ap, subst, ◌∙◌, append_assoc}
+use Rattle.std.specs.Prelude.{Option}
 use Rattle.std.specs.FinMap.{get}
 use Rattle.std.proofs.lemmas.List.{map-append}
 use Rattle.mvd_keys.specs.Writes.{Key}
 use Rattle.mvd_site.specs.Held.{States}
 use Rattle.mvd_sync.specs.Exchanges.{AreNext, Counts, Done, Exchanging, GoesOn, IsNext, SoFar, keys_done, keys_next}
-use Rattle.mvd_sync.specs.Session.{AreDistinct, Each, is_member}
+use Rattle.mvd_sync.specs.Session.{AreDistinct, Each}
 use Rattle.mvd_sync.specs.Sides.{Side}
 use Rattle.mvd_sync.specs.declared.listing.Entry.{Entry}
 use Rattle.mvd_sync.proofs.Descents.{Each-left, Each-right}

@@ -1,5 +1,5 @@
 -- Nodes that differ, and the keys below them.
-use Rattle.std.proofs.Common.{◌≡◌, ◌≢◌, ◌⊎◌, inl, inr, ℕ, zero, suc, ◌+◌, ◌-◌, ◌<◌, ◌≤◌, Bool, not, true, false, cond, ◌&&◌, ◌||◌, ◌==◌, List, [], ◌∷◌, ◌++◌, length, map, get_or, refl, sym, ap, subst, ◌∙◌, arith, length-append, Some, None, Option, true≢false}
+use Rattle.std.proofs.Common.{◌≡◌, ◌≢◌, inl, inr, ℕ, suc, ◌+◌, ◌-◌, ◌<◌, ◌≤◌, Bool, not, true, false, cond, ◌&&◌, ◌||◌, ◌==◌, List, [], ◌∷◌, ◌++◌, length, map, get_or, refl, sym, ap, ◌∙◌, arith, length-append, Some, None, Option, true≢false}
 use Rattle.std.specs.Prelude.{IsTrue, bytes_eq, option_map}
 use Rattle.std.specs.Ordering.{nat_cmp, eq_by_cmp}
 use Rattle.std.specs.Cmp.{Equal-is, tied_itself, unsigned_Decides}
@@ -13,11 +13,10 @@ use Rattle.std.proofs.lemmas.List.Elements.{filter-append}
 use Rattle.std.proofs.lemmas.Grind.{flat_map-append}
 use Rattle.std.proofs.lemmas.List.Folds.{list_any-append, list_any_at}
 use Rattle.std.proofs.lemmas.Slice.Eq.{bytes_eq-Decides}
-use Rattle.mvd_tree.specs.HashTree.{KeyDigests, begins, digits, is_under, node_digest, place_of, sixteen}
-use Rattle.mvd_tree.specs.Hashed.{SameUnder}
+use Rattle.mvd_tree.specs.HashTree.{KeyDigests, begins, digits, is_under, node_digest, place_of}
 use Rattle.mvd_tree.proofs.Bytes.{digits_small, place_length}
 use Rattle.mvd_tree.proofs.Lists.{begins-more}
-use Rattle.mvd_tree.proofs.Under.{digest_above-same, keys_same}
+use Rattle.mvd_tree.proofs.Under.{digest_above-same}
 use Rattle.mvd_sync.specs.Session.{AreDistinct, Each, is_member}
 use Rattle.mvd_sync.specs.Nodes.{children_of, differing_children, differs_at, has_below, told_children}
 use Rattle.mvd_keys.specs.Key.{key_cmp}
@@ -25,7 +24,7 @@ use Rattle.mvd_tree.specs.Page.{children_digests}
 use Rattle.mvd_tree.specs.States.{digests_of, key_digest}
 use Rattle.mvd_tree.proofs.KeyDigests.{get-digests_of}
 use Rattle.mvd_sync.proofs.Below.{child_digest, digit_at, sixteen_digits}
-use Rattle.mvd_sync.proofs.Keys.{Each-weaker, distinct-append, is_member-append, member_has, no_member, or_cases, or_left, or_right}
+use Rattle.mvd_sync.proofs.Keys.{Each-weaker, distinct-append, member_has, no_member, or_cases, or_left, or_right}
 
 -- ---- tests
 

@@ -1,25 +1,22 @@
 -- A session: the walk, then the buckets, then the keys that still wait.
-use Rattle.std.proofs.Common.{◌≡◌, ◌≢◌, ℕ, ◌+◌, ◌*◌, ◌/◌, ◌<◌, ◌≤◌, Bool, true, false, cond, ◌||◌, List, [], ◌∷◌, ◌++◌, length, refl, sym, ap, subst, ◌∙◌, arith, Option, true≢false}
-use Rattle.std.specs.Prelude.{Result, Ok, Err, IfErr, MatchResult}
+use Rattle.std.proofs.Common.{◌≡◌, ℕ, ◌+◌, ◌*◌, ◌/◌, ◌≤◌, Bool, true, false, cond, ◌||◌, List, [], ◌∷◌, ◌++◌, length, refl, sym, ap, subst, ◌∙◌, arith, Option, true≢false}
+use Rattle.std.specs.Prelude.{Result, Ok, Err, MatchResult}
 use Rattle.std.proofs.lemmas.List.{length-map, map-append}
 use Rattle.std.specs.Ordering.{nat_cmp, eq_by_cmp}
 use Rattle.std.specs.Cmp.{Equal-is}
 use Rattle.std.specs.Cmp.Lexicographic.{slice_cmp}
 use Rattle.std.specs.FinMap.{get, len}
 use Rattle.mvd_tree.proofs.Under.{keys_same}
-use Rattle.mvd_tree.specs.Hashed.{HashesTellApart}
-use Rattle.mvd_site.specs.Answer.{spelled}
 use Rattle.mvd_site.specs.Held.{AreHeld, States}
 use Rattle.mvd_sync.specs.Buckets.{Finds, FindsAll, Goes, GoesOver, held_in}
-use Rattle.mvd_sync.specs.Exchanges.{AreNext, Counts, Done, Exchanges, Exchanging, GoesOn, IsNext, JoinsSome, SoFar, given_keys, joined_keys, keys_done, keys_next}
-use Rattle.mvd_sync.specs.Session.{AreDistinct, AreFew, Changes, Each, HasAllThatDiffer, Meets, Session, is_member}
-use Rattle.mvd_sync.specs.Sides.{Blames, HasAnswered, IsFaultOf, IsSilent, Side as SideOf}
+use Rattle.mvd_sync.specs.Exchanges.{AreNext, Done, Exchanges, Exchanging, GoesOn, IsNext, JoinsSome, SoFar, given_keys, joined_keys, keys_done, keys_next}
+use Rattle.mvd_sync.specs.Session.{AreDistinct, AreFew, Each, HasAllThatDiffer, Meets, Session, is_member}
+use Rattle.mvd_sync.specs.Sides.{HasAnswered, Side as SideOf}
 use Rattle.mvd_sync.specs.Walk.{FindsBuckets, ReadsEnd, AreFewFor}
 use Rattle.mvd_sync.specs.declared.listing.Entry.{Entry}
 use Rattle.mvd_sync.specs.declared.questions.Questions.{Questions}
 use Rattle.mvd_sync.specs.declared.report.Report.{Report}
 use Rattle.mvd_sync.specs.declared.report.SyncFault.{SyncFault}
-use Rattle.mvd_sync.specs.declared.report.SyncFault.TheVariants.{Local, Peer}
 use Rattle.mvd_sync.proofs.Compose.{answered_still}
 use Rattle.mvd_sync.proofs.Going.{goes_of_end, goes_of_exchange, goes_of_reads, goes_on}
 use Rattle.mvd_sync.proofs.Joined.{joins_of, joins_some}
@@ -64,13 +61,13 @@ few_keys (k ∷ ks) js d h =
     let shorter = without_short k js h.0 in
     let rest = few_keys ks (without k js) d.1 (others ks d.0 h.1) in
     omega (arith, shorter, rest)
-    where
-      others : (qs : List (List ℕ)) → is_member qs k ≡ false → Each (λ q. is_member js q ≡ true) qs → Each (λ q. is_member (without k js) q ≡ true) qs
-      others [] none each = tt
-      others (q ∷ qs) none each =
-          let apart : tie q k ≡ false = by_bool (tie q k) (tie q k ≡ false)
-                  (λ e. absurd (true≢false (sym (Rattle.mvd_sync.proofs.Pushes.tied k) ∙ ap (tie k) (sym (keys_same q k ((Equal-is _).0 e))) ∙ Rattle.mvd_sync.proofs.Keys.or_left (tie k q) (is_member qs k) none))) (λ e. e) in
-          (without_keeps k q js apart each.0, others qs (Rattle.mvd_sync.proofs.Keys.or_right (tie k q) (is_member qs k) none) each.1)
+  where
+    others : (qs : List (List ℕ)) → is_member qs k ≡ false → Each (λ q. is_member js q ≡ true) qs → Each (λ q. is_member (without k js) q ≡ true) qs
+    others [] none each = tt
+    others (q ∷ qs) none each =
+        let apart : tie q k ≡ false = by_bool (tie q k) (tie q k ≡ false)
+        (λ e. absurd (true≢false (sym (Rattle.mvd_sync.proofs.Pushes.tied k) ∙ ap (tie k) (sym (keys_same q k ((Equal-is _).0 e))) ∙ Rattle.mvd_sync.proofs.Keys.or_left (tie k q) (is_member qs k) none))) (λ e. e) in
+        (without_keeps k q js apart each.0, others qs (Rattle.mvd_sync.proofs.Keys.or_right (tie k q) (is_member qs k) none) each.1)
 
 entry_keys : (P : List ℕ → Type 0) (es : List Entry) → Each (λ (e : Entry). P e.key) es → Each P (keys_next es)
 entry_keys P [] h = tt
@@ -146,9 +143,9 @@ module _ {L P : Type 0} (l : SideOf L) (p : SideOf P) (most : ℕ) (local local1
       (λ t u. joins_some (l.most_keys local) (p.most_keys peer) (l.states local) (p.states peer) (l.states local1) (p.states peer1) (l.number local) (l.is_faithful local1) (p.is_faithful peer1) []
       (so_none (l.most_keys local) (p.most_keys peer) (l.number local) (l.states local) (p.states peer) (l.states local1) (p.states peer1) (r.kept_local t).states (r.kept_peer u).states))
       (λ t u differing all.
-          let i = r.few.0 t u differing all in
-          let j = r.few.1 t u differing all in
-          (omega (arith, i), omega (arith, j)))
+      let i = r.few.0 t u differing all in
+      let j = r.few.1 t u differing all in
+      (omega (arith, i), omega (arith, j)))
 
 module _ {L P : Type 0} (l : SideOf L) (p : SideOf P)
     (on : (m n : ℕ) (old mid new : L) → l.follows m old mid → l.follows n mid new → l.follows (m + n) old new) (on' : (m n : ℕ) (old mid new : P) → p.follows m old mid → p.follows n mid new → p.follows (m + n) old new)
@@ -180,8 +177,8 @@ module _ {L P : Type 0} (l : SideOf L) (p : SideOf P)
         let j = w.peer_side.kept u in
         let right = w.right t u in
         let f : Found (l.most_keys local1) (p.most_keys peer1) = second.meets k.still j.still right.distinct w.deep (l.states local) (p.states peer) []
-                (so_none (l.most_keys local1) (p.most_keys peer1) (l.number local) (l.states local) (p.states peer) (l.states local1) (p.states peer1) k.states j.states)
-                (record { keys = refl; refused = refl; first_refused = refl; older = refl }) (record { distinct = tt; each = tt }) tt tt in
+        (so_none (l.most_keys local1) (p.most_keys peer1) (l.number local) (l.states local) (p.states peer) (l.states local1) (p.states peer1) k.states j.states)
+        (record { keys = refl; refused = refl; first_refused = refl; older = refl }) (record { distinct = tt; each = tt }) tt tt in
         subst (λ x. Found x (p.most_keys peer)) (most_l w.asked local local1 w.local_side.follows) (subst (λ y. Found (l.most_keys local1) y) (most_p w.asked peer peer1 w.peer_side.follows) f)
 
     abbrev PagesFew : (i j : ℕ) → Type 0
@@ -202,12 +199,12 @@ module _ {L P : Type 0} (l : SideOf L) (p : SideOf P)
   session_buckets {A} fault second = session_ends l p most local local2 peer peer2 left2 start e2 fault (gone (Err fault) second)
       (λ t u. (found_there (Err fault) second t u).ends)
       (λ t u differing all.
-          let f = found_there (Err fault) second t u in
-          let pages = pages_few (Err fault) second t u in
-          let few = f.few in
-          let walk = w.few t u differing all in
-          let keys = few_next (l.states local) (p.states peer) f.found differing f.next all in
-          (omega (arith, pages.0, few.0, walk, keys), omega (arith, pages.1, few.1, walk, keys)))
+      let f = found_there (Err fault) second t u in
+      let pages = pages_few (Err fault) second t u in
+      let few = f.few in
+      let walk = w.few t u differing all in
+      let keys = few_next (l.states local) (p.states peer) f.found differing f.next all in
+      (omega (arith, pages.0, few.0, walk, keys), omega (arith, pages.1, few.1, walk, keys)))
 
   module _ {A B : Type 0} (x2 : A) (second : GoesOver l p paths (length paths) mid left2 local1 local2 peer1 peer2 start e2 (Ok x2)) (left3 : Questions) (local3 : L) (peer3 : P) (e3 : Exchanging) (r3 : Result B SyncFault)
       (third : Exchanges l p e2.waiting left2 left3 local2 local3 peer2 peer3 e2 e3 r3) where
@@ -266,21 +263,21 @@ module _ {L P : Type 0} (l : SideOf L) (p : SideOf P)
       session_done l p most local local3 peer peer3 left3 start e3 x3 report (all_gone x2 second left3 local3 peer3 e3 (Ok x3) third)
       (answered_still l on local local1 local3 (second.goes.asked_local + third.asked_local, follow_l) w.answers.0, answered_still p on' peer peer1 peer3 (second.goes.asked_peer + third.asked_peer, follow_p) w.answers.1)
       (λ t u.
-          let a = l.states local in
-          let b = p.states peer in
-          let f = all_found x2 second left3 local3 peer3 e3 (Ok x3) third t u in
-          let g = f.goes_on in
-          let h = ended x2 second left3 local3 peer3 e3 (Ok x3) third t u in
-          let done = g.now ++ h.now in
-          let done_keys : keys_next (found_there (Ok x2) second t u).found ≡ keys_done done
-              = g.is ∙ ap (λ ks. keys_done g.now ++ ks) (h.is ∙ ap (λ es. keys_done h.now ++ keys_next es) none ∙ Rattle.std.proofs.lemmas.List.append-nil (keys_done h.now)) ∙ sym (map-append (λ (d : Done). d.key) g.now h.now) in
-          record {
-            joined = joined_keys done;
-            given = given_keys done;
-            joins = joins_of (l.most_keys local) (p.most_keys peer) a b (l.states local3) (p.states peer3) (l.number local) (l.is_faithful local3) (p.is_faithful peer3) done h.so_far;
-            tells = tells_of (l.most_keys local) (p.most_keys peer) (l.number local) a b (l.states local3) (p.states peer3) done e3 report h.so_far h.counts keys refused old first
-                (λ apart key differ. ap (λ ks. is_member ks key) (sym done_keys) ∙ f.all key ((w.right t u).whole apart key differ) (digests_differ a b (form_l local t) (form_p peer u) apart key differ));
-          })
+      let a = l.states local in
+      let b = p.states peer in
+      let f = all_found x2 second left3 local3 peer3 e3 (Ok x3) third t u in
+      let g = f.goes_on in
+      let h = ended x2 second left3 local3 peer3 e3 (Ok x3) third t u in
+      let done = g.now ++ h.now in
+      let done_keys : keys_next (found_there (Ok x2) second t u).found ≡ keys_done done
+      = g.is ∙ ap (λ ks. keys_done g.now ++ ks) (h.is ∙ ap (λ es. keys_done h.now ++ keys_next es) none ∙ Rattle.std.proofs.lemmas.List.append-nil (keys_done h.now)) ∙ sym (map-append (λ (d : Done). d.key) g.now h.now) in
+      record {
+        joined = joined_keys done;
+        given = given_keys done;
+        joins = joins_of (l.most_keys local) (p.most_keys peer) a b (l.states local3) (p.states peer3) (l.number local) (l.is_faithful local3) (p.is_faithful peer3) done h.so_far;
+        tells = tells_of (l.most_keys local) (p.most_keys peer) (l.number local) a b (l.states local3) (p.states peer3) done e3 report h.so_far h.counts keys refused old first
+            (λ apart key differ. ap (λ ks. is_member ks key) (sym done_keys) ∙ f.all key ((w.right t u).whole apart key differ) (digests_differ a b (form_l local t) (form_p peer u) apart key differ));
+      })
       (all_few x2 second left3 local3 peer3 e3 (Ok x3) third)
 
 -- buckets by the names that a session has for them

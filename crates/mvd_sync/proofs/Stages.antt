@@ -1,19 +1,18 @@
 -- How a window ends: at the questions, at the local side's pushes, at the peer's, or with all done.
-use Rattle.std.proofs.Common.{◌≡◌, ◌≢◌, ℕ, zero, suc, ◌+◌, ◌*◌, ◌≤◌, Bool, true, false, cond, ◌||◌, List, [], ◌∷◌, ◌++◌, length, map, filter, filter_map, refl, sym, ap, subst, ◌∙◌, arith, Some, None, Option, option_map}
+use Rattle.std.proofs.Common.{◌≡◌, ◌≢◌, ℕ, ◌+◌, ◌≤◌, Bool, true, false, cond, List, [], ◌∷◌, length, map, filter, filter_map, refl, sym, ap, subst, ◌∙◌, arith, Some, None, Option}
 use Rattle.std.specs.Prelude.{Result, Ok, Err, IfErr, OnOk, Vec, is_some, take}
 use Rattle.std.specs.List.{cons_option}
 use Rattle.std.proofs.lemmas.List.{length-map}
 use Rattle.mvd_dots.specs.declared.refusals.Refusal.{Refusal}
 use Rattle.mvd_dots.specs.declared.refusals.Refusal.TheVariants.{Broken}
 use Rattle.mvd_keys.specs.State.{IsValid, State}
-use Rattle.mvd_site.specs.Held.{States, state_at}
-use Rattle.mvd_sync.specs.Carries.{Carried, ExchangesAll, Gives, PlanEnds, Planned}
-use Rattle.mvd_sync.specs.Exchanges.{IsHeldByEither, keys_done, keys_next}
-use Rattle.mvd_sync.specs.Meetings.{ArePlans, done_of, first_if, held_keys, is_held, noted, pair_of, rest_if, taken_from, wanted}
-use Rattle.mvd_sync.specs.Questions.{AllAnswered, ComesToEnd, ForEach, Keeps, TakesFirst, TakesIn}
+use Rattle.mvd_site.specs.Held.{States}
+use Rattle.mvd_sync.specs.Carries.{Planned}
+use Rattle.mvd_sync.specs.Exchanges.{IsHeldByEither, keys_next}
+use Rattle.mvd_sync.specs.Meetings.{ArePlans, held_keys, is_held, noted, pair_of, rest_if, taken_from}
+use Rattle.mvd_sync.specs.Questions.{ForEach, TakesFirst, TakesIn}
 use Rattle.mvd_sync.specs.Session.{Changes, ComesByPushes, Each, pushed_all}
 use Rattle.mvd_sync.specs.Sides.{HasAnswered, IsSilent, Side as SideOf}
-use Rattle.mvd_sync.specs.Windows.{Pushes}
 use Rattle.mvd_sync.specs.declared.listing.Entry.{Entry}
 use Rattle.mvd_sync.specs.declared.meetings.Meeting.{Meeting}
 use Rattle.mvd_sync.specs.declared.questions.Questions.{Questions}
@@ -22,7 +21,7 @@ use Rattle.mvd_sync.specs.declared.report.Side.TheVariants.{Local as AtLocal, Pe
 use Rattle.mvd_sync.specs.declared.report.SyncFault.{SyncFault}
 use Rattle.mvd_sync.proofs.Handing.{gives_given, gives_good, gives_noted, pulls_given, pulls_good}
 use Rattle.mvd_sync.proofs.Taking.{comes_by, each_first}
-use Rattle.mvd_sync.proofs.Windowed.{keys_noted, meeting_keys}
+use Rattle.mvd_sync.proofs.Windowed.{meeting_keys}
 
 -- ---- lists
 

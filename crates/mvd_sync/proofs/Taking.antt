@@ -1,12 +1,11 @@
 -- What a side takes of the keys of a window, one push after the other.
-use Rattle.std.proofs.Common.{◌≡◌, ◌≢◌, ◌⊎◌, inl, inr, ℕ, zero, suc, ◌+◌, ◌<◌, ◌≤◌, Bool, true, false, cond, ◌&&◌, ◌||◌, T, List, [], ◌∷◌, ◌++◌, length, map, refl, sym, ap, subst, ◌∙◌, arith, Some, None, Option, true≢false}
+use Rattle.std.proofs.Common.{◌≡◌, ◌≢◌, ◌⊎◌, inl, inr, ℕ, zero, suc, ◌≤◌, Bool, true, false, ◌&&◌, ◌||◌, T, List, [], ◌∷◌, length, map, refl, sym, ap, subst, ◌∙◌, arith, Some, None, Option, true≢false}
 use Rattle.std.specs.Prelude.{Result, Ok, Err, unwrap_or, take, is_some}
 use Rattle.std.specs.Ordering.{nat_cmp, eq_by_cmp, is_eq, is_lt}
-use Rattle.std.specs.declared.cmp.Ordering.{Ordering}
 use Rattle.std.specs.declared.cmp.Ordering.TheVariants.{Less, Equal, Greater}
-use Rattle.std.specs.Cmp.{Equal-is, tied_itself}
-use Rattle.std.specs.Cmp.Lexicographic.{slice_cmp, nat_list_cmp_total}
-use Rattle.std.specs.FinMap.{FinMap, get, entries, entries_sorted, is_sorted, len, len-entries, keys, contains_key-keys, get-insert, get-remove}
+use Rattle.std.specs.Cmp.{Equal-is}
+use Rattle.std.specs.Cmp.Lexicographic.{slice_cmp}
+use Rattle.std.specs.FinMap.{get, entries, entries_sorted, is_sorted, len, len-entries, keys, contains_key-keys}
 use Rattle.std.specs.FinMap.Entries.{below_all}
 use Rattle.std.specs.List.{list_any}
 use Rattle.std.proofs.lemmas.List.{length-map}
@@ -17,9 +16,8 @@ use Rattle.mvd_tree.proofs.Under.{keys_same}
 use Rattle.mvd_site.specs.Answer.{is_too_large}
 use Rattle.mvd_site.specs.Held.{States, state_at}
 use Rattle.mvd_sync.specs.Session.{AreDistinct, AreTooMany, ComesByPushes, Each, is_member, pushed, pushed_all}
-use Rattle.mvd_sync.specs.Sides.{is_of_key}
 use Rattle.mvd_sync.specs.Windows.{CannotTake, Pushes}
-use Rattle.mvd_sync.proofs.Keys.{Each-weaker, get-pushed_other, or_left, or_right, or_cases}
+use Rattle.mvd_sync.proofs.Keys.{Each-weaker, get-pushed_other, or_left, or_right}
 use Rattle.mvd_sync.proofs.Pushes.{state-pushed, tied}
 
 -- ---- the pushes that were taken

@@ -1,5 +1,5 @@
 -- What a session with out fault tells of the keys that are done.
-use Rattle.std.proofs.Common.{◌≡◌, ◌≢◌, ◌⊎◌, inl, inr, ◌↔◌, ℕ, Bool, true, false, cond, ◌||◌, List, [], ◌∷◌, ◌++◌, length, map, filter, filter_map, take, refl, sym, ap, subst, ◌∙◌, Some, None, Option, option_map, true≢false}
+use Rattle.std.proofs.Common.{◌≡◌, ◌≢◌, ◌⊎◌, inl, inr, ◌↔◌, ℕ, Bool, true, false, cond, ◌||◌, List, [], ◌∷◌, ◌++◌, map, filter, refl, sym, ap, subst, ◌∙◌, Some, None, Option, option_map, true≢false}
 use Rattle.std.specs.Prelude.{MatchBool}
 use Rattle.std.specs.List.{cons_option}
 use Rattle.std.proofs.lemmas.List.{length-map}
@@ -8,12 +8,11 @@ use Rattle.std.specs.Cmp.{Equal-is}
 use Rattle.std.specs.Cmp.Lexicographic.{slice_cmp}
 use Rattle.std.specs.FinMap.{get}
 use Rattle.mvd_dots.specs.declared.refusals.Refusal.{Refusal}
-use Rattle.mvd_keys.specs.State.{State}
 use Rattle.mvd_tree.proofs.Under.{keys_same}
 use Rattle.mvd_tree.specs.Hashed.{HashesTellApart}
 use Rattle.mvd_site.specs.Answer.{spelled}
-use Rattle.mvd_site.specs.Held.{States, state_at}
-use Rattle.mvd_sync.specs.Exchanges.{CameTo, Counts, Done, Exchanging, IsDone, SoFar, given_keys, is_given, is_joined, joined_keys, keys_done, left_keys, left_of}
+use Rattle.mvd_site.specs.Held.{States}
+use Rattle.mvd_sync.specs.Exchanges.{CameTo, Counts, Done, Exchanging, IsDone, SoFar, given_keys, is_given, is_joined, joined_keys, keys_done, left_keys}
 use Rattle.mvd_sync.specs.Session.{AreDistinct, CannotMeet, Each, IsIn, IsLeft, IsOld, Left, Tells, is_member, most_of}
 use Rattle.mvd_sync.specs.declared.report.Report.{Report}
 use Rattle.mvd_sync.specs.declared.report.Side.{Side}
@@ -166,8 +165,8 @@ module _ (ml mp : ℕ) (number : Option ℕ) (a b a' b' : States) where
   are_olds ds so key =
       let at : MatchBool (is_member (olds ds) key) (IsOld number a b key) ((IsOld number a b key → ⊥) ⊎ (is_member (keys_done ds) key ≡ false))
       = member_at (λ (d : Done). d.is_old) (IsOld number a b) (λ k. (IsOld number a b k → ⊥) ⊎ (is_member (keys_done ds) k ≡ false)) key ds so.distinct
-          (Each-weaker (IsDone ml mp number a b a' b') (λ (d : Done). MatchBool d.is_old (IsOld number a b d.key) ((IsOld number a b d.key → ⊥) ⊎ (is_member (keys_done ds) d.key ≡ false)))
-          (λ d h. or_else d.is_old (IsOld number a b d.key) (IsOld number a b d.key → ⊥) (is_member (keys_done ds) d.key ≡ false) (old_at d h.old)) ds so.each) (λ out. inr out) in (
+      (Each-weaker (IsDone ml mp number a b a' b') (λ (d : Done). MatchBool d.is_old (IsOld number a b d.key) ((IsOld number a b d.key → ⊥) ⊎ (is_member (keys_done ds) d.key ≡ false)))
+      (λ d h. or_else d.is_old (IsOld number a b d.key) (IsOld number a b d.key → ⊥) (is_member (keys_done ds) d.key ≡ false) (old_at d h.old)) ds so.each) (λ out. inr out) in (
         λ h. (
           by_bool (is_member (given_keys ds ++ names (left_keys ds)) key) (IsIn (given_keys ds ++ names (left_keys ds)) key) (λ yes. yes)
               (λ out. absurd (true≢false (sym h ∙ filtered (λ (d : Done). d.is_old) key ds (sym (parts_are ds key) ∙ out)))),

@@ -1,6 +1,6 @@
 -- Buckets after buckets.
-use Rattle.std.proofs.Common.{◌≡◌, ◌≢◌, ◌⊎◌, inl, inr, ℕ, zero, suc, ◌+◌, ◌*◌, ◌<◌, ◌≤◌, Bool, true, false, ◌||◌, List, [], ◌∷◌, ◌++◌, get_or, length, refl, sym, ap, subst, ◌∙◌, arith, Some, None, Option, length-append, append_assoc, true≢false}
-use Rattle.std.specs.Prelude.{IsTrue, Result, Ok, Err, OnOk, MatchResult}
+use Rattle.std.proofs.Common.{◌≡◌, ◌≢◌, inl, inr, ℕ, zero, suc, ◌+◌, ◌<◌, ◌≤◌, Bool, true, false, ◌||◌, List, [], ◌∷◌, ◌++◌, get_or, length, refl, sym, ap, subst, ◌∙◌, arith, None, Option, length-append, append_assoc, true≢false}
+use Rattle.std.specs.Prelude.{IsTrue, Result, Ok, Err, MatchResult}
 use Rattle.std.specs.FinMap.{get}
 use Rattle.std.specs.Ordering.{nat_cmp, eq_by_cmp}
 use Rattle.std.specs.Cmp.Lexicographic.{slice_cmp}
@@ -11,10 +11,9 @@ use Rattle.mvd_site.specs.Answer.{digests}
 use Rattle.mvd_site.specs.Held.{States}
 use Rattle.mvd_tree.specs.HashTree.{KeyDigests, is_under, place_of}
 use Rattle.mvd_sync.specs.Answers.{IsPageOf}
-use Rattle.mvd_sync.specs.Buckets.{AreElsewhere, ArePages, Finds, FindsAll, Goes, GoesOver, GoesThrough, held_in}
-use Rattle.mvd_sync.specs.Exchanges.{AreNext, Counts, Done, Exchanging, GoesOn, IsNext, JoinsSome, SoFar, keys_done, keys_next}
+use Rattle.mvd_sync.specs.Buckets.{AreElsewhere, ArePages, Finds, FindsAll, GoesOver, GoesThrough, held_in}
+use Rattle.mvd_sync.specs.Exchanges.{AreNext, Done, Exchanging, GoesOn, JoinsSome, SoFar, keys_done, keys_next}
 use Rattle.mvd_sync.specs.Nodes.{has_below}
-use Rattle.mvd_sync.specs.Questions.{ForEach}
 use Rattle.mvd_sync.specs.Session.{AreDistinct, Each, IsIn, is_member}
 use Rattle.mvd_sync.specs.Sides.{Side}
 use Rattle.mvd_sync.specs.Walk.{Reads, ReadsEnd}

@@ -1,10 +1,10 @@
 -- Dots that one context has and another has not.
-use Rattle.std.proofs.Common.{◌≡◌, ℕ, zero, suc, ◌+◌, ◌<◌, ◌≤◌, Bool, true, false, not, ◌⊎◌, inl, inr, List, [], ◌∷◌, length, get_or, refl, sym, ap, ◌∙◌, subst, arith, true≢false, ◌↔◌}
+use Rattle.std.proofs.Common.{◌≡◌, ℕ, zero, suc, ◌<◌, ◌≤◌, Bool, true, false, not, ◌⊎◌, inl, inr, List, [], ◌∷◌, length, get_or, refl, sym, ap, ◌∙◌, subst, arith, true≢false, ◌↔◌}
 use Rattle.std.specs.Prelude.{IsTrue, Option, Some, None}
 use Rattle.std.specs.FinSet as set
 use Rattle.mvd_dots.specs.Dot.{DotValue}
 use Rattle.mvd_dots.specs.Entry.{Among, EntryValue, HasCounter, IsEntry}
-use Rattle.mvd_dots.specs.Context.{AreEntries, AreEntriesOf, DotSet, Holds, IsEntryAt, set_of}
+use Rattle.mvd_dots.specs.Context.{AreEntriesOf, DotSet, Holds, IsEntryAt}
 use Rattle.mvd_dots.proofs.EntryLists.{place_of_site}
 use Rattle.mvd_keys.specs.State.{State, empty_state}
 use Rattle.mvd_sync.specs.Olds.{HasUnseen}

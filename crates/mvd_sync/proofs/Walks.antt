@@ -1,5 +1,5 @@
 -- The walk from the root to the buckets, level by level.
-use Rattle.std.proofs.Common.{◌≡◌, ◌≢◌, ℕ, zero, suc, ◌+◌, ◌*◌, ◌-◌, ◌<◌, ◌≤◌, Bool, true, false, List, [], ◌∷◌, length, refl, sym, ap, subst, ◌∙◌, arith}
+use Rattle.std.proofs.Common.{◌≡◌, ◌≢◌, ℕ, zero, suc, ◌+◌, ◌*◌, ◌-◌, ◌<◌, ◌≤◌, true, List, [], ◌∷◌, length, refl, sym, ap, subst, ◌∙◌, arith}
 use Rattle.std.specs.Prelude.{IsTrue}
 use Rattle.std.specs.FinMap.{get}
 use Rattle.std.specs.List.{filter, flat_map}
@@ -7,16 +7,15 @@ use Rattle.mvd_site.proofs.Texts.{one_text}
 use Rattle.mvd_site.specs.Answer.{digests, spelled}
 use Rattle.mvd_site.specs.Held.{AreHeld, States}
 use Rattle.mvd_tree.proofs.Apart.{same_state, same_states_under}
-use Rattle.mvd_tree.specs.HashTree.{is_under, node_digest}
+use Rattle.mvd_tree.specs.HashTree.{is_under}
 use Rattle.mvd_tree.specs.Hashed.{HashesTellApart}
 use Rattle.mvd_sync.specs.Nodes.{children_of, differing_children, differs_at, has_below}
-use Rattle.mvd_sync.specs.Questions.{Keeps}
-use Rattle.mvd_sync.specs.Session.{AreDistinct, Each, HasAllThatDiffer, is_member}
-use Rattle.mvd_sync.specs.Sides.{HasAnswered, Side}
-use Rattle.mvd_sync.specs.Walk.{AreBuckets, AreFewFor, Descends, FindsBuckets, HaveAnswered, Reads, ReadsEnd}
+use Rattle.mvd_sync.specs.Session.{AreDistinct, Each, HasAllThatDiffer}
+use Rattle.mvd_sync.specs.Sides.{Side}
+use Rattle.mvd_sync.specs.Walk.{AreFewFor, Descends, FindsBuckets, HaveAnswered, Reads, ReadsEnd}
 use Rattle.mvd_sync.specs.declared.questions.Questions.{Questions}
 use Rattle.mvd_sync.specs.declared.report.SyncFault.{SyncFault}
-use Rattle.mvd_sync.proofs.Compose.{answered_later, answered_still, keeps_on}
+use Rattle.mvd_sync.proofs.Compose.{answered_later, answered_still}
 use Rattle.mvd_sync.proofs.Descents.{end_later, reads_on}
 use Rattle.mvd_sync.proofs.Keys.{Each-weaker}
 use Rattle.mvd_sync.proofs.Nodes.{AreLong, Each-filter, Each-passes, differing_has_key, differs-from, distinct-below, distinct-filter, few_nodes, whole_below}

@@ -1,19 +1,19 @@
 -- What becomes of the keys of a window between two true sides.
-use Rattle.std.proofs.Common.{◌≡◌, ◌≢◌, ◌⊎◌, inl, inr, ◌↔◌, ℕ, Bool, true, false, cond, List, [], ◌∷◌, ◌++◌, map, filter, filter_map, refl, sym, ap, subst, ◌∙◌, Some, None, Option, option_map, true≢false}
+use Rattle.std.proofs.Common.{◌≡◌, ◌≢◌, ◌⊎◌, inl, inr, ◌↔◌, ℕ, true, false, cond, List, [], ◌∷◌, map, filter, filter_map, refl, sym, ap, subst, ◌∙◌, Some, None, Option, option_map, true≢false}
 use Rattle.std.specs.Prelude.{Result, Ok, Err, is_some}
 use Rattle.std.specs.List.{cons_option}
 use Rattle.std.specs.FinMap.{get}
 use Rattle.mvd_dots.specs.declared.refusals.Refusal.{Refusal}
 use Rattle.mvd_dots.specs.declared.refusals.Refusal.TheVariants.{DotClash, Full, StateTooLarge}
-use Rattle.mvd_keys.specs.State.{IsValid, State, clashes, empty_state, join}
+use Rattle.mvd_keys.specs.State.{IsValid, State, clashes, join}
 use Rattle.mvd_keys.proofs.Joins.{clashes_turned, join_commutes, join_empty_left, join_empty_right}
 use Rattle.mvd_site.specs.Answer.{is_too_large}
 use Rattle.mvd_site.specs.Held.{States, state_at}
-use Rattle.mvd_sync.specs.Exchanges.{CameTo, Done, IsDone, IsNext, keys_done, keys_next}
-use Rattle.mvd_sync.specs.Meetings.{ArePlans, Meets, clash, done_of, first_if, has, held_keys, is_held, meet, noted, or_empty, pair_of, refusal_of, rest_if, taken_from, wanted}
+use Rattle.mvd_sync.specs.Exchanges.{CameTo, IsNext, keys_next}
+use Rattle.mvd_sync.specs.Meetings.{ArePlans, Meets, clash, first_if, has, held_keys, is_held, meet, noted, or_empty, pair_of, refusal_of, rest_if, taken_from, wanted}
 use Rattle.mvd_sync.specs.Olds.{HasUnseen}
 use Rattle.mvd_sync.specs.Questions.{ForEach, IsOfKey}
-use Rattle.mvd_sync.specs.Session.{AreTooMany, CanMeet, CannotMeet, Each}
+use Rattle.mvd_sync.specs.Session.{AreTooMany, CannotMeet, Each}
 use Rattle.mvd_sync.specs.Sides.{is_of_key}
 use Rattle.mvd_sync.specs.declared.listing.Entry.{Entry}
 use Rattle.mvd_sync.specs.declared.meetings.Meeting.{Meeting}

@@ -1,5 +1,5 @@
 -- A window that was exchanged between two true sides.
-use Rattle.std.proofs.Common.{◌≡◌, ◌≢◌, ◌⊎◌, inl, inr, ◌↔◌, ℕ, Bool, true, false, cond, ◌||◌, List, [], ◌∷◌, ◌++◌, map, filter, filter_map, refl, sym, ap, subst, ◌∙◌, Some, None, Option, true≢false}
+use Rattle.std.proofs.Common.{◌≡◌, ◌≢◌, ◌⊎◌, inl, inr, ◌↔◌, ℕ, Bool, true, false, ◌||◌, List, [], ◌∷◌, ◌++◌, map, filter_map, refl, sym, ap, subst, ◌∙◌, Some, None, Option, true≢false}
 use Rattle.std.specs.Prelude.{Result, is_some}
 use Rattle.std.proofs.lemmas.List.{map-append}
 use Rattle.std.specs.Ordering.{nat_cmp, eq_by_cmp}
@@ -9,11 +9,11 @@ use Rattle.mvd_dots.specs.declared.refusals.Refusal.{Refusal}
 use Rattle.mvd_keys.specs.State.{IsValid, State, empty_state}
 use Rattle.mvd_site.specs.Answer.{is_too_large}
 use Rattle.mvd_site.specs.Held.{AreHeld, States, state_at}
-use Rattle.mvd_sync.specs.Exchanges.{AreNext, CameTo, Done, IsDone, IsNext, SoFar, keys_done, keys_next}
-use Rattle.mvd_sync.specs.Meetings.{ArePlans, done_of, first_if, held_keys, noted, pair_of, rest_if, taken_from, wanted}
+use Rattle.mvd_sync.specs.Exchanges.{AreNext, CameTo, Done, IsDone, SoFar, keys_done, keys_next}
+use Rattle.mvd_sync.specs.Meetings.{ArePlans, done_of, held_keys, noted, pair_of, rest_if, taken_from, wanted}
 use Rattle.mvd_sync.specs.Olds.{HasUnseen}
 use Rattle.mvd_sync.specs.Questions.{ForEach, IsOfKey}
-use Rattle.mvd_sync.specs.Session.{AreDistinct, AreTooMany, Each, is_member}
+use Rattle.mvd_sync.specs.Session.{AreDistinct, Each, is_member}
 use Rattle.mvd_sync.specs.Windows.{Pushes}
 use Rattle.mvd_sync.specs.declared.listing.Entry.{Entry}
 use Rattle.mvd_sync.specs.declared.meetings.Meeting.{Meeting}
@@ -22,7 +22,7 @@ use Rattle.mvd_sync.specs.declared.report.Side.TheVariants.{Local as AtLocal, Pe
 use Rattle.mvd_sync.proofs.JoinLaws.{valid_at}
 use Rattle.mvd_sync.proofs.Keys.{Each-weaker, is_member-append, member_has, or_left, or_right}
 use Rattle.mvd_sync.proofs.Pushes.{Each-append, tied}
-use Rattle.mvd_sync.proofs.Taking.{Ask, ComesFrom, Phase, apart_of, ask_keys, pairs_of, phase, same_state}
+use Rattle.mvd_sync.proofs.Taking.{Ask, ComesFrom, Phase, apart_of, phase, same_state}
 use Rattle.mvd_sync.proofs.Window.{ArePlanned, IsPlanned, IsState, IsStill, MayTake, Plan, Pulled, asked_keys, asks_of, local_after, pairs_same, peer_after, planned}
 
 abbrev pub meeting_keys : List Meeting → List (List ℕ)

@@ -1,6 +1,6 @@
 -- The buckets that differ are gone over, and the keys that differ in them are exchanged.
 use Rattle.std.specs.Prelude.{◌≡◌, ◌≢◌, ◌<◌, ◌≤◌, ◌+◌, ◌*◌, ℕ, Bool, true, false, cond, List, [], ◌∷◌, ◌++◌, length, Option, None, IsTrue, Result, IfErr, OnOk, MatchResult}
-use Rattle.std.specs.FinMap.{entries, get, len}
+use Rattle.std.specs.FinMap.{entries, get}
 use Rattle.mvd_dots.specs.declared.refusals.Refusal.TheVariants.{Broken}
 use Rattle.mvd_keys.specs.Writes.{Key}
 use Rattle.mvd_tree.specs.HashTree.{KeyDigests}

@@ -1,5 +1,5 @@
 -- The keys of a window: what each side is to take of them, and what became of it.
-use Rattle.std.specs.Prelude.{◌≡◌, ◌⊎◌, ℕ, Bool, true, false, cond, List, [], ◌∷◌, map, filter, filter_map, Option, Some, None, is_some, option_map, unwrap_or, Result, Ok, Err, IfSome, ◌↔◌, length}
+use Rattle.std.specs.Prelude.{◌≡◌, ℕ, Bool, true, false, cond, List, [], ◌∷◌, map, filter, Option, Some, None, is_some, option_map, unwrap_or, Result, Err, IfSome, ◌↔◌}
 use Rattle.mvd_dots.specs.declared.refusals.Refusal.{Refusal}
 use Rattle.mvd_dots.specs.declared.refusals.Refusal.TheVariants.{DotClash}
 use Rattle.mvd_keys.specs.State.{IsValid, State, clashes, empty_state, join}

@@ -1,6 +1,6 @@
 -- What a session knows of a side.
 use Rattle.std.proofs.Common.{refl, sym, subst, ◌∙◌}
-use Rattle.std.specs.Prelude.{◌≡◌, ◌≢◌, ◌≤◌, ℕ, Bool, true, false, Option}
+use Rattle.std.specs.Prelude.{◌≡◌, ◌≤◌, ℕ, Bool, true, false, Option}
 use Rattle.mvd_dots.specs.declared.refusals.Refusal.{Refusal}
 use Rattle.mvd_dots.specs.declared.refusals.Refusal.TheVariants.{BadBody, BadPath, Broken, DotClash, Full, Memory, StateTooLarge, TooManyRequests}
 use Rattle.mvd_keys.specs.State.{State}

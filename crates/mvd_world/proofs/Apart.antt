@@ -1,8 +1,8 @@
 -- In a sound world no two states clash.
-use Rattle.std.proofs.Common.{◌≡◌, ◌≢◌, ℕ, Bool, true, false, MatchBool, List, [], ◌∷◌, ◌++◌, length, Contains, Some, None, refl, sym, ap, ap₂, ◌∙◌, subst, ⊎_elim, true≢false}
+use Rattle.std.proofs.Common.{◌≡◌, ◌≢◌, ℕ, Bool, true, false, MatchBool, List, ◌++◌, length, Contains, refl, sym, ap, ap₂, ◌∙◌, subst, ⊎_elim, true≢false}
 use Rattle.std.proofs.lemmas.List.Elements.{Contains-append_cases}
 use Rattle.mvd_dots.specs.declared.refusals.Refusal.TheVariants.{Broken, DotClash, Memory}
-use Rattle.mvd_keys.specs.State.{State, clashes}
+use Rattle.mvd_keys.specs.State.{clashes}
 use Rattle.mvd_keys.specs.Writes.{Key, Agree, Write, state}
 use Rattle.mvd_keys.proofs.Sets.{Agree-part, clashes-state}
 use Rattle.mvd_wire.specs.declared.request.Request.{Request}

@@ -5,7 +5,7 @@ use Rattle.std.specs.Ordering.{eq_by_cmp}
 use Rattle.std.specs.FinMap.{get}
 use Rattle.std.specs.FinSet.{len-empty}
 use Rattle.mvd_dots.specs.Dot.{dot_cmp}
-use Rattle.mvd_dots.specs.declared.refusals.Refusal.TheVariants.{Broken, TooManyRequests}
+use Rattle.mvd_dots.specs.declared.refusals.Refusal.TheVariants.{Broken}
 use Rattle.mvd_dots.specs.declared.refusals.Refusal.{Refusal}
 use Rattle.mvd_keys.specs.Key.{key_cmp}
 use Rattle.mvd_keys.specs.State.{State, empty_state, join}
@@ -22,8 +22,8 @@ use Rattle.mvd_site.specs.Held.{AreHeld, States, state_at}
 use Rattle.mvd_site.specs.Sites.{SiteStands, SiteValue}
 use Rattle.mvd_site.proofs.OfTheSet.{states_of-stands}
 use Rattle.mvd_site.proofs.Steps.{state_at-stands}
-use Rattle.mvd_sync.specs.Session.{AreFew, CanMeet, Changes, HasAllThatDiffer, HasJoined, IsIn, Session, Tells, is_member}
-use Rattle.mvd_sync.specs.Sides.{Blames, HasRefused, IsBroken, IsFaultOf, Side, SiteFollows, SiteRefuses, Stays, is_of_key, is_site_refusal, of_answer, of_memory, of_questions, of_side, side, tells_broken}
+use Rattle.mvd_sync.specs.Session.{AreFew, CanMeet, HasAllThatDiffer, HasJoined, IsIn, Session, Tells, is_member}
+use Rattle.mvd_sync.specs.Sides.{Blames, IsBroken, IsFaultOf, Side, SiteFollows, SiteRefuses, Stays, is_of_key, is_site_refusal, of_answer, of_memory, of_questions, of_side, side, tells_broken}
 use Rattle.mvd_sync.specs.declared.report.Report.{Report}
 use Rattle.mvd_sync.specs.declared.report.SyncFault.{SyncFault}
 use Rattle.mvd_sync.specs.declared.report.SyncFault.TheVariants.{Local, Peer}
@@ -118,7 +118,7 @@ given_stands joined given a b b' V W form form' first second held within meet h 
       | true ↦ λ member.
           sym (join_absorbs (state_at a key) (state_at b key) (valid_at a form key) (valid_at b form' key) (meet key (within key member)).apart)
           ∙ ap₂ join (state_at-stands b W key second)
-              (ap₂ join (state_at-stands a V key first) (state_at-stands b W key second) ∙ sym (gained joined V W key ∙ ap (λ m. cond m (join (state key V) (state key W)) (state key V)) (within key member)))
+          (ap₂ join (state_at-stands a V key first) (state_at-stands b W key second) ∙ sym (gained joined V W key ∙ ap (λ m. cond m (join (state key V) (state key W)) (state key V)) (within key member)))
       | false ↦ λ _. state_at-stands b W key second
     ] refl
     ∙ sym (gained given W (V ++ writes_in joined W) key))

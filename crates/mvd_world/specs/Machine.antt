@@ -1,6 +1,6 @@
 -- Sites that write, are asked, send each other states of keys and hold sessions, as a machine over sets of writes: what is
 -- lost, repeated or comes out of order is a matter of which steps are taken, and no map of states is kept in it.
-use Rattle.std.specs.Prelude.{◌≡◌, ◌⊎◌, ℕ, Bool, true, false, not, ◌&&◌, ◌||◌, ◌==◌, nat_lt, nat_le, ◌-◌, if◌then◌else◌, List, [], ◌∷◌, ◌++◌, length, filter, Contains, MatchBool, Some, Result, Ok, Err, ◌≢◌, IfOk, IfErr, IsTrue, ◌↔◌, ⊤}
+use Rattle.std.specs.Prelude.{◌≡◌, ◌⊎◌, ℕ, Bool, true, false, not, ◌&&◌, ◌||◌, ◌==◌, nat_lt, nat_le, ◌-◌, if◌then◌else◌, List, [], ◌∷◌, ◌++◌, length, filter, Contains, MatchBool, Some, Result, Ok, Err, ◌≢◌, IfOk, IfErr, ⊤}
 use Rattle.std.specs.List.{slice_get}
 use Rattle.mvd_dots.specs.Dot.{DotValue}
 use Rattle.mvd_dots.specs.Context.{DotSet}

@@ -1,5 +1,5 @@
 -- What a world stands for: sets of writes, by which its sites and messages are what the machine says.
-use Rattle.std.specs.Prelude.{◌≡◌, ◌⊎◌, ◌+◌, ◌-◌, ℕ, Bool, true, false, List, ◌++◌, map, length, Some, Result, Err, slice_set, IfOk, IfErr, ⊤}
+use Rattle.std.specs.Prelude.{◌≡◌, ◌⊎◌, ◌+◌, ◌-◌, ℕ, Bool, true, false, List, ◌++◌, map, length, Some, Result, slice_set, IfOk, ⊤}
 use Rattle.std.specs.List.{AllByRecursion, slice_get, Contains}
 use Rattle.mvd_keys.specs.State.{join}
 use Rattle.mvd_keys.specs.Writes.{Key, SameWrites, Stands, Write, state}

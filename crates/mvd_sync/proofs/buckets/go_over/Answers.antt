@@ -1,4 +1,4 @@
-use Rattle.std.proofs.Common.{◌≡◌, ◌≤◌, arith}
+use Rattle.std.proofs.Common.{arith}
 use Rattle.mvd_sync.specs.Sides.{side}
 use Rattle.mvd_sync.proofs.Pages.{takes_shorter}
 use Rattle.mvd_sync.proofs.Bucket.{over_begins, over_ends, over_settles, over_unfilled, over_unsettled}

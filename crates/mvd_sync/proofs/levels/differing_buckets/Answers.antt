@@ -1,8 +1,7 @@
-use Rattle.std.proofs.Common.{arith, ◌≡◌, ◌≤◌, length, subst}
+use Rattle.std.proofs.Common.{arith, ◌≤◌, length, subst}
 use Rattle.mvd_sync.specs.Walk.{Descends, ReadsEnd}
 use Rattle.mvd_sync.specs.Sides.{side}
-use Rattle.mvd_sync.proofs.Walks.{walk_ends, walk_finds, walks_on, no_walk, walk_begins}
-use Rattle.mvd_sync.proofs.Descents.{memory_ends}
+use Rattle.mvd_sync.proofs.Walks.{walk_ends, walk_finds, walks_on}
 use Rattle.mvd_sync.proofs.levels.differing_buckets.Goals as goal
 
 pub returns-in-Err-descend-clause-ended : goal.returns-in-Err-descend-clause-ended

@@ -1,11 +1,10 @@
-use Rattle.std.proofs.Common.{◌∷◌, ◌++◌, [], ◌↔◌, ◌≡◌, append_assoc, subst, sym, ap, ◌∙◌, Option, List, length, arith}
+use Rattle.std.proofs.Common.{◌∷◌, ◌++◌, [], ◌↔◌, ◌≡◌, append_assoc, subst, sym, ap, ◌∙◌, arith}
 use Rattle.std.specs.Prelude.{IsTrue}
 use Rattle.std.proofs.lemmas.List.{append-nil}
 use Rattle.std.proofs.lemmas.Grind.{common_steps}
 use Rattle.mvd_sync.specs.Meetings.{ArePlans, or_empty}
 use Rattle.mvd_sync.specs.Olds.{HasUnseen}
-use Rattle.mvd_sync.specs.declared.listing.Entry.{Entry}
-use Rattle.mvd_sync.proofs.Plans.{plans_more, plans_none}
+use Rattle.mvd_sync.proofs.Plans.{plans_more}
 use Rattle.mvd_sync.proofs.meetings.plan_all.Goals as goal
 
 pub loop-entry-preserved : goal.loop-entry-preserved

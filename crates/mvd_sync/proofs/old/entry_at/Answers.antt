@@ -1,5 +1,5 @@
-use Rattle.std.proofs.Common.{◌≡◌, ◌<◌, length, sym, ap, ◌∙◌, subst, arith}
-use Rattle.mvd_dots.specs.Context.{IsEntryAt, set_of}
+use Rattle.std.proofs.Common.{◌≡◌, sym, ap, ◌∙◌, subst, arith}
+use Rattle.mvd_dots.specs.Context.{IsEntryAt}
 use Rattle.mvd_dots.proofs.EntryLists.{found_entry}
 use Rattle.mvd_sync.proofs.Unseen.{no_entry}
 use Rattle.mvd_sync.proofs.old.entry_at.Goals as goal

@@ -1,4 +1,4 @@
-use Rattle.std.proofs.Common.{◌≡◌, ℕ, Bool, true, false, true≢false, sym, ap, subst, Option, Some, None, ◌↔◌}
+use Rattle.std.proofs.Common.{ℕ, false, true≢false, sym, subst, ◌↔◌}
 use Rattle.std.specs.Prelude.{IsTrue, unwrap_or}
 use Rattle.std.specs.Option.{option_copied}
 use Rattle.mvd_dots.specs.Context.{Holds}

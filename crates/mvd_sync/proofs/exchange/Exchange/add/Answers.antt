@@ -1,4 +1,4 @@
-use Rattle.std.proofs.Common.{◌≡◌, ◌∙◌, ◌++◌, ◌∷◌, [], ap, length, refl}
+use Rattle.std.proofs.Common.{◌++◌, ◌∷◌, [], ap, length}
 use Rattle.mvd_sync.specs.Exchanges.{Exchanging}
 use Rattle.mvd_sync.specs.Sides.{side as side_of}
 use Rattle.mvd_sync.proofs.Exchanging.{exchanges_later, exchanges_none, low_of}

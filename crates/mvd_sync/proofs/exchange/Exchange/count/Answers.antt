@@ -1,4 +1,4 @@
-use Rattle.std.proofs.Common.{◌∙◌, ◌+◌, ap, refl, cond}
+use Rattle.std.proofs.Common.{◌∙◌, ◌+◌, ap, cond}
 use Rattle.mvd_sync.specs.Exchanges.{Exchanging}
 use Rattle.mvd_sync.proofs.Counting.{adds_given, adds_left}
 use Rattle.mvd_sync.proofs.exchange.Exchange.count.Goals as goal

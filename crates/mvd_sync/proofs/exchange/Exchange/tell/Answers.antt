@@ -1,11 +1,8 @@
-use Rattle.std.proofs.Common.{◌≡◌, ◌+◌, ◌≤◌, ◌++◌, ◌∷◌, [], length, map, sym, ap, subst, arith, length-append}
+use Rattle.std.proofs.Common.{◌∷◌, [], map, sym, subst, arith, length-append}
 use Rattle.std.proofs.lemmas.List.{map-append}
 use Rattle.mvd_sync.specs.Exchanges.{Adds}
 use Rattle.mvd_sync.specs.Meetings.{done_of}
 use Rattle.mvd_sync.proofs.Counting.{adds_none, adds_on, adds_room}
-use Rattle.mvd_sync.proofs.Joined.{joins_some}
-use Rattle.mvd_sync.proofs.Windowed.{so_far_on}
-use Rattle.mvd_sync.proofs.Handing.{gives_good}
 use Rattle.mvd_sync.proofs.exchange.Exchange.tell.Goals as goal
 
 pub loop-meeting-init : goal.loop-meeting-init

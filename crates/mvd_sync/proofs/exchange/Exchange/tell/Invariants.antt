@@ -1,4 +1,4 @@
-use Rattle.std.proofs.Common.{◌+◌, ◌≤◌, ◌≡◌, ◌<◌, ◌^◌, map, length}
+use Rattle.std.proofs.Common.{◌+◌, ◌≤◌, map, length}
 use Rattle.mvd_sync.specs.Exchanges.{Adds}
 use Rattle.mvd_sync.specs.Meetings.{done_of}
 use Rattle.mvd_sync.proofs.exchange.Exchange.tell.Given as goal

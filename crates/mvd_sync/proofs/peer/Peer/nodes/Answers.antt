@@ -3,7 +3,7 @@ use Rattle.std.specs.Prelude.{Err, IfOk}
 use Rattle.std.proofs.lemmas.Result.{IfErr-at_err}
 use Rattle.mvd_dots.specs.declared.refusals.Refusal.TheVariants.{Broken}
 use Rattle.mvd_site.specs.Answer.{digests}
-use Rattle.mvd_site.specs.Held.{States, state_at}
+use Rattle.mvd_site.specs.Held.{States}
 use Rattle.mvd_sync.specs.Windows.{IsNode}
 use Rattle.mvd_sync.proofs.OneByOne.{always, at_err, few_more, last_made, one_more_at}
 use Rattle.mvd_sync.proofs.peer.Peer.nodes.Goals as goal

@@ -3,7 +3,7 @@ use Rattle.std.specs.Prelude.{Err, IfOk}
 use Rattle.std.proofs.lemmas.Result.{IfErr-at_err}
 use Rattle.mvd_dots.specs.declared.refusals.Refusal.TheVariants.{Broken}
 use Rattle.mvd_site.specs.Answer.{digests}
-use Rattle.mvd_site.specs.Held.{States, state_at}
+use Rattle.mvd_site.specs.Held.{States}
 use Rattle.std.specs.Prelude.{Option}
 use Rattle.mvd_keys.specs.Writes.{Key}
 use Rattle.mvd_tree.specs.Page.{is_more_after_page, page_of}

@@ -1,8 +1,7 @@
-use Rattle.std.proofs.Common.{◌≡◌, List, ℕ, take}
+use Rattle.std.proofs.Common.{◌≡◌, take}
 use Rattle.mvd_site.specs.Answer.{digests}
-use Rattle.mvd_site.specs.Held.{States, state_at}
 use Rattle.mvd_tree.specs.Page.{is_more_after_page, page_of}
-use Rattle.mvd_sync.specs.Windows.{Asked, IsNode, Pushes}
+use Rattle.mvd_sync.specs.Windows.{Asked}
 use Rattle.mvd_sync.proofs.peer.Peer.pages.Given as goal
 
 -- the first questions were asked and answered

@@ -3,9 +3,9 @@ ghost use Rattle.std.proofs.Common.{refl, None};
 ghost use Rattle.std.specs.FinMap.{empty};
 
 use crate::peers::Counting;
+use crate::sessions::{first_left, meet, meet_within};
 use mvd_dots::Refusal;
 use mvd_keys::{Key, KeyState, Path};
-use crate::sessions::{first_left, meet, meet_within};
 use mvd_sync::{Page, Peer, Side, SyncFault};
 use mvd_wire::Digests;
 use std::alloc::Global;
@@ -142,11 +142,7 @@ impl Peer for Liar {
         })
     }
 
-    fn bucket(
-        &mut self,
-        path: &Path,
-        after: Option<&Key>,
-    ) -> Result<Page, Refusal> {
+    fn bucket(&mut self, path: &Path, after: Option<&Key>) -> Result<Page, Refusal> {
         let _ = path;
         self.question()?;
         match self.lie {
@@ -321,11 +317,7 @@ impl Peer for Mistaken {
         self.site.node(path)
     }
 
-    fn bucket(
-        &mut self,
-        path: &Path,
-        after: Option<&Key>,
-    ) -> Result<Page, Refusal> {
+    fn bucket(&mut self, path: &Path, after: Option<&Key>) -> Result<Page, Refusal> {
         self.site.bucket(path, after)
     }
 

@@ -114,11 +114,7 @@ impl Peer for Counting {
         self.site.node(path)
     }
 
-    fn bucket(
-        &mut self,
-        path: &Path,
-        after: Option<&Key>,
-    ) -> Result<Page, Refusal> {
+    fn bucket(&mut self, path: &Path, after: Option<&Key>) -> Result<Page, Refusal> {
         self.asked.pages = self.asked.pages.saturating_add(1);
         self.site.bucket(path, after)
     }

@@ -1,8 +1,8 @@
 //! A remote site over bytes in memory.
 use crate::peers::Counting;
+use crate::sessions::meet;
 use mvd_dots::Refusal;
 use mvd_keys::{Key, KeyState};
-use crate::sessions::meet;
 use mvd_sync::{Remote, SyncFault};
 use mvd_wire::{Request, decode_request};
 use std::alloc::Global;

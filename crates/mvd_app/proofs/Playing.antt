@@ -18,7 +18,7 @@ use Rattle.mvd_world.specs.declared.steps.Step.{Step}
 use Rattle.mvd_world.specs.declared.steps.Step.TheVariants as step
 use Rattle.mvd_world.specs.declared.steps.Outcome.{Outcome}
 use Rattle.mvd_world.specs.declared.worlds.World.{World}
-use Rattle.mvd_world.specs.Machine.{Knowledge, Setting, is_numbered}
+use Rattle.mvd_world.specs.Machine.{Knowledge, Setting, is_numbered, is_site}
 use Rattle.mvd_world.specs.Worlds.{IsWorld, Leads, Steps}
 use Rattle.mvd_app.specs.declared.endpoint.Member.{Member}
 use Rattle.mvd_app.specs.Asked.{Exchange}
@@ -92,7 +92,7 @@ unsent site bytes refusal old text read = record {
 
 -- ---- what is said
 
-says_on : (b : Bool) (setting : Setting) (site : ℕ) (command : Command) (before after : Knowledge) (told : Result (List ℕ) Refusal) (text : List ℕ) → is_numbered setting.count site ≡ b → b ≡ true
+says_on : (b : Bool) (setting : Setting) (site : ℕ) (command : Command) (before after : Knowledge) (told : Result (List ℕ) Refusal) (text : List ℕ) → is_site setting site ≡ b → b ≡ true
     → TellsCommand setting site command before after told → text ≡ told_text told → Says setting site command before after text
 says_on true setting site command before after told text is _ tells same =
     subst (λ (b : Bool). MatchBool b ((told : Result (List ℕ) Refusal) × TellsCommand setting site command before after told × (text ≡ told_text told)) ((after ≡ before) × (text ≡ none_such_text))) (sym is) (told, tells, same)
@@ -102,11 +102,11 @@ pub says : (command : Command) (old new : Member) (text text' : List ℕ) (resul
     → Answers old.site command old.world new.world text'
 says command old new text text' result there acts same = λ setting before world.
     let (after, (tells, stands)) = acts.leads setting before world in
-    (after, (says_on (is_numbered setting.count old.site) setting old.site command before after acts.told text' refl (subst (λ (n : ℕ). is_numbered n old.site ≡ true) world.count there) tells same, stands))
+    (after, (says_on (is_site setting old.site) setting old.site command before after acts.told text' refl (sym (world.all old.site) ∙ there) tells same, stands))
 
 pub says_none : (site : ℕ) (command : Command) (old : World) (text : List ℕ) → is_numbered (length old.sites.items) site ≡ false → text ≡ none_such_text → Answers site command old old text
 says_none site command old text nowhere same = λ setting before world.
-    let is : is_numbered setting.count site ≡ false = subst (λ (n : ℕ). is_numbered n site ≡ false) world.count nowhere in
+    let is : is_site setting site ≡ false = sym (world.all site) ∙ nowhere in
     (before, (subst (λ (b : Bool). MatchBool b ((told : Result (List ℕ) Refusal) × TellsCommand setting site command before before told × (text ≡ told_text told)) ((before ≡ before) × (text ≡ none_such_text))) (sym is) (refl, same), world))
 
 -- ---- from a command to its line

@@ -27,7 +27,7 @@ use Rattle.mvd_world.specs.declared.steps.Step.{Step}
 use Rattle.mvd_world.specs.declared.steps.Step.TheVariants as step
 use Rattle.mvd_world.specs.declared.steps.Outcome.{Outcome}
 use Rattle.mvd_world.specs.declared.steps.Outcome.TheVariants.{Replied, Sent, Met, Failed, NoSuch}
-use Rattle.mvd_world.specs.Machine.{Knowledge, MayStep, Setting, is_numbered, is_write, nothing_yet, setting_of}
+use Rattle.mvd_world.specs.Machine.{Knowledge, MayStep, Setting, is_site, is_write, nothing_yet, setting_of}
 use Rattle.mvd_app.specs.Talk.{Talks, told_text}
 use Rattle.mvd_app.specs.Told.{outcome_text}
 
@@ -80,7 +80,7 @@ TellsCommand setting site (command.Sync peer) before after told = TellsStep sett
 
 -- what a command prints: that there is no such site, or what is told
 abbrev pub Says : Setting → ℕ → Command → Knowledge → Knowledge → List ℕ → Type 0
-Says setting site command before after text = MatchBool (is_numbered setting.count site)
+Says setting site command before after text = MatchBool (is_site setting site)
     ((told : Result (List ℕ) Refusal) × TellsCommand setting site command before after told × (text ≡ told_text told))
     ((after ≡ before) × (text ≡ none_such_text))
 

@@ -28,7 +28,7 @@ use Rattle.mvd_world.specs.declared.steps.Step.{Step}
 use Rattle.mvd_world.specs.declared.steps.Step.TheVariants.{Write as Write_at, Ask, Send, Receive, Session}
 use Rattle.mvd_world.specs.declared.steps.Outcome.{Outcome}
 use Rattle.mvd_world.specs.declared.steps.Outcome.TheVariants.{Replied, Sent as Sent_as, Met, Failed, NoSuch}
-use Rattle.mvd_world.specs.Machine.{Answers, IsClash, IsNoClash, IsOwn, IsSound, Knowledge, MayFail, MayStep, Receives, Setting, Takes, all_asked, config_of, it_refused, may_be}
+use Rattle.mvd_world.specs.Machine.{Answers, IsClash, IsNoClash, IsOwn, IsSound, Knowledge, MayFail, MayStep, Receives, Setting, Takes, all_asked, is_site, it_refused, may_be}
 use Rattle.mvd_world.proofs.Sound.{asked_step, found, own_step}
 
 -- ---- what was made agrees
@@ -67,18 +67,18 @@ replied_is r s e = cc
 failed_is : (f g : SyncFault) → Failed f ≡ Failed g → f ≡ g
 failed_is f g e = cc
 
-reply_apart : (reply : Reply) → reply ≢ Refused DotClash → IsNoClash (Replied reply)
+pub reply_apart : (reply : Reply) → reply ≢ Refused DotClash → IsNoClash (Replied reply)
 reply_apart reply other = record { reply = λ e. other (replied_is reply (Refused DotClash) e); fault = λ fault e is. cc; keys = λ report e. absurd (cc) }
 
 answers_apart : (setting : Setting) (before : Knowledge) (site : ℕ) (request : Request) (reply : Reply) (after : Knowledge) → IsOwn request → Answers setting before site request reply after → IsNoClash (Replied reply)
 answers_apart setting before site request reply after own told = reply_apart reply (λ e. own_apart (states_of (before.known site)) request own
-    (reply_clash (config_of setting site) (before.known site) (before.broken site) request reply told.broken told.replies e))
+    (reply_clash told.config (before.known site) (before.broken site) request reply told.broken told.replies e))
 
 receives_apart : (setting : Setting) (before : Knowledge) (site message : ℕ) (reply : Reply) (after : Knowledge) → IsSound before → Receives setting before site message reply after → IsNoClash (Replied reply)
 receives_apart setting before site message reply after sound told = reply_apart reply (λ e.
     let key = told.sending.key in
     let W = before.known site in
-    let clash : clashes (state_at (states_of W) key) (state key told.sending.writes) ≡ true = reply_clash (config_of setting site) W (before.broken site) (Push key (state key told.sending.writes)) reply told.broken told.replies e in
+    let clash : clashes (state_at (states_of W) key) (state key told.sending.writes) ≡ true = reply_clash told.config W (before.broken site) (Push key (state key told.sending.writes)) reply told.broken told.replies e in
     let apart : clashes (state key W) (state key told.sending.writes) ≡ false =
     apart_within before W told.sending.writes key sound (sound.known site) (λ w here. sound.sent told.sending w (found before.messages _ told.sending told.sent) here) in
     true≢false (sym clash ∙ ap (λ s. clashes s (state key told.sending.writes)) (state_at-stands (states_of W) W key (states_of-stands W)) ∙ apart))
@@ -116,7 +116,7 @@ not_sent_apart : (broken : Bool) → Refused (unless_broken broken Broken Memory
 not_sent_apart true e = cc
 not_sent_apart false e = cc
 
-takes_apart : (setting : Setting) (before : Knowledge) (step : Step) (outcome : Outcome) (after : Knowledge) → IsSound before → may_be setting.count (length before.messages) step ≡ true → Takes setting before step outcome after → IsNoClash outcome
+takes_apart : (setting : Setting) (before : Knowledge) (step : Step) (outcome : Outcome) (after : Knowledge) → IsSound before → may_be (is_site setting) (length before.messages) step ≡ true → Takes setting before step outcome after → IsNoClash outcome
 takes_apart setting before (Write_at site request) (Replied reply) after sound may told = answers_apart setting before site request reply after (own_step _ request may) told
 takes_apart setting before (Ask site request) (Replied reply) after sound may told = answers_apart setting before site request reply after (asked_step _ request may) told
 takes_apart setting before (Send site key) (Sent_as number) after sound may told = record { reply = λ e. cc; fault = λ fault e is. cc; keys = λ report e. absurd (cc) }
@@ -130,8 +130,8 @@ takes_apart setting before (Session local peer) (Met report) after sound may tol
       let apart = no_states_clash before local peer sound in
       subst (λ (r : Report). Each (λ l. l.1.1 ≢ DotClash) r.first_refused) (met_is report other e)
       (subst (Each (λ l. l.1.1 ≢ DotClash)) (sym tells.counted.2) (each-take (λ l. l.1.1 ≢ DotClash) tells.left 100
-      (Each-weaker (λ l. CannotMeet (most_of setting.max_keys setting.max_keys l.1.0) (states_of (before.known local)) (states_of (before.known peer)) l.0 l.1.1) (λ l. l.1.1 ≢ DotClash)
-      (left_apart (states_of (before.known local)) (states_of (before.known peer)) setting.max_keys setting.max_keys apart) tells.left tells.causes)));
+      (Each-weaker (λ l. CannotMeet (most_of told.mine.max_keys told.theirs.max_keys l.1.0) (states_of (before.known local)) (states_of (before.known peer)) l.0 l.1.1) (λ l. l.1.1 ≢ DotClash)
+      (left_apart (states_of (before.known local)) (states_of (before.known peer)) told.mine.max_keys told.theirs.max_keys apart) tells.left tells.causes)));
 }
 takes_apart setting before (Session local peer) (Failed fault) after sound may told = record {
   reply = λ e. cc;
@@ -143,7 +143,7 @@ takes_apart setting before step outcome after sound may told = absurd told
 -- no step is answered that two documents of one dot clash
 pub step_apart : (setting : Setting) (before : Knowledge) (step : Step) (outcome : Outcome) (after : Knowledge) → IsSound before → MayStep setting before step outcome after → IsNoClash outcome
 step_apart setting before step outcome after sound =
-    elim (may_be setting.count (length before.messages) step) as (λ b. may_be setting.count (length before.messages) step ≡ b → MatchBool b (Takes setting before step outcome after) ((outcome ≡ NoSuch) × (after ≡ before)) → IsNoClash outcome) [
+    elim (may_be (is_site setting) (length before.messages) step) as (λ b. may_be (is_site setting) (length before.messages) step ≡ b → MatchBool b (Takes setting before step outcome after) ((outcome ≡ NoSuch) × (after ≡ before)) → IsNoClash outcome) [
       | true ↦ λ may told. takes_apart setting before step outcome after sound may told
       | false ↦ λ _ same. subst IsNoClash (sym same.0) (record { reply = λ e. cc; fault = λ fault e is. cc; keys = λ report e. absurd (cc) })
     ] refl

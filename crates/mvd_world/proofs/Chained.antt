@@ -1,8 +1,7 @@
 -- A world after many steps.
-use Rattle.std.proofs.Common.{◌≡◌, ◌+◌, List, [], ◌∷◌, ◌++◌, refl, sym, ap, ◌∙◌, subst}
+use Rattle.std.proofs.Common.{◌≡◌, ◌+◌, List, [], ◌∷◌, ◌++◌, refl, ap, ◌∙◌, subst}
 use Rattle.std.specs.List.{AllByRecursion}
 use Rattle.mvd_keys.proofs.Standing.{Stands-SameWrites, Stands-one}
-use Rattle.mvd_site.specs.Config.{ConfigValue}
 use Rattle.mvd_site.specs.FromStates.{answer_from}
 use Rattle.mvd_site.proofs.Alike.{from_states}
 use Rattle.mvd_world.specs.declared.steps.Step.{Step}
@@ -54,7 +53,7 @@ pub stand : (setting : Setting) (world : World) (end : Knowledge) → IsWorld se
 stand setting world end is i site found whole = ((is.sites i site found).stands whole, is.sound.known (i + 1))
 
 pub alike : (setting : Setting) (world : World) (end : Knowledge) → IsWorld setting world end → AlikeWhereSame world end
-alike setting world end is i j a b at at' whole whole' same =
+alike setting world end is i j a b at at' whole whole' defs same =
     let mine = is.sites i a at in
     let theirs = is.sites j b at' in
     let V = end.known (i + 1) in
@@ -64,5 +63,5 @@ alike setting world end is i j a b at at' whole whole' same =
     record {
       states = states;
       answers = λ request asks. ap (λ m. answer_from a.config m request) states
-          ∙ from_states a.config b.config b.states request (ap (λ (c : ConfigValue). c.defs) mine.config ∙ sym (ap (λ (c : ConfigValue). c.defs) theirs.config)) asks;
+          ∙ from_states a.config b.config b.states request defs asks;
     }

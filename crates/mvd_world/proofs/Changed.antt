@@ -8,7 +8,7 @@ use Rattle.mvd_site.specs.Sites.{SiteStands, SiteValue}
 use Rattle.std.proofs.lemmas.List.{length-set}
 use Rattle.mvd_sync.specs.declared.report.Report.{Report}
 use Rattle.mvd_sync.specs.declared.report.SyncFault.{SyncFault}
-use Rattle.mvd_world.specs.Machine.{Knowledge, Sending, Setting, becomes, config_of, learns}
+use Rattle.mvd_world.specs.Machine.{Knowledge, Sending, Setting, becomes, learns}
 use Rattle.mvd_world.specs.Worlds.{AreSites, Exchange, IsSiteOf, TwoMeet}
 
 -- an element of a list in which one was replaced
@@ -49,7 +49,7 @@ pub sites_changed : (setting : Setting) (sites : List SiteValue) (before : Knowl
 sites_changed setting sites before index number s s' added messages made are at here config stands i x found =
     let after : Knowledge = record { known = learns before.known number added; broken = becomes before.broken number s'.broken; messages = messages; made = made } in
     let changed : IsSiteOf setting after number s' = record {
-      config = config ∙ (are index s here).config ∙ ap (config_of setting) at;
+      config = ap setting.configs (sym at) ∙ (are index s here).config ∙ ap Some (sym config);
       broken = sym (becomes_here before.broken number s'.broken);
       stands = λ whole. subst (Stands s'.states) (sym (learns_here before.known number added)) (stands whole);
     } in

@@ -1,9 +1,10 @@
 -- What each step leads to.
-use Rattle.std.proofs.Common.{◌≡◌, ◌≢◌, inl, inr, ℕ, ◌≤◌, ◌+◌, ◌-◌, Bool, true, false, true≢false, zero, suc, List, [], ◌∷◌, ◌++◌, map, length, take, drop, Some, None, IsSomeAnd, refl, sym, ap, ap₂, ◌∙◌, subst, subst₂, ⊎_elim, arith, Result, Ok, Err}
+use Rattle.std.proofs.Common.{◌≡◌, ◌≢◌, inl, inr, ℕ, ◌≤◌, ◌+◌, ◌-◌, Bool, true, false, true≢false, zero, suc, List, [], ◌∷◌, ◌++◌, map, length, take, drop, Some, None, IsSomeAnd, is_some, refl, sym, ap, ap₂, ◌∙◌, subst, subst₂, ⊎_elim, arith, Result, Ok, Err}
 use Rattle.std.specs.Prelude.{slice_index_or, slice_set}
 use Rattle.std.specs.List.{slice_get}
 use Rattle.std.specs.FinMap.{empty}
 use Rattle.std.proofs.Math.Seq.{take-append_seam}
+use Rattle.std.proofs.lemmas.Bool.Decides.{nat_tests}
 use Rattle.std.proofs.lemmas.Option.{slice_get_read}
 use Rattle.std.proofs.lemmas.List.{length-set, length-map, map-append}
 use Rattle.mvd_dots.specs.declared.refusals.Refusal.TheVariants.{Broken, Memory}
@@ -15,6 +16,7 @@ use Rattle.mvd_wire.specs.declared.request.Request.TheVariants.{Push}
 use Rattle.mvd_wire.specs.declared.reply.Reply.{Reply}
 use Rattle.mvd_wire.specs.declared.reply.Reply.TheVariants.{Done, Refused}
 use Rattle.std.proofs.Common.{IfOk}
+use Rattle.mvd_rows.specs.Defs.{Definitions}
 use Rattle.mvd_site.specs.Answer.{answer, change_of, states_of}
 use Rattle.mvd_site.specs.Config.{ConfigValue}
 use Rattle.mvd_site.specs.FromStates.{Answered, AnswersFrom, after_from, answer_from, change_from, unless_broken, with_change}
@@ -31,8 +33,8 @@ use Rattle.mvd_sync.specs.declared.report.SyncFault.{SyncFault}
 use Rattle.mvd_sync.specs.declared.report.SyncFault.TheVariants.{Local, Peer}
 use Rattle.mvd_world.specs.declared.worlds.Message.{Message}
 use Rattle.mvd_world.specs.declared.worlds.World.{World}
-use Rattle.mvd_world.specs.Machine.{Answers, BreaksBy, IsOwn, IsSound, Knowledge, Meets, Receives, Sending, Sends, SendsNot, Setting, ToldAtOnce, becomes, config_of, learns, nothing_yet, received, writes_in}
-use Rattle.mvd_world.specs.Worlds.{AreSites, IsSiteOf, IsWorld, Leads, TwoMeet, message_of}
+use Rattle.mvd_world.specs.Machine.{Answers, BreaksBy, IsOwn, IsSound, Knowledge, Meets, Receives, Sending, Sends, SendsNot, Setting, ToldAtOnce, becomes, config_of, config_where, is_numbered, learns, nothing_yet, received, setting_of, writes_in}
+use Rattle.mvd_world.specs.Worlds.{AreAll, AreSites, IsSiteOf, IsWorld, Leads, TwoMeet, message_of}
 use Rattle.mvd_world.proofs.Changed.{get_push, learns_here, learns_other, set_other, sites_changed}
 use Rattle.mvd_world.proofs.Sound.{found as found_in, sound_answers, sound_meets, sound_receives, sound_sends}
 
@@ -40,10 +42,14 @@ use Rattle.mvd_world.proofs.Sound.{found as found_in, sound_answers, sound_meets
 pub site_of : (setting : Setting) (before : Knowledge) (sites : List SiteValue) (index number : ℕ) (s : SiteValue) → AreSites setting before sites → index + 1 ≡ number → slice_get sites index ≡ Some s → IsSiteOf setting before number s
 site_of setting before sites index number s are at here = subst (λ n. IsSiteOf setting before n s) at (are index s here)
 
+-- so many sites are all still
+pub still_all : (setting : Setting) (old new : List SiteValue) → length new ≡ length old → AreAll setting old → AreAll setting new
+still_all setting old new same all number = ap (λ n. is_numbered n number) same ∙ all number
+
 -- nothing changed
 pub same_world : (setting : Setting) (old new : World) (before : Knowledge) → new.sites.items ≡ old.sites.items → new.messages.items ≡ old.messages.items → IsWorld setting old before → IsWorld setting new before
 same_world setting old new before same_sites same_messages world = record {
-  count = ap length same_sites ∙ world.count;
+  all = still_all setting old.sites.items new.sites.items (ap length same_sites) world.all;
   sites = subst (AreSites setting before) (sym same_sites) world.sites;
   messages = same_messages ∙ world.messages;
   sound = world.sound;
@@ -63,7 +69,7 @@ world_changed : (setting : Setting) (old new : World) (before : Knowledge) (numb
     SiteStands s' (before.known number ++ added) →
     (after : Knowledge) → after ≡ record { known = learns before.known number added; broken = becomes before.broken number s'.broken; messages = before.messages; made = made } → IsSound after → IsWorld setting new after
 world_changed setting old new before number s s' added made world change stands after is sound = record {
-  count = ap length change.sites ∙ length-set old.sites.items change.index s' ∙ world.count;
+  all = still_all setting old.sites.items new.sites.items (ap length change.sites ∙ length-set old.sites.items change.index s') world.all;
   sites = subst₂ (AreSites setting) (sym is) (sym change.sites)
       (sites_changed setting old.sites.items before change.index number s s' added before.messages made world.sites change.at change.here change.config stands);
   messages = change.messages ∙ world.messages ∙ ap (λ (w : Knowledge). map message_of w.messages) (sym is);
@@ -78,9 +84,11 @@ answers_lead old new number s s' request reply change own one choice setting bef
     let site = site_of setting before old.sites.items change.index number s world.sites change.at change.here in
     let after : Knowledge = record { known = learns before.known number choice.0; broken = becomes before.broken number s'.broken; messages = before.messages; made = before.made ++ choice.0 } in
     let told : Answers setting before number request reply after = record {
+      config = s.config;
+      setup = site.config;
       broken = s'.broken;
       added = choice.0;
-      replies = subst₂ (λ c b. MayReply c (before.known number) b request reply s'.broken) site.config site.broken (one.replies (before.known number) site.stands);
+      replies = subst (λ b. MayReply s.config (before.known number) b request reply s'.broken) site.broken (one.replies (before.known number) site.stands);
       adds = choice.1;
       is = refl;
     } in (
@@ -171,10 +179,12 @@ receives_lead old new number message index m s s' reply change here at answers s
     let added = received reply sending.writes in
     let after : Knowledge = record { known = learns before.known number added; broken = becomes before.broken number s'.broken; messages = before.messages; made = before.made } in
     let told : Receives setting before number message reply after = record {
+      config = s.config;
+      setup = site.config;
       broken = s'.broken;
       sending = sending;
       sent = there;
-      replies = subst₂ (λ c b. MayReply c (before.known number) b push reply s'.broken) site.config site.broken does.replies;
+      replies = subst (λ b. MayReply s.config (before.known number) b push reply s'.broken) site.broken does.replies;
       is = refl;
     } in
     let of = world.sound.of_key sending (found_in before.messages (message - 1) sending there) in (
@@ -202,7 +212,7 @@ sends_lead old new number index s key m count at here whole is same_sites grown 
       (
         told,
         record {
-          count = ap length same_sites ∙ world.count;
+          all = still_all setting old.sites.items new.sites.items (ap length same_sites) world.all;
           sites = λ i x found. let was = world.sites i x (subst (λ l. slice_get l i ≡ Some x) same_sites found) in record { config = was.config; broken = was.broken; stands = was.stands };
           messages = messages;
           sound = sound_sends before number key count after world.sound told;
@@ -236,11 +246,16 @@ meets_lead old new local peer i j result at at' two both same_messages setting b
     let back = writes_in does.given (first.known local) in
     let after : Knowledge = record { known = learns first.known peer back; broken = becomes first.broken peer both.second'.broken; messages = before.messages; made = before.made } in
     let told : Meets setting before local peer result after = record {
+      mine = both.first.config;
+      theirs = both.second.config;
+      setup = mine.config;
+      peer_setup = theirs.config;
       joined = does.joined;
       given = does.given;
       part = does.part;
       meet = does.meet;
-      tells = subst₂ (λ (c d : ConfigValue). IfOk result (Tells c.max_keys d.max_keys (Some c.site) (states_of V) (states_of W) does.joined does.given)) mine.config theirs.config does.tells;
+      tells = subst (λ n. IfOk result (Tells both.first.config.max_keys both.second.config.max_keys (Some n) (states_of V) (states_of W) does.joined does.given))
+          (sym (setting.numbers local both.first.config mine.config)) does.tells;
       local_broken = both.first'.broken;
       peer_broken = both.second'.broken;
       local_breaks = subst (λ b. BreaksBy b both.first'.broken (Local Broken) result) mine.broken does.local_breaks;
@@ -257,7 +272,7 @@ meets_lead old new local peer i j result at at' two both same_messages setting b
       (
         told,
         record {
-          count = ap length both.new_is ∙ length-set (slice_set old.sites.items i both.first') j both.second' ∙ length-set old.sites.items i both.first' ∙ world.count;
+          all = still_all setting old.sites.items new.sites.items (ap length both.new_is ∙ length-set (slice_set old.sites.items i both.first') j both.second' ∙ length-set old.sites.items i both.first') world.all;
           sites = subst (AreSites setting after) (sym both.new_is)
               (sites_changed setting (slice_set old.sites.items i both.first') first j peer both.second both.second' back before.messages before.made sites_first at' still both.second_config stands);
           messages = same_messages ∙ world.messages;
@@ -285,12 +300,28 @@ for_memory broken refusal whole is = is ∙ ap (λ b. unless_broken b Broken Mem
 
 -- ---- at first
 
-pub one_more_site : (setting : Setting) (sites more : List SiteValue) (s : SiteValue) (number : ℕ) → AreSites setting nothing_yet sites → more ≡ sites ++ s ∷ [] → length sites ≡ number → s ≡ record { config = config_of setting (number + 1); states = empty; broken = false } →
-    AreSites setting nothing_yet more
-one_more_site setting sites more s number so_far grown count is i x found = ⊎_elim
+-- one of the numbers
+pub number_in : (count number : ℕ) → 1 ≤ number → number ≤ count → is_numbered count number ≡ true
+number_in count number low high = grind (arith, nat_tests)
+
+-- the config of a site that there is
+pub config_there : (there : Bool) (config : ConfigValue) → there ≡ true → config_where there config ≡ Some config
+config_there true config is = refl
+config_there false config is = absurd (cc)
+
+some_where : (there : Bool) (config : ConfigValue) → there ≡ is_some (config_where there config)
+some_where true config = refl
+some_where false config = refl
+
+pub all_sites : (count max_keys : ℕ) (defs : Definitions) (sites : List SiteValue) → length sites ≡ count → AreAll (setting_of count max_keys defs) sites
+all_sites count max_keys defs sites counted number = ap (λ n. is_numbered n number) counted ∙ some_where (is_numbered count number) (config_of max_keys defs number)
+
+pub one_more_site : (setting : Setting) (sites more : List SiteValue) (s : SiteValue) (number : ℕ) (config : ConfigValue) → AreSites setting nothing_yet sites → more ≡ sites ++ s ∷ [] → length sites ≡ number → setting.configs (number + 1) ≡ Some config →
+    s ≡ record { config = config; states = empty; broken = false } → AreSites setting nothing_yet more
+one_more_site setting sites more s number config so_far grown count setup is i x found = ⊎_elim
     (λ old. so_far i x old)
     (λ new. subst (IsSiteOf setting nothing_yet (i + 1)) new.1 (record {
-      config = ap (λ (v : SiteValue). v.config) is ∙ ap (λ n. config_of setting (n + 1)) (sym (new.0 ∙ count));
+      config = ap (λ n. setting.configs (n + 1)) (new.0 ∙ count) ∙ setup ∙ ap (λ (v : SiteValue). Some v.config) (sym is);
       broken = ap (λ (v : SiteValue). v.broken) is;
       stands = λ _. Stands-none s.states (ap (λ (v : SiteValue). v.states) is);
     }))

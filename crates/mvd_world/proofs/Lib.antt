@@ -6,3 +6,4 @@ pub mod Leading
 pub mod Taking
 pub mod Chained
 pub mod Known
+pub mod Happening

@@ -2,11 +2,10 @@
 use Rattle.std.proofs.Common.{◌≡◌, ◌⊎◌, ℕ, ◌-◌, Bool, true, false, ◌||◌, ◌&&◌, zero, suc, ◌==◌, cond, if◌then◌else◌, MatchBool, List, [], ◌∷◌, ◌++◌, filter, length, Contains, Option, Some, None, Result, Ok, Err, refl, sym, ap, ◌∙◌, subst, inl, ⊎_elim, arith, eq-eqb}
 use Rattle.std.specs.List.{slice_get}
 use Rattle.std.specs.FinSet.{union}
-use Rattle.std.proofs.lemmas.Bool.Decides.{eqb_tells}
 use Rattle.std.proofs.lemmas.List.Elements.{Contains-append_left, Contains-append_right, Contains-append_cases, Contains-push_cases}
 use Rattle.mvd_dots.specs.Dot.{DotValue}
 use Rattle.mvd_dots.specs.Context.{DotSet}
-use Rattle.mvd_dots.specs.declared.refusals.Refusal.TheVariants.{Broken}
+use Rattle.mvd_dots.specs.declared.refusals.Refusal.TheVariants.{Broken, Memory}
 use Rattle.mvd_keys.specs.Minting.{mint}
 use Rattle.mvd_keys.specs.State.{Text}
 use Rattle.mvd_keys.specs.Writes.{AreOf, Key, Write, Wrote, Deleted, context}
@@ -27,7 +26,7 @@ use Rattle.mvd_world.specs.declared.steps.Step.{Step}
 use Rattle.mvd_world.specs.declared.steps.Step.TheVariants.{Write as Write_at, Ask, Send, Receive, Session}
 use Rattle.mvd_world.specs.declared.steps.Outcome.{Outcome}
 use Rattle.mvd_world.specs.declared.steps.Outcome.TheVariants.{Replied, Sent as Sent_as, Met, Failed, NoSuch}
-use Rattle.mvd_world.specs.Machine.{Answers, BreaksBy, IsSound, Knowledge, MayStep, Meets, OnePutPerDot, Receives, Runs, Sending, Sends, Setting, Takes, becomes, config_of, IsOwn, is_write, learns, may_be, nothing_yet, received, writes_in}
+use Rattle.mvd_world.specs.Machine.{Answers, IsSound, Knowledge, MayStep, Meets, OnePutPerDot, Receives, Runs, Sending, Sends, Setting, Takes, becomes, IsOwn, is_site, is_write, learns, may_be, nothing_yet, received, writes_in}
 
 -- ---- what is known
 
@@ -51,48 +50,24 @@ from_filter p (v ∷ W) w here =
       | false ↦ λ here. Contains-later w v W (from_filter p W w here)
     ] here
 
--- ---- a site that is not broken was not broken
-
-whole_before : (broken : ℕ → Bool) (site : ℕ) (now : Bool) (other : ℕ) → (now ≡ false → broken site ≡ false) → becomes broken site now other ≡ false → broken other ≡ false
-whole_before broken site now other still = ⊎_elim
-    (λ same h. subst (λ n. broken n ≡ false) (sym same.1) (still (sym (ap (λ b. if b then now else broken other) same.0) ∙ h)))
-    (λ apart h. sym (ap (λ b. if b then now else broken other) apart.0) ∙ h)
-    (eqb_tells other site)
-
-may_whole : (config : ConfigValue) (known : List Write) (was : Bool) (request : Request) (reply : Reply) (is : Bool) → MayReply config known was request reply is → is ≡ false → was ≡ false
-may_whole config known false request reply is may whole = refl
-may_whole config known true request reply false may whole = absurd may
-may_whole config known true request reply true may whole = cc
-
-whole_by : (was is : Bool) (told : SyncFault) (result : Result Report SyncFault) → BreaksBy was is told result → is ≡ false → was ≡ false
-whole_by false is told result breaks whole = refl
-whole_by true is told result breaks whole = absurd (let e : is ≡ true = breaks.0 refl in cc)
-
-whole_met : (broken : ℕ → Bool) (local : ℕ) (l : Bool) (peer : ℕ) (p : Bool) (other : ℕ) → (l ≡ false → broken local ≡ false) → (p ≡ false → broken peer ≡ false) →
-    becomes (becomes broken local l) peer p other ≡ false → broken other ≡ false
-whole_met broken local l peer p other first second = ⊎_elim
-    (λ same h. subst (λ n. broken n ≡ false) (sym same.1) (second (sym (ap (λ b. if b then p else becomes broken local l other) same.0) ∙ h)))
-    (λ apart h. whole_before broken local l other first (sym (ap (λ b. if b then p else becomes broken local l other) apart.0) ∙ h))
-    (eqb_tells other peer)
-
 -- ---- learning what was made
 
-sound_learns : (before : Knowledge) (site : ℕ) (more : List Write) (broken : ℕ → Bool) → IsSound before → ((w : Write) → Contains more w → Contains before.made w) → ((other : ℕ) → broken other ≡ false → before.broken other ≡ false) →
+pub sound_learns : (before : Knowledge) (site : ℕ) (more : List Write) (broken : ℕ → Bool) → IsSound before → ((w : Write) → Contains more w → Contains before.made w) →
     IsSound (record { known = learns before.known site more; broken = broken; messages = before.messages; made = before.made })
-sound_learns before site more broken sound part whole = record {
+sound_learns before site more broken sound part = record {
   known = λ other w here. ⊎_elim (λ old. sound.known other w old) (λ new. part w new) (learned before.known site more other w here);
   sent = sound.sent;
   of_key = sound.of_key;
   one_put = sound.one_put;
-  own = λ key dot seen document is here. kept before.known site more dot.site _ (sound.own key dot seen document (whole dot.site is) here);
+  own = λ key dot seen document here. kept before.known site more dot.site _ (sound.own key dot seen document here);
 }
 
 -- ---- what a write adds
 
-record IsNew (before : Knowledge) (site : ℕ) (added : List Write) : Type 0 where
-  own : (key : Key) (dot : DotValue) (seen : DotSet) (document : Text) → Contains added (Wrote key dot seen document) → dot.site ≡ site
-  fresh : (key : Key) (dot : DotValue) (seen also_seen : DotSet) (document other : Text) → Contains added (Wrote key dot seen document) → Contains before.made (Wrote key dot also_seen other) → ⊥
-  one_put : OnePutPerDot added
+pub record IsNew (before : Knowledge) (site : ℕ) (added : List Write) : Type 0 where
+  pub own : (key : Key) (dot : DotValue) (seen : DotSet) (document : Text) → Contains added (Wrote key dot seen document) → dot.site ≡ site
+  pub fresh : (key : Key) (dot : DotValue) (seen also_seen : DotSet) (document other : Text) → Contains added (Wrote key dot seen document) → Contains before.made (Wrote key dot also_seen other) → ⊥
+  pub one_put : OnePutPerDot added
 
 IsNew-none : (before : Knowledge) (site : ℕ) (added : List Write) → added ≡ [] → IsNew before site added
 IsNew-none before site added none = record {
@@ -111,9 +86,9 @@ IsNew-delete before site key seen = record {
   one_put = λ k dot s t d o here there. let e : Deleted key seen ≡ Wrote k dot s d = only _ _ here in cc;
 }
 
-IsNew-put : (before : Knowledge) (site : ℕ) (key : Key) (dot : DotValue) (seen : DotSet) (document : Text) → IsSound before → before.broken site ≡ false →
+IsNew-put : (before : Knowledge) (site : ℕ) (key : Key) (dot : DotValue) (seen : DotSet) (document : Text) → IsSound before →
     mint site (union (context key (before.known site)) seen) ≡ Some dot → IsNew before site (Wrote key dot seen document ∷ [])
-IsNew-put before site key dot seen document sound whole minted =
+IsNew-put before site key dot seen document sound minted =
     let mine : dot.site ≡ site = (minted_next site _ dot minted).own in
     record {
       own = λ k d s x here. let e : Wrote key dot seen document ≡ Wrote k d s x = only _ _ here in let same : dot ≡ d = cc in ap (λ (y : DotValue). y.site) (sym same) ∙ mine;
@@ -122,7 +97,7 @@ IsNew-put before site key dot seen document sound whole minted =
           let same_key : k ≡ key = cc in
           let same : d ≡ dot = cc in
           let there_too : Contains before.made (Wrote key dot t o) = subst (Contains before.made) (λ i. Wrote (same_key i) (same i) t o) there in
-          let known_there : Contains (before.known dot.site) (Wrote key dot t o) = sound.own key dot t o (ap before.broken mine ∙ whole) there_too in
+          let known_there : Contains (before.known dot.site) (Wrote key dot t o) = sound.own key dot t o there_too in
           minted_unwritten key (before.known site) site seen t dot o minted (subst (λ n. Contains (before.known n) (Wrote key dot t o)) mine known_there);
       one_put = λ k d s t x o here there.
           let e : Wrote key dot seen document ≡ Wrote k d s x = only _ _ here in
@@ -136,27 +111,30 @@ answer_written config known key seen document dot None e = cc
 answer_written config known key seen document dot (Some d) e =
     limited_cases (λ r. Written dot ≡ r → ◌≡◌ {A = Option DotValue} (Some d) (Some dot)) config _ _ _ (Written d) (λ e. cc) (λ e. cc) (λ e. let one : dot ≡ d = cc in ap Some (sym one)) e
 
-may_written : (config : ConfigValue) (known : List Write) (was : Bool) (request : Request) (dot : DotValue) (is : Bool) → MayReply config known was request (Written dot) is →
-    (was ≡ false) × (Written dot ≡ answer config known request)
-may_written config known false request dot false may = (refl, ⊎_elim (λ e. e) (λ e. cc) may)
-may_written config known false request dot true may = let e : Written dot ≡ Refused Broken = may.0 in cc
-may_written config known true request dot false may = absurd may
-may_written config known true request dot true may = cc
+may_written : (config : ConfigValue) (known : List Write) (was : Bool) (request : Request) (reply : Reply) (is : Bool) → MayReply config known was request reply is →
+    (dot : DotValue) → reply ≡ Written dot → reply ≡ answer config known request
+may_written config known false request reply false may dot written = ⊎_elim (λ e. e) (λ e. absurd (let f : Written dot ≡ Refused Memory = sym written ∙ e in cc)) may
+may_written config known false request reply true may dot written = absurd (let f : Written dot ≡ Refused Broken = sym written ∙ may.0 in cc)
+may_written config known true request reply false may dot written = absurd may
+may_written config known true request reply true may dot written = absurd (let f : Written dot ≡ Refused Broken = sym written ∙ may in cc)
 
-IsNew-adds : (setting : Setting) (before : Knowledge) (site : ℕ) (request : Request) (reply : Reply) (is : Bool) (added : List Write) → IsSound before → IsOwn request →
-    MayReply (config_of setting site) (before.known site) (before.broken site) request reply is → Adds request reply added → IsNew before site added
-IsNew-adds setting before site (Put key seen document) (Written dot) is added sound own may adds =
-    let told = may_written (config_of setting site) (before.known site) (before.broken site) (Put key seen document) dot is may in
-    subst (IsNew before site) (sym adds)
-    (IsNew-put before site key dot seen document sound told.0
-    (answer_written (config_of setting site) (before.known site) key seen document dot (mint site (union (context key (before.known site)) seen)) told.1))
-IsNew-adds setting before site (Delete key seen) Done is added sound own may adds = subst (IsNew before site) (sym adds) (IsNew-delete before site key seen)
-IsNew-adds setting before site (Push key pushed) reply is added sound own may adds = cc
-IsNew-adds setting before site request reply is added sound own may adds = IsNew-none before site added adds
+-- a request's reply is its answer where it tells a dot
+abbrev pub IsAnswered : ConfigValue → List Write → Request → Reply → Type 0
+IsAnswered config known request reply = (dot : DotValue) → reply ≡ Written dot → reply ≡ answer config known request
 
-sound_makes : (before : Knowledge) (site : ℕ) (added : List Write) (broken : ℕ → Bool) → IsSound before → IsNew before site added → ((other : ℕ) → broken other ≡ false → before.broken other ≡ false) →
+pub IsNew-adds : (config : ConfigValue) (before : Knowledge) (site : ℕ) (request : Request) (reply : Reply) (added : List Write) → IsSound before → site ≡ config.site → IsOwn request →
+    IsAnswered config (before.known site) request reply → Adds request reply added → IsNew before site added
+IsNew-adds config before site (Put key seen document) (Written dot) added sound number own told adds = subst (IsNew before site) (sym adds)
+    (IsNew-put before site key dot seen document sound
+    (subst (λ n. mint n (union (context key (before.known site)) seen) ≡ Some dot) (sym number)
+    (answer_written config (before.known site) key seen document dot (mint config.site (union (context key (before.known site)) seen)) (told dot refl))))
+IsNew-adds config before site (Delete key seen) Done added sound number own told adds = subst (IsNew before site) (sym adds) (IsNew-delete before site key seen)
+IsNew-adds config before site (Push key pushed) reply added sound number own told adds = cc
+IsNew-adds config before site request reply added sound number own told adds = IsNew-none before site added adds
+
+pub sound_makes : (before : Knowledge) (site : ℕ) (added : List Write) (broken : ℕ → Bool) → IsSound before → IsNew before site added →
     IsSound (record { known = learns before.known site added; broken = broken; messages = before.messages; made = before.made ++ added })
-sound_makes before site added broken sound new whole = record {
+sound_makes before site added broken sound new = record {
   known = λ other w here. ⊎_elim (λ old. Contains-append_left before.made added w (sound.known other w old)) (λ more. Contains-append_right before.made added w more) (learned before.known site added other w here);
   sent = λ sending w there here. Contains-append_left before.made added w (sound.sent sending w there here);
   of_key = sound.of_key;
@@ -165,19 +143,23 @@ sound_makes before site added broken sound new whole = record {
       (λ old. ⊎_elim (λ old_too. sound.one_put key dot seen also_seen document other old old_too) (λ more. absurd (new.fresh key dot also_seen seen other document more old)) (Contains-append_cases before.made added _ there))
       (λ more. ⊎_elim (λ old. absurd (new.fresh key dot seen also_seen document other more old)) (λ more_too. new.one_put key dot seen also_seen document other more more_too) (Contains-append_cases before.made added _ there))
       (Contains-append_cases before.made added _ here);
-  own = λ key dot seen document is here. ⊎_elim
-      (λ old. kept before.known site added dot.site _ (sound.own key dot seen document (whole dot.site is) old))
+  own = λ key dot seen document here. ⊎_elim
+      (λ old. kept before.known site added dot.site _ (sound.own key dot seen document old))
       (λ more. own_learned before.known site added dot.site _ (new.own key dot seen document more) more)
       (Contains-append_cases before.made added _ here);
 }
 
 -- ---- each step
 
+-- what an answered request adds is new
+pub answers_new : (setting : Setting) (before : Knowledge) (site : ℕ) (request : Request) (reply : Reply) (after : Knowledge) → IsSound before → IsOwn request → (told : Answers setting before site request reply after) → IsNew before site told.added
+answers_new setting before site request reply after sound own told =
+    IsNew-adds told.config before site request reply told.added sound (setting.numbers site told.config told.setup) own
+    (may_written told.config (before.known site) (before.broken site) request reply told.broken told.replies) told.adds
+
 pub sound_answers : (setting : Setting) (before : Knowledge) (site : ℕ) (request : Request) (reply : Reply) (after : Knowledge) → IsSound before → IsOwn request → Answers setting before site request reply after → IsSound after
 sound_answers setting before site request reply after sound own told = subst IsSound (sym told.is)
-    (sound_makes before site told.added (becomes before.broken site told.broken) sound
-    (IsNew-adds setting before site request reply told.broken told.added sound own told.replies told.adds)
-    (λ other. whole_before before.broken site told.broken other (may_whole _ _ _ _ _ _ told.replies)))
+    (sound_makes before site told.added (becomes before.broken site told.broken) sound (answers_new setting before site request reply after sound own told))
 
 pub sound_sends : (before : Knowledge) (site : ℕ) (key : Key) (number : ℕ) (after : Knowledge) → IsSound before → Sends before site key number after → IsSound after
 sound_sends before site key number after sound sends = subst IsSound (sym sends.is) (record {
@@ -207,17 +189,15 @@ received_part reply writes w here = absurd (none_empty w here)
 pub sound_receives : (setting : Setting) (before : Knowledge) (site message : ℕ) (reply : Reply) (after : Knowledge) → IsSound before → Receives setting before site message reply after → IsSound after
 sound_receives setting before site message reply after sound told = subst IsSound (sym told.is)
     (sound_learns before site (received reply told.sending.writes) (becomes before.broken site told.broken) sound
-    (λ w here. sound.sent told.sending w (found before.messages (message - 1) told.sending told.sent) (received_part reply told.sending.writes w here))
-    (λ other. whole_before before.broken site told.broken other (may_whole _ _ _ _ _ _ told.replies)))
+    (λ w here. sound.sent told.sending w (found before.messages (message - 1) told.sending told.sent) (received_part reply told.sending.writes w here)))
 
 pub sound_meets : (setting : Setting) (before : Knowledge) (local peer : ℕ) (result : Result Report SyncFault) (after : Knowledge) → IsSound before → Meets setting before local peer result after → IsSound after
 sound_meets setting before local peer result after sound told =
     let first : Knowledge = record { known = learns before.known local (writes_in told.joined (before.known peer)); broken = before.broken; messages = before.messages; made = before.made } in
-    let sound_first : IsSound first = sound_learns before local (writes_in told.joined (before.known peer)) before.broken sound (λ w here. sound.known peer w (from_filter _ (before.known peer) w here)) (λ other is. is) in
+    let sound_first : IsSound first = sound_learns before local (writes_in told.joined (before.known peer)) before.broken sound (λ w here. sound.known peer w (from_filter _ (before.known peer) w here)) in
     subst IsSound (sym told.is)
     (sound_learns first peer (writes_in told.given (first.known local)) (becomes (becomes before.broken local told.local_broken) peer told.peer_broken) sound_first
-    (λ w here. sound_first.known local w (from_filter _ (first.known local) w here))
-    (λ other. whole_met before.broken local told.local_broken peer told.peer_broken other (whole_by _ _ _ _ told.local_breaks) (whole_by _ _ _ _ told.peer_breaks)))
+    (λ w here. sound_first.known local w (from_filter _ (first.known local) w here)))
 
 -- ---- any step
 
@@ -233,7 +213,7 @@ asked_step true request h = ap (λ c. is_write request || c) h ∙ or-true (is_w
     or-true false = refl
 asked_step false request h = cc
 
-sound_takes : (setting : Setting) (before : Knowledge) (step : Step) (outcome : Outcome) (after : Knowledge) → IsSound before → may_be setting.count (length before.messages) step ≡ true → Takes setting before step outcome after → IsSound after
+sound_takes : (setting : Setting) (before : Knowledge) (step : Step) (outcome : Outcome) (after : Knowledge) → IsSound before → may_be (is_site setting) (length before.messages) step ≡ true → Takes setting before step outcome after → IsSound after
 sound_takes setting before (Write_at site request) (Replied reply) after sound may told = sound_answers setting before site request reply after sound (own_step _ request may) told
 sound_takes setting before (Ask site request) (Replied reply) after sound may told = sound_answers setting before site request reply after sound (asked_step _ request may) told
 sound_takes setting before (Send site key) (Sent_as number) after sound may told = sound_sends before site key number after sound told
@@ -245,7 +225,7 @@ sound_takes setting before step outcome after sound may told = absurd told
 
 pub sound_after : (setting : Setting) (before : Knowledge) (step : Step) (outcome : Outcome) (after : Knowledge) → IsSound before → MayStep setting before step outcome after → IsSound after
 sound_after setting before step outcome after sound =
-    elim (may_be setting.count (length before.messages) step) as (λ b. may_be setting.count (length before.messages) step ≡ b → MatchBool b (Takes setting before step outcome after) ((outcome ≡ NoSuch) × (after ≡ before)) → IsSound after) [
+    elim (may_be (is_site setting) (length before.messages) step) as (λ b. may_be (is_site setting) (length before.messages) step ≡ b → MatchBool b (Takes setting before step outcome after) ((outcome ≡ NoSuch) × (after ≡ before)) → IsSound after) [
       | true ↦ λ may told. sound_takes setting before step outcome after sound may told
       | false ↦ λ _ same. subst IsSound (sym same.1) sound
     ] refl
@@ -256,7 +236,7 @@ sound_start = record {
   sent = λ sending w there here. absurd (no_message sending there);
   of_key = λ sending there. absurd (no_message sending there);
   one_put = λ key dot seen also_seen document other here there. absurd (none_empty _ here);
-  own = λ key dot seen document is here. here;
+  own = λ key dot seen document here. here;
 }
   where
     no_message : (sending : Sending) → Contains [] sending → ⊥

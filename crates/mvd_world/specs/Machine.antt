@@ -1,6 +1,6 @@
 -- Sites that write, are asked, send each other states of keys and hold sessions, as a machine over sets of writes: what is
 -- lost, repeated or comes out of order is a matter of which steps are taken, and no map of states is kept in it.
-use Rattle.std.specs.Prelude.{◌≡◌, ◌⊎◌, ℕ, Bool, true, false, not, ◌&&◌, ◌||◌, ◌==◌, nat_lt, nat_le, ◌-◌, if◌then◌else◌, List, [], ◌∷◌, ◌++◌, length, filter, Contains, MatchBool, Some, Result, Ok, Err, ◌≢◌, IfOk, IfErr, ⊤}
+use Rattle.std.specs.Prelude.{◌≡◌, ◌⊎◌, ℕ, Bool, true, false, not, ◌&&◌, ◌||◌, ◌==◌, nat_lt, nat_le, ◌-◌, if◌then◌else◌, List, [], ◌∷◌, ◌++◌, length, filter, is_some, Contains, MatchBool, Option, Some, None, Result, Ok, Err, ◌≢◌, IfOk, IfErr, ⊤}
 use Rattle.std.specs.List.{slice_get}
 use Rattle.mvd_dots.specs.Dot.{DotValue}
 use Rattle.mvd_dots.specs.Context.{DotSet}
@@ -12,12 +12,12 @@ use Rattle.mvd_rows.specs.Defs.{Definitions}
 use Rattle.mvd_wire.specs.declared.request.Request.{Request}
 use Rattle.mvd_wire.specs.declared.request.Request.TheVariants.{Put, Delete, Push}
 use Rattle.mvd_wire.specs.declared.reply.Reply.{Reply}
-use Rattle.mvd_wire.specs.declared.reply.Reply.TheVariants.{Done, Refused}
-use Rattle.mvd_site.specs.Answer.{is_question, states_of}
+use Rattle.mvd_wire.specs.declared.reply.Reply.TheVariants.{Done, Refused, Written}
+use Rattle.mvd_site.specs.Answer.{answer, is_question, states_of}
 use Rattle.mvd_site.specs.Config.{ConfigValue}
 use Rattle.mvd_site.specs.FromStates.{unless_broken}
 use Rattle.mvd_site.specs.Held.{States}
-use Rattle.mvd_site.specs.Known.{Adds, MayReply}
+use Rattle.mvd_site.specs.Known.{Adds, Changes, MayReply}
 use Rattle.mvd_sync.specs.Session.{AreFew, CanMeet, Each, HasAllThatDiffer, IsIn, Tells, is_member}
 use Rattle.mvd_sync.specs.Sides.{IsFaultOf, is_of_key, is_site_refusal, tells_broken}
 use Rattle.mvd_sync.specs.declared.report.Report.{Report}
@@ -28,24 +28,50 @@ use Rattle.mvd_world.specs.declared.steps.Step.TheVariants.{Write as Written_at,
 use Rattle.mvd_world.specs.declared.steps.Outcome.{Outcome}
 use Rattle.mvd_world.specs.declared.steps.Outcome.TheVariants.{Replied, Sent as Sent_as, Met, Failed, NoSuch}
 
--- how many sites there are, and what each is set up with but its number
+-- which sites there are, and what each is set up with: its own number, and any limit and definitions
 pub record Setting : Type 0 where
-  pub count : ℕ
-  pub max_keys : ℕ
-  pub defs : Definitions
+  pub configs : ℕ → Option ConfigValue
+  pub numbers : (number : ℕ) (config : ConfigValue) → configs number ≡ Some config → number ≡ config.site
+
+-- whether there is a site of this number
+abbrev pub is_site : Setting → ℕ → Bool
+is_site setting number = is_some (setting.configs number)
+
+-- a number from 1 on
+abbrev pub is_numbered : ℕ → ℕ → Bool
+is_numbered count number = nat_lt 0 number && nat_le number count
+
+-- ---- sites 1 to n of one setup
+
+abbrev pub config_of : ℕ → Definitions → ℕ → ConfigValue
+config_of max_keys defs site = record { site = site; max_keys = max_keys; defs = defs }
+
+abbrev pub config_where : Bool → ConfigValue → Option ConfigValue
+config_where there config = if there then Some config else None
+
+abbrev pub site_or : ℕ → Option ConfigValue → ℕ
+site_or number None = number
+site_or number (Some config) = config.site
+
+pub site_where : (there : Bool) (mine config : ConfigValue) → config_where there mine ≡ Some config → mine.site ≡ config.site
+site_where true mine config is = λ i. site_or mine.site (is i)
+site_where false mine config is = λ i. site_or mine.site (is i)
 
 abbrev pub setting_of : ℕ → ℕ → Definitions → Setting
-setting_of count max_keys defs = record { count = count; max_keys = max_keys; defs = defs }
+setting_of count max_keys defs = record {
+  configs = λ number. config_where (is_numbered count number) (config_of max_keys defs number);
+  numbers = λ number config is. site_where (is_numbered count number) (config_of max_keys defs number) config is;
+}
 
-abbrev pub config_of : Setting → ℕ → ConfigValue
-config_of setting site = record { site = site; max_keys = setting.max_keys; defs = setting.defs }
+-- ---- what is known
 
 -- a message is the state of a key: here the writes of the key that it stands for
 pub record Sending : Type 0 where
   pub key : Key
   pub writes : List Write
 
--- the writes known to each site, whether it is broken, the messages in order, and all writes made
+-- the writes known to each site, of a broken one those that it knows once it is opened again; whether it is broken; the
+-- messages in order; and all writes made
 pub record Knowledge : Type 0 where
   pub known : ℕ → List Write
   pub broken : ℕ → Bool
@@ -70,10 +96,6 @@ writes_in keys writes = filter (λ write. is_member keys (key_of write)) writes
 
 -- ---- which steps there are
 
--- a number from 1 on
-abbrev pub is_numbered : ℕ → ℕ → Bool
-is_numbered count number = nat_lt 0 number && nat_le number count
-
 abbrev pub is_write : Request → Bool
 is_write (Put key seen document) = true
 is_write (Delete key seen) = true
@@ -84,21 +106,23 @@ abbrev pub IsOwn : Request → Type 0
 IsOwn request = (is_write request || is_question request) ≡ true
 
 -- the step names sites and a message that there are, two sites where it names two, and a request of its sort
-abbrev pub may_be : ℕ → ℕ → Step → Bool
-may_be sites messages (Written_at site request) = is_numbered sites site && is_write request
-may_be sites messages (Ask site request) = is_numbered sites site && is_question request
-may_be sites messages (Send site key) = is_numbered sites site
-may_be sites messages (Receive site message) = is_numbered sites site && is_numbered messages message
-may_be sites messages (Session local peer) = is_numbered sites local && (is_numbered sites peer && not (local == peer))
+abbrev pub may_be : (ℕ → Bool) → ℕ → Step → Bool
+may_be there messages (Written_at site request) = there site && is_write request
+may_be there messages (Ask site request) = there site && is_question request
+may_be there messages (Send site key) = there site
+may_be there messages (Receive site message) = there site && is_numbered messages message
+may_be there messages (Session local peer) = there local && (there peer && not (local == peer))
 
 -- ---- what a step comes to
 
 -- A write or a question: the site replies as one site does (its answer, or 20, or 22), and learns of what the request
 -- added, which is made now
 pub record Answers (setting : Setting) (before : Knowledge) (site : ℕ) (request : Request) (reply : Reply) (after : Knowledge) : Type 0 where
+  pub config : ConfigValue
+  pub setup : setting.configs site ≡ Some config
   pub broken : Bool
   pub added : List Write
-  pub replies : MayReply (config_of setting site) (before.known site) (before.broken site) request reply broken
+  pub replies : MayReply config (before.known site) (before.broken site) request reply broken
   pub adds : Adds request reply added
   pub is : after ≡ record {
     known = learns before.known site added;
@@ -130,10 +154,12 @@ received reply writes = []
 
 -- A message comes: the site replies as to a push of its state, and learns of its writes if it accepts them
 pub record Receives (setting : Setting) (before : Knowledge) (site message : ℕ) (reply : Reply) (after : Knowledge) : Type 0 where
+  pub config : ConfigValue
+  pub setup : setting.configs site ≡ Some config
   pub broken : Bool
   pub sending : Sending
   pub sent : slice_get before.messages (message - 1) ≡ Some sending
-  pub replies : MayReply (config_of setting site) (before.known site) (before.broken site) (Push sending.key (state sending.key sending.writes)) reply broken
+  pub replies : MayReply config (before.known site) (before.broken site) (Push sending.key (state sending.key sending.writes)) reply broken
   pub is : after ≡ record {
     known = learns before.known site (received reply sending.writes);
     broken = becomes before.broken site broken;
@@ -171,11 +197,15 @@ FailsFor a b local_broken peer_broken result = IfErr result (IsFaultOf (MayFail 
 -- A session of two sites: the states of some keys, which differ and do not clash, are joined on the local site, and those of
 -- a part of them on the peer. With no fault these and the refused keys are all that differ, each refused for its cause
 pub record Meets (setting : Setting) (before : Knowledge) (local peer : ℕ) (result : Result Report SyncFault) (after : Knowledge) : Type 0 where
+  pub mine : ConfigValue
+  pub theirs : ConfigValue
+  pub setup : setting.configs local ≡ Some mine
+  pub peer_setup : setting.configs peer ≡ Some theirs
   pub joined : List Key
   pub given : List Key
   pub part : (key : Key) → IsIn given key → IsIn joined key
   pub meet : (key : Key) → IsIn joined key → CanMeet (states_of (before.known local)) (states_of (before.known peer)) key
-  pub tells : IfOk result (Tells setting.max_keys setting.max_keys (Some local) (states_of (before.known local)) (states_of (before.known peer)) joined given)
+  pub tells : IfOk result (Tells mine.max_keys theirs.max_keys (Some local) (states_of (before.known local)) (states_of (before.known peer)) joined given)
   pub local_broken : Bool
   pub peer_broken : Bool
   pub local_breaks : BreaksBy (before.broken local) local_broken (Local Broken) result
@@ -203,7 +233,7 @@ Takes setting before step outcome after = ⊥
 -- any step: one that may not be is answered so, and changes nothing
 abbrev pub MayStep : Setting → Knowledge → Step → Outcome → Knowledge → Type 0
 MayStep setting before step outcome after =
-    MatchBool (may_be setting.count (length before.messages) step) (Takes setting before step outcome after) ((outcome ≡ NoSuch) × (after ≡ before))
+    MatchBool (may_be (is_site setting) (length before.messages) step) (Takes setting before step outcome after) ((outcome ≡ NoSuch) × (after ≡ before))
 
 -- steps with their outcomes, one after the other
 abbrev pub Runs : Setting → Knowledge → List Step → List Outcome → Knowledge → Type 0
@@ -212,6 +242,69 @@ Runs setting before (step ∷ steps) (outcome ∷ outcomes) after =
     (between : Knowledge) × MayStep setting before step outcome between × Runs setting between steps outcomes after
 Runs setting before steps outcomes after = ⊥
 
+-- ---- sites that break and are opened again
+
+-- A change that its site has stored, although the reply is that the site is broken: when it is opened again it knows what
+-- its answer would have added, a put with the dot that it minted
+pub record Stores (setting : Setting) (before : Knowledge) (site : ℕ) (request : Request) (added made : List Write) (after : Knowledge) : Type 0 where
+  pub config : ConfigValue
+  pub setup : setting.configs site ≡ Some config
+  pub changes : Changes config (before.known site) request
+  pub adds : Adds request (answer config (before.known site) request) added
+  pub is : after ≡ record {
+    known = learns before.known site added;
+    broken = becomes before.broken site true;
+    messages = before.messages;
+    made = made;
+  }
+
+-- a write is made by that, and a message is known; what a session had stored when it ended is among what it joined
+abbrev pub IsStored : Setting → Knowledge → Step → Knowledge → Type 0
+IsStored setting before (Written_at site request) after = (added : List Write) × Stores setting before site request added (before.made ++ added) after
+IsStored setting before (Receive site message) after = (sending : Sending) × (slice_get before.messages (message - 1) ≡ Some sending)
+    × Stores setting before site (Push sending.key (state sending.key sending.writes)) sending.writes before.made after
+IsStored setting before step after = ⊥
+
+-- the step was told that its site is broken, and was stored
+pub record MayStore (setting : Setting) (before : Knowledge) (step : Step) (outcome : Outcome) (after : Knowledge) : Type 0 where
+  pub may : may_be (is_site setting) (length before.messages) step ≡ true
+  pub told : outcome ≡ Replied (Refused Broken)
+  pub stored : IsStored setting before step after
+
+-- a site is opened again: it is whole, and knows what it has stored
+pub record Reopens (setting : Setting) (before : Knowledge) (site : ℕ) (after : Knowledge) : Type 0 where
+  pub there : is_site setting site ≡ true
+  pub is : after ≡ record { known = before.known; broken = becomes before.broken site false; messages = before.messages; made = before.made }
+
+-- what happens to sites that are stored: a step with its outcome, or a site is opened again
+pub data Event : Type 0 where
+  Stepped : Step → Outcome → Event
+  Reopened : ℕ → Event
+
+abbrev pub MayHappen : Setting → Knowledge → Event → Knowledge → Type 0
+MayHappen setting before (Stepped step outcome) after = MayStep setting before step outcome after ⊎ MayStore setting before step outcome after
+MayHappen setting before (Reopened site) after = Reopens setting before site after
+
+-- events, one after the other
+abbrev pub Happen : Setting → Knowledge → List Event → Knowledge → Type 0
+Happen setting before [] after = after ≡ before
+Happen setting before (event ∷ events) after = (between : Knowledge) × MayHappen setting before event between × Happen setting between events after
+
+-- steps with their outcomes, as events
+abbrev pub events_of : List Step → List Outcome → List Event
+events_of [] outcomes = []
+events_of (step ∷ steps) [] = []
+events_of (step ∷ steps) (outcome ∷ outcomes) = Stepped step outcome ∷ events_of steps outcomes
+
+-- a put that was told its dot
+abbrev pub told_put : ℕ → Key → DotSet → Text → DotValue → Event
+told_put site key seen document dot = Stepped (Written_at site (Put key seen document)) (Replied (Written dot))
+
+-- two puts of one key, at different places among the events, were told different dots
+abbrev pub HaveOwnDots : List Event → Type 0
+HaveOwnDots events = (i j site other_site : ℕ) (key : Key) (seen other_seen : DotSet) (document other : Text) (dot other_dot : DotValue) →
+    i ≢ j → slice_get events i ≡ Some (told_put site key seen document dot) → slice_get events j ≡ Some (told_put other_site key other_seen other other_dot) → dot ≢ other_dot
+
 -- ---- what holds of a world at every step
 
 -- no two puts of one key have one dot: two such are one put
@@ -219,13 +312,13 @@ abbrev pub OnePutPerDot : List Write → Type 0
 OnePutPerDot made = (key : Key) (dot : DotValue) (seen also_seen : DotSet) (document other : Text) →
     Contains made (Wrote key dot seen document) → Contains made (Wrote key dot also_seen other) → (seen ≡ also_seen) × (document ≡ other)
 
--- what is known or sent was made, each dot is of one put, and each site that is not broken knows its own puts
+-- what is known or sent was made, each dot is of one put, and each site knows its own puts, also once it is opened again
 pub record IsSound (world : Knowledge) : Type 0 where
   pub known : (site : ℕ) (write : Write) → Contains (world.known site) write → Contains world.made write
   pub sent : (sending : Sending) (write : Write) → Contains world.messages sending → Contains sending.writes write → Contains world.made write
   pub of_key : (sending : Sending) → Contains world.messages sending → AreOf sending.key sending.writes
   pub one_put : OnePutPerDot world.made
-  pub own : (key : Key) (dot : DotValue) (seen : DotSet) (document : Text) → world.broken dot.site ≡ false →
+  pub own : (key : Key) (dot : DotValue) (seen : DotSet) (document : Text) →
       Contains world.made (Wrote key dot seen document) → Contains (world.known dot.site) (Wrote key dot seen document)
 
 -- a fault by which two states of a key clash

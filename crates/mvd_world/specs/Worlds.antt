@@ -20,11 +20,11 @@ use Rattle.mvd_world.specs.declared.steps.Outcome.{Outcome}
 use Rattle.mvd_world.specs.declared.steps.Outcome.TheVariants.{Replied}
 use Rattle.mvd_world.specs.declared.worlds.Message.{Message}
 use Rattle.mvd_world.specs.declared.worlds.World.{World}
-use Rattle.mvd_world.specs.Machine.{BreaksBy, FailsFor, IsSound, Knowledge, MayStep, Runs, Sending, Setting, ToldAtOnce, config_of, may_be, nothing_yet, writes_in}
+use Rattle.mvd_world.specs.Machine.{BreaksBy, FailsFor, IsSound, Knowledge, MayStep, Runs, Sending, Setting, ToldAtOnce, is_numbered, is_site, may_be, nothing_yet, writes_in}
 
 -- the site of this number, with what it was set up with, and the writes that its states stand for unless it is broken
 pub record IsSiteOf (setting : Setting) (knowledge : Knowledge) (number : ℕ) (site : SiteValue) : Type 0 where
-  pub config : site.config ≡ config_of setting number
+  pub config : setting.configs number ≡ Some site.config
   pub broken : site.broken ≡ knowledge.broken number
   pub stands : SiteStands site (knowledge.known number)
 
@@ -36,9 +36,13 @@ message_of sending = record { key = sending.key; state = state sending.key sendi
 abbrev pub AreSites : Setting → Knowledge → List SiteValue → Type 0
 AreSites setting knowledge sites = (index : ℕ) (site : SiteValue) → slice_get sites index ≡ Some site → IsSiteOf setting knowledge (index + 1) site
 
+-- just the sites that there are
+abbrev pub AreAll : Setting → List SiteValue → Type 0
+AreAll setting sites = (number : ℕ) → is_numbered (length sites) number ≡ is_site setting number
+
 -- the world is of this setting, and its sites and messages stand for these sets, which are sound
 pub record IsWorld (setting : Setting) (world : World) (knowledge : Knowledge) : Type 0 where
-  pub count : length world.sites.items ≡ setting.count
+  pub all : AreAll setting world.sites.items
   pub sites : AreSites setting knowledge world.sites.items
   pub messages : world.messages.items ≡ map message_of knowledge.messages
   pub sound : IsSound knowledge
@@ -81,7 +85,7 @@ AcceptsAgain true outcome = outcome ≡ Replied (Refused Broken)
 -- A message that the site already knows, whatever sets the world stood for: the world is the very same afterwards
 abbrev pub KnownChangesNothing : World → World → Step → Outcome → Type 0
 KnownChangesNothing old new (Receive site message) outcome = (setting : Setting) (before : Knowledge) → IsWorld setting old before →
-    may_be setting.count (length before.messages) (Receive site message) ≡ true → KnowsMessage before site message →
+    may_be (is_site setting) (length before.messages) (Receive site message) ≡ true → KnowsMessage before site message →
     (new ≡ old) × (AreShort old → AcceptsAgain (before.broken site) outcome)
 KnownChangesNothing old new step outcome = ⊤
 
@@ -134,7 +138,7 @@ abbrev pub StandForKnown : World → Knowledge → Type 0
 StandForKnown world end = (index : ℕ) (site : SiteValue) → slice_get world.sites.items index ≡ Some site → site.broken ≡ false →
     Stands site.states (end.known (index + 1)) × ((write : Write) → Contains (end.known (index + 1)) write → Contains end.made write)
 
--- two sites that are not broken, and know the same writes, are alike
+-- two sites that are not broken, have equal definitions and know the same writes, are alike
 abbrev pub AlikeWhereSame : World → Knowledge → Type 0
 AlikeWhereSame world end = (i j : ℕ) (a b : SiteValue) → slice_get world.sites.items i ≡ Some a → slice_get world.sites.items j ≡ Some b → a.broken ≡ false → b.broken ≡ false →
-    SameWrites (end.known (i + 1)) (end.known (j + 1)) → AreAlike a b
+    a.config.defs ≡ b.config.defs → SameWrites (end.known (i + 1)) (end.known (j + 1)) → AreAlike a b

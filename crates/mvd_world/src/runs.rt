@@ -2,7 +2,7 @@
 ghost use Rattle.std.specs.Prelude.{◌≡◌, ◌≤◌, ◌<◌, IfErr, IfOk, length, ⊤};
 ghost use Rattle.std.specs.List.{AllByRecursion};
 ghost use Rattle.mvd_dots.specs.declared.refusals.Refusal.TheVariants.{Memory};
-ghost use Rattle.mvd_world.specs.Machine.{IsNoClash, OnePutPerDot, setting_of};
+ghost use Rattle.mvd_world.specs.Machine.{HaveOwnDots, IsNoClash, OnePutPerDot, events_of, setting_of};
 ghost use Rattle.mvd_world.specs.Worlds.{AlikeWhereSame, AreShort, Leads_to, StandForKnown};
 
 use crate::steps::{Outcome, Step};
@@ -28,9 +28,11 @@ pub fn run_world(
     ensures happened { IfOk result (λ done. Leads_to (setting_of count max_keys defs) done.0 steps.now done.1.items (λ _. ⊤)) }
     // No two puts made share a dot.
     ensures one_put { IfOk result (λ done. Leads_to (setting_of count max_keys defs) done.0 steps.now done.1.items (λ end. OnePutPerDot end.made)) }
+    // Two puts of one key, at different steps, are told different dots.
+    ensures dots { IfOk result (λ done. HaveOwnDots (events_of steps.now done.1.items)) }
     // Each site that is not broken stands for what it knows, and that was made.
     ensures stand { IfOk result (λ done. Leads_to (setting_of count max_keys defs) done.0 steps.now done.1.items (StandForKnown done.0)) }
-    // Sites that know the same writes give equal answers to each question.
+    // Sites that know the same writes, and have equal definitions as all have here, give equal answers to each question.
     ensures alike { IfOk result (λ done. Leads_to (setting_of count max_keys defs) done.0 steps.now done.1.items (AlikeWhereSame done.0)) }
     // No answer and no session is refused for a clash.
     ensures apart { IfOk result (λ done. AllByRecursion IsNoClash done.1.items) }

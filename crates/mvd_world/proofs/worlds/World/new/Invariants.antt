@@ -1,5 +1,5 @@
 use Rattle.std.proofs.Common.{◌≡◌, length}
-use Rattle.mvd_world.specs.Machine.{nothing_yet}
+use Rattle.mvd_world.specs.Machine.{nothing_yet, setting_of}
 use Rattle.mvd_world.specs.Worlds.{AreSites}
 use Rattle.mvd_world.proofs.worlds.World.new.Given as goal
 
@@ -7,5 +7,5 @@ use Rattle.mvd_world.proofs.worlds.World.new.Given as goal
 abbrev pub invariant-loop-site : goal.invariant-loop-site
 invariant-loop-site l = record {
   count : length l.sites.items ≡ l.site;
-  sites : AreSites (record { count = l.fn.count; max_keys = l.fn.max_keys; defs = l.fn.defs }) nothing_yet l.sites.items;
+  sites : AreSites (setting_of l.fn.count l.fn.max_keys l.fn.defs) nothing_yet l.sites.items;
 }

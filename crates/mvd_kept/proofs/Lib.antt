@@ -2,6 +2,8 @@ pub mod Alike
 pub mod Answered
 pub mod Clashes
 pub mod Digested
+pub mod Installed
+pub mod InstallSpent
 pub mod HeldMaps
 pub mod KnownKeys
 pub mod Listed

@@ -7,3 +7,4 @@ pub mod Held
 pub mod Known
 pub mod Prepared
 pub mod Sites
+pub mod Installs

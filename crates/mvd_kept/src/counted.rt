@@ -1,5 +1,5 @@
 //! The calls of a site, by what it keeps, each of which adds its work to what is handed in.
-ghost use Rattle.std.specs.Prelude.{◌≡◌, ◌≢◌, List, true, false, Err, IfOk, IfErr, OnOk};
+ghost use Rattle.std.specs.Prelude.{◌≡◌, ◌≢◌, ◌≤◌, ◌+◌, length, vec_capacity, List, true, false, Err, IfOk, IfErr, OnOk};
 ghost use Rattle.std.specs.FinMap as map;
 ghost use Rattle.mvd_dots.specs.declared.refusals.Refusal.{Refusal};
 ghost use Rattle.mvd_dots.specs.declared.refusals.Refusal.TheVariants.{Broken, DotClash, Memory};
@@ -11,6 +11,7 @@ ghost use Rattle.mvd_wire.specs.Replies.{CanBeSent};
 ghost use Rattle.mvd_kept.specs.Costs.{AnswerCosts, ChangeCosts, Costs, PrepareCosts};
 ghost use Rattle.mvd_kept.specs.FromStates.{AnswersFrom, push_reply, unless_broken, with_state};
 ghost use Rattle.mvd_kept.specs.Held.{IsHeldState, state_at};
+ghost use Rattle.mvd_kept.specs.Installs.{InstallCosts, InstallsAll, MayAllBeIn};
 ghost use Rattle.mvd_kept.specs.Known.{Adds, IsValidRequest};
 ghost use Rattle.mvd_kept.specs.Prepared.{IsChangeNow, IsFrugal, IsReady, PreparesAt, PreparesFromStates};
 ghost use Rattle.mvd_kept.specs.Sites.{AnswersOne, has_no_room};
@@ -64,6 +65,18 @@ pub fn install(site: &mut Kept, change: Change, work: &mut Work) -> Result<(), R
     ensures idle { site.old.broken ≡ true → work.new ≡ work.old }
 {
     site.install(change, work)
+}
+
+/// Puts in what was prepared of requests side by side, as `Site::install_all` says.
+pub fn install_all(site: &mut Kept, group: Vec<Prepared>, replies: &mut Vec<Reply>, work: &mut Work)
+    requires space { length replies.old.items + length group.items ≤ vec_capacity replies.old }
+    requires fresh { site.old.broken ≡ false → MayAllBeIn site.old group.items }
+    ensures puts { InstallsAll site.old site.new group.items replies.old.items replies.new.items }
+    ensures space { vec_capacity replies.new ≡ vec_capacity replies.old }
+    ensures costs { InstallCosts site.old group.items work.old work.new }
+    ensures idle { site.old.broken ≡ true → work.new ≡ work.old }
+{
+    site.install_all(group, replies, work)
 }
 
 /// Answers one request, as `Site::answer` says.

@@ -6,6 +6,7 @@ mod changes;
 mod config;
 pub mod counted;
 mod held;
+mod installing;
 mod kept;
 pub mod laws;
 mod listing;

@@ -1,6 +1,6 @@
 -- Requests of one commit, as the code has them.
-use Rattle.std.proofs.Common.{◌≡◌, ◌∙◌, ℕ, ◌+◌, ◌<◌, arith, true, false, List, [], ◌∷◌, ◌++◌, None, Result, Ok, Err, refl, sym, ap, ap₂, subst, subst₂, inl, inr, true≢false, length, drop, take, get_or, append-nil}
-use Rattle.std.proofs.lemmas.List.{drop_more, map-append, take_more}
+use Rattle.std.proofs.Common.{◌≡◌, ◌∙◌, ℕ, ◌+◌, ◌<◌, arith, true, false, List, [], ◌∷◌, ◌++◌, None, Result, Ok, Err, refl, sym, ap, ap₂, subst, subst₂, inl, inr, true≢false, length, take, get_or, append-nil}
+use Rattle.std.proofs.lemmas.List.{map-append, take_more}
 use Rattle.std.specs.Prelude.{IfSome, OnOk}
 use Rattle.std.specs.List.{AllByRecursion}
 use Rattle.mvd_dots.specs.declared.refusals.Refusal.{Refusal}
@@ -27,10 +27,10 @@ use Rattle.mvd_site.specs.Sites.{SiteValue}
 use Rattle.mvd_site.proofs.Outcomes.{change_plain, refused_fits}
 use Rattle.mvd_site.proofs.Pushes.{refusal_is}
 use Rattle.mvd_site.proofs.Runs.{fitting}
-use Rattle.mvd_replica.specs.Groups.{ComesTo, IsApart, IsReply, IsSendable, MayAllBeIn, MayJoin, PutsAll, PutsIfWhole, StandTogether, pairs_in}
+use Rattle.mvd_replica.specs.Groups.{ComesTo, IsApart, IsReply, IsSendable, MayJoin, StandTogether, pairs_in}
 use Rattle.sqlite.specs.Effect.{Database}
 use Rattle.mvd_replica.proofs.Grouping.{together_more}
-use Rattle.mvd_replica.proofs.Putting.{nothing_added, was_whole, whole_after}
+use Rattle.mvd_replica.proofs.Putting.{nothing_added}
 
 -- ---- what was prepared, as the code has it
 
@@ -82,22 +82,6 @@ pub pairs_more : (group : List Prepared) (prepared : Prepared) → pairs_in (gro
 pairs_more [] prepared = refl
 pairs_more (Answer reply ∷ group) prepared = pairs_more group prepared
 pairs_more (Change change ∷ group) prepared = ap (λ l. (change.key, spell_state change.state) ∷ l) (pairs_more group prepared)
-
-pub puts_more : (group : List Prepared) (told : List Reply) (prepared : Prepared) (reply : Reply) (old mid new : SiteValue) → PutsAll old mid group told → PutsIfWhole mid new prepared reply →
-    PutsAll old new (group ++ prepared ∷ []) (told ++ reply ∷ [])
-puts_more [] [] prepared reply old mid new all one = (new, subst (λ s. PutsIfWhole s new prepared reply) all one, refl)
-puts_more [] (x ∷ told) prepared reply old mid new all one = absurd all
-puts_more (p ∷ group) [] prepared reply old mid new all one = absurd all
-puts_more (p ∷ group) (x ∷ told) prepared reply old mid new all one = (all.0, all.1, puts_more group told prepared reply all.0 mid new all.2 one)
-
--- what may be put in after one
-pub may_after : (old new : SiteValue) (prepared : Prepared) (reply : Reply) (group : List Prepared) → PutsIfWhole old new prepared reply → (old.broken ≡ false → MayAllBeIn old (prepared ∷ group)) → new.broken ≡ false → MayAllBeIn new group
-may_after old new prepared reply group puts may whole =
-    let was : old.broken ≡ false = was_whole old new prepared reply old.broken refl puts whole in
-    subst (λ s. MayAllBeIn s group) (sym (whole_after old new prepared reply whole (puts.whole was))) (may was).1
-
-pub may_first : (site : SiteValue) (group : List Prepared) (n : ℕ) (prepared : Prepared) → n < length group → prepared ≡ get_or group n prepared → MayAllBeIn site (drop n group) → MayAllBeIn site (prepared ∷ drop (n + 1) group)
-may_first site group n prepared low is may = subst (MayAllBeIn site) (drop_more group n prepared low ∙ ap (λ p. p ∷ drop (n + 1) group) (sym is)) may
 
 pub together_joined : (site : SiteValue) (requests : List Request) (group : List Prepared) (request : Request) (prepared : Prepared) → StandTogether site requests group →
     ComesTo site.config site.states request prepared × IsSendable request prepared → MayJoin site request group → StandTogether site (requests ++ request ∷ []) (group ++ prepared ∷ [])

@@ -28,7 +28,8 @@ use Rattle.mvd_kept.specs.declared.changes.Prepared.TheVariants.{Answer, Change}
 use Rattle.mvd_site.specs.Sites.{SiteValue, has_no_room}
 use Rattle.mvd_site.proofs.Answered.{with_state-same, with_state-seen}
 use Rattle.mvd_site.proofs.SideBySide.{room_for_both}
-use Rattle.mvd_replica.specs.Groups.{AllComeTo, AreSendable, ComeInOrder, ComesTo, IsApart, IsElsewhere, IsSendable, MayAllBeIn, MayBeIn, StandTogether, changes_in, is_change, with_group, with_one, with_prepared}
+use Rattle.mvd_site.specs.Installs.{MayAllBeIn, MayBeIn, changes_in, is_change, with_group, with_one, with_prepared}
+use Rattle.mvd_replica.specs.Groups.{AllComeTo, AreSendable, ComeInOrder, ComesTo, IsApart, IsElsewhere, IsSendable, StandTogether}
 
 -- ---- a request at one key is untouched by a change of another
 

@@ -19,11 +19,12 @@ use Rattle.mvd_kept.specs.declared.changes.Prepared.{Prepared}
 use Rattle.mvd_kept.specs.declared.changes.Prepared.TheVariants.{Answer, Change}
 use Rattle.mvd_site.specs.Sites.{SiteValue}
 use Rattle.mvd_site.proofs.Answered.{insert_differs}
+use Rattle.mvd_site.proofs.Installed.{broken_stays, states_with, was_whole, whole_after}
 use Rattle.mvd_site.proofs.Outcomes.{refused_fits}
 use Rattle.mvd_site.proofs.Prepare.{answers_from_answer, answers_from_breaking, answers_from_change}
 use Rattle.mvd_replica.specs.Batch.{AnswersOneFrom, AreAmong, TakesAllFrom}
-use Rattle.mvd_replica.specs.Groups.{AllComeTo, AreSendable, ComeInOrder, ComesTo, IsReply, IsSendable, PutsAll, PutsIfWhole, PutsOne, pairs_in, reply_unstored, with_group, with_one, with_prepared}
-use Rattle.mvd_replica.specs.Kept.{broken_site}
+use Rattle.mvd_site.specs.Installs.{PutsAll, PutsIfWhole, PutsOne, broken_site, with_group, with_one, with_prepared}
+use Rattle.mvd_replica.specs.Groups.{AllComeTo, AreSendable, ComeInOrder, ComesTo, IsReply, IsSendable, pairs_in, reply_unstored}
 use Rattle.mvd_replica.specs.Sides.{AnswersFromStored, after_all}
 use Rattle.mvd_replica.specs.Turns.{IsToldBroken, IsToldElse, Turn}
 use Rattle.mvd_replica.proofs.Replying.{AddsAt-Refused-none}
@@ -121,16 +122,6 @@ module _ (old new : SiteValue) (request : Request) where
   one_answers prepared reply true was comes sendable puts = one_broken reply was (puts.broken was).0 (puts.broken was).1
   one_answers prepared reply false was comes sendable puts = one_puts prepared reply was (comes was) sendable (puts.whole was)
 
--- the site after one, if it is not broken
-pub whole_after : (old mid : SiteValue) (prepared : Prepared) (reply : Reply) → mid.broken ≡ false → PutsOne old mid prepared reply → mid ≡ with_one old prepared
-whole_after old mid (Answer told) reply whole puts = puts.1
-whole_after old mid (Change change) reply whole (inl puts) = puts.1
-whole_after old mid (Change change) reply whole (inr puts) = absurd (true≢false (sym (ap (λ (s : SiteValue). s.broken) puts.1) ∙ whole))
-
-pub was_whole : (old mid : SiteValue) (prepared : Prepared) (reply : Reply) (was : Bool) → old.broken ≡ was → PutsIfWhole old mid prepared reply → mid.broken ≡ false → old.broken ≡ false
-was_whole old mid prepared reply false was puts whole = was
-was_whole old mid prepared reply true was puts whole = sym (ap (λ (s : SiteValue). s.broken) (puts.broken was).1) ∙ whole
-
 ordered_after : (old mid : SiteValue) (prepared : Prepared) (reply : Reply) (requests : List Request) (group : List Prepared) → PutsIfWhole old mid prepared reply →
     (old.broken ≡ false → ComeInOrder old.config (with_prepared old.states prepared) requests group) → mid.broken ≡ false → ComeInOrder mid.config mid.states requests group
 ordered_after old mid prepared reply requests group puts ordered whole =
@@ -167,32 +158,6 @@ takes_unstored (r ∷ requests) [] old was each sendable = absurd sendable
 takes_unstored (r ∷ requests) (p ∷ group) old was each sendable = (old, one_unstored_from old r p was each.0 sendable.0, takes_unstored requests group old was each.1 sendable.1)
 
 -- ---- the site at the end
-
-broken_stays : (group : List Prepared) (replies : List Reply) (old new : SiteValue) → old.broken ≡ true → PutsAll old new group replies → new ≡ old
-broken_stays [] [] old new was all = all
-broken_stays [] (x ∷ replies) old new was all = absurd all
-broken_stays (p ∷ group) [] old new was all = absurd all
-broken_stays (p ∷ group) (x ∷ replies) old new was all =
-    let here : all.0 ≡ old = (all.1.broken was).1 in
-    broken_stays group replies all.0 new (ap (λ (s : SiteValue). s.broken) here ∙ was) all.2 ∙ here
-
-states_with : (old : SiteValue) (prepared : Prepared) → (with_one old prepared).states ≡ with_prepared old.states prepared
-states_with old (Answer reply) = refl
-states_with old (Change change) = refl
-
-states_on : (prepared : Prepared) (reply : Reply) (group : List Prepared) (replies : List Reply) (old mid new : SiteValue) (is : Bool) → mid.broken ≡ is → PutsIfWhole old mid prepared reply → PutsAll mid new group replies →
-    (mid.broken ≡ false → new.states ≡ with_group mid.states group) → new.broken ≡ false → new.states ≡ with_group (with_prepared old.states prepared) group
-states_on prepared reply group replies old mid new true is puts rest later whole =
-    absurd (true≢false (sym (ap (λ (s : SiteValue). s.broken) (broken_stays group replies mid new is rest) ∙ is) ∙ whole))
-states_on prepared reply group replies old mid new false is puts rest later whole =
-    let was : old.broken ≡ false = was_whole old mid prepared reply old.broken refl puts is in
-    later is ∙ ap (λ m. with_group m group) (ap (λ (s : SiteValue). s.states) (whole_after old mid prepared reply is (puts.whole was)) ∙ states_with old prepared)
-
-pub states_end : (group : List Prepared) (replies : List Reply) (old new : SiteValue) → PutsAll old new group replies → new.broken ≡ false → new.states ≡ with_group old.states group
-states_end [] [] old new all whole = ap (λ (s : SiteValue). s.states) all
-states_end [] (x ∷ replies) old new all whole = absurd all
-states_end (p ∷ group) [] old new all whole = absurd all
-states_end (p ∷ group) (x ∷ replies) old new all whole = states_on p x group replies old all.0 new all.0.broken refl all.1 all.2 (λ is. states_end group replies all.0 new all.2 whole) whole
 
 -- where nothing is stored nothing is changed
 pub still_end : (group : List Prepared) (replies : List Reply) (old new : SiteValue) → old.broken ≡ false → pairs_in group ≡ [] → PutsAll old new group replies → new ≡ old

@@ -13,12 +13,14 @@ use Rattle.mvd_kept.specs.declared.changes.Prepared.{Prepared}
 use Rattle.mvd_kept.specs.declared.changes.Prepared.TheVariants.{Answer, Change}
 use Rattle.mvd_site.specs.Sites.{SiteValue}
 use Rattle.mvd_replica.specs.Batch.{AnswersAll, HoldsLost}
-use Rattle.mvd_replica.specs.Groups.{AllComeTo, AreSendable, ComeInOrder, PutsAll, pairs_in, reply_unstored, with_group}
+use Rattle.mvd_site.specs.Installs.{PutsAll, with_group}
+use Rattle.mvd_replica.specs.Groups.{AllComeTo, AreSendable, ComeInOrder, pairs_in, reply_unstored}
 use Rattle.mvd_replica.specs.Kept.{AreSpelled, HoldsSite, HoldsStates, SpellStates}
 use Rattle.mvd_replica.proofs.Storing.{spelled_insert, spelled_with}
 use Rattle.sqlite.specs.State.{HasCleanDisk, State}
 use Rattle.mvd_replica.proofs.Batching.{config_all, takes}
-use Rattle.mvd_replica.proofs.Putting.{AreOne, LostAt, asked_of, lost_end, one_put, one_unstored, states_end, still_end, takes_put, takes_unstored, told_of, turns_of}
+use Rattle.mvd_site.proofs.Installed.{states_end}
+use Rattle.mvd_replica.proofs.Putting.{AreOne, LostAt, asked_of, lost_end, one_put, one_unstored, still_end, takes_put, takes_unstored, told_of, turns_of}
 
 -- ---- the records
 

@@ -26,7 +26,8 @@ use Rattle.mvd_sync.proofs.Pushes.{no_pushes}
 use Rattle.mvd_sync.proofs.SiteSides.{is_broken, push_refuses as site_push_refuses, put_is_pushed}
 use Rattle.mvd_records.specs.Records.{IsSound}
 use Rattle.sqlite.specs.State.{HasCleanDisk, State as Shown, Survives}
-use Rattle.mvd_replica.specs.Kept.{HoldsSite, HoldsStates, PutsIn, broken_site}
+use Rattle.mvd_site.specs.Installs.{broken_site}
+use Rattle.mvd_replica.specs.Kept.{HoldsSite, HoldsStates, PutsIn}
 use Rattle.mvd_replica.specs.Stops.{LeavesAnswered}
 use Rattle.mvd_replica.specs.Sides.{AnswersFromStored, HoldsBroken, ReplicaFollows, ReplicaRefuses, StoreRefusedFrom}
 

@@ -16,7 +16,8 @@ use Rattle.mvd_site.specs.Change.{ChangeValue}
 use Rattle.mvd_site.specs.Held.{IsSpelled, States}
 use Rattle.mvd_site.specs.Sites.{SiteValue}
 use Rattle.sqlite.specs.Effect.{Database}
-use Rattle.mvd_replica.specs.Kept.{AreSpelled, HoldsSite, HoldsStates, PutsIn, SpellStates, Stores, broken_site, with_change}
+use Rattle.mvd_site.specs.Installs.{broken_site, changed_site}
+use Rattle.mvd_replica.specs.Kept.{AreSpelled, HoldsSite, HoldsStates, PutsIn, SpellStates, Stores}
 
 some_is : (s t : State) → Some s ≡ Some t → s ≡ t
 some_is s t e = cc
@@ -38,7 +39,7 @@ spelled_saved site a b change spelled saved =
     subst (λ m. SpellStates m (insert site.states change.key change.state)) (sym saved.saved) (spelled_insert (new_states a) site.states change.key change.state spelled)
 
 -- a change that was put in
-pub holds_put : (old new : SiteValue) (a b : Database) (change : ChangeValue) → old.broken ≡ false → new ≡ with_change old change → SavesState a b change.key (spell_state change.state) →
+pub holds_put : (old new : SiteValue) (a b : Database) (change : ChangeValue) → old.broken ≡ false → new ≡ changed_site old change → SavesState a b change.key (spell_state change.state) →
     HoldsRecords 2 old.config.site b → HoldsSite old a → HoldsSite new b
 holds_put old new a b change whole is saved records holds =
     subst (λ s. HoldsSite s b) (sym is) (record { records = records; alone = subst HasNone (sym saved.old_same) holds.alone; spelled = λ _. spelled_saved old a b change (holds.spelled whole) saved })
@@ -76,7 +77,7 @@ holds_states site db whole fits holds = record { records = holds.records; alone 
 
 -- ---- as the code has them
 
-pub puts_in : {A : Type 0} (old new : SiteValue) (change : ChangeValue) (result : Result A Refusal) → OnOk result ((old.broken ≡ false) × (new ≡ with_change old change)) →
+pub puts_in : {A : Type 0} (old new : SiteValue) (change : ChangeValue) (result : Result A Refusal) → OnOk result ((old.broken ≡ false) × (new ≡ changed_site old change)) →
     IfErr result (λ refusal. (refusal ≡ Broken) × (new ≡ broken_site old)) → PutsIn old new change result
 puts_in old new change (Ok done) ok err = ok.1
 puts_in old new change (Err refusal) ok err = inr err

@@ -1,7 +1,7 @@
 -- What the requests of one commit come to, prepared side by side, before anything is changed.
-use Rattle.std.specs.Prelude.{◌≡◌, ◌≢◌, ◌⊎◌, ⊤, ℕ, ◌+◌, ◌<◌, false, true, List, [], ◌∷◌}
+use Rattle.std.specs.Prelude.{◌≡◌, ◌≢◌, ◌⊎◌, ⊤, ℕ, ◌+◌, ◌<◌, false, List, [], ◌∷◌}
 use Rattle.std.specs.List.{AllByRecursion}
-use Rattle.std.specs.FinMap.{insert, len as map_len}
+use Rattle.std.specs.FinMap.{len as map_len}
 use Rattle.mvd_dots.specs.declared.refusals.Refusal.TheVariants.{Broken, Memory, Store}
 use Rattle.mvd_keys.specs.Writes.{Key, Write}
 use Rattle.mvd_wire.specs.Codecs.{spell_state}
@@ -13,12 +13,12 @@ use Rattle.mvd_wire.specs.Replies.{CanBeSent}
 use Rattle.mvd_site.specs.Change.{reply_of}
 use Rattle.mvd_site.specs.Config.{ConfigValue}
 use Rattle.mvd_site.specs.Held.{IsHeldState, IsSpelled, States}
+use Rattle.mvd_site.specs.Installs.{changes_in, with_prepared}
 use Rattle.mvd_site.specs.Known.{Adds}
-use Rattle.mvd_site.specs.Prepared.{IsChangeNow, PreparesAnswerFrom, PreparesChangeFrom}
+use Rattle.mvd_site.specs.Prepared.{PreparesAnswerFrom, PreparesChangeFrom}
 use Rattle.mvd_kept.specs.declared.changes.Prepared.{Prepared}
 use Rattle.mvd_kept.specs.declared.changes.Prepared.TheVariants.{Answer, Change}
 use Rattle.mvd_site.specs.Sites.{SiteValue, has_no_room}
-use Rattle.mvd_replica.specs.Kept.{broken_site, with_change}
 
 -- ---- one request
 
@@ -65,15 +65,6 @@ AreSendable [] [] = ⊤
 AreSendable (request ∷ requests) (prepared ∷ group) = IsSendable request prepared × AreSendable requests group
 AreSendable requests group = ⊥
 
--- the states with a change put in, and with all of a group's
-abbrev pub with_prepared : States → Prepared → States
-with_prepared states (Answer reply) = states
-with_prepared states (Change change) = insert states change.key change.state
-
-abbrev pub with_group : States → List Prepared → States
-with_group states [] = states
-with_group states (prepared ∷ group) = with_group (with_prepared states prepared) group
-
 -- each request comes to this also once what was prepared before it is put in
 abbrev pub ComeInOrder : ConfigValue → States → List Request → List Prepared → Type 0
 ComeInOrder config states [] [] = ⊤
@@ -87,15 +78,6 @@ pub record StandTogether (site : SiteValue) (requests : List Request) (group : L
   pub ordered : ComeInOrder site.config site.states requests group
   pub sendable : AreSendable requests group
 
--- the number of changes among them
-abbrev pub is_change : Prepared → ℕ
-is_change (Answer reply) = 0
-is_change (Change change) = 1
-
-abbrev pub changes_in : List Prepared → ℕ
-changes_in [] = 0
-changes_in (prepared ∷ group) = is_change prepared + changes_in group
-
 -- a request may be prepared beside these: it sees none of them, and once they are in there is room for a key more
 pub record MayJoin (site : SiteValue) (request : Request) (group : List Prepared) : Type 0 where
   pub apart : AllByRecursion (IsApart request) group
@@ -106,36 +88,6 @@ abbrev pub pairs_in : List Prepared → List (List ℕ × List ℕ)
 pairs_in [] = []
 pairs_in (Answer reply ∷ group) = pairs_in group
 pairs_in (Change change ∷ group) = (change.key, spell_state change.state) ∷ pairs_in group
-
--- ---- putting in
-
--- each change may be put in, once those before it are
-abbrev pub MayBeIn : SiteValue → Prepared → Type 0
-MayBeIn site (Answer reply) = ⊤
-MayBeIn site (Change change) = (has_no_room site.config site.states change.key ≡ false) × IsHeldState change.state × IsChangeNow site change
-
-abbrev pub with_one : SiteValue → Prepared → SiteValue
-with_one site (Answer reply) = site
-with_one site (Change change) = with_change site change
-
-abbrev pub MayAllBeIn : SiteValue → List Prepared → Type 0
-MayAllBeIn site [] = ⊤
-MayAllBeIn site (prepared ∷ group) = MayBeIn site prepared × MayAllBeIn (with_one site prepared) group
-
--- what putting one in comes to: a site that is not broken replies what was prepared, or it breaks; a broken one says so
-abbrev pub PutsOne : SiteValue → SiteValue → Prepared → Reply → Type 0
-PutsOne old new (Answer told) reply = (reply ≡ told) × (new ≡ old)
-PutsOne old new (Change change) reply =
-    ((reply ≡ reply_of change.dot) × (new ≡ with_change old change)) ⊎ ((reply ≡ Refused Broken) × (new ≡ broken_site old))
-
-pub record PutsIfWhole (old new : SiteValue) (prepared : Prepared) (reply : Reply) : Type 0 where
-  pub whole : old.broken ≡ false → PutsOne old new prepared reply
-  pub broken : old.broken ≡ true → (reply ≡ Refused Broken) × (new ≡ old)
-
-abbrev pub PutsAll : SiteValue → SiteValue → List Prepared → List Reply → Type 0
-PutsAll old new [] [] = new ≡ old
-PutsAll old new (prepared ∷ group) (reply ∷ replies) = (mid : SiteValue) × PutsIfWhole old mid prepared reply × PutsAll mid new group replies
-PutsAll old new group replies = ⊥
 
 -- the reply where the store refused the changes
 abbrev pub reply_unstored : Prepared → Reply

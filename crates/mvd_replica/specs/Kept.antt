@@ -1,6 +1,6 @@
 -- What the records of a site hold: this project's own format (docs/FORMATS.md, "Records").
-use Rattle.std.specs.Prelude.{◌≡◌, ◌≢◌, ◌⊎◌, false, true, ℕ, Some, Result, Ok, Err, option_map}
-use Rattle.std.specs.FinMap.{get, insert}
+use Rattle.std.specs.Prelude.{◌≡◌, ◌≢◌, ◌⊎◌, false, ℕ, Some, Result, Ok, Err, option_map}
+use Rattle.std.specs.FinMap.{get}
 use Rattle.mvd_dots.specs.declared.refusals.Refusal.{Refusal}
 use Rattle.mvd_dots.specs.declared.refusals.Refusal.TheVariants.{Broken, Store}
 use Rattle.mvd_keys.specs.State.{State}
@@ -10,6 +10,7 @@ use Rattle.mvd_records.specs.States.{States as Stored}
 use Rattle.mvd_records.specs.Records.{HasNone, HoldsRecords, SavesState, new_states, old_states}
 use Rattle.mvd_site.specs.Change.{ChangeValue}
 use Rattle.mvd_site.specs.Held.{IsSpelled, States}
+use Rattle.mvd_site.specs.Installs.{broken_site, changed_site}
 use Rattle.mvd_site.specs.Sites.{SiteValue}
 use Rattle.sqlite.specs.Effect.{Database}
 
@@ -34,17 +35,9 @@ pub record HoldsSite (site : SiteValue) (db : Database) : Type 0 where
   pub alone : HasNone (old_states db)
   pub spelled : site.broken ≡ false → SpellStates (new_states db) site.states
 
--- the site with a change put in
-abbrev pub with_change : SiteValue → ChangeValue → SiteValue
-with_change site change = record { config = site.config; states = insert site.states change.key change.state; broken = false }
-
--- the site, broken
-abbrev pub broken_site : SiteValue → SiteValue
-broken_site site = record { config = site.config; states = site.states; broken = true }
-
 -- what putting a change in comes to: it is in; or the store refused, and the site is as it was; or the site is broken
 abbrev pub PutsIn : {A : Type 0} → SiteValue → SiteValue → ChangeValue → Result A Refusal → Type 0
-PutsIn old new change (Ok done) = new ≡ with_change old change
+PutsIn old new change (Ok done) = new ≡ changed_site old change
 PutsIn old new change (Err refusal) = ((refusal ≡ Store) × (new ≡ old)) ⊎ ((refusal ≡ Broken) × (new ≡ broken_site old))
 
 -- what is then stored: the change, unless the store refused it

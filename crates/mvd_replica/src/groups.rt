@@ -1,11 +1,11 @@
-//! What requests come to that share a commit: prepared side by side, stored at once, and then put in one after the other.
-ghost use Rattle.std.specs.Prelude.{◌≡◌, ◌⊎◌, ◌≤◌, ◌<◌, ◌+◌, ◌++◌, ℕ, List, IfErr, IfOk, OnErr, OnOk, IsTrue, [], false, true, length, map, take, vec_capacity};
+//! What requests come to that share a commit: prepared side by side, and stored at once.
+ghost use Rattle.std.specs.Prelude.{◌≡◌, ◌⊎◌, ◌≤◌, ◌<◌, ◌+◌, ◌++◌, ℕ, IfErr, IfOk, OnErr, OnOk, IsTrue, [], false, true, length, map, take, vec_capacity};
 ghost use Rattle.std.specs.List.{AllByRecursion};
-ghost use Rattle.mvd_wire.specs.declared.reply.Reply.{Reply};
 ghost use Rattle.mvd_records.specs.Pairs.{entries_of};
 ghost use Rattle.mvd_records.specs.Records.{HoldsRecords, IsSound, SavesStates};
 ghost use Rattle.mvd_wire.specs.Codecs.{spell_state};
-ghost use Rattle.mvd_replica.specs.Groups.{ComesTo, IsApart, IsElsewhere, IsSendable, MayAllBeIn, MayBeIn, MayJoin, PutsAll, PutsIfWhole, StandTogether, changes_in, is_change, pairs_in, reply_unstored};
+ghost use Rattle.mvd_site.specs.Installs.{changes_in, is_change};
+ghost use Rattle.mvd_replica.specs.Groups.{ComesTo, IsApart, IsElsewhere, IsSendable, MayJoin, StandTogether, pairs_in, reply_unstored};
 ghost use Rattle.sqlite.specs.Held.{state};
 ghost use Rattle.sqlite.specs.State.{HasCleanDisk};
 
@@ -186,40 +186,6 @@ pub fn store_all<S: Alter>(
         return Ok(());
     }
     records.save_all(&pairs)
-}
-
-/// Puts in what was prepared, if the site is not broken.
-fn put_one(site: &mut Site, prepared: Prepared) -> Reply
-    requires { site.old.broken ≡ false → MayBeIn site.old prepared }
-    ensures puts { PutsIfWhole site.old site.new prepared result }
-{
-    if site.is_broken() {
-        return Reply::Refused(Refusal::Broken);
-    }
-    match prepared {
-        Prepared::Answer(reply) => reply,
-        Prepared::Change(change) => {
-            let reply = change.reply();
-            match site.install(change) {
-                Ok(()) => reply,
-                Err(refusal) => Reply::Refused(refusal),
-            }
-        }
-    }
-}
-
-/// Puts in what was prepared, one after the other, until the site breaks.
-pub fn install_all(site: &mut Site, group: Vec<Prepared>, replies: &mut Vec<Reply>)
-    requires room { length replies.old.items + length group.items ≤ vec_capacity replies.old }
-    requires fresh { site.old.broken ≡ false → MayAllBeIn site.old group.items }
-    ensures puts { (told : List Reply) × (replies.new.items ≡ replies.old.items ++ told) ×
-        PutsAll site.old site.new group.items told }
-    ensures room { vec_capacity replies.new ≡ vec_capacity replies.old }
-{
-    for prepared in group {
-        let reply = put_one(site, prepared);
-        replies.push_reserved(reply);
-    }
 }
 
 /// The replies where the store refused the changes.

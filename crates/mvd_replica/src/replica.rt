@@ -42,7 +42,8 @@ pub struct Replica<S: Alter> {
 
 impl<S: Alter> Replica<S> {
     ghost use Rattle.mvd_records.specs.Foreign.{HoldsForeign};
-    ghost use Rattle.mvd_replica.specs.Kept.{HoldsSite, HoldsStates, PutsIn, Stores, broken_site};
+    ghost use Rattle.mvd_site.specs.Installs.{broken_site};
+    ghost use Rattle.mvd_replica.specs.Kept.{HoldsSite, HoldsStates, PutsIn, Stores};
     ghost use Rattle.mvd_replica.specs.Sides.{AnswersFromStored, ReplicaFollows};
     ghost use Rattle.mvd_replica.specs.Opened.{IsOpened, IsRefused};
     ghost use Rattle.mvd_replica.specs.Stops.{LeavesAnswered, LeavesChange};

@@ -17,3 +17,4 @@ pub use Rattle.mvd_kept.proofs.SideBySide
 pub use Rattle.mvd_kept.proofs.Spent
 pub use Rattle.mvd_kept.proofs.Steps
 pub use Rattle.mvd_kept.proofs.Texts
+pub use Rattle.mvd_kept.proofs.Installed

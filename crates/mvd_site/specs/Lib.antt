@@ -4,6 +4,7 @@ pub use Rattle.mvd_kept.specs.Config
 pub use Rattle.mvd_kept.specs.Costs
 pub use Rattle.mvd_kept.specs.FromStates
 pub use Rattle.mvd_kept.specs.Held
+pub use Rattle.mvd_kept.specs.Installs
 pub use Rattle.mvd_kept.specs.Known
 pub use Rattle.mvd_kept.specs.Prepared
 pub use Rattle.mvd_kept.specs.Sites

@@ -1,5 +1,5 @@
 //! One site. What each of its calls does is said and counted in `mvd_kept`; here nobody reads the counts.
-ghost use Rattle.std.specs.Prelude.{◌≡◌, ◌≢◌, ◌≤◌, List, true, false, Some, Err, Ok, length, IfOk, IfErr, OnOk, IsTrue};
+ghost use Rattle.std.specs.Prelude.{◌≡◌, ◌≢◌, ◌≤◌, ◌+◌, List, vec_capacity, true, false, Some, Err, Ok, length, IfOk, IfErr, OnOk, IsTrue};
 ghost use Rattle.std.specs.List.{AllByRecursion};
 ghost use Rattle.std.specs.Option.{option_copied};
 ghost use Rattle.std.specs.FinMap as map;
@@ -16,6 +16,7 @@ ghost use Rattle.mvd_wire.specs.Replies.{CanBeSent};
 ghost use Rattle.mvd_kept.specs.Answer.{digests, node_digests};
 ghost use Rattle.mvd_kept.specs.FromStates.{AnswersFrom, bucket_refusal, push_reply, unless_broken, with_state};
 ghost use Rattle.mvd_kept.specs.Held.{AreHeld, IsHeldState, state_at};
+ghost use Rattle.mvd_kept.specs.Installs.{InstallsAll, MayAllBeIn};
 ghost use Rattle.mvd_kept.specs.Known.{Adds, Event, IsValidRequest, Tells};
 ghost use Rattle.mvd_kept.specs.Prepared.{IsChangeNow, IsFrugal, IsReady, PreparesAt, PreparesFromStates};
 ghost use Rattle.mvd_kept.specs.Sites.{AnswersAll, AnswersOne, SiteValue, has_no_room, opened};
@@ -167,6 +168,17 @@ impl Site {
         ensures err { IfErr result (λ refusal. (refusal ≡ Broken) × (self.new ≡ record { config = self.old.config; states = self.old.states; broken = true })) }
     {
         counted::install(&mut self.kept, change, &mut begun())
+    }
+
+    /// Puts in what was prepared of requests side by side, one after the other, and adds the reply of each. The hash tree is made
+    /// anew once for all of them. Where memory is refused the site is broken from that change on.
+    pub fn install_all(&mut self, group: Vec<Prepared>, replies: &mut Vec<Reply>)
+        requires space { length replies.old.items + length group.items ≤ vec_capacity replies.old }
+        requires fresh { self.old.broken ≡ false → MayAllBeIn self.old group.items }
+        ensures puts { InstallsAll self.old self.new group.items replies.old.items replies.new.items }
+        ensures space { vec_capacity replies.new ≡ vec_capacity replies.old }
+    {
+        counted::install_all(&mut self.kept, group, replies, &mut begun())
     }
 
     /// Answers one request. A refusal other than `Broken` leaves the site as it was.

@@ -12,3 +12,5 @@ pub mod Opened
 pub mod Answers
 pub mod Midstates
 pub mod Held
+pub mod Renewing
+pub mod Wholly

@@ -1,16 +1,18 @@
 -- The SHA-256 computation of a node, or of a bucket, goes on from a midstate.
-use Rattle.std.proofs.Common.{◌≡◌, ◌≢◌, ℕ, zero, suc, ◌+◌, ◌-◌, ◌*◌, ◌/◌, ◌%◌, ◌<◌, ◌≤◌, List, [], ◌∷◌, ◌++◌, length, take, drop, get_or, set, refl, sym, ap, subst, subst₂, ◌∙◌, arith, add-one, Option}
+use Rattle.std.proofs.Common.{◌≡◌, ◌⊎◌, inl, inr, ℕ, zero, suc, ◌+◌, ◌-◌, ◌*◌, ◌/◌, ◌%◌, ◌<◌, ◌≤◌, List, [], ◌∷◌, ◌++◌, length, take, drop, get_or, set, refl, sym, ap, subst, subst₂, ◌∙◌, arith, add-one, Option, Some, None}
 use Rattle.std.specs.List.{insert, remove}
-use Rattle.std.proofs.lemmas.List.{append-nil, get_or-take, length-set, length-take, take-take}
+use Rattle.std.proofs.lemmas.List.{append-nil, get_or-set_other, get_or-set_same, get_or-take, length-set, length-take, take-take}
 use Rattle.std.proofs.lemmas.List.Edits.{length-insert}
-use Rattle.std.specs.Prelude.{slice_range, flat_map}
+use Rattle.std.specs.Prelude.{slice_range, flat_map, IfSome}
+use Rattle.std.proofs.lemmas.Bool.{cases_lt}
 use Rattle.std.proofs.Math.Seq.{take-add, take-suc}
 use Rattle.std.proofs.lemmas.List.{drop-drop, take-set-le, drop-set-lt, drop-set-add}
 use Rattle.std.proofs.lemmas.Grind.{flat_map-append}
 use Rattle.mvd_digest.specs.Counted.{Absorbed}
 use Rattle.mvd_tree.specs.Kept.{digest_or_zeros}
-use Rattle.mvd_tree.specs.Midstates.{AreMidstatesBut, AreRead, HasMidstates, HasRead, IsMidstate}
+use Rattle.mvd_tree.specs.Midstates.{AreForgotten, AreRead, HasMidstates, HasRead, IsMidstate}
 use Rattle.mvd_tree.proofs.Entries.{Entry}
+use Rattle.mvd_tree.proofs.Gathered.{same_or_not}
 use Rattle.mvd_digest.specs.declared.digest.CountedHasher.{CountedHasher}
 
 -- two parts of a list, one after the other
@@ -30,8 +32,18 @@ slice-set_after xs a b n x low high =
 slice-set_before : {X : Type 0} (xs : List X) (a b n : ℕ) (x : X) → n < a → slice_range (set xs n x) a b ≡ slice_range xs a b
 slice-set_before xs a b n x h = ap (take (b - a)) (drop-set-lt a xs n x h)
 
+-- where a number stands of two others
+three_parts : (n from to : ℕ) → (n < from) ⊎ (((from ≤ n) × (n < to)) ⊎ (to ≤ n))
+three_parts n from to = elim (cases_lt n from) [
+  | inl low ↦ inl low
+  | inr high ↦ elim (cases_lt n to) [
+    | inl low ↦ inr (inl (high, low))
+    | inr above ↦ inr (inr above)
+  ]
+]
+
 -- once a group has been read, the next one is at hand
-read_on : (nodes : List (Option (List ℕ))) (group to : ℕ) (midstate after : CountedHasher)
+pub read_on : (nodes : List (Option (List ℕ))) (group to : ℕ) (midstate after : CountedHasher)
     → IsMidstate nodes group midstate
     → ((m : List ℕ) → Absorbed midstate m → Absorbed after (m ++ flat_map digest_or_zeros (slice_range nodes (group * 4) to)))
     → group * 4 ≤ to
@@ -42,38 +54,36 @@ read_on nodes group to midstate after is reads on =
     ∙ ap (flat_map digest_or_zeros) (slices-join nodes (group / 4 * 16) (group * 4) to (omega arith) on))
     (reads _ is)
 
-pub next_midstate : (nodes : List (Option (List ℕ))) (group : ℕ) (midstate after : CountedHasher)
-    → group % 4 ≢ 0
-    → IsMidstate nodes (group - 1) midstate
-    → ((m : List ℕ) → Absorbed midstate m → Absorbed after (m ++ flat_map digest_or_zeros (slice_range nodes (group * 4 - 4) (group * 4))))
-    → IsMidstate nodes group after
-next_midstate nodes group midstate after within is reads =
-    let same : (group - 1) / 4 ≡ group / 4 = omega (arith, within) in
-    let start : group * 4 - 4 ≡ (group - 1) * 4 = omega arith in
-    subst (λ n. Absorbed after (flat_map digest_or_zeros (slice_range nodes (n * 16) (group * 4)))) same
-    (read_on nodes (group - 1) (group * 4) midstate after is
-    (λ m h. subst (λ n. Absorbed after (m ++ flat_map digest_or_zeros (slice_range nodes n (group * 4)))) start (reads m h)) (omega arith))
+-- before the first group of a node nothing has been read
+pub first_midstate : (nodes : List (Option (List ℕ))) (group : ℕ) (midstate : CountedHasher) → group % 4 ≡ 0 → Absorbed midstate [] → IsMidstate nodes group midstate
+first_midstate nodes group midstate first none =
+    let start : group / 4 * 16 ≡ group * 4 = omega (arith, first) in
+    let wide : group * 4 - group * 4 ≡ 0 = omega arith in
+    subst (Absorbed midstate) (sym (ap (λ n. flat_map digest_or_zeros (slice_range nodes n (group * 4))) start ∙ ap (λ n. flat_map digest_or_zeros (take n (drop (group * 4) nodes))) wide)) none
 
--- after the last group of a node all its children have been read
-pub last_read : (nodes : List (Option (List ℕ))) (number : ℕ) (midstate after : CountedHasher)
-    → IsMidstate nodes (number * 4 + 3) midstate
-    → ((m : List ℕ) → Absorbed midstate m → Absorbed after (m ++ flat_map digest_or_zeros (slice_range nodes (number * 16 + 12) (number * 16 + 16))))
-    → Absorbed after (flat_map digest_or_zeros (slice_range nodes (number * 16) (number * 16 + 16)))
-last_read nodes number midstate after is reads =
-    let first : (number * 4 + 3) / 4 * 16 ≡ number * 16 = omega arith in
-    let start : number * 16 + 12 ≡ (number * 4 + 3) * 4 = omega arith in
-    subst (λ n. Absorbed after (flat_map digest_or_zeros (slice_range nodes n (number * 16 + 16)))) first
-    (read_on nodes (number * 4 + 3) (number * 16 + 16) midstate after is
-    (λ m h. subst (λ n. Absorbed after (m ++ flat_map digest_or_zeros (slice_range nodes n (number * 16 + 16)))) start (reads m h)) (omega arith))
+-- a computation that is kept before one group more
+pub keeps_more : (nodes : List (Option (List ℕ))) (midstates : List (Option CountedHasher)) (group : ℕ) (midstate : CountedHasher)
+    → HasMidstates nodes midstates → group < length midstates → IsMidstate nodes group midstate → HasMidstates nodes (set midstates group (Some midstate))
+keeps_more nodes midstates group midstate has within is = record {
+  all = let same = length-set midstates group (Some midstate) in omega (arith, same, has.all);
+  whole = ap (λ n. n % 4) (length-set midstates group (Some midstate)) ∙ has.whole;
+  each = λ other. elim (same_or_not other group) [
+    | inl e ↦ subst (λ m. IfSome m (IsMidstate nodes other)) (sym (ap (λ n. get_or (set midstates group (Some midstate)) n None) e ∙ get_or-set_same midstates group (Some midstate) None within)) (subst (λ n. IsMidstate nodes n midstate) (sym e) is)
+    | inr e ↦ subst (λ m. IfSome m (IsMidstate nodes other)) (sym (get_or-set_other midstates group other (Some midstate) None e)) (has.each other)
+  ];
+}
 
--- once a node was set, the midstates stay but for those after its group of the same node above
-pub midstates-set : (nodes : List (Option (List ℕ))) (midstates : List CountedHasher) (number : ℕ) (kept : Option (List ℕ)) → HasMidstates nodes midstates
-    → AreMidstatesBut (set nodes number kept) midstates (number / 4 + 1) (number / 4 / 4 * 4 + 4)
-midstates-set nodes midstates number kept has = record {
-  below = λ group d low within.
-      subst (λ part. Absorbed (get_or midstates group d) (flat_map digest_or_zeros part)) (sym (slice-set_after nodes (group / 4 * 16) (group * 4) number kept (omega arith) (omega arith))) (has.each group d within);
-  above = λ group d high within.
-      subst (λ part. Absorbed (get_or midstates group d) (flat_map digest_or_zeros part)) (sym (slice-set_before nodes (group / 4 * 16) (group * 4) number kept (omega arith))) (has.each group d within);
+-- once a node was set, the midstates are forgotten after its group, up to the last one of the same node above
+pub forgotten-set : (nodes : List (Option (List ℕ))) (midstates after : List (Option CountedHasher)) (number : ℕ) (kept : Option (List ℕ)) → HasMidstates nodes midstates
+    → AreForgotten midstates after (number / 4 + 1) (number / 4 / 4 * 4 + 4) → HasMidstates (set nodes number kept) after
+forgotten-set nodes midstates after number kept has are = record {
+  all = let same = length-set nodes number kept in omega (arith, same, has.all, are.all);
+  whole = ap (λ n. n % 4) are.all ∙ has.whole;
+  each = λ group. elim (three_parts group (number / 4 + 1) (number / 4 / 4 * 4 + 4)) [
+    | inl low ↦ subst₂ (λ m part. IfSome m (λ (h : CountedHasher). Absorbed h (flat_map digest_or_zeros part))) (sym (are.below group low)) (sym (slice-set_after nodes (group / 4 * 16) (group * 4) number kept (omega arith) (omega (arith, low)))) (has.each group)
+    | inr (inl mid) ↦ subst (λ m. IfSome m (IsMidstate (set nodes number kept) group)) (sym (are.gone group mid.0 mid.1)) tt
+    | inr (inr high) ↦ subst₂ (λ m part. IfSome m (λ (h : CountedHasher). Absorbed h (flat_map digest_or_zeros part))) (sym (are.above group high)) (sym (slice-set_before nodes (group / 4 * 16) (group * 4) number kept (omega (arith, high)))) (has.each group)
+  ];
 }
 
 -- ---- of a bucket

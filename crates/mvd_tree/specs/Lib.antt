@@ -8,3 +8,5 @@ pub mod Layout
 pub mod Midstates
 pub mod Split
 pub mod Counted
+pub mod Touched
+pub mod Renewed

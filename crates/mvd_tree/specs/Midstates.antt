@@ -1,6 +1,6 @@
 -- States of SHA-256 computations (FIPS 180-4) that are kept, so that a computation goes on from there: a node's digest is one
 -- over its sixteen children's digests, and a bucket's is one over the digests of its keys.
-use Rattle.std.specs.Prelude.{◌≡◌, ℕ, ◌+◌, ◌*◌, ◌/◌, ◌%◌, ◌<◌, ◌≤◌, List, T, length, flat_map, take, slice_index_or, slice_range, Option}
+use Rattle.std.specs.Prelude.{◌≡◌, ℕ, ◌+◌, ◌*◌, ◌/◌, ◌%◌, ◌<◌, ◌≤◌, List, T, length, flat_map, take, slice_index_or, slice_range, Option, None, IfSome}
 use Rattle.std.specs.FinMap.{is_sorted}
 use Rattle.mvd_keys.specs.Key.{key_cmp}
 use Rattle.mvd_digest.specs.Counted.{Absorbed}
@@ -11,16 +11,19 @@ use Rattle.mvd_digest.specs.declared.digest.CountedHasher.{CountedHasher}
 abbrev pub IsMidstate : List (Option (List ℕ)) → ℕ → CountedHasher → Type 0
 IsMidstate nodes group midstate = Absorbed midstate (flat_map digest_or_zeros (slice_range nodes (group / 4 * 16) (group * 4)))
 
--- these are the midstates before the groups of nodes, but for those from one to before another
-pub record AreMidstatesBut (nodes : List (Option (List ℕ))) (midstates : List CountedHasher) (from to : ℕ) : Type 0 where
-  pub below : (group : ℕ) (d : CountedHasher) → group < from → group < length midstates → IsMidstate nodes group (slice_index_or midstates group d)
-  pub above : (group : ℕ) (d : CountedHasher) → to ≤ group → group < length midstates → IsMidstate nodes group (slice_index_or midstates group d)
+-- of the midstates of groups, those from one to before another are forgotten, and the others are as they were
+pub record AreForgotten (old new : List (Option CountedHasher)) (from to : ℕ) : Type 0 where
+  pub all : length new ≡ length old
+  pub below : (group : ℕ) → group < from → slice_index_or new group None ≡ slice_index_or old group None
+  pub gone : (group : ℕ) → from ≤ group → group < to → slice_index_or new group None ≡ None
+  pub above : (group : ℕ) → to ≤ group → slice_index_or new group None ≡ slice_index_or old group None
 
--- these are the midstates before all groups of nodes, of which each node above has four
-pub record HasMidstates (nodes : List (Option (List ℕ))) (midstates : List CountedHasher) : Type 0 where
+-- There is room for the midstate before each group of nodes, of which each node above has four; and each that is kept is that
+-- of its group
+pub record HasMidstates (nodes : List (Option (List ℕ))) (midstates : List (Option CountedHasher)) : Type 0 where
   pub all : length nodes ≡ length midstates * 4
   pub whole : length midstates % 4 ≡ 0
-  pub each : (group : ℕ) (d : CountedHasher) → group < length midstates → IsMidstate nodes group (slice_index_or midstates group d)
+  pub each : (group : ℕ) → IfSome (slice_index_or midstates group None) (IsMidstate nodes group)
 
 -- the computation has read the digests of so many keys of a bucket
 abbrev pub HasRead : List (List ℕ × List ℕ) → ℕ → CountedHasher → Type 0

@@ -1,6 +1,9 @@
 //! What holds of the digests of nodes, each law as the contract of an empty function.
-ghost use Rattle.std.specs.Prelude.{ℕ, List};
+ghost use Rattle.std.specs.Prelude.{◌≡◌, ℕ, ◌+◌, List, [], ◌∷◌, Option};
+ghost use Rattle.mvd_tree.specs.Counted.{keys_beside};
+ghost use Rattle.mvd_tree.specs.HashTree.{KeyDigests};
 ghost use Rattle.mvd_tree.specs.Hashed.{ChangeLeavesOtherNodes, EqualNodesHoldEqualKeys, EqualNodesHoldEqualStates, EqualRootsAreOfEqualMaps, NodesDependOnKeysUnder};
+ghost use Rattle.mvd_tree.specs.Touched.{count_touched, inner_touched, keys_touched};
 
 /// A node's digest depends on the keys under it alone.
 pub fn nodes_depend_on_keys_under()
@@ -27,4 +30,12 @@ pub fn equal_nodes_hold_equal_states<S>()
 /// And two maps whose roots have one digest are one map.
 pub fn equal_roots_are_of_equal_maps<S>()
     ensures { (spelled : List ℕ → S → List ℕ) → EqualRootsAreOfEqualMaps spelled }
+{}
+
+/// Of one key, what `Tree::change_all` may cost is what `Tree::change` may.
+pub fn one_change_is_counted_alike()
+    ensures keys { (held : KeyDigests) (key : List ℕ) (digest : Option (List ℕ)) →
+        keys_touched held ((key, digest) ∷ []) ≡ keys_beside held key }
+    ensures nodes { (key : List ℕ) (digest : Option (List ℕ)) →
+        count_touched 0 ((key, digest) ∷ []) + inner_touched ((key, digest) ∷ []) ≡ 4 }
 {}

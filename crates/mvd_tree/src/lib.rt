@@ -6,6 +6,7 @@ mod buckets;
 mod digest;
 pub mod laws;
 mod level;
+mod many;
 mod nodes;
 mod tree;
 

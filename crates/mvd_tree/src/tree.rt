@@ -9,11 +9,13 @@ ghost use Rattle.mvd_digest.specs.Counted.{Hashes};
 ghost use Rattle.mvd_tree.specs.Counted.{key_bytes, keys_beside};
 ghost use Rattle.mvd_tree.specs.Page.{children_digests, rest_of, page_of, is_more_after_page};
 ghost use Rattle.mvd_tree.specs.Layout.{IsPath};
+ghost use Rattle.mvd_tree.specs.Touched.{ChangesAll};
 
 use crate::bucket::{Bucket, copies};
 use crate::buckets::{bucket_number, change_bucket, filled};
 use crate::digest::or_zeros;
 use crate::level::Level;
+use crate::many::{Touched, change_buckets, renew_buckets, renew_nodes};
 use crate::nodes::{all_or_zeros, bucket_nodes};
 use mvd_digest::Hashed;
 use mvd_dots::Refusal;
@@ -101,9 +103,9 @@ impl Tree {
         ensures counts { Hashes (length entries.items + 4369) (key_bytes entries.items + 32 * length entries.items + 174720) hashed.old hashed.new }
     {
         let mut buckets = filled(alloc, entries, hashed)?;
-        let lowest = Level::new(alloc, bucket_nodes(alloc, &mut buckets, hashed)?, hashed)?;
-        let middle = Level::new(alloc, lowest.all_over(alloc, 256, hashed)?, hashed)?;
-        let upper = Level::new(alloc, middle.all_over(alloc, 16, hashed)?, hashed)?;
+        let mut lowest = Level::new(alloc, bucket_nodes(alloc, &mut buckets, hashed)?)?;
+        let mut middle = Level::new(alloc, lowest.all_over(alloc, 256, hashed)?)?;
+        let mut upper = Level::new(alloc, middle.all_over(alloc, 16, hashed)?)?;
         let root = upper.over(0, hashed);
         Ok(Tree {
             alloc,
@@ -141,6 +143,34 @@ impl Tree {
         let over = self.middle.set(middle, over, hashed);
         self.root = self.upper.set(upper, over, hashed);
         Ok(())
+    }
+
+    /// Changes many keys at once, each as `change` does, the later ones after the earlier ones. It computes the place of
+    /// each key, each bucket that they touch and each node above once. Where memory is refused, which is `Broken`, some of
+    /// the first are changed.
+    pub fn change_all(
+        &mut self,
+        changes: &[(Key, Option<[u8; 32]>)],
+        hashed: &mut Hashed,
+    ) -> Result<(), Refusal>
+        ensures { ChangesAll changes.now self.old self.new result hashed.old hashed.new }
+    {
+        if changes.is_empty() {
+            return Ok(());
+        }
+        let touched = match Touched::by(self.alloc, changes, hashed) {
+            Ok(touched) => touched,
+            Err(_) => return Err(Refusal::Broken),
+        };
+        let done = change_buckets(&mut self.buckets, self.alloc, &touched.of_keys, changes);
+        renew_buckets(&mut self.buckets, &mut self.lowest, &touched.lowest, hashed);
+        renew_nodes(&mut self.lowest, &mut self.middle, &touched.middle, hashed);
+        renew_nodes(&mut self.middle, &mut self.upper, &touched.upper, hashed);
+        self.root = self.upper.over(0, hashed);
+        match done {
+            Ok(()) => Ok(()),
+            Err(_) => Err(Refusal::Broken),
+        }
     }
 
     /// What is kept of a node.

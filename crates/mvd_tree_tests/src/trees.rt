@@ -106,11 +106,13 @@ fn digest_of_abc() -> [u8; 32] {
 fn takes_abc(alloc: Global, tree: &mut Tree) -> Result<bool, Refusal> {
     let abc = Key::read(alloc, "abc")?;
     let bare = is_bare(alloc, tree)?;
-    // The key, its digest, and of the three nodes above four digests of each group from that of the place `ba7` on.
-    let came = changes_by(tree, &abc, Some(digest_of_abc()), 3 + 32 + 384 + 256 + 256)?;
+    // The key, its digest, and the sixteen digests of each of the three nodes above.
+    let came = changes_by(tree, &abc, Some(digest_of_abc()), 3 + 32 + 3 * 512)?;
+    // And of these four digests of each group from that of the place `ba7` on.
+    let again = changes_by(tree, &abc, Some(digest_of_abc()), 3 + 32 + 384 + 256 + 256)?;
     let held = is_of_abc(alloc, tree)?;
     tree.change(&abc, None, &mut nothing())?;
-    Ok(bare && came && held && is_bare(alloc, tree)?)
+    Ok(bare && came && again && held && is_bare(alloc, tree)?)
 }
 
 /// Gives the key of a number its digest, or lets it be held no more.
@@ -133,6 +135,37 @@ fn takes_many(alloc: Global, tree: &mut Tree) -> Result<bool, Refusal> {
     let held = node_is(alloc, tree, &[], &MANY)?;
     change_many(alloc, tree, false)?;
     Ok(held && is_bare(alloc, tree)?)
+}
+
+/// Three thousand keys with the digests that they are to have, or none.
+fn all_changes(
+    alloc: Global,
+    is_held: bool,
+) -> Result<Vec<(Key, Option<[u8; 32]>)>, Refusal> {
+    let mut changes = Vec::new(alloc);
+    for number in 0..3000u64 {
+        let digest = if is_held { Some(digest(number)) } else { None };
+        changes.push((key(alloc, number)?, digest))?;
+    }
+    Ok(changes)
+}
+
+/// Changes them at once: how many computations that took.
+fn change_together(alloc: Global, tree: &mut Tree, is_held: bool) -> Result<u64, Refusal> {
+    let changes = all_changes(alloc, is_held)?;
+    let mut hashed = nothing();
+    tree.change_all(&changes, &mut hashed)?;
+    Ok(hashed.computations.made(&Start::new()))
+}
+
+/// Whether three thousand keys come to the tree of no key at once, and go at once.
+fn takes_together(alloc: Global, tree: &mut Tree) -> Result<bool, Refusal> {
+    // By Python's hashlib they have 2,150 places under 256 nodes of two digits and 16 of one.
+    let came = change_together(alloc, tree, true)? == 3000 + 2150 + 256 + 16 + 1;
+    let held = node_is(alloc, tree, &[], &MANY)?;
+    // A node under which no key is held takes no computation.
+    let went = change_together(alloc, tree, false)? == 3000;
+    Ok(came && held && went && is_bare(alloc, tree)?)
 }
 
 /// The keys of a page, and whether more follow, as a text.
@@ -186,6 +219,7 @@ fn knows_its_buckets(alloc: Global, tree: &Tree) -> Result<bool, Refusal> {
 enum Trial {
     Abc,
     Many,
+    Together,
     Four,
     Buckets,
 }
@@ -195,6 +229,7 @@ fn holds_of(alloc: Global, tree: &mut Tree, trial: Trial) -> Result<bool, Refusa
     match trial {
         Trial::Abc => takes_abc(alloc, tree),
         Trial::Many => takes_many(alloc, tree),
+        Trial::Together => takes_together(alloc, tree),
         Trial::Four => takes_four(alloc, tree),
         Trial::Buckets => knows_its_buckets(alloc, tree),
     }
@@ -216,6 +251,12 @@ fn one_key_makes_its_bucket_and_the_root(rt: HostRuntime) -> Result<(), Fail> {
 #[test]
 fn many_keys_come_and_go(rt: HostRuntime) -> Result<(), Fail> {
     assert!(rt; holds(rt.alloc(), Trial::Many)?);
+    Ok(())
+}
+
+#[test]
+fn many_keys_come_and_go_at_once(rt: HostRuntime) -> Result<(), Fail> {
+    assert!(rt; holds(rt.alloc(), Trial::Together)?);
     Ok(())
 }
 

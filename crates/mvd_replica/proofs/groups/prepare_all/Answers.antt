@@ -1,6 +1,7 @@
 use Rattle.std.proofs.Common.{◌∙◌, ◌+◌, ◌++◌, ◌∷◌, [], ap, ap₂, sym, subst, subst₂, take, arith, length, length-append}
 use Rattle.std.proofs.lemmas.List.{take_more}
-use Rattle.mvd_replica.specs.Groups.{MayJoin, StandTogether, changes_in}
+use Rattle.mvd_site.specs.Installs.{changes_in}
+use Rattle.mvd_replica.specs.Groups.{MayJoin, StandTogether}
 use Rattle.mvd_replica.proofs.Grouped.{together_joined}
 use Rattle.mvd_replica.proofs.Grouping.{changes_more, together_none}
 use Rattle.mvd_replica.proofs.groups.prepare_all.Goals as goal

@@ -1,5 +1,6 @@
 use Rattle.std.proofs.Common.{◌≡◌, ◌≤◌, false, length, take}
-use Rattle.mvd_replica.specs.Groups.{StandTogether, changes_in}
+use Rattle.mvd_site.specs.Installs.{changes_in}
+use Rattle.mvd_replica.specs.Groups.{StandTogether}
 use Rattle.mvd_replica.proofs.groups.prepare_all.Given as goal
 
 -- what the requests so far came to

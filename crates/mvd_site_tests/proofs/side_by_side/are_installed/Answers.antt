@@ -1,25 +1,11 @@
 use Rattle.std.proofs.Common.{◌≡◌, ◌≢◌, ◌+◌, ◌<◌, true, false, Result, Ok, Err, arith, refl, sym, ap, ◌∙◌, subst, true≢false}
-use Rattle.mvd_dots.specs.declared.refusals.Refusal.{Refusal}
-use Rattle.mvd_dots.specs.declared.refusals.Refusal.TheVariants.{Broken}
-use Rattle.mvd_wire.specs.declared.request.Request.{Request}
 use Rattle.std.specs.FinMap.{len as map_len}
-use Rattle.mvd_site.specs.Change.{ChangeValue}
 use Rattle.mvd_site.specs.Config.{ConfigValue}
-use Rattle.mvd_site.specs.Prepared.{IsChangeNow, PreparesFrom, PreparesFromStates}
+use Rattle.mvd_site.specs.Prepared.{IsChangeNow}
 use Rattle.mvd_site.specs.Sites.{SiteValue, has_no_room}
-use Rattle.mvd_kept.specs.declared.changes.Prepared.{Prepared}
-use Rattle.mvd_kept.specs.declared.changes.Prepared.TheVariants.{Change}
 use Rattle.mvd_site.proofs.SideBySide.{room_for_both, still_now}
+use Rattle.mvd_site_tests.proofs.Now.{is_now}
 use Rattle.mvd_site_tests.proofs.side_by_side.are_installed.Goals as goal
-
--- a change that a site prepared is one now
-is_now : (site : SiteValue) (request : Request) (prepared : Prepared) (change : ChangeValue) → PreparesFromStates site request (Ok prepared) →
-    (site.broken ≡ true → ◌≡◌ {A = Result Prepared Refusal} (Ok prepared) (Err Broken)) → prepared ≡ Change change → IsChangeNow site change
-is_now site request prepared change states broken is =
-    elim site.broken as (λ b. site.broken ≡ b → IsChangeNow site change) [
-      | true ↦ λ so. let never : ◌≡◌ {A = Result Prepared Refusal} (Ok prepared) (Err Broken) = broken so in cc
-      | false ↦ λ whole. (request, subst (λ p. PreparesFrom site.config site.states request (Ok p)) is (states whole))
-    ] refl
 
 pub install-requires-clause-fresh : goal.install-requires-clause-fresh
 install-requires-clause-fresh c = is_now c.args.site.now c.args.first.now c.in_ok-first.field-0 c.in-Change.first c.in_ok-first.ensures.states c.in_ok-first.ensures.broken c.in-Change.is

@@ -1,6 +1,4 @@
-use Rattle.std.proofs.Common.{rules, ◌≡◌, ◌+◌, take, sym, subst, arith}
-use Rattle.std.specs.Prelude.{flat_map}
-use Rattle.mvd_digest.specs.Counted.{Absorbed}
+use Rattle.std.proofs.Common.{rules, ◌+◌, arith}
 use Rattle.mvd_tree.specs.Midstates.{HasRead}
 use Rattle.mvd_tree.proofs.Midstates.{one_more_read}
 use Rattle.mvd_tree.proofs.bucket.read_all.Goals as goal

@@ -1,6 +1,5 @@
-use Rattle.std.proofs.Common.{rules, ◌≡◌, ◌∷◌, [], ◌<◌, ◌+◌, ◌*◌, ◌++◌, get_or, length, map, set, sym, ap, subst₂, ◌∙◌, arith, take}
+use Rattle.std.proofs.Common.{rules, ◌≡◌, ◌∷◌, [], ◌<◌, ◌++◌, get_or, length, set, sym, ap, subst₂, ◌∙◌, arith}
 use Rattle.std.specs.FinMap.{entries, len}
-use Rattle.mvd_tree.specs.Counted.{all_keys}
 use Rattle.mvd_tree.specs.Kept.{kept_bucket}
 use Rattle.mvd_tree.specs.HashTree.{KeyDigests}
 use Rattle.mvd_tree.proofs.Counts.{hashes_then, keys_next, keys_taken, map_next, set_own}

@@ -27,7 +27,7 @@ returns-in-Ok-clause-answers g c =
       within = c.prepare_all-group.ensures.count;
       replies = it.0;
       appended = it.1;
-      answers = answers_put (take (length group) c.args.requests.now) group it.0 old c.install_all.new.site before after whole together.ordered together.sendable it.2 c.key_count-held.ensures.held.spelled
+      answers = answers_put (take (length group) c.args.requests.now) group it.0 old c.install_all.new.self before after whole together.ordered together.sendable it.2 c.key_count-held.ensures.held.spelled
           c.in-Ok.ensures.before c.in-Ok.ensures.clean
           (λ disk. subst (λ l. IsTrue after.is_open ⊎ (pairs_in l ≡ [])) c.deref.ensures.value (c.in-Ok.ensures.open disk))
           (λ site sound holds. subst (λ l. HoldsRecords 2 site after.committed × SavesStates before.committed after.committed (pairs_in l)) c.deref.ensures.value (c.in-Ok.ensures.stored site sound holds));

@@ -1,10 +1,9 @@
-use Rattle.std.proofs.Common.{rules, ◌≡◌, ◌*◌, List, ℕ, cond, length, ap, sym, subst, ◌∙◌, arith, Some, None}
+use Rattle.std.proofs.Common.{rules, ◌≡◌, List, length, ap, sym, subst, ◌∙◌, arith, Some, None}
 use Rattle.std.specs.Prelude.{flat_map}
-use Rattle.std.specs.FinMap.{entries, len, len-entries}
+use Rattle.std.specs.FinMap.{len, len-entries}
 use Rattle.mvd_digest.specs.Sha256.{sha256}
 use Rattle.mvd_digest.specs.Counted.{Absorbed}
 use Rattle.std.proofs.Math.Seq.{take-length}
-use Rattle.mvd_digest.specs.Counted.{Hashes}
 use Rattle.mvd_tree.specs.Kept.{kept_bucket}
 use Rattle.mvd_tree.proofs.Counts.{hashes_then}
 use Rattle.mvd_tree.proofs.Entries.{Entry, entries_of}

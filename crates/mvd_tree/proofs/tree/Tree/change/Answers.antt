@@ -1,4 +1,4 @@
-use Rattle.std.proofs.Common.{◌≡◌, ◌<◌, ◌+◌, ◌*◌, rules, ap, set, sym, subst, ◌∙◌, arith, length}
+use Rattle.std.proofs.Common.{◌≡◌, ◌+◌, ◌*◌, rules, ap, set, sym, subst, ◌∙◌, arith, length}
 use Rattle.std.specs.FinMap.{len, len-entries}
 use Rattle.mvd_tree.specs.Change.{changed}
 use Rattle.mvd_digest.specs.Counted.{Hashes}

@@ -1,0 +1,13 @@
+use Rattle.std.proofs.Common.{◌∙◌}
+use Rattle.mvd_kept.proofs.InstallSpent.{tree_stays, tree_takes}
+use Rattle.mvd_kept.proofs.installing.change_tree.Goals as goal
+
+pub returns-clause-still : goal.returns-clause-still
+returns-clause-still c none =
+    tree_stays c.args.group.now c.deref.result.now c.args.tree.now c.change_all.new.self c.digests_of.new.hashed c.change_all.new.hashed c.change_all.result
+    (c.deref.ensures.value ∙ c.in_ok-changes.ensures.digests) c.change_all.ensures none
+
+pub returns-clause-counts : goal.returns-clause-counts
+returns-clause-counts c =
+    tree_takes c.args.group.now c.args.tree.now c.change_all.new.self c.args.hashed.now c.digests_of.new.hashed c.change_all.new.hashed c.in_ok-changes.ensures.counts
+    c.deref.result.now c.change_all.result (c.deref.ensures.value ∙ c.in_ok-changes.ensures.digests) c.change_all.ensures

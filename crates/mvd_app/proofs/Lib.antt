@@ -5,3 +5,4 @@ pub mod Running
 pub mod Clients
 pub mod Watching
 pub mod Reporting
+pub mod Syncing

@@ -8,11 +8,10 @@ ghost use Rattle.mvd_wire.specs.declared.request.Request.{Request};
 
 use mvd_dots::Refusal;
 use mvd_replica::Replica;
-use mvd_sync::Remote;
+use mvd_sync::{Line, Remote};
 use mvd_wire::{Reply, Request};
 use mvd_world::{Outcome, Step, World};
 use sqlite::Alter;
-use std::io::{Read, Write};
 
 /// Something that answers requests: a site of a world, a stored one, or one at the other end of a connection. What its replies mean
 /// is its own promise, and nothing here rests on it.
@@ -74,7 +73,7 @@ impl<S: Alter> Endpoint for Replica<S> {
     }
 }
 
-impl<R: Read + Drop, W: Write + Drop> Endpoint for Remote<R, W> {
+impl<L: Line> Endpoint for Remote<L> {
     ghost answers = { λ _ _ _ _. Unit {0} };
 
     fn ask(&mut self, request: Request) -> Reply {

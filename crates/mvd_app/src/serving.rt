@@ -1,6 +1,9 @@
 //! The commands on a stored site that meet a peer.
 ghost use Rattle.std.specs.Prelude.{◌≢◌, [], IfErr, IsErr};
+ghost use Rattle.mvd_app.specs.Synced.{MeetsFar};
 ghost use Rattle.mvd_input.specs.Ends.{EndsEarly};
+ghost use Rattle.mvd_replica.specs.Sides.{IsTrueSite};
+ghost use Rattle.mvd_sync.specs.Lines.{IsTrueRemote};
 
 use crate::hint::{Older, Stop};
 use crate::link::Link;
@@ -10,7 +13,7 @@ use mvd_input::{Fault, write_out};
 use mvd_keys::Path;
 use mvd_replica::{Replica, is_foreign};
 use mvd_site::Config;
-use mvd_sync::{Left, Remote, Report, Side, SyncFault, sync};
+use mvd_sync::{Left, Line, Remote, Report, Side, SyncFault, sync};
 use sqlite::{Alter, Connection};
 use std::alloc::Global;
 use std::fmt::Write as Print;
@@ -89,15 +92,32 @@ fn sync_stream<T: Read + Write + Drop, S: Alter + Drop, E: Write>(
 ) -> Result<Report, SyncFault> {
     let link = Link::new(alloc, stream).map_err(SyncFault::Local)?;
     let incoming = link.incoming(alloc).map_err(SyncFault::Local)?;
-    let side = Remote::new(alloc, incoming, link.outgoing());
     let mut watched = Watched {
-        side,
+        side: Remote::new(alloc, incoming, link.outgoing()),
         moved: 0,
         told,
     };
-    let report = sync(alloc, replica, &mut watched)?;
-    watched.side.bye().map_err(SyncFault::Peer)?;
-    Ok(report)
+    sync_over(alloc, replica, &mut watched)
+}
+
+/// Runs a session over a line, and says Bye. Where the line is true, what is at its other end is a true side: both sides' states
+/// are joined, and where no fault is told all that differed, but for the keys that the report names.
+pub fn sync_over<L: Line, S: Alter + Drop, E: Write>(
+    alloc: Global,
+    replica: &mut Replica<S>,
+    watched: &mut Watched<'_, Remote<L>, E>,
+) -> Result<Report, SyncFault>
+    ensures meets { IsTrueSite replica.old.site → IsTrueRemote L.is_true L.far watched.old.side →
+        MeetsFar L.is_true L.far replica.old.site replica.new.site watched.old.side watched.new.side result }
+{
+    let report = match sync(alloc, replica, watched) {
+        Ok(report) => report,
+        Err(fault) => return Err(fault),
+    };
+    match watched.side.bye() {
+        Ok(()) => Ok(report),
+        Err(refusal) => Err(SyncFault::Peer(refusal)),
+    }
 }
 
 /// Tells how many keys a session exchanged, how many were refused, and the root digest; and on `errors` which keys were refused,

@@ -98,7 +98,7 @@ impl<S: Alter> Peer for Replica<S> {
             HoldsStates self.old.site.config.site (after_from self.old.site.config self.old.site.states (Push key.now state.now)) (store S.Store self.new.records.conn).committed }
         ensures ok { IsTrueSite self.old.site → OnOk result (IsTrueSite self.new.site × (self.new.site.states ≡ pushed self.old.site.states key.now state.now)) }
         ensures apart { IsTrueSite self.old.site → OnOk result (clashes (state_at self.old.site.states key.now) state.now ≡ false) }
-        ensures refused { IsTrueSite self.old.site → IsTrueSite self.new.site → IfErr result (λ _. self.new.site.states ≡ self.old.site.states) }
+        ensures refused { IsTrueSite self.old.site → IfErr result (λ _. self.new.site.states ≡ self.old.site.states) }
         ensures unbroken { IsTrueSite self.old.site → IfErr result (λ refusal. refusal ≢ Broken → IsTrueSite self.new.site) }
         ensures cause { IsTrueSite self.old.site → IfErr result (CannotTake self.old.site.config.max_keys self.old.site.states key.now state.now) }
         ensures follows { SideFollows self.old.site self.new.site (store S.Store self.old.records.conn) (store S.Store self.new.records.conn) }

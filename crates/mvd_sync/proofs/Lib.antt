@@ -42,3 +42,5 @@ pub mod Exchanging
 pub mod Telling
 pub mod Sessions
 pub mod RemoteSides
+pub mod Lined
+pub mod FarSides

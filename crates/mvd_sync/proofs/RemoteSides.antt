@@ -1,16 +1,17 @@
 -- A site at the other end of a connection, as a side.
-use Rattle.std.proofs.Common.{◌≡◌, ◌⊎◌, inl, inr, ℕ, suc, ◌+◌, List, [], ◌∷◌, length, map, refl, sym, ap, ◌∙◌, arith, length-append}
+use Rattle.std.proofs.Common.{◌≡◌, ◌⊎◌, inl, inr, false, ℕ, suc, ◌+◌, List, [], ◌∷◌, length, map, refl, sym, ap, ◌∙◌, arith, length-append}
 use Rattle.std.proofs.lemmas.List.{length-map}
-use Rattle.std.specs.Prelude.{Option, Some, None, Result, Ok, Err, IfOk, IfErr, MatchResult}
+use Rattle.std.specs.Prelude.{Option, Some, None, Result, Ok, Err, IfOk, IfErr, OnOk, MatchResult}
 use Rattle.mvd_dots.specs.declared.refusals.Refusal.{Refusal}
 use Rattle.mvd_dots.specs.declared.refusals.Refusal.TheVariants.{Memory}
 use Rattle.mvd_wire.specs.declared.request.Request.{Request}
 use Rattle.mvd_wire.specs.declared.reply.Reply.{Reply}
 use Rattle.mvd_wire.specs.Requests.{request_frame}
 use Rattle.mvd_sync.specs.LinkWindows.{Answers, AsksAll, Frames, RefusesAll, TakeTurns, and_frame, frames_after, frames_of, of_answer, of_none, of_read, of_write}
-use Rattle.mvd_sync.specs.Links.{Link}
+use Rattle.mvd_sync.specs.Links.{AsksFor, Link}
 use Rattle.mvd_sync.specs.Questions.{ForEach}
-use Rattle.mvd_sync.specs.Sides.{HasAnswered, HasRefused, Stays}
+use Rattle.mvd_sync.specs.Sides.{HasAnswered, HasRefused, is_of_key}
+use Rattle.mvd_sync.proofs.Lined.{goes_on}
 use Rattle.mvd_sync.specs.Windows.{Asked, EachAnswer, EachTold, Ends}
 
 -- ---- as many answers as requests
@@ -57,27 +58,20 @@ err_of P (Err e) h f = f e h
 
 -- ---- a side whose link may refuse
 
-module _ {S : Type 0} (refused : S → Option Refusal) where
-  abbrev Over : S → Type 0
-  Over s = (refusal : Refusal) × (refused s ≡ Some refusal)
-
+module _ {S : Type 0} (refused : S → Option Refusal) (Follows : S → S → Type 0) (self : (s : S) → Follows s s) where
   abbrev Refuses : S → Refusal → Type 0
   Refuses s refusal = (own : Refusal) → refused s ≡ Some own → refusal ≡ own
 
   abbrev Goes : S → Type 0
   Goes s = refused s ≡ None
 
-  module _ {V A Q : Type 0} (as_reply : A → Reply) (items : V → List (Result A Refusal)) (kind : ℕ) (request : Q → Request) (qs : List Q) (old new : S) (result : Result V Refusal) (l l' : Link) (was : l.refused ≡ refused old) (is : l'.refused ≡ refused new)
-      (stays : (refusal : Refusal) → refused old ≡ Some refusal → (result ≡ Err refusal) × (new ≡ old))
+  module _ {V A Q : Type 0} (as_reply : A → Reply) (items : V → List (Result A Refusal)) (kind : ℕ) (request : Q → Request) (qs : List Q) (old new : S) (result : Result V Refusal) (l l' : Link) (was : l.refused ≡ refused old) (is : l'.refused ≡ refused new) (still : Follows old new)
       (asked : MatchResult result (λ v. AsksAll as_reply kind (frames_of (map request qs)) (items v) l l') (RefusesAll kind (frames_of (map request qs)) l l')) where
-    still : Stays Over old new
-    still over = (stays over.0 over.1).1
+    refused_now : (refusal : Refusal) → Refuses new refusal → HasRefused (λ _. Follows) Refuses old new refusal
+    refused_now refusal now = (new, (0, still), now, (0, self new))
 
-    refused_now : (refusal : Refusal) → Refuses new refusal → HasRefused (λ _. Stays Over) Refuses old new refusal
-    refused_now refusal now = (new, (0, still), now, (0, λ _. refl))
-
-    answered_so : (May Right : Q → A → Type 0) → ((q : Q) (a : A) → May q a) → (ts : List (Result A Refusal)) → AsksAll as_reply kind (frames_of (map request qs)) ts l l' → Asked (λ _. Stays Over) Refuses Goes May Right ⊥ qs ts old new
-    answered_so May Right free ts a =
+    answered_so : (May Right : Q → A → Type 0) (Was : Type 0) → ((q : Q) (a : A) → May q a) → (ts : List (Result A Refusal)) → (Was → EachAnswer Right qs ts) → (Was → EachTold (Unit {0}) (λ refusal. is_of_key refusal ≡ false) ts) → AsksAll as_reply kind (frames_of (map request qs)) ts l l' → Asked (λ _. Follows) Refuses Goes May Right Was qs ts old new
+    answered_so May Right Was free ts right of_key a =
         let goes : refused new ≡ None = sym is ∙ a.answered.goes_on in
         let m = many_after ([], []) (map request qs) in
         let n = many_turns kind (frames_of (map request qs)).1 a.replies l.input l'.input a.answered.read in
@@ -86,20 +80,45 @@ module _ {S : Type 0} (refused : S → Option Refusal) where
         record {
           count = still;
           may = each_free May qs ts free (omega arith);
-          right = λ never. absurd never;
-          told = told_free (HasAnswered (λ _. Stays Over) Goes old new) (HasRefused (λ _. Stays Over) Refuses old new) ts (new, (0, still), goes, (0, λ _. refl)) (λ refusal. refused_now refusal (λ own e. absurd (cc)));
-          not_of_key = λ never. absurd never;
+          right = right;
+          told = told_free (HasAnswered (λ _. Follows) Goes old new) (HasRefused (λ _. Follows) Refuses old new) ts (new, (0, still), goes, (0, self new)) (λ refusal. refused_now refusal (λ own e. absurd (cc)));
+          not_of_key = of_key;
         }
 
-    ended_so : (refusal : Refusal) → RefusesAll kind (frames_of (map request qs)) l l' refusal → HasRefused (λ _. Stays Over) Refuses old new refusal ⊎ (refusal ≡ Memory)
+    ended_so : (refusal : Refusal) → RefusesAll kind (frames_of (map request qs)) l l' refusal → HasRefused (λ _. Follows) Refuses old new refusal ⊎ (refusal ≡ Memory)
     ended_so refusal (of_none same (inl own)) = inl (refused_now refusal (λ other e. cc))
     ended_so refusal (of_none same (inr memory)) = inr memory
     ended_so refusal (of_write e front kept now) = inl (refused_now refusal (λ other e. cc))
     ended_so refusal (of_read wrote turn now) = inl (refused_now refusal (λ other e. cc))
     ended_so refusal (of_answer replies answered why) = let goes : refused new ≡ None = sym is ∙ answered.goes_on in inl (refused_now refusal (λ own e. absurd (cc)))
 
-    pub link_asked : (May Right : Q → A → Type 0) → ((q : Q) (a : A) → May q a) → IfOk result (λ v. Asked (λ _. Stays Over) Refuses Goes May Right ⊥ qs (items v) old new)
-    link_asked May Right free = ok_of _ result asked (λ v. answered_so May Right free (items v))
+    module _ (May Right : Q → A → Type 0) (Was : Type 0) (Settles : List (Result A Refusal) → Type 0) (E : Refusal → Type 0) (free : (q : Q) (a : A) → May q a) (right : (ts : List (Result A Refusal)) → Settles ts → EachAnswer Right qs ts) (of_key : (ts : List (Result A Refusal)) → Settles ts → EachTold (Unit {0}) (λ refusal. is_of_key refusal ≡ false) ts) where
+      asked_at : (r : Result V Refusal) → MatchResult r (λ v. AsksAll as_reply kind (frames_of (map request qs)) (items v) l l') (RefusesAll kind (frames_of (map request qs)) l l') → (Was → MatchResult r (λ v. Settles (items v)) E) → IfOk r (λ v. Asked (λ _. Follows) Refuses Goes May Right Was qs (items v) old new)
+      asked_at (Ok v) h truth = answered_so May Right Was free (items v) (λ t. right (items v) (truth t)) (λ t. of_key (items v) (truth t)) h
+      asked_at (Err refusal) h truth = tt
 
-    pub link_ends : IfErr result (Ends (λ _. Stays Over) Refuses (length qs) old new)
+      pub link_asked : (Was → MatchResult result (λ v. Settles (items v)) E) → IfOk result (λ v. Asked (λ _. Follows) Refuses Goes May Right Was qs (items v) old new)
+      link_asked truth = asked_at result asked truth
+
+    -- nothing is said of one that was true
+    pub link_told : (May Right : Q → A → Type 0) → ((q : Q) (a : A) → May q a) → IfOk result (λ v. Asked (λ _. Follows) Refuses Goes May Right ⊥ qs (items v) old new)
+    link_told May Right free = ok_of _ result asked (λ v. answered_so May Right ⊥ free (items v) (λ never. absurd never) (λ never. absurd never))
+
+    pub link_ends : IfErr result (Ends (λ _. Follows) Refuses (length qs) old new)
     link_ends = err_of _ result asked (λ refusal r. record { count = (0, omega arith, still); cause = ended_so refusal r })
+
+-- ---- one question
+
+pub one_refuses : {A : Type 0} (as_reply : A → Reply) (q : Request) (l l' : Link) (result : Result A Refusal) → AsksFor as_reply q l l' result → ((own : Refusal) → l.refused ≡ Some own → result ≡ Err own) → IfErr result (λ refusal. (own : Refusal) → l'.refused ≡ Some own → refusal ≡ own)
+one_refuses as_reply q l l' (Ok a) h stays = tt
+one_refuses as_reply q l l' (Err refusal) (inl (inl nothing)) stays = λ own e.
+    let was : l.refused ≡ Some own = ap (λ (x : Link). x.refused) (sym nothing.0) ∙ e in
+    let same = stays own was in
+    cc
+one_refuses as_reply q l l' (Err refusal) (inl (inr (frame, is, inl breaks))) stays = λ own e. let kept = breaks.kept in cc
+one_refuses as_reply q l l' (Err refusal) (inl (inr (frame, is, inr told))) stays = λ own e. goes_on l'.refused own told.1 e
+one_refuses as_reply q l l' (Err refusal) (inr (frame, is, told)) stays = λ own e. goes_on l'.refused own told.1 e
+
+pub one_answers : {A : Type 0} (as_reply : A → Reply) (q : Request) (l l' : Link) (result : Result A Refusal) → AsksFor as_reply q l l' result → OnOk result (l'.refused ≡ None)
+one_answers as_reply q l l' (Ok a) (frame, is, told) = told.1
+one_answers as_reply q l l' (Err refusal) h = tt

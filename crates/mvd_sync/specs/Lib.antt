@@ -1,5 +1,6 @@
 pub mod Links
 pub mod LinkWindows
+pub mod Lines
 pub mod Olds
 pub mod Session
 pub mod Sides

@@ -13,15 +13,15 @@ use Rattle.mvd_wire.specs.Requests.{request_frame}
 use Rattle.mvd_wire.specs.Replies.{reply_of}
 use Rattle.mvd_sync.specs.declared.remote.Remote.{Remote}
 
--- what the reader has left, what the writer took, and the refusal of the link itself, if there was one
+-- what a line has still to give, what it took, and the refusal of the link itself, if there was one
 pub record Link : Type 0 where
   pub input : Option (List ℕ)
   pub output : Option (List ℕ)
   pub refused : Option Refusal
 
--- the link of a remote side, by what is known of a reader's and of a writer's bytes
-abbrev pub link : {R W : Type 0} → (R → Option (List ℕ)) → (W → Option (List ℕ)) → Remote R W → Link
-link remaining contents remote = record { input = remaining remote.reader; output = contents remote.writer; refused = remote.refused }
+-- the link of a remote side, by what is known of the bytes that its line has still to give and that it took
+abbrev pub link : {L : Type 0} → (L → Option (List ℕ)) → (L → Option (List ℕ)) → Remote L → Link
+link remaining contents remote = record { input = remaining remote.line; output = contents remote.line; refused = remote.refused }
 
 -- the link goes on
 abbrev pub GoesOn : Link → Type 0
@@ -124,5 +124,5 @@ abbrev pub AsksFor : {A : Type 0} → (A → Reply) → Request → Link → Lin
 AsksFor as_reply request old new result = MatchResult result (λ answer. SendsFrame old new request (Ok (as_reply answer))) (λ refusal. Refuses old new request refusal)
 
 -- a link that has refused refuses so again, and stays as it is
-abbrev pub StaysRefused : {R W A : Type 0} → Remote R W → Remote R W → Result A Refusal → Type 0
+abbrev pub StaysRefused : {L A : Type 0} → Remote L → Remote L → Result A Refusal → Type 0
 StaysRefused old new result = (refusal : Refusal) → old.refused ≡ Some refusal → (result ≡ Err refusal) × (new ≡ old)

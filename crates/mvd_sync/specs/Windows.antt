@@ -1,8 +1,8 @@
 -- Many questions at once: one answer for each, in order, as if they were asked one after the other.
-use Rattle.std.specs.Prelude.{◌≡◌, ◌⊎◌, ◌<◌, ◌≤◌, ℕ, true, false, List, [], ◌∷◌, length, Some, None, Result, Ok, Err, take}
+use Rattle.std.specs.Prelude.{◌≡◌, ◌⊎◌, ◌<◌, ◌≤◌, ℕ, Bool, true, false, List, [], ◌∷◌, length, Some, None, Result, Ok, Err, take}
 use Rattle.std.specs.FinMap.{get, len}
 use Rattle.mvd_dots.specs.declared.refusals.Refusal.{Refusal}
-use Rattle.mvd_dots.specs.declared.refusals.Refusal.TheVariants.{DotClash, Full, Memory, StateTooLarge}
+use Rattle.mvd_dots.specs.declared.refusals.Refusal.TheVariants.{BadBody, BadDefs, BadKind, Broken, DotClash, FrameTooLong, Full, Memory, ReadFailed, StateTooLarge, TooManyRequests, Truncated, WriteFailed}
 use Rattle.mvd_keys.specs.State.{State, clashes, join}
 use Rattle.mvd_keys.specs.Writes.{Key}
 use Rattle.mvd_tree.specs.HashTree.{KeyDigests, node_digest}
@@ -61,3 +61,25 @@ Pushes most old ps ts new = ⊥
 -- the first of them alone; and if the side is still true, nothing else has changed
 abbrev pub PushesFirst : Type 0 → ℕ → States → List (Key × State) → States → Type 0
 PushesFirst still most old ps new = (n : ℕ) × (ts : List (Result (Unit {0}) Refusal)) × (mid : States) × Pushes most old (take n ps) ts mid × (still → new ≡ mid)
+
+-- a state was taken
+abbrev pub Takes : States → Key → State → States → Type 0
+Takes old key state new = (clashes (state_at old key) state ≡ false) × (new ≡ pushed old key state)
+
+-- a refusal that may leave open whether a push was taken: 20, 22, or one from 30 on, as those of a link are
+abbrev pub leaves_open : Refusal → Bool
+leaves_open Memory = true
+leaves_open Broken = true
+leaves_open Truncated = true
+leaves_open FrameTooLong = true
+leaves_open BadKind = true
+leaves_open BadBody = true
+leaves_open ReadFailed = true
+leaves_open WriteFailed = true
+leaves_open TooManyRequests = true
+leaves_open BadDefs = true
+leaves_open refusal = false
+
+-- what a push that was refused leaves: the states that were, unless the refusal leaves open whether it was taken
+abbrev pub Leaves : States → Key → State → States → Refusal → Type 0
+Leaves old key state new refusal = (new ≡ old) ⊎ ((leaves_open refusal ≡ true) × Takes old key state new)

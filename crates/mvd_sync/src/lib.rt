@@ -4,6 +4,7 @@
 mod buckets;
 mod exchange;
 mod levels;
+pub mod line;
 mod listing;
 mod meetings;
 mod old;
@@ -15,6 +16,7 @@ pub mod session;
 mod sites;
 mod windows;
 
+pub use line::{Duplex, Line};
 pub use peer::{Page, Peer};
 pub use remote::Remote;
 pub use report::{Left, Report, Side, SyncFault};

@@ -10,9 +10,9 @@ ghost use Rattle.mvd_site.specs.Held.{AreHeld, States, state_at};
 ghost use Rattle.mvd_site.specs.Answer.{digests};
 ghost use Rattle.mvd_sync.specs.Session.{pushed};
 ghost use Rattle.mvd_sync.specs.Sides.{is_of_key};
-ghost use Rattle.mvd_sync.specs.Windows.{Asked, CannotTake, Ends, IsNode, Pushes, PushesFirst};
+ghost use Rattle.mvd_sync.specs.Windows.{Asked, CannotTake, Ends, IsNode, Leaves, Pushes, PushesFirst};
 
-use crate::windows::{is_over, room_for};
+use crate::windows::{is_over, left_open, room_for};
 use mvd_dots::Refusal;
 use mvd_keys::{Key, KeyState, Path};
 use mvd_wire::Digests;
@@ -24,9 +24,10 @@ pub type Page = (Vec<(Key, [u8; 32])>, bool);
 /// A side of a session: something that holds key states, and is asked for them.
 ///
 /// A side that is true answers each question from the states that it holds, or refuses it; what is pushed into it is joined to
-/// them, or refused, and then nothing is changed. It stays true unless it says that it is broken. A question is one call of
-/// `node`, `bucket`, `get` or `push`. Each of these has a call for many questions: one answer for each, in order, as if they
-/// were asked one after the other; such a call is refused itself where the side is broken, or its link is.
+/// them, or refused, and then nothing is changed, unless the refusal is one that leaves open whether it was: 20, 22, or one from 30
+/// on. It stays true unless it says that it is broken. A question is one call of `node`, `bucket`, `get` or `push`. Each of these
+/// has a call for many questions: one answer for each, in order, as if they were asked one after the other; such a call is refused
+/// itself where the side is broken, or its link is, or memory is refused.
 pub trait Peer {
     /// The key states that it holds.
     ghost states: { Self → States };
@@ -92,7 +93,7 @@ pub trait Peer {
     fn push(&mut self, key: &Key, state: &KeyState) -> Result<(), Refusal>
         ensures ok { is_faithful self.old → OnOk result (is_faithful self.new × (states self.new ≡ pushed (states self.old) key.now state.now)) }
         ensures apart { is_faithful self.old → OnOk result (clashes (state_at (states self.old) key.now) state.now ≡ false) }
-        ensures refused { is_faithful self.old → is_faithful self.new → IfErr result (λ _. states self.new ≡ states self.old) }
+        ensures refused { is_faithful self.old → IfErr result (Leaves (states self.old) key.now state.now (states self.new)) }
         ensures unbroken { is_faithful self.old → IfErr result (λ refusal. refusal ≢ Refusal.Broken → is_faithful self.new) }
         ensures cause { is_faithful self.old → IfErr result (CannotTake (most_keys self.old) (states self.old) key.now state.now) }
         ensures follows { follows 1 self.old self.new }
@@ -168,8 +169,8 @@ pub trait Peer {
         let mut told = room_for(self.alloc(), pairs.len())?;
         for (key, state) in pairs {
             let answer = self.push(key, state);
-            if is_over(&answer) {
-                return Err(Refusal::Broken);
+            if let Some(refusal) = left_open(&answer) {
+                return Err(refusal);
             }
             told.push(answer)?;
         }

@@ -3,35 +3,35 @@ mod answer;
 mod many;
 mod window;
 
-ghost use Rattle.std.specs.Prelude.{◌≡◌, ◌⊎◌, IfOk, None, Some, Ok, Err, map, refl};
+ghost use Rattle.std.specs.Prelude.{◌≡◌, ◌⊎◌, [], IfOk, None, Some, Ok, map};
 ghost use Rattle.mvd_dots.specs.declared.refusals.Refusal.{Refusal};
+ghost use Rattle.mvd_wire.specs.declared.request.Request.{Request};
 ghost use Rattle.mvd_wire.specs.declared.request.Request.TheVariants.{Get, Node, Bucket, Push, Bye};
 ghost use Rattle.mvd_wire.specs.declared.reply.Reply.TheVariants.{State as Shown, Done, Digests as Told, Keys, Refused};
 ghost use Rattle.mvd_sync.specs.LinkWindows.{AsksForAll};
+ghost use Rattle.mvd_sync.specs.Lines.{AsksAllTruly, AsksTruly, IsTrueRemote, RemoteFollows, TakesNext, remote_follows_on, remote_follows_self};
 ghost use Rattle.mvd_sync.specs.Links.{Asks, AsksFor, ReadsReply, Sends, StaysRefused, answered_by, link};
-ghost use Rattle.mvd_sync.specs.Sides.{Stays, stays_on};
 ghost use Rattle.mvd_wire.specs.Codec.{Gives};
 ghost use Rattle.mvd_wire.specs.Replies.{kind_of};
-ghost use Rattle.mvd_wire.specs.Requests.{request_frame};
-ghost use Rattle.std.specs.FinMap.{empty};
+ghost use Rattle.mvd_wire.specs.Requests.{IsRequest, request_frame};
 ghost use Rattle.std.specs.Option.{option_copied};
 
+use crate::line::Line;
 use crate::peer::{Page, Peer};
+use answer::Answer;
 use mvd_dots::Refusal;
 use mvd_keys::{Key, KeyState, Path};
 use mvd_wire::{
     Digests, Reply, Request, decode_reply, encode_bucket, encode_bye, encode_get, encode_node,
-    encode_push, encode_request, read_frame, write_frame,
+    encode_push, encode_request,
 };
 use std::alloc::Global;
-use std::io::{Read, Write};
 
-/// A site that is asked over a reader and a writer. Nothing is known of what it holds.
+/// A site that is asked over a line. What it holds is known as far as the line is true; of a reader and a writer alone nothing is.
 #[derive(Drop)]
-pub struct Remote<R: Read + Drop, W: Write + Drop> {
+pub struct Remote<L: Line> {
     alloc: Global,
-    reader: R,
-    writer: W,
+    line: L,
     refused: Option<Refusal>,
 }
 
@@ -61,38 +61,36 @@ fn told(reply: &Reply) -> Refusal
     }
 }
 
-impl<R: Read + Drop, W: Write + Drop> Remote<R, W> {
-    pub fn new(alloc: Global, reader: R, writer: W) -> Self
-        ensures reader { result.reader ≡ reader }
-        ensures writer { result.writer ≡ writer }
+impl<L: Line> Remote<L> {
+    /// The site at the other end of a line, which is true if the line is and no reply is due.
+    pub fn over(alloc: Global, line: L) -> Self
+        ensures line { result.line ≡ line }
         ensures goes_on { result.refused ≡ None }
+        ensures truth { L.is_true line → (L.far line).due ≡ [] → IsTrueRemote L.is_true L.far result }
     {
         Remote {
             alloc,
-            reader,
-            writer,
+            line,
             refused: None,
         }
     }
 
-    /// The reader and the writer.
-    pub fn into_parts(self) -> (R, W)
-        ensures reader { result.0 ≡ self.reader }
-        ensures writer { result.1 ≡ self.writer }
+    /// The line.
+    pub fn into_line(self) -> L
+        ensures { result ≡ self.line }
     {
         let Remote {
             alloc: _,
-            reader,
-            writer,
+            line,
             refused: _,
         } = self;
-        (reader, writer)
+        line
     }
 
     /// The link itself refuses, from now on.
     fn breaks(&mut self, refusal: Refusal) -> Refusal
         ensures refused { (self.new.refused ≡ Some refusal) × (result ≡ refusal) }
-        ensures kept { (self.new.reader ≡ self.old.reader) × (self.new.writer ≡ self.old.writer) }
+        ensures kept { self.new.line ≡ self.old.line }
     {
         self.refused = Some(refusal);
         refusal
@@ -101,12 +99,14 @@ impl<R: Read + Drop, W: Write + Drop> Remote<R, W> {
     /// Reads a reply, which is of this kind or a refusal.
     fn read(&mut self, kind: u8) -> Result<Reply, Refusal>
         requires { self.old.refused ≡ None }
-        ensures reads { ReadsReply (R.remaining self.old.reader) (R.remaining self.new.reader)
+        ensures reads { ReadsReply (L.remaining self.old.line) (L.remaining self.new.line)
             kind self.new.refused result }
         ensures of_kind { IfOk result (λ reply. (kind_of reply ≡ kind) ⊎ (kind_of reply ≡ 0xEE)) }
-        ensures writer { self.new.writer ≡ self.old.writer }
+        ensures unsent { L.contents self.new.line ≡ L.contents self.old.line }
+        ensures most { (L.far self.new.line).most ≡ (L.far self.old.line).most }
+        ensures truth { TakesNext L.is_true L.far self.old self.new result }
     {
-        let came = match read_frame(self.alloc, &mut self.reader) {
+        let came = match self.line.receive(self.alloc) {
             Ok(Some(came)) => came,
             Ok(None) => return Err(self.breaks(Refusal::Truncated)),
             Err(refusal) => return Err(self.breaks(refusal)),
@@ -128,11 +128,14 @@ impl<R: Read + Drop, W: Write + Drop> Remote<R, W> {
     /// Sends a frame, and reads the reply, which is of this kind or a refusal.
     fn send(&mut self, frame: &[u8], kind: u8) -> Result<Reply, Refusal>
         requires { self.old.refused ≡ None }
-        ensures sends { Sends (link R.remaining W.contents self.old) (link R.remaining W.contents self.new)
+        ensures sends { Sends (link L.remaining L.contents self.old) (link L.remaining L.contents self.new)
             frame.now kind result }
         ensures of_kind { IfOk result (λ reply. (kind_of reply ≡ kind) ⊎ (kind_of reply ≡ 0xEE)) }
+        ensures most { (L.far self.new.line).most ≡ (L.far self.old.line).most }
+        ensures truth { (request : Request) → IsRequest request → request_frame request ≡ Ok frame.now →
+            AsksTruly L.is_true L.far (λ reply. reply) request self.old self.new result }
     {
-        match write_frame(&mut self.writer, frame) {
+        match self.line.send(frame) {
             Ok(()) => self.read(kind),
             Err(refusal) => Err(self.breaks(refusal)),
         }
@@ -141,9 +144,11 @@ impl<R: Read + Drop, W: Write + Drop> Remote<R, W> {
     /// Asks one question: writes just the frame of the request, and reads just one frame, which spells the reply. After a
     /// refusal of the link itself, 30 to 35, or 20 while a frame is read, every later question is refused so.
     pub fn ask(&mut self, request: &Request) -> Result<Reply, Refusal>
-        ensures asked { Asks (link R.remaining W.contents self.old) (link R.remaining W.contents self.new)
+        ensures asked { Asks (link L.remaining L.contents self.old) (link L.remaining L.contents self.new)
             request.now result }
         ensures stays { StaysRefused self.old self.new result }
+        ensures most { (L.far self.new.line).most ≡ (L.far self.old.line).most }
+        ensures truth { AsksTruly L.is_true L.far (λ reply. reply) request.now self.old self.new result }
     {
         if let Some(refusal) = self.refused {
             return Err(refusal);
@@ -157,25 +162,42 @@ impl<R: Read + Drop, W: Write + Drop> Remote<R, W> {
     /// The digest of a node, and those of its children.
     pub fn node(&mut self, path: &Path) -> Result<Digests, Refusal>
         ensures asked { AsksFor (λ digests. Told digests) (Node path.now)
-            (link R.remaining W.contents self.old) (link R.remaining W.contents self.new) result }
+            (link L.remaining L.contents self.old) (link L.remaining L.contents self.new) result }
         ensures stays { StaysRefused self.old self.new result }
+        ensures most { (L.far self.new.line).most ≡ (L.far self.old.line).most }
+        ensures truth { AsksTruly L.is_true L.far (λ digests. Told digests)
+            (Node path.now) self.old self.new result }
     {
         if let Some(refusal) = self.refused {
             return Err(refusal);
         }
-        let frame = match encode_node(self.alloc, path) {
+        self.ask_for(encode_node(self.alloc, path))
+    }
+
+    /// Sends the frame of a question for such an answer, and reads that, or tells why the question has no frame.
+    fn ask_for<A: Answer>(&mut self, frame: Result<Vec<u8>, Refusal>) -> Result<A, Refusal>
+        requires { self.old.refused ≡ None }
+        ensures asked { (request : Request) → answered_by request ≡ A.of_kind →
+            Gives (λ v. v.items) frame (request_frame request) → AsksFor A.as_reply request
+            (link L.remaining L.contents self.old) (link L.remaining L.contents self.new) result }
+        ensures most { (L.far self.new.line).most ≡ (L.far self.old.line).most }
+        ensures truth { (request : Request) → IfOk frame (λ _. IsRequest request) →
+            Gives (λ v. v.items) frame (request_frame request) →
+            AsksTruly L.is_true L.far A.as_reply request self.old self.new result }
+    {
+        let frame = match frame {
             Ok(frame) => frame,
             Err(refusal) => return Err(refusal),
         };
-        match self.send(&frame, 0xA7) {
-            Ok(Reply::Digests(digests)) => Ok(digests),
-            Ok(reply) => Err(told(&reply)),
+        match self.send(&frame, A::kind()) {
+            Ok(reply) => A::of(reply),
             Err(refusal) => Err(refusal),
         }
     }
 
     fn bucket_frame(&self, path: &Path, after: Option<&Key>) -> Result<Vec<u8>, Refusal>
-        ensures { Gives (λ v. v.items) result (request_frame (Bucket path.now (option_copied after.entry))) }
+        ensures exact { Gives (λ v. v.items) result (request_frame (Bucket path.now (option_copied after.entry))) }
+        ensures fits { IfOk result (λ _. IsRequest (Bucket path.now (option_copied after.entry))) }
     {
         let after = match after {
             Some(key) => Some(key.copy(self.alloc)?),
@@ -187,111 +209,91 @@ impl<R: Read + Drop, W: Write + Drop> Remote<R, W> {
     /// A page of a bucket after a key, and whether more are left.
     pub fn bucket(&mut self, path: &Path, after: Option<&Key>) -> Result<Page, Refusal>
         ensures asked { AsksFor (λ page. Keys page.0.items page.1) (Bucket path.now (option_copied after.entry))
-            (link R.remaining W.contents self.old) (link R.remaining W.contents self.new) result }
+            (link L.remaining L.contents self.old) (link L.remaining L.contents self.new) result }
         ensures stays { StaysRefused self.old self.new result }
+        ensures most { (L.far self.new.line).most ≡ (L.far self.old.line).most }
+        ensures truth { AsksTruly L.is_true L.far (λ page. Keys page.0.items page.1)
+            (Bucket path.now (option_copied after.entry)) self.old self.new result }
     {
         if let Some(refusal) = self.refused {
             return Err(refusal);
         }
-        let frame = match self.bucket_frame(path, after) {
-            Ok(frame) => frame,
-            Err(refusal) => return Err(refusal),
-        };
-        match self.send(&frame, 0xA8) {
-            Ok(Reply::Keys(keys, more)) => Ok((keys.into_vec(), more)),
-            Ok(reply) => Err(told(&reply)),
-            Err(refusal) => Err(refusal),
-        }
+        self.ask_for(self.bucket_frame(path, after))
     }
 
     /// The state that the site has of a key.
     pub fn get(&mut self, key: &Key) -> Result<KeyState, Refusal>
         ensures asked { AsksFor (λ state. Shown state) (Get key.now)
-            (link R.remaining W.contents self.old) (link R.remaining W.contents self.new) result }
+            (link L.remaining L.contents self.old) (link L.remaining L.contents self.new) result }
         ensures stays { StaysRefused self.old self.new result }
+        ensures most { (L.far self.new.line).most ≡ (L.far self.old.line).most }
+        ensures truth { AsksTruly L.is_true L.far (λ state. Shown state)
+            (Get key.now) self.old self.new result }
     {
         if let Some(refusal) = self.refused {
             return Err(refusal);
         }
-        let frame = match encode_get(self.alloc, key) {
-            Ok(frame) => frame,
-            Err(refusal) => return Err(refusal),
-        };
-        match self.send(&frame, 0xA1) {
-            Ok(Reply::State(state)) => Ok(state),
-            Ok(reply) => Err(told(&reply)),
-            Err(refusal) => Err(refusal),
-        }
+        self.ask_for(encode_get(self.alloc, key))
     }
 
     /// Joins a state to the one that the site has of a key.
     pub fn push(&mut self, key: &Key, state: &KeyState) -> Result<(), Refusal>
         ensures asked { AsksFor (λ _. Done) (Push key.now state.now)
-            (link R.remaining W.contents self.old) (link R.remaining W.contents self.new) result }
+            (link L.remaining L.contents self.old) (link L.remaining L.contents self.new) result }
         ensures stays { StaysRefused self.old self.new result }
+        ensures most { (L.far self.new.line).most ≡ (L.far self.old.line).most }
+        ensures truth { AsksTruly L.is_true L.far (λ _. Done)
+            (Push key.now state.now) self.old self.new result }
     {
         if let Some(refusal) = self.refused {
             return Err(refusal);
         }
-        let frame = match encode_push(self.alloc, key, state) {
-            Ok(frame) => frame,
-            Err(refusal) => return Err(refusal),
-        };
-        match self.send(&frame, 0xA3) {
-            Ok(Reply::Done) => Ok(()),
-            Ok(reply) => Err(told(&reply)),
-            Err(refusal) => Err(refusal),
-        }
+        self.ask_for(encode_push(self.alloc, key, state))
     }
 
     /// Ends the connection.
     pub fn bye(&mut self) -> Result<(), Refusal>
         ensures asked { AsksFor (λ _. Done) (Bye)
-            (link R.remaining W.contents self.old) (link R.remaining W.contents self.new) result }
+            (link L.remaining L.contents self.old) (link L.remaining L.contents self.new) result }
         ensures stays { StaysRefused self.old self.new result }
+        ensures most { (L.far self.new.line).most ≡ (L.far self.old.line).most }
+        ensures truth { AsksTruly L.is_true L.far (λ _. Done)
+            (Bye) self.old self.new result }
     {
         if let Some(refusal) = self.refused {
             return Err(refusal);
         }
-        let frame = match encode_bye(self.alloc) {
-            Ok(frame) => frame,
-            Err(refusal) => return Err(refusal),
-        };
-        match self.send(&frame, 0xA3) {
-            Ok(Reply::Done) => Ok(()),
-            Ok(reply) => Err(told(&reply)),
-            Err(refusal) => Err(refusal),
-        }
+        self.ask_for(encode_bye(self.alloc))
     }
 }
 
-impl<R: Read + Drop, W: Write + Drop> Peer for Remote<R, W> {
-    ghost states = { λ _. empty };
+impl<L: Line> Peer for Remote<L> {
+    ghost states = { λ remote. (L.far remote.line).states };
 
-    // No truth is claimed of what is told over a connection.
-    ghost is_faithful = { λ _. ⊥ };
+    // It is as true as the line.
+    ghost is_faithful = { IsTrueRemote L.is_true L.far };
 
     ghost can_give = { λ _ _. Unit {0} };
 
     // A link that refuses stays as it is.
-    ghost follows = { λ _. Stays (λ remote. (refusal : Refusal) × (remote.refused ≡ Some refusal)) };
+    ghost follows = { λ _. RemoteFollows L.far };
 
     // Where the link itself refuses, it refuses so.
     ghost can_refuse = { λ remote refusal. (own : Refusal) → remote.refused ≡ Some own → refusal ≡ own };
 
     ghost can_answer = { λ remote. remote.refused ≡ None };
 
-    ghost most_keys = { λ _. 0 };
+    ghost most_keys = { λ remote. (L.far remote.line).most };
 
     ghost number = { λ _. None };
 
-    ghost in_form = { λ _ never. absurd never };
+    ghost in_form = { λ remote truth. L.in_form remote.line truth.line };
 
-    ghost follows_self = { λ _ _. refl };
+    ghost follows_self = { λ remote. remote_follows_self L.far remote };
 
-    ghost follows_on = { λ _ _. stays_on _ };
+    ghost follows_on = { λ _ _. remote_follows_on L.far };
 
-    ghost most_stays = { λ _ _ _ _. refl };
+    ghost most_stays = { λ _ _ _ follows. follows.1 };
 
     fn alloc(&self) -> Global {
         self.alloc
@@ -303,40 +305,55 @@ impl<R: Read + Drop, W: Write + Drop> Peer for Remote<R, W> {
 
     fn node(&mut self, path: &Path) -> Result<Digests, Refusal>
         ensures asked { AsksFor (λ digests. Told digests) (Node path.now)
-            (link R.remaining W.contents self.old) (link R.remaining W.contents self.new) result }
+            (link L.remaining L.contents self.old) (link L.remaining L.contents self.new) result }
         ensures stays { StaysRefused self.old self.new result }
+        ensures most { (L.far self.new.line).most ≡ (L.far self.old.line).most }
+        ensures truth { AsksTruly L.is_true L.far (λ digests. Told digests)
+            (Node path.now) self.old self.new result }
     {
         Remote::node(self, path)
     }
 
     fn bucket(&mut self, path: &Path, after: Option<&Key>) -> Result<Page, Refusal>
         ensures asked { AsksFor (λ page. Keys page.0.items page.1) (Bucket path.now (option_copied after.entry))
-            (link R.remaining W.contents self.old) (link R.remaining W.contents self.new) result }
+            (link L.remaining L.contents self.old) (link L.remaining L.contents self.new) result }
         ensures stays { StaysRefused self.old self.new result }
+        ensures most { (L.far self.new.line).most ≡ (L.far self.old.line).most }
+        ensures truth { AsksTruly L.is_true L.far (λ page. Keys page.0.items page.1)
+            (Bucket path.now (option_copied after.entry)) self.old self.new result }
     {
         Remote::bucket(self, path, after)
     }
 
     fn get(&mut self, key: &Key) -> Result<KeyState, Refusal>
         ensures asked { AsksFor (λ state. Shown state) (Get key.now)
-            (link R.remaining W.contents self.old) (link R.remaining W.contents self.new) result }
+            (link L.remaining L.contents self.old) (link L.remaining L.contents self.new) result }
         ensures stays { StaysRefused self.old self.new result }
+        ensures most { (L.far self.new.line).most ≡ (L.far self.old.line).most }
+        ensures truth { AsksTruly L.is_true L.far (λ state. Shown state)
+            (Get key.now) self.old self.new result }
     {
         Remote::get(self, key)
     }
 
     fn push(&mut self, key: &Key, state: &KeyState) -> Result<(), Refusal>
         ensures asked { AsksFor (λ _. Done) (Push key.now state.now)
-            (link R.remaining W.contents self.old) (link R.remaining W.contents self.new) result }
+            (link L.remaining L.contents self.old) (link L.remaining L.contents self.new) result }
         ensures stays { StaysRefused self.old self.new result }
+        ensures most { (L.far self.new.line).most ≡ (L.far self.old.line).most }
+        ensures truth { AsksTruly L.is_true L.far (λ _. Done)
+            (Push key.now state.now) self.old self.new result }
     {
         Remote::push(self, key, state)
     }
 
     fn nodes(&mut self, paths: &[Path]) -> Result<Vec<Result<Digests, Refusal>>, Refusal>
         ensures asked { AsksForAll (λ digests. Told digests) 0xA7 (map (λ path. Node path) paths.now)
-            (link R.remaining W.contents self.old) (link R.remaining W.contents self.new) result }
+            (link L.remaining L.contents self.old) (link L.remaining L.contents self.new) result }
         ensures stays { StaysRefused self.old self.new result }
+        ensures most { (L.far self.new.line).most ≡ (L.far self.old.line).most }
+        ensures truth { AsksAllTruly L.is_true L.far (λ digests. Told digests)
+            (map (λ path. Node path) paths.now) self.old self.new result }
     {
         Remote::nodes(self, paths)
     }
@@ -346,24 +363,33 @@ impl<R: Read + Drop, W: Write + Drop> Peer for Remote<R, W> {
         asked: &[(Path, Option<Key>)],
     ) -> Result<Vec<Result<Page, Refusal>>, Refusal>
         ensures asked { AsksForAll (λ page. Keys page.0.items page.1) 0xA8 (map (λ q. Bucket q.0 q.1) asked.now)
-            (link R.remaining W.contents self.old) (link R.remaining W.contents self.new) result }
+            (link L.remaining L.contents self.old) (link L.remaining L.contents self.new) result }
         ensures stays { StaysRefused self.old self.new result }
+        ensures most { (L.far self.new.line).most ≡ (L.far self.old.line).most }
+        ensures truth { AsksAllTruly L.is_true L.far (λ page. Keys page.0.items page.1)
+            (map (λ q. Bucket q.0 q.1) asked.now) self.old self.new result }
     {
         Remote::pages(self, asked)
     }
 
     fn get_all(&mut self, keys: &[Key]) -> Result<Vec<Result<KeyState, Refusal>>, Refusal>
         ensures asked { AsksForAll (λ state. Shown state) 0xA1 (map (λ key. Get key) keys.now)
-            (link R.remaining W.contents self.old) (link R.remaining W.contents self.new) result }
+            (link L.remaining L.contents self.old) (link L.remaining L.contents self.new) result }
         ensures stays { StaysRefused self.old self.new result }
+        ensures most { (L.far self.new.line).most ≡ (L.far self.old.line).most }
+        ensures truth { AsksAllTruly L.is_true L.far (λ state. Shown state)
+            (map (λ key. Get key) keys.now) self.old self.new result }
     {
         Remote::get_all(self, keys)
     }
 
     fn push_all(&mut self, pairs: &[(Key, KeyState)]) -> Result<Vec<Result<(), Refusal>>, Refusal>
         ensures asked { AsksForAll (λ _. Done) 0xA3 (map (λ pair. Push pair.0 pair.1) pairs.now)
-            (link R.remaining W.contents self.old) (link R.remaining W.contents self.new) result }
+            (link L.remaining L.contents self.old) (link L.remaining L.contents self.new) result }
         ensures stays { StaysRefused self.old self.new result }
+        ensures most { (L.far self.new.line).most ≡ (L.far self.old.line).most }
+        ensures truth { AsksAllTruly L.is_true L.far (λ _. Done)
+            (map (λ pair. Push pair.0 pair.1) pairs.now) self.old self.new result }
     {
         Remote::push_all(self, pairs)
     }

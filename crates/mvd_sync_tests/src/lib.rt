@@ -11,5 +11,8 @@ mod many;
 mod peers;
 #[cfg(test)]
 mod remotes;
+pub mod served;
 #[cfg(test)]
 mod sessions;
+
+pub use served::Served;

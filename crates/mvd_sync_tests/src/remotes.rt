@@ -3,13 +3,13 @@ use crate::peers::Counting;
 use crate::sessions::meet;
 use mvd_dots::Refusal;
 use mvd_keys::{Key, KeyState};
-use mvd_sync::{Remote, SyncFault};
+use mvd_sync::{Duplex, Remote, SyncFault};
 use mvd_wire::{Request, decode_request};
 use std::alloc::Global;
 use std::test::Fail;
 
 /// A site at the other end that gives these bytes, and keeps what it is sent.
-type Link<'a> = Remote<&'a [u8], Vec<u8>>;
+type Link<'a> = Remote<Duplex<&'a [u8], Vec<u8>>>;
 
 /// The question about the root, and a Bye.
 const ASKED: [u8; 11] = [0, 0, 0, 2, 0x27, 0, 0, 0, 0, 1, 0x2F];

@@ -138,10 +138,7 @@ fn takes_many(alloc: Global, tree: &mut Tree) -> Result<bool, Refusal> {
 }
 
 /// Three thousand keys with the digests that they are to have, or none.
-fn all_changes(
-    alloc: Global,
-    is_held: bool,
-) -> Result<Vec<(Key, Option<[u8; 32]>)>, Refusal> {
+fn all_changes(alloc: Global, is_held: bool) -> Result<Vec<(Key, Option<[u8; 32]>)>, Refusal> {
     let mut changes = Vec::new(alloc);
     for number in 0..3000u64 {
         let digest = if is_held { Some(digest(number)) } else { None };

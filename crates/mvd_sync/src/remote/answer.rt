@@ -5,6 +5,7 @@ ghost use Rattle.mvd_wire.specs.declared.reply.Reply.{Reply};
 ghost use Rattle.mvd_wire.specs.declared.reply.Reply.TheVariants.{State, Done, Digests as Told, Keys, Refused};
 ghost use Rattle.mvd_wire.specs.Replies.{kind_of};
 ghost use Rattle.mvd_sync.specs.LinkWindows.{Answers, IsOfKind};
+ghost use Rattle.mvd_sync.specs.Lines.{IsSettled};
 ghost use Rattle.mvd_sync.specs.Questions.{ForEach};
 
 use super::told;
@@ -102,15 +103,18 @@ impl Answer for () {
     }
 }
 
-/// What a reply tells, or why it is none. A side that tells that it is broken refuses the whole window.
+/// What a reply tells, or why it is none. A side that tells that it is broken refuses the whole window, and so does want of memory
+/// for a reply.
 fn answer_of<A: Answer>(reply: Result<Reply, Refusal>) -> Result<Result<A, Refusal>, Refusal>
     requires { IsOfKind A.of_kind reply }
     ensures told { IfOk result (Answers A.as_reply reply) }
-    ensures broken { IfErr result
-        (λ refusal. (refusal ≡ Broken) × ((reply ≡ Ok (Refused Broken)) ⊎ (reply ≡ Err Broken))) }
+    ensures settled { IfOk result (IsSettled reply) }
+    ensures ended { IfErr result (λ refusal. (refusal ≡ Memory) ⊎
+        ((refusal ≡ Broken) × ((reply ≡ Ok (Refused Broken)) ⊎ (reply ≡ Err Broken)))) }
 {
     let answer = match reply {
         Ok(reply) => A::of(reply),
+        Err(Refusal::Memory) => return Err(Refusal::Memory),
         Err(refusal) => Err(refusal),
     };
     if is_over(&answer) {
@@ -126,6 +130,7 @@ pub fn answers<A: Answer>(
 ) -> Result<Vec<Result<A, Refusal>>, Refusal>
     requires { All (IsOfKind A.of_kind) replies.items }
     ensures told { IfOk result (λ told. ForEach (Answers A.as_reply) replies.items told.items) }
+    ensures settled { IfOk result (λ told. ForEach IsSettled replies.items told.items) }
     ensures ended { IfErr result (λ refusal. (refusal ≡ Memory) ⊎ ((refusal ≡ Broken) ×
         (Contains replies.items (Ok (Refused Broken)) ⊎ Contains replies.items (Err Broken)))) }
 {

@@ -1,24 +1,28 @@
 //! Many questions to a site at the other end of a connection, asked at once.
-ghost use Rattle.std.specs.Prelude.{map};
+ghost use Rattle.std.specs.Prelude.{◌≡◌, map};
 ghost use Rattle.mvd_wire.specs.declared.request.Request.TheVariants.{Get, Node, Bucket, Push};
 ghost use Rattle.mvd_wire.specs.declared.reply.Reply.TheVariants.{State, Done, Digests as Told, Keys};
 ghost use Rattle.mvd_sync.specs.LinkWindows.{AsksForAll};
+ghost use Rattle.mvd_sync.specs.Lines.{AsksAllTruly};
 ghost use Rattle.mvd_sync.specs.Links.{StaysRefused, link};
 
 use super::Remote;
 use super::window::Window;
+use crate::line::Line;
 use crate::peer::Page;
 use mvd_dots::Refusal;
 use mvd_keys::{Key, KeyState, Path};
 use mvd_wire::{Digests, encode_bucket, encode_get, encode_node, encode_push};
-use std::io::{Read, Write};
 
-impl<R: Read + Drop, W: Write + Drop> Remote<R, W> {
+impl<L: Line> Remote<L> {
     /// The digests of several nodes, asked at once.
     pub fn nodes(&mut self, paths: &[Path]) -> Result<Vec<Result<Digests, Refusal>>, Refusal>
         ensures asked { AsksForAll (λ digests. Told digests) 0xA7 (map (λ path. Node path) paths.now)
-            (link R.remaining W.contents self.old) (link R.remaining W.contents self.new) result }
+            (link L.remaining L.contents self.old) (link L.remaining L.contents self.new) result }
         ensures stays { StaysRefused self.old self.new result }
+        ensures most { (L.far self.new.line).most ≡ (L.far self.old.line).most }
+        ensures truth { AsksAllTruly L.is_true L.far (λ digests. Told digests)
+            (map (λ path. Node path) paths.now) self.old self.new result }
     {
         if let Some(refusal) = self.refused {
             return Err(refusal);
@@ -36,8 +40,11 @@ impl<R: Read + Drop, W: Write + Drop> Remote<R, W> {
         asked: &[(Path, Option<Key>)],
     ) -> Result<Vec<Result<Page, Refusal>>, Refusal>
         ensures asked { AsksForAll (λ page. Keys page.0.items page.1) 0xA8 (map (λ q. Bucket q.0 q.1) asked.now)
-            (link R.remaining W.contents self.old) (link R.remaining W.contents self.new) result }
+            (link L.remaining L.contents self.old) (link L.remaining L.contents self.new) result }
         ensures stays { StaysRefused self.old self.new result }
+        ensures most { (L.far self.new.line).most ≡ (L.far self.old.line).most }
+        ensures truth { AsksAllTruly L.is_true L.far (λ page. Keys page.0.items page.1)
+            (map (λ q. Bucket q.0 q.1) asked.now) self.old self.new result }
     {
         if let Some(refusal) = self.refused {
             return Err(refusal);
@@ -52,8 +59,11 @@ impl<R: Read + Drop, W: Write + Drop> Remote<R, W> {
     /// The states that the site has of several keys, asked at once.
     pub fn get_all(&mut self, keys: &[Key]) -> Result<Vec<Result<KeyState, Refusal>>, Refusal>
         ensures asked { AsksForAll (λ state. State state) 0xA1 (map (λ key. Get key) keys.now)
-            (link R.remaining W.contents self.old) (link R.remaining W.contents self.new) result }
+            (link L.remaining L.contents self.old) (link L.remaining L.contents self.new) result }
         ensures stays { StaysRefused self.old self.new result }
+        ensures most { (L.far self.new.line).most ≡ (L.far self.old.line).most }
+        ensures truth { AsksAllTruly L.is_true L.far (λ state. State state)
+            (map (λ key. Get key) keys.now) self.old self.new result }
     {
         if let Some(refusal) = self.refused {
             return Err(refusal);
@@ -71,8 +81,11 @@ impl<R: Read + Drop, W: Write + Drop> Remote<R, W> {
         pairs: &[(Key, KeyState)],
     ) -> Result<Vec<Result<(), Refusal>>, Refusal>
         ensures asked { AsksForAll (λ _. Done) 0xA3 (map (λ pair. Push pair.0 pair.1) pairs.now)
-            (link R.remaining W.contents self.old) (link R.remaining W.contents self.new) result }
+            (link L.remaining L.contents self.old) (link L.remaining L.contents self.new) result }
         ensures stays { StaysRefused self.old self.new result }
+        ensures most { (L.far self.new.line).most ≡ (L.far self.old.line).most }
+        ensures truth { AsksAllTruly L.is_true L.far (λ _. Done)
+            (map (λ pair. Push pair.0 pair.1) pairs.now) self.old self.new result }
     {
         if let Some(refusal) = self.refused {
             return Err(refusal);

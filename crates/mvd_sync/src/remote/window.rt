@@ -1,18 +1,20 @@
 //! Many questions over a link: all frames out, then all replies in.
-ghost use Rattle.std.specs.Prelude.{◌≡◌, List, ℕ, Result as Spelled, [], None, Some, OnOk, OnErr, IfOk, IfErr, MatchResult, All};
+ghost use Rattle.std.specs.Prelude.{◌≡◌, ◌≢◌, Err, List, ℕ, Result as Spelled, [], None, Some, OnOk, OnErr, IfOk, IfErr, MatchResult, All};
 ghost use Rattle.mvd_dots.specs.declared.refusals.Refusal.TheVariants.{Memory};
 ghost use Rattle.mvd_wire.specs.Codec.{Gives};
-ghost use Rattle.mvd_sync.specs.LinkWindows.{Answered, AsksAll, IsOfKind, RefusesAll, TakesTurn, TakeTurns, TurnBreaks, and_frame};
+ghost use Rattle.mvd_sync.specs.LinkWindows.{Answered, AsksAll, IsOfKind, RefusesAll, TakesTurn, TakeTurns, TurnBreaks, and_frame, frames_of};
+ghost use Rattle.mvd_sync.specs.Lines.{AreSpelled, AsksAllTruly, DueTurn, DueTurns, EndsTruly, TellsAllTruly, TookTurns};
 ghost use Rattle.mvd_sync.specs.Links.{ReadCause, link};
+ghost use Rattle.mvd_wire.specs.declared.request.Request.{Request};
 ghost use Rattle.mvd_dots.specs.declared.refusals.Refusal.{Refusal as Cause};
 
 use super::Remote;
 use super::answer::{Answer, answers};
+use crate::line::Line;
 use crate::windows::room_for;
 use mvd_dots::Refusal;
-use mvd_wire::{Reply, write_frame};
+use mvd_wire::Reply;
 use std::alloc::Global;
-use std::io::{Read, Write};
 use std::marker::Model;
 
 /// The frames of a window.
@@ -47,6 +49,7 @@ impl Window {
     pub fn add(&mut self, frame: Result<Vec<u8>, Refusal>) -> Result<(), Refusal>
         ensures added { (spelled : Spelled (List ℕ) Cause) → Gives (λ v. v.items) frame spelled →
             OnOk result (self.new ≡ and_frame self.old spelled) }
+        ensures some { OnOk result (frame ≢ Err Memory) }
         ensures memory { IfErr result (λ refusal. refusal ≡ Memory) }
     {
         match frame {
@@ -61,17 +64,19 @@ impl Window {
     }
 }
 
-impl<R: Read + Drop, W: Write + Drop> Remote<R, W> {
+impl<L: Line> Remote<L> {
     /// Answers a request in its turn: by the next reply, or by the refusal of its encoding.
     fn turn(&mut self, none: Option<Refusal>, kind: u8) -> Result<Result<Reply, Refusal>, Refusal>
         requires { self.old.refused ≡ None }
         ensures told { IfOk result
-            (λ told. TakesTurn kind none told (R.remaining self.old.reader) (R.remaining self.new.reader)) }
+            (λ told. TakesTurn kind none told (L.remaining self.old.line) (L.remaining self.new.line)) }
         ensures of_kind { IfOk result (IsOfKind kind) }
         ensures goes_on { OnOk result (self.new.refused ≡ None) }
-        ensures broke { IfErr result (λ refusal. ReadCause (R.remaining self.old.reader) (R.remaining self.new.reader)
+        ensures broke { IfErr result (λ refusal. ReadCause (L.remaining self.old.line) (L.remaining self.new.line)
             kind refusal × (self.new.refused ≡ Some refusal)) }
-        ensures writer { self.new.writer ≡ self.old.writer }
+        ensures unsent { L.contents self.new.line ≡ L.contents self.old.line }
+        ensures most { (L.far self.new.line).most ≡ (L.far self.old.line).most }
+        ensures truth { L.is_true self.old.line → TookTurns L.is_true L.far (DueTurn none) self.old self.new result }
     {
         if let Some(refusal) = none {
             return Ok(Err(refusal));
@@ -93,13 +98,16 @@ impl<R: Read + Drop, W: Write + Drop> Remote<R, W> {
         requires goes_on { self.old.refused ≡ None }
         requires empty { replies.old.items ≡ [] }
         ensures came { OnOk result
-            (TakeTurns kind nones.now replies.new.items (R.remaining self.old.reader) (R.remaining self.new.reader)) }
+            (TakeTurns kind nones.now replies.new.items (L.remaining self.old.line) (L.remaining self.new.line)) }
         ensures of_kind { OnOk result (All (IsOfKind kind) replies.new.items) }
         ensures goes_on { OnOk result (self.new.refused ≡ None) }
         ensures broke { IfErr result
-            (λ refusal. TurnBreaks kind nones.now (R.remaining self.old.reader) (R.remaining self.new.reader) refusal
+            (λ refusal. TurnBreaks kind nones.now (L.remaining self.old.line) (L.remaining self.new.line) refusal
             × (self.new.refused ≡ Some refusal)) }
-        ensures writer { self.new.writer ≡ self.old.writer }
+        ensures unsent { L.contents self.new.line ≡ L.contents self.old.line }
+        ensures most { (L.far self.new.line).most ≡ (L.far self.old.line).most }
+        ensures truth { L.is_true self.old.line → TookTurns L.is_true L.far
+            (λ due left _. DueTurns nones.now replies.new.items due left) self.old self.new result }
     {
         for none in nones {
             let reply = self.turn(*none, kind)?;
@@ -119,17 +127,23 @@ impl<R: Read + Drop, W: Write + Drop> Remote<R, W> {
         requires { self.old.refused ≡ None }
         ensures sent { MatchResult result
             (λ replies. Answered kind window.now replies.items
-            (link R.remaining W.contents self.old) (link R.remaining W.contents self.new))
+            (link L.remaining L.contents self.old) (link L.remaining L.contents self.new))
             (RefusesAll kind window.now
-            (link R.remaining W.contents self.old) (link R.remaining W.contents self.new)) }
+            (link L.remaining L.contents self.old) (link L.remaining L.contents self.new)) }
         ensures of_kind { IfOk result (λ replies. All (IsOfKind kind) replies.items) }
+        ensures most { (L.far self.new.line).most ≡ (L.far self.old.line).most }
+        ensures truth { (requests : List Request) → window.now ≡ frames_of requests → AreSpelled requests →
+            EndsTruly L.is_true L.far (λ most before told. TellsAllTruly most before requests told.items)
+            requests self.old self.new result }
     {
         let mut replies = room_for(self.alloc, window.nones.len())?;
-        if let Err(refusal) = write_frame(&mut self.writer, &window.frames) {
+        if let Err(refusal) = self.line.send(&window.frames) {
             return Err(self.breaks(refusal));
         }
-        self.take_turns(&window.nones, kind, &mut replies)?;
-        Ok(replies)
+        match self.take_turns(&window.nones, kind, &mut replies) {
+            Ok(()) => Ok(replies),
+            Err(refusal) => Err(refusal),
+        }
     }
 
     /// Asks all questions of a window.
@@ -138,11 +152,14 @@ impl<R: Read + Drop, W: Write + Drop> Remote<R, W> {
         window: &Window,
     ) -> Result<Vec<Result<A, Refusal>>, Refusal>
         requires { self.old.refused ≡ None }
-        ensures { MatchResult result
+        ensures asked { MatchResult result
             (λ told. AsksAll A.as_reply A.of_kind window.now told.items
-            (link R.remaining W.contents self.old) (link R.remaining W.contents self.new))
+            (link L.remaining L.contents self.old) (link L.remaining L.contents self.new))
             (RefusesAll A.of_kind window.now
-            (link R.remaining W.contents self.old) (link R.remaining W.contents self.new)) }
+            (link L.remaining L.contents self.old) (link L.remaining L.contents self.new)) }
+        ensures most { (L.far self.new.line).most ≡ (L.far self.old.line).most }
+        ensures truth { (requests : List Request) → window.now ≡ frames_of requests → AreSpelled requests →
+            AsksAllTruly L.is_true L.far A.as_reply requests self.old self.new result }
     {
         let replies = self.send_all(window, A::kind())?;
         answers(self.alloc, replies)

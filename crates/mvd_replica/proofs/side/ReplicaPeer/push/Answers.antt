@@ -1,4 +1,4 @@
-use Rattle.mvd_sync.proofs.SiteSides.{push_ok}
+use Rattle.mvd_sync.proofs.SiteSides.{push_ok, push_refused}
 use Rattle.mvd_replica.proofs.Pushed.{cause_stored, follows_push}
 use Rattle.mvd_replica.proofs.Sides.{push_comes, push_refuses}
 use Rattle.mvd_replica.proofs.side.ReplicaPeer.push.Goals as goal
@@ -6,6 +6,10 @@ use Rattle.mvd_replica.proofs.side.ReplicaPeer.push.Goals as goal
 pub returns-clause-ok : goal.returns-clause-ok
 returns-clause-ok g c whole =
     push_ok c.args.self.now.site c.push-pushed.new.self.site c.args.key.now c.args.state.now whole c.key_count-held.ensures.held c.push-pushed.result c.context-seen.ensures.valid c.push-pushed.ensures.joined
+
+pub returns-clause-refused : goal.returns-clause-refused
+returns-clause-refused g c whole =
+    push_refused c.args.self.now.site c.push-pushed.new.self.site c.args.key.now c.args.state.now whole c.key_count-held.ensures.held c.push-pushed.result c.push-pushed.ensures.unchanged c.push-pushed.ensures.told
 
 pub returns-clause-cause : goal.returns-clause-cause
 returns-clause-cause g c whole =

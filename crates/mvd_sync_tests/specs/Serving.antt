@@ -1,0 +1,16 @@
+-- What a site at hand does with one request that was sent to it.
+use Rattle.std.specs.Prelude.{◌≡◌, List, [], ◌∷◌, ◌++◌, Result, Ok, Err}
+use Rattle.mvd_dots.specs.declared.refusals.Refusal.{Refusal}
+use Rattle.mvd_wire.specs.declared.request.Request.{Request}
+use Rattle.mvd_wire.specs.declared.reply.Reply.{Reply}
+use Rattle.mvd_site.specs.Sites.{SiteValue}
+use Rattle.mvd_sync.specs.Lines.{Far, MayTake, TrueReply}
+
+-- what is at the other end: a site, whose replies wait
+abbrev pub far_at : SiteValue → List Reply → Far
+far_at site waiting = record { states = site.states; due = waiting; most = site.config.max_keys }
+
+-- its reply waits, or there was no memory for that
+abbrev pub TakesOne : Far → Request → Far → Result (Unit {0}) Refusal → Type 0
+TakesOne old request new (Ok done) = (reply : Reply) × TrueReply old.most old.states request reply new.states × (new.due ≡ old.due ++ reply ∷ [])
+TakesOne old request new (Err refusal) = MayTake old.most old.states request new.states

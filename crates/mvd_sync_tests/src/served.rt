@@ -1,0 +1,132 @@
+//! A line to a site at hand, which is true.
+ghost use Rattle.std.specs.Prelude.{◌≡◌, None, []};
+ghost use Rattle.mvd_site.specs.Held.{AreHeld};
+ghost use Rattle.mvd_site.specs.Known.{IsValidRequest};
+ghost use Rattle.mvd_sync.specs.Lines.{TrueReply};
+ghost use Rattle.mvd_sync_tests.specs.Serving.{TakesOne, far_at};
+ghost use Rattle.mvd_wire.specs.declared.request.Request.{Request};
+ghost use Rattle.mvd_wire.specs.Replies.{CanBeSent};
+ghost use Rattle.mvd_wire.specs.Requests.{SpellsRequest};
+
+use mvd_dots::Refusal;
+use mvd_site::Site;
+use mvd_sync::Line;
+use mvd_wire::{Frame, Reply, Request, decode_request, encode_reply, read_frame};
+use std::alloc::Global;
+use std::collections::VecDeque;
+
+/// A line to a site that answers each request when it is sent, as a server does; the replies wait to be taken. It shows that a line
+/// can be true.
+#[derive(Drop)]
+pub struct Served {
+    alloc: Global,
+    site: Site,
+    waiting: VecDeque<Reply>,
+}
+
+impl Served {
+    pub fn new(alloc: Global, site: Site) -> Self
+        ensures site { result.site ≡ site }
+        ensures waiting { result.waiting.items ≡ [] }
+        ensures held { AreHeld result.site.states }
+    {
+        let _held = site.key_count();
+        Served {
+            alloc,
+            site,
+            waiting: VecDeque::new(alloc),
+        }
+    }
+
+    /// The site.
+    pub fn into_site(self) -> Site
+        ensures { result ≡ self.site }
+    {
+        let Served { site, .. } = self;
+        site
+    }
+
+    /// The reply of the site to a request.
+    fn reply(&mut self, request: &Request) -> Reply
+        ensures truth { TrueReply self.old.site.config.max_keys self.old.site.states request.now result self.new.site.states }
+        ensures fits { CanBeSent result }
+        ensures most { self.new.site.config ≡ self.old.site.config }
+        ensures held { AreHeld self.new.site.states }
+        ensures waiting { self.new.waiting.items ≡ self.old.waiting.items }
+    {
+        let _held_before = self.site.key_count();
+        is_valid(request);
+        let reply = self.site.answer(request);
+        let _held = self.site.key_count();
+        reply
+    }
+
+    /// Answers the request of a frame.
+    fn take(&mut self, frame: &Frame) -> Result<(), Refusal>
+        ensures truth { (request : Request) → SpellsRequest request frame.now.kind frame.now.payload.items →
+            TakesOne (far_at self.old.site self.old.waiting.items) request (far_at self.new.site self.new.waiting.items) result }
+        ensures most { self.new.site.config ≡ self.old.site.config }
+        ensures held { AreHeld self.old.site.states → AreHeld self.new.site.states }
+    {
+        let request = match decode_request(self.alloc, frame.kind, &frame.payload) {
+            Ok(request) => request,
+            Err(refusal) => return Err(refusal),
+        };
+        let reply = self.reply(&request);
+        match self.waiting.push_back(reply) {
+            Ok(()) => Ok(()),
+            Err(_) => Err(Refusal::Memory),
+        }
+    }
+}
+
+/// The siblings of a state that is pushed have been seen.
+fn is_valid(request: &Request)
+    ensures { IsValidRequest request.now }
+{
+    if let Request::Push(_, state) = request {
+        let _seen = state.context();
+    }
+}
+
+impl Line for Served {
+    ghost remaining = { λ _. None };
+
+    ghost contents = { λ _. None };
+
+    ghost is_true = { λ served. AreHeld served.site.states };
+
+    ghost far = { λ served. far_at served.site served.waiting.items };
+
+    ghost in_form = { λ _ held. held };
+
+    fn send(&mut self, frames: &[u8]) -> Result<(), Refusal> {
+        let mut rest = frames;
+        for _turn in 0..frames.len() {
+            let frame = match read_frame(self.alloc, &mut rest) {
+                Ok(Some(frame)) => frame,
+                Ok(None) => return Ok(()),
+                Err(_) => return Err(Refusal::WriteFailed),
+            };
+            if self.take(&frame).is_err() {
+                return Err(Refusal::WriteFailed);
+            }
+        }
+        if rest.is_empty() {
+            Ok(())
+        } else {
+            Err(Refusal::WriteFailed)
+        }
+    }
+
+    fn receive(&mut self, alloc: Global) -> Result<Option<Frame>, Refusal> {
+        let Some(reply) = self.waiting.pop_front() else {
+            return Ok(None);
+        };
+        let bytes = match encode_reply(alloc, &reply) {
+            Ok(bytes) => bytes,
+            Err(_) => return Err(Refusal::Memory),
+        };
+        read_frame(alloc, &mut bytes.as_slice())
+    }
+}

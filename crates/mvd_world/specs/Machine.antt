@@ -174,7 +174,7 @@ met known local peer joined given =
     let first : ℕ → List Write = learns known local (writes_in joined (known peer)) in
     learns first peer (writes_in given (first local))
 
--- what breaks a side in a session is told, and breaks it for good
+-- what breaks a side in a session is told, and a side that was broken still is
 abbrev pub BreaksBy : Bool → Bool → SyncFault → Result Report SyncFault → Type 0
 BreaksBy was is told result = (was ≡ true → is ≡ true) × (was ≡ false → is ≡ true → result ≡ Err told)
 

@@ -11,15 +11,18 @@ ghost use Rattle.mvd_world.specs.Machine.{Event, Happen, HaveOwnDots, IsNoClash,
 /// Whatever is lost, repeated or reordered, whatever contexts the authors hand in, and whatever keys a session joins.
 pub fn every_schedule()
     // One put for each dot, and what is known was made.
-    ensures sound { (setting : Setting) (steps : List Step) (outcomes : List Outcome) (end : Knowledge) → Runs setting nothing_yet steps outcomes end → IsSound end }
+    ensures sound { (setting : Setting) (steps : List Step) (outcomes : List Outcome) (end : Knowledge)
+        → Runs setting nothing_yet steps outcomes end → IsSound end }
     // No step is refused for a clash.
-    ensures apart { (setting : Setting) (before after : Knowledge) (step : Step) (outcome : Outcome) → IsSound before → MayStep setting before step outcome after → IsNoClash outcome }
+    ensures apart { (setting : Setting) (before after : Knowledge) (step : Step) (outcome : Outcome)
+        → IsSound before → MayStep setting before step outcome after → IsNoClash outcome }
 {}
 
-/// The same of sites that break and are opened again, at any places and as often as may be, with or without the changes that
-/// were told that the site is broken.
+/// The same of sites that break and are opened again, at any places and as often as may be, with or without the changes
+/// that were told that the site is broken.
 pub fn every_schedule_with_sites_opened_again()
-    ensures sound { (setting : Setting) (events : List Event) (end : Knowledge) → Happen setting nothing_yet events end → IsSound end }
+    ensures sound { (setting : Setting) (events : List Event) (end : Knowledge)
+        → Happen setting nothing_yet events end → IsSound end }
     ensures apart { (setting : Setting) (before after : Knowledge) (step : Step) (outcome : Outcome)
         → IsSound before → MayHappen setting before (Stepped step outcome) after → IsNoClash outcome }
     // Steps where no site is opened again are such events.
@@ -27,13 +30,15 @@ pub fn every_schedule_with_sites_opened_again()
         → Runs setting before steps outcomes end → Happen setting before (events_of steps outcomes) end }
 {}
 
-/// Two puts of one key, at different steps, at one site or at two, are told different dots: also where sites broke between
-/// them, and were opened again.
+/// Two puts of one key, at different steps, at one site or at two, are told different dots: also where sites broke
+/// between them, and were opened again.
 pub fn each_put_has_its_own_dot()
-    ensures { (setting : Setting) (events : List Event) (end : Knowledge) → Happen setting nothing_yet events end → HaveOwnDots events }
+    ensures { (setting : Setting) (events : List Event) (end : Knowledge)
+        → Happen setting nothing_yet events end → HaveOwnDots events }
 {}
 
-/// Sites with equal definitions that know the same writes give equal answers to each question, whatever else each is set up with.
+/// Sites with equal definitions that know the same writes give equal answers to each question, whatever their numbers
+/// and however many keys each may hold.
 pub fn the_same_writes_are_answered_alike()
     ensures { (setting : Setting) (world : Knowledge) (i j : ℕ) (a b : ConfigValue) (request : Request)
         → IsSound world → setting.configs i ≡ Some a → setting.configs j ≡ Some b → a.defs ≡ b.defs

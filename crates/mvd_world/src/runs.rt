@@ -32,7 +32,7 @@ pub fn run_world(
     ensures dots { IfOk result (λ done. HaveOwnDots (events_of steps.now done.1.items)) }
     // Each site that is not broken stands for what it knows, and that was made.
     ensures stand { IfOk result (λ done. Leads_to (setting_of count max_keys defs) done.0 steps.now done.1.items (StandForKnown done.0)) }
-    // Sites that know the same writes, and have equal definitions as all have here, give equal answers to each question.
+    // Sites with equal definitions, as all have here, that know the same writes give equal answers to each question.
     ensures alike { IfOk result (λ done. Leads_to (setting_of count max_keys defs) done.0 steps.now done.1.items (AlikeWhereSame done.0)) }
     // No answer and no session is refused for a clash.
     ensures apart { IfOk result (λ done. AllByRecursion IsNoClash done.1.items) }

@@ -75,7 +75,8 @@ impl World {
         // No message comes to be longer than a state may be.
         ensures short { AreShort self.old → AreShort self.new }
         // Where there is no such step, it is told, and the world is the very same.
-        ensures none { may_be (is_numbered (length self.old.sites.items)) (length self.old.messages.items) step.now ≡ false → (result ≡ NoSuch) × (self.new ≡ self.old) }
+        ensures none { may_be (is_numbered (length self.old.sites.items)) (length self.old.messages.items) step.now ≡ false
+            → (result ≡ NoSuch) × (self.new ≡ self.old) }
     {
         if !self.may_be(step) {
             return Outcome::NoSuch;
@@ -94,7 +95,8 @@ impl World {
 
     /// Whether there are the sites and the message that the step names, and its request is of its sort.
     fn may_be(&self, step: &Step) -> bool
-        ensures { result ≡ may_be (is_numbered (length self.now.sites.items)) (length self.now.messages.items) step.now }
+        ensures { result
+            ≡ may_be (is_numbered (length self.now.sites.items)) (length self.now.messages.items) step.now }
     {
         let sites = self.sites.len();
         match step {

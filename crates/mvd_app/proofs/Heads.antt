@@ -89,6 +89,12 @@ begun old new head member no_world is_head world is (Headed sites most defs) ((o
     (setting_of sites (unwrap_or most 1000000) defs, nothing_yet, (refl, refl), (member, is, subst (λ (s : Setting). IsWorld s member.world nothing_yet) setting world))
 begun old new head member no_world is_head world is (Running _ _) (other, is_other, _) = absurd cc
 
+-- the sites that there are stay
+pub are_there : (script : Script) → IsSome script.world → (stage : Stage) → IsStage script stage → (setting : Setting) × (knowledge : Knowledge) × StartsAt stage setting knowledge × IsStage script (Running setting knowledge)
+are_there script some Blank (_, _, none) = absurd (no_some script.world some none)
+are_there script some (Headed sites most defs) (_, _, none) = absurd (no_some script.world some none)
+are_there script some (Running setting knowledge) stands = (setting, knowledge, (refl, refl), stands)
+
 one_member : (member other : Member) (option : Option Member) → option ≡ Some member → option ≡ Some other → member ≡ other
 one_member member other option first second = let both : Some member ≡ Some other = sym first ∙ second in cc
 

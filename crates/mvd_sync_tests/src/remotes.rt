@@ -1,8 +1,9 @@
 //! A remote site over bytes in memory.
 use crate::peers::Counting;
+use crate::served::Served;
 use crate::sessions::meet;
 use mvd_dots::Refusal;
-use mvd_keys::{Key, KeyState};
+use mvd_keys::{Key, KeyState, Path};
 use mvd_sync::{Duplex, Remote, SyncFault};
 use mvd_wire::{Request, decode_request};
 use std::alloc::Global;
@@ -225,5 +226,24 @@ fn window_ends(alloc: Global) -> Result<bool, Refusal> {
 #[test]
 fn a_window_is_written_whole(rt: HostRuntime) -> Result<(), Fail> {
     assert!(rt; window_ends(rt.alloc())?);
+    Ok(())
+}
+
+/// Whether a session with a site behind a line gives that a key, and its root.
+fn meets_over_a_line(alloc: Global) -> Result<bool, Refusal> {
+    let mut local = Counting::new(alloc, 1, 10)?;
+    local.put("k", "-", "{}")?;
+    let far = Counting::new(alloc, 2, 10)?;
+    let mut remote = Remote::over(alloc, Served::new(alloc, far.site));
+    let met = meet(alloc, &mut local, &mut remote);
+    let said = remote.bye();
+    let site = remote.into_line().into_site();
+    let root = site.node(&Path::new(alloc, &[])?)?;
+    Ok(met == Ok(1) && said == Ok(()) && site.key_count() == 1 && root.own == local.root()?)
+}
+
+#[test]
+fn a_session_over_a_line_to_a_site(rt: HostRuntime) -> Result<(), Fail> {
+    assert!(rt; meets_over_a_line(rt.alloc())?);
     Ok(())
 }

@@ -102,21 +102,18 @@ impl Line for Served {
 
     fn send(&mut self, frames: &[u8]) -> Result<(), Refusal> {
         let mut rest = frames;
-        for _turn in 0..frames.len() {
+        for _turn in 0..frames.len().saturating_add(1) {
             let frame = match read_frame(self.alloc, &mut rest) {
                 Ok(Some(frame)) => frame,
                 Ok(None) => return Ok(()),
                 Err(_) => return Err(Refusal::WriteFailed),
             };
-            if self.take(&frame).is_err() {
-                return Err(Refusal::WriteFailed);
+            match self.take(&frame) {
+                Ok(()) => {}
+                Err(_) => return Err(Refusal::WriteFailed),
             }
         }
-        if rest.is_empty() {
-            Ok(())
-        } else {
-            Err(Refusal::WriteFailed)
-        }
+        Err(Refusal::WriteFailed)
     }
 
     fn receive(&mut self, alloc: Global) -> Result<Option<Frame>, Refusal> {

@@ -1,28 +1,31 @@
 #!/usr/bin/env python3
 """Measures sessions over a link with a delay: `mvd serve` and `mvd sync` as processes, and a relay between them.
 
-usage: tools/slow_link.py PROGRAM [DELAY]
+usage: tools/slow_link.py PROGRAM [BEFORE]
 
-PROGRAM is `mvd` as built. DELAY is how many milliseconds the relay holds back what goes either way (25). It prints a row for each
-session: how many keys differed, how many bytes and round trips went over the link, and the seconds that went by. A round trip
-is counted where something comes from the session after something has come from the server. The files are made in TMPDIR (else
-/tmp). LINK_KEYS names other numbers of keys than 1000 100000 for the sessions of sites that nearly agree.
+PROGRAM is `mvd` as built, and BEFORE another one, to compare with. The relay holds back what goes either way by LINK_DELAY
+milliseconds (25). Three sessions are run: of two sites with 1000000 keys of which 10 differ, of two sites with 1000 keys and 10 more
+on either side, and of a site with 100000 keys and one with none. LINK_KEYS has other numbers of keys than these three. A first
+session is run without the relay's delay, too, and then beside BEFORE. A row for each tells how many keys crossed, how many bytes and
+round trips went over the link, and the seconds that went by; the last column has the most that is expected. A round trip is counted
+where something comes from the session after something has come from the server. The files are made in TMPDIR (else /tmp).
 """
 import os
 import queue
 import socket
+import sqlite3
 import subprocess
 import sys
 import tempfile
 import threading
 import time
 
-from measure_stored import Server, clear, ended, make, start
+from measure_stored import Server, clear, ended, make, start, state
 
-DELAY = float(sys.argv[2]) / 1000 if len(sys.argv) > 2 else 0.025
-SIZES = [int(word) for word in os.environ.get("LINK_KEYS", "1000 100000").split()]
-FIRST = [100, 500]
+DELAY = float(os.environ.get("LINK_DELAY", "25")) / 1000
+MANY, FEW, FIRST = (int(word) for word in os.environ.get("LINK_KEYS", "1000000 1000 100000").split())
 DIFFERING = 10
+MOST_TRIPS = {"differ": 12, "either": 14, "first": 200}
 
 
 class Link:
@@ -82,32 +85,66 @@ class Relay(threading.Thread):
             link.thread.join()
 
 
-def session(program, folder, keys, odd, delay):
-    """A session with a server of so many keys, of a site with as many of which some differ, or of a site with none."""
+def add(path, site, names):
+    """Adds keys that a site put."""
+    db = sqlite3.connect(path)
+    db.executemany("INSERT INTO states2 VALUES (?, ?)", ((name, state(site, 1)) for name in names))
+    db.commit()
+    db.close()
+
+
+def make_both(near, far, kind, keys):
+    """The files of both sites before a session: how many keys cross."""
+    if kind == "differ":
+        make(near, 2, keys, DIFFERING)
+        make(far, 1, keys)
+        return DIFFERING
+    make(far, 1, keys)
+    if kind == "first":
+        return keys
+    make(near, 2, keys)
+    for path, site, name in (near, 2, "near"), (far, 1, "far"):
+        add(path, site, (f"{name}{number}" for number in range(DIFFERING)))
+    return 2 * DIFFERING
+
+
+def session(program, folder, kind, keys, delay):
+    """A session with a server of so many keys: how many crossed, and the relay."""
     clear(folder)
     near, far = (os.path.join(folder, name) for name in ("near.db", "far.db"))
-    make(far, 1, keys)
-    if odd:
-        make(near, 2, keys, odd)
+    crossing = make_both(near, far, kind, keys)
     server = Server(program, far)
     relay = Relay(server.port, delay)
     relay.start()
     told, _ = ended(start([program, "sync", "--db", near, "--site", "2", "--port", str(relay.port)]))
     relay.join()
     ended(server.process)
-    if told.splitlines()[0] != f"keys {odd or keys}":
+    if told.splitlines()[0] != f"keys {crossing}":
         sys.exit(f"a session told {told}")
-    return relay
+    return crossing, relay
+
+
+def row(name, program, folder, kind, keys, delay):
+    """Runs a session and prints its row: the seconds that went by."""
+    crossing, relay = session(program, folder, kind, keys, delay)
+    went_by = relay.last - relay.first
+    most = MOST_TRIPS[kind] if delay else ""
+    print(f"| {name} | {keys} | {crossing} | {delay * 1000:.0f} ms | {relay.trips} | {relay.bytes} | {went_by:.2f} s | {most} |", flush=True)
+    return went_by
 
 
 def main():
     program = os.path.realpath(sys.argv[1])
-    print(f"\n{DELAY * 1000:.0f} ms each way.\n\n| keys | differ | delay | round trips | bytes | went by |\n|---|---|---|---|---|---|")
-    rounds = [(keys, DIFFERING, DELAY) for keys in SIZES] + [(keys, 0, DELAY) for keys in FIRST] + [(10000, 0, 0)]
+    before = os.path.realpath(sys.argv[2]) if len(sys.argv) > 2 else None
+    print("\n| session | keys | crossed | delay each way | round trips | bytes | went by | round trips, at most |\n|---|---|---|---|---|---|---|---|")
     with tempfile.TemporaryDirectory() as folder:
-        for keys, odd, delay in rounds:
-            it = session(program, folder, keys, odd, delay)
-            print(f"| {keys} | {odd or keys} | {delay * 1000:.0f} ms | {it.trips} | {it.bytes} | {it.last - it.first:.2f} s |", flush=True)
+        row("some differ", program, folder, "differ", MANY, DELAY)
+        row("some more on either side", program, folder, "either", FEW, DELAY)
+        row("a first session", program, folder, "first", FIRST, DELAY)
+        now = row("a first session", program, folder, "first", FIRST, 0)
+        if before:
+            then = row("the same before", before, folder, "first", FIRST, 0)
+            print(f"\nWithout a delay a first session takes {now / then:.2f} of the time before.")
 
 
 if __name__ == "__main__":

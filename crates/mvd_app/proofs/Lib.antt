@@ -3,3 +3,5 @@ pub mod Playing
 pub mod Heads
 pub mod Running
 pub mod Clients
+pub mod Watching
+pub mod Reporting

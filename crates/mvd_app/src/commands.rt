@@ -6,7 +6,7 @@ use crate::looping::loop_run;
 use crate::many::{Terms, serve_run};
 use crate::output::Output;
 use crate::script::sim;
-use crate::serving::{refused_in, sync_run};
+use crate::serving::{refused_in, sync_run, tell_report};
 use crate::shell::{remote_shell_run, shell_run};
 use mvd_dots::Refusal;
 use mvd_input::{DEFS_MAX, Fault, Order, Setup, read_defs, read_input};
@@ -120,7 +120,8 @@ fn work_on<'a, S: Alter + Drop>(
         Work::Sync(address, idle, verbose) => {
             let mut errors = rt.stderr();
             let told = if verbose { Some(&mut errors) } else { None };
-            sync_run(rt, rt.alloc(), replica, address, idle, told, &mut writer)
+            let report = sync_run(rt, rt.alloc(), replica, address, idle, told)?;
+            tell_report(rt.alloc(), replica, &report, &mut writer, &mut errors)
         }
     }
 }

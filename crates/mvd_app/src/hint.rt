@@ -1,6 +1,6 @@
 //! A fault, and what there is to do about it.
 ghost use Rattle.std.specs.Prelude.{◌≡◌, ℕ, Some};
-ghost use Rattle.mvd_dots.specs.declared.refusals.Refusal.TheVariants.{Damaged, DotClash, FrameTooLong, Full, ReadFailed, SiteMismatch, Store};
+ghost use Rattle.mvd_dots.specs.declared.refusals.Refusal.TheVariants.{BadBody, BadKind, Damaged, DotClash, FrameTooLong, Full, ReadFailed, SiteMismatch, Store};
 ghost use Rattle.mvd_input.specs.declared.fault.Fault.TheVariants.{Stopped};
 ghost use Rattle.mvd_input.specs.declared.fault.Fault.TheVariants as faults;
 
@@ -51,9 +51,18 @@ pub enum Hint<'a> {
     Broken(SocketAddr),
     #[error("the server at {0} refused it: what was done before stays")]
     Refused(SocketAddr),
+    #[error("{0} does not answer as mvd does: name another --address and --port, or bring both to one version")]
+    NoPeer(SocketAddr),
     #[error("two files wrote under one site's number: docs/USING.md tells what not to do with a copy")]
     Clash,
+    #[error("all other keys were exchanged; docs/USING.md tells what to do about a key that is refused")]
+    Left,
 }
+
+/// That a file was older than what the other side saw of it, at so many keys, and what to do.
+#[derive(Debug, Clone, Copy, Error)]
+#[error("the file was older than what the server saw of it, keys {0}: if it was written since it was put back, docs/USING.md tells what to do with a copy")]
+pub struct Older(pub u64);
 
 /// Why a command was stopped, and what there is to do about it where something is known.
 #[derive(Debug, Clone, Copy)]
@@ -211,12 +220,24 @@ impl<'a> Stop<'a> {
     pub fn at_server(address: SocketAddr, refusal: Refusal) -> Stop<'a>
         ensures fault { result.fault ≡ Stopped refusal }
         ensures clash { refusal ≡ DotClash → result.hint ≡ Some Hint.Clash }
+        ensures long { refusal ≡ FrameTooLong → result.hint ≡ Some (Hint.NoPeer address) }
+        ensures kind { refusal ≡ BadKind → result.hint ≡ Some (Hint.NoPeer address) }
+        ensures body { refusal ≡ BadBody → result.hint ≡ Some (Hint.NoPeer address) }
     {
         let hint = match refusal {
             Refusal::DotClash => Hint::Clash,
+            Refusal::FrameTooLong | Refusal::BadKind | Refusal::BadBody => Hint::NoPeer(address),
             _ if refusal.number() < 30 => Hint::Refused(address),
             _ => Hint::Broken(address),
         };
         Stop::new(refusal, hint)
+    }
+
+    /// A session left keys, of which the first was refused so.
+    pub fn left(refusal: Refusal) -> Stop<'a>
+        ensures fault { result.fault ≡ Stopped refusal }
+        ensures hint { result.hint ≡ Some Hint.Left }
+    {
+        Stop::new(refusal, Hint::Left)
     }
 }

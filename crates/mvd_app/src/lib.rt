@@ -28,5 +28,5 @@ pub use looping::loop_run;
 pub use many::{Terms, serve_run};
 pub use output::Output;
 pub use script::sim;
-pub use serving::{replica_in, sync_run};
+pub use serving::{replica_in, sync_run, tell_report};
 pub use shell::{remote_shell_run, shell_run};

@@ -1,80 +1,126 @@
 //! How far a session is.
+ghost use Rattle.std.specs.Prelude.{◌≡◌};
+
 use mvd_dots::Refusal;
 use mvd_keys::{Key, KeyState, Path};
-use mvd_sync::{Peer, Remote};
+use mvd_sync::{Page, Peer};
 use mvd_wire::Digests;
+use std::alloc::Global;
 use std::fmt::Write as Print;
-use std::io::{Read, Write};
+use std::io::Write;
 
-/// So many keys are exchanged between two lines.
+/// So many states come or go between two lines.
 const STEP: u64 = 1_000;
 
-/// The other side of a session, which tells a writer after each thousand keys how many were exchanged. A line that cannot be
+/// A side of a session, of which a writer is told after each thousand states how many it gave or took. A line that cannot be
 /// written is left out.
 #[derive(Drop)]
-pub struct Watched<'a, R: Read + Drop, W: Write + Drop, E: Write> {
-    pub remote: Remote<R, W>,
-    pub keys: u64,
+pub struct Watched<'a, P: Peer + Drop, E: Write> {
+    pub side: P,
+    pub moved: u64,
     pub told: Option<&'a mut E>,
 }
 
-impl<R: Read + Drop, W: Write + Drop, E: Write> Watched<'_, R, W, E> {
-    /// One more key was exchanged.
-    fn count(&mut self) {
-        self.keys = self.keys.saturating_add(1);
-        if !self.keys.is_multiple_of(STEP) {
+impl<P: Peer + Drop, E: Write> Watched<'_, P, E> {
+    /// So many more states came or went.
+    fn count(&mut self, more: u64)
+        ensures { self.new.side ≡ self.old.side }
+    {
+        let before = self.moved / STEP;
+        self.moved = self.moved.saturating_add(more);
+        if self.moved / STEP == before {
             return;
         }
         if let Some(writer) = &mut self.told {
-            let _ = writeln!(writer, "{} keys so far", self.keys);
+            let _ = writeln!(writer, "{} states so far", self.moved);
         }
     }
 }
 
-/// No truth is claimed of a side at the other end of a connection.
-impl<R: Read + Drop, W: Write + Drop, E: Write> Peer for Watched<'_, R, W, E> {
-    ghost use Rattle.std.specs.FinMap.{empty};
+/// How many of these are no refusal.
+fn taken<A>(told: &Result<Vec<Result<A, Refusal>>, Refusal>) -> u64 {
+    let Ok(told) = told else {
+        return 0;
+    };
+    let mut count = 0u64;
+    for answer in told {
+        if answer.is_ok() {
+            count = count.saturating_add(1);
+        }
+    }
+    count
+}
 
-    ghost states = { λ _. empty };
+/// It is asked what the side within is asked, in the same windows, and is as true.
+impl<P: Peer + Drop, E: Write> Peer for Watched<'_, P, E> {
+    ghost states = { λ watched. P.states watched.side };
 
-    ghost is_faithful = { λ _. ⊥ };
+    ghost is_faithful = { λ watched. P.is_faithful watched.side };
 
-    ghost can_give = { λ _ _. Unit {0} };
+    ghost can_give = { P.can_give };
 
-    ghost follows = { λ _ _. Unit {0} };
+    ghost follows = { λ n old new. P.follows n old.side new.side };
 
-    ghost can_refuse = { λ _ _. Unit {0} };
+    ghost can_refuse = { λ watched. P.can_refuse watched.side };
 
-    ghost can_answer = { λ _. Unit {0} };
+    ghost can_answer = { λ watched. P.can_answer watched.side };
 
-    ghost in_form = { λ _ never. absurd never };
+    ghost most_keys = { λ watched. P.most_keys watched.side };
 
-    ghost follows_self = { λ _. tt };
+    ghost number = { λ watched. P.number watched.side };
 
-    ghost follows_on = { λ _ _ _ _ _. tt };
+    ghost in_form = { λ watched. P.in_form watched.side };
 
-    fn node(&mut self, path: &Path) -> Result<Digests, Refusal> {
-        self.remote.node(path)
+    ghost follows_self = { λ watched. P.follows_self watched.side };
+
+    ghost follows_on = { λ m n old mid new. P.follows_on m n old.side mid.side new.side };
+
+    ghost most_stays = { λ n old new. P.most_stays n old.side new.side };
+
+    fn alloc(&self) -> Global {
+        self.side.alloc()
     }
 
-    fn bucket(
-        &mut self,
-        path: &Path,
-        after: Option<&Key>,
-    ) -> Result<(Vec<(Key, [u8; 32])>, bool), Refusal> {
-        self.remote.bucket(path, after)
+    fn number(&self) -> Option<u32> {
+        self.side.number()
+    }
+
+    fn node(&mut self, path: &Path) -> Result<Digests, Refusal> {
+        self.side.node(path)
+    }
+
+    fn bucket(&mut self, path: &Path, after: Option<&Key>) -> Result<Page, Refusal> {
+        self.side.bucket(path, after)
     }
 
     fn get(&mut self, key: &Key) -> Result<KeyState, Refusal> {
-        self.remote.get(key)
+        self.side.get(key)
     }
 
-    /// The last that is asked for a key of a session.
     fn push(&mut self, key: &Key, state: &KeyState) -> Result<(), Refusal> {
-        let pushed = self.remote.push(key, state);
-        if pushed.is_ok() {
-            self.count();
-        }
-        pushed
+        self.side.push(key, state)
+    }
+
+    fn nodes(&mut self, paths: &[Path]) -> Result<Vec<Result<Digests, Refusal>>, Refusal> {
+        self.side.nodes(paths)
+    }
+
+    fn pages(
+        &mut self,
+        asked: &[(Path, Option<Key>)],
+    ) -> Result<Vec<Result<Page, Refusal>>, Refusal> {
+        self.side.pages(asked)
+    }
+
+    fn get_all(&mut self, keys: &[Key]) -> Result<Vec<Result<KeyState, Refusal>>, Refusal> {
+        let told = self.side.get_all(keys);
+        self.count(taken(&told));
+        told
+    }
+
+    fn push_all(&mut self, pairs: &[(Key, KeyState)]) -> Result<Vec<Result<(), Refusal>>, Refusal> {
+        let told = self.side.push_all(pairs);
+        self.count(taken(&told));
+        told
     }
 }

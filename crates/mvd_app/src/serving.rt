@@ -1,8 +1,8 @@
 //! The commands on a stored site that meet a peer.
-ghost use Rattle.std.specs.Prelude.{IfErr};
+ghost use Rattle.std.specs.Prelude.{◌≢◌, [], IfErr, IsErr};
 ghost use Rattle.mvd_input.specs.Ends.{EndsEarly};
 
-use crate::hint::Stop;
+use crate::hint::{Older, Stop};
 use crate::link::Link;
 use crate::progress::Watched;
 use mvd_dots::Refusal;
@@ -10,7 +10,7 @@ use mvd_input::{Fault, write_out};
 use mvd_keys::Path;
 use mvd_replica::{Replica, is_foreign};
 use mvd_site::Config;
-use mvd_sync::{Remote, SyncFault, sync};
+use mvd_sync::{Left, Remote, Report, Side, SyncFault, sync};
 use sqlite::{Alter, Connection};
 use std::alloc::Global;
 use std::fmt::Write as Print;
@@ -60,59 +60,93 @@ pub fn connected<N: Net>(rt: &N, address: SocketAddr, idle: u32) -> io::Result<N
     Ok(stream)
 }
 
-/// Runs a session with the server at an address, says Bye, and tells how many keys differed, and the root digest. Where `told` is
-/// given, it is told how far the session is.
-pub fn sync_run<'a, N: Net, S: Alter + Drop, W: Write, E: Write>(
+/// Runs a session with the server at an address, and says Bye. Where `told` is given, it is told how far the session is.
+pub fn sync_run<'a, N: Net, S: Alter + Drop, E: Write>(
     rt: &N,
     alloc: Global,
     replica: &mut Replica<S>,
     address: SocketAddr,
     idle: u32,
     told: Option<&mut E>,
-    writer: &mut W,
-) -> Result<(), Stop<'a>> {
+) -> Result<Report, Stop<'a>> {
     let stream = match connected(rt, address, idle) {
         Ok(stream) => stream,
         Err(error) => return Err(Stop::unanswered(address, error)),
     };
     match sync_stream(alloc, stream, replica, told) {
-        Ok(keys) => Ok(tell_report(alloc, replica, keys, writer)?),
+        Ok(report) => Ok(report),
         Err(SyncFault::Local(refusal)) => Err(Stop::in_session(refusal)),
         Err(SyncFault::Peer(refusal)) => Err(Stop::at_server(address, refusal)),
     }
 }
 
-/// Tells how many keys differed, and the root digest.
-fn tell_report<S: Alter + Drop, W: Write>(
-    alloc: Global,
-    replica: &Replica<S>,
-    keys: u64,
-    writer: &mut W,
-) -> Result<(), Fault> {
-    let mut line = String::new(alloc);
-    writeln!(line, "keys {keys}")?;
-    print_root(alloc, replica, &mut line)?;
-    tell(writer, &mut line)
-}
-
-/// Runs a session over a stream, and gives how many keys differed.
+/// Runs a session over a stream.
 fn sync_stream<T: Read + Write + Drop, S: Alter + Drop, E: Write>(
     alloc: Global,
     stream: T,
     replica: &mut Replica<S>,
     told: Option<&mut E>,
-) -> Result<u64, SyncFault> {
+) -> Result<Report, SyncFault> {
     let link = Link::new(alloc, stream).map_err(SyncFault::Local)?;
     let incoming = link.incoming(alloc).map_err(SyncFault::Local)?;
-    let remote = Remote::new(alloc, incoming, link.outgoing());
+    let side = Remote::new(alloc, incoming, link.outgoing());
     let mut watched = Watched {
-        remote,
-        keys: 0,
+        side,
+        moved: 0,
         told,
     };
     let report = sync(alloc, replica, &mut watched)?;
-    watched.remote.bye().map_err(SyncFault::Peer)?;
-    Ok(report.keys)
+    watched.side.bye().map_err(SyncFault::Peer)?;
+    Ok(report)
+}
+
+/// Tells how many keys a session exchanged, how many were refused, and the root digest; and on `errors` which keys were refused,
+/// and whether the file was older than what the server saw of it. Keys that were refused are what the command is stopped with.
+pub fn tell_report<'a, S: Alter + Drop, W: Write, E: Write>(
+    alloc: Global,
+    replica: &Replica<S>,
+    report: &Report,
+    writer: &mut W,
+    errors: &mut E,
+) -> Result<(), Stop<'a>>
+    ensures left { report.now.first_refused ≢ [] → IsErr result }
+{
+    tell_counts(alloc, replica, report, writer)?;
+    for left in report.first_refused.as_slice() {
+        tell_left(left, errors);
+    }
+    if report.old > 0 {
+        let _ = writeln!(errors, "mvd: {}", Older(report.old));
+    }
+    match report.first_refused.as_slice().first() {
+        Some((_, (_, refusal))) => Err(Stop::left(*refusal)),
+        None => Ok(()),
+    }
+}
+
+fn tell_counts<S: Alter + Drop, W: Write>(
+    alloc: Global,
+    replica: &Replica<S>,
+    report: &Report,
+    writer: &mut W,
+) -> Result<(), Fault> {
+    let mut lines = String::new(alloc);
+    writeln!(lines, "keys {}", report.keys)?;
+    if report.refused > 0 {
+        writeln!(lines, "refused {}", report.refused)?;
+    }
+    print_root(alloc, replica, &mut lines)?;
+    tell(writer, &mut lines)
+}
+
+/// Tells which key was refused, by which side, and how. A line that cannot be written is left out.
+fn tell_left<E: Write>(left: &Left, errors: &mut E) {
+    let (key, (side, refusal)) = left;
+    let place = match side {
+        Side::Local => "this side",
+        Side::Peer => "the server",
+    };
+    let _ = writeln!(errors, "mvd: key {}: {refusal} at {place}", key.text());
 }
 
 /// Adds a line with the root digest.

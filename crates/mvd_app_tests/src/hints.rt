@@ -88,6 +88,21 @@ fn a_port_in_use_is_told(rt: HostRuntime) -> Result<(), Fail> {
 }
 
 #[test]
+fn a_peer_that_is_none_is_told(rt: HostRuntime) -> Result<(), Fail> {
+    let address = SocketAddr::new(IpAddr::V4(Ipv4Addr::LOCALHOST), 7007);
+    let wanted =
+        "mvd: fault 32 BadKind\nmvd: 127.0.0.1:7007 does not answer as mvd does: name another --address and --port, or bring both to one version";
+    assert!(rt;
+        tells(
+            rt.alloc(),
+            &Stop::at_server(address, Refusal::BadKind),
+            wanted
+        )?
+    );
+    Ok(())
+}
+
+#[test]
 fn a_line_is_told_with_its_form(rt: HostRuntime) -> Result<(), Fail> {
     let stop = Stop::in_input(Fault::Line(3), Hint::Hexadecimal);
     let wanted =

@@ -15,6 +15,8 @@ mod damaged;
 #[cfg(test)]
 mod memory;
 #[cfg(test)]
+mod poisoned;
+#[cfg(test)]
 mod random;
 #[cfg(test)]
 mod reopened;

@@ -11,7 +11,7 @@ use sqlite_disk::{Crash, Disk, Fuse, Memory};
 use std::alloc::Global;
 use std::test::Fail;
 
-type Stopping = Fuse<Memory>;
+pub type Stopping = Fuse<Memory>;
 
 /// Two files in memory with no byte.
 pub fn no_files(alloc: Global) -> Files<Memory> {
@@ -54,7 +54,7 @@ pub fn in_files<D: Disk + Drop>(
 }
 
 /// Files of which one stops after so many calls: the log, or the database.
-fn fused(files: Files<Memory>, of_log: bool, calls: u64) -> Files<Stopping> {
+pub fn fused(files: Files<Memory>, of_log: bool, calls: u64) -> Files<Stopping> {
     let Files { log, db } = files;
     let (log_calls, db_calls) = if of_log {
         (calls, u64::MAX)

@@ -51,6 +51,10 @@ ends_text ends = flat_map (λ word. codes " " ++ word) (ends_words ends)
 abbrev pub none_such_text : List ℕ
 none_such_text = line (codes "none" ∷ codes "such" ∷ [])
 
+-- the number and the name of a refusal
+abbrev pub two_words : Refusal → List ℕ
+two_words refusal = decimal (number_of refusal) ++ (32 ∷ name_of refusal)
+
 abbrev pub refused_text : Refusal → List ℕ
 refused_text refusal = line (codes "refused" ∷ decimal (number_of refusal) ∷ name_of refusal ∷ [])
 
@@ -61,6 +65,14 @@ message_text number = line (codes "message" ∷ decimal number ∷ [])
 -- how many keys a session exchanged
 abbrev pub keys_text : ℕ → List ℕ
 keys_text count = line (codes "keys" ∷ decimal count ∷ [])
+
+-- a key that a session left, and how it was refused
+abbrev pub left_text : List ℕ → Refusal → List ℕ
+left_text key refusal = line (codes "left" ∷ key ∷ decimal (number_of refusal) ∷ name_of refusal ∷ [])
+
+-- how many keys more a session left
+abbrev pub more_left_text : ℕ → List ℕ
+more_left_text count = line (codes "left" ∷ decimal count ∷ [])
 
 -- a put was taken, and has this dot
 abbrev pub written_text : DotValue → List ℕ

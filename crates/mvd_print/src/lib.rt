@@ -7,5 +7,7 @@ mod replies;
 mod states;
 mod words;
 
-pub use lines::{print_keys, print_message, print_none_such, print_refusal};
+pub use lines::{
+    print_keys, print_left, print_message, print_more_left, print_none_such, print_refusal,
+};
 pub use replies::{print_reply, print_short};

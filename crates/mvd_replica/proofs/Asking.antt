@@ -1,10 +1,10 @@
 -- The reply to a request is of the kind that it asks for.
-use Rattle.std.proofs.Common.{◌≡◌, ◌⊎◌, Bool, true, false, Result, Ok, Err, Some, None, refl, sym, ap, subst, inl, inr, ◌∙◌}
+use Rattle.std.proofs.Common.{◌≡◌, true, false, Result, Ok, Err, Some, None, refl, sym, ap, subst, inl, inr, ◌∙◌}
 use Rattle.std.specs.Prelude.{Option}
 use Rattle.std.specs.FinSet.{union}
 use Rattle.mvd_dots.specs.Dot.{DotValue}
 use Rattle.mvd_dots.specs.declared.refusals.Refusal.{Refusal}
-use Rattle.mvd_dots.specs.declared.refusals.Refusal.TheVariants.{Broken, Memory}
+use Rattle.mvd_dots.specs.declared.refusals.Refusal.TheVariants.{Broken}
 use Rattle.mvd_keys.specs.Minting.{mint}
 use Rattle.mvd_keys.specs.State.{after_delete, after_put}
 use Rattle.mvd_rows.specs.Answers.{find_answer, range_answer, row_answer, rows_answer}

@@ -214,7 +214,7 @@ fits_all : (turns : List Turn) (old new : SiteValue) → TakesAllFrom old new tu
 fits_all [] old new all = tt
 fits_all (turn ∷ turns) old new all = (fits_turn old all.0 turn.asked turn.reply all.1, fits_all turns all.0 new all.2)
 
-whole_all : (turns : List Turn) (old new : SiteValue) → TakesAllFrom old new turns → new.broken ≡ false → old.broken ≡ false
+pub whole_all : (turns : List Turn) (old new : SiteValue) → TakesAllFrom old new turns → new.broken ≡ false → old.broken ≡ false
 whole_all [] old new all whole = sym (site_broken new old all) ∙ whole
 whole_all (turn ∷ turns) old new all whole = whole_turn old all.0 turn.asked turn.reply all.1 (whole_all turns all.0 new all.2 whole)
 

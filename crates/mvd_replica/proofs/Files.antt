@@ -27,7 +27,7 @@ use Rattle.sqlite_trees.specs.Props.{Trees-set}
 use Rattle.mvd_site.specs.Config.{ConfigValue}
 use Rattle.mvd_site.specs.Sites.{SiteValue}
 use Rattle.mvd_records.specs.Records.{IsOurs}
-use Rattle.mvd_replica.specs.File.{ClosesFile, HoldsFile, HoldsImage, IsFoundIn, OpensFile}
+use Rattle.mvd_replica.specs.File.{ClosesFile, HoldsFile, IsFoundIn}
 use Rattle.mvd_replica.specs.Kept.{HoldsStates}
 use Rattle.mvd_replica.specs.Opened.{OpensSite}
 use Rattle.mvd_replica.proofs.Follows.{just_these, ours_held}

@@ -19,3 +19,4 @@ pub mod Follows
 pub mod Files
 pub mod Stops
 pub mod Asking
+pub mod Pushed

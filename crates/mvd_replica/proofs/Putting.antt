@@ -21,10 +21,10 @@ use Rattle.mvd_site.specs.Sites.{SiteValue}
 use Rattle.mvd_site.proofs.Answered.{insert_differs}
 use Rattle.mvd_site.proofs.Outcomes.{refused_fits}
 use Rattle.mvd_site.proofs.Prepare.{answers_from_answer, answers_from_breaking, answers_from_change}
-use Rattle.mvd_replica.specs.Batch.{AnswersOneFrom, AreAmong, TakesAllFrom, after_all}
+use Rattle.mvd_replica.specs.Batch.{AnswersOneFrom, AreAmong, TakesAllFrom}
 use Rattle.mvd_replica.specs.Groups.{AllComeTo, AreSendable, ComeInOrder, ComesTo, IsReply, IsSendable, PutsAll, PutsIfWhole, PutsOne, pairs_in, reply_unstored, with_group, with_one, with_prepared}
 use Rattle.mvd_replica.specs.Kept.{broken_site}
-use Rattle.mvd_replica.specs.Sides.{AnswersFromStored}
+use Rattle.mvd_replica.specs.Sides.{AnswersFromStored, after_all}
 use Rattle.mvd_replica.specs.Turns.{IsToldBroken, IsToldElse, Turn}
 use Rattle.mvd_replica.proofs.Replying.{AddsAt-Refused-none}
 use Rattle.mvd_replica.proofs.Batching.{told_turn}

@@ -22,7 +22,7 @@ use Rattle.mvd_site.proofs.Prepare.{answers_from_breaking}
 use Rattle.mvd_site.proofs.Pushes.{PushFacts, push_facts, refusal_is}
 use Rattle.mvd_sync.specs.Sides.{SiteRefuses}
 use Rattle.mvd_sync.specs.Session.{ComesByPushes}
-use Rattle.mvd_sync.proofs.Steps.{no_pushes}
+use Rattle.mvd_sync.proofs.Pushes.{no_pushes}
 use Rattle.mvd_sync.proofs.SiteSides.{is_broken, push_refuses as site_push_refuses, put_is_pushed}
 use Rattle.mvd_records.specs.Records.{IsSound}
 use Rattle.sqlite.specs.State.{HasCleanDisk, State as Shown, Survives}

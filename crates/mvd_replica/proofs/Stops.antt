@@ -1,18 +1,18 @@
 -- What a stop leaves: the states before the call in hand, or those after it.
-use Rattle.std.proofs.Common.{◌≡◌, ◌⊎◌, false, IsTrue, ℕ, List, refl, subst₂, inl, inr, arith}
+use Rattle.std.proofs.Common.{◌≡◌, false, IsTrue, ℕ, List, refl, subst₂, inl, inr, arith}
 use Rattle.mvd_wire.specs.Codecs.{spell_state}
 use Rattle.mvd_wire.specs.declared.request.Request.{Request}
 use Rattle.mvd_records.specs.Records.{HoldsRecords, Leaves, SavesState}
 use Rattle.mvd_site.specs.Change.{ChangeValue}
 use Rattle.mvd_site.specs.FromStates.{after_from}
-use Rattle.mvd_site.specs.Held.{IsSpelled, States}
+use Rattle.mvd_site.specs.Held.{IsSpelled}
 use Rattle.mvd_site.specs.Sites.{SiteValue}
 use Rattle.std.specs.FinMap.{insert}
 use Rattle.sqlite.specs.State.{HasCleanDisk, State, Survives}
 use Rattle.sqlite.specs.Tree.{Trees}
 use Rattle.sqlite.proofs.StateLemmas.{survives_weaker}
 use Rattle.mvd_replica.specs.Kept.{AreSpelled, HoldsStates}
-use Rattle.mvd_replica.specs.Stops.{LeavesAnswered, LeavesChange, LeavesStates, StopsBetween}
+use Rattle.mvd_replica.specs.Stops.{LeavesAnswered, LeavesChange, StopsBetween}
 use Rattle.mvd_replica.proofs.Storing.{stored_broken}
 
 -- nothing was called

@@ -9,14 +9,12 @@ use Rattle.mvd_wire.specs.declared.reply.Reply.{Reply}
 use Rattle.mvd_wire.specs.declared.reply.Reply.TheVariants.{Refused}
 use Rattle.mvd_wire.specs.Replies.{CanBeSent}
 use Rattle.mvd_records.specs.Records.{IsSound}
-use Rattle.mvd_site.specs.Config.{ConfigValue}
 use Rattle.mvd_site.specs.FromStates.{after_from}
-use Rattle.mvd_site.specs.Held.{States}
 use Rattle.mvd_site.specs.Known.{Adds}
 use Rattle.mvd_site.specs.Sites.{SiteValue}
 use Rattle.mvd_sync.specs.Sides.{SiteFollows}
 use Rattle.mvd_replica.specs.Kept.{HoldsSite, HoldsStates}
-use Rattle.mvd_replica.specs.Sides.{AnswersFromStored}
+use Rattle.mvd_replica.specs.Sides.{AnswersFromStored, after_all}
 use Rattle.mvd_replica.specs.Turns.{Event, IsFirstBroken, IsToldBroken, IsToldElse, Replies, StandsOn, Tells, Turn}
 use Rattle.sqlite.specs.Effect.{Database}
 use Rattle.sqlite.specs.State.{HasCleanDisk, State}
@@ -43,11 +41,6 @@ TakesAllFrom old new [] = new ≡ old
 TakesAllFrom old new (turn ∷ turns) = (mid : SiteValue) × TakesFrom old mid turn.asked turn.reply × TakesAllFrom mid new turns
 
 -- ---- the records
-
--- the states after these requests, one after the other
-abbrev pub after_all : ConfigValue → States → List Request → States
-after_all config states [] = states
-after_all config states (request ∷ requests) = after_all config (after_from config states request) requests
 
 -- some of the turns, in order, asked these requests, and each was told 22
 abbrev pub AreAmong : List Request → List Turn → Type 0

@@ -1,6 +1,7 @@
 pub mod Kept
 pub mod Stored
 pub mod Opened
+pub mod Pushes
 pub mod File
 pub mod Refused
 pub mod Stops

@@ -18,6 +18,7 @@ ghost use Rattle.mvd_site.specs.Held.{AreHeld, IsHeldState, States, state_at};
 ghost use Rattle.mvd_site.specs.Known.{Adds};
 ghost use Rattle.mvd_site.specs.Prepared.{IsChangeNow, is_refusal};
 ghost use Rattle.mvd_site.specs.Sites.{has_no_room};
+ghost use Rattle.mvd_replica.specs.Pushes.{told_of};
 ghost use Rattle.sqlite.specs.Held.{state};
 ghost use Rattle.sqlite.specs.State.{HasCleanDisk, Survives};
 
@@ -251,15 +252,16 @@ impl<S: Alter> Replica<S> {
 }
 
 /// The request to push a state.
-fn pushing(alloc: Global, key: &Key, pushed: &KeyState) -> Result<Request, Refusal>
+pub(crate) fn pushing(alloc: Global, key: &Key, pushed: &KeyState) -> Result<Request, Refusal>
     ensures { IsAnswer result (Ok (Push key.now pushed.now)) }
 {
     Ok(Request::Push(key.copy(alloc)?, pushed.copy(alloc)?))
 }
 
 /// Whether a reply accepts what was asked.
-fn accepted(reply: Reply) -> Result<(), Refusal>
-    ensures { MatchResult result (λ _. is_refusal reply ≡ false) (λ refusal. reply ≡ Refused refusal) }
+pub(crate) fn accepted(reply: Reply) -> Result<(), Refusal>
+    ensures accepts { MatchResult result (λ _. is_refusal reply ≡ false) (λ refusal. reply ≡ Refused refusal) }
+    ensures told { result ≡ told_of reply }
 {
     match reply {
         Reply::Refused(refusal) => Err(refusal),

@@ -1,6 +1,6 @@
 -- Paths below a path, and what equal digests mean there.
-use Rattle.std.proofs.Common.{◌≡◌, ◌⊎◌, inl, inr, ℕ, zero, suc, ◌+◌, ◌-◌, ◌<◌, ◌≤◌, true, false, ◌&&◌, ◌==◌, List, [], ◌∷◌, ◌++◌, length, get_or, refl, sym, ap, subst, ◌∙◌, arith, length-append}
-use Rattle.std.specs.Prelude.{IsTrue, option_map, slice_index}
+use Rattle.std.proofs.Common.{◌≡◌, ℕ, zero, suc, ◌-◌, ◌<◌, ◌≤◌, true, false, ◌&&◌, ◌==◌, List, [], ◌∷◌, ◌++◌, length, get_or, refl, sym, ap, ◌∙◌, arith, length-append}
+use Rattle.std.specs.Prelude.{IsTrue, option_map}
 use Rattle.std.specs.Cmp.{nat_eq_equiv, unsigned_Decides}
 use Rattle.std.specs.FinMap.{get}
 use Rattle.mvd_site.specs.Held.{States}
@@ -11,10 +11,8 @@ use Rattle.mvd_tree.specs.Hashed.{SameUnder}
 use Rattle.mvd_tree.proofs.Under.{digest_above-same, begins-less}
 use Rattle.mvd_tree.proofs.KeyDigests.{get-digests_of}
 use Rattle.std.proofs.lemmas.List.{get_or-map}
-use Rattle.mvd_tree.proofs.Lists.{begins-more}
-use Rattle.mvd_tree.proofs.Bytes.{digits_small, place_length}
 use Rattle.mvd_tree.specs.Page.{children_digests}
-use Rattle.mvd_sync.specs.Walk.{DigestsTell, IsBelow, IsBelowBefore}
+use Rattle.mvd_sync.specs.Walk.{DigestsTell}
 
 pub begins-trans : (p q r : List ℕ) → IsTrue (begins p q) → IsTrue (begins q r) → IsTrue (begins p r)
 begins-trans [] q r h i = refl
@@ -68,40 +66,9 @@ tell_below path child a b a' b' within kept tell =
           (kept k u).0 ∙ same ∙ sym (kept k u).1;
     }
 
--- ---- the children of a node, in turn
+-- ---- the digests of children
 
-pub before_apart : (path child : List ℕ) (d : ℕ) → child ≡ path ++ d ∷ [] → (k : List ℕ) → IsBelowBefore path d k → IsBelow child k → ⊥
-before_apart path child d e k p q =
-    let at = digit_after path d (place_of k) (subst (λ c. IsBelow c k) e q) in
-    let below : slice_index (place_of k) (length path) < d = p.1 in
-    omega (arith, at, below)
-
-pub child_below : (path child : List ℕ) (d : ℕ) → child ≡ path ++ d ∷ [] → (k : List ℕ) → IsBelow child k → IsBelow path k
-child_below path child d e k q = begins-less path d (place_of k) (subst (λ c. IsBelow c k) e q)
-
-pub child_before : (path child : List ℕ) (d : ℕ) → child ≡ path ++ d ∷ [] → (k : List ℕ) → IsBelow child k → IsBelowBefore path (d + 1) k
-child_before path child d e k q =
-    (child_below path child d e k q, let at = digit_after path d (place_of k) (subst (λ c. IsBelow c k) e q) in omega (arith, at))
-
-pub before_more : (path : List ℕ) (d : ℕ) (k : List ℕ) → IsBelowBefore path d k → IsBelowBefore path (d + 1) k
-before_more path d k p = (p.0, let below : slice_index (place_of k) (length path) < d = p.1 in omega (arith, below))
-
--- what is under a path and before the next child is before this one, or under it
-pub before_split : (path child : List ℕ) (d : ℕ) → length path < 3 → child ≡ path ++ d ∷ [] → (k : List ℕ) → IsBelowBefore path (d + 1) k → IsBelowBefore path d k ⊎ IsBelow child k
-before_split path child d short e k p =
-    let next = slice_index (place_of k) (length path) in
-    let three = place_length k in
-    let more = begins-more path (place_of k) (omega (arith, three)) p.0 in
-    let least : next < d + 1 = p.1 in
-    elim (next == d) as (λ b. next == d ≡ b → IsBelowBefore path d k ⊎ IsBelow child k) [
-      | true ↦ λ h. let same : next ≡ d = (unsigned_Decides next d).0 h in inr (subst (λ c. IsBelow c k) (ap (λ x. path ++ x ∷ []) same ∙ sym e) more)
-      | false ↦ λ h. let other : next ≡ d → ⊥ = λ s. let y : next == d ≡ true = (unsigned_Decides next d).1 s in cc in inl (p.0, omega (arith, least, other))
-    ] refl
-
-pub all_before : (path : List ℕ) (d : ℕ) → 16 ≤ d → (k : List ℕ) → IsBelow path k → IsBelowBefore path d k
-all_before path d h k p = (p, let small = digits_small k (length path) in omega (arith, small))
-
-digit_at : (d : ℕ) → d < 16 → get_or digits d 0 ≡ d
+pub digit_at : (d : ℕ) → d < 16 → get_or digits d 0 ≡ d
 unfolding digits
 digit_at zero h = refl
 digit_at (suc zero) h = refl
@@ -121,7 +88,7 @@ digit_at (suc (suc (suc (suc (suc (suc (suc (suc (suc (suc (suc (suc (suc (suc z
 digit_at (suc (suc (suc (suc (suc (suc (suc (suc (suc (suc (suc (suc (suc (suc (suc zero))))))))))))))) h = refl
 digit_at (suc (suc (suc (suc (suc (suc (suc (suc (suc (suc (suc (suc (suc (suc (suc (suc d)))))))))))))))) h = absurd (omega arith)
 
-sixteen_digits : length digits ≡ 16
+pub sixteen_digits : length digits ≡ 16
 unfolding digits
 sixteen_digits = refl
 

@@ -1,157 +1,331 @@
--- One key after the other of a bucket.
-use Rattle.std.proofs.Common.{◌≡◌, ◌≢◌, ◌⊎◌, inl, inr, ℕ, ◌+◌, Bool, true, false, cond, ◌&&◌, List, [], ◌++◌, refl, sym, ap, subst, ◌∙◌, Some, None, Option}
-use Rattle.std.specs.Prelude.{IsTrue, option_map}
-use Rattle.std.specs.declared.cmp.Ordering.TheVariants.{Less, Equal}
-use Rattle.std.specs.Ordering.{nat_cmp, eq_by_cmp, is_lt}
-use Rattle.std.specs.Cmp.{Equal-is, tied_itself}
-use Rattle.std.specs.Cmp.Lexicographic.{slice_cmp, nat_list_cmp_total}
-use Rattle.std.specs.FinMap.{get, entries, get-entries, find}
+-- One key after the other of a bucket, between two sides.
+use Rattle.std.proofs.Common.{◌≡◌, ℕ, ◌+◌, ◌*◌, ◌<◌, ◌≤◌, Bool, true, false, cond, ◌||◌, List, [], ◌∷◌, ◌++◌, length, refl, sym, ap, subst, ◌∙◌, arith, Some, None, Option, length-append, append_assoc}
+use Rattle.std.specs.Prelude.{IsTrue, Result, Ok, Err}
+use Rattle.std.specs.FinMap.{get}
+use Rattle.std.proofs.lemmas.List.{append-nil}
+use Rattle.mvd_keys.specs.Writes.{Key}
+use Rattle.mvd_site.specs.Answer.{digests}
 use Rattle.mvd_site.specs.Held.{States}
-use Rattle.mvd_site.specs.Answer.{digests, spelled}
-use Rattle.mvd_tree.specs.HashTree.{KeyDigests, is_under}
-use Rattle.mvd_tree.specs.States.{key_digest}
-use Rattle.mvd_tree.proofs.Under.{keys_same}
-use Rattle.mvd_tree.proofs.KeyDigests.{get-digests_of}
-use Rattle.mvd_tree.specs.Page.{is_after, rest_of}
-use Rattle.mvd_sync.specs.Answers.{Entry, IsListing, TakesNext}
-use Rattle.mvd_sync.specs.Walk.{DigestsTell, IsBelow, Walked, Stopped}
-use Rattle.mvd_sync.specs.declared.session.SyncFault.{SyncFault}
-use Rattle.mvd_sync.proofs.Together.{walk_skips, walk_more, walk_leaves, walk_stops}
-use Rattle.mvd_sync.proofs.Rest.{get-rest, Heads, gap, at_head, left_after, heads, after_trans, lt-true}
-use Rattle.mvd_sync.proofs.Steps.{tied}
+use Rattle.mvd_tree.specs.HashTree.{is_under}
+use Rattle.mvd_tree.specs.Page.{is_after}
+use Rattle.mvd_sync.specs.Answers.{IsPageOf, TakesNext}
+use Rattle.mvd_sync.specs.Buckets.{AreElsewhere, ArePages, FillEnds, FillsBoth, Finds, Goes, GoesThrough, Settles, SettlesAll, held_in, waits_if}
+use Rattle.mvd_sync.specs.Exchanges.{AreNext, Counts, Done, Exchanges, Exchanging, GoesOn, SoFar, keys_done, keys_next}
+use Rattle.mvd_sync.specs.Nodes.{has_below}
+use Rattle.mvd_sync.specs.Session.{Each}
+use Rattle.mvd_sync.specs.Sides.{Side}
+use Rattle.mvd_sync.specs.Walk.{Reads}
+use Rattle.mvd_sync.specs.declared.listing.Entry.{Entry}
+use Rattle.mvd_sync.specs.declared.questions.Questions.{Questions}
+use Rattle.mvd_sync.specs.declared.report.SyncFault.{SyncFault}
+use Rattle.mvd_sync.proofs.Descents.{Each-left}
+use Rattle.mvd_sync.proofs.Going.{goes_nowhere, goes_of_end, goes_of_exchange, goes_of_reads, goes_on}
+use Rattle.mvd_sync.proofs.Gone.{Gone, IsPast, counted_fill, counted_more, gone_begins, gone_ends, gone_next, held_at, page_same, past_all}
+use Rattle.mvd_sync.proofs.Joined.{joins_some}
+use Rattle.mvd_sync.proofs.Keys.{Each-weaker, or_left}
+use Rattle.mvd_sync.proofs.Nexts.{goes_from, goes_further, goes_still, still_next, untouched}
 
--- the key stands under the path, and not after this one
-abbrev pub IsUpTo : List ℕ → Option (List ℕ) → List ℕ → Type 0
-IsUpTo path done key = IsTrue (is_under path key) × (is_after done key ≡ false)
+-- ---- a key is settled
 
--- as far as this key a bucket is gone over, and these are the entries left of both sides
-pub record AtKey (path : List ℕ) (old_a old_b a b : States) (mine theirs : List Entry × Bool) (count : ℕ) : Type 0 where
-  pub done : Option (List ℕ)
-  pub walked : Walked (DigestsTell path old_a old_b) (IsUpTo path done) old_a old_b a b count
-  pub first : IsListing (digests a) path done mine.0 mine.1
-  pub second : IsListing (digests b) path done theirs.0 theirs.1
+module _ {L P : Type 0} (l : Side L) (p : Side P) where
+  pub settles_by_exchange : (e : Entry) (left left' : Questions) (local local' : L) (peer peer' : P) (before after : Exchanging) (result : Result (Unit {0}) SyncFault) → e.differs ≡ true → length before.waiting < 1000
+      → Exchanges l p (before.waiting ++ e ∷ []) left left' local local' peer peer' before after result → Settles l p e left left' local local' peer peer' before after result
+  unfolding goes_of_exchange
+  settles_by_exchange e left left' local local' peer peer' before after result sure low x =
+      let one : e ∷ [] ≡ waits_if e = sym (ap (λ b. cond b (e ∷ []) []) sure) in
+      let n = length-append before.waiting (e ∷ []) in
+      record {
+        goes = goes_of_exchange l p (before.waiting ++ e ∷ []) left left' local local' peer peer' before after result (omega (arith, n)) x;
+        meets = λ t u a b done so counts next. subst (λ es. SettlesAll l p before.number a b done (before.waiting ++ es) x.asked_local x.asked_peer local' peer' (l.most_keys local) (p.most_keys peer) after result) one (record {
+          few = x.few;
+          fewer = x.fewer;
+          ends = x.meets t u a b done so counts (subst (λ es. AreNext a b done (before.waiting ++ es)) (sym one) next);
+        });
+      }
 
--- a key is not after itself
-other : (k q : List ℕ) → slice_cmp nat_cmp k q ≡ Less → q ≡ k → ⊥
-other k q l is = let e : Less ≡ Equal = sym l ∙ ap (slice_cmp nat_cmp k) is ∙ tied_itself nat_list_cmp_total k in cc
+  pub settles_nothing : (self : (s : L) → l.follows 0 s s) (self' : (s : P) → p.follows 0 s s) (e : Entry) (left : Questions) (local : L) (peer : P) (before : Exchanging) → e.differs ≡ false → Settles l p e left left local local peer peer before before (Ok (tt {0}))
+  unfolding goes_nowhere goes_of_reads
+  settles_nothing self self' e left local peer before never =
+      let none : [] ≡ waits_if e = sym (ap (λ b. cond b (e ∷ []) []) never) in
+      let n = length-append before.waiting [] in
+      record {
+        goes = goes_nowhere l p self self' (tt {0}) left local peer before;
+        meets = λ t u a b done so counts next. subst (λ es. SettlesAll l p before.number a b done (before.waiting ++ es) 0 0 local peer (l.most_keys local) (p.most_keys peer) before (Ok (tt {0}))) none (record {
+          few = (omega arith, omega arith);
+          fewer = (omega (arith, n), omega (arith, n));
+          ends = subst (λ es. GoesOn l p before.number a b done es local peer (l.most_keys local) (p.most_keys peer) before) (sym (append-nil before.waiting))
+              (goes_from l p before.number a b done (l.most_keys local) (p.most_keys peer) local peer before t u so counts (subst (AreNext a b done) (ap (λ es. before.waiting ++ es) (sym none) ∙ append-nil before.waiting) next));
+        });
+      }
 
-digests_kept : (m n : States) (q : List ℕ) → get m q ≡ get n q → get (digests m) q ≡ get (digests n) q
-digests_kept m n q e = get-digests_of spelled m q ∙ ap (option_map (key_digest spelled q)) e ∙ sym (get-digests_of spelled n q)
+-- ---- how far a bucket is gone over
 
-module _ (path : List ℕ) (old_a old_b a b : States) (n : ℕ) (done : Option (List ℕ)) (w : Walked (DigestsTell path old_a old_b) (IsUpTo path done) old_a old_b a b n) where
-  -- where the digests are the same now, the states were the same
-  was_same : DigestsTell path old_a old_b → (q : List ℕ) → IsTrue (is_under path q) → is_after done q ≡ true → get (digests a) q ≡ get (digests b) q → get old_a q ≡ get old_b q
-  was_same tell q u h e =
-      let kept = walk_leaves _ _ _ _ _ _ _ w q (λ p. let no_more : is_after done q ≡ false = p.1 in cc) in
-      tell.keys q u (sym (digests_kept a old_a q kept.0) ∙ e ∙ digests_kept b old_b q kept.1)
+-- between two true sides
+pub record AtKey {L P : Type 0} (l : Side L) (p : Side P) (number : Option ℕ) (a b : States) (done : List Done) (path : List ℕ) (mine theirs : List (Key × List ℕ) × Bool) (asked_l asked_p : ℕ) (local' : L) (peer' : P) (most_local most_peer : ℕ) (before after : Exchanging) : Type 0 where
+  pub upto : Option (List ℕ)
+  pub found : List Entry
+  pub pages_local : ℕ
+  pub pages_peer : ℕ
+  pub gone : Gone a b done before.waiting path upto mine theirs found pages_local pages_peer
+  pub goes_on : GoesOn l p number a b done (before.waiting ++ found) local' peer' most_local most_peer after
+  pub fewer : (asked_l + 2 * length after.waiting ≤ pages_local + 2 * length (before.waiting ++ found)) × (asked_p + 2 * length after.waiting ≤ pages_peer + 2 * length (before.waiting ++ found))
 
-  -- nothing is left on either side
-  pub nothing_left : entries (rest_of (digests a) path done) ≡ [] → entries (rest_of (digests b) path done) ≡ [] → Walked (DigestsTell path old_a old_b) (IsBelow path) old_a old_b a b n
-  nothing_left p q =
-      let none : (m : KeyDigests) → entries (rest_of m path done) ≡ [] → (k : List ℕ) → IsTrue (is_under path k) → is_after done k ≡ true → get m k ≡ None = λ m e k u h.
-      sym (get-rest m path done k ∙ ap (λ x. cond x (get m k) None) ((λ i. u i && h i))) ∙ get-entries (rest_of m path done) k ∙ ap (find (slice_cmp nat_cmp) k) e in
-      walk_skips _ (IsUpTo path done) (IsBelow path) _ _ _ _ _ (λ k p. p.0) (λ k u.
-      elim (is_after done k) as (λ x. is_after done k ≡ x → IsUpTo path done k ⊎ (DigestsTell path old_a old_b → get old_a k ≡ get old_b k)) [
-        | false ↦ λ e. inl (u, e)
-        | true ↦ λ e. inr (λ tell. was_same tell k u e (none (digests a) p k u e ∙ sym (none (digests b) q k u e)))
-      ] refl) w
+-- and of any two sides
+pub record OverBucket {L P : Type 0} (l : Side L) (p : Side P) (path : List ℕ) (first second mine theirs : List (Key × List ℕ) × Bool) (left left' : Questions) (local local' : L) (peer peer' : P) (before after : Exchanging) : Type 0 where
+  pub goes : Goes l p left left' local local' peer peer' before after (Ok (tt {0}))
+  pub meets : l.is_faithful local → p.is_faithful peer → (a b : States) (done : List Done) → SoFar (l.most_keys local) (p.most_keys peer) before.number a b (l.states local) (p.states peer) done → Counts done before
+      → AreNext a b done before.waiting → AreElsewhere (path ∷ []) (keys_done done ++ keys_next before.waiting) → IsPageOf (digests a) path None first.0 first.1 → IsPageOf (digests b) path None second.0 second.1
+      → AtKey l p before.number a b done path mine theirs goes.asked_local goes.asked_peer local' peer' (l.most_keys local) (p.most_keys peer) before after
 
-  module _ (k : List ℕ) (differs : Bool) (t u : List Entry) (hs : Heads (digests a) (digests b) path done k differs t u) where
-    -- the states of a key that differs are not the same
-    pub differ_now : IsTrue differs → get a k ≢ get b k
-    differ_now sure same =
-        hs.differ sure (sym (at_head _ _ _ _ _ _ hs.mine hs.below hs.next) ∙ digests_kept a b k same ∙ at_head _ _ _ _ _ _ hs.theirs hs.below hs.next)
+not_under : (path : List ℕ) (keys : List Key) → AreElsewhere (path ∷ []) keys → Each (λ key. is_under path key ≡ false) keys
+not_under path keys h = Each-weaker (λ key. has_below (path ∷ []) key ≡ false) (λ key. is_under path key ≡ false) (λ key none. or_left (is_under path key) false none) keys h
 
-    up_to_more : (q : List ℕ) → IsUpTo path done q → IsUpTo path (Some k) q
-    up_to_more q p = (
-      p.0,
-      elim (is_lt (slice_cmp nat_cmp k q)) as (λ x. is_lt (slice_cmp nat_cmp k q) ≡ x → x ≡ false) [
-        | true ↦ λ e. let later : is_after done q ≡ true = after_trans done k q hs.next (lt-true (slice_cmp nat_cmp k q) e) in let before : is_after done q ≡ false = p.1 in absurd (cc)
-        | false ↦ λ _. refl
-      ] refl,
-    )
+pub below_one : (path : List ℕ) (upto : Option (List ℕ)) (found : List Entry) → Each (λ e. IsTrue (is_under path e.key) × (is_after upto e.key ≡ false)) found → Each (λ e. IsTrue (has_below (path ∷ []) e.key)) found
+below_one path upto found h = Each-weaker (λ e. IsTrue (is_under path e.key) × (is_after upto e.key ≡ false)) (λ e. IsTrue (has_below (path ∷ []) e.key)) (λ e at. ap (λ b. b || false) at.0) found h
 
-    -- keys that were passed over were the same
-    passed : DigestsTell path old_a old_b → (q : List ℕ) → IsUpTo path (Some k) q → is_after done q ≡ true → (q ≡ k → differs ≡ false) → get old_a q ≡ get old_b q
-    passed tell q p h alike =
-        was_same tell q p.0 h
-        (elim (eq_by_cmp (slice_cmp nat_cmp) q k) as (λ x. eq_by_cmp (slice_cmp nat_cmp) q k ≡ x → get (digests a) q ≡ get (digests b) q) [
-          | true ↦ λ tie.
-              let is : q ≡ k = keys_same q k ((Equal-is _).0 tie) in
-              subst (λ k. get (digests a) k ≡ get (digests b) k) (sym is) (at_head _ _ _ _ _ _ hs.mine hs.below hs.next ∙ hs.same (alike is) ∙ sym (at_head _ _ _ _ _ _ hs.theirs hs.below hs.next))
-          | false ↦ λ apart_from. gap _ _ _ _ _ _ hs.mine q p.0 h apart_from p.1 ∙ sym (gap _ _ _ _ _ _ hs.theirs q p.0 h apart_from p.1)
-        ] refl)
+under_one : (path : List ℕ) (key : Key) → IsTrue (has_below (path ∷ []) key) → IsTrue (is_under path key)
+under_one path key h = elim (is_under path key) as (λ b. (b || false) ≡ true → b ≡ true) [ true ↦ λ _. refl | false ↦ λ e. e ] h
 
-    apart : (q : List ℕ) → IsUpTo path done q → (q ≡ k) × IsTrue differs → ⊥
-    apart q p r = let later : is_after done q ≡ true = ap (is_after done) r.0 ∙ hs.next in let before : is_after done q ≡ false = p.1 in cc
+one_held : (a : States) (path : List ℕ) (n : ℕ) → n ≤ held_at a path → n ≤ held_in a (path ∷ [])
+one_held a path n h = omega (arith, h)
 
-    at_key : (q : List ℕ) → (q ≡ k) × IsTrue differs → IsUpTo path (Some k) q
-    at_key q r = (ap (is_under path) r.0 ∙ hs.below, ap (λ q. is_lt (slice_cmp nat_cmp k q)) r.0 ∙ ap is_lt (tied_itself nat_list_cmp_total k))
+-- the filled listings, and what was exchanged before them
+pub record Filled {L P : Type 0} (l : Side L) (p : Side P) (number : Option ℕ) (a b : States) (done : List Done) (path : List ℕ) (mine theirs : List (Key × List ℕ) × Bool) (e : Entry) (asked_l asked_p : ℕ) (local' : L) (peer' : P) (most_local most_peer : ℕ) (before at : Exchanging) : Type 0 where
+  pub found : List Entry
+  pub pages_local : ℕ
+  pub pages_peer : ℕ
+  pub gone : Gone a b done before.waiting path (Some e.key) mine theirs (found ++ waits_if e) pages_local pages_peer
+  pub goes_on : GoesOn l p number a b done (before.waiting ++ found) local' peer' most_local most_peer at
+  pub fewer : (asked_l + 2 * length at.waiting ≤ pages_local + 2 * length (before.waiting ++ found)) × (asked_p + 2 * length at.waiting ≤ pages_peer + 2 * length (before.waiting ++ found))
 
-    -- the walk goes on to the key
-    pub settled : (a' b' : States) (m : ℕ) → Walked (Unit {0}) (λ q. (q ≡ k) × IsTrue differs) a b a' b' m → Walked (DigestsTell path old_a old_b) (IsUpTo path (Some k)) old_a old_b a' b' (n + m)
-    settled a' b' m v =
-        let Both : List ℕ → Type 0 = λ q. IsUpTo path done q ⊎ ((q ≡ k) × IsTrue differs) in
-        walk_skips _ Both (IsUpTo path (Some k)) _ _ _ _ _
-        (λ q p. elim p [ inl old ↦ up_to_more q old | inr new ↦ at_key q new ])
-        (λ q p. elim (is_after done q) as (λ x. is_after done q ≡ x → Both q ⊎ (DigestsTell path old_a old_b → get old_a q ≡ get old_b q)) [
-          | false ↦ λ e. inl (inl (p.0, e))
-          | true ↦ λ e. elim differs as (λ x. differs ≡ x → Both q ⊎ (DigestsTell path old_a old_b → get old_a q ≡ get old_b q)) [
-            | false ↦ λ d. inr (λ tell. passed tell q p e (λ _. d))
-            | true ↦ λ d. elim (eq_by_cmp (slice_cmp nat_cmp) q k) as (λ x. eq_by_cmp (slice_cmp nat_cmp) q k ≡ x → Both q ⊎ (DigestsTell path old_a old_b → get old_a q ≡ get old_b q)) [
-              | true ↦ λ tie. inl (inr (keys_same q k ((Equal-is _).0 tie), d))
-              | false ↦ λ never. inr (λ tell. passed tell q p e (λ is. let tie : eq_by_cmp (slice_cmp nat_cmp) q k ≡ true = ap (eq_by_cmp (slice_cmp nat_cmp) q) (sym is) ∙ tied q in absurd (cc)))
-            ] refl
-          ] refl
-        ] refl)
-        (walk_more _ (IsUpTo path done) (λ q. (q ≡ k) × IsTrue differs) Both _ _ _ _ _ _ _ apart (λ q p. inl p) (λ q p. inr p) w
-        _ _ (λ q p. p) (λ _. tt) v)
-
-    -- the walk stops at the key
-    pub settle_stops : (T U : Type 0) (a' b' : States) (fault : SyncFault) → Stopped (λ q. (q ≡ k) × IsTrue differs) T U a b a' b' fault → Stopped (IsBelow path) T U old_a old_b a' b' fault
-    settle_stops T U a' b' fault s = walk_stops _ (IsUpTo path done) (λ q. (q ≡ k) × IsTrue differs) (IsBelow path) _ _ _ _ _ _ _ apart (λ q p. p.0) (λ q p. (at_key q p).0) w _ _ _ s
-
-    -- what is left after the key
-    pub left_of_first : (a' b' : States) (m : ℕ) → Walked (Unit {0}) (λ q. (q ≡ k) × IsTrue differs) a b a' b' m → entries (rest_of (digests a') path (Some k)) ≡ t
-    left_of_first a' b' m v = left_after _ _ _ _ _ _ hs.mine hs.next (digests a') (λ q l. digests_kept a' a q (walk_leaves _ _ _ _ _ _ _ v q (λ p. other k q l p.0)).0)
-
-    pub left_of_second : (a' b' : States) (m : ℕ) → Walked (Unit {0}) (λ q. (q ≡ k) × IsTrue differs) a b a' b' m → entries (rest_of (digests b') path (Some k)) ≡ u
-    left_of_second a' b' m v = left_after _ _ _ _ _ _ hs.theirs hs.next (digests b') (λ q l. digests_kept b' b q (walk_leaves _ _ _ _ _ _ _ v q (λ p. other k q l p.0)).1)
-
-listing_of : (m : KeyDigests) (path : List ℕ) (done : Option (List ℕ)) (xs later : List Entry) (more old : Bool) → entries (rest_of m path done) ≡ xs ++ later → more ≡ old → (old ≡ false → later ≡ []) → IsListing m path done xs more
-listing_of m path done xs later more old is e ended = record { later = later; is = is; ended = λ h. ended (sym e ∙ h) }
-
-pub listing_kept : (a a' : States) (path : List ℕ) (done : Option (List ℕ)) (page : List Entry × Bool) → a' ≡ a → IsListing (digests a) path done page.0 page.1 → IsListing (digests a') path done page.0 page.1
-listing_kept a a' path done page e l = subst (λ m. IsListing (digests m) path done page.0 page.1) (sym e) l
-
--- ---- the next key is taken
-
-module _ (path : List ℕ) (old_a old_b a b : States) (mine theirs : List Entry × Bool) (n : ℕ) (at : AtKey path old_a old_b a b mine theirs n)
+module _ {L P : Type 0} (l : Side L) (p : Side P) (number : Option ℕ) (a b : States) (done : List Done) (path : List ℕ) (mine theirs mine1 theirs1 mine2 theirs2 : List (Key × List ℕ) × Bool) (asked_l asked_p : ℕ) (local1 local2 : L) (peer1 peer2 : P) (most_local most_peer : ℕ) (before at : Exchanging)
+    (here : AtKey l p number a b done path mine theirs asked_l asked_p local1 peer1 most_local most_peer before at)
     (mine_more : mine.0 ≡ [] → mine.1 ≡ false) (theirs_more : theirs.0 ≡ [] → theirs.1 ≡ false)
-    (k : List ℕ) (differs : Bool) (mine' theirs' : List Entry × Bool) (next : TakesNext mine.0 theirs.0 k differs mine'.0 theirs'.0) where
-  both_heads : Heads (digests a) (digests b) path at.done k differs (mine'.0 ++ at.first.later) (theirs'.0 ++ at.second.later)
-  both_heads = heads _ _ path at.done k differs _ _ _ _ _ _ at.first at.second mine_more theirs_more next
+    (elsewhere : AreElsewhere (path ∷ []) (keys_done done ++ keys_next before.waiting))
+    (e : Entry) (takes : TakesNext mine.0 theirs.0 e.key e.mine e.theirs e.differs mine1.0 theirs1.0) (same_more : (mine1.1 ≡ mine.1) × (theirs1.1 ≡ theirs.1)) where
+  taken : Gone a b done before.waiting path (Some e.key) mine1 theirs1 (here.found ++ waits_if e) here.pages_local here.pages_peer
+  taken = gone_next a b done before.waiting path here.upto mine theirs here.found here.pages_local here.pages_peer here.gone mine_more theirs_more (not_under path (keys_done done ++ keys_next before.waiting) elsewhere) e mine1 theirs1 takes same_more.0 same_more.1
 
-  pub key_differs : IsTrue differs → get a k ≢ get b k
-  key_differs = differ_now path old_a old_b a b n at.done at.walked k differs _ _ both_heads
+  -- what is left of the bucket is as it was
+  as_before : (q : Key) → IsTrue (is_under path q) → is_after (Some e.key) q ≡ true → (get (l.states local1) q ≡ get a q) × (get (p.states peer1) q ≡ get b q)
+  as_before q u h =
+      let Past : Entry → Type 0 = λ x. IsTrue (is_under path x.key) × (is_after (Some e.key) x.key ≡ false) in
+      untouched l p number a b done most_local most_peer (before.waiting ++ here.found) local1 peer1 at (IsPast path (Some e.key)) here.goes_on
+      (past_all done before.waiting here.found path (Some e.key) (not_under path (keys_done done ++ keys_next before.waiting) elsewhere) (Each-left Past here.found (waits_if e) taken.below))
+      q (λ past. past u h)
 
-  pub key_stops : (T U : Type 0) (a' b' : States) (fault : SyncFault) → Stopped (λ q. (q ≡ k) × IsTrue differs) T U a b a' b' fault → Stopped (IsBelow path) T U old_a old_b a' b' fault
-  key_stops T U a' b' fault s = settle_stops path old_a old_b a b n at.done at.walked k differs _ _ both_heads T U a' b' fault s
+  pub filled : (left left' : Questions) → (f : FillsBoth l p path (Some e.key) mine1 mine2 theirs1 theirs2 left left' local1 local2 peer1 peer2) → Filled l p number a b done path mine2 theirs2 e (asked_l + f.local_side.asked) (asked_p + f.peer_side.asked) local2 peer2 most_local most_peer before at
+  filled left left' f =
+      let t = here.goes_on.still in
+      let k = f.local_side.kept t.0 in
+      let j = f.peer_side.kept t.1 in
+      record {
+        found = here.found;
+        pages_local = here.pages_local + f.local_side.asked;
+        pages_peer = here.pages_peer + f.peer_side.asked;
+        gone = record {
+          first = counted_fill a path (Some e.key) mine1 mine2 here.pages_local f.local_side.asked taken.first f.local_side.one f.local_side.needed f.local_side.same (λ some. page_same a (l.states local1) path (Some e.key) mine2.0 mine2.1 (λ q u h. (as_before q u h).0) (f.local_side.page t.0 some));
+          second = counted_fill b path (Some e.key) theirs1 theirs2 here.pages_peer f.peer_side.asked taken.second f.peer_side.one f.peer_side.needed f.peer_side.same (λ some. page_same b (p.states peer1) path (Some e.key) theirs2.0 theirs2.1 (λ q u h. (as_before q u h).1) (f.peer_side.page t.1 some));
+          below = taken.below;
+          next = taken.next;
+          all = taken.all;
+        };
+        goes_on = goes_still l p number a b done most_local most_peer (before.waiting ++ here.found) local1 local2 peer1 peer2 at k.still k.states j.still j.states here.goes_on;
+        fewer = let n = here.fewer in (omega (arith, n.0), omega (arith, n.1));
+      }
 
-  pub key_settled : (a' b' : States) (m : ℕ) → Walked (Unit {0}) (λ q. (q ≡ k) × IsTrue differs) a b a' b' m → Walked (DigestsTell path old_a old_b) (IsUpTo path (Some k)) old_a old_b a' b' (n + m)
-  key_settled a' b' m v = settled path old_a old_b a b n at.done at.walked k differs _ _ both_heads a' b' m v
+  -- one of the listings was not filled
+  pub unfilled : {A : Type 0} (left : Questions) (fault : SyncFault) → (f : FillEnds l p mine1 theirs1 left local1 local2 peer1 peer2 fault)
+      → Finds {A = A} l p number a b done (path ∷ []) 0 (held_in a (path ∷ [])) (held_in b (path ∷ [])) (asked_l + f.ends.asked_local) (asked_p + f.ends.asked_peer) local2 peer2 most_local most_peer before at (Err fault)
+  unfilled left fault f =
+      let t = here.goes_on.still in
+      let k = f.ends.kept_local t.0 in
+      let j = f.ends.kept_peer t.1 in
+      let g = goes_still l p number a b done most_local most_peer (before.waiting ++ here.found) local1 local2 peer1 peer2 at k.still k.states j.still j.states here.goes_on in
+      record {
+        found = here.found;
+        below = below_one path here.upto here.found here.gone.below;
+        next = here.gone.next;
+        pages_local = here.pages_local + f.ends.asked_local;
+        pages_peer = here.pages_peer + f.ends.asked_peer;
+        pages = (
+          one_held a path (1000 * (here.pages_local + f.ends.asked_local)) (counted_more a path (Some e.key) mine1 here.pages_local f.ends.asked_local taken.first f.ends.few.0 f.needed.0),
+          one_held b path (1000 * (here.pages_peer + f.ends.asked_peer)) (counted_more b path (Some e.key) theirs1 here.pages_peer f.ends.asked_peer taken.second f.ends.few.1 f.needed.1),
+        );
+        few = let n = here.fewer in (omega (arith, n.0), omega (arith, n.1));
+        ends = joins_some most_local most_peer a b (l.states local2) (p.states peer2) number (l.is_faithful local2) (p.is_faithful peer2) (done ++ g.now) g.so_far;
+      }
 
-  pub first_left : (a' b' : States) (m : ℕ) → Walked (Unit {0}) (λ q. (q ≡ k) × IsTrue differs) a b a' b' m → mine'.1 ≡ mine.1 → IsListing (digests a') path (Some k) mine'.0 mine'.1
-  first_left a' b' m v e = listing_of _ _ _ _ at.first.later _ mine.1 (left_of_first path old_a old_b a b n at.done at.walked k differs _ _ both_heads a' b' m v) e at.first.ended
+-- ---- the key is settled
 
-  pub second_left : (a' b' : States) (m : ℕ) → Walked (Unit {0}) (λ q. (q ≡ k) × IsTrue differs) a b a' b' m → theirs'.1 ≡ theirs.1 → IsListing (digests b') path (Some k) theirs'.0 theirs'.1
-  second_left a' b' m v e = listing_of _ _ _ _ at.second.later _ theirs.1 (left_of_second path old_a old_b a b n at.done at.walked k differs _ _ both_heads a' b' m v) e at.second.ended
+module _ {L P : Type 0} (l : Side L) (p : Side P)
+    (stays : (n : ℕ) (old new : L) → l.follows n old new → l.most_keys new ≡ l.most_keys old)
+    (stays' : (n : ℕ) (old new : P) → p.follows n old new → p.most_keys new ≡ p.most_keys old)
+    (a b : States) (done : List Done) (path : List ℕ) (mine theirs : List (Key × List ℕ) × Bool) (e : Entry) (asked_l asked_p : ℕ) (local local2 local3 : L) (peer peer2 peer3 : P) (n m : ℕ) (before at after : Exchanging)
+    (follows : l.follows n local local2 × p.follows m peer peer2) (same : at.number ≡ before.number)
+    (f : Filled l p before.number a b done path mine theirs e asked_l asked_p local2 peer2 (l.most_keys local) (p.most_keys peer) before at)
+    (left left' : Questions) {A : Type 0} (result : Result A SyncFault) (s : Settles l p e left left' local2 local3 peer2 peer3 at after result) where
+  same_local : l.most_keys local2 ≡ l.most_keys local
+  same_local = stays n local local2 follows.0
 
--- no key is left
-pub all_done : (path : List ℕ) (old_a old_b a b : States) (mine theirs : List Entry × Bool) (n : ℕ) → AtKey path old_a old_b a b mine theirs n
-    → (mine.0 ≡ [] → mine.1 ≡ false) → (theirs.0 ≡ [] → theirs.1 ≡ false) → mine.0 ≡ [] → theirs.0 ≡ []
-    → Walked (DigestsTell path old_a old_b) (IsBelow path) old_a old_b a b n
-all_done path old_a old_b a b mine theirs n at mine_more theirs_more p q =
-    nothing_left path old_a old_b a b n at.done at.walked
-    (at.first.is ∙ (λ i. p i ++ at.first.ended (mine_more p) i))
-    (at.second.is ∙ (λ i. q i ++ at.second.ended (theirs_more q) i))
+  same_peer : p.most_keys peer2 ≡ p.most_keys peer
+  same_peer = stays' m peer peer2 follows.1
+
+  pub settled : SettlesAll l p before.number a b (done ++ f.goes_on.now) (at.waiting ++ waits_if e) s.goes.asked_local s.goes.asked_peer local3 peer3 (l.most_keys local) (p.most_keys peer) after result
+  settled =
+      let g = f.goes_on in
+      let t = g.still in
+      let next : AreNext a b done ((before.waiting ++ f.found) ++ waits_if e) = subst (AreNext a b done) (sym (append_assoc before.waiting f.found (waits_if e))) f.gone.next in
+      let so : SoFar (l.most_keys local2) (p.most_keys peer2) at.number a b (l.states local2) (p.states peer2) (done ++ g.now) =
+      subst (λ o. SoFar (l.most_keys local2) (p.most_keys peer2) o a b (l.states local2) (p.states peer2) (done ++ g.now)) (sym same)
+      (subst (λ i. SoFar i (p.most_keys peer2) before.number a b (l.states local2) (p.states peer2) (done ++ g.now)) (sym same_local)
+      (subst (λ j. SoFar (l.most_keys local) j before.number a b (l.states local2) (p.states peer2) (done ++ g.now)) (sym same_peer) g.so_far)) in
+      let all = s.meets t.0 t.1 a b (done ++ g.now) so g.counts (still_next done g.now (before.waiting ++ f.found) at.waiting (waits_if e) g.is a b g.waits.each next) in
+      subst (λ o. SettlesAll l p o a b (done ++ g.now) (at.waiting ++ waits_if e) s.goes.asked_local s.goes.asked_peer local3 peer3 (l.most_keys local) (p.most_keys peer) after result) same
+      (subst (λ i. SettlesAll l p at.number a b (done ++ g.now) (at.waiting ++ waits_if e) s.goes.asked_local s.goes.asked_peer local3 peer3 i (p.most_keys peer) after result) same_local
+      (subst (λ j. SettlesAll l p at.number a b (done ++ g.now) (at.waiting ++ waits_if e) s.goes.asked_local s.goes.asked_peer local3 peer3 (l.most_keys local2) j after result) same_peer all))
+
+  lengths : (length (before.waiting ++ (f.found ++ waits_if e)) ≡ length (before.waiting ++ f.found) + length (waits_if e)) × (length (at.waiting ++ waits_if e) ≡ length at.waiting + length (waits_if e))
+  lengths = (
+    ap length (sym (append_assoc before.waiting f.found (waits_if e))) ∙ length-append (before.waiting ++ f.found) (waits_if e),
+    length-append at.waiting (waits_if e),
+  )
+
+  few_settled : (asked_l + s.goes.asked_local ≤ f.pages_local + 2 * length (before.waiting ++ (f.found ++ waits_if e))) × (asked_p + s.goes.asked_peer ≤ f.pages_peer + 2 * length (before.waiting ++ (f.found ++ waits_if e)))
+  few_settled =
+      let k = lengths in
+      let x = f.fewer in
+      let y = settled.few in
+      (omega (arith, k.0, k.1, x.0, y.0), omega (arith, k.0, k.1, x.1, y.1))
+
+module _ {L P : Type 0} (l : Side L) (p : Side P)
+    (stays : (n : ℕ) (old new : L) → l.follows n old new → l.most_keys new ≡ l.most_keys old)
+    (stays' : (n : ℕ) (old new : P) → p.follows n old new → p.most_keys new ≡ p.most_keys old)
+    (a b : States) (done : List Done) (path : List ℕ) (mine theirs : List (Key × List ℕ) × Bool) (e : Entry) (asked_l asked_p : ℕ) (local local2 local3 : L) (peer peer2 peer3 : P) (n m : ℕ) (before at after : Exchanging)
+    (follows : l.follows n local local2 × p.follows m peer peer2) (same : at.number ≡ before.number)
+    (f : Filled l p before.number a b done path mine theirs e asked_l asked_p local2 peer2 (l.most_keys local) (p.most_keys peer) before at)
+    (left left' : Questions) where
+  pub settled_on : (s : Settles l p e left left' local2 local3 peer2 peer3 at after (Ok (tt {0}))) → AtKey l p before.number a b done path mine theirs (asked_l + s.goes.asked_local) (asked_p + s.goes.asked_peer) local3 peer3 (l.most_keys local) (p.most_keys peer) before after
+  settled_on s =
+      let all = settled l p stays stays' a b done path mine theirs e asked_l asked_p local local2 local3 peer peer2 peer3 n m before at after follows same f left left' (Ok (tt {0})) s in
+      let k = lengths l p stays stays' a b done path mine theirs e asked_l asked_p local local2 local3 peer peer2 peer3 n m before at after follows same f left left' (Ok (tt {0})) s in
+      record {
+        upto = Some e.key;
+        found = f.found ++ waits_if e;
+        pages_local = f.pages_local;
+        pages_peer = f.pages_peer;
+        gone = f.gone;
+        goes_on = subst (λ es. GoesOn l p before.number a b done es local3 peer3 (l.most_keys local) (p.most_keys peer) after) (append_assoc before.waiting f.found (waits_if e))
+            (goes_further l p before.number a b done (l.most_keys local) (p.most_keys peer) (before.waiting ++ f.found) (waits_if e) local2 local3 peer2 peer3 at after f.goes_on all.ends);
+        fewer = let x = f.fewer in let y = all.fewer in (omega (arith, k.0, k.1, x.0, y.0), omega (arith, k.0, k.1, x.1, y.1));
+      }
+
+  pub settled_ends : (fault : SyncFault) → (s : Settles {A = Unit {0}} l p e left left' local2 local3 peer2 peer3 at after (Err fault))
+      → Finds {A = Unit {0}} l p before.number a b done (path ∷ []) 0 (held_in a (path ∷ [])) (held_in b (path ∷ [])) (asked_l + s.goes.asked_local) (asked_p + s.goes.asked_peer) local3 peer3 (l.most_keys local) (p.most_keys peer) before after (Err fault)
+  settled_ends fault s =
+      let all = settled l p stays stays' a b done path mine theirs e asked_l asked_p local local2 local3 peer peer2 peer3 n m before at after follows same f left left' {A = Unit {0}} (Err fault) s in
+      let few = few_settled l p stays stays' a b done path mine theirs e asked_l asked_p local local2 local3 peer peer2 peer3 n m before at after follows same f left left' {A = Unit {0}} (Err fault) s in
+      record {
+        found = f.found ++ waits_if e;
+        below = below_one path (Some e.key) (f.found ++ waits_if e) f.gone.below;
+        next = f.gone.next;
+        pages_local = f.pages_local;
+        pages_peer = f.pages_peer;
+        pages = (one_held a path (1000 * f.pages_local) f.gone.first.many, one_held b path (1000 * f.pages_peer) f.gone.second.many);
+        few = (omega (arith, few.0), omega (arith, few.1));
+        ends = all.ends;
+      }
+
+-- ---- the bucket
+
+module _ {L P : Type 0} (l : Side L) (p : Side P) (path : List ℕ) (first second : List (Key × List ℕ) × Bool) where
+  pub over_begins : (self : (s : L) → l.follows 0 s s) (self' : (s : P) → p.follows 0 s s) (left : Questions) (local : L) (peer : P) (before : Exchanging) → OverBucket l p path first second first second left left local local peer peer before before
+  unfolding goes_nowhere goes_of_reads
+  over_begins self self' left local peer before = record {
+    goes = goes_nowhere l p self self' (tt {0}) left local peer before;
+    meets = λ t u a b done so counts next elsewhere mine theirs. record {
+      upto = None;
+      found = [];
+      pages_local = 0;
+      pages_peer = 0;
+      gone = gone_begins a b done before.waiting path first second next mine theirs;
+      goes_on = subst (λ es. GoesOn l p before.number a b done es local peer (l.most_keys local) (p.most_keys peer) before) (sym (append-nil before.waiting)) (goes_from l p before.number a b done (l.most_keys local) (p.most_keys peer) local peer before t u so counts next);
+      fewer = let n = length-append before.waiting [] in (omega (arith, n), omega (arith, n));
+    };
+  }
+
+  module _ (on : (m n : ℕ) (old mid new : L) → l.follows m old mid → l.follows n mid new → l.follows (m + n) old new)
+      (on' : (m n : ℕ) (old mid new : P) → p.follows m old mid → p.follows n mid new → p.follows (m + n) old new)
+      (mine theirs : List (Key × List ℕ) × Bool) (left left1 : Questions) (local local1 : L) (peer peer1 : P) (before at : Exchanging)
+      (over : OverBucket l p path first second mine theirs left left1 local local1 peer peer1 before at)
+      (mine_more : mine.0 ≡ [] → mine.1 ≡ false) (theirs_more : theirs.0 ≡ [] → theirs.1 ≡ false) where
+    -- no key is left
+    pub over_ends : mine.0 ≡ [] → theirs.0 ≡ [] → GoesThrough l p (λ a b. ArePages (digests a) (path ∷ []) (first ∷ []) × ArePages (digests b) (path ∷ []) (second ∷ [])) (path ∷ []) 0 left left1 local local1 peer peer1 before at (Ok (tt {0}))
+    over_ends none none' = record {
+      goes = over.goes;
+      meets = λ t u distinct long a b done so counts next elsewhere told.
+          let here = over.meets t u a b done so counts next elsewhere told.0.0 told.1.0 in
+          record {
+            found = here.found;
+            below = below_one path here.upto here.found here.gone.below;
+            next = here.gone.next;
+            pages_local = here.pages_local;
+            pages_peer = here.pages_peer;
+            pages = (one_held a path (1000 * here.pages_local) here.gone.first.many, one_held b path (1000 * here.pages_peer) here.gone.second.many);
+            few = let n = here.fewer in (omega (arith, n.0), omega (arith, n.1));
+            ends = record {
+              all = λ key u differ. gone_ends a b done before.waiting path here.upto mine theirs here.found here.pages_local here.pages_peer here.gone mine_more theirs_more none none' key (under_one path key u) differ;
+              goes_on = here.goes_on;
+              fewer = let n = here.fewer in (omega (arith, n.0), omega (arith, n.1));
+            };
+          };
+    }
+
+    module _ (e : Entry) (mine1 theirs1 : List (Key × List ℕ) × Bool) (takes : TakesNext mine.0 theirs.0 e.key e.mine e.theirs e.differs mine1.0 theirs1.0) (same_more : (mine1.1 ≡ mine.1) × (theirs1.1 ≡ theirs.1)) where
+      pub over_unfilled : (left2 : Questions) (local2 : L) (peer2 : P) (fault : SyncFault) → FillEnds l p mine1 theirs1 left1 local1 local2 peer1 peer2 fault
+          → GoesThrough {A = Unit {0}} l p (λ a b. ArePages (digests a) (path ∷ []) (first ∷ []) × ArePages (digests b) (path ∷ []) (second ∷ [])) (path ∷ []) 0 left left2 local local2 peer peer2 before at (Err fault)
+      unfolding goes_on goes_of_end
+      over_unfilled left2 local2 peer2 fault f = record {
+        goes = goes_on l p on on' left left1 left2 local local1 local2 peer peer1 peer2 before at at (tt {0}) (Err fault) over.goes (goes_of_end l p (λ asked. asked ≤ 1) left1 left2 local1 local2 peer1 peer2 at fault f.ends);
+        meets = λ t u distinct long a b done so counts next elsewhere told.
+            let here = over.meets t u a b done so counts next elsewhere told.0.0 told.1.0 in
+            unfilled l p before.number a b done path mine theirs mine1 theirs1 mine1 theirs1 over.goes.asked_local over.goes.asked_peer local1 local2 peer1 peer2 (l.most_keys local) (p.most_keys peer) before at here mine_more theirs_more elsewhere e takes same_more left1 fault f;
+      }
+
+      module _ (stays : (n : ℕ) (old new : L) → l.follows n old new → l.most_keys new ≡ l.most_keys old)
+          (stays' : (n : ℕ) (old new : P) → p.follows n old new → p.most_keys new ≡ p.most_keys old)
+          (mine2 theirs2 : List (Key × List ℕ) × Bool) (left2 left3 : Questions) (local2 local3 : L) (peer2 peer3 : P) (after : Exchanging)
+          (f : FillsBoth l p path (Some e.key) mine1 mine2 theirs1 theirs2 left1 left2 local1 local2 peer1 peer2) where
+        reads_local : Reads l f.local_side.asked left1.local left2.local local1 local2
+        reads_local = record { spent = f.local_side.spent; follows = f.local_side.follows; kept = f.local_side.kept }
+
+        reads_peer : Reads p f.peer_side.asked left1.peer left2.peer peer1 peer2
+        reads_peer = record { spent = f.peer_side.spent; follows = f.peer_side.follows; kept = f.peer_side.kept }
+
+        -- with the questions that filled them
+        unfoldable pub goes_filled : Goes l p left left2 local local2 peer peer2 before at (Ok (tt {0}))
+        unfolding reads_local reads_peer
+        goes_filled = goes_on l p on on' left left1 left2 local local1 local2 peer peer1 peer2 before at at (tt {0}) (Ok (tt {0})) over.goes (goes_of_reads l p (tt {0}) f.local_side.asked f.peer_side.asked left1 left2 local1 local2 peer1 peer2 at reads_local reads_peer)
+
+        pub over_settles : Settles l p e left2 left3 local2 local3 peer2 peer3 at after (Ok (tt {0})) → OverBucket l p path first second mine2 theirs2 left left3 local local3 peer peer3 before after
+        unfolding goes_on goes_of_reads goes_filled
+        over_settles s = record {
+          goes = goes_on l p on on' left left2 left3 local local2 local3 peer peer2 peer3 before at after (tt {0}) (Ok (tt {0})) goes_filled s.goes;
+          meets = λ t u a b done so counts next elsewhere mine_told theirs_told.
+              let here = over.meets t u a b done so counts next elsewhere mine_told theirs_told in
+              let g = goes_filled in
+              settled_on l p stays stays' a b done path mine2 theirs2 e (over.goes.asked_local + f.local_side.asked) (over.goes.asked_peer + f.peer_side.asked) local local2 local3 peer peer2 peer3 g.asked_local g.asked_peer before at after g.follows g.same
+              (filled l p before.number a b done path mine theirs mine1 theirs1 mine2 theirs2 over.goes.asked_local over.goes.asked_peer local1 local2 peer1 peer2 (l.most_keys local) (p.most_keys peer) before at here mine_more theirs_more elsewhere e takes same_more left1 left2 f) left2 left3 s;
+        }
+
+        pub over_unsettled : (fault : SyncFault) → Settles {A = Unit {0}} l p e left2 left3 local2 local3 peer2 peer3 at after (Err fault)
+            → GoesThrough {A = Unit {0}} l p (λ a b. ArePages (digests a) (path ∷ []) (first ∷ []) × ArePages (digests b) (path ∷ []) (second ∷ [])) (path ∷ []) 0 left left3 local local3 peer peer3 before after (Err fault)
+        unfolding goes_on goes_of_reads goes_filled
+        over_unsettled fault s = record {
+          goes = goes_on l p on on' left left2 left3 local local2 local3 peer peer2 peer3 before at after (tt {0}) (Err fault) goes_filled s.goes;
+          meets = λ t u distinct long a b done so counts next elsewhere told.
+              let here = over.meets t u a b done so counts next elsewhere told.0.0 told.1.0 in
+              let g = goes_filled in
+              settled_ends l p stays stays' a b done path mine2 theirs2 e (over.goes.asked_local + f.local_side.asked) (over.goes.asked_peer + f.peer_side.asked) local local2 local3 peer peer2 peer3 g.asked_local g.asked_peer before at after g.follows g.same
+              (filled l p before.number a b done path mine theirs mine1 theirs1 mine2 theirs2 over.goes.asked_local over.goes.asked_peer local1 local2 peer1 peer2 (l.most_keys local) (p.most_keys peer) before at here mine_more theirs_more elsewhere e takes same_more left1 left2 f) left2 left3 fault s;
+        }

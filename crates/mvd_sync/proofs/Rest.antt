@@ -2,7 +2,7 @@
 use Rattle.std.specs.Cmp.Lexicographic.{pointwise}
 use Rattle.std.specs.Prelude.{nat_eq}
 use Rattle.std.proofs.lemmas.Slice.Eq.{bytes_eq-Decides}
-use Rattle.std.proofs.Common.{◌≡◌, ◌≢◌, ℕ, Bool, true, false, cond, ◌&&◌, List, [], ◌∷◌, ◌++◌, refl, sym, ap, subst, ◌∙◌, Some, None, Option}
+use Rattle.std.proofs.Common.{◌≡◌, ◌≢◌, ℕ, Bool, true, false, true≢false, cond, ◌&&◌, List, [], ◌∷◌, ◌++◌, refl, sym, ap, subst, ◌∙◌, Some, None, Option}
 use Rattle.std.specs.Prelude.{IsTrue, T}
 use Rattle.std.specs.declared.cmp.Ordering.{Ordering}
 use Rattle.std.specs.declared.cmp.Ordering.TheVariants.{Less, Equal, Greater}
@@ -160,11 +160,13 @@ head_where m path b k digest t head =
     (sym (get-rest m path b k) ∙ found_rest m path b k (Some digest) t head k ∙ found_at_head k (Some digest) t head.after)
 
 -- both sides, as the next key is taken
-pub record Heads (m n : KeyDigests) (path : List ℕ) (b : Option (List ℕ)) (k : List ℕ) (differs : Bool) (t u : List Entry) : Type 0 where
+pub record Heads (m n : KeyDigests) (path : List ℕ) (b : Option (List ℕ)) (k : List ℕ) (has has' differs : Bool) (t u : List Entry) : Type 0 where
   pub first : Option (List ℕ)
   pub second : Option (List ℕ)
   pub mine : HeadIs m path b k first t
   pub theirs : HeadIs n path b k second u
+  pub no_first : has ≡ false → first ≡ None
+  pub no_second : has' ≡ false → second ≡ None
   pub differ : IsTrue differs → first ≢ second
   pub same : differs ≡ false → first ≡ second
   pub below : IsTrue (is_under path k)
@@ -177,10 +179,10 @@ stable xs ys h =
       | false ↦ λ e. absurd (h (λ s. let t : pointwise nat_eq xs ys ≡ true = (bytes_eq-Decides xs ys).1 s in cc))
     ] refl
 
-pub heads : (m n : KeyDigests) (path : List ℕ) (b : Option (List ℕ)) (k : List ℕ) (differs : Bool) (xs ys xs' ys' : List Entry) (more more' : Bool)
+pub heads : (m n : KeyDigests) (path : List ℕ) (b : Option (List ℕ)) (k : List ℕ) (has has' differs : Bool) (xs ys xs' ys' : List Entry) (more more' : Bool)
     → (p : IsListing m path b xs more) → (q : IsListing n path b ys more') → (xs ≡ [] → more ≡ false) → (ys ≡ [] → more' ≡ false)
-    → TakesNext xs ys k differs xs' ys' → Heads m n path b k differs (xs' ++ p.later) (ys' ++ q.later)
-heads m n path b k differs xs ys xs' ys' more more' p q ended ended' (of_first e is same key sure starts) =
+    → TakesNext xs ys k has has' differs xs' ys' → Heads m n path b k has has' differs (xs' ++ p.later) (ys' ++ q.later)
+heads m n path b k has has' differs xs ys xs' ys' more more' p q ended ended' (of_first e is same key mine_is theirs_is sure starts) =
     let mine = head_taken m path b k xs xs' p.later e p.is is key in
     let theirs = head_left n path b k ys q.later q.is starts (λ none. q.ended (ended' none)) in
     let at = head_where m path b k e.1 (xs' ++ p.later) mine in
@@ -189,12 +191,14 @@ heads m n path b k differs xs ys xs' ys' more more' p q ended ended' (of_first e
       second = None;
       mine = mine;
       theirs = subst (λ zs. HeadIs n path b k None (zs ++ q.later)) same theirs;
+      no_first = λ no. absurd (true≢false (sym mine_is ∙ no));
+      no_second = λ _. refl;
       differ = λ _ h. absurd (cc);
       same = λ never. absurd (cc);
       below = at.0;
       next = at.1;
     }
-heads m n path b k differs xs ys xs' ys' more more' p q ended ended' (of_second f same is key sure starts) =
+heads m n path b k has has' differs xs ys xs' ys' more more' p q ended ended' (of_second f same is key mine_is theirs_is sure starts) =
     let mine = head_left m path b k xs p.later p.is starts (λ none. p.ended (ended none)) in
     let theirs = head_taken n path b k ys ys' q.later f q.is is key in
     let at = head_where n path b k f.1 (ys' ++ q.later) theirs in
@@ -203,12 +207,14 @@ heads m n path b k differs xs ys xs' ys' more more' p q ended ended' (of_second 
       second = Some f.1;
       theirs = theirs;
       mine = subst (λ zs. HeadIs m path b k None (zs ++ p.later)) same mine;
+      no_first = λ _. refl;
+      no_second = λ no. absurd (true≢false (sym theirs_is ∙ no));
       differ = λ _ h. absurd (cc);
       same = λ never. absurd (cc);
       below = at.0;
       next = at.1;
     }
-heads m n path b k differs xs ys xs' ys' more more' p q ended ended' (of_both e f is is' key key' h) =
+heads m n path b k has has' differs xs ys xs' ys' more more' p q ended ended' (of_both e f is is' key key' mine_is theirs_is h) =
     let mine = head_taken m path b k xs xs' p.later e p.is is key in
     let theirs = head_taken n path b k ys ys' q.later f q.is is' key' in
     let at = head_where m path b k e.1 (xs' ++ p.later) mine in
@@ -217,6 +223,8 @@ heads m n path b k differs xs ys xs' ys' more more' p q ended ended' (of_both e 
       second = Some f.1;
       mine = mine;
       theirs = theirs;
+      no_first = λ no. absurd (true≢false (sym mine_is ∙ no));
+      no_second = λ no. absurd (true≢false (sym theirs_is ∙ no));
       differ = λ sure s. h.0 sure (cc);
       same = λ never. ap Some (stable e.1 f.1 (λ other. let sure : differs ≡ true = h.1 other in cc));
       below = at.0;

@@ -1,5 +1,5 @@
 -- A site as a side of a session.
-use Rattle.std.proofs.Common.{◌≡◌, ◌≢◌, ◌⊎◌, inl, inr, ℕ, ◌<◌, ◌≤◌, Bool, true, false, cond, ◌&&◌, ◌==◌, List, length, refl, sym, ap, subst, ◌∙◌, arith, Some, None, true≢false}
+use Rattle.std.proofs.Common.{◌≡◌, ◌≢◌, ◌⊎◌, inl, inr, Option, ℕ, ◌<◌, ◌≤◌, Bool, true, false, cond, ◌&&◌, ◌==◌, List, length, refl, sym, ap, subst, ◌∙◌, arith, Some, None, true≢false}
 use Rattle.std.specs.Prelude.{IfOk, IfErr, OnOk, Result, Ok, Err, nat_lt, if◌then◌else◌, unwrap_or, is_some, not}
 use Rattle.std.proofs.lemmas.Bool.Decides.{nat_tests}
 use Rattle.std.specs.Ordering.{nat_cmp, eq_by_cmp}
@@ -23,7 +23,9 @@ use Rattle.mvd_site.specs.FromStates.{AnswersFrom, bucket_refusal, push_reply, u
 use Rattle.mvd_site.specs.Held.{AreHeld, States, state_at}
 use Rattle.mvd_site.specs.Sites.{SiteValue}
 use Rattle.mvd_sync.specs.Session.{is_nothing, put_state, pushed}
-use Rattle.mvd_sync.specs.Sides.{SiteFollows, SiteRefuses, is_site_refusal, tells_broken}
+use Rattle.std.specs.Cmp.{unsigned_Decides}
+use Rattle.mvd_sync.specs.Windows.{CannotTake}
+use Rattle.mvd_sync.specs.Sides.{SiteFollows, SiteRefuses, is_site_refusal, tells_broken, is_of_key}
 use Rattle.mvd_sync.proofs.JoinLaws.{nothing_empty, valid_at}
 
 -- ---- the digests of a node
@@ -45,8 +47,8 @@ module _ (broken : Bool) (m : States) (path : List ℕ) (r : Result Digests Refu
       let is : nat_lt (length path) 3 ≡ false = grind (arith, nat_tests) in
       subst (λ r. IfOk r (λ d. d.children ≡ None)) (sym (told broken m path r e whole)) (ap (λ b. if b then Some (children_digests (digests m) path) else None) is)
 
-  pub node_apart : IfErr r (λ refusal. refusal ≢ DotClash)
-  node_apart = subst (λ r. IfErr r (λ refusal. refusal ≢ DotClash)) (sym (told broken m path r e whole)) tt
+  pub node_not_of_key : IfErr r (λ refusal. is_of_key refusal ≡ false)
+  node_not_of_key = subst (λ r. IfErr r (λ refusal. is_of_key refusal ≡ false)) (sym (told broken m path r e whole)) tt
 
 -- ---- a push
 
@@ -150,6 +152,20 @@ pub get_refuses : {X : Type 0} (site : SiteValue) (r : Result X Refusal) → IfE
 get_refuses site (Ok done) e = tt
 get_refuses site (Err refusal) e = bucket_told site.broken true refusal e
 
+-- no question is refused for its key
+not_of_key : (broken three : Bool) (refusal : Refusal) → refusal ≡ (if broken then Broken else if three then Memory else BadPath) → is_of_key refusal ≡ false
+not_of_key true three refusal e = ap is_of_key e
+not_of_key false true refusal e = ap is_of_key e
+not_of_key false false refusal e = ap is_of_key e
+
+pub bucket_not_of_key : {X : Type 0} (broken : Bool) (path : List ℕ) (r : Result X Refusal) → IfErr r (λ refusal. refusal ≡ bucket_refusal broken path) → IfErr r (λ refusal. is_of_key refusal ≡ false)
+bucket_not_of_key broken path (Ok done) e = tt
+bucket_not_of_key broken path (Err refusal) e = not_of_key broken (length path == 3) refusal e
+
+pub get_not_of_key : {X : Type 0} (broken : Bool) (r : Result X Refusal) → IfErr r (λ refusal. refusal ≡ unless_broken broken Broken Memory) → IfErr r (λ refusal. is_of_key refusal ≡ false)
+get_not_of_key broken (Ok done) e = tt
+get_not_of_key broken (Err refusal) e = not_of_key broken true refusal e
+
 -- why a push is refused, by the limits
 push_told : (large clash larger full : Bool) (refusal : Refusal) → (if large then Refused StateTooLarge else if clash then Refused DotClash else if larger then Refused StateTooLarge else if full then Refused Full else Done) ≡ Refused refusal
     → (is_site_refusal refusal ≡ true) × (false ≡ tells_broken refusal)
@@ -180,3 +196,39 @@ module _ (old new : SiteValue) (key : List ℕ) (s : State) where
 pub push_answers : (new : SiteValue) (config : ConfigValue) (after : States) (r : Result (Unit {0}) Refusal) → OnOk r (new ≡ record { config = config; states = after; broken = false }) → OnOk r (new.broken ≡ false)
 push_answers new config after (Ok done) e = ap (λ (v : SiteValue). v.broken) e
 push_answers new config after (Err refusal) e = tt
+
+-- ---- the cause of a refused push
+
+by_limits : (P : Refusal → Type 0) (large clash larger full : Bool) (refusal : Refusal) → (if large then Refused StateTooLarge else if clash then Refused DotClash else if larger then Refused StateTooLarge else if full then Refused Full else Done) ≡ Refused refusal
+    → (large ≡ true → P StateTooLarge) → (clash ≡ true → P DotClash) → (larger ≡ true → P StateTooLarge) → (full ≡ true → P Full) → P refusal
+by_limits P true clash larger full refusal e p q r t = subst P (sym (same_refusal refusal StateTooLarge e)) (p refl)
+by_limits P false true larger full refusal e p q r t = subst P (sym (same_refusal refusal DotClash e)) (q refl)
+by_limits P false false true full refusal e p q r t = subst P (sym (same_refusal refusal StateTooLarge e)) (r refl)
+by_limits P false false false true refusal e p q r t = subst P (sym (same_refusal refusal Full e)) (t refl)
+by_limits P false false false false refusal e p q r t = absurd (cc)
+
+both : (a b : Bool) → (a && b) ≡ true → (a ≡ true) × (b ≡ true)
+both true b e = (refl, e)
+both false b e = absurd (cc)
+
+no_state : (o : Option State) → not (is_some o) ≡ true → o ≡ None
+no_state None e = refl
+no_state (Some s) e = absurd (cc)
+
+full_means : (config : ConfigValue) (m : States) (key : List ℕ) (seen : Bool) → (is_full config (is_some (get m key)) (len m) && seen) ≡ true → (get m key ≡ None) × (config.max_keys ≤ len m)
+full_means config m key seen e =
+    let full = both (is_full config (is_some (get m key)) (len m)) seen e in
+    let parts = both (not (is_some (get m key))) (len m == config.max_keys) full.0 in
+    let same : len m ≡ config.max_keys = (unsigned_Decides (len m) config.max_keys).0 parts.1 in
+    (no_state (get m key) parts.0, omega (arith, same))
+
+pub push_cause : (old new : SiteValue) (key : List ℕ) (s : State) → old.broken ≡ false → (r : Result (Unit {0}) Refusal) → AnswersFrom old new (Push key s) (push_reply r) → IfErr r (CannotTake old.config.max_keys old.states key s)
+push_cause old new key s whole (Ok done) from = tt
+push_cause old new key s whole (Err refusal) from =
+    let P = CannotTake old.config.max_keys old.states key s in
+    elim (from whole) [
+      | inl answered ↦ by_limits P (is_too_large s) (clashes (state_at old.states key) s) (is_too_large (join (state_at old.states key) s)) (is_full old.config (is_some (get old.states key)) (len old.states) && not (is_empty (join (state_at old.states key) s).context)) refusal
+          (sym answered.answers) (λ e. inl e) (λ e. e) (λ e. inr e) (full_means old.config old.states key (not (is_empty (join (state_at old.states key) s).context)))
+      | inr (inl memory) ↦ subst P (sym (same_refusal refusal Memory (sym memory.0))) tt
+      | inr (inr broke) ↦ subst P (sym (same_refusal refusal Broken (sym broke.0))) tt
+    ]

@@ -1,5 +1,14 @@
 pub mod Links
+pub mod LinkWindows
+pub mod Olds
 pub mod Session
+pub mod Sides
+pub mod Windows
 pub mod Answers
 pub mod Walk
-pub mod Sides
+pub mod Questions
+pub mod Exchanges
+pub mod Buckets
+pub mod Meetings
+pub mod Carries
+pub mod Nodes

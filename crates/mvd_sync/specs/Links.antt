@@ -1,5 +1,5 @@
 -- Questions over a connection: a frame goes out, and a frame comes in.
-use Rattle.std.specs.Prelude.{◌≡◌, ◌≢◌, ◌⊎◌, ◌<◌, ◌≤◌, ℕ, List, Option, Some, None, Result, Ok, Err}
+use Rattle.std.specs.Prelude.{◌≡◌, ◌≢◌, ◌⊎◌, ◌<◌, ◌≤◌, ℕ, List, Option, Some, None, Result, Ok, Err, MatchResult}
 use Rattle.std.specs.Io.KnownBytes.{Appends}
 use Rattle.mvd_dots.specs.Refusal.{number_of}
 use Rattle.mvd_dots.specs.declared.refusals.Refusal.{Refusal}
@@ -41,11 +41,15 @@ answered_by (Push k s) = 0xA3
 answered_by (Range f from to after) = 0xA4
 answered_by Bye = 0xA3
 
+-- just one frame came in, of which this holds
+abbrev pub Receives : Option (List ℕ) → Option (List ℕ) → (FrameValue → Type 0) → Type 0
+Receives old new Came =
+    (bytes : List ℕ) → old ≡ Some bytes → (frame : FrameValue) × (rest : List ℕ) × (frame_at bytes ≡ Ok (Some frame, rest)) × (new ≡ Some rest) × Came frame
+
 -- just this frame went out, and just one frame came in, of which this holds
 pub record Exchanged (old new : Link) (sent : List ℕ) (Came : FrameValue → Type 0) : Type 0 where
   pub wrote : Appends old.output new.output sent
-  pub read : (bytes : List ℕ) → old.input ≡ Some bytes →
-      (frame : FrameValue) × (rest : List ℕ) × (frame_at bytes ≡ Ok (Some frame, rest)) × (new.input ≡ Some rest) × Came frame
+  pub read : Receives old.input new.input Came
 
 -- the frame spells the reply, which is of the kind that was asked for, or a refusal
 abbrev pub Tells : ℕ → Reply → FrameValue → Type 0
@@ -59,26 +63,34 @@ TellsNone kind refusal frame = ((frame.kind ≡ kind) ⊎ (frame.kind ≡ 0xEE))
 abbrev pub IsOther : ℕ → FrameValue → Type 0
 IsOther kind frame = (frame.kind ≢ kind) × (frame.kind ≢ 0xEE)
 
--- just this frame went out, and of the bytes that the reader had left this holds
-pub record Unanswered (old new : Link) (sent : List ℕ) (Left : List ℕ → Type 0) : Type 0 where
-  pub wrote : Appends old.output new.output sent
-  pub left : (bytes : List ℕ) → old.input ≡ Some bytes → Left bytes
-
 -- the bytes end before a frame does
 abbrev pub EndsEarly : List ℕ → Type 0
 EndsEarly bytes = (frame_at bytes ≡ Err Truncated) ⊎ ((rest : List ℕ) × (frame_at bytes ≡ Ok (None, rest)))
+
+-- of the bytes that a reader had left this holds
+abbrev pub HadLeft : Option (List ℕ) → (List ℕ → Type 0) → Type 0
+HadLeft old Left = (bytes : List ℕ) → old ≡ Some bytes → Left bytes
+
+-- why the reading of a reply breaks a link with this refusal
+pub data ReadCause (old new : Option (List ℕ)) (kind : ℕ) (refusal : Refusal) : Type 0 where
+  -- the reader failed, or memory was refused for what it gave
+  of_reader : (refusal ≡ ReadFailed) ⊎ (refusal ≡ Memory) → ReadCause old new kind refusal
+  of_end : refusal ≡ Truncated → HadLeft old EndsEarly → ReadCause old new kind refusal
+  of_length : refusal ≡ FrameTooLong → HadLeft old (λ bytes. frame_at bytes ≡ Err FrameTooLong) → ReadCause old new kind refusal
+  of_kind : refusal ≡ BadKind → Receives old new (IsOther kind) → ReadCause old new kind refusal
+  -- the frame that came spells no reply
+  of_body : 30 ≤ number_of refusal → Receives old new (TellsNone kind refusal) → ReadCause old new kind refusal
+
+-- how the reading of a reply of this kind ends, and whether the link refuses from now on
+abbrev pub ReadsReply : Option (List ℕ) → Option (List ℕ) → ℕ → Option Refusal → Result Reply Refusal → Type 0
+ReadsReply old new kind refused (Ok reply) = Receives old new (Tells kind reply) × (refused ≡ None)
+ReadsReply old new kind refused (Err refusal) = (ReadCause old new kind refusal × (refused ≡ Some refusal)) ⊎ (Receives old new (TellsNone kind refusal) × (refused ≡ None) × (number_of refusal < 30))
 
 -- why a link breaks with this refusal
 pub data Cause (old new : Link) (sent : List ℕ) (kind : ℕ) (refusal : Refusal) : Type 0 where
   -- the writer failed after a front of the frame, and nothing was read
   of_write : refusal ≡ WriteFailed → AppendsFront old.output new.output sent → new.input ≡ old.input → Cause old new sent kind refusal
-  -- the reader failed, or memory was refused for what it gave
-  of_read : (refusal ≡ ReadFailed) ⊎ (refusal ≡ Memory) → Appends old.output new.output sent → Cause old new sent kind refusal
-  of_end : refusal ≡ Truncated → Unanswered old new sent EndsEarly → Cause old new sent kind refusal
-  of_length : refusal ≡ FrameTooLong → Unanswered old new sent (λ bytes. frame_at bytes ≡ Err FrameTooLong) → Cause old new sent kind refusal
-  of_kind : refusal ≡ BadKind → Exchanged old new sent (IsOther kind) → Cause old new sent kind refusal
-  -- the frame that came spells no reply
-  of_body : 30 ≤ number_of refusal → Exchanged old new sent (TellsNone kind refusal) → Cause old new sent kind refusal
+  of_read : Appends old.output new.output sent → ReadCause old.input new.input kind refusal → Cause old new sent kind refusal
 
 -- the link itself refuses, from now on
 pub record Breaks (old new : Link) (sent : List ℕ) (kind : ℕ) (refusal : Refusal) : Type 0 where
@@ -106,3 +118,11 @@ Asks old new request (Err refusal) = SendsNothing old new request refusal ⊎ Se
 -- a refusal of a question: the link gave it, or the peer told it
 abbrev pub Refuses : Link → Link → Request → Refusal → Type 0
 Refuses old new request refusal = Asks old new request (Err refusal) ⊎ SendsFrame old new request (Ok (Refused refusal))
+
+-- what a question for an answer gives: a reply that tells it, or a refusal
+abbrev pub AsksFor : {A : Type 0} → (A → Reply) → Request → Link → Link → Result A Refusal → Type 0
+AsksFor as_reply request old new result = MatchResult result (λ answer. SendsFrame old new request (Ok (as_reply answer))) (λ refusal. Refuses old new request refusal)
+
+-- a link that has refused refuses so again, and stays as it is
+abbrev pub StaysRefused : {R W A : Type 0} → Remote R W → Remote R W → Result A Refusal → Type 0
+StaysRefused old new result = (refusal : Refusal) → old.refused ≡ Some refusal → (result ≡ Err refusal) × (new ≡ old)

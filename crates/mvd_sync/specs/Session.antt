@@ -1,14 +1,24 @@
--- What a session does to the key states of its two sides.
-use Rattle.std.specs.Prelude.{◌≡◌, ◌≢◌, ℕ, ◌==◌, Bool, true, false, cond, ◌&&◌, ◌||◌, List, [], ◌∷◌, ◌++◌, length, IsTrue, if◌then◌else◌, Result, Ok, Err, IfOk, ◌⊎◌, ◌↔◌}
+-- What a session does to its two sides, and what it tells.
+use Rattle.std.specs.Prelude.{◌≡◌, ◌≢◌, ◌⊎◌, ◌<◌, ◌≤◌, ◌+◌, ◌*◌, ◌/◌, ℕ, ◌==◌, Bool, true, false, cond, ◌&&◌, ◌||◌, List, [], ◌∷◌, ◌++◌, length, map, take, Option, None, IsTrue, Result, IfOk, IfErr, OnOk, MatchBool, ◌↔◌}
 use Rattle.std.specs.Ordering.{eq_by_cmp}
 use Rattle.std.specs.FinMap.{get, insert, len, remove}
-use Rattle.mvd_dots.specs.declared.refusals.Refusal.TheVariants.{DotClash}
+use Rattle.mvd_dots.specs.declared.refusals.Refusal.{Refusal}
+use Rattle.mvd_dots.specs.declared.refusals.Refusal.TheVariants.{Broken, DotClash, Full, StateTooLarge}
 use Rattle.mvd_keys.specs.Key.{key_cmp}
 use Rattle.mvd_keys.specs.State.{IsValid, State, clashes, join}
 use Rattle.mvd_keys.specs.Writes.{Key, is_empty}
+use Rattle.mvd_tree.specs.Hashed.{HashesTellApart}
+use Rattle.mvd_site.specs.Answer.{is_too_large, spelled}
 use Rattle.mvd_site.specs.Held.{States, state_at}
-use Rattle.mvd_sync.specs.declared.session.SyncFault.{SyncFault}
-use Rattle.mvd_sync.specs.declared.session.SyncFault.TheVariants.{Local, Peer}
+use Rattle.mvd_sync.specs.Olds.{HasUnseen}
+use Rattle.mvd_sync.specs.Sides.{Blames, HasAnswered, IsFaultOf, IsSilent, Side as SideOf}
+use Rattle.mvd_sync.specs.declared.report.Report.{Report}
+use Rattle.mvd_sync.specs.declared.report.Side.{Side}
+use Rattle.mvd_sync.specs.declared.report.Side.TheVariants.{Local as AtLocal, Peer as AtPeer}
+use Rattle.mvd_sync.specs.declared.report.SyncFault.{SyncFault}
+use Rattle.mvd_sync.specs.declared.report.SyncFault.TheVariants.{Local, Peer}
+
+-- ---- pushes into one side
 
 -- nobody has written the key: a state with neither part
 abbrev pub is_nothing : State → Bool
@@ -39,64 +49,126 @@ pub record ComesByPushes (can_give : Key → State → Type 0) (old new : States
   pub valid : Each (λ p. IsValid p.1) pushes
   pub is : new ≡ pushed_all old pushes
 
+-- a side that was true still is, unless it says that it is broken, and comes by such pushes
+pub record Changes {A : Type 0} (still_true : Type 0) (broken : SyncFault) (can_give : Key → State → Type 0) (old new : States) (result : Result A SyncFault) : Type 0 where
+  pub after_ok : OnOk result still_true
+  pub after_fault : IfErr result (λ fault. fault ≢ broken → still_true)
+  pub pushes : still_true → ComesByPushes can_give old new
+
+-- ---- lists of keys
+
 -- whether a key is in a list
 abbrev pub is_member : List Key → Key → Bool
 is_member [] key = false
 is_member (k ∷ ks) key = eq_by_cmp key_cmp key k || is_member ks key
+
+abbrev pub IsIn : List Key → Key → Type 0
+IsIn keys key = IsTrue (is_member keys key)
 
 -- no key is twice in a list
 abbrev pub AreDistinct : List Key → Type 0
 AreDistinct [] = Unit {0}
 AreDistinct (k ∷ ks) = (is_member ks k ≡ false) × AreDistinct ks
 
--- the local side after the peer's states of these keys were joined to it
-abbrev pub Pulls : List Key → States → States → States → Type 0
-Pulls keys local peer local' = (key : Key) →
-    state_at local' key ≡ (if is_member keys key then join (state_at local key) (state_at peer key) else state_at local key)
+-- ---- two sides
 
--- the peer after the local side's states of these keys, taken after that, were joined to it
-abbrev pub Gives : List Key → States → States → States → Type 0
-Gives keys local peer peer' = (key : Key) →
-    state_at peer' key ≡ (if is_member keys key then join (state_at peer key) (join (state_at local key) (state_at peer key)) else state_at peer key)
+-- the states of a key differ, and do not clash
+pub record CanMeet (a b : States) (key : Key) : Type 0 where
+  pub differ : get a key ≢ get b key
+  pub apart : clashes (state_at a key) (state_at b key) ≡ false
 
--- a fault by which two sides' states of a key clash
-abbrev pub IsClash : SyncFault → Type 0
-IsClash fault = (fault ≡ Local DotClash) ⊎ (fault ≡ Peer DotClash)
+-- a side has the join of the two old states of these keys, and of all others its old states
+abbrev pub HasJoined : List Key → States → States → States → States → Type 0
+HasJoined keys a b old new = (key : Key) → MatchBool (is_member keys key) (state_at new key ≡ join (state_at a key) (state_at b key)) (get new key ≡ get old key)
 
--- what a session that ends so has done with the keys whose states were joined: after an end with no fault both sides
--- are true, the same keys were joined on both, and so many; after a fault the last key may not have been given back
-abbrev pub IsEnd : {R : Type 0} → (R → ℕ) → Type 0 → Type 0 → List Key → List Key → Result R SyncFault → Type 0
-IsEnd count local_true peer_true pulled given (Ok report) = local_true × peer_true × (given ≡ pulled) × (count report ≡ length pulled)
-IsEnd count local_true peer_true pulled given (Err fault) = (given ≡ pulled) ⊎ ((key : Key) × (pulled ≡ given ++ key ∷ []))
+-- the states of `joined` were joined on the local side, and those of `given`, which are some of these, on the peer
+pub record Joins (local_true peer_true : Type 0) (a b a' b' : States) (joined given : List Key) : Type 0 where
+  pub part : (key : Key) → IsIn given key → IsIn joined key
+  pub met : (key : Key) → IsIn joined key → CanMeet a b key
+  pub local_side : local_true → HasJoined joined a b a a'
+  pub peer_side : peer_true → HasJoined given a b b b'
 
--- the two states of each of these keys do not clash
-abbrev pub DoNotClash : List Key → States → States → Type 0
-DoNotClash keys local peer = (key : Key) → IsTrue (is_member keys key) → clashes (state_at local key) (state_at peer key) ≡ false
+-- more keys than a side takes are held by one of the two
+pub record AreTooMany (most : ℕ) (a b : States) : Type 0 where
+  pub held : List Key
+  pub distinct : AreDistinct held
+  pub by_either : Each (λ key. (get a key ≢ None) ⊎ (get b key ≢ None)) held
+  pub many : most < length held
 
--- how a session of two sides that were true ends, as far as they still are: the peer's states of
--- some keys were joined to the local side, and the local states after that were given back
-pub record SessionEnds {R : Type 0} (count : R → ℕ) (local_true peer_true : Type 0) (local peer local' peer' : States) (result : Result R SyncFault) : Type 0 where
-  pub pulled : List Key
+-- why a key is refused by a side that takes so many keys: the join of its states is too long (9), both sides' keys together
+-- are too many (10), or its states clash (11)
+abbrev pub CannotMeet : ℕ → States → States → Key → Refusal → Type 0
+CannotMeet most a b key StateTooLarge = is_too_large (join (state_at a key) (state_at b key)) ≡ true
+CannotMeet most a b key Full = AreTooMany most a b
+CannotMeet most a b key DotClash = clashes (state_at a key) (state_at b key) ≡ true
+CannotMeet most a b key refusal = ⊥
+
+-- a key that was refused, by which side, and how
+abbrev pub Left : Type 0
+Left = Key × (Side × Refusal)
+
+abbrev pub most_of : ℕ → ℕ → Side → ℕ
+most_of local peer AtLocal = local
+most_of local peer AtPeer = peer
+
+-- at the local side the key's states were not joined; at the peer they were, on the local side alone
+abbrev pub IsLeft : List Key → Left → Type 0
+IsLeft joined (key, (AtLocal, refusal)) = is_member joined key ≡ false
+IsLeft joined (key, (AtPeer, refusal)) = is_member joined key ≡ true
+
+-- the peer's state of a key has seen a dot of this site that the local state has not
+abbrev pub IsOld : Option ℕ → States → States → Key → Type 0
+IsOld number a b key = HasUnseen number (state_at a key) (state_at b key)
+
+-- What a session with no fault tells: the keys that were exchanged and those that were refused, each for its cause, which
+-- together are those that differed; and of how many the local state was older than what the peer saw of it
+pub record Tells (most_local most_peer : ℕ) (number : Option ℕ) (a b : States) (joined given : List Key) (report : Report) : Type 0 where
+  pub left : List Left
+  pub old_keys : List Key
+  pub distinct : AreDistinct (given ++ map (λ l. l.0) left)
+  pub whole : (key : Key) → IsIn joined key → IsIn (given ++ map (λ l. l.0) left) key
+  pub sides : Each (IsLeft joined) left
+  pub causes : Each (λ l. CannotMeet (most_of most_local most_peer l.1.0) a b l.0 l.1.1) left
+  pub differed : Each (λ l. get a l.0 ≢ get b l.0) left
+  pub all : HashesTellApart spelled a b → (key : Key) → get a key ≢ get b key → IsIn (given ++ map (λ l. l.0) left) key
+  pub counted : (report.keys ≡ length given) × (report.refused ≡ length left) × (report.first_refused ≡ take 100 left)
+  pub older : AreDistinct old_keys × (report.old ≡ length old_keys)
+  pub are_old : (key : Key) → IsIn old_keys key ↔ (IsIn (given ++ map (λ l. l.0) left) key × IsOld number a b key)
+
+-- between two sides that were true, at any end
+pub record Meets (local_true peer_true : Type 0) (most_local most_peer : ℕ) (number : Option ℕ) (a b a' b' : States) (result : Result Report SyncFault) : Type 0 where
+  pub joined : List Key
   pub given : List Key
-  pub distinct : AreDistinct pulled
-  pub local_side : local_true → Pulls pulled local peer local'
-  pub peer_side : peer_true → Gives given local peer peer'
-  pub end : IsEnd count local_true peer_true pulled given result
-  pub apart : IfOk result (λ _. DoNotClash pulled local peer)
+  pub joins : Joins local_true peer_true a b a' b' joined given
+  pub tells : IfOk result (Tells most_local most_peer number a b joined given)
 
--- two states of a key that clash
-pub record HaveClash (local peer : States) : Type 0 where
-  pub key : Key
-  pub clash : clashes (state_at local key) (state_at peer key) ≡ true
+-- so few questions, where all keys that differ are among these
+abbrev pub AreFew : ℕ → States → List Key → Type 0
+AreFew asked states differing = asked ≤ 1 + 5 * length differing + len states / 1000
 
--- both sides hold the join of the old states of each key, the keys that differed are so many, and
--- the others are as they were
-pub record SessionCompletes (local peer local' peer' : States) (count : ℕ) : Type 0 where
-  pub keys : List Key
-  pub distinct : AreDistinct keys
-  pub differing : (key : Key) → IsTrue (is_member keys key) ↔ (get local key ≢ get peer key)
-  pub counted : count ≡ length keys
-  pub apart : DoNotClash keys local peer
-  pub local_side : (key : Key) → state_at local' key ≡ join (state_at local key) (state_at peer key)
-  pub peer_side : (key : Key) → state_at peer' key ≡ join (state_at local key) (state_at peer key)
-  pub kept : (key : Key) → get local key ≡ get peer key → (get local' key ≡ get local key) × (get peer' key ≡ get peer key)
+-- all keys that differ are among these
+abbrev pub HasAllThatDiffer : States → States → List Key → Type 0
+HasAllThatDiffer a b keys = (key : Key) → get a key ≢ get b key → IsIn keys key
+
+-- A SESSION of two sides, each asked at most so many questions
+pub record Session {L P : Type 0} (l : SideOf L) (p : SideOf P) (most : ℕ) (local local' : L) (peer peer' : P) (result : Result Report SyncFault) : Type 0 where
+  -- so many questions were made to each, and nothing is changed of either but what so many may change
+  pub asked_local : ℕ
+  pub asked_peer : ℕ
+  pub within : (asked_local ≤ most) × (asked_peer ≤ most)
+  pub follows : l.follows asked_local local local' × p.follows asked_peer peer peer'
+  -- a fault has a cause; with no fault both sides have answered
+  pub cause : IfErr result (IsFaultOf (Blames l most asked_local local local') (Blames p most asked_peer peer peer'))
+  pub answers : OnOk result (HasAnswered l.follows l.can_answer local local' × HasAnswered p.follows p.can_answer peer peer')
+  -- whatever the other is, a true side changes by pushes of states that the other may give, and by nothing else
+  pub local_side : l.is_faithful local → Changes (l.is_faithful local') (Local Broken) p.can_give (l.states local) (l.states local') result
+  pub peer_side : p.is_faithful peer → Changes (p.is_faithful peer') (Peer Broken) l.can_give (p.states peer) (p.states peer') result
+  -- beside a side that answers nothing a true one keeps its states
+  pub beside_local : IsSilent l.follows l.can_answer local → p.is_faithful peer → p.is_faithful peer' × (p.states peer' ≡ p.states peer)
+  pub beside_peer : IsSilent p.follows p.can_answer peer → l.is_faithful local → l.is_faithful local' × (l.states local' ≡ l.states local)
+  -- between two true sides states are joined, at a fault, too; with no fault all that differ, but those refused for a cause
+  pub meets : l.is_faithful local → p.is_faithful peer →
+      Meets (l.is_faithful local') (p.is_faithful peer') (l.most_keys local) (p.most_keys peer) (l.number local) (l.states local) (p.states peer) (l.states local') (p.states peer') result
+  -- and few questions were made
+  pub few : l.is_faithful local → p.is_faithful peer → (differing : List Key) → HasAllThatDiffer (l.states local) (p.states peer) differing →
+      AreFew asked_local (l.states local) differing × AreFew asked_peer (p.states peer) differing

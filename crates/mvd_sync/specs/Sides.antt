@@ -1,11 +1,84 @@
--- What of a side no call changes, and what it refuses.
+-- What a session knows of a side.
 use Rattle.std.proofs.Common.{refl, sym, subst, ◌∙◌}
-use Rattle.std.specs.Prelude.{◌≡◌, ◌⊎◌, Bool, true, false}
+use Rattle.std.specs.Prelude.{◌≡◌, ◌≤◌, ℕ, Bool, true, false, Option}
 use Rattle.mvd_dots.specs.declared.refusals.Refusal.{Refusal}
 use Rattle.mvd_dots.specs.declared.refusals.Refusal.TheVariants.{BadBody, BadPath, Broken, DotClash, Full, Memory, StateTooLarge, TooManyRequests}
-use Rattle.mvd_sync.specs.declared.session.SyncFault.{SyncFault}
-use Rattle.mvd_sync.specs.declared.session.SyncFault.TheVariants.{Local, Peer}
+use Rattle.mvd_keys.specs.State.{State}
+use Rattle.mvd_keys.specs.Writes.{Key}
+use Rattle.mvd_site.specs.Held.{States}
 use Rattle.mvd_site.specs.Sites.{SiteValue}
+use Rattle.mvd_sync.specs.declared.report.SyncFault.{SyncFault}
+use Rattle.mvd_sync.specs.declared.report.SyncFault.TheVariants.{Local, Peer}
+
+-- the meaning of a type of sides, as the trait `Peer` has it
+pub record Side (S : Type 0) : Type 1 where
+  pub states : S → States
+  pub is_faithful : S → Type 0
+  pub can_give : Key → State → Type 0
+  -- the second is what the first may be after so many questions
+  pub follows : ℕ → S → S → Type 0
+  pub can_refuse : S → Refusal → Type 0
+  pub can_answer : S → Type 0
+  pub most_keys : S → ℕ
+  pub number : S → Option ℕ
+
+abbrev pub side : {S : Type 0} → (S → States) → (S → Type 0) → (Key → State → Type 0) → (ℕ → S → S → Type 0) → (S → Refusal → Type 0) → (S → Type 0) → (S → ℕ) → (S → Option ℕ) → Side S
+side states is_faithful can_give follows can_refuse can_answer most_keys number = record {
+  states = states;
+  is_faithful = is_faithful;
+  can_give = can_give;
+  follows = follows;
+  can_refuse = can_refuse;
+  can_answer = can_answer;
+  most_keys = most_keys;
+  number = number;
+}
+
+-- ---- what comes of questions
+
+-- by questions, however many
+abbrev pub Reaches : {S : Type 0} → (ℕ → S → S → Type 0) → S → S → Type 0
+Reaches follows old new = (n : ℕ) × follows n old new
+
+-- by at most so many questions
+abbrev pub Within : {S : Type 0} → (ℕ → S → S → Type 0) → ℕ → S → S → Type 0
+Within follows most old new = (n : ℕ) × (n ≤ most) × follows n old new
+
+-- on the way it answered a question
+abbrev pub HasAnswered : {S : Type 0} → (ℕ → S → S → Type 0) → (S → Type 0) → S → S → Type 0
+HasAnswered {S} follows can_answer old new = (mid : S) × Reaches follows old mid × can_answer mid × Reaches follows mid new
+
+-- on the way it refused a question so, as it was then
+abbrev pub HasRefused : {S : Type 0} → (ℕ → S → S → Type 0) → (S → Refusal → Type 0) → S → S → Refusal → Type 0
+HasRefused {S} follows can_refuse old new refusal = (mid : S) × Reaches follows old mid × can_refuse mid refusal × Reaches follows mid new
+
+-- a side that answers nothing, and by no question comes to answer
+abbrev pub IsSilent : {S : Type 0} → (ℕ → S → S → Type 0) → (S → Type 0) → S → Type 0
+IsSilent {S} follows can_answer old = (after : S) → Reaches follows old after → can_answer after → ⊥
+
+-- a refusal of one key alone: 9, 10 or 11
+abbrev pub is_of_key : Refusal → Bool
+is_of_key StateTooLarge = true
+is_of_key Full = true
+is_of_key DotClash = true
+is_of_key refusal = false
+
+-- ---- why a session ends by a side
+
+-- it refused so, and if it was true that is no refusal of a key alone; or it gave what no true side gives (33); or all
+-- questions were made that it might be asked (36); or memory was refused
+pub data Blames {S : Type 0} (s : Side S) (most asked : ℕ) (old new : S) (refusal : Refusal) : Type 0 where
+  of_side : HasRefused s.follows s.can_refuse old new refusal → (s.is_faithful old → is_of_key refusal ≡ false) → Blames s most asked old new refusal
+  of_answer : refusal ≡ BadBody → (s.is_faithful old → ⊥) → Blames s most asked old new refusal
+  of_questions : refusal ≡ TooManyRequests → asked ≡ most → Blames s most asked old new refusal
+  of_memory : refusal ≡ Memory → Blames s most asked old new refusal
+
+-- the fault is of the side that it names
+abbrev pub IsFaultOf : (Refusal → Type 0) → (Refusal → Type 0) → SyncFault → Type 0
+IsFaultOf local peer (Local refusal) = local refusal
+IsFaultOf local peer (Peer refusal) = peer refusal
+
+-- ---- sites
 
 -- a side that is over stays as it is
 abbrev pub Stays : {S : Type 0} → (S → Type 0) → S → S → Type 0
@@ -17,7 +90,7 @@ stays_on is_over old mid new p q h = q (subst is_over (sym (p h)) h) ∙ p h
 abbrev pub IsBroken : SiteValue → Type 0
 IsBroken site = site.broken ≡ true
 
--- a site keeps its configuration, and once broken all that it has
+-- a site keeps its configuration, and once broken all that it has, whatever it is asked
 abbrev pub SiteFollows : SiteValue → SiteValue → Type 0
 SiteFollows old new = (new.config ≡ old.config) × Stays IsBroken old new
 
@@ -27,9 +100,7 @@ site_follows_self site = (refl, λ _. refl)
 pub site_follows_on : (old mid new : SiteValue) → SiteFollows old mid → SiteFollows mid new → SiteFollows old new
 site_follows_on old mid new p q = (q.0 ∙ p.0, stays_on IsBroken old mid new p.1 q.1)
 
--- ---- refusals
-
--- what the calls of a side may be refused with by a site: `node`, `bucket`, `get` and `push`
+-- what the questions to a site may be refused with
 abbrev pub is_site_refusal : Refusal → Bool
 is_site_refusal StateTooLarge = true
 is_site_refusal Full = true
@@ -47,16 +118,3 @@ tells_broken refusal = false
 -- a site, as it is after that, may have refused so
 abbrev pub SiteRefuses : SiteValue → Refusal → Type 0
 SiteRefuses site refusal = (is_site_refusal refusal ≡ true) × (site.broken ≡ tells_broken refusal)
-
--- a refusal of a side, or of the session for it: one question too many, or an answer that is none
-abbrev pub Blames : (Refusal → Type 0) → Refusal → Type 0
-Blames can_refuse refusal = can_refuse refusal ⊎ ((refusal ≡ TooManyRequests) ⊎ (refusal ≡ BadBody))
-
--- the fault is a refusal of the side that it names, or of the session for it, to which memory is refused on the local side
-abbrev pub IsFaultOf : (Refusal → Type 0) → (Refusal → Type 0) → SyncFault → Type 0
-IsFaultOf local peer (Local refusal) = Blames local refusal ⊎ (refusal ≡ Memory)
-IsFaultOf local peer (Peer refusal) = Blames peer refusal
-
--- a side that answers nothing, and by no call comes to answer
-abbrev pub IsSilent : {S : Type 0} → (S → S → Type 0) → (S → Type 0) → S → Type 0
-IsSilent {S} follows can_answer side = (after : S) → follows side after → can_answer after → ⊥

@@ -1,107 +1,90 @@
--- What a walk over a part of the keys does to the two sides.
-use Rattle.std.specs.Prelude.{◌≡◌, ◌≢◌, ℕ, ◌≤◌, true, false, List, [], ◌∷◌, ◌++◌, length, Option, Some, None, IsTrue, Result, Ok, Err, slice_index, ◌<◌}
+-- The walk of a session from the root to the buckets that differ.
+use Rattle.std.specs.Prelude.{◌≡◌, ◌≢◌, ◌+◌, ◌*◌, ◌≤◌, ℕ, List, [], ◌∷◌, ◌++◌, length, IsTrue}
 use Rattle.std.specs.FinMap.{get}
-use Rattle.mvd_dots.specs.declared.refusals.Refusal.{Refusal}
-use Rattle.mvd_dots.specs.declared.refusals.Refusal.TheVariants.{Broken, DotClash}
-use Rattle.mvd_keys.specs.State.{IsValid, State, clashes}
 use Rattle.mvd_keys.specs.Writes.{Key}
-use Rattle.mvd_tree.specs.HashTree.{place_of, is_under, begins, node_digest}
-use Rattle.mvd_tree.specs.Hashed.{SameUnder}
-use Rattle.mvd_site.specs.Held.{States, state_at}
-use Rattle.mvd_site.specs.Answer.{digests}
-use Rattle.mvd_sync.specs.Session.{pushed, Each, is_member, AreDistinct, ComesByPushes, IsClash}
-use Rattle.mvd_sync.specs.declared.session.SyncFault.{SyncFault}
-
--- both sides after the peer's state of a key was pushed into the local side, and the local state
--- after that to the peer
-abbrev pub exchanged : States → States → Key → States × States
-exchanged a b key = (pushed a key (state_at b key), pushed b key (state_at (pushed a key (state_at b key)) key))
-
--- after several keys, one after the other
-abbrev pub exchanged_all : States × States → List Key → States × States
-exchanged_all p [] = p
-exchanged_all p (k ∷ ks) = exchanged_all (exchanged p.0 p.1 k) ks
-
--- the same, and a last key of which only the peer's state was pushed into the local side
-abbrev pub stopped : States × States → List Key → Option Key → States × States
-stopped p keys None = exchanged_all p keys
-stopped p keys (Some k) = (pushed (exchanged_all p keys).0 k (state_at (exchanged_all p keys).1 k), (exchanged_all p keys).1)
-
--- the keys, and the last one
-abbrev pub with_last : List Key → Option Key → List Key
-with_last keys None = keys
-with_last keys (Some k) = keys ++ k ∷ []
+use Rattle.mvd_tree.specs.HashTree.{begins, is_under, node_digest}
+use Rattle.mvd_tree.specs.Hashed.{HashesTellApart, SameUnder}
+use Rattle.mvd_site.specs.Answer.{digests, spelled}
+use Rattle.mvd_site.specs.Held.{States}
+use Rattle.mvd_sync.specs.Nodes.{differing_children, differs_at, has_below, told_children}
+use Rattle.mvd_sync.specs.Questions.{Keeps}
+use Rattle.mvd_sync.specs.Session.{AreDistinct, Each, HasAllThatDiffer}
+use Rattle.mvd_sync.specs.Sides.{Blames, HasAnswered, IsFaultOf, Side}
+use Rattle.mvd_sync.specs.declared.questions.Node.{Node}
+use Rattle.mvd_sync.specs.declared.questions.Questions.{Questions}
+use Rattle.mvd_sync.specs.declared.report.SyncFault.{SyncFault}
 
 -- equal digests under a path mean equal states
 pub record DigestsTell (path : List ℕ) (a b : States) : Type 0 where
   pub nodes : (below : List ℕ) → IsTrue (begins path below) → length below ≤ 3 → node_digest (digests a) below ≡ node_digest (digests b) below → SameUnder below a b
   pub keys : (key : Key) → IsTrue (is_under path key) → get (digests a) key ≡ get (digests b) key → get a key ≡ get b key
 
--- the states of a key differ, and do not clash
-pub record CanMeet (a b : States) (key : Key) : Type 0 where
-  pub differ : get a key ≢ get b key
-  pub apart : clashes (state_at a key) (state_at b key) ≡ false
-
--- of the keys of a part, those that differed were exchanged, one after the other
-pub record Walked (tell : Type 0) (part : Key → Type 0) (a b a' b' : States) (count : ℕ) : Type 0 where
-  pub keys : List Key
-  pub within : Each part keys
-  pub distinct : AreDistinct keys
-  pub states : (a', b') ≡ exchanged_all (a, b) keys
-  pub counted : count ≡ length keys
-  pub met : (key : Key) → IsTrue (is_member keys key) → CanMeet a b key
-  pub alike : tell → (key : Key) → part key → is_member keys key ≡ false → get a key ≡ get b key
-
--- a key of a part whose states clash
-pub record ClashesIn (part : Key → Type 0) (a b : States) : Type 0 where
-  pub key : Key
-  pub within : part key
-  pub clash : clashes (state_at a key) (state_at b key) ≡ true
-
--- some of the keys of a part were exchanged, and perhaps a last one only pulled. Nothing is said of
--- a side that is no longer true
-pub record Stopped (part : Key → Type 0) (local_true peer_true : Type 0) (a b a' b' : States) (fault : SyncFault) : Type 0 where
-  pub keys : List Key
-  pub last : Option Key
-  pub within : Each part (with_last keys last)
-  pub distinct : AreDistinct (with_last keys last)
-  pub local : local_true → a' ≡ (stopped (a, b) keys last).0
-  pub peer : peer_true → b' ≡ (stopped (a, b) keys last).1
-  pub clash : IsClash fault → ClashesIn part a b
-
--- how a walk over a part of the keys ends
-abbrev pub WalkEnds : Type 0 → (Key → Type 0) → Type 0 → Type 0 → States → States → States → States → Result ℕ SyncFault → Type 0
-WalkEnds tell part local_true peer_true a b a' b' (Ok count) = local_true × peer_true × Walked tell part a b a' b' count
-WalkEnds tell part local_true peer_true a b a' b' (Err fault) = Stopped part local_true peer_true a b a' b' fault
-
--- a side changes by pushes alone, whatever the other, and is true unless the fault is that it is broken
-abbrev pub PushesAlone : {N : Type 0} → (Refusal → SyncFault) → (Key → State → Type 0) → Type 0 → States → States → Result N SyncFault → Type 0
-PushesAlone taker can_give is_faithful a a' (Ok n) = is_faithful × ComesByPushes can_give a a'
-PushesAlone taker can_give is_faithful a a' (Err fault) = (fault ≢ taker Broken → is_faithful) × (is_faithful → ComesByPushes can_give a a')
-
--- a side's answer for a key was pushed into another side
-pub record Carries (can_give : Key → State → Type 0) (from_true : Type 0) (from into : States) (key : Key) (into' : States) : Type 0 where
-  pub state : State
-  pub given : can_give key state
-  pub valid : IsValid state
-  pub answer : from_true → state ≡ state_at from key
-  pub is : into' ≡ pushed into key state
-  pub apart : clashes (state_at into key) state ≡ false
-
 -- the key stands under a path
 abbrev pub IsBelow : List ℕ → Key → Type 0
 IsBelow path key = IsTrue (is_under path key)
 
--- the same, under a child before this one
-abbrev pub IsBelowBefore : List ℕ → ℕ → Key → Type 0
-IsBelowBefore path digit key = IsTrue (is_under path key) × (slice_index (place_of key) (length path) < digit)
+-- ---- questions that change nothing
 
--- it could not be carried: the taker is as it was, and still true unless it is broken, or the states clash
-pub record CarryFails (taker : Refusal → SyncFault) (from_true : Type 0) (from into : States) (key : Key) (into_true : Type 0) (into' : States) (fault : SyncFault) : Type 0 where
-  pub unbroken : fault ≢ taker Broken → into_true
-  pub kept : into_true → into' ≡ into
-  pub clash : fault ≡ taker DotClash → (state : State) × (from_true → state ≡ state_at from key) × (clashes (state_at into key) state ≡ true)
+-- So many questions were made to a side, and taken from those that were left
+pub record Reads {S : Type 0} (s : Side S) (asked left left' : ℕ) (old new : S) : Type 0 where
+  pub spent : left ≡ left' + asked
+  pub follows : s.follows asked old new
+  pub kept : s.is_faithful old → Keeps s old new
 
-abbrev pub CarryEnds : (Refusal → SyncFault) → (Key → State → Type 0) → Type 0 → States → States → Key → Type 0 → States → Result (Unit {0}) SyncFault → Type 0
-CarryEnds taker can_give from_true from into key into_true into' (Ok done) = into_true × Carries can_give from_true from into key into'
-CarryEnds taker can_give from_true from into key into_true into' (Err fault) = CarryFails taker from_true from into key into_true into' fault
+-- They came to an end by a fault that has a cause: no more were made than were left, and so few
+pub record ReadsEnd {L P : Type 0} (l : Side L) (p : Side P) (AreFew : ℕ → Type 0) (left : Questions) (local local' : L) (peer peer' : P) (fault : SyncFault) : Type 0 where
+  pub asked_local : ℕ
+  pub asked_peer : ℕ
+  pub within : (asked_local ≤ left.local) × (asked_peer ≤ left.peer)
+  pub few : AreFew asked_local × AreFew asked_peer
+  pub follows : l.follows asked_local local local' × p.follows asked_peer peer peer'
+  pub cause : IsFaultOf (Blames l left.local asked_local local local') (Blames p left.peer asked_peer peer peer') fault
+  pub kept_local : l.is_faithful local → Keeps l local local'
+  pub kept_peer : p.is_faithful peer → Keeps p peer peer'
+
+-- both sides have answered on the way
+abbrev pub HaveAnswered : {L P : Type 0} → Side L → Side P → (local local' : L) (peer peer' : P) → Type 0
+HaveAnswered l p local local' peer peer' = HasAnswered l.follows l.can_answer local local' × HasAnswered p.follows p.can_answer peer peer'
+
+-- ---- one level
+
+-- what the two sides tell of a node
+abbrev pub told : List ℕ → Node → Node → List (List ℕ)
+told path mine theirs = told_children path (mine.own, mine.children) (theirs.own, theirs.children)
+
+-- and of several nodes
+abbrev pub told_all : List (List ℕ) → List Node → List Node → List (List ℕ)
+told_all (path ∷ paths) (m ∷ mine) (t ∷ theirs) = told path m t ++ told_all paths mine theirs
+told_all paths mine theirs = []
+
+-- ONE LEVEL: both sides were asked about these nodes, one question each, and told of their children; of two true sides these are
+-- the children that differ
+pub record Descends {L P : Type 0} (l : Side L) (p : Side P) (paths : List (List ℕ)) (left left' : Questions) (local local' : L) (peer peer' : P) (below : List (List ℕ)) : Type 0 where
+  pub local_side : Reads l (length paths) left.local left'.local local local'
+  pub peer_side : Reads p (length paths) left.peer left'.peer peer peer'
+  pub answers : paths ≢ [] → HaveAnswered l p local local' peer peer'
+  pub longer : (n : ℕ) → Each (λ path. length path ≡ n) paths → Each (λ path. length path ≡ n + 1) below
+  pub is : l.is_faithful local → p.is_faithful peer → below ≡ differing_children (digests (l.states local)) (digests (p.states peer)) paths
+
+-- ---- all levels
+
+-- The buckets that differ: each once, and where SHA-256 tells the texts of the two trees apart, each key that differs is in one
+pub record AreBuckets (a b : States) (buckets : List (List ℕ)) : Type 0 where
+  pub distinct : AreDistinct buckets
+  pub differ : Each (λ path. IsTrue (differs_at (digests a) (digests b) path)) buckets
+  pub whole : HashesTellApart spelled a b → (key : Key) → get a key ≢ get b key → IsTrue (has_below buckets key)
+
+-- so few questions, where so many keys differ at most
+abbrev pub AreFewFor : {L P : Type 0} → Side L → Side P → L → P → (ℕ → Type 0) → Type 0
+AreFewFor l p local peer Few = l.is_faithful local → p.is_faithful peer → (differing : List Key) → HasAllThatDiffer (l.states local) (p.states peer) differing → Few (length differing)
+
+-- THE WALK from the root: both sides were asked equally many questions, and these are the buckets that differ. The questions, and
+-- one for each bucket, are at most one for the root and three for each key that differs
+pub record FindsBuckets {L P : Type 0} (l : Side L) (p : Side P) (left left' : Questions) (local local' : L) (peer peer' : P) (buckets : List (List ℕ)) : Type 0 where
+  pub asked : ℕ
+  pub local_side : Reads l asked left.local left'.local local local'
+  pub peer_side : Reads p asked left.peer left'.peer peer peer'
+  pub answers : HaveAnswered l p local local' peer peer'
+  pub deep : Each (λ path. length path ≡ 3) buckets
+  pub right : l.is_faithful local → p.is_faithful peer → AreBuckets (l.states local) (p.states peer) buckets
+  pub few : AreFewFor l p local peer (λ most. asked + length buckets ≤ 1 + 3 * most)

@@ -1,5 +1,6 @@
 //! What a session asks of a side.
-ghost use Rattle.std.specs.Prelude.{◌≡◌, ◌≢◌, ◌<◌, ◌≤◌, List, length, true, false, IfOk, IfErr, OnOk, Ok, Err, Some, None, option_copied};
+ghost use Rattle.std.specs.Prelude.{◌≡◌, ◌≢◌, ◌<◌, ◌≤◌, ◌+◌, ℕ, List, Option, Result, length, true, false, IfOk, IfErr, OnOk, OnErr, Ok, Err, Some, None};
+ghost use Rattle.std.specs.Option.{option_copied};
 ghost use Rattle.mvd_dots.specs.declared.refusals.Refusal.{Refusal};
 ghost use Rattle.mvd_keys.specs.State.{State, clashes};
 ghost use Rattle.mvd_keys.specs.Writes.{Key};
@@ -8,15 +9,24 @@ ghost use Rattle.mvd_tree.specs.Page.{children_digests, is_more_after_page, page
 ghost use Rattle.mvd_site.specs.Held.{AreHeld, States, state_at};
 ghost use Rattle.mvd_site.specs.Answer.{digests};
 ghost use Rattle.mvd_sync.specs.Session.{pushed};
+ghost use Rattle.mvd_sync.specs.Sides.{is_of_key};
+ghost use Rattle.mvd_sync.specs.Windows.{Asked, CannotTake, Ends, IsNode, Pushes, PushesFirst};
 
+use crate::windows::{is_over, room_for};
 use mvd_dots::Refusal;
 use mvd_keys::{Key, KeyState, Path};
 use mvd_wire::Digests;
+use std::alloc::Global;
+
+/// A page of a bucket: the first thousand keys after a key, with their digests, and whether more are left.
+pub type Page = (Vec<(Key, [u8; 32])>, bool);
 
 /// A side of a session: something that holds key states, and is asked for them.
 ///
 /// A side that is true answers each question from the states that it holds, or refuses it; what is pushed into it is joined to
-/// them, or refused, and then nothing is changed. It stays true unless it says that it is broken.
+/// them, or refused, and then nothing is changed. It stays true unless it says that it is broken. A question is one call of
+/// `node`, `bucket`, `get` or `push`. Each of these has a call for many questions: one answer for each, in order, as if they
+/// were asked one after the other; such a call is refused itself where the side is broken, or its link is.
 pub trait Peer {
     /// The key states that it holds.
     ghost states: { Self → States };
@@ -27,37 +37,44 @@ pub trait Peer {
     /// What it may give as the state of a key, true or not.
     ghost can_give: { Key → State → Type 0 };
 
-    /// What of it no call changes: the second may be what the first is after some calls, true or not.
-    ghost follows: { Self → Self → Type 0 };
+    /// The second may be what the first is after so many questions, true or not.
+    ghost follows: { ℕ → Self → Self → Type 0 };
 
-    /// What it may have refused with, as it is after that, true or not.
+    /// What it may have refused a question with, as it is after that, true or not.
     ghost can_refuse: { Self → Refusal → Type 0 };
 
-    /// What is so of it after an answer, true or not.
+    /// What is so of it after it answered a question, true or not.
     ghost can_answer: { Self → Type 0 };
+
+    /// How many keys it holds at most.
+    ghost most_keys: { Self → ℕ };
+
+    /// The number of its site, where it is known.
+    ghost number: { Self → Option ℕ };
+
+    /// The allocator that it keeps.
+    fn alloc(&self) -> Global;
+
+    /// The number of its site, where it is known.
+    fn number(&self) -> Option<u32>
+        ensures { result ≡ number self.now };
 
     /// The digest of a node and, above the buckets, those of its sixteen children.
     fn node(&mut self, path: &Path) -> Result<Digests, Refusal>
         ensures kept { is_faithful self.old → is_faithful self.new × (states self.new ≡ states self.old) }
-        ensures own { is_faithful self.old → IfOk result (λ d. d.own ≡ node_digest (digests (states self.old)) path.now) }
-        ensures inner { is_faithful self.old → length path.now < 3 → IfOk result (λ d. d.children ≡ Some (children_digests (digests (states self.old)) path.now)) }
-        ensures bucket { is_faithful self.old → 3 ≤ length path.now → IfOk result (λ d. d.children ≡ None) }
-        ensures no_clash { is_faithful self.old → IfErr result (λ refusal. refusal ≢ Refusal.DotClash) }
-        ensures follows { follows self.old self.new }
+        ensures answer { is_faithful self.old → IfOk result (IsNode (digests (states self.old)) path.now) }
+        ensures not_of_key { is_faithful self.old → IfErr result (λ refusal. is_of_key refusal ≡ false) }
+        ensures follows { follows 1 self.old self.new }
         ensures refuses { IfErr result (can_refuse self.new) }
         ensures answers { OnOk result (can_answer self.new) };
 
-    /// The first thousand keys of a bucket after a key, with their digests, and whether more are left.
-    fn bucket(
-        &mut self,
-        path: &Path,
-        after: Option<&Key>,
-    ) -> Result<(Vec<(Key, [u8; 32])>, bool), Refusal>
+    /// A page of a bucket after a key.
+    fn bucket(&mut self, path: &Path, after: Option<&Key>) -> Result<Page, Refusal>
         ensures kept { is_faithful self.old → is_faithful self.new × (states self.new ≡ states self.old) }
         ensures page { is_faithful self.old → IfOk result (λ page. page.0.items ≡ page_of (digests (states self.old)) path.now (option_copied after.entry)) }
         ensures more { is_faithful self.old → IfOk result (λ page. page.1 ≡ is_more_after_page (digests (states self.old)) path.now (option_copied after.entry)) }
-        ensures no_clash { is_faithful self.old → IfErr result (λ refusal. refusal ≢ Refusal.DotClash) }
-        ensures follows { follows self.old self.new }
+        ensures not_of_key { is_faithful self.old → IfErr result (λ refusal. is_of_key refusal ≡ false) }
+        ensures follows { follows 1 self.old self.new }
         ensures refuses { IfErr result (can_refuse self.new) }
         ensures answers { OnOk result (can_answer self.new) };
 
@@ -66,8 +83,8 @@ pub trait Peer {
         ensures kept { is_faithful self.old → is_faithful self.new × (states self.new ≡ states self.old) }
         ensures answer { is_faithful self.old → IfOk result (λ state. state ≡ state_at (states self.old) key.now) }
         ensures given { IfOk result (λ state. can_give key.now state) }
-        ensures no_clash { is_faithful self.old → IfErr result (λ refusal. refusal ≢ Refusal.DotClash) }
-        ensures follows { follows self.old self.new }
+        ensures not_of_key { is_faithful self.old → IfErr result (λ refusal. is_of_key refusal ≡ false) }
+        ensures follows { follows 1 self.old self.new }
         ensures refuses { IfErr result (can_refuse self.new) }
         ensures answers { OnOk result (can_answer self.new) };
 
@@ -77,17 +94,97 @@ pub trait Peer {
         ensures apart { is_faithful self.old → OnOk result (clashes (state_at (states self.old) key.now) state.now ≡ false) }
         ensures refused { is_faithful self.old → is_faithful self.new → IfErr result (λ _. states self.new ≡ states self.old) }
         ensures unbroken { is_faithful self.old → IfErr result (λ refusal. refusal ≢ Refusal.Broken → is_faithful self.new) }
-        ensures clash { is_faithful self.old → IfErr result (λ refusal. refusal ≡ Refusal.DotClash → clashes (state_at (states self.old) key.now) state.now ≡ true) }
-        ensures follows { follows self.old self.new }
+        ensures cause { is_faithful self.old → IfErr result (CannotTake (most_keys self.old) (states self.old) key.now state.now) }
+        ensures follows { follows 1 self.old self.new }
         ensures refuses { IfErr result (can_refuse self.new) }
         ensures answers { OnOk result (can_answer self.new) };
+
+    /// The digests of several nodes.
+    fn nodes(&mut self, paths: &[Path]) -> Result<Vec<Result<Digests, Refusal>>, Refusal>
+        ensures kept { is_faithful self.old → is_faithful self.new × (states self.new ≡ states self.old) }
+        ensures told { IfOk result (λ told. Asked follows can_refuse can_answer (λ _ _. Unit {0}) (IsNode (digests (states self.old))) (is_faithful self.old) paths.now told.items self.old self.new) }
+        ensures ended { IfErr result (Ends follows can_refuse (length paths.now) self.old self.new) }
+        ensures not_of_key { is_faithful self.old → IfErr result (λ refusal. is_of_key refusal ≡ false) }
+    {
+        let mut told = room_for(self.alloc(), paths.len())?;
+        for path in paths {
+            let answer = self.node(path);
+            if is_over(&answer) {
+                return Err(Refusal::Broken);
+            }
+            told.push(answer)?;
+        }
+        Ok(told)
+    }
+
+    /// Pages of several buckets, each after a key.
+    fn pages(
+        &mut self,
+        asked: &[(Path, Option<Key>)],
+    ) -> Result<Vec<Result<Page, Refusal>>, Refusal>
+        ensures kept { is_faithful self.old → is_faithful self.new × (states self.new ≡ states self.old) }
+        ensures told { IfOk result (λ told. Asked follows can_refuse can_answer (λ _ _. Unit {0}) (λ q page. (page.0.items ≡ page_of (digests (states self.old)) q.0 q.1) × (page.1 ≡ is_more_after_page (digests (states self.old)) q.0 q.1)) (is_faithful self.old) asked.now told.items self.old self.new) }
+        ensures ended { IfErr result (Ends follows can_refuse (length asked.now) self.old self.new) }
+        ensures not_of_key { is_faithful self.old → IfErr result (λ refusal. is_of_key refusal ≡ false) }
+    {
+        let mut told = room_for(self.alloc(), asked.len())?;
+        for (path, after) in asked {
+            let answer = self.bucket(path, after.as_ref());
+            if is_over(&answer) {
+                return Err(Refusal::Broken);
+            }
+            told.push(answer)?;
+        }
+        Ok(told)
+    }
+
+    /// The states of several keys.
+    fn get_all(&mut self, keys: &[Key]) -> Result<Vec<Result<KeyState, Refusal>>, Refusal>
+        ensures kept { is_faithful self.old → is_faithful self.new × (states self.new ≡ states self.old) }
+        ensures told { IfOk result (λ told. Asked follows can_refuse can_answer (can_give) (λ key state. state ≡ state_at (states self.old) key) (is_faithful self.old) keys.now told.items self.old self.new) }
+        ensures ended { IfErr result (Ends follows can_refuse (length keys.now) self.old self.new) }
+        ensures not_of_key { is_faithful self.old → IfErr result (λ refusal. is_of_key refusal ≡ false) }
+    {
+        let mut told = room_for(self.alloc(), keys.len())?;
+        for key in keys {
+            let answer = self.get(key);
+            if is_over(&answer) {
+                return Err(Refusal::Broken);
+            }
+            told.push(answer)?;
+        }
+        Ok(told)
+    }
+
+    /// Joins each state to that of its key.
+    fn push_all(&mut self, pairs: &[(Key, KeyState)]) -> Result<Vec<Result<(), Refusal>>, Refusal>
+        ensures told { IfOk result (λ told. Asked follows can_refuse can_answer (λ _ _. Unit {0}) (λ _ _. Unit {0}) ⊥ pairs.now told.items self.old self.new) }
+        ensures pushes { is_faithful self.old → IfOk result (λ told. is_faithful self.new × Pushes (most_keys self.old) (states self.old) pairs.now told.items (states self.new)) }
+        ensures ended { IfErr result (Ends follows can_refuse (length pairs.now) self.old self.new) }
+        ensures not_of_key { is_faithful self.old → IfErr result (λ refusal. is_of_key refusal ≡ false) }
+        ensures unbroken { is_faithful self.old → IfErr result (λ refusal. refusal ≢ Refusal.Broken → is_faithful self.new) }
+        ensures first { is_faithful self.old → OnErr result (PushesFirst (is_faithful self.new) (most_keys self.old) (states self.old) pairs.now (states self.new)) }
+    {
+        let mut told = room_for(self.alloc(), pairs.len())?;
+        for (key, state) in pairs {
+            let answer = self.push(key, state);
+            if is_over(&answer) {
+                return Err(Refusal::Broken);
+            }
+            told.push(answer)?;
+        }
+        Ok(told)
+    }
 
     /// A true side holds keys and states in form.
     ghost in_form: { (side : Self) → is_faithful side → AreHeld (states side) };
 
-    /// No call is as good as some.
-    ghost follows_self: { (side : Self) → follows side side };
+    /// No question is as good as some.
+    ghost follows_self: { (side : Self) → follows 0 side side };
 
-    /// Calls after calls are calls.
-    ghost follows_on: { (old mid new : Self) → follows old mid → follows mid new → follows old new };
+    /// Questions after questions are questions.
+    ghost follows_on: { (m n : ℕ) (old mid new : Self) → follows m old mid → follows n mid new → follows (m + n) old new };
+
+    /// How many keys it holds at most does not change.
+    ghost most_stays: { (n : ℕ) (old new : Self) → follows n old new → most_keys new ≡ most_keys old };
 }

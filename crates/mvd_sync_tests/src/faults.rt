@@ -1,8 +1,8 @@
 //! A session in which one allocation is refused, whichever it is: `rt try --test --fail-alloc N` refuses the Nth.
 use crate::peers::Counting;
-use crate::sessions::{ended, pair};
+use crate::sessions::{ended, meet, pair};
 use mvd_dots::Refusal;
-use mvd_sync::{Report, SyncFault, sync};
+use mvd_sync::{SyncFault, sync};
 use std::alloc::Global;
 use std::test::Fail;
 
@@ -88,8 +88,8 @@ fn ends_then(alloc: Global, one: &mut Counting, two: &mut Counting) -> Result<bo
 
 /// Whether a session ends with all joined, or else, where memory was refused, leaves old states and joins alone.
 fn stands(alloc: Global, one: &mut Counting, two: &mut Counting) -> Result<bool, Refusal> {
-    match sync(alloc, one, two) {
-        Ok(report) => Ok(report == Report { keys: 3 } && are_joined(one, two)?),
+    match meet(alloc, one, two) {
+        Ok(keys) => Ok(keys == 3 && are_joined(one, two)?),
         Err(fault) => {
             Ok(is_of_memory(fault) && all_show(one, two, false)? && ends_then(alloc, one, two)?)
         }

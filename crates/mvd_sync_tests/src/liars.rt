@@ -1,10 +1,12 @@
 //! Peers that lie, and how a session with each of them ends.
+ghost use Rattle.std.proofs.Common.{refl, None};
 ghost use Rattle.std.specs.FinMap.{empty};
 
 use crate::peers::Counting;
 use mvd_dots::Refusal;
 use mvd_keys::{Key, KeyState, Path};
-use mvd_sync::{Peer, Report, SyncFault, sync, sync_within};
+use crate::sessions::{first_left, meet, meet_within};
+use mvd_sync::{Page, Peer, Side, SyncFault};
 use mvd_wire::Digests;
 use std::alloc::Global;
 use std::test::Fail;
@@ -59,28 +61,31 @@ impl Liar {
         [(self.questions % 255 + 1) as u8; 32]
     }
 
-    /// The digests of a node's children: four tell that they hold a key, where a question may be refused, and else all.
+    /// The digests of a node's children: of these so many tell that they hold a key.
     fn children(&self) -> [[u8; 32]; 16] {
+        let step = match self.lie {
+            Lie::RefusesAt(_) => 4,
+            Lie::OneKeyForEver => 16,
+            _ => 1,
+        };
         let mut children = [self.digest(); 16];
-        if matches!(self.lie, Lie::RefusesAt(_)) {
-            for (digit, child) in children.iter_mut().enumerate() {
-                if digit % 4 > 0 {
-                    *child = [0; 32];
-                }
+        for (digit, child) in children.iter_mut().enumerate() {
+            if digit % step > 0 {
+                *child = [0; 32];
             }
         }
         children
     }
 
     /// A page of one key, which comes after all that it gave.
-    fn next_page(&self) -> Result<(Vec<(Key, [u8; 32])>, bool), Refusal> {
+    fn next_page(&self) -> Result<Page, Refusal> {
         let number = self.questions.saturating_add(10_000_000);
         let key = format!(in self.alloc; "{number}")?;
         self.page(&[key.as_str()], true)
     }
 
     /// A page of these keys.
-    fn page(&self, keys: &[&str], more: bool) -> Result<(Vec<(Key, [u8; 32])>, bool), Refusal> {
+    fn page(&self, keys: &[&str], more: bool) -> Result<Page, Refusal> {
         let mut page = Vec::new(self.alloc);
         for key in keys {
             page.push((Key::read(self.alloc, key)?, self.digest()))?;
@@ -96,17 +101,31 @@ impl Peer for Liar {
 
     ghost can_give = { λ _ _. Unit {0} };
 
-    ghost follows = { λ _ _. Unit {0} };
+    ghost follows = { λ _ _ _. Unit {0} };
 
     ghost can_refuse = { λ _ _. Unit {0} };
 
     ghost can_answer = { λ _. Unit {0} };
 
+    ghost most_keys = { λ _. 0 };
+
+    ghost number = { λ _. None };
+
     ghost in_form = { λ _ never. absurd never };
 
     ghost follows_self = { λ _. tt };
 
-    ghost follows_on = { λ _ _ _ _ _. tt };
+    ghost follows_on = { λ _ _ _ _ _ _ _. tt };
+
+    ghost most_stays = { λ _ _ _ _. refl };
+
+    fn alloc(&self) -> Global {
+        self.alloc
+    }
+
+    fn number(&self) -> Option<u32> {
+        None
+    }
 
     fn node(&mut self, path: &Path) -> Result<Digests, Refusal> {
         self.question()?;
@@ -127,7 +146,7 @@ impl Peer for Liar {
         &mut self,
         path: &Path,
         after: Option<&Key>,
-    ) -> Result<(Vec<(Key, [u8; 32])>, bool), Refusal> {
+    ) -> Result<Page, Refusal> {
         let _ = path;
         self.question()?;
         match self.lie {
@@ -161,12 +180,12 @@ impl Peer for Liar {
 fn with_liar(
     alloc: Global,
     lie: Lie,
-) -> Result<(Result<Report, SyncFault>, Result<Report, SyncFault>), Refusal> {
+) -> Result<(Result<u64, SyncFault>, Result<u64, SyncFault>), Refusal> {
     let mut site = Counting::new(alloc, 1, 10)?;
     let mut liar = Liar::new(alloc, lie);
-    let other = sync(alloc, &mut site, &mut liar);
+    let other = meet(alloc, &mut site, &mut liar);
     let mut liar = Liar::new(alloc, lie);
-    Ok((other, sync(alloc, &mut liar, &mut site)))
+    Ok((other, meet(alloc, &mut liar, &mut site)))
 }
 
 #[test]
@@ -192,7 +211,7 @@ fn changes_nothing(alloc: Global, lie: Lie, keys: u64) -> Result<bool, Refusal> 
     site.put("k", "-", "{}")?;
     let before = site.root()?;
     let mut liar = Liar::new(alloc, lie);
-    Ok(sync(alloc, &mut site, &mut liar) == Ok(Report { keys }) && site.root()? == before)
+    Ok(meet(alloc, &mut site, &mut liar) == Ok(keys) && site.root()? == before)
 }
 
 #[test]
@@ -204,7 +223,7 @@ fn digests_alone_change_nothing(rt: HostRuntime) -> Result<(), Fail> {
 }
 
 /// What a session comes to where none of its questions is refused.
-const WHOLE: Report = Report { keys: 128 };
+const WHOLE: u64 = 128;
 
 /// How many questions of a session may be refused: each ends it as that side's refusal; past the last it ends well.
 fn refusals(alloc: Global) -> Result<u64, Refusal> {
@@ -224,8 +243,8 @@ fn refusals(alloc: Global) -> Result<u64, Refusal> {
 
 #[test]
 fn each_question_may_be_refused(rt: HostRuntime) -> Result<(), Fail> {
-    // Of 21 nodes, and in 64 buckets of two pages with a state that is given and one that is pushed for each.
-    assert_eq!(rt; refusals(rt.alloc())?, 405);
+    // Of 21 nodes, and in 64 buckets of two pages with a state that is given for each.
+    assert_eq!(rt; refusals(rt.alloc())?, 277);
     Ok(())
 }
 
@@ -233,8 +252,8 @@ fn each_question_may_be_refused(rt: HostRuntime) -> Result<(), Fail> {
 fn stops_at_100(alloc: Global, site: &mut Counting) -> bool {
     let mut peer = Liar::new(alloc, Lie::OneKeyForEver);
     let mut local = Liar::new(alloc, Lie::OneKeyForEver);
-    let other = sync_within(alloc, site, &mut peer, 100);
-    let own = sync_within(alloc, &mut local, site, 100);
+    let other = meet_within(alloc, site, &mut peer, 100);
+    let own = meet_within(alloc, &mut local, site, 100);
     other == Err(SyncFault::Peer(Refusal::TooManyRequests))
         && own == Err(SyncFault::Local(Refusal::TooManyRequests))
         && (peer.questions, local.questions) == (100, 100)
@@ -243,7 +262,7 @@ fn stops_at_100(alloc: Global, site: &mut Counting) -> bool {
 /// Whether they stop a session of which no number is said at ten million.
 fn stops_at_most(alloc: Global, site: &mut Counting) -> bool {
     let mut peer = Liar::new(alloc, Lie::OneKeyForEver);
-    sync(alloc, site, &mut peer) == Err(SyncFault::Peer(Refusal::TooManyRequests))
+    meet(alloc, site, &mut peer) == Err(SyncFault::Peer(Refusal::TooManyRequests))
         && peer.questions == 10_000_000
 }
 
@@ -272,17 +291,31 @@ impl Peer for Mistaken {
 
     ghost can_give = { λ _ _. Unit {0} };
 
-    ghost follows = { λ _ _. Unit {0} };
+    ghost follows = { λ _ _ _. Unit {0} };
 
     ghost can_refuse = { λ _ _. Unit {0} };
 
     ghost can_answer = { λ _. Unit {0} };
 
+    ghost most_keys = { λ _. 0 };
+
+    ghost number = { λ _. None };
+
     ghost in_form = { λ _ never. absurd never };
 
     ghost follows_self = { λ _. tt };
 
-    ghost follows_on = { λ _ _ _ _ _. tt };
+    ghost follows_on = { λ _ _ _ _ _ _ _. tt };
+
+    ghost most_stays = { λ _ _ _ _. refl };
+
+    fn alloc(&self) -> Global {
+        self.site.alloc
+    }
+
+    fn number(&self) -> Option<u32> {
+        None
+    }
 
     fn node(&mut self, path: &Path) -> Result<Digests, Refusal> {
         self.site.node(path)
@@ -292,7 +325,7 @@ impl Peer for Mistaken {
         &mut self,
         path: &Path,
         after: Option<&Key>,
-    ) -> Result<(Vec<(Key, [u8; 32])>, bool), Refusal> {
+    ) -> Result<Page, Refusal> {
         self.site.bucket(path, after)
     }
 
@@ -306,7 +339,7 @@ impl Peer for Mistaken {
     }
 }
 
-/// Whether a session takes the state that it is given, and ends where the peer refuses it for the other key.
+/// Whether a session takes the state that it is given, and the next one leaves the key for which the peer refuses it.
 fn takes_what_is_given(
     alloc: Global,
     site: &mut Counting,
@@ -315,9 +348,11 @@ fn takes_what_is_given(
     Ok(
         peer.site.put("a", "-", "{\"x\":1}")?
             && peer.site.put("b", "-", "{\"x\":2}")?
-            && sync(alloc, site, peer) == Err(SyncFault::Peer(Refusal::DotClash))
-            && site.shows("b", "2:1", 1)?
-            && site.shows("a", "-", 0)?,
+            && site.put("b", "-", "{\"x\":3}")?
+            && first_left(alloc, site, peer, 2, 0)?.is_none()
+            && site.shows("b", "1:1,2:1", 2)?
+            && site.shows("a", "2:1", 1)?
+            && first_left(alloc, site, peer, 0, 1)? == Some((Side::Peer, Refusal::DotClash)),
     )
 }
 

@@ -41,7 +41,7 @@ fn is_few(asked: Asked) -> bool {
     asked.nodes <= 4 * DIFFER + 1
         && asked.pages <= DIFFER
         && asked.gets == DIFFER
-        && asked.pushes == DIFFER
+        && asked.pushes <= DIFFER
 }
 
 fn ask_few(alloc: Global, one: &mut Counting, two: &mut Counting) -> Result<bool, Refusal> {

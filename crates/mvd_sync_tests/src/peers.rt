@@ -1,4 +1,5 @@
 //! A site that counts the questions that it is asked.
+ghost use Rattle.std.proofs.Common.{refl, Some};
 ghost use Rattle.std.specs.FinMap.{empty};
 
 use mvd_docs::Document;
@@ -6,7 +7,7 @@ use mvd_dots::{Context, Refusal};
 use mvd_keys::{Key, KeyState, Path};
 use mvd_rows::Defs;
 use mvd_site::{Config, Site};
-use mvd_sync::Peer;
+use mvd_sync::{Page, Peer};
 use mvd_wire::{Digests, Reply, Request};
 use std::alloc::Global;
 
@@ -82,17 +83,31 @@ impl Peer for Counting {
 
     ghost can_give = { λ _ _. Unit {0} };
 
-    ghost follows = { λ _ _. Unit {0} };
+    ghost follows = { λ _ _ _. Unit {0} };
 
     ghost can_refuse = { λ _ _. Unit {0} };
 
     ghost can_answer = { λ _. Unit {0} };
 
+    ghost most_keys = { λ _. 0 };
+
+    ghost number = { λ side. Some side.site.config.site };
+
     ghost in_form = { λ _ never. absurd never };
 
     ghost follows_self = { λ _. tt };
 
-    ghost follows_on = { λ _ _ _ _ _. tt };
+    ghost follows_on = { λ _ _ _ _ _ _ _. tt };
+
+    ghost most_stays = { λ _ _ _ _. refl };
+
+    fn alloc(&self) -> Global {
+        self.alloc
+    }
+
+    fn number(&self) -> Option<u32> {
+        Some(self.site.config().site())
+    }
 
     fn node(&mut self, path: &Path) -> Result<Digests, Refusal> {
         self.asked.nodes = self.asked.nodes.saturating_add(1);
@@ -103,7 +118,7 @@ impl Peer for Counting {
         &mut self,
         path: &Path,
         after: Option<&Key>,
-    ) -> Result<(Vec<(Key, [u8; 32])>, bool), Refusal> {
+    ) -> Result<Page, Refusal> {
         self.asked.pages = self.asked.pages.saturating_add(1);
         self.site.bucket(path, after)
     }

@@ -1,8 +1,9 @@
 //! A remote site over bytes in memory.
 use crate::peers::Counting;
 use mvd_dots::Refusal;
-use mvd_keys::Key;
-use mvd_sync::{Remote, Report, SyncFault, sync};
+use mvd_keys::{Key, KeyState};
+use crate::sessions::meet;
+use mvd_sync::{Remote, SyncFault};
 use mvd_wire::{Request, decode_request};
 use std::alloc::Global;
 use std::test::Fail;
@@ -23,14 +24,14 @@ fn are_sent(remote: Link, bytes: usize) -> bool {
 fn ends(
     alloc: Global,
     replies: &[u8],
-    session: Result<Report, SyncFault>,
+    session: Result<u64, SyncFault>,
     bye: Result<(), Refusal>,
     bytes: usize,
 ) -> Result<bool, Refusal> {
     let mut local = Counting::new(alloc, 1, 10)?;
     let mut remote = Remote::new(alloc, replies, Vec::new(alloc));
     Ok(
-        sync(alloc, &mut local, &mut remote) == session
+        meet(alloc, &mut local, &mut remote) == session
             && remote.bye() == bye
             && are_sent(remote, bytes),
     )
@@ -50,7 +51,7 @@ fn empty_root() -> [u8; 555] {
 
 #[test]
 fn a_session_with_an_empty_site(rt: HostRuntime) -> Result<(), Fail> {
-    let met = Ok(Report { keys: 0 });
+    let met = Ok(0);
     assert!(rt; ends(rt.alloc(), &empty_root(), met, Ok(()), 11)?);
     Ok(())
 }
@@ -175,5 +176,54 @@ fn a_session_with_replies_of_another_kind_is_32(rt: HostRuntime) -> Result<(), F
         let told = Err(SyncFault::Peer(refusal));
         assert!(rt; ends(rt.alloc(), &frame_of(reply), told, Err(bye), bytes)?);
     }
+    Ok(())
+}
+
+/// A state of one put by site 1, and three keys.
+fn pushes(alloc: Global) -> Result<Vec<(Key, KeyState)>, Refusal> {
+    let mut site = Counting::new(alloc, 1, 10)?;
+    site.put("k", "-", "{}")?;
+    let mut pairs = Vec::new(alloc);
+    for key in ["a", "b", "c"] {
+        let state = site.site.get(&Key::read(alloc, "k")?)?;
+        pairs.push((Key::read(alloc, key)?, state))?;
+    }
+    Ok(pairs)
+}
+
+/// Whether a window of three pushes is written whole, its three replies are read though one of them refuses, and a Bye is answered.
+fn stays_in_step(alloc: Global) -> Result<bool, Refusal> {
+    let replies = [
+        0, 0, 0, 1, 0xA3, 0, 0, 0, 2, 0xEE, 0x0B, 0, 0, 0, 1, 0xA3, 0, 0, 0, 1, 0xA3,
+    ];
+    let mut remote = Remote::new(alloc, replies.as_slice(), Vec::new(alloc));
+    let told = remote.push_all(&pushes(alloc)?)?;
+    let answers = [Ok(()), Err(Refusal::DotClash), Ok(())];
+    Ok(told.as_slice() == answers.as_slice() && remote.bye() == Ok(()))
+}
+
+#[test]
+fn a_window_is_read_whole(rt: HostRuntime) -> Result<(), Fail> {
+    assert!(rt; stays_in_step(rt.alloc())?);
+    Ok(())
+}
+
+/// How much a window writes where the input ends after its first reply, and what it tells.
+fn window_ends(alloc: Global) -> Result<bool, Refusal> {
+    let replies = [0, 0, 0, 1, 0xA3];
+    let mut remote = Remote::new(alloc, replies.as_slice(), Vec::new(alloc));
+    let ended = remote.push_all(&pushes(alloc)?).map(|told| told.len());
+    let again = remote.bye();
+    let (_, written) = remote.into_parts();
+    Ok(
+        ended == Err(Refusal::Truncated)
+            && again == Err(Refusal::Truncated)
+            && written.len() == 3 * 47,
+    )
+}
+
+#[test]
+fn a_window_is_written_whole(rt: HostRuntime) -> Result<(), Fail> {
+    assert!(rt; window_ends(rt.alloc())?);
     Ok(())
 }

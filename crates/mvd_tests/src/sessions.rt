@@ -39,14 +39,14 @@ const MEETINGS: &[Case] = &[
 
 const REFUSALS: &[Case] = &[
     (
-        "the local side is full, and what was exchanged before stays",
+        "both sides are full, and a key of either is left",
         "sites 2\nmax 2\nput 1 a - {}\nput 1 c - {}\nput 2 b - {}\nsync 1 2\nget 2 c\nget 1 b\nget 2 a\n",
-        "dot 1:1\ndot 1:1\ndot 2:1\nrefused 10 Full\ncontext 1:1\n1:1 {}\ncontext -\ncontext -\n",
+        "dot 1:1\ndot 1:1\ndot 2:1\nkeys 1\nleft b 10 Full\nleft a 10 Full\ncontext 1:1\n1:1 {}\ncontext -\ncontext -\n",
     ),
     (
-        "the peer is full",
+        "the same from the other side",
         "sites 2\nmax 2\nput 1 a - {}\nput 1 c - {}\nput 2 b - {}\nsync 2 1\nget 2 c\nget 1 b\nget 2 a\n",
-        "dot 1:1\ndot 1:1\ndot 2:1\nrefused 10 Full\ncontext 1:1\n1:1 {}\ncontext -\ncontext -\n",
+        "dot 1:1\ndot 1:1\ndot 2:1\nkeys 1\nleft b 10 Full\nleft a 10 Full\ncontext 1:1\n1:1 {}\ncontext -\ncontext -\n",
     ),
 ];
 
@@ -56,7 +56,7 @@ fn sites_meet(rt: HostRuntime) -> Result<(), Fail> {
 }
 
 #[test]
-fn a_side_refuses(rt: HostRuntime) -> Result<(), Fail> {
+fn keys_are_left(rt: HostRuntime) -> Result<(), Fail> {
     all_print(rt.alloc(), REFUSALS)
 }
 

@@ -1,8 +1,8 @@
 -- In a sound world no two states clash.
-use Rattle.std.proofs.Common.{◌≡◌, ◌≢◌, ℕ, Bool, true, false, MatchBool, List, [], ◌∷◌, ◌++◌, length, Contains, Some, None, refl, sym, ap, ◌∙◌, subst, ⊎_elim, true≢false}
+use Rattle.std.proofs.Common.{◌≡◌, ◌≢◌, ℕ, Bool, true, false, MatchBool, List, ◌++◌, length, Contains, refl, sym, ap, ap₂, ◌∙◌, subst, ⊎_elim, true≢false}
 use Rattle.std.proofs.lemmas.List.Elements.{Contains-append_cases}
 use Rattle.mvd_dots.specs.declared.refusals.Refusal.TheVariants.{Broken, DotClash, Memory}
-use Rattle.mvd_keys.specs.State.{State, clashes}
+use Rattle.mvd_keys.specs.State.{clashes}
 use Rattle.mvd_keys.specs.Writes.{Key, Agree, Write, state}
 use Rattle.mvd_keys.proofs.Sets.{Agree-part, clashes-state}
 use Rattle.mvd_wire.specs.declared.request.Request.{Request}
@@ -18,13 +18,17 @@ use Rattle.mvd_site.proofs.Answered.{answered}
 use Rattle.mvd_site.proofs.Clashes.{clash_alone}
 use Rattle.mvd_site.proofs.OfTheSet.{states_of-stands}
 use Rattle.mvd_site.proofs.Steps.{state_at-stands}
-use Rattle.mvd_sync.specs.Session.{IsClash}
-use Rattle.mvd_sync.specs.declared.session.SyncFault.{SyncFault}
+use Rattle.mvd_sync.specs.Session.{CannotMeet, Each, Left, most_of}
+use Rattle.mvd_sync.specs.Sides.{IsFaultOf}
+use Rattle.mvd_sync.specs.declared.report.Report.{Report}
+use Rattle.mvd_sync.proofs.Answering.{each-take}
+use Rattle.mvd_sync.proofs.Keys.{Each-weaker}
+use Rattle.mvd_sync.specs.declared.report.SyncFault.{SyncFault}
 use Rattle.mvd_world.specs.declared.steps.Step.{Step}
 use Rattle.mvd_world.specs.declared.steps.Step.TheVariants.{Write as Write_at, Ask, Send, Receive, Session}
 use Rattle.mvd_world.specs.declared.steps.Outcome.{Outcome}
 use Rattle.mvd_world.specs.declared.steps.Outcome.TheVariants.{Replied, Sent as Sent_as, Met, Failed, NoSuch}
-use Rattle.mvd_world.specs.Machine.{Answers, IsNoClash, IsOwn, IsSound, Knowledge, MayStep, Receives, Setting, StatesClash, Takes, config_of, may_be}
+use Rattle.mvd_world.specs.Machine.{Answers, IsClash, IsNoClash, IsOwn, IsSound, Knowledge, MayFail, MayStep, Receives, Setting, Takes, all_asked, config_of, it_refused, may_be}
 use Rattle.mvd_world.proofs.Sound.{asked_step, found, own_step}
 
 -- ---- what was made agrees
@@ -64,7 +68,7 @@ failed_is : (f g : SyncFault) → Failed f ≡ Failed g → f ≡ g
 failed_is f g e = cc
 
 reply_apart : (reply : Reply) → reply ≢ Refused DotClash → IsNoClash (Replied reply)
-reply_apart reply other = (λ e. other (replied_is reply (Refused DotClash) e), λ fault e is. cc)
+reply_apart reply other = record { reply = λ e. other (replied_is reply (Refused DotClash) e); fault = λ fault e is. cc; keys = λ report e. absurd (cc) }
 
 answers_apart : (setting : Setting) (before : Knowledge) (site : ℕ) (request : Request) (reply : Reply) (after : Knowledge) → IsOwn request → Answers setting before site request reply after → IsNoClash (Replied reply)
 answers_apart setting before site request reply after own told = reply_apart reply (λ e. own_apart (states_of (before.known site)) request own
@@ -79,9 +83,34 @@ receives_apart setting before site message reply after sound told = reply_apart 
     apart_within before W told.sending.writes key sound (sound.known site) (λ w here. sound.sent told.sending w (found before.messages _ told.sending told.sent) here) in
     true≢false (sym clash ∙ ap (λ s. clashes s (state key told.sending.writes)) (state_at-stands (states_of W) W key (states_of-stands W)) ∙ apart))
 
-pub no_states_clash : (before : Knowledge) (local peer : ℕ) → IsSound before → StatesClash (before.known local) (before.known peer) → ⊥
-no_states_clash before local peer sound found =
-    true≢false (sym found.clash ∙ apart_within before (before.known local) (before.known peer) found.key sound (sound.known local) (sound.known peer))
+-- ---- nor does a session
+
+no_states_clash : (before : Knowledge) (local peer : ℕ) → IsSound before → (key : Key) → clashes (state_at (states_of (before.known local)) key) (state_at (states_of (before.known peer)) key) ≡ false
+no_states_clash before local peer sound key =
+    let V = before.known local in
+    let W = before.known peer in
+    ap₂ clashes (state_at-stands (states_of V) V key (states_of-stands V)) (state_at-stands (states_of W) W key (states_of-stands W))
+    ∙ apart_within before V W key sound (sound.known local) (sound.known peer)
+
+-- no key is refused for a clash
+left_apart : (a b : States) (m n : ℕ) → ((key : Key) → clashes (state_at a key) (state_at b key) ≡ false) → (l : Left) → CannotMeet (most_of m n l.1.0) a b l.0 l.1.1 → l.1.1 ≢ DotClash
+left_apart a b m n apart l cannot is =
+    let clash : clashes (state_at a l.0) (state_at b l.0) ≡ true = subst (CannotMeet (most_of m n l.1.0) a b l.0) is cannot in
+    true≢false (sym clash ∙ apart l.0)
+
+-- nor is a session
+is_none : (a b held : States) (broken : Bool) → MayFail a b held broken DotClash → ⊥
+is_none a b held broken (it_refused site key told) = true≢false key
+is_none a b held broken (all_asked e many) = absurd (cc)
+
+fault_apart : (a b : States) (mine theirs : Bool) (fault : SyncFault) → IsFaultOf (MayFail a b a mine) (MayFail a b b theirs) fault → IsClash fault → ⊥
+fault_apart a b mine theirs fault fails is = ⊎_elim
+    (λ e. is_none a b a mine (subst (IsFaultOf (MayFail a b a mine) (MayFail a b b theirs)) e fails))
+    (λ e. is_none a b b theirs (subst (IsFaultOf (MayFail a b a mine) (MayFail a b b theirs)) e fails))
+    is
+
+met_is : (r s : Report) → Met r ≡ Met s → r ≡ s
+met_is r s e = cc
 
 not_sent_apart : (broken : Bool) → Refused (unless_broken broken Broken Memory) ≡ Refused DotClash → ⊥
 not_sent_apart true e = cc
@@ -90,12 +119,25 @@ not_sent_apart false e = cc
 takes_apart : (setting : Setting) (before : Knowledge) (step : Step) (outcome : Outcome) (after : Knowledge) → IsSound before → may_be setting.count (length before.messages) step ≡ true → Takes setting before step outcome after → IsNoClash outcome
 takes_apart setting before (Write_at site request) (Replied reply) after sound may told = answers_apart setting before site request reply after (own_step _ request may) told
 takes_apart setting before (Ask site request) (Replied reply) after sound may told = answers_apart setting before site request reply after (asked_step _ request may) told
-takes_apart setting before (Send site key) (Sent_as number) after sound may told = (λ e. cc, λ fault e is. cc)
+takes_apart setting before (Send site key) (Sent_as number) after sound may told = record { reply = λ e. cc; fault = λ fault e is. cc; keys = λ report e. absurd (cc) }
 takes_apart setting before (Send site key) (Replied reply) after sound may told = reply_apart reply (λ e. not_sent_apart (before.broken site) (sym told.refused ∙ e))
 takes_apart setting before (Receive site message) (Replied reply) after sound may told = receives_apart setting before site message reply after sound told
-takes_apart setting before (Session local peer) (Met report) after sound may told = (λ e. cc, λ fault e is. cc)
-takes_apart setting before (Session local peer) (Failed fault) after sound may told =
-    (λ e. cc, λ other e is. no_states_clash before local peer sound (told.clash fault refl (subst IsClash (sym (failed_is fault other e)) is)))
+takes_apart setting before (Session local peer) (Met report) after sound may told = record {
+  reply = λ e. cc;
+  fault = λ fault e is. cc;
+  keys = λ other e.
+      let tells = told.tells in
+      let apart = no_states_clash before local peer sound in
+      subst (λ (r : Report). Each (λ l. l.1.1 ≢ DotClash) r.first_refused) (met_is report other e)
+      (subst (Each (λ l. l.1.1 ≢ DotClash)) (sym tells.counted.2) (each-take (λ l. l.1.1 ≢ DotClash) tells.left 100
+      (Each-weaker (λ l. CannotMeet (most_of setting.max_keys setting.max_keys l.1.0) (states_of (before.known local)) (states_of (before.known peer)) l.0 l.1.1) (λ l. l.1.1 ≢ DotClash)
+      (left_apart (states_of (before.known local)) (states_of (before.known peer)) setting.max_keys setting.max_keys apart) tells.left tells.causes)));
+}
+takes_apart setting before (Session local peer) (Failed fault) after sound may told = record {
+  reply = λ e. cc;
+  fault = λ other e is. fault_apart (states_of (before.known local)) (states_of (before.known peer)) told.local_broken told.peer_broken fault told.fails (subst IsClash (sym (failed_is fault other e)) is);
+  keys = λ report e. absurd (cc);
+}
 takes_apart setting before step outcome after sound may told = absurd told
 
 -- no step is answered that two documents of one dot clash
@@ -103,5 +145,5 @@ pub step_apart : (setting : Setting) (before : Knowledge) (step : Step) (outcome
 step_apart setting before step outcome after sound =
     elim (may_be setting.count (length before.messages) step) as (λ b. may_be setting.count (length before.messages) step ≡ b → MatchBool b (Takes setting before step outcome after) ((outcome ≡ NoSuch) × (after ≡ before)) → IsNoClash outcome) [
       | true ↦ λ may told. takes_apart setting before step outcome after sound may told
-      | false ↦ λ _ same. subst IsNoClash (sym same.0) (λ e. cc, λ fault e is. cc)
+      | false ↦ λ _ same. subst IsNoClash (sym same.0) (record { reply = λ e. cc; fault = λ fault e is. cc; keys = λ report e. absurd (cc) })
     ] refl

@@ -6,8 +6,8 @@ use Rattle.std.proofs.lemmas.Bool.Decides.{eqb_tells}
 use Rattle.mvd_keys.specs.Writes.{Stands, Write}
 use Rattle.mvd_site.specs.Sites.{SiteStands, SiteValue}
 use Rattle.std.proofs.lemmas.List.{length-set}
-use Rattle.mvd_sync.specs.declared.session.Report.{Report}
-use Rattle.mvd_sync.specs.declared.session.SyncFault.{SyncFault}
+use Rattle.mvd_sync.specs.declared.report.Report.{Report}
+use Rattle.mvd_sync.specs.declared.report.SyncFault.{SyncFault}
 use Rattle.mvd_world.specs.Machine.{Knowledge, Sending, Setting, becomes, config_of, learns}
 use Rattle.mvd_world.specs.Worlds.{AreSites, Exchange, IsSiteOf, TwoMeet}
 

@@ -1,32 +1,35 @@
 -- What a session adds, from the states of two sites to the writes that they know.
-use Rattle.std.proofs.Common.{◌≡◌, ◌≢◌, ◌⊎◌, inl, inr, Bool, true, false, ◌||◌, ◌==◌, cond, List, [], ◌∷◌, ◌++◌, Some, None, Result, Ok, Err, refl, sym, ap, ap₂, ◌∙◌, subst, subst₂, ⊎_elim, true≢false, unwrap_or, append-nil, MatchResult, IfErr, IfOk}
+use Rattle.std.proofs.Common.{◌≡◌, ◌≢◌, ◌⊎◌, inl, inr, ℕ, Bool, true, false, ◌==◌, cond, List, [], ◌∷◌, ◌++◌, Some, None, Result, Ok, Err, refl, sym, ap, ap₂, ◌∙◌, subst, subst₂, ⊎_elim, true≢false, unwrap_or, append-nil, MatchBool, MatchResult, IfErr, IfOk}
+use Rattle.std.specs.Prelude.{OnOk}
 use Rattle.std.specs.Ordering.{eq_by_cmp}
 use Rattle.std.specs.FinMap.{get}
 use Rattle.std.specs.FinSet.{len-empty}
 use Rattle.mvd_dots.specs.Dot.{dot_cmp}
 use Rattle.mvd_dots.specs.declared.refusals.Refusal.TheVariants.{Broken}
+use Rattle.mvd_dots.specs.declared.refusals.Refusal.{Refusal}
 use Rattle.mvd_keys.specs.Key.{key_cmp}
-use Rattle.mvd_keys.specs.State.{State, empty_state, join, clashes}
+use Rattle.mvd_keys.specs.State.{State, empty_state, join}
 use Rattle.mvd_keys.specs.Writes.{Key, Stands, Write, held, is_empty, key_of, state, writes_of}
 use Rattle.mvd_keys.proofs.Held.{no_writes}
 use Rattle.mvd_keys.proofs.Joins.{join_empty_right}
 use Rattle.mvd_keys.proofs.KeyOrder.{same_where_tied}
 use Rattle.mvd_keys.proofs.Lists.{state_of_empty}
 use Rattle.mvd_keys.proofs.Sets.{IsValid-state}
-use Rattle.mvd_keys.proofs.Standing.{state-same_writes_of}
+use Rattle.mvd_keys.proofs.Standing.{Stands-one, state-same_writes_of}
 use Rattle.mvd_keys.proofs.StatesOfWrites.{join-state}
-use Rattle.mvd_tree.specs.Hashed.{HashesTellApart}
-use Rattle.mvd_site.specs.Answer.{spelled}
+use Rattle.mvd_site.specs.Answer.{states_of}
 use Rattle.mvd_site.specs.Held.{AreHeld, States, state_at}
 use Rattle.mvd_site.specs.Sites.{SiteStands, SiteValue}
+use Rattle.mvd_site.proofs.OfTheSet.{states_of-stands}
 use Rattle.mvd_site.proofs.Steps.{state_at-stands}
-use Rattle.mvd_sync.specs.Session.{Gives, HaveClash, IsClash, IsEnd, Pulls, SessionCompletes, SessionEnds, is_member}
-use Rattle.mvd_sync.specs.Sides.{IsFaultOf, SiteRefuses}
-use Rattle.mvd_sync.specs.declared.session.Report.{Report}
-use Rattle.mvd_sync.specs.declared.session.SyncFault.{SyncFault}
-use Rattle.mvd_sync.specs.declared.session.SyncFault.TheVariants.{Local, Peer}
-use Rattle.mvd_sync.proofs.Together.{is_member-append}
-use Rattle.mvd_world.specs.Machine.{BreaksBy, EndsWith, HasAllThatDiffer, MayRefuse, StatesClash, TellApart, ThatDiffer, ToldAtOnce, writes_in}
+use Rattle.mvd_sync.specs.Session.{AreFew, CanMeet, HasAllThatDiffer, HasJoined, IsIn, Session, Tells, is_member}
+use Rattle.mvd_sync.specs.Sides.{Blames, IsBroken, IsFaultOf, Side, SiteFollows, SiteRefuses, Stays, is_of_key, is_site_refusal, of_answer, of_memory, of_questions, of_side, side, tells_broken}
+use Rattle.mvd_sync.specs.declared.report.Report.{Report}
+use Rattle.mvd_sync.specs.declared.report.SyncFault.{SyncFault}
+use Rattle.mvd_sync.specs.declared.report.SyncFault.TheVariants.{Local, Peer}
+use Rattle.mvd_sync.proofs.JoinLaws.{join_absorbs, valid_at}
+use Rattle.mvd_sync.proofs.SiteSides.{is_broken}
+use Rattle.mvd_world.specs.Machine.{BreaksBy, FailsFor, MayFail, ToldAtOnce, all_asked, it_refused, writes_in}
 use Rattle.mvd_world.specs.Worlds.{Exchange}
 
 -- ---- the writes of several keys
@@ -92,29 +95,33 @@ stands_from m W form same = record {
 
 -- ---- the two sides
 
--- each key that was given was pulled
-given_pulled : (pulled given : List Key) → ((given ≡ pulled) ⊎ ((key : Key) × (pulled ≡ given ++ key ∷ []))) → (key : Key) → is_member given key ≡ true → is_member pulled key ≡ true
-given_pulled pulled given ends key member = ⊎_elim
-    (λ same. ap (λ ks. is_member ks key) (sym same) ∙ member)
-    (λ last. ap (λ ks. is_member ks key) last.1 ∙ is_member-append given (last.0 ∷ []) key ∙ ap (λ b. b || is_member (last.0 ∷ []) key) member)
-    ends
+-- a site as a side of a session
+abbrev pub site_side : Side SiteValue
+site_side = side (λ (s : SiteValue). s.states) (λ s. (s.broken ≡ false) × AreHeld s.states) (λ _ _. Unit {0}) (λ _. SiteFollows) SiteRefuses (λ s. s.broken ≡ false) (λ s. s.config.max_keys) (λ s. Some s.config.site)
 
-pulled_stands : (pulled : List Key) (a b a' : States) (V W : List Write) → Stands a V → Stands b W → AreHeld a' → Pulls pulled a b a' → Stands a' (V ++ writes_in pulled W)
-pulled_stands pulled a b a' V W first second held pulls = stands_from a' (V ++ writes_in pulled W) held (λ key.
-    pulls key
-    ∙ ap₂ (λ s t. cond (is_member pulled key) (join s t) s) (state_at-stands a V key first) (state_at-stands b W key second)
-    ∙ sym (gained pulled V W key))
+-- the state of a key that was joined, or is as it was
+chosen : (t : Bool) (old new : States) (key : Key) (s : State) → MatchBool t (state_at new key ≡ s) (get new key ≡ get old key) → state_at new key ≡ cond t s (state_at old key)
+chosen true old new key s h = h
+chosen false old new key s h = ap (λ o. unwrap_or o empty_state) h
 
-given_stands : (pulled given : List Key) (a b b' : States) (V W : List Write) → Stands a V → Stands b W → AreHeld b' → ((key : Key) → is_member given key ≡ true → is_member pulled key ≡ true) →
-    Gives given a b b' → Stands b' (W ++ writes_in given (V ++ writes_in pulled W))
-given_stands pulled given a b b' V W first second held within gives = stands_from b' (W ++ writes_in given (V ++ writes_in pulled W)) held (λ key.
-    gives key
-    ∙ ap₂ (λ s t. cond (is_member given key) (join t (join s t)) t) (state_at-stands a V key first) (state_at-stands b W key second)
-    ∙ elim (is_member given key) as (λ m. is_member given key ≡ m → cond m (join (state key W) (join (state key V) (state key W))) (state key W) ≡ cond m (join (state key W) (state key (V ++ writes_in pulled W))) (state key W)) [
-      | true ↦ λ member. ap (join (state key W)) (sym (gained pulled V W key ∙ ap (λ m. cond m (join (state key V) (state key W)) (state key V)) (within key member)))
-      | false ↦ λ _. refl
+joined_stands : (joined : List Key) (a b a' : States) (V W : List Write) → Stands a V → Stands b W → AreHeld a' → HasJoined joined a b a a' → Stands a' (V ++ writes_in joined W)
+joined_stands joined a b a' V W first second held h = stands_from a' (V ++ writes_in joined W) held (λ key.
+    chosen (is_member joined key) a a' key (join (state_at a key) (state_at b key)) (h key)
+    ∙ ap₂ (λ s t. cond (is_member joined key) (join s t) s) (state_at-stands a V key first) (state_at-stands b W key second)
+    ∙ sym (gained joined V W key))
+
+given_stands : (joined given : List Key) (a b b' : States) (V W : List Write) → AreHeld a → AreHeld b → Stands a V → Stands b W → AreHeld b' → ((key : Key) → IsIn given key → IsIn joined key) → ((key : Key) → IsIn joined key → CanMeet a b key) →
+    HasJoined given a b b b' → Stands b' (W ++ writes_in given (V ++ writes_in joined W))
+given_stands joined given a b b' V W form form' first second held within meet h = stands_from b' (W ++ writes_in given (V ++ writes_in joined W)) held (λ key.
+    chosen (is_member given key) b b' key (join (state_at a key) (state_at b key)) (h key)
+    ∙ elim (is_member given key) as (λ m. is_member given key ≡ m → cond m (join (state_at a key) (state_at b key)) (state_at b key) ≡ cond m (join (state key W) (state key (V ++ writes_in joined W))) (state key W)) [
+      | true ↦ λ member.
+          sym (join_absorbs (state_at a key) (state_at b key) (valid_at a form key) (valid_at b form' key) (meet key (within key member)).apart)
+          ∙ ap₂ join (state_at-stands b W key second)
+          (ap₂ join (state_at-stands a V key first) (state_at-stands b W key second) ∙ sym (gained joined V W key ∙ ap (λ m. cond m (join (state key V) (state key W)) (state key V)) (within key member)))
+      | false ↦ λ _. state_at-stands b W key second
     ] refl
-    ∙ sym (gained given W (V ++ writes_in pulled W) key))
+    ∙ sym (gained given W (V ++ writes_in joined W) key))
 
 -- ---- a session of two sites
 
@@ -136,107 +143,70 @@ breaks_by told decide was is (Err fault) whole still =
     (λ broken. absurd (true≢false (sym broken ∙ whole)), λ _ broken. ⊎_elim (λ same. ap Err same) (λ other. absurd (true≢false (sym broken ∙ still other))) (decide fault))
 
 -- a side that is true is whole
-abbrev IsTrue_side : SiteValue → Type 0
+abbrev pub IsTrue_side : SiteValue → Type 0
 IsTrue_side site = (site.broken ≡ false) × AreHeld site.states
 
-whole_side : (told : SyncFault) (site : SiteValue) (result : Result Report SyncFault) → MatchResult result (λ _. IsTrue_side site) (λ fault. fault ≢ told → IsTrue_side site) →
+whole_side : (told : SyncFault) (site : SiteValue) (result : Result Report SyncFault) → OnOk result (IsTrue_side site) → IfErr result (λ fault. fault ≢ told → IsTrue_side site) →
     MatchResult result (λ _. site.broken ≡ false) (λ fault. fault ≢ told → site.broken ≡ false)
-whole_side told site (Ok report) still = still.0
-whole_side told site (Err fault) still = λ other. (still other).0
+whole_side told site (Ok report) ok err = ok.0
+whole_side told site (Err fault) ok err = λ other. (err other).0
 
-ends_with : (local_true peer_true : Type 0) (pulled given : List Key) (l p : Bool) (result : Result Report SyncFault) → MatchResult result (λ _. l ≡ false) (λ fault. Unit {0}) → MatchResult result (λ _. p ≡ false) (λ fault. Unit {0}) →
-    IsEnd (λ (report : Report). report.keys) local_true peer_true pulled given result → EndsWith pulled given l p result
-ends_with local_true peer_true pulled given l p (Ok report) first second ends = (ends.2, ends.3, first, second)
-ends_with local_true peer_true pulled given l p (Err fault) first second ends = ends
+-- ---- why it ends
 
-at_ok : (told : SyncFault) (b : Bool) (result : Result Report SyncFault) → MatchResult result (λ _. b ≡ false) (λ fault. fault ≢ told → b ≡ false) → MatchResult result (λ _. b ≡ false) (λ fault. Unit {0})
-at_ok told b (Ok report) still = still
-at_ok told b (Err fault) still = tt
+not_broken : (refusal : Refusal) → refusal ≢ Broken → tells_broken refusal ≡ false
+not_broken Broken other = absurd (other refl)
+not_broken refusal other = refl
 
-given_within : (local_true peer_true : Type 0) (pulled given : List Key) (result : Result Report SyncFault) → IsEnd (λ (report : Report). report.keys) local_true peer_true pulled given result →
-    (key : Key) → is_member given key ≡ true → is_member pulled key ≡ true
-given_within local_true peer_true pulled given (Ok report) ends = given_pulled pulled given (inl ends.2)
-given_within local_true peer_true pulled given (Err fault) ends = given_pulled pulled given ends
+-- a site that refused so is broken afterwards just where it said so
+broken_after : (mid site' : SiteValue) (refusal : Refusal) → mid.broken ≡ tells_broken refusal → Stays IsBroken mid site' → (refusal ≢ Broken → site'.broken ≡ false) → site'.broken ≡ tells_broken refusal
+broken_after mid site' refusal told stays whole = ⊎_elim
+    (λ is. ap (λ (s : SiteValue). s.broken) (stays (told ∙ ap tells_broken is)) ∙ told)
+    (λ other. whole other ∙ sym (not_broken refusal other))
+    (is_broken refusal)
 
-states_clash : (local peer : SiteValue) (V W : List Write) (result : Result Report SyncFault) → Stands local.states V → Stands peer.states W →
-    IfErr result (λ fault. IsClash fault → HaveClash local.states peer.states) → (fault : SyncFault) → result ≡ Err fault → IsClash fault → StatesClash V W
-states_clash local peer V W (Ok report) first second clash fault e is = cc
-states_clash local peer V W (Err found) first second clash fault e is =
-    let same : found ≡ fault = cc in
-    let have = clash (subst IsClash (sym same) is) in
-    record { key = have.key; clash = ap₂ clashes (sym (state_at-stands local.states V have.key first)) (sym (state_at-stands peer.states W have.key second)) ∙ have.clash }
+module _ (a b held : States) (site site' : SiteValue) (asked : ℕ) (first : IsTrue_side site) where
+  may_fail : (refusal : Refusal) → (refusal ≢ Broken → site'.broken ≡ false) → ((differing : List Key) → HasAllThatDiffer a b differing → AreFew asked held differing) → Blames site_side 10000000 asked site site' refusal → MayFail a b held site'.broken refusal
+  may_fail refusal whole few (of_side h apart) = it_refused h.2.0 (apart first) (broken_after h.0 site' refusal h.2.1 h.3.1.1 whole)
+  may_fail refusal whole few (of_answer e untrue) = absurd (untrue first)
+  may_fail refusal whole few (of_questions e all) = all_asked e (λ differing every. subst (λ n. AreFew n held differing) all (few differing every))
+  may_fail refusal whole few (of_memory e) = it_refused (ap is_site_refusal e) (ap is_of_key e) (whole (λ is. cc) ∙ sym (ap tells_broken e))
 
--- a key that was not pulled has one state on both sides, since both have the join and are as they were
-not_pulled : (pulled given : List Key) (a b a' b' : States) (count : _) → given ≡ pulled → Pulls pulled a b a' → Gives given a b b' → SessionCompletes a b a' b' count →
-    (key : Key) → is_member pulled key ≡ false → state_at a key ≡ state_at b key
-not_pulled pulled given a b a' b' count same pulls gives done key out =
-    let mine : state_at a key ≡ join (state_at a key) (state_at b key) =
-    sym (pulls key ∙ ap (λ m. cond m (join (state_at a key) (state_at b key)) (state_at a key)) out) ∙ done.local_side key in
-    let theirs : state_at b key ≡ join (state_at a key) (state_at b key) =
-    sym (gives key ∙ ap (λ m. cond m (join (state_at b key) (join (state_at a key) (state_at b key))) (state_at b key)) (ap (λ ks. is_member ks key) same ∙ out)) ∙ done.peer_side key in
-    mine ∙ sym theirs
+fails_for : (a b : States) (local peer local' peer' : SiteValue) (i j : ℕ) (result : Result Report SyncFault) → IsTrue_side local → IsTrue_side peer →
+    MatchResult result (λ _. local'.broken ≡ false) (λ fault. fault ≢ Local Broken → local'.broken ≡ false) →
+    MatchResult result (λ _. peer'.broken ≡ false) (λ fault. fault ≢ Peer Broken → peer'.broken ≡ false) →
+    ((differing : List Key) → HasAllThatDiffer a b differing → AreFew i a differing × AreFew j b differing) →
+    IfErr result (IsFaultOf (Blames site_side 10000000 i local local') (Blames site_side 10000000 j peer peer')) → FailsFor a b local'.broken peer'.broken result
+fails_for a b local peer local' peer' i j (Ok report) first second mine theirs few cause = tt
+fails_for a b local peer local' peer' i j (Err (Local refusal)) first second mine theirs few cause =
+    may_fail a b a local local' i first refusal (λ other. mine (λ e. other (let is : refusal ≡ Broken = cc in is))) (λ differing every. (few differing every).0) cause
+fails_for a b local peer local' peer' i j (Err (Peer refusal)) first second mine theirs few cause =
+    may_fail a b b peer peer' j second refusal (λ other. theirs (λ e. other (let is : refusal ≡ Broken = cc in is))) (λ differing every. (few differing every).1) cause
 
-all_pulled : (local peer local' peer' : SiteValue) (V W : List Write) (pulled given : List Key) (result : Result Report SyncFault) → Stands local.states V → Stands peer.states W → AreHeld local'.states → AreHeld peer'.states →
-    IsEnd (λ (report : Report). report.keys) (IsTrue_side local') (IsTrue_side peer') pulled given result →
-    (IsTrue_side local' → Pulls pulled local.states peer.states local'.states) → (IsTrue_side peer' → Gives given local.states peer.states peer'.states) →
-    (HashesTellApart spelled local.states peer.states → IfOk result (λ report. SessionCompletes local.states peer.states local'.states peer'.states report.keys)) →
-    IfOk result (λ _. HasAllThatDiffer V W pulled)
-all_pulled local peer local' peer' V W pulled given (Err fault) first second held held' ends pulls gives done = tt
-all_pulled local peer local' peer' V W pulled given (Ok report) first second held held' ends pulls gives done = λ tell key differ.
-    elim (is_member pulled key) as (λ m. is_member pulled key ≡ m → m ≡ true) [
-      | true ↦ λ _. refl
-      | false ↦ λ out. absurd (differ (sym (state_at-stands local.states V key first)
-          ∙ not_pulled pulled given local.states peer.states local'.states peer'.states report.keys ends.2 (pulls ends.0) (gives ends.1) (done (tell local.states peer.states first second)) key out
-          ∙ state_at-stands peer.states W key second))
-    ] refl
+-- ---- and what it does
 
--- two maps have one value at a key just where the writes that they stand for have one state
-same_get : (a b : States) (V W : List Write) → Stands a V → Stands b W → (key : Key) → state key V ≡ state key W → get a key ≡ get b key
-same_get a b V W first second key same = first.at key ∙ held_at key V (state key W) same ∙ sym (second.at key)
-
-same_state : (a b : States) (V W : List Write) → Stands a V → Stands b W → (key : Key) → get a key ≡ get b key → state key V ≡ state key W
-same_state a b V W first second key same = sym (state_at-stands a V key first) ∙ ap (λ o. unwrap_or o empty_state) same ∙ state_at-stands b W key second
-
-that_differ : (local peer local' peer' : SiteValue) (V W : List Write) (result : Result Report SyncFault) → Stands local.states V → Stands peer.states W →
-    (HashesTellApart spelled local.states peer.states → IfOk result (λ report. SessionCompletes local.states peer.states local'.states peer'.states report.keys)) →
-    IfOk result (λ report. TellApart V W → ThatDiffer V W report.keys)
-that_differ local peer local' peer' V W (Err fault) first second done = tt
-that_differ local peer local' peer' V W (Ok report) first second done = λ tell.
-    let all = done (tell local.states peer.states first second) in
+pub sites_meet : (local peer local' peer' : SiteValue) (result : Result Report SyncFault) → IsTrue_side local → IsTrue_side peer → AreHeld local'.states → AreHeld peer'.states → Session site_side site_side 10000000 local local' peer peer' result → Exchange local peer local' peer' result
+sites_meet local peer local' peer' result first second held held' session V W stands stands' =
+    let m = session.meets first second in
+    let mine = session.local_side first in
+    let theirs = session.peer_side second in
+    let here = whole_side (Local Broken) local' result mine.after_ok mine.after_fault in
+    let there = whole_side (Peer Broken) peer' result theirs.after_ok theirs.after_fault in
+    let a_is : local.states ≡ states_of V = Stands-one local.states (states_of V) V (stands first.0) (states_of-stands V) in
+    let b_is : peer.states ≡ states_of W = Stands-one peer.states (states_of W) W (stands' second.0) (states_of-stands W) in
     record {
-      keys = all.keys;
-      distinct = all.distinct;
-      differing = λ key. (
-        (λ member same. (all.differing key).0 member (same_get local.states peer.states V W first second key same)),
-        (λ differ. (all.differing key).1 (λ same. differ (same_state local.states peer.states V W first second key same))),
-      );
-      counted = all.counted;
+      joined = m.joined;
+      given = m.given;
+      part = m.joins.part;
+      meet = λ key h. subst₂ (λ a b. CanMeet a b key) a_is b_is (m.joins.met key h);
+      tells = subst₂ (λ a b. IfOk result (Tells local.config.max_keys peer.config.max_keys (Some local.config.site) a b m.joined m.given)) a_is b_is m.tells;
+      local_breaks = breaks_by (Local Broken) is_local_broken local.broken local'.broken result first.0 here;
+      peer_breaks = breaks_by (Peer Broken) is_peer_broken peer.broken peer'.broken result second.0 there;
+      at_once = subst₂ (λ a b. ToldAtOnce a b m.joined result) (sym first.0) (sym second.0) tt;
+      fails = subst₂ (λ a b. FailsFor a b local'.broken peer'.broken result) a_is b_is
+          (fails_for local.states peer.states local peer local' peer' session.asked_local session.asked_peer result first second here there (session.few first second) session.cause);
+      local_stands = λ is. joined_stands m.joined local.states peer.states local'.states V W (stands first.0) (stands' second.0) held (m.joins.local_side (is, held));
+      peer_stands = λ is. given_stands m.joined m.given local.states peer.states peer'.states V W first.1 second.1 (stands first.0) (stands' second.0) held' m.joins.part m.joins.met (m.joins.peer_side (is, held'));
     }
-
-pub sites_meet : (local peer local' peer' : SiteValue) (result : Result Report SyncFault) → local.broken ≡ false → peer.broken ≡ false → AreHeld local'.states → AreHeld peer'.states →
-    SessionEnds (λ (report : Report). report.keys) (IsTrue_side local') (IsTrue_side peer') local.states peer.states local'.states peer'.states result →
-    MatchResult result (λ _. IsTrue_side local') (λ fault. fault ≢ Local Broken → IsTrue_side local') →
-    MatchResult result (λ _. IsTrue_side peer') (λ fault. fault ≢ Peer Broken → IsTrue_side peer') →
-    IfErr result (λ fault. IsClash fault → HaveClash local.states peer.states) →
-    (HashesTellApart spelled local.states peer.states → IfOk result (λ report. SessionCompletes local.states peer.states local'.states peer'.states report.keys)) →
-    IfErr result (IsFaultOf (SiteRefuses local') (SiteRefuses peer')) → Exchange local peer local' peer' result
-sites_meet local peer local' peer' result first second held held' ends whole whole' clash done told V W stands stands' = record {
-  pulled = ends.pulled;
-  given = ends.given;
-  distinct = ends.distinct;
-  ends = ends_with (IsTrue_side local') (IsTrue_side peer') ends.pulled ends.given local'.broken peer'.broken result
-      (at_ok (Local Broken) local'.broken result (whole_side (Local Broken) local' result whole)) (at_ok (Peer Broken) peer'.broken result (whole_side (Peer Broken) peer' result whole')) ends.end;
-  all = all_pulled local peer local' peer' V W ends.pulled ends.given result (stands first) (stands' second) held held' ends.end ends.local_side ends.peer_side done;
-  counted = that_differ local peer local' peer' V W result (stands first) (stands' second) done;
-  local_breaks = breaks_by (Local Broken) is_local_broken local.broken local'.broken result first (whole_side (Local Broken) local' result whole);
-  peer_breaks = breaks_by (Peer Broken) is_peer_broken peer.broken peer'.broken result second (whole_side (Peer Broken) peer' result whole');
-  at_once = subst₂ (λ a b. ToldAtOnce a b ends.pulled result) (sym first) (sym second) tt;
-  told = told;
-  clash = states_clash local peer V W result (stands first) (stands' second) clash;
-  local_stands = λ is. pulled_stands ends.pulled local.states peer.states local'.states V W (stands first) (stands' second) held (ends.local_side (is, held));
-  peer_stands = λ is. given_stands ends.pulled ends.given local.states peer.states peer'.states V W (stands first) (stands' second) held'
-      (given_within (IsTrue_side local') (IsTrue_side peer') ends.pulled ends.given result ends.end) (ends.peer_side (is, held'));
-}
 
 -- ---- a side that was broken before
 
@@ -250,28 +220,24 @@ still_stands site V W stands whole = subst (Stands site.states) (sym (ap (λ X. 
 stays : (was : Bool) (told : SyncFault) (result : Result Report SyncFault) → BreaksBy was was told result
 stays was told result = (λ broken. broken, λ whole broken. absurd (true≢false (sym broken ∙ whole)))
 
-pub nothing_met : (local peer : SiteValue) (fault : SyncFault) → (IsClash fault → ⊥) → ToldAtOnce local.broken peer.broken [] (Err fault) → IsFaultOf (MayRefuse local.broken) (MayRefuse peer.broken) fault → Exchange local peer local peer (Err fault)
-nothing_met local peer fault apart at_once told V W first second = record {
-  pulled = [];
+pub nothing_met : (local peer : SiteValue) (fault : SyncFault) → ToldAtOnce local.broken peer.broken [] (Err fault) → ((a b : States) → IsFaultOf (MayFail a b a local.broken) (MayFail a b b peer.broken) fault) → Exchange local peer local peer (Err fault)
+nothing_met local peer fault at_once fails V W first second = record {
+  joined = [];
   given = [];
-  distinct = tt;
-  ends = inl refl;
-  all = tt;
-  counted = tt;
+  part = λ key h. h;
+  meet = λ key h. absurd (true≢false (sym h));
+  tells = tt;
   local_breaks = stays local.broken (Local Broken) (Err fault);
   peer_breaks = stays peer.broken (Peer Broken) (Err fault);
   at_once = at_once;
-  told = told;
-  clash = λ other e is. absurd (apart (let same : fault ≡ other = cc in subst IsClash (sym same) is));
+  fails = fails (states_of V) (states_of W);
   local_stands = still_stands local V W first;
   peer_stands = still_stands peer W (V ++ writes_in [] W) second;
 }
 
-pub local_told : IsClash (Local Broken) → ⊥
-local_told is = ⊎_elim (λ e. cc) (λ e. cc) is
-
-pub peer_told : IsClash (Peer Broken) → ⊥
-peer_told is = ⊎_elim (λ e. cc) (λ e. cc) is
+-- a broken site says that it is
+pub says_broken : (a b held : States) (broken : Bool) → broken ≡ true → MayFail a b held broken Broken
+says_broken a b held broken is = it_refused refl refl is
 
 pub local_at_once : (a b : Bool) → a ≡ true → ToldAtOnce a b [] (Err (Local Broken))
 local_at_once true b broken = (refl, refl)

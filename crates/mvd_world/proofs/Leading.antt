@@ -14,7 +14,8 @@ use Rattle.mvd_wire.specs.declared.request.Request.{Request}
 use Rattle.mvd_wire.specs.declared.request.Request.TheVariants.{Push}
 use Rattle.mvd_wire.specs.declared.reply.Reply.{Reply}
 use Rattle.mvd_wire.specs.declared.reply.Reply.TheVariants.{Done, Refused}
-use Rattle.mvd_site.specs.Answer.{answer, change_of}
+use Rattle.std.proofs.Common.{IfOk}
+use Rattle.mvd_site.specs.Answer.{answer, change_of, states_of}
 use Rattle.mvd_site.specs.Config.{ConfigValue}
 use Rattle.mvd_site.specs.FromStates.{Answered, AnswersFrom, after_from, answer_from, change_from, unless_broken, with_change}
 use Rattle.mvd_site.specs.Held.{States, state_at}
@@ -24,9 +25,10 @@ use Rattle.mvd_site.proofs.Answered.{after_stands, answered, changed_alike, with
 use Rattle.mvd_site.proofs.Prepare.{Stands-none, refuses_all}
 use Rattle.mvd_site.proofs.Steps.{Adds-Refused, Stands-nothing, state_at-stands}
 use Rattle.mvd_sync.proofs.SiteSides.{is_broken}
-use Rattle.mvd_sync.specs.declared.session.Report.{Report}
-use Rattle.mvd_sync.specs.declared.session.SyncFault.{SyncFault}
-use Rattle.mvd_sync.specs.declared.session.SyncFault.TheVariants.{Local, Peer}
+use Rattle.mvd_sync.specs.Session.{Tells}
+use Rattle.mvd_sync.specs.declared.report.Report.{Report}
+use Rattle.mvd_sync.specs.declared.report.SyncFault.{SyncFault}
+use Rattle.mvd_sync.specs.declared.report.SyncFault.TheVariants.{Local, Peer}
 use Rattle.mvd_world.specs.declared.worlds.Message.{Message}
 use Rattle.mvd_world.specs.declared.worlds.World.{World}
 use Rattle.mvd_world.specs.Machine.{Answers, BreaksBy, IsOwn, IsSound, Knowledge, Meets, Receives, Sending, Sends, SendsNot, Setting, ToldAtOnce, becomes, config_of, learns, nothing_yet, received, writes_in}
@@ -220,33 +222,31 @@ first_other : (i j : ℕ) (local peer : ℕ) → i + 1 ≡ local → j + 1 ≡ p
 first_other i j local peer at at' two same = two (omega (arith, at, at', same))
 
 pub meets_lead : (old new : World) (local peer i j : ℕ) (result : Result Report SyncFault) → i + 1 ≡ local → j + 1 ≡ peer → local ≢ peer → TwoMeet old.sites.items new.sites.items i j result → new.messages.items ≡ old.messages.items →
-    Leads old new (λ setting before after. Meets before local peer result after)
+    Leads old new (λ setting before after. Meets setting before local peer result after)
 meets_lead old new local peer i j result at at' two both same_messages setting before world =
     let mine = site_of setting before old.sites.items i local both.first world.sites at both.first_is in
     let theirs = site_of setting before old.sites.items j peer both.second world.sites at' both.second_is in
     let V = before.known local in
     let W = before.known peer in
     let does = both.exchange V W mine.stands theirs.stands in
-    let more = writes_in does.pulled W in
+    let more = writes_in does.joined W in
     let first : Knowledge = record { known = learns before.known local more; broken = becomes before.broken local both.first'.broken; messages = before.messages; made = before.made } in
     let here : first.known local ≡ V ++ more = learns_here before.known local more in
     let there : first.known peer ≡ W = learns_other before.known local more peer (λ e. two (sym e)) in
     let back = writes_in does.given (first.known local) in
     let after : Knowledge = record { known = learns first.known peer back; broken = becomes first.broken peer both.second'.broken; messages = before.messages; made = before.made } in
-    let told : Meets before local peer result after = record {
-      pulled = does.pulled;
+    let told : Meets setting before local peer result after = record {
+      joined = does.joined;
       given = does.given;
-      distinct = does.distinct;
+      part = does.part;
+      meet = does.meet;
+      tells = subst₂ (λ (c d : ConfigValue). IfOk result (Tells c.max_keys d.max_keys (Some c.site) (states_of V) (states_of W) does.joined does.given)) mine.config theirs.config does.tells;
       local_broken = both.first'.broken;
       peer_broken = both.second'.broken;
-      ends = does.ends;
-      all = does.all;
-      counted = does.counted;
       local_breaks = subst (λ b. BreaksBy b both.first'.broken (Local Broken) result) mine.broken does.local_breaks;
       peer_breaks = subst (λ b. BreaksBy b both.second'.broken (Peer Broken) result) theirs.broken does.peer_breaks;
-      at_once = subst₂ (λ a b. ToldAtOnce a b does.pulled result) mine.broken theirs.broken does.at_once;
-      told = does.told;
-      clash = does.clash;
+      at_once = subst₂ (λ a b. ToldAtOnce a b does.joined result) mine.broken theirs.broken does.at_once;
+      fails = does.fails;
       is = refl;
     } in
     let sites_first : AreSites setting first (slice_set old.sites.items i both.first') =
@@ -261,7 +261,7 @@ meets_lead old new local peer i j result at at' two both same_messages setting b
           sites = subst (AreSites setting after) (sym both.new_is)
               (sites_changed setting (slice_set old.sites.items i both.first') first j peer both.second both.second' back before.messages before.made sites_first at' still both.second_config stands);
           messages = same_messages ∙ world.messages;
-          sound = sound_meets before local peer result after world.sound told;
+          sound = sound_meets setting before local peer result after world.sound told;
         },
       ),
     )

@@ -21,8 +21,8 @@ use Rattle.mvd_site.specs.Answer.{answer, is_question, put_answer}
 use Rattle.mvd_site.specs.Config.{ConfigValue}
 use Rattle.mvd_site.specs.Known.{Adds, MayReply}
 use Rattle.mvd_site.proofs.Answered.{limited_cases}
-use Rattle.mvd_sync.specs.declared.session.Report.{Report}
-use Rattle.mvd_sync.specs.declared.session.SyncFault.{SyncFault}
+use Rattle.mvd_sync.specs.declared.report.Report.{Report}
+use Rattle.mvd_sync.specs.declared.report.SyncFault.{SyncFault}
 use Rattle.mvd_world.specs.declared.steps.Step.{Step}
 use Rattle.mvd_world.specs.declared.steps.Step.TheVariants.{Write as Write_at, Ask, Send, Receive, Session}
 use Rattle.mvd_world.specs.declared.steps.Outcome.{Outcome}
@@ -210,10 +210,10 @@ sound_receives setting before site message reply after sound told = subst IsSoun
     (λ w here. sound.sent told.sending w (found before.messages (message - 1) told.sending told.sent) (received_part reply told.sending.writes w here))
     (λ other. whole_before before.broken site told.broken other (may_whole _ _ _ _ _ _ told.replies)))
 
-pub sound_meets : (before : Knowledge) (local peer : ℕ) (result : Result Report SyncFault) (after : Knowledge) → IsSound before → Meets before local peer result after → IsSound after
-sound_meets before local peer result after sound told =
-    let first : Knowledge = record { known = learns before.known local (writes_in told.pulled (before.known peer)); broken = before.broken; messages = before.messages; made = before.made } in
-    let sound_first : IsSound first = sound_learns before local (writes_in told.pulled (before.known peer)) before.broken sound (λ w here. sound.known peer w (from_filter _ (before.known peer) w here)) (λ other is. is) in
+pub sound_meets : (setting : Setting) (before : Knowledge) (local peer : ℕ) (result : Result Report SyncFault) (after : Knowledge) → IsSound before → Meets setting before local peer result after → IsSound after
+sound_meets setting before local peer result after sound told =
+    let first : Knowledge = record { known = learns before.known local (writes_in told.joined (before.known peer)); broken = before.broken; messages = before.messages; made = before.made } in
+    let sound_first : IsSound first = sound_learns before local (writes_in told.joined (before.known peer)) before.broken sound (λ w here. sound.known peer w (from_filter _ (before.known peer) w here)) (λ other is. is) in
     subst IsSound (sym told.is)
     (sound_learns first peer (writes_in told.given (first.known local)) (becomes (becomes before.broken local told.local_broken) peer told.peer_broken) sound_first
     (λ w here. sound_first.known local w (from_filter _ (first.known local) w here))
@@ -239,8 +239,8 @@ sound_takes setting before (Ask site request) (Replied reply) after sound may to
 sound_takes setting before (Send site key) (Sent_as number) after sound may told = sound_sends before site key number after sound told
 sound_takes setting before (Send site key) (Replied reply) after sound may told = subst IsSound (sym told.is) sound
 sound_takes setting before (Receive site message) (Replied reply) after sound may told = sound_receives setting before site message reply after sound told
-sound_takes setting before (Session local peer) (Met report) after sound may told = sound_meets before local peer (Ok report) after sound told
-sound_takes setting before (Session local peer) (Failed fault) after sound may told = sound_meets before local peer (Err fault) after sound told
+sound_takes setting before (Session local peer) (Met report) after sound may told = sound_meets setting before local peer (Ok report) after sound told
+sound_takes setting before (Session local peer) (Failed fault) after sound may told = sound_meets setting before local peer (Err fault) after sound told
 sound_takes setting before step outcome after sound may told = absurd told
 
 pub sound_after : (setting : Setting) (before : Knowledge) (step : Step) (outcome : Outcome) (after : Knowledge) → IsSound before → MayStep setting before step outcome after → IsSound after

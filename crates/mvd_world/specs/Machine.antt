@@ -1,29 +1,28 @@
 -- Sites that write, are asked, send each other states of keys and hold sessions, as a machine over sets of writes: what is
 -- lost, repeated or comes out of order is a matter of which steps are taken, and no map of states is kept in it.
-use Rattle.std.specs.Prelude.{◌≡◌, ◌⊎◌, ℕ, Bool, true, false, not, ◌&&◌, ◌||◌, ◌==◌, nat_lt, nat_le, ◌-◌, if◌then◌else◌, List, [], ◌∷◌, ◌++◌, length, filter, Contains, MatchBool, Some, Result, Ok, Err, ◌≢◌, IfOk, IfErr, IsTrue, ◌↔◌, ⊤}
+use Rattle.std.specs.Prelude.{◌≡◌, ◌⊎◌, ℕ, Bool, true, false, not, ◌&&◌, ◌||◌, ◌==◌, nat_lt, nat_le, ◌-◌, if◌then◌else◌, List, [], ◌∷◌, ◌++◌, length, filter, Contains, MatchBool, Some, Result, Ok, Err, ◌≢◌, IfOk, IfErr, ⊤}
 use Rattle.std.specs.List.{slice_get}
 use Rattle.mvd_dots.specs.Dot.{DotValue}
 use Rattle.mvd_dots.specs.Context.{DotSet}
 use Rattle.mvd_dots.specs.declared.refusals.Refusal.{Refusal}
-use Rattle.mvd_dots.specs.declared.refusals.Refusal.TheVariants.{Memory, Broken, DotClash}
-use Rattle.mvd_keys.specs.State.{Text, clashes}
-use Rattle.mvd_keys.specs.Writes.{AreOf, Key, Stands, Write, Wrote, key_of, state, writes_of}
+use Rattle.mvd_dots.specs.declared.refusals.Refusal.TheVariants.{Memory, Broken, DotClash, TooManyRequests}
+use Rattle.mvd_keys.specs.State.{Text}
+use Rattle.mvd_keys.specs.Writes.{AreOf, Key, Write, Wrote, key_of, state, writes_of}
 use Rattle.mvd_rows.specs.Defs.{Definitions}
 use Rattle.mvd_wire.specs.declared.request.Request.{Request}
 use Rattle.mvd_wire.specs.declared.request.Request.TheVariants.{Put, Delete, Push}
 use Rattle.mvd_wire.specs.declared.reply.Reply.{Reply}
 use Rattle.mvd_wire.specs.declared.reply.Reply.TheVariants.{Done, Refused}
-use Rattle.mvd_tree.specs.Hashed.{HashesTellApart}
-use Rattle.mvd_site.specs.Answer.{is_question, spelled}
+use Rattle.mvd_site.specs.Answer.{is_question, states_of}
 use Rattle.mvd_site.specs.Config.{ConfigValue}
 use Rattle.mvd_site.specs.FromStates.{unless_broken}
 use Rattle.mvd_site.specs.Held.{States}
 use Rattle.mvd_site.specs.Known.{Adds, MayReply}
-use Rattle.mvd_sync.specs.Session.{AreDistinct, IsClash, is_member}
-use Rattle.mvd_sync.specs.Sides.{IsFaultOf, is_site_refusal, tells_broken}
-use Rattle.mvd_sync.specs.declared.session.Report.{Report}
-use Rattle.mvd_sync.specs.declared.session.SyncFault.{SyncFault}
-use Rattle.mvd_sync.specs.declared.session.SyncFault.TheVariants.{Local, Peer}
+use Rattle.mvd_sync.specs.Session.{AreFew, CanMeet, Each, HasAllThatDiffer, IsIn, Tells, is_member}
+use Rattle.mvd_sync.specs.Sides.{IsFaultOf, is_of_key, is_site_refusal, tells_broken}
+use Rattle.mvd_sync.specs.declared.report.Report.{Report}
+use Rattle.mvd_sync.specs.declared.report.SyncFault.{SyncFault}
+use Rattle.mvd_sync.specs.declared.report.SyncFault.TheVariants.{Local, Peer}
 use Rattle.mvd_world.specs.declared.steps.Step.{Step}
 use Rattle.mvd_world.specs.declared.steps.Step.TheVariants.{Write as Written_at, Ask, Send, Receive, Session}
 use Rattle.mvd_world.specs.declared.steps.Outcome.{Outcome}
@@ -142,18 +141,12 @@ pub record Receives (setting : Setting) (before : Knowledge) (site message : ℕ
     made = before.made;
   }
 
--- what two sites know after a session: the local site has learnt of the peer's writes of some keys, and the peer of the
--- local site's writes, taken after that
+-- what two sites know after a session: the local site has learnt of the peer's writes of the keys that were joined, and the
+-- peer of the local site's writes, after that, of those that were given to it
 abbrev pub met : (ℕ → List Write) → ℕ → ℕ → List Key → List Key → ℕ → List Write
-met known local peer pulled given =
-    let first : ℕ → List Write = learns known local (writes_in pulled (known peer)) in
+met known local peer joined given =
+    let first : ℕ → List Write = learns known local (writes_in joined (known peer)) in
     learns first peer (writes_in given (first local))
-
--- how a session ends: with no fault the keys are the same both ways, and so many; after a fault the last key may not have
--- been given back
-abbrev pub EndsWith : List Key → List Key → Bool → Bool → Result Report SyncFault → Type 0
-EndsWith pulled given local_broken peer_broken (Ok report) = (given ≡ pulled) × (report.keys ≡ length pulled) × (local_broken ≡ false) × (peer_broken ≡ false)
-EndsWith pulled given local_broken peer_broken (Err fault) = (given ≡ pulled) ⊎ ((key : Key) × (pulled ≡ given ++ key ∷ []))
 
 -- what breaks a side in a session is told, and breaks it for good
 abbrev pub BreaksBy : Bool → Bool → SyncFault → Result Report SyncFault → Type 0
@@ -161,51 +154,36 @@ BreaksBy was is told result = (was ≡ true → is ≡ true) × (was ≡ false �
 
 -- a side that was broken is told at once, the local one first, and nothing is exchanged
 abbrev pub ToldAtOnce : Bool → Bool → List Key → Result Report SyncFault → Type 0
-ToldAtOnce false false pulled result = ⊤
-ToldAtOnce false true pulled result = (result ≡ Err (Peer Broken)) × (pulled ≡ [])
-ToldAtOnce true peer_was pulled result = (result ≡ Err (Local Broken)) × (pulled ≡ [])
+ToldAtOnce false false joined result = ⊤
+ToldAtOnce false true joined result = (result ≡ Err (Peer Broken)) × (joined ≡ [])
+ToldAtOnce true peer_was joined result = (result ≡ Err (Local Broken)) × (joined ≡ [])
 
--- a site that is whole afterwards, or broken, may have refused a session so
-abbrev pub MayRefuse : Bool → Refusal → Type 0
-MayRefuse broken refusal = (is_site_refusal refusal ≡ true) × (broken ≡ tells_broken refusal)
+-- Why a session of two sites that held `a` and `b` ends by the one that held `held`, and is broken afterwards or not: by a
+-- refusal of the site that is not of a key alone, as that of memory; or all questions were made to it, which are many only
+-- where many keys differ
+pub data MayFail (a b held : States) (broken : Bool) (refusal : Refusal) : Type 0 where
+  it_refused : is_site_refusal refusal ≡ true → is_of_key refusal ≡ false → broken ≡ tells_broken refusal → MayFail a b held broken refusal
+  all_asked : refusal ≡ TooManyRequests → ((differing : List Key) → HasAllThatDiffer a b differing → AreFew 10000000 held differing) → MayFail a b held broken refusal
 
--- SHA-256 tells the texts apart that are hashed for the states of two sets of writes
-abbrev pub TellApart : List Write → List Write → Type 0
-TellApart V W = (a b : States) → Stands a V → Stands b W → HashesTellApart spelled a b
+abbrev pub FailsFor : States → States → Bool → Bool → Result Report SyncFault → Type 0
+FailsFor a b local_broken peer_broken result = IfErr result (IsFaultOf (MayFail a b a local_broken) (MayFail a b b peer_broken))
 
--- these are all keys of which two sets of writes have different states, where SHA-256 tells them apart
-abbrev pub HasAllThatDiffer : List Write → List Write → List Key → Type 0
-HasAllThatDiffer V W keys = TellApart V W → (key : Key) → state key V ≢ state key W → is_member keys key ≡ true
-
--- the keys of which two sets of writes have different states
-pub record ThatDiffer (V W : List Write) (count : ℕ) : Type 0 where
-  pub keys : List Key
-  pub distinct : AreDistinct keys
-  pub differing : (key : Key) → IsTrue (is_member keys key) ↔ (state key V ≢ state key W)
-  pub counted : count ≡ length keys
-
--- two sites' states of a key clash
-pub record StatesClash (V W : List Write) : Type 0 where
-  pub key : Key
-  pub clash : clashes (state key V) (state key W) ≡ true
-
--- A session of two sites: each learns of the other's writes of some keys
-pub record Meets (before : Knowledge) (local peer : ℕ) (result : Result Report SyncFault) (after : Knowledge) : Type 0 where
-  pub pulled : List Key
+-- A session of two sites: the states of some keys, which differ and do not clash, are joined on the local site, and those of
+-- a part of them on the peer. With no fault these and the refused keys are all that differ, each refused for its cause
+pub record Meets (setting : Setting) (before : Knowledge) (local peer : ℕ) (result : Result Report SyncFault) (after : Knowledge) : Type 0 where
+  pub joined : List Key
   pub given : List Key
-  pub distinct : AreDistinct pulled
+  pub part : (key : Key) → IsIn given key → IsIn joined key
+  pub meet : (key : Key) → IsIn joined key → CanMeet (states_of (before.known local)) (states_of (before.known peer)) key
+  pub tells : IfOk result (Tells setting.max_keys setting.max_keys (Some local) (states_of (before.known local)) (states_of (before.known peer)) joined given)
   pub local_broken : Bool
   pub peer_broken : Bool
-  pub ends : EndsWith pulled given local_broken peer_broken result
-  pub all : IfOk result (λ _. HasAllThatDiffer (before.known local) (before.known peer) pulled)
-  pub counted : IfOk result (λ report. TellApart (before.known local) (before.known peer) → ThatDiffer (before.known local) (before.known peer) report.keys)
   pub local_breaks : BreaksBy (before.broken local) local_broken (Local Broken) result
   pub peer_breaks : BreaksBy (before.broken peer) peer_broken (Peer Broken) result
-  pub at_once : ToldAtOnce (before.broken local) (before.broken peer) pulled result
-  pub told : IfErr result (IsFaultOf (MayRefuse local_broken) (MayRefuse peer_broken))
-  pub clash : (fault : SyncFault) → result ≡ Err fault → IsClash fault → StatesClash (before.known local) (before.known peer)
+  pub at_once : ToldAtOnce (before.broken local) (before.broken peer) joined result
+  pub fails : FailsFor (states_of (before.known local)) (states_of (before.known peer)) local_broken peer_broken result
   pub is : after ≡ record {
-    known = met before.known local peer pulled given;
+    known = met before.known local peer joined given;
     broken = becomes (becomes before.broken local local_broken) peer peer_broken;
     messages = before.messages;
     made = before.made;
@@ -218,8 +196,8 @@ Takes setting before (Ask site request) (Replied reply) after = Answers setting 
 Takes setting before (Send site key) (Sent_as number) after = Sends before site key number after
 Takes setting before (Send site key) (Replied reply) after = SendsNot before site reply after
 Takes setting before (Receive site message) (Replied reply) after = Receives setting before site message reply after
-Takes setting before (Session local peer) (Met report) after = Meets before local peer (Ok report) after
-Takes setting before (Session local peer) (Failed fault) after = Meets before local peer (Err fault) after
+Takes setting before (Session local peer) (Met report) after = Meets setting before local peer (Ok report) after
+Takes setting before (Session local peer) (Failed fault) after = Meets setting before local peer (Err fault) after
 Takes setting before step outcome after = ⊥
 
 -- any step: one that may not be is answered so, and changes nothing
@@ -250,6 +228,12 @@ pub record IsSound (world : Knowledge) : Type 0 where
   pub own : (key : Key) (dot : DotValue) (seen : DotSet) (document : Text) → world.broken dot.site ≡ false →
       Contains world.made (Wrote key dot seen document) → Contains (world.known dot.site) (Wrote key dot seen document)
 
--- what was told refuses no two documents of one dot
-abbrev pub IsNoClash : Outcome → Type 0
-IsNoClash outcome = (outcome ≡ Replied (Refused DotClash) → ⊥) × ((fault : SyncFault) → outcome ≡ Failed fault → IsClash fault → ⊥)
+-- a fault by which two states of a key clash
+abbrev pub IsClash : SyncFault → Type 0
+IsClash fault = (fault ≡ Local DotClash) ⊎ (fault ≡ Peer DotClash)
+
+-- what was told refuses no two documents of one dot: no reply, no session, and no key of a session
+pub record IsNoClash (outcome : Outcome) : Type 0 where
+  pub reply : outcome ≡ Replied (Refused DotClash) → ⊥
+  pub fault : (fault : SyncFault) → outcome ≡ Failed fault → IsClash fault → ⊥
+  pub keys : (report : Report) → outcome ≡ Met report → Each (λ l. l.1.1 ≢ DotClash) report.first_refused

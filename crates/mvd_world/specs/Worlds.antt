@@ -1,19 +1,18 @@
 -- What a world stands for: sets of writes, by which its sites and messages are what the machine says.
-use Rattle.std.specs.Prelude.{◌≡◌, ◌⊎◌, ◌+◌, ◌-◌, ℕ, Bool, true, false, List, ◌++◌, map, length, Some, Result, Err, slice_set, IfOk, IfErr, ⊤}
+use Rattle.std.specs.Prelude.{◌≡◌, ◌⊎◌, ◌+◌, ◌-◌, ℕ, Bool, true, false, List, ◌++◌, map, length, Some, Result, slice_set, IfOk, ⊤}
 use Rattle.std.specs.List.{AllByRecursion, slice_get, Contains}
 use Rattle.mvd_keys.specs.State.{join}
 use Rattle.mvd_keys.specs.Writes.{Key, SameWrites, Stands, Write, state}
 use Rattle.mvd_wire.specs.declared.request.Request.{Request}
 use Rattle.mvd_wire.specs.declared.reply.Reply.TheVariants.{Done, Refused}
-use Rattle.mvd_site.specs.Answer.{is_question, is_too_large}
+use Rattle.mvd_site.specs.Answer.{is_question, is_too_large, states_of}
 use Rattle.mvd_site.specs.FromStates.{answer_from}
 use Rattle.mvd_site.specs.Held.{state_at}
 use Rattle.mvd_site.specs.Sites.{SiteStands, SiteValue}
-use Rattle.mvd_sync.specs.Session.{AreDistinct, IsClash}
-use Rattle.mvd_sync.specs.Sides.{IsFaultOf}
-use Rattle.mvd_sync.specs.declared.session.Report.{Report}
-use Rattle.mvd_sync.specs.declared.session.SyncFault.{SyncFault}
-use Rattle.mvd_sync.specs.declared.session.SyncFault.TheVariants.{Local, Peer}
+use Rattle.mvd_sync.specs.Session.{CanMeet, IsIn, Tells}
+use Rattle.mvd_sync.specs.declared.report.Report.{Report}
+use Rattle.mvd_sync.specs.declared.report.SyncFault.{SyncFault}
+use Rattle.mvd_sync.specs.declared.report.SyncFault.TheVariants.{Local, Peer}
 use Rattle.mvd_dots.specs.declared.refusals.Refusal.TheVariants.{Broken, Memory}
 use Rattle.mvd_world.specs.declared.steps.Step.{Step}
 use Rattle.mvd_world.specs.declared.steps.Step.TheVariants.{Receive}
@@ -21,7 +20,7 @@ use Rattle.mvd_world.specs.declared.steps.Outcome.{Outcome}
 use Rattle.mvd_world.specs.declared.steps.Outcome.TheVariants.{Replied}
 use Rattle.mvd_world.specs.declared.worlds.Message.{Message}
 use Rattle.mvd_world.specs.declared.worlds.World.{World}
-use Rattle.mvd_world.specs.Machine.{BreaksBy, EndsWith, HasAllThatDiffer, IsSound, Knowledge, MayRefuse, MayStep, Runs, Sending, Setting, StatesClash, TellApart, ThatDiffer, ToldAtOnce, config_of, may_be, nothing_yet, writes_in}
+use Rattle.mvd_world.specs.Machine.{BreaksBy, FailsFor, IsSound, Knowledge, MayStep, Runs, Sending, Setting, ToldAtOnce, config_of, may_be, nothing_yet, writes_in}
 
 -- the site of this number, with what it was set up with, and the writes that its states stand for unless it is broken
 pub record IsSiteOf (setting : Setting) (knowledge : Knowledge) (number : ℕ) (site : SiteValue) : Type 0 where
@@ -90,19 +89,17 @@ KnownChangesNothing old new step outcome = ⊤
 
 -- what a session does to two sites, from writes that each stood for
 pub record SitesMeet (V W : List Write) (local peer local' peer' : SiteValue) (result : Result Report SyncFault) : Type 0 where
-  pub pulled : List Key
+  pub joined : List Key
   pub given : List Key
-  pub distinct : AreDistinct pulled
-  pub ends : EndsWith pulled given local'.broken peer'.broken result
-  pub all : IfOk result (λ _. HasAllThatDiffer V W pulled)
-  pub counted : IfOk result (λ report. TellApart V W → ThatDiffer V W report.keys)
+  pub part : (key : Key) → IsIn given key → IsIn joined key
+  pub meet : (key : Key) → IsIn joined key → CanMeet (states_of V) (states_of W) key
+  pub tells : IfOk result (Tells local.config.max_keys peer.config.max_keys (Some local.config.site) (states_of V) (states_of W) joined given)
   pub local_breaks : BreaksBy local.broken local'.broken (Local Broken) result
   pub peer_breaks : BreaksBy peer.broken peer'.broken (Peer Broken) result
-  pub at_once : ToldAtOnce local.broken peer.broken pulled result
-  pub told : IfErr result (IsFaultOf (MayRefuse local'.broken) (MayRefuse peer'.broken))
-  pub clash : (fault : SyncFault) → result ≡ Err fault → IsClash fault → StatesClash V W
-  pub local_stands : SiteStands local' (V ++ writes_in pulled W)
-  pub peer_stands : SiteStands peer' (W ++ writes_in given (V ++ writes_in pulled W))
+  pub at_once : ToldAtOnce local.broken peer.broken joined result
+  pub fails : FailsFor (states_of V) (states_of W) local'.broken peer'.broken result
+  pub local_stands : SiteStands local' (V ++ writes_in joined W)
+  pub peer_stands : SiteStands peer' (W ++ writes_in given (V ++ writes_in joined W))
 
 -- the same, whatever they stood for
 abbrev pub Exchange : SiteValue → SiteValue → SiteValue → SiteValue → Result Report SyncFault → Type 0

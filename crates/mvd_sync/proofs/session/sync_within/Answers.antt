@@ -1,21 +1,47 @@
-use Rattle.mvd_sync.proofs.Ends.{ends_ok, ends_err, ends_at_once, completes_from}
+use Rattle.std.proofs.Common.{◌∙◌, ap}
+use Rattle.mvd_sync.specs.Sides.{side as side_of}
+use Rattle.mvd_sync.proofs.HeldFew.{held_few}
+use Rattle.mvd_sync.proofs.Sessions.{begins_with, over_at, session_all, session_buckets, session_exchanges, session_walks}
 use Rattle.mvd_sync.proofs.session.sync_within.Goals as goal
 
-pub returns-in-Ok-walk-clause-session : goal.returns-in-Ok-walk-clause-session
-returns-in-Ok-walk-clause-session g c u v =
-    let walked = c.in-Ok-walk.ensures.session u v in
-    ends_ok _ _ _ _ _ _ _ _ _ _ walked.0 walked.1 walked.2
+pub returns-in-Err : goal.returns-in-Err
+returns-in-Err g c =
+    let l = side_of g.L.Peer.states g.L.Peer.is_faithful g.L.Peer.can_give g.L.Peer.follows g.L.Peer.can_refuse g.L.Peer.can_answer g.L.Peer.most_keys g.L.Peer.number in
+    let p = side_of g.P.Peer.states g.P.Peer.is_faithful g.P.Peer.can_give g.P.Peer.follows g.P.Peer.can_refuse g.P.Peer.can_answer g.P.Peer.most_keys g.P.Peer.number in
+    record { session = session_walks l p c.args.questions c.args.local.now c.differing_buckets.new.local c.args.peer.now c.differing_buckets.new.peer c.in-Err.fault c.in-Err.ensures.ended }
 
-pub returns-in-Ok-walk-clause-complete : goal.returns-in-Ok-walk-clause-complete
-returns-in-Ok-walk-clause-complete g c u v apart =
-    completes_from _ _ _ _ _ _ c.in-Ok.ensures.root apart (g.met.L.Peer.in_form _ u) (g.met.P.Peer.in_form _ v) (c.in-Ok-walk.ensures.session u v).2
+pub returns-in-Err-exchange_buckets : goal.returns-in-Err-exchange_buckets
+returns-in-Err-exchange_buckets g c =
+    let l = side_of g.L.Peer.states g.L.Peer.is_faithful g.L.Peer.can_give g.L.Peer.follows g.L.Peer.can_refuse g.L.Peer.can_answer g.L.Peer.most_keys g.L.Peer.number in
+    let p = side_of g.P.Peer.states g.P.Peer.is_faithful g.P.Peer.can_give g.P.Peer.follows g.P.Peer.can_refuse g.P.Peer.can_answer g.P.Peer.most_keys g.P.Peer.number in
+    let start = c.new-exchanging.ensures ∙ ap begins_with c.number-number.ensures in
+    record {
+      session = session_buckets l p g.met.L.Peer.follows_on g.met.P.Peer.follows_on g.met.L.Peer.most_stays g.met.P.Peer.most_stays g.met.L.Peer.in_form g.met.P.Peer.in_form held_few c.args.questions
+          c.differing_buckets.new.left c.exchange_buckets.new.left c.args.local.now c.differing_buckets.new.local c.exchange_buckets.new.local c.args.peer.now c.differing_buckets.new.peer c.exchange_buckets.new.peer c.in-Ok.paths.items c.exchange_buckets.new.exchange c.in-Ok.ensures.found c.in-Err-exchange_buckets.fault
+          (over_at l p c.deref.result.now c.in-Ok.paths.items c.differing_buckets.new.left c.exchange_buckets.new.left c.differing_buckets.new.local c.exchange_buckets.new.local c.differing_buckets.new.peer c.exchange_buckets.new.peer c.new-exchanging.result (begins_with (l.number c.args.local.now)) c.exchange_buckets.new.exchange _ c.deref.ensures.value start c.in-Err-exchange_buckets.ensures);
+    }
 
--- no walk was begun
-pub returns-in-Err-clause-session : goal.returns-in-Err-clause-session
-returns-in-Err-clause-session g c u v = ends_at_once _ _ _ _ _ _
+pub returns : goal.returns
+returns g c =
+    let l = side_of g.L.Peer.states g.L.Peer.is_faithful g.L.Peer.can_give g.L.Peer.follows g.L.Peer.can_refuse g.L.Peer.can_answer g.L.Peer.most_keys g.L.Peer.number in
+    let p = side_of g.P.Peer.states g.P.Peer.is_faithful g.P.Peer.can_give g.P.Peer.follows g.P.Peer.can_refuse g.P.Peer.can_answer g.P.Peer.most_keys g.P.Peer.number in
+    let start = c.new-exchanging.ensures ∙ ap begins_with c.number-number.ensures in
+    record {
+      session = session_exchanges l p g.met.L.Peer.follows_on g.met.P.Peer.follows_on g.met.L.Peer.most_stays g.met.P.Peer.most_stays g.met.L.Peer.in_form g.met.P.Peer.in_form held_few c.args.questions
+          c.differing_buckets.new.left c.exchange_buckets.new.left c.args.local.now c.differing_buckets.new.local c.exchange_buckets.new.local c.args.peer.now c.differing_buckets.new.peer c.exchange_buckets.new.peer c.in-Ok.paths.items c.exchange_buckets.new.exchange c.in-Ok.ensures.found _
+          (over_at l p c.deref.result.now c.in-Ok.paths.items c.differing_buckets.new.left c.exchange_buckets.new.left c.differing_buckets.new.local c.exchange_buckets.new.local c.differing_buckets.new.peer c.exchange_buckets.new.peer c.new-exchanging.result (begins_with (l.number c.args.local.now)) c.exchange_buckets.new.exchange _ c.deref.ensures.value start c.in-Ok-exchange_buckets.ensures)
+          c.exchange.new.left c.exchange.new.local c.exchange.new.peer c.exchange.new.self c.in-Err-exchange.fault c.in-Err-exchange.ensures.exchanges;
+    }
 
-pub returns-clause-session : goal.returns-clause-session
-returns-clause-session g c u v = ends_err _ _ _ _ _ _ _ _ _ (c.in-Err-walk.ensures.session u v)
-
-pub returns-in-Err-clause-follows : goal.returns-in-Err-clause-follows
-returns-in-Err-clause-follows g c = (g.met.L.Peer.follows_self _, g.met.P.Peer.follows_self _)
+pub returns-in-Ok-exchange : goal.returns-in-Ok-exchange
+returns-in-Ok-exchange g c =
+    let l = side_of g.L.Peer.states g.L.Peer.is_faithful g.L.Peer.can_give g.L.Peer.follows g.L.Peer.can_refuse g.L.Peer.can_answer g.L.Peer.most_keys g.L.Peer.number in
+    let p = side_of g.P.Peer.states g.P.Peer.is_faithful g.P.Peer.can_give g.P.Peer.follows g.P.Peer.can_refuse g.P.Peer.can_answer g.P.Peer.most_keys g.P.Peer.number in
+    let start = c.new-exchanging.ensures ∙ ap begins_with c.number-number.ensures in
+    record {
+      session = session_all l p g.met.L.Peer.follows_on g.met.P.Peer.follows_on g.met.L.Peer.most_stays g.met.P.Peer.most_stays g.met.L.Peer.in_form g.met.P.Peer.in_form held_few c.args.questions
+          c.differing_buckets.new.left c.exchange_buckets.new.left c.args.local.now c.differing_buckets.new.local c.exchange_buckets.new.local c.args.peer.now c.differing_buckets.new.peer c.exchange_buckets.new.peer c.in-Ok.paths.items c.exchange_buckets.new.exchange c.in-Ok.ensures.found _
+          (over_at l p c.deref.result.now c.in-Ok.paths.items c.differing_buckets.new.left c.exchange_buckets.new.left c.differing_buckets.new.local c.exchange_buckets.new.local c.differing_buckets.new.peer c.exchange_buckets.new.peer c.new-exchanging.result (begins_with (l.number c.args.local.now)) c.exchange_buckets.new.exchange _ c.deref.ensures.value start c.in-Ok-exchange_buckets.ensures)
+          c.exchange.new.left c.exchange.new.local c.exchange.new.peer c.exchange.new.self _ c.in-Ok-exchange.ensures.exchanges c.in-Ok-exchange.ensures.none
+          c.report.result c.report.ensures.keys c.report.ensures.refused c.report.ensures.old c.report.ensures.first;
+    }

@@ -1,6 +1,5 @@
 use Rattle.std.proofs.Common.{ap, ◌∙◌}
 use Rattle.sqlite.specs.Held.{state}
-use Rattle.mvd_replica.specs.Asks.{Asks}
 use Rattle.mvd_replica.proofs.Asking.{is_reply}
 use Rattle.mvd_replica.proofs.Sides.{follows_by}
 use Rattle.mvd_replica.proofs.replica.Replica.asked.Goals as goal

@@ -1,12 +1,7 @@
-use Rattle.std.proofs.Common.{◌≡◌, ◌∙◌, false, true, Ok, Err, inl, inr, sym, ap, subst, refl}
-use Rattle.mvd_dots.specs.declared.refusals.Refusal.TheVariants.{Broken}
-use Rattle.mvd_wire.specs.declared.reply.Reply.TheVariants.{Refused}
-use Rattle.mvd_site.specs.FromStates.{answer_from, unless_broken}
+use Rattle.std.proofs.Common.{◌≡◌, false, Ok, subst}
 use Rattle.mvd_site.specs.Prepared.{PreparesFrom}
-use Rattle.mvd_site.proofs.Alike.{still}
 use Rattle.mvd_site.proofs.Outcomes.{whole_where_ok}
 use Rattle.mvd_replica.proofs.Asking.{tells_refusal, told_is, whole_tells}
-use Rattle.mvd_replica.proofs.Sides.{changes_states}
 use Rattle.mvd_replica.proofs.replica.Replica.told.Goals as goal
 
 pub returns-in-Ok-Answer-clause-tells : goal.returns-in-Ok-Answer-clause-tells

@@ -1,4 +1,4 @@
-use Rattle.mvd_sync.proofs.SiteSides.{push_answers, push_follows, push_ok, push_refuses}
+use Rattle.mvd_sync.proofs.SiteSides.{push_answers, push_cause, push_follows, push_ok, push_refuses}
 use Rattle.mvd_sync.proofs.sites.SitePeer.push.Goals as goal
 
 pub returns-clause-ok : goal.returns-clause-ok
@@ -12,3 +12,6 @@ returns-clause-refuses c = push_refuses _ _ _ _ _ c.push-pushed.ensures.answer c
 
 pub returns-clause-answers : goal.returns-clause-answers
 returns-clause-answers c = push_answers _ _ _ _ c.push-pushed.ensures.joined
+
+pub returns-clause-cause : goal.returns-clause-cause
+returns-clause-cause c u = push_cause _ _ _ _ u.0 _ c.push-pushed.ensures.answer

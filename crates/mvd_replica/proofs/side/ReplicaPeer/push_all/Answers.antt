@@ -1,0 +1,65 @@
+use Rattle.std.proofs.Common.{◌≡◌, ◌∙◌, ◌++◌, [], map, ap, refl, sym, subst, inl, arith, false, true≢false}
+use Rattle.sqlite.specs.Held.{state}
+use Rattle.mvd_sync.specs.Windows.{EachAnswer, EachTold, Pushes}
+use Rattle.mvd_sync.proofs.OneByOne.{on_err, told_still}
+use Rattle.mvd_replica.specs.declared.replica.Replica.{Replica}
+use Rattle.mvd_replica.specs.Pushes.{told_of}
+use Rattle.mvd_replica.specs.Sides.{ReplicaRefuses, side_follows_self}
+use Rattle.mvd_replica.proofs.Pushed.{answered_each, answered_follow, answered_told}
+use Rattle.mvd_replica.proofs.side.ReplicaPeer.push_all.Goals as goal
+
+-- nothing was pushed
+pub returns-in_err-told-clause-first : goal.returns-in_err-told-clause-first
+returns-in_err-told-clause-first g c whole = on_err _ _ c.from_residual.ensures (0, [], c.args.self.now.site.states, refl, λ _. refl)
+
+pub returns-in_err-requests-clause-first : goal.returns-in_err-requests-clause-first
+returns-in_err-requests-clause-first g c whole = on_err _ _ c.from_residual-in_err-requests.ensures (0, [], c.args.self.now.site.states, refl, λ _. refl)
+
+pub returns-in_err-replies-clause-first : goal.returns-in_err-replies-clause-first
+returns-in_err-replies-clause-first g c whole =
+    let same : c.answer_all.new.self.site.states ≡ c.args.self.now.site.states = ap (λ (r : Replica g.row.S.Denot g.S.Store). r.site.states) c.in_err-replies.ensures.memory.1 in
+    on_err _ _ c.from_residual-in_err-replies.ensures (0, [], c.args.self.now.site.states, refl, λ _. same)
+
+pub returns-then-is_broken-clause-ended : goal.returns-then-is_broken-clause-ended
+returns-then-is_broken-clause-ended g c =
+    let follows = answered_follow c.args.pairs.now c.deref.result.now c.in_ok-replies.replies.items c.args.self.now.site c.answer_all.new.self.site (state g.S.Store c.args.self.now.records.conn) (state g.S.Store c.answer_all.new.self.records.conn)
+    (c.deref.ensures.value ∙ c.in_ok-requests.ensures.pushes) c.in_ok-replies.ensures.answers c.key_count-held_before.ensures.held c.in_ok-requests.ensures.valid in
+    record {
+      count = (0, omega arith, follows);
+      cause = inl (c.answer_all.new.self, (0, follows), inl (refl, sym c.is_broken.ensures ∙ c.if-is_broken.true), (0, side_follows_self _ _));
+    }
+
+pub returns-then-is_broken-clause-first : goal.returns-then-is_broken-clause-first
+returns-then-is_broken-clause-first g c whole =
+    (0, [], c.args.self.now.site.states, refl, λ still. absurd (true≢false (sym c.if-is_broken.true ∙ c.is_broken.ensures ∙ still.0)))
+
+pub returns-clause-told : goal.returns-clause-told
+returns-clause-told g c =
+    let old = c.args.self.now.site in
+    let new = c.answer_all.new.self.site in
+    let whole : new.broken ≡ false = sym c.is_broken.ensures ∙ c.if-is_broken.false in
+    let told = answered_told c.args.pairs.now c.deref.result.now c.in_ok-replies.replies.items old new (state g.S.Store c.args.self.now.records.conn) (state g.S.Store c.answer_all.new.self.records.conn)
+    (c.deref.ensures.value ∙ c.in_ok-requests.ensures.pushes) c.in_ok-replies.ensures.answers c.key_count-held_before.ensures.held c.in_ok-requests.ensures.valid whole in
+    let each = answered_each c.args.pairs.now c.deref.result.now c.in_ok-replies.replies.items old new (state g.S.Store c.args.self.now.records.conn) (state g.S.Store c.answer_all.new.self.records.conn)
+    (c.deref.ensures.value ∙ c.in_ok-requests.ensures.pushes) c.in_ok-replies.ensures.answers c.key_count-held_before.ensures.held c.in_ok-requests.ensures.valid in
+    let follows = answered_follow c.args.pairs.now c.deref.result.now c.in_ok-replies.replies.items old new (state g.S.Store c.args.self.now.records.conn) (state g.S.Store c.answer_all.new.self.records.conn)
+    (c.deref.ensures.value ∙ c.in_ok-requests.ensures.pushes) c.in_ok-replies.ensures.answers c.key_count-held_before.ensures.held c.in_ok-requests.ensures.valid in
+    let items : c.add_told.new.told.items ≡ map told_of c.in_ok-replies.replies.items = c.add_told.ensures.told ∙ ap (λ l. l ++ map told_of c.in_ok-replies.replies.items) c.in_ok-told.ensures.items in
+    record {
+      count = follows;
+      may = subst (EachAnswer (λ _ _. Unit {0}) c.args.pairs.now) (sym items) each;
+      right = λ never. absurd never;
+      told = told_still (Unit {0}) _ (ReplicaRefuses new) _ c.add_told.new.told.items (λ _. (c.answer_all.new.self, (0, follows), whole, (0, side_follows_self _ _))) (λ r refuses. (c.answer_all.new.self, (0, follows), refuses, (0, side_follows_self _ _)))
+          (subst (EachTold (Unit {0}) (ReplicaRefuses new)) (sym items) told.1);
+      not_of_key = λ never. absurd never;
+    }
+
+pub returns-clause-pushes : goal.returns-clause-pushes
+returns-clause-pushes g c was =
+    let old = c.args.self.now.site in
+    let new = c.answer_all.new.self.site in
+    let whole : new.broken ≡ false = sym c.is_broken.ensures ∙ c.if-is_broken.false in
+    let told = answered_told c.args.pairs.now c.deref.result.now c.in_ok-replies.replies.items old new (state g.S.Store c.args.self.now.records.conn) (state g.S.Store c.answer_all.new.self.records.conn)
+    (c.deref.ensures.value ∙ c.in_ok-requests.ensures.pushes) c.in_ok-replies.ensures.answers c.key_count-held_before.ensures.held c.in_ok-requests.ensures.valid whole in
+    let items : c.add_told.new.told.items ≡ map told_of c.in_ok-replies.replies.items = c.add_told.ensures.told ∙ ap (λ l. l ++ map told_of c.in_ok-replies.replies.items) c.in_ok-told.ensures.items in
+    ((whole, c.key_count-held.ensures.held), subst (λ ts. Pushes old.config.max_keys old.states c.args.pairs.now ts new.states) (sym items) told.0)

@@ -1,0 +1,144 @@
+-- What is made of the answers to many questions.
+use Rattle.std.proofs.Common.{◌≡◌, inl, inr, ℕ, zero, suc, ◌<◌, ◌≤◌, List, [], ◌∷◌, ◌++◌, length, take, get_or, sym, subst, arith, ap, false}
+use Rattle.std.specs.Prelude.{Bool, ◌^◌, None, Some, Result, Ok, Err}
+use Rattle.std.specs.declared.vec.Vec.{Vec}
+use Rattle.std.specs.declared.alloc.Global.{Global}
+use Rattle.mvd_wire.specs.declared.reply.Digests.{Digests}
+use Rattle.mvd_sync.specs.Answers.{Entry, IsPage}
+use Rattle.mvd_sync.specs.declared.questions.Node.{Node}
+use Rattle.mvd_dots.specs.declared.refusals.Refusal.{Refusal}
+use Rattle.mvd_dots.specs.declared.refusals.Refusal.TheVariants.{Memory, TooManyRequests}
+use Rattle.std.proofs.lemmas.List.{length-take-le, take_all}
+use Rattle.mvd_sync.specs.Questions.{AllAnswered, ComesToEnd, ForEach, Keeps, Takes, Tells}
+use Rattle.mvd_sync.specs.Session.{Each}
+use Rattle.mvd_sync.specs.Sides.{Blames, Side, of_memory, of_questions, of_side, is_of_key}
+use Rattle.mvd_sync.specs.Windows.{EachAnswer, EachTold, Ends}
+
+-- ---- lists
+
+pub for_each_more : {Q A : Type 0} (P : Q → A → Type 0) (qs : List Q) (ts : List A) (q : Q) (a : A) → ForEach P qs ts → P q a → ForEach P (qs ++ q ∷ []) (ts ++ a ∷ [])
+for_each_more P [] [] q a h i = (i, tt)
+for_each_more P [] (t ∷ ts) q a h i = absurd h
+for_each_more P (p ∷ qs) [] q a h i = absurd h
+for_each_more P (p ∷ qs) (t ∷ ts) q a h i = (h.0, for_each_more P qs ts q a h.1 i)
+
+pub for_each-append : {Q A : Type 0} (P : Q → A → Type 0) (qs : List Q) (ts : List A) (ps : List Q) (us : List A) → ForEach P qs ts → ForEach P ps us → ForEach P (qs ++ ps) (ts ++ us)
+for_each-append P [] [] ps us h i = i
+for_each-append P [] (t ∷ ts) ps us h i = absurd h
+for_each-append P (q ∷ qs) [] ps us h i = absurd h
+for_each-append P (q ∷ qs) (t ∷ ts) ps us h i = (h.0, for_each-append P qs ts ps us h.1 i)
+
+-- what was made of each answer that is no refusal
+abbrev pub Passes : {A B : Type 0} → (A → B → Type 0) → Result A Refusal → B → Type 0
+Passes R (Ok a) b = R a b
+Passes R (Err refusal) b = ⊥
+
+-- what is so of each answer is so of what was made of it
+pub passed : {Q A B : Type 0} (M : Q → A → Type 0) (P : Type 0) (T : Refusal → Type 0) (R : A → B → Type 0) (N : Q → B → Type 0) → ((q : Q) (a : A) (b : B) → M q a → P → R a b → N q b)
+    → (qs : List Q) (ts : List (Result A Refusal)) (bs : List B) → EachAnswer M qs ts → EachTold P T ts → ForEach (Passes R) ts bs → ForEach N qs bs
+passed M P T R N f [] [] [] m p r = tt
+passed M P T R N f [] [] (b ∷ bs) m p r = absurd r
+passed M P T R N f [] (Ok a ∷ ts) bs m p r = absurd m
+passed M P T R N f [] (Err e ∷ ts) bs m p r = absurd m
+passed M P T R N f (q ∷ qs) [] bs m p r = absurd m
+passed M P T R N f (q ∷ qs) (Ok a ∷ ts) [] m p r = absurd r
+passed M P T R N f (q ∷ qs) (Err e ∷ ts) [] m p r = absurd r
+passed M P T R N f (q ∷ qs) (Ok a ∷ ts) (b ∷ bs) m p r = (f q a b m.0 p.0 r.0, passed M P T R N f qs ts bs m.1 p.1 r.1)
+passed M P T R N f (q ∷ qs) (Err e ∷ ts) (b ∷ bs) m p r = absurd r.0
+
+-- what was told at a place
+pub told_at : {A : Type 0} (P : Type 0) (T : Refusal → Type 0) (ts : List (Result A Refusal)) (n : ℕ) (a : Result A Refusal) → EachTold P T ts → n < length ts → a ≡ get_or ts n a → EachTold P T (a ∷ [])
+told_at P T [] n a h low e = absurd (omega arith)
+told_at P T (Ok x ∷ ts) zero a h low e = subst (λ a. EachTold P T (a ∷ [])) (sym e) (h.0, tt)
+told_at P T (Err x ∷ ts) zero a h low e = subst (λ a. EachTold P T (a ∷ [])) (sym e) (h.0, tt)
+told_at P T (Ok x ∷ ts) (suc n) a h low e = told_at P T ts n a h.1 (omega arith) e
+told_at P T (Err x ∷ ts) (suc n) a h low e = told_at P T ts n a h.1 (omega arith) e
+
+-- an answer at a place, to a question of a sort
+pub answer_at : {Q A : Type 0} (M : Q → A → Type 0) (In : Q → Type 0) (N : A → Type 0) → ((q : Q) (a : A) → In q → M q a → N a)
+    → (qs : List Q) (ts : List (Result A Refusal)) (n : ℕ) (a : A) → Each In qs → EachAnswer M qs ts → n < length ts → Ok a ≡ get_or ts n (Ok a) → N a
+answer_at M In N f [] [] n a i h low e = absurd (omega arith)
+answer_at M In N f [] (Ok x ∷ ts) n a i h low e = absurd h
+answer_at M In N f [] (Err x ∷ ts) n a i h low e = absurd h
+answer_at M In N f (q ∷ qs) [] n a i h low e = absurd h
+answer_at M In N f (q ∷ qs) (Ok x ∷ ts) zero a i h low e = f q a i.0 (subst (M q) (cc) h.0)
+answer_at M In N f (q ∷ qs) (Err x ∷ ts) zero a i h low e = absurd (cc)
+answer_at M In N f (q ∷ qs) (Ok x ∷ ts) (suc n) a i h low e = answer_at M In N f qs ts n a i.1 h.1 (omega arith) e
+answer_at M In N f (q ∷ qs) (Err x ∷ ts) (suc n) a i h low e = answer_at M In N f qs ts n a i.1 h (omega arith) e
+
+pub each-take : {X : Type 0} (P : X → Type 0) (xs : List X) (n : ℕ) → Each P xs → Each P (take n xs)
+each-take P [] zero h = tt
+each-take P [] (suc n) h = tt
+each-take P (x ∷ xs) zero h = tt
+each-take P (x ∷ xs) (suc n) h = (h.0, each-take P xs n h.1)
+
+pub each_all : {X : Type 0} (xs : List X) → Each (λ _. Unit {0}) xs
+each_all [] = tt
+each_all (x ∷ xs) = (tt, each_all xs)
+
+-- a node that was made of digests, and a listing of a page
+abbrev pub IsNodeOf : Digests → Node → Type 0
+IsNodeOf digests node = (node.own ≡ digests.own) × (digests.children ≡ Some node.children)
+
+abbrev pub IsListingOf : Vec (List ℕ × List ℕ) Global × Bool → List Entry × Bool → Type 0
+IsListingOf page listing = (listing ≡ (page.0.items, page.1)) × IsPage None listing.0 listing.1 × (length listing.0 < 2 ^ 64)
+
+-- ---- the end of some questions, of which as many were asked as were left
+
+module _ {S Q : Type 0} (s : Side S) (qs : List Q) (left left' taken : ℕ) (old new : S) (takes : Takes left left' (length qs) taken) where
+  asked_is : length (take taken qs) ≡ taken
+  asked_is = let most = takes.most in length-take-le taken qs most
+
+  -- so many were asked, and this is why no more are
+  pub ended_by : (T : Type 0) (refusal : Refusal) → s.follows (length (take taken qs)) old new → Blames s left taken old new refusal → (s.is_faithful old → is_of_key refusal ≡ false) → (s.is_faithful old → T) → ComesToEnd s T (length qs) left old new refusal
+  ended_by T refusal follows why not_of_key then = record {
+    asked = taken;
+    few = takes.most;
+    within = let spent = takes.spent in omega arith;
+    follows = subst (λ n. s.follows n old new) asked_is follows;
+    cause = why;
+    not_of_key = not_of_key;
+    right = then;
+  }
+
+  -- the call itself was refused
+  pub ended_within : (T : Type 0) (refusal : Refusal) → Ends s.follows s.can_refuse (length (take taken qs)) old new refusal → (s.is_faithful old → is_of_key refusal ≡ false) → (s.is_faithful old → T) → ComesToEnd s T (length qs) left old new refusal
+  ended_within T refusal ends not_of_key then =
+      let spent = takes.spent in
+      let most = takes.most in
+      let here = asked_is in
+      let few = ends.count.1 in
+      record {
+        asked = ends.count.0;
+        few = omega arith;
+        within = omega arith;
+        follows = ends.count.2;
+        cause = elim ends.cause [ inl told ↦ of_side told not_of_key | inr memory ↦ of_memory memory ];
+        not_of_key = not_of_key;
+        right = then;
+      }
+
+  -- no more were left
+  pub ended_few : (T : Type 0) (refusal : Refusal) → refusal ≡ TooManyRequests → taken < length qs → s.follows (length (take taken qs)) old new → (s.is_faithful old → T) → ComesToEnd s T (length qs) left old new refusal
+  ended_few T refusal is few follows then =
+      let spent = takes.spent in
+      let none = takes.all few in
+      ended_by T refusal follows (of_questions is (omega arith)) (λ _. ap is_of_key is) then
+
+  -- memory was refused
+  pub ended_memory : (T : Type 0) (refusal : Refusal) → refusal ≡ Memory → s.follows (length (take taken qs)) old new → (s.is_faithful old → T) → ComesToEnd s T (length qs) left old new refusal
+  ended_memory T refusal is follows then = ended_by T refusal follows (of_memory is) (λ _. ap is_of_key is) then
+
+  -- all were answered
+  pub answered_all : {A : Type 0} (May Right : Q → A → Type 0) (answers : List A) → length qs ≤ taken → s.follows (length (take taken qs)) old new → ForEach May (take taken qs) answers → (s.is_faithful old → Keeps s old new × ForEach Right (take taken qs) answers)
+      → AllAnswered s May (Tells s Right qs answers old new) qs answers left left' old new
+  answered_all May Right answers all follows may right =
+      let whole : take taken qs ≡ qs = take_all taken qs all in
+      let spent = takes.spent in
+      let most = takes.most in
+      record {
+        spent = omega arith;
+        follows = subst (λ qs. s.follows (length qs) old new) whole follows;
+        may = subst (λ qs. ForEach May qs answers) whole may;
+        right = λ t. record { kept = (right t).0; right = subst (λ qs. ForEach Right qs answers) whole (right t).1 };
+      }

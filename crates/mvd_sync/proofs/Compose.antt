@@ -1,0 +1,53 @@
+-- Questions after questions, of those that are left.
+use Rattle.std.proofs.Common.{◌≡◌, ℕ, ◌+◌, ◌≤◌, ◌∙◌, arith, ap}
+use Rattle.mvd_dots.specs.declared.refusals.Refusal.{Refusal}
+use Rattle.mvd_dots.specs.declared.refusals.Refusal.TheVariants.{Memory}
+use Rattle.mvd_sync.specs.Questions.{ComesToEnd, Keeps}
+use Rattle.mvd_sync.specs.Sides.{Blames, HasAnswered, HasRefused, Reaches, Side, of_answer, of_memory, of_questions, of_side, is_of_key}
+
+module _ {S : Type 0} (s : Side S) (on : (m n : ℕ) (old mid new : S) → s.follows m old mid → s.follows n mid new → s.follows (m + n) old new) where
+  -- what was told after questions was told after more
+  pub refused_later : (old mid new : S) (refusal : Refusal) → Reaches s.follows old mid → HasRefused s.follows s.can_refuse mid new refusal → HasRefused s.follows s.can_refuse old new refusal
+  refused_later old mid new refusal r h = (h.0, (r.0 + h.1.0, on r.0 h.1.0 old mid h.0 r.1 h.1.1), h.2, h.3)
+
+  pub answered_later : (old mid new : S) → Reaches s.follows old mid → HasAnswered s.follows s.can_answer mid new → HasAnswered s.follows s.can_answer old new
+  answered_later old mid new r h = (h.0, (r.0 + h.1.0, on r.0 h.1.0 old mid h.0 r.1 h.1.1), h.2, h.3)
+
+  -- and is still told after others
+  pub answered_still : (old mid new : S) → Reaches s.follows mid new → HasAnswered s.follows s.can_answer old mid → HasAnswered s.follows s.can_answer old new
+  answered_still old mid new r h = (h.0, h.1, h.2, (h.3.0 + r.0, on h.3.0 r.0 h.0 mid new h.3.1 r.1))
+
+  module _ (left left' n : ℕ) (old mid new : S) (spent : left ≡ left' + n) (before : s.follows n old mid) (still : s.is_faithful old → s.is_faithful mid) where
+    -- a cause after questions is one with them
+    pub blames_later : (asked : ℕ) (refusal : Refusal) → Blames s left' asked mid new refusal → Blames s left (n + asked) old new refusal
+    blames_later asked refusal (of_side h apart) = of_side (refused_later old mid new refusal (n, before) h) (λ t. apart (still t))
+    blames_later asked refusal (of_answer e false_one) = of_answer e (λ t. false_one (still t))
+    blames_later asked refusal (of_questions e all) = of_questions e (omega arith)
+    blames_later asked refusal (of_memory e) = of_memory e
+
+    -- questions that came to an end after others
+    pub ends_later : (T U : Type 0) (questions : ℕ) (refusal : Refusal) → (s.is_faithful old → T → U) → ComesToEnd s T questions left' mid new refusal → ComesToEnd s U (n + questions) left old new refusal
+    ends_later T U questions refusal then e = record {
+      asked = n + e.asked;
+      few = let few = e.few in omega arith;
+      within = let within = e.within in omega arith;
+      follows = on n e.asked old mid new before e.follows;
+      cause = blames_later e.asked refusal e.cause;
+      not_of_key = λ t. e.not_of_key (still t);
+      right = λ t. then t (e.right (still t));
+    }
+
+-- memory was refused after some questions
+pub ends_for_memory : {S : Type 0} (s : Side S) (T : Type 0) (questions left left' n : ℕ) (old new : S) (refusal : Refusal) → left ≡ left' + n → n ≤ questions → s.follows n old new → (s.is_faithful old → T) → refusal ≡ Memory → ComesToEnd s T questions left old new refusal
+ends_for_memory s T questions left left' n old new refusal spent few follows then is = record {
+  asked = n;
+  few = few;
+  within = omega arith;
+  follows = follows;
+  cause = of_memory is;
+  not_of_key = λ _. ap is_of_key is;
+  right = then;
+}
+
+pub keeps_on : {S : Type 0} (s : Side S) (old mid new : S) → Keeps s old mid → Keeps s mid new → Keeps s old new
+keeps_on s old mid new p q = record { still = q.still; states = q.states ∙ p.states }

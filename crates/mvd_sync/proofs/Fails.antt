@@ -1,0 +1,65 @@
+-- A walk that came to an end by a side, after questions to both.
+use Rattle.std.proofs.Common.{◌≡◌, ℕ, ◌+◌, ◌-◌, ◌≤◌, List, ◌++◌, length, take, drop, sym, ap, ◌∙◌, arith, append_assoc, length-append}
+use Rattle.std.proofs.lemmas.List.{length-drop, length-take, take-append-drop, take_all}
+use Rattle.mvd_dots.specs.declared.refusals.Refusal.{Refusal}
+use Rattle.mvd_dots.specs.declared.refusals.Refusal.TheVariants.{Memory}
+use Rattle.mvd_sync.specs.Questions.{ComesToEnd, Keeps}
+use Rattle.mvd_sync.specs.Sides.{Side, of_memory}
+use Rattle.mvd_sync.specs.Walk.{Reads, ReadsEnd}
+use Rattle.mvd_sync.specs.declared.questions.Questions.{Questions}
+use Rattle.mvd_sync.specs.declared.report.SyncFault.TheVariants.{Local, Peer}
+use Rattle.mvd_sync.proofs.Compose.{blames_later, keeps_on}
+
+module _ {L P : Type 0} (l : Side L) (p : Side P) (most n m left_l left_p : ℕ) (left : Questions) (local local1 : L) (peer peer1 : P)
+    (first : Reads l n left.local left_l local local1) (second : Reads p m left.peer left_p peer peer1) (few_l : n ≤ most) (few_p : m ≤ most) (refusal : Refusal) where
+  pub local_fails : (on : (m n : ℕ) (old mid new : L) → l.follows m old mid → l.follows n mid new → l.follows (m + n) old new) (k : ℕ) (local2 : L) → n + k ≤ most → ComesToEnd l (Keeps l local1 local2) k left_l local1 local2 refusal
+      → ReadsEnd l p (λ asked. asked ≤ most) left local local2 peer peer1 (Local refusal)
+  local_fails on k local2 small e = record {
+    asked_local = n + e.asked;
+    asked_peer = m;
+    within = let a = first.spent in let b = second.spent in let c = e.within in (omega (arith, a, c), omega (arith, b));
+    few = let c = e.few in (omega (arith, c, small), few_p);
+    follows = (on n e.asked local local1 local2 first.follows e.follows, second.follows);
+    cause = blames_later l on left.local left_l n local local1 local2 first.spent first.follows (λ t. (first.kept t).still) e.asked refusal e.cause;
+    kept_local = λ t. let k = first.kept t in keeps_on l local local1 local2 k (e.right k.still);
+    kept_peer = second.kept;
+  }
+
+  pub peer_fails : (on : (m n : ℕ) (old mid new : P) → p.follows m old mid → p.follows n mid new → p.follows (m + n) old new) (k : ℕ) (peer2 : P) → m + k ≤ most → ComesToEnd p (Keeps p peer1 peer2) k left_p peer1 peer2 refusal
+      → ReadsEnd l p (λ asked. asked ≤ most) left local local1 peer peer2 (Peer refusal)
+  peer_fails on k peer2 small e = record {
+    asked_local = n;
+    asked_peer = m + e.asked;
+    within = let a = first.spent in let b = second.spent in let c = e.within in (omega (arith, a), omega (arith, b, c));
+    few = let c = e.few in (few_l, omega (arith, c, small));
+    follows = (first.follows, on m e.asked peer peer1 peer2 second.follows e.follows);
+    cause = blames_later p on left.peer left_p m peer peer1 peer2 second.spent second.follows (λ t. (second.kept t).still) e.asked refusal e.cause;
+    kept_local = first.kept;
+    kept_peer = λ t. let k = second.kept t in keeps_on p peer peer1 peer2 k (e.right k.still);
+  }
+
+  pub memory_fails : refusal ≡ Memory → ReadsEnd l p (λ asked. asked ≤ most) left local local1 peer peer1 (Local refusal)
+  memory_fails is = record {
+    asked_local = n;
+    asked_peer = m;
+    within = let a = first.spent in let b = second.spent in (omega (arith, a), omega (arith, b));
+    few = (few_l, few_p);
+    follows = (first.follows, second.follows);
+    cause = of_memory is;
+    kept_local = first.kept;
+    kept_peer = second.kept;
+  }
+
+-- a window is of the list
+pub window_fits : {X : Type 0} (paths done rest : List X) (n : ℕ) → paths ≡ done ++ rest → length done + length (take n rest) ≤ length paths
+window_fits paths done rest n e =
+    let a : length paths ≡ length (done ++ rest) = ap length e in
+    let b = length-append done rest in
+    let c = length-take n rest in
+    omega (arith, a, b, c)
+
+pub window_moves : {X : Type 0} (paths done rest : List X) (n : ℕ) → paths ≡ done ++ rest → paths ≡ (done ++ take n rest) ++ take (length rest - n) (drop n rest)
+window_moves paths done rest n e =
+    let c = length-drop n rest in
+    e ∙ ap (λ xs. done ++ xs) (sym (take-append-drop n rest)) ∙ sym (append_assoc done (take n rest) (drop n rest))
+    ∙ ap (λ xs. (done ++ take n rest) ++ xs) (sym (take_all (length rest - n) (drop n rest) (omega (arith, c))))

@@ -1,0 +1,69 @@
+-- How the questions about the keys of a window end.
+use Rattle.std.proofs.Common.{◌≡◌, ℕ, ◌≤◌, Bool, true, false, cond, List, [], ◌∷◌, filter, length, refl, arith}
+use Rattle.std.proofs.lemmas.List.{length-map}
+use Rattle.mvd_dots.specs.declared.refusals.Refusal.{Refusal}
+use Rattle.mvd_dots.specs.declared.refusals.Refusal.TheVariants.{Memory}
+use Rattle.mvd_keys.specs.State.{State}
+use Rattle.mvd_sync.specs.Carries.{Gives, PlanEnds}
+use Rattle.mvd_sync.specs.Meetings.{held_keys, is_held}
+use Rattle.mvd_sync.specs.Questions.{ComesToEnd, Keeps}
+use Rattle.mvd_sync.specs.Sides.{Side as SideOf, of_memory}
+use Rattle.mvd_sync.specs.declared.listing.Entry.{Entry}
+use Rattle.mvd_sync.specs.declared.questions.Questions.{Questions}
+use Rattle.mvd_sync.specs.declared.report.Side.{Side}
+use Rattle.mvd_sync.specs.declared.report.Side.TheVariants.{Local as AtLocal, Peer as AtPeer}
+use Rattle.mvd_sync.specs.declared.report.SyncFault.TheVariants.{Local, Peer}
+
+filter_short : (Q : Entry → Bool) (es : List Entry) → length (filter Q es) ≤ length es
+filter_short Q [] = omega arith
+filter_short Q (e ∷ es) =
+    let rest = filter_short Q es in
+    elim (Q e) as (λ b. length (cond b (e ∷ filter Q es) (filter Q es)) ≤ length (e ∷ es)) [ true ↦ omega (arith, rest) | false ↦ omega (arith, rest) ]
+
+pub held_short : (name : Side) (es : List Entry) → length (held_keys name es) ≤ length es
+held_short name es =
+    let n = length-map (filter (is_held name) es) (λ (e : Entry). e.key) in
+    let m = filter_short (is_held name) es in
+    omega (arith, n, m)
+
+module _ {L P : Type 0} (l : SideOf L) (p : SideOf P) (entries : List Entry) (left : Questions) (local local' : L) (peer peer' : P) (refusal : Refusal) where
+  pub ends_at_local : ComesToEnd l (Keeps l local local') (length (held_keys AtLocal entries)) left.local local local' refusal → p.follows 0 peer peer → PlanEnds l p (length entries) left local local' peer peer (Local refusal)
+  ends_at_local e self =
+      let short = held_short AtLocal entries in
+      record {
+        asked_local = e.asked;
+        asked_peer = 0;
+        few = (let few = e.few in omega (arith, few, short), omega arith);
+        within = (e.within, omega arith);
+        follows = (e.follows, self);
+        cause = e.cause;
+        local_side = e.right;
+        peer_side = λ t. record { still = t; states = refl };
+      }
+
+  pub ends_at_peer : (mine : List State) (left' : ℕ) → Gives l AtLocal entries mine left.local left' local local' → ComesToEnd p (Keeps p peer peer') (length (held_keys AtPeer entries)) left.peer peer peer' refusal → PlanEnds l p (length entries) left local local' peer peer' (Peer refusal)
+  ends_at_peer mine left' given e =
+      let short = held_short AtLocal entries in
+      let short' = held_short AtPeer entries in
+      record {
+        asked_local = length (held_keys AtLocal entries);
+        asked_peer = e.asked;
+        few = (short, let few = e.few in omega (arith, few, short'));
+        within = (let spent = given.spent in omega (arith, spent), e.within);
+        follows = (given.follows, e.follows);
+        cause = e.cause;
+        local_side = λ t. (given.right t).kept;
+        peer_side = e.right;
+      }
+
+  pub ends_for_memory : (mine theirs : List State) (left' left'' : ℕ) → Gives l AtLocal entries mine left.local left' local local' → Gives p AtPeer entries theirs left.peer left'' peer peer' → refusal ≡ Memory → PlanEnds l p (length entries) left local local' peer peer' (Local refusal)
+  ends_for_memory mine theirs left' left'' given given' is = record {
+    asked_local = length (held_keys AtLocal entries);
+    asked_peer = length (held_keys AtPeer entries);
+    few = (held_short AtLocal entries, held_short AtPeer entries);
+    within = (let spent = given.spent in omega (arith, spent), let spent = given'.spent in omega (arith, spent));
+    follows = (given.follows, given'.follows);
+    cause = of_memory is;
+    local_side = λ t. (given.right t).kept;
+    peer_side = λ t. (given'.right t).kept;
+  }

@@ -1,0 +1,8 @@
+use Rattle.std.proofs.Common.{◌≡◌, map, take}
+use Rattle.mvd_wire.specs.declared.request.Request.TheVariants.{Get}
+use Rattle.mvd_sync.specs.LinkWindows.{frames_of}
+use Rattle.mvd_sync.proofs.remote.Remote.get_all.Given as goal
+
+-- the frames of the first requests
+abbrev pub invariant-loop-key : goal.invariant-loop-key
+invariant-loop-key g l = l.window ≡ frames_of (map (λ key. Get key) (take l.key-index l.keys))

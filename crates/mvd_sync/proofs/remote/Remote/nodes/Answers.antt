@@ -1,0 +1,8 @@
+use Rattle.mvd_wire.specs.declared.request.Request.TheVariants.{Node}
+use Rattle.mvd_wire.specs.Requests.{request_frame}
+use Rattle.mvd_sync.proofs.Turns.{frames_more}
+use Rattle.mvd_sync.proofs.remote.Remote.nodes.Goals as goal
+
+pub loop-path-preserved : goal.loop-path-preserved
+loop-path-preserved g c =
+    frames_more (λ path. Node path) c.args.paths.now c.loop-path.path-index c.path-item.result c.loop-path.window c.add.new.self c.loop-path-test.true c.path-item.is c.loop-path.invariant (c.in_ok-add.ensures.added (request_frame (Node c.path-item.result)) c.encode_node.ensures.exact)

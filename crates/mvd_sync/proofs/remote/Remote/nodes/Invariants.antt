@@ -1,0 +1,8 @@
+use Rattle.std.proofs.Common.{◌≡◌, map, take}
+use Rattle.mvd_wire.specs.declared.request.Request.TheVariants.{Node}
+use Rattle.mvd_sync.specs.LinkWindows.{frames_of}
+use Rattle.mvd_sync.proofs.remote.Remote.nodes.Given as goal
+
+-- the frames of the first requests
+abbrev pub invariant-loop-path : goal.invariant-loop-path
+invariant-loop-path g l = l.window ≡ frames_of (map (λ path. Node path) (take l.path-index l.paths))

@@ -1,0 +1,8 @@
+use Rattle.mvd_wire.specs.declared.request.Request.TheVariants.{Bucket}
+use Rattle.mvd_wire.specs.Requests.{request_frame}
+use Rattle.mvd_sync.proofs.Turns.{frames_more}
+use Rattle.mvd_sync.proofs.remote.Remote.pages.Goals as goal
+
+pub loop-path-preserved : goal.loop-path-preserved
+loop-path-preserved g c =
+    frames_more (λ q. Bucket q.0 q.1) c.args.asked.now c.loop-path.path-index c.loop-path-item.result c.loop-path.window c.add.new.self c.loop-path-test.true c.loop-path-item.is c.loop-path.invariant (c.in_ok-add.ensures.added (request_frame (Bucket c.loop-path-item.result.0 c.loop-path-item.result.1)) c.encode_bucket.ensures.exact)

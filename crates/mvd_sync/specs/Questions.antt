@@ -1,0 +1,117 @@
+-- Questions to a side, of which no more are made than are left.
+use Rattle.std.specs.Prelude.{◌≡◌, ◌≢◌, ◌<◌, ◌≤◌, ◌+◌, ℕ, false, true, List, [], ◌∷◌, length, sum_by, take, Bool, ◌^◌, Option, Result, Ok, Err}
+use Rattle.mvd_dots.specs.declared.refusals.Refusal.{Refusal}
+use Rattle.mvd_dots.specs.declared.refusals.Refusal.TheVariants.{Broken}
+use Rattle.mvd_keys.specs.State.{State}
+use Rattle.mvd_keys.specs.Writes.{Key}
+use Rattle.mvd_tree.specs.HashTree.{KeyDigests, node_digest}
+use Rattle.mvd_tree.specs.Page.{children_digests}
+use Rattle.mvd_wire.specs.Codecs.{spell_state}
+use Rattle.mvd_site.specs.Answer.{digests}
+use Rattle.mvd_sync.specs.Answers.{Entry, IsPage, IsPageOf}
+use Rattle.mvd_sync.specs.Sides.{Blames, Side, is_of_key}
+use Rattle.mvd_sync.specs.Windows.{Pushes, PushesFirst}
+use Rattle.mvd_sync.specs.declared.questions.Node.{Node}
+
+-- ---- what is left
+
+-- as many as were wanted, or all that were left, are taken
+pub record Takes (left left' wanted taken : ℕ) : Type 0 where
+  pub spent : left ≡ left' + taken
+  pub most : taken ≤ wanted
+  pub all : taken < wanted → left' ≡ 0
+
+-- ---- many questions
+
+-- each question with its answer
+abbrev pub ForEach : {Q A : Type 0} → (Q → A → Type 0) → List Q → List A → Type 0
+ForEach P [] [] = Unit {0}
+ForEach P (q ∷ qs) (a ∷ ts) = P q a × ForEach P qs ts
+ForEach P qs ts = ⊥
+
+-- ALL WERE ANSWERED, each by what a side may answer, true or not, and taken from those that were left; and of a side that was true
+-- this is so
+pub record AllAnswered {S Q A : Type 0} (s : Side S) (May : Q → A → Type 0) (True : Type 0) (questions : List Q) (answers : List A) (left left' : ℕ) (old new : S) : Type 0 where
+  pub spent : left ≡ left' + length questions
+  pub follows : s.follows (length questions) old new
+  pub may : ForEach May questions answers
+  pub right : s.is_faithful old → True
+
+-- THEY CAME TO AN END: so many were made, no more than there are, nor than were left, and this is why; and of a side that was true
+-- this is so
+pub record ComesToEnd {S : Type 0} (s : Side S) (True : Type 0) (questions left : ℕ) (old new : S) (refusal : Refusal) : Type 0 where
+  pub asked : ℕ
+  pub few : asked ≤ questions
+  pub within : asked ≤ left
+  pub follows : s.follows asked old new
+  pub cause : Blames s left asked old new refusal
+  pub not_of_key : s.is_faithful old → is_of_key refusal ≡ false
+  pub right : s.is_faithful old → True
+
+-- ---- what is so of a side that was true
+
+-- after questions that change nothing
+pub record Keeps {S : Type 0} (s : Side S) (old new : S) : Type 0 where
+  pub still : s.is_faithful new
+  pub states : s.states new ≡ s.states old
+
+-- and all of them were answered rightly
+pub record Tells {S Q A : Type 0} (s : Side S) (Right : Q → A → Type 0) (questions : List Q) (answers : List A) (old new : S) : Type 0 where
+  pub kept : Keeps s old new
+  pub right : ForEach Right questions answers
+
+-- after pushes, each taken or refused for its cause
+pub record TakesIn {S : Type 0} (s : Side S) (pairs : List (Key × State)) (told : List (Result (Unit {0}) Refusal)) (old new : S) : Type 0 where
+  pub still : s.is_faithful new
+  pub pushes : Pushes (s.most_keys old) (s.states old) pairs told (s.states new)
+
+-- after pushes that came to an end, of which the first were made
+pub record TakesFirst {S : Type 0} (s : Side S) (pairs : List (Key × State)) (old new : S) (refusal : Refusal) : Type 0 where
+  pub still : refusal ≢ Broken → s.is_faithful new
+  pub pushes : PushesFirst (s.is_faithful new) (s.most_keys old) (s.states old) pairs (s.states new)
+
+-- ---- a listing
+
+-- A page of a bucket after a key was asked for
+pub record Fetches {S : Type 0} (s : Side S) (path : List ℕ) (after : Option (List ℕ)) (listing : List Entry × Bool) (left left' : ℕ) (old new : S) : Type 0 where
+  pub spent : left ≡ left' + 1
+  pub follows : s.follows 1 old new
+  pub page : IsPage after listing.0 listing.1
+  pub short : length listing.0 < 2 ^ 64
+  pub kept : s.is_faithful old → Keeps s old new
+  pub right : s.is_faithful old → IsPageOf (digests (s.states old)) path after listing.0 listing.1
+
+-- A listing of the keys of a bucket after a key was filled, by a question more where it had come to its end and there are more
+pub record Fills {S : Type 0} (s : Side S) (path : List ℕ) (after : Option (List ℕ)) (listing listing' : List Entry × Bool) (left left' : ℕ) (old new : S) : Type 0 where
+  pub asked : ℕ
+  pub one : asked ≤ 1
+  pub needed : 1 ≤ asked → (listing.0 ≡ []) × (listing.1 ≡ true)
+  pub same : asked ≡ 0 → listing' ≡ listing
+  pub spent : left ≡ left' + asked
+  pub follows : s.follows asked old new
+  pub short : length listing.0 < 2 ^ 64 → length listing'.0 < 2 ^ 64
+  pub ended : listing'.0 ≡ [] → listing'.1 ≡ false
+  pub kept : s.is_faithful old → Keeps s old new
+  pub page : s.is_faithful old → 1 ≤ asked → IsPageOf (digests (s.states old)) path after listing'.0 listing'.1
+
+-- ---- answers
+
+-- how many bytes the frame of a push has: its length in four, its kind, the key's length, the key and the state
+abbrev pub push_bytes : Key × State → ℕ
+push_bytes p = length p.0 + length (spell_state p.1) + 6
+
+-- how many of these are sent at once: some, and if not one alone, so many that they have 1,048,576 bytes at most
+pub record IsWindow (pairs : List (Key × State)) (count : ℕ) : Type 0 where
+  pub within : count ≤ length pairs
+  pub some : pairs ≢ [] → 1 ≤ count
+  pub small : 1 < count → sum_by push_bytes (take count pairs) ≤ 1048576
+
+-- the digests of a node above the buckets
+pub record IsInner (held : KeyDigests) (path : List ℕ) (node : Node) : Type 0 where
+  pub own : node.own ≡ node_digest held path
+  pub children : node.children ≡ children_digests held path
+
+-- a push was taken, or refused for its key alone
+abbrev pub IsOfKey : Result (Unit {0}) Refusal → Type 0
+IsOfKey (Ok done) = Unit {0}
+IsOfKey (Err refusal) = is_of_key refusal ≡ true

@@ -1,0 +1,329 @@
+//! The exchange of keys, a window after the other.
+ghost use Rattle.std.specs.Prelude.{◌≡◌, ◌<◌, ◌+◌, ◌^◌, ◌++◌, ◌∷◌, [], length, map, filter_map, IfOk, IfErr, OnOk, cond, ◌≤◌, ◌↔◌, IsTrue};
+ghost use Rattle.mvd_sync.specs.Exchanges.{Adds, Exchanges, IsHeldByEither};
+ghost use Rattle.mvd_sync.specs.Meetings.{done_of, held_keys, pair_of};
+ghost use Rattle.mvd_sync.specs.Questions.{ComesToEnd, Keeps, TakesFirst};
+ghost use Rattle.mvd_sync.specs.Session.{Each};
+ghost use Rattle.mvd_sync.specs.Sides.{side as side_of};
+ghost use Rattle.mvd_sync.specs.Carries.{Carried, ExchangesAll, Gives, PlanEnds, Planned};
+
+use crate::listing::Entry;
+use crate::meetings::{Meeting, keys_held, note, plan_all, taken};
+use crate::peer::Peer;
+use crate::questions::{Questions, ask_gets, ask_pushes};
+use crate::report::{Left, Report, Side, SyncFault};
+use mvd_dots::Refusal;
+use mvd_keys::{Key, KeyState};
+use mvd_wire::Items;
+use std::alloc::Global;
+use std::marker::Model;
+
+/// So many keys are exchanged at once.
+const WINDOW: usize = 1_000;
+
+/// So many of the refused keys are named.
+const NAMED: usize = 100;
+
+/// The keys that wait to be exchanged, and what was done so far.
+#[derive(Drop)]
+pub struct Exchange {
+    alloc: Global,
+    /// The number of the local site, where it is known.
+    number: Option<u32>,
+    waiting: Vec<Entry>,
+    keys: u64,
+    refused: u64,
+    /// Of how many keys the local state was older than what the peer saw of it.
+    older: u64,
+    first_refused: Vec<Left>,
+}
+
+impl Model for Exchange {
+    ghost use Rattle.std.specs.Prelude.{◌≤◌, ◌+◌};
+    ghost use Rattle.mvd_sync.specs.Session.{Each};
+    ghost use Rattle.mvd_sync.specs.Exchanges.{Exchanging, IsHeldByEither};
+
+    ghost Value = { Exchanging };
+
+    ghost view = { λ e. record { number = e.number; waiting = e.waiting.items; keys = e.keys; refused = e.refused; older = e.older; first_refused = e.first_refused.items } };
+
+    ghost invariant = { λ e. (e.older ≤ e.keys + e.refused) × Each IsHeldByEither e.waiting.items };
+}
+
+/// Asks a side for the states of the keys of a window that it holds.
+fn gives<S: Peer>(
+    alloc: Global,
+    side: &mut S,
+    left: &mut u64,
+    entries: &[Entry],
+    name: Side,
+) -> Result<Vec<KeyState>, Refusal>
+    ensures told { let s = side_of S.states S.is_faithful S.can_give S.follows S.can_refuse S.can_answer S.most_keys S.number in
+        IfOk result (λ states. Gives s name entries.now states.items left.old left.new side.old side.new) }
+    ensures ended { let s = side_of S.states S.is_faithful S.can_give S.follows S.can_refuse S.can_answer S.most_keys S.number in
+        IfErr result
+        (ComesToEnd s (Keeps s side.old side.new) (length (held_keys name entries.now)) left.old side.old side.new) }
+{
+    let asked = match keys_held(alloc, entries, name) {
+        Ok(keys) => keys,
+        Err(refusal) => return Err(refusal),
+    };
+    ask_gets(side, left, &asked)
+}
+
+/// What is to be done for the keys of a window, after each side was asked for the states that it holds.
+fn plans<L: Peer, P: Peer>(
+    alloc: Global,
+    number: Option<u32>,
+    local: &mut L,
+    peer: &mut P,
+    left: &mut Questions,
+    entries: Vec<Entry>,
+) -> Result<Vec<Meeting>, SyncFault>
+    ensures plans { let l = side_of L.states L.is_faithful L.can_give L.follows L.can_refuse L.can_answer L.most_keys L.number in
+        let p = side_of P.states P.is_faithful P.can_give P.follows P.can_refuse P.can_answer P.most_keys P.number in
+        IfOk result
+        (λ meetings. Planned l p number entries.items left.old left.new local.old local.new peer.old peer.new meetings.items) }
+    ensures ended { let l = side_of L.states L.is_faithful L.can_give L.follows L.can_refuse L.can_answer L.most_keys L.number in
+        let p = side_of P.states P.is_faithful P.can_give P.follows P.can_refuse P.can_answer P.most_keys P.number in
+        IfErr result (PlanEnds l p (length entries.items) left.old local.old local.new peer.old peer.new) }
+{
+    let mine = match gives(alloc, local, &mut left.local, &entries, Side::Local) {
+        Ok(states) => states,
+        Err(refusal) => return Err(SyncFault::Local(refusal)),
+    };
+    let theirs = match gives(alloc, peer, &mut left.peer, &entries, Side::Peer) {
+        Ok(states) => states,
+        Err(refusal) => return Err(SyncFault::Peer(refusal)),
+    };
+    match plan_all(alloc, number, entries, mine, theirs) {
+        Ok(meetings) => Ok(meetings),
+        Err(refusal) => Err(SyncFault::Local(refusal)),
+    }
+}
+
+/// Has a side take what it is to take of the keys of a window.
+fn carry<S: Peer>(
+    alloc: Global,
+    side: &mut S,
+    left: &mut u64,
+    meetings: Vec<Meeting>,
+    name: Side,
+) -> Result<Vec<Meeting>, Refusal>
+    ensures told { let s = side_of S.states S.is_faithful S.can_give S.follows S.can_refuse S.can_answer S.most_keys S.number in
+        IfOk result (λ after. Carried s name meetings.items after.items left.old left.new side.old side.new) }
+    ensures ended { let s = side_of S.states S.is_faithful S.can_give S.follows S.can_refuse S.can_answer S.most_keys S.number in
+        let pairs = filter_map (pair_of name) meetings.items in
+        IfErr result
+        (λ refusal. ComesToEnd s (TakesFirst s pairs side.old side.new refusal) (length pairs) left.old
+        side.old side.new refusal) }
+    ensures alone { IfErr result (λ _. filter_map (pair_of name) meetings.items ≡ [] → side.new ≡ side.old) }
+{
+    let (meetings, pairs) = match taken(alloc, meetings, name) {
+        Ok(both) => both,
+        Err(refusal) => return Err(refusal),
+    };
+    if pairs.is_empty() {
+        return note(alloc, meetings, name, Vec::new(alloc));
+    }
+    let told = ask_pushes(side, left, &pairs)?;
+    note(alloc, meetings, name, told)
+}
+
+/// Exchanges the keys of a window.
+fn exchange_all<L: Peer, P: Peer>(
+    alloc: Global,
+    number: Option<u32>,
+    local: &mut L,
+    peer: &mut P,
+    left: &mut Questions,
+    entries: Vec<Entry>,
+) -> Result<Vec<Meeting>, SyncFault>
+    requires { Each IsHeldByEither entries.items }
+    ensures { let l = side_of L.states L.is_faithful L.can_give L.follows L.can_refuse L.can_answer L.most_keys L.number in
+        let p = side_of P.states P.is_faithful P.can_give P.follows P.can_refuse P.can_answer P.most_keys P.number in
+        ExchangesAll l p number entries.items left.old left.new local.old local.new peer.old peer.new result }
+{
+    let meetings = match plans(alloc, number, local, peer, left, entries) {
+        Ok(meetings) => meetings,
+        Err(fault) => return Err(fault),
+    };
+    let meetings = match carry(alloc, local, &mut left.local, meetings, Side::Local) {
+        Ok(meetings) => meetings,
+        Err(refusal) => return Err(SyncFault::Local(refusal)),
+    };
+    match carry(alloc, peer, &mut left.peer, meetings, Side::Peer) {
+        Ok(meetings) => Ok(meetings),
+        Err(refusal) => Err(SyncFault::Peer(refusal)),
+    }
+}
+
+impl Exchange {
+    /// Nothing waits, and nothing was done.
+    pub fn new(alloc: Global, number: Option<u32>) -> Exchange
+        ensures { result ≡ record { number = number; waiting = []; keys = 0; refused = 0; older = 0; first_refused = [] } }
+    {
+        Exchange {
+            alloc,
+            number,
+            waiting: Vec::new(alloc),
+            keys: 0,
+            refused: 0,
+            older: 0,
+            first_refused: Vec::new(alloc),
+        }
+    }
+
+    /// What was done.
+    pub fn report(self) -> Report
+        ensures keys { result.keys ≡ self.keys }
+        ensures refused { result.refused ≡ self.refused }
+        ensures old { result.old ≡ self.older }
+        ensures first { result.first_refused ≡ self.first_refused }
+    {
+        Report {
+            keys: self.keys,
+            refused: self.refused,
+            old: self.older,
+            first_refused: Items::new(self.first_refused),
+        }
+    }
+
+    /// One more key waits to be exchanged; it is, with the others, when a window is full.
+    pub fn add<L: Peer, P: Peer>(
+        &mut self,
+        local: &mut L,
+        peer: &mut P,
+        left: &mut Questions,
+        entry: Entry,
+    ) -> Result<(), SyncFault>
+        requires held { IsHeldByEither entry }
+        requires room { self.old.keys + self.old.refused + length self.old.waiting + left.old.local + left.old.peer + 1 < 2 ^ 64 }
+        ensures { let l = side_of L.states L.is_faithful L.can_give L.follows L.can_refuse L.can_answer L.most_keys L.number in
+            let p = side_of P.states P.is_faithful P.can_give P.follows P.can_refuse P.can_answer P.most_keys P.number in
+            Exchanges l p (self.old.waiting ++ entry ∷ []) left.old left.new local.old local.new peer.old peer.new
+            self.old self.new result }
+    {
+        match self.wait(entry) {
+            Ok(()) => {}
+            Err(refusal) => return Err(SyncFault::Local(refusal)),
+        }
+        if self.is_full() {
+            return self.exchange(local, peer, left);
+        }
+        Ok(())
+    }
+
+    /// One more key waits.
+    fn wait(&mut self, entry: Entry) -> Result<(), Refusal>
+        requires held { IsHeldByEither entry }
+        ensures waits { OnOk result (self.new ≡ record self.old { waiting = self.old.waiting ++ entry ∷ [] }) }
+        ensures number { self.new.number ≡ self.old.number }
+        ensures memory { IfErr result (λ refusal. refusal ≡ Refusal.Memory) }
+    {
+        self.waiting.push(entry)?;
+        Ok(())
+    }
+
+    /// Whether as many keys wait as are exchanged at once.
+    fn is_full(&self) -> bool
+        ensures { IsTrue result ↔ (1000 ≤ length self.now.waiting) }
+    {
+        self.waiting.len() >= WINDOW
+    }
+
+    /// Exchanges the keys that wait.
+    pub fn exchange<L: Peer, P: Peer>(
+        &mut self,
+        local: &mut L,
+        peer: &mut P,
+        left: &mut Questions,
+    ) -> Result<(), SyncFault>
+        requires room { self.old.keys + self.old.refused + length self.old.waiting + left.old.local + left.old.peer < 2 ^ 64 }
+        ensures exchanges { let l = side_of L.states L.is_faithful L.can_give L.follows L.can_refuse L.can_answer L.most_keys L.number in
+            let p = side_of P.states P.is_faithful P.can_give P.follows P.can_refuse P.can_answer P.most_keys P.number in
+            Exchanges l p self.old.waiting left.old left.new local.old local.new peer.old peer.new self.old self.new
+            result }
+        ensures none { OnOk result (self.new.waiting ≡ []) }
+    {
+        let entries = std::mem::replace(&mut self.waiting, Vec::new(self.alloc));
+        let meetings = match exchange_all(self.alloc, self.number, local, peer, left, entries) {
+            Ok(meetings) => meetings,
+            Err(fault) => return Err(fault),
+        };
+        match self.tell(meetings) {
+            Ok(()) => Ok(()),
+            Err(refusal) => Err(SyncFault::Local(refusal)),
+        }
+    }
+
+    /// Counts the keys of a window, and names the first that were refused.
+    fn tell(&mut self, meetings: Vec<Meeting>) -> Result<(), Refusal>
+        requires room { self.old.keys + self.old.refused + length meetings.items < 2 ^ 64 }
+        ensures adds { OnOk result (Adds (map done_of meetings.items) self.old self.new) }
+        ensures number { self.new.number ≡ self.old.number }
+        ensures memory { IfErr result (λ refusal. refusal ≡ Refusal.Memory) }
+    {
+        for meeting in meetings {
+            self.count(meeting.key, meeting.is_old, meeting.refused)?;
+        }
+        Ok(())
+    }
+
+    /// Counts a key, and names it if it is among the first that were refused.
+    fn count(
+        &mut self,
+        key: Key,
+        is_old: bool,
+        refused: Option<(Side, Refusal)>,
+    ) -> Result<(), Refusal>
+        requires room { self.old.keys + self.old.refused + 1 < 2 ^ 64 }
+        ensures adds { OnOk result (Adds (record { key = key; is_old = is_old; refused = refused } ∷ []) self.old self.new) }
+        ensures number { self.new.number ≡ self.old.number }
+        ensures memory { IfErr result (λ refusal. refusal ≡ Refusal.Memory) }
+    {
+        match refused {
+            None => {
+                self.keys += 1;
+                self.count_old(is_old);
+                Ok(())
+            }
+            Some(refused) => {
+                self.leave(key, refused)?;
+                self.count_old(is_old);
+                Ok(())
+            }
+        }
+    }
+
+    /// Counts a key that was refused, and names it if it is among the first.
+    fn leave(&mut self, key: Key, refused: (Side, Refusal)) -> Result<(), Refusal>
+        requires room { self.old.keys + self.old.refused + 1 < 2 ^ 64 }
+        ensures number { self.new.number ≡ self.old.number }
+        ensures waiting { OnOk result (self.new.waiting ≡ self.old.waiting) }
+        ensures keys { OnOk result (self.new.keys ≡ self.old.keys) }
+        ensures refused { OnOk result (self.new.refused ≡ self.old.refused + 1) }
+        ensures older { OnOk result (self.new.older ≡ self.old.older) }
+        ensures counted { OnOk result (self.new.older < self.new.keys + self.new.refused) }
+        ensures named { OnOk result (length self.old.first_refused < 100 → self.new.first_refused ≡ self.old.first_refused ++ (key, refused) ∷ []) }
+        ensures full { OnOk result (100 ≤ length self.old.first_refused → self.new.first_refused ≡ self.old.first_refused) }
+        ensures memory { IfErr result (λ refusal. refusal ≡ Refusal.Memory) }
+    {
+        self.refused += 1;
+        if self.first_refused.len() < NAMED {
+            self.first_refused.push((key, refused))?;
+        }
+        Ok(())
+    }
+
+    /// Counts a key of which the local state was older than what the peer saw of it.
+    fn count_old(&mut self, is_old: bool)
+        requires room { self.old.older < self.old.keys + self.old.refused }
+        requires fits { self.old.keys + self.old.refused < 2 ^ 64 }
+        ensures { self.new ≡ record self.old { older = self.old.older + cond is_old 1 0 } }
+    {
+        if is_old {
+            self.older += 1;
+        }
+    }
+}

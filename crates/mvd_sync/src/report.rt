@@ -1,0 +1,39 @@
+//! What a session tells.
+use mvd_dots::Refusal;
+use mvd_keys::Key;
+use mvd_wire::Items;
+use thiserror::Error;
+
+/// One of the two sides of a session.
+#[derive(Clone, Copy, Debug, PartialEq, Eq, Drop)]
+pub enum Side {
+    Local,
+    Peer,
+}
+
+/// Why a session ended, and by which side.
+#[derive(Clone, Copy, Debug, PartialEq, Eq, Drop, Error)]
+pub enum SyncFault {
+    /// The local side refused, or memory was refused to the session itself.
+    #[error("fault {0} at this side")]
+    Local(Refusal),
+    /// The peer refused.
+    #[error("fault {0} at the other side")]
+    Peer(Refusal),
+}
+
+/// A key that was refused, by which side, and how.
+pub type Left = (Key, (Side, Refusal));
+
+/// What a session did.
+#[derive(Drop)]
+pub struct Report {
+    /// How many keys differed and were exchanged.
+    pub keys: u64,
+    /// How many keys were refused, and left.
+    pub refused: u64,
+    /// Of how many keys the local side had not seen a dot of its own that the peer had.
+    pub old: u64,
+    /// The first hundred of the keys that were refused.
+    pub first_refused: Items<Left>,
+}

@@ -1,5 +1,8 @@
 //! The commands on a stored site that meet a peer.
-ghost use Rattle.std.specs.Prelude.{◌≢◌, [], IfErr, IsErr};
+ghost use Rattle.std.specs.Prelude.{◌≡◌, ◌≢◌, [], IfErr, IsErr, OnOk, string_bytes};
+ghost use Rattle.std.specs.Io.KnownBytes.{Appends};
+ghost use Rattle.mvd_dots.specs.declared.refusals.Refusal.TheVariants.{WriteFailed};
+ghost use Rattle.mvd_input.specs.declared.fault.Fault.TheVariants.{Stopped};
 ghost use Rattle.mvd_input.specs.Ends.{EndsEarly};
 
 use crate::hint::{Older, Stop};
@@ -164,7 +167,9 @@ pub fn print_root<S: Alter + Drop>(
 
 /// Writes the lines at once, and begins anew.
 pub fn tell<W: Write>(writer: &mut W, lines: &mut String) -> Result<(), Fault>
-    ensures { IfErr result EndsEarly }
+    ensures told { OnOk result (Appends (W.contents writer.old) (W.contents writer.new) (string_bytes lines.old)) }
+    ensures failed { IfErr result (λ fault. fault ≡ Stopped WriteFailed) }
+    ensures ends { IfErr result EndsEarly }
 {
     write_out(writer, lines.as_str())?;
     lines.clear();

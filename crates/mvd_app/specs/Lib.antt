@@ -1,6 +1,7 @@
 pub mod Asked
 pub mod Output
 pub mod ReadLine
+pub mod Reported
 pub mod Script
 pub mod Shell
 pub mod Staged

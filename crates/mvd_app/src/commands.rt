@@ -113,7 +113,7 @@ fn work_on<'a, S: Alter + Drop>(
     replica: &mut Replica<S>,
     work: Work,
 ) -> Result<(), Stop<'a>> {
-    let mut writer = io::writer(rt);
+    let mut writer = Output::new(io::writer(rt));
     match work {
         Work::Serve(address, terms) => {
             serve_run(rt, rt.alloc(), replica, address, terms, &mut writer)

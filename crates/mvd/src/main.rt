@@ -61,8 +61,9 @@ fn refused(rt: &impl Eprint, fault: &OrderFault) -> ExitCode {
             let _ = rt.eprint(error);
         }
         OrderFault::Range => {
-            let _ =
-                eprintln!(rt; "mvd: bad number\nmvd: `mvd help COMMAND` tells the range of each");
+            let _ = eprintln!(rt;
+                "mvd: bad number\nmvd: `mvd help COMMAND` tells the range of each"
+            );
         }
         OrderFault::Stopped(refusal) => return tell_stop(rt, &Stop::from(*refusal)),
     }

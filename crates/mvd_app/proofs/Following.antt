@@ -61,9 +61,15 @@ module _ {C : Type 0} (store : C → State) where
   rounds_on : (rounds : List (List (ℕ × Turn))) (turns : List (ℕ × Turn)) (ready : List ℕ) (host host' : HostValue) (old mid new : SiteValue) (before between after : C) → AreRounds store rounds old mid before between
       → InRound ready turns host host' mid new between after → AreRounds store (rounds ++ turns ∷ []) old new before after
   unfolding AreRounds
-  rounds_on [] turns ready host host' old mid new before between after (same, still) round =
-      (ready, host, host', new, after,
-      subst (λ (c : C). InRound ready turns host host' old new c after) still (subst (λ (v : SiteValue). InRound ready turns host host' v new between after) same round), (refl, refl))
+  rounds_on [] turns ready host host' old mid new before between after (same, still) round = (
+    ready,
+    host,
+    host',
+    new,
+    after,
+    subst (λ (c : C). InRound ready turns host host' old new c after) still (subst (λ (v : SiteValue). InRound ready turns host host' v new between after) same round),
+    (refl, refl),
+  )
   rounds_on (first ∷ rounds) turns ready host host' old mid new before between after (ready', one, two, then, there, round', others) round =
       (ready', one, two, then, there, round', rounds_on rounds turns ready host host' then mid new there between after others round)
 

@@ -176,9 +176,27 @@ fn a_refusal_shows_the_usage_of_its_command(rt: HostRuntime) -> Result<(), Fail>
     let shell =
         "Usage: mvd shell --db <FILE> --site <N> [--defs <FILE>] [--max-keys <N>]\n       mvd shell --port <P>";
     assert!(rt; says(alloc, "mvd shell", shell)?);
-    assert!(rt; says(alloc, "mvd shell", "'--db <FILE>' with '--site <N>', or '--port <P>', is missing")?);
-    assert!(rt; says(alloc, "mvd shell --db f", "the option '--site <N>' is missing")?);
-    assert!(rt; says(alloc, "mvd shell --db f --port 7", "a shell has '--db <FILE>' with its options, or '--port <P>'")?);
+    assert!(rt;
+        says(
+            alloc,
+            "mvd shell",
+            "'--db <FILE>' with '--site <N>', or '--port <P>', is missing"
+        )?
+    );
+    assert!(rt;
+        says(
+            alloc,
+            "mvd shell --db f",
+            "the option '--site <N>' is missing"
+        )?
+    );
+    assert!(rt;
+        says(
+            alloc,
+            "mvd shell --db f --port 7",
+            "a shell has '--db <FILE>' with its options, or '--port <P>'"
+        )?
+    );
     assert!(rt; says(alloc, "mvd shell --port 7 --address here", shell)?);
     Ok(())
 }

@@ -1,0 +1,29 @@
+//! What a request asks.
+use mvd_wire::Request;
+
+/// What is asked of the server.
+#[derive(Drop)]
+pub enum Question {
+    /// The page.
+    Page,
+    /// The root of the hash tree, with the number of keys and the site.
+    Root,
+    /// Counts.
+    Metrics,
+    /// The site is asked.
+    Ask(Request),
+    /// There is nothing of that name.
+    Nowhere,
+    /// There is, and it is asked by another method.
+    NotAllowed,
+}
+
+/// What a method does.
+#[derive(Clone, Copy)]
+pub enum Verb {
+    /// `GET` or `HEAD`
+    Read,
+    Put,
+    Delete,
+    Other,
+}

@@ -113,12 +113,19 @@ def check_refusals(server):
     told("no path", 400, '"refused":14', "GET", "/keys?path=x")
     told("nothing of that name", 404, "", "GET", "/none")
     told("another method", 405, "", "POST", "/keys/k", "{}")
+    methods = [server.ask("POST", path)[2]["allow"] for path in ("/keys/k", "/root")]
+    wanted("which says those that do", methods == ["GET, HEAD, PUT, DELETE", "GET, HEAD"], methods)
     told("another origin", 403, "", "GET", "/root", Origin="http://evil.example")
     told("its own origin", 200, "", "GET", "/root", Origin=f"http://127.0.0.1:{server.http}")
     told("another name", 403, "", "GET", "/root", Host="evil.example")
     told("localhost", 200, "", "GET", "/root", Host="localhost:1")
     wanted("a body over 1 MiB is 413", server.raw(
         b"PUT /keys/k HTTP/1.1\r\nHost: localhost\r\nContent-Length: 1048577\r\n\r\n").startswith(b"HTTP/1.1 413"))
+    for fields in b"", b"Host: localhost\r\nHost: localhost\r\n", b"Host: localhost\r\nHost: evil.example\r\n":
+        got = server.raw(b"GET /root HTTP/1.1\r\n" + fields + b"Connection: close\r\n\r\n")
+        wanted(f"{fields.count(b'Host')} hosts are 400", got.startswith(b"HTTP/1.1 400"), got)
+    got = server.raw(b"GET /root HTTP/1.0\r\n\r\n")
+    wanted("HTTP/1.0 without a host is 403", got.startswith(b"HTTP/1.1 403"), got)
     wanted("no HTTP is 400", server.raw(b"\x00\x01\r\n\r\n").startswith(b"HTTP/1.1 400"))
 
 

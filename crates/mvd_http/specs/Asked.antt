@@ -24,6 +24,7 @@ use Rattle.mvd_keys.specs.declared.places.Place.{Place}
 use Rattle.mvd_wire.specs.declared.request.Request.TheVariants.{Get, Put, Delete, Row, Rows, Node, Bucket, Range}
 use Rattle.mvd_http.specs.declared.question.Question.{Question}
 use Rattle.mvd_http.specs.declared.question.Question.TheVariants.{Page, Root, Metrics, Ask, Nowhere, NotAllowed}
+use Rattle.mvd_http.specs.declared.question.Methods.TheVariants.{OfKey, OfList}
 use Rattle.mvd_http.specs.declared.question.Verb.{Verb}
 use Rattle.mvd_http.specs.declared.question.Verb.TheVariants as verb
 use Rattle.mvd_http.specs.Paths.{before, behind, given, read_part, read_text, without, without_end}
@@ -187,7 +188,7 @@ abbrev pub IsOfKey : Verb → List ℕ → Option (List ℕ) → List ℕ → Re
 IsOfKey verb.Read key context body result = IsAnswer result (then_read (key_in key) (λ k. Ok (Ask (Get k))))
 IsOfKey verb.Put key context body result = IsWrite (Ok set.empty) key context (put_of body) result
 IsOfKey verb.Delete key context body result = IsWrite (Err BadContext) key context delete_of result
-IsOfKey verb.Other key context body result = result ≡ Ok NotAllowed
+IsOfKey verb.Other key context body result = result ≡ Ok (NotAllowed OfKey)
 
 -- ---- requests
 
@@ -201,7 +202,7 @@ verb_of method =
 
 abbrev pub read_only : Verb → List ℕ → List ℕ → Result Question Refusal
 read_only verb.Read path query = list_asked path query
-read_only _ path query = Ok NotAllowed
+read_only _ path query = Ok (NotAllowed OfList)
 
 abbrev pub IsAsked : Option (List ℕ) → Verb → List ℕ → List ℕ → Option (List ℕ) → List ℕ → Result Question Refusal → Type 0
 IsAsked None verb path query context body result = IsAnswer result (read_only verb path query)

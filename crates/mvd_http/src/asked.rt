@@ -11,7 +11,7 @@ ghost use Rattle.mvd_http.specs.Paths.{without as left_behind};
 
 use crate::paths::{before, behind, given, without, without_end};
 use crate::place::place_if_given;
-use crate::question::{Question, Verb};
+use crate::question::{Methods, Question, Verb};
 use crate::reading::{
     document_in, field_in, key_if_given, key_in, path_in, term_if_given, term_in, view_in,
 };
@@ -68,7 +68,7 @@ fn of_key(
         Verb::Read => get_of(alloc, key),
         Verb::Put => put_in(alloc, key, context, body),
         Verb::Delete => delete_in(alloc, key, context),
-        Verb::Other => Ok(Question::NotAllowed),
+        Verb::Other => Ok(Question::NotAllowed(Methods::OfKey)),
     }
 }
 
@@ -151,7 +151,7 @@ fn of_server(alloc: Global, verb: Verb, path: &[u8], query: &[u8]) -> Result<Que
 {
     match verb {
         Verb::Read => list_of(alloc, path, query),
-        _ => Ok(Question::NotAllowed),
+        _ => Ok(Question::NotAllowed(Methods::OfList)),
     }
 }
 

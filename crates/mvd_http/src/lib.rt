@@ -14,8 +14,8 @@ mod replies;
 mod words;
 
 pub use asked::question_of;
-pub use fields::{Content, fill};
+pub use fields::{Answer, Content, fill};
 pub use guard::is_own;
 pub use page::PAGE;
-pub use question::{Question, Verb};
+pub use question::{Methods, Question, Verb};
 pub use replies::{push_root, refused_response, refused_status, response_of};

@@ -14,8 +14,17 @@ pub enum Question {
     Ask(Request),
     /// There is nothing of that name.
     Nowhere,
-    /// There is, and it is asked by another method.
-    NotAllowed,
+    /// There is, and it is asked by these methods alone.
+    NotAllowed(Methods),
+}
+
+/// The methods by which something is asked.
+#[derive(Clone, Copy)]
+pub enum Methods {
+    /// `GET` and `HEAD`
+    OfList,
+    /// and `PUT` and `DELETE`
+    OfKey,
 }
 
 /// What a method does.

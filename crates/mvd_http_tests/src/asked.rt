@@ -7,6 +7,33 @@ use mvd_site::{Config, Site};
 use mvd_wire::{Reply, Request};
 use std::alloc::Global;
 
+/// A request, and what it is told: the status and the body, parted by a space.
+pub struct Row<'a> {
+    pub asks: (&'a str, &'a str),
+    pub context: Option<&'a str>,
+    pub body: &'a [u8],
+    pub told: &'a str,
+}
+
+pub fn get<'a>(target: &'a str, told: &'a str) -> Row<'a> {
+    Row {
+        asks: ("GET", target),
+        context: None,
+        body: b"",
+        told,
+    }
+}
+
+/// A put with no context.
+pub fn put<'a>(target: &'a str, body: &'a [u8], told: &'a str) -> Row<'a> {
+    Row {
+        asks: ("PUT", target),
+        context: None,
+        body,
+        told,
+    }
+}
+
 /// An index on `city`, and a view by it.
 fn by_city(alloc: Global) -> Result<Defs, Refusal> {
     let mut defs = Defs::new(alloc);
@@ -17,7 +44,7 @@ fn by_city(alloc: Global) -> Result<Defs, Refusal> {
     Ok(defs)
 }
 
-pub fn site(alloc: Global) -> Result<Site, Refusal> {
+fn site(alloc: Global) -> Result<Site, Refusal> {
     Site::new(alloc, Config::new(1, 9, by_city(alloc)?))
 }
 
@@ -45,36 +72,44 @@ fn told(
     match asked {
         Ok(Question::Ask(request)) => asked_of(alloc, site, &request, out),
         Ok(Question::Nowhere) => Ok(404),
-        Ok(Question::NotAllowed) => Ok(405),
+        Ok(Question::NotAllowed(_)) => Ok(405),
         Ok(_) => Ok(200),
         Err(refusal) => Ok(refused_response(out, refusal)?),
     }
 }
 
-/// The status and the body, parted by a space.
-pub fn ask(
-    alloc: Global,
-    site: &mut Site,
-    method: &str,
-    target: &str,
-    context: Option<&str>,
-    body: &[u8],
-) -> Result<String, Refusal> {
-    let mut out = String::new(alloc);
-    let context = match context {
+/// What is asked. Nothing is claimed of it, as of the answer.
+fn question(alloc: Global, row: &Row<'_>) -> Result<Question, Refusal> {
+    let context = match row.context {
         Some(text) => Some(text.as_bytes()),
         None => None,
     };
-    let asked = question_of(alloc, method.as_bytes(), target.as_bytes(), context, body);
+    let (method, target) = row.asks;
+    question_of(
+        alloc,
+        method.as_bytes(),
+        target.as_bytes(),
+        context,
+        row.body,
+    )
+}
+
+/// Whether a request is told just that.
+fn is_told(alloc: Global, site: &mut Site, row: &Row<'_>) -> Result<bool, Refusal> {
+    let mut out = String::new(alloc);
+    let asked = question(alloc, row);
     let status = told(alloc, site, asked, &mut out)?;
-    Ok(format!(in alloc; "{status} {out}")?)
+    let text = format!(in alloc; "{status} {out}")?;
+    Ok(text.as_str() == row.told)
 }
 
-pub fn get(alloc: Global, site: &mut Site, target: &str) -> Result<String, Refusal> {
-    ask(alloc, site, "GET", target, None, b"")
-}
-
-/// A put with no context.
-pub fn put(alloc: Global, site: &mut Site, key: &str, body: &[u8]) -> Result<String, Refusal> {
-    ask(alloc, site, "PUT", key, None, body)
+/// How many requests, from the first on, a new site tells what they are to be told.
+pub fn told_well(alloc: Global, rows: &[Row<'_>]) -> Result<usize, Refusal> {
+    let mut site = site(alloc)?;
+    for place in 0..rows.len() {
+        if !is_told(alloc, &mut site, &rows[place])? {
+            return Ok(place);
+        }
+    }
+    Ok(rows.len())
 }

@@ -1,9 +1,10 @@
 -- The calls of a desk that keeps one request.
-use Rattle.std.proofs.Common.{◌≡◌, ◌⊎◌, ◌∙◌, ◌++◌, ap, append-nil, inl, inr, Option, refl, is_some, Bool, ℕ, option_map, List, [], ◌∷◌, Some, None, subst, sym}
+use Rattle.std.proofs.Common.{◌≡◌, ◌⊎◌, ◌∙◌, ◌++◌, ap, append-nil, append_assoc, inl, inr, Option, refl, is_some, Bool, ℕ, option_map, List, [], ◌∷◌, Some, None, subst, sym}
 use Rattle.http_server.specs.Exchange.{Call, Calls, Chain}
+use Rattle.http_server.specs.History.{History}
 use Rattle.mvd_web.specs.Asked.{Keeps}
 use Rattle.mvd_dots.specs.declared.refusals.Refusal.{Refusal}
-use Rattle.mvd_web.specs.Web.{first_cause, Queues, Takes, TakesNone, TakesOne, WebValue, unasked}
+use Rattle.mvd_web.specs.Web.{Drops, first_cause, Queues, Takes, TakesNone, TakesOne, WebValue, unasked}
 use Rattle.mvd_web.specs.declared.asked.Asked.{Asked}
 use Rattle.mvd_web.specs.declared.response.Manner.{Manner}
 use Rattle.mvd_web.specs.declared.desk.Desk.{Desk}
@@ -20,28 +21,44 @@ at_most_one old new (c ∷ []) (next, k, e) = inr (record { call = c; one = refl
 at_most_one old new (c ∷ d ∷ calls) (next, k, (later, l, h)) = absurd (cc (k.kept, l.none))
 
 took : (before after : Desk) (old new : WebValue) (calls : List Call) → new.heard.calls ≡ old.heard.calls ++ calls → old.asked ≡ before.asked → new.asked ≡ after.asked → before.asked ≡ None
-    → ((calls ≡ []) × (after ≡ before)) ⊎ CalledOnce before after calls → Takes old (is_some new.asked) new
-took before after old new calls e p q none (inl (n, s)) =
+    → new.waits ≡ old.waits → new.heard.sent ≡ old.heard.sent → ((calls ≡ []) × (after ≡ before)) ⊎ CalledOnce before after calls → Takes old (is_some new.asked) new
+took before after old new calls e p q none w t (inl (n, s)) =
     let still : new.asked ≡ None = q ∙ ap (λ (d : Desk). d.asked) s ∙ none in
-    subst (λ o. Takes old (is_some o) new) (sym still) (record { calls = e ∙ ap (λ l. old.heard.calls ++ l) n ∙ append-nil old.heard.calls; asked = still ∙ sym (p ∙ none) })
-took before after old new calls e p q none (inr once) =
+    subst (λ o. Takes old (is_some o) new) (sym still) (record { calls = e ∙ ap (λ l. old.heard.calls ++ l) n ∙ append-nil old.heard.calls; asked = still ∙ sym (p ∙ none); told = []; waits = w ∙ sym (append-nil old.waits); sent = t ∙ sym (append-nil old.heard.sent) })
+took before after old new calls e p q none w t (inr once) =
     let kept : new.asked ≡ Some once.keeps.asked = q ∙ once.keeps.kept in
     subst (λ o. Takes old (is_some o) new) (sym kept)
-    (record { call = once.call; calls = e ∙ ap (λ l. old.heard.calls ++ l) once.one; asked = once.keeps.asked; kept = kept; asks = once.keeps.asks })
+    (record { call = once.call; calls = e ∙ ap (λ l. old.heard.calls ++ l) once.one; asked = once.keeps.asked; kept = kept; asks = once.keeps.asks; waits = w })
 
 -- a desk that kept nothing reads one request or none
 pub takes : (before after : Desk) (old new : WebValue) → Calls Keeps before after old.heard.calls new.heard.calls → old.asked ≡ before.asked → new.asked ≡ after.asked
-    → before.asked ≡ None → Takes old (is_some new.asked) new
-takes before after old new (calls, e, chain) p q none = took before after old new calls e p q none (at_most_one before after calls chain)
+    → before.asked ≡ None → new.waits ≡ old.waits → new.heard.sent ≡ old.heard.sent → Takes old (is_some new.asked) new
+takes before after old new (calls, e, chain) p q none w t = took before after old new calls e p q none w t (at_most_one before after calls chain)
 
 pub none_then : (a b c : WebValue) → TakesNone a b → TakesNone b c → TakesNone a c
-none_then a b c one two = record { calls = two.calls ∙ one.calls; asked = two.asked ∙ one.asked }
+none_then a b c one two = record {
+  calls = two.calls ∙ one.calls;
+  asked = two.asked ∙ one.asked;
+  told = one.told ++ two.told;
+  waits = rw (two.waits, one.waits) (simp append_assoc);
+  sent = rw (two.sent, one.sent) (simp append_assoc);
+}
 
-pub none_then_one : (a b c : WebValue) → TakesNone a b → TakesOne b c → TakesOne a c
-none_then_one a b c one two = record { call = two.call; calls = two.calls ∙ ap (λ l. l ++ two.call ∷ []) one.calls; asked = two.asked; kept = two.kept; asks = two.asks }
+pub one_then_drops : (a b c : WebValue) → TakesOne a b → Drops b c → TakesOne a c
+one_then_drops a b c one two = record { call = one.call; calls = two.0 ∙ one.calls; asked = one.asked; kept = two.1 ∙ one.kept; asks = one.asks; waits = two.2 ∙ one.waits }
 
-pub one_then_none : (a b c : WebValue) → TakesOne a b → TakesNone b c → TakesOne a c
-one_then_none a b c one two = record { call = one.call; calls = two.calls ∙ one.calls; asked = one.asked; kept = two.asked ∙ one.kept; asks = one.asks }
+-- nothing happened, but that bytes of the kit's connection were queued
+pub none_told : (a b : WebValue) (told : List ℕ) → b.heard.calls ≡ a.heard.calls → b.asked ≡ a.asked → b.waits ≡ a.waits ++ told → b.heard.sent ≡ a.heard.sent ++ told → TakesNone a b
+none_told a b told c k w s = record { calls = c; asked = k; told = told; waits = w; sent = s }
+
+pub nothing : (a b : WebValue) → b.heard ≡ a.heard → b.asked ≡ a.asked → b.waits ≡ a.waits → TakesNone a b
+nothing a b h k w = record {
+  calls = ap (λ (x : History). x.calls) h;
+  asked = k;
+  told = [];
+  waits = w ∙ sym (append-nil a.waits);
+  sent = ap (λ (x : History). x.sent) h ∙ sym (append-nil a.heard.sent);
+}
 
 -- a connection that was stopped has a cause
 pub never_none : (o : Option Refusal) (refusal : Refusal) → first_cause o refusal ≡ None → ⊥

@@ -5,7 +5,7 @@ use Rattle.http1.specs.Fields.{Header}
 use Rattle.http1.specs.Head.{response_text}
 use Rattle.http1_typed.specs.Parts.{reason_of}
 use Rattle.mvd_http.specs.Fields.{fields_for}
-use Rattle.mvd_http.specs.declared.fields.Content.{Content}
+use Rattle.mvd_http.specs.declared.fields.Answer.{Answer}
 use Rattle.mvd_web.specs.declared.response.Manner.{Manner}
 
 -- whether another response may follow
@@ -20,15 +20,14 @@ framed status digits is_last = persistence is_last ∷ (if status == 204 then []
 abbrev pub framing_of : ℕ → ℕ → Bool → List Header
 framing_of status length is_last = framed status (decimal length) is_last
 
-abbrev pub head_bytes : ℕ → Content → ℕ → Bool → List ℕ
-head_bytes status content length is_last =
-    response_text 1 status (reason_of status) (fields_for content ++ framing_of status length is_last)
+abbrev pub head_bytes : Answer → ℕ → Bool → List ℕ
+head_bytes answer length is_last =
+    response_text 1 answer.status (reason_of answer.status) (fields_for answer ++ framing_of answer.status length is_last)
 
 abbrev pub body_sent : Bool → List ℕ → List ℕ
 body_sent true body = []
 body_sent false body = body
 
--- a response of this status, with this body
-abbrev pub response_bytes : ℕ → Content → List ℕ → Manner → List ℕ
-response_bytes status content body manner =
-    head_bytes status content (length body) manner.is_last ++ body_sent manner.is_head body
+-- a response with this body
+abbrev pub response_bytes : Answer → List ℕ → Manner → List ℕ
+response_bytes answer body manner = head_bytes answer (length body) manner.is_last ++ body_sent manner.is_head body

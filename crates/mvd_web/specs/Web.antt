@@ -43,18 +43,26 @@ ended (Some refusal) ending = Some (Stopped refusal)
 abbrev pub web_ending : WebValue → Option Ending
 web_ending w = ended w.stopped (ending_of w.heard.state)
 
--- one more request was read, and this is what it asks
+-- One more request was read, and this is what it asks. Nothing was queued: its response is not known yet.
 pub record TakesOne (old new : WebValue) : Type 0 where
   pub call : Call
   pub calls : new.heard.calls ≡ old.heard.calls ++ call ∷ []
   pub asked : Asked
   pub kept : new.asked ≡ Some asked
   pub asks : IsAskedBy call.0 asked
+  pub waits : new.waits ≡ old.waits
 
--- no request was read, and the one that waits for its answer still does
+-- No request was read, and the one that waits for its answer still does. What was queued is what the kit's connection handed out.
 pub record TakesNone (old new : WebValue) : Type 0 where
   pub calls : new.heard.calls ≡ old.heard.calls
   pub asked : new.asked ≡ old.asked
+  pub told : List ℕ
+  pub waits : new.waits ≡ old.waits ++ told
+  pub sent : new.heard.sent ≡ old.heard.sent ++ told
+
+-- what the kit's connection handed out is not queued
+abbrev pub Drops : WebValue → WebValue → Type 0
+Drops old new = (new.heard.calls ≡ old.heard.calls) × (new.asked ≡ old.asked) × (new.waits ≡ old.waits)
 
 abbrev pub Takes : WebValue → Bool → WebValue → Type 0
 Takes old true new = TakesOne old new

@@ -1,10 +1,11 @@
 //! A request that was taken.
-ghost use Rattle.std.specs.Prelude.{◌≡◌, option_copied};
+ghost use Rattle.std.specs.Prelude.{◌≡◌, ◌↔◌, IsTrue, codes, length, option_copied};
 ghost use Rattle.http.specs.Request.{head_of};
-ghost use Rattle.mvd_web.specs.Asked.{IsAskedBy, field_in as field_told, host_of as host_told, target_of as target_told};
+ghost use Rattle.http_header.specs.HeaderMap.{get_all};
+ghost use Rattle.mvd_web.specs.Asked.{IsAskedBy, NamesHost, field_in as field_told, host_of as host_told, target_of as target_told};
 
 use bytes::Bytes;
-use http::{HeaderValue, Request};
+use http::{HeaderValue, Request, Version};
 use mvd_dots::Refusal;
 use mvd_http::{Question, is_own, question_of};
 use std::alloc::Global;
@@ -14,6 +15,8 @@ use std::alloc::Global;
 pub struct Asked {
     /// Its question, or why it has none.
     pub question: Result<Question, Refusal>,
+    /// It names one host. HTTP has each other request refused.
+    pub names_host: bool,
     /// It comes of this server's own page, or of no page.
     pub is_own: bool,
     /// Its response is sent without the body.
@@ -28,6 +31,21 @@ fn field_in<'a>(request: &'a Request<Bytes>, name: &str) -> Option<&'a [u8]>
         Some(value) => Some(value.as_bytes()),
         None => None,
     }
+}
+
+/// The number of its fields `Host`.
+fn hosts_in(request: &Request<Bytes>) -> usize
+    ensures { result ≡ length (get_all (head_of request.now).headers (codes "host")) }
+{
+    request.headers().get_all("host").iter().count()
+}
+
+/// Whether it has one field `Host`. In HTTP/1.0 it may have none.
+fn names_host(request: &Request<Bytes>) -> bool
+    ensures { IsTrue result ↔ NamesHost (head_of request.now) }
+{
+    let count = hosts_in(request);
+    count == 1 || (count == 0 && request.version() == Version::HTTP_10)
 }
 
 /// The host that is asked: that of the target, or of the field.
@@ -58,6 +76,7 @@ pub(crate) fn asked_by(alloc: Global, request: &Request<Bytes>) -> Asked
     let context = field_in(request, "mvd-context");
     Asked {
         question: question_of(alloc, method, target_of(request), context, request.body().as_slice()),
+        names_host: names_host(request),
         is_own: is_own(host_of(request), field_in(request, "origin")),
         is_head: method == b"HEAD".as_slice(),
     }

@@ -7,11 +7,12 @@ ghost use Rattle.mvd_web.specs.declared.response.Manner.{Manner};
 use crate::asked::Asked;
 use crate::desk::Desk;
 use crate::ending::ending_of;
-use crate::response::{Answer, Manner, push_response};
+use crate::response::{Manner, push_response};
 use bytes::BytesMut;
 use http_server::{Config, Connection, State};
 use mvd_conn::Ending;
 use mvd_dots::Refusal;
+use mvd_http::Answer;
 use std::alloc::{AllocError, Global};
 use std::hash::RandomState;
 
@@ -36,7 +37,7 @@ pub struct WebConnection {
 
 impl WebConnection {
     ghost use Rattle.mvd_web.specs.Inside.{web_of};
-    ghost use Rattle.mvd_web.specs.Web.{Queues, Takes, TakesNone, new_web, sent, stopped_by, unasked, web_ending};
+    ghost use Rattle.mvd_web.specs.Web.{Drops, Queues, Takes, TakesNone, new_web, sent, stopped_by, unasked, web_ending};
 
     /// A connection on which nothing happened yet. The keys hide in which order a peer's fields are kept.
     pub fn new(alloc: Global, keys: RandomState) -> WebConnection
@@ -107,27 +108,33 @@ impl WebConnection {
         }
     }
 
-    /// Takes the next request, where no other waits for its answer. Whether one was taken.
+    /// Takes the next request, where no other waits for its answer. Whether one was taken. Where none was, what the parser answers
+    /// for itself is queued.
     pub fn next(&mut self) -> bool
         ensures { Takes (web_of self.old) result (web_of self.new) }
     {
-        for _step in 0..u64::MAX {
-            if !self.is_free() {
-                return false;
-            }
-            if self.advance() {
-                self.drop_pending();
-                return true;
-            }
-            if !self.parser.wants_write() {
-                self.rests = true;
-                return false;
-            }
-            if self.move_pending().is_err() {
-                self.stop(Refusal::Memory);
-            }
+        if !self.is_free() {
+            return false;
         }
+        if self.advance() {
+            self.drop_pending();
+            return true;
+        }
+        self.pass_on();
         false
+    }
+
+    /// Queues what the parser answers for itself, if anything.
+    fn pass_on(&mut self)
+        ensures { TakesNone (web_of self.old) (web_of self.new) }
+    {
+        if !self.parser.wants_write() {
+            self.rests = true;
+            return;
+        }
+        if self.move_pending().is_err() {
+            self.stop(Refusal::Memory);
+        }
     }
 
     /// The request that waits for its answer.
@@ -140,7 +147,7 @@ impl WebConnection {
     /// Queues the response to the request that waits for it. Where memory is refused, the connection stops.
     pub fn respond(&mut self, answer: Answer, body: &str)
         ensures { (asked : Asked) → (web_of self.old).asked ≡ Some asked → (manner : Manner) × (manner.is_head ≡ asked.is_head)
-            × Queues (web_of self.old) (response_bytes answer.status answer.content body.now manner) (web_of self.new) }
+            × Queues (web_of self.old) (response_bytes answer body.now manner) (web_of self.new) }
     {
         let Some(is_head) = self.take_asked() else {
             return;
@@ -169,7 +176,7 @@ impl WebConnection {
     #[tactic(auto, using(crate::proofs::Calls::never_none))]
     fn queue(&mut self, answer: Answer, body: &str, manner: Manner)
         requires { (web_of self.old).asked ≡ None }
-        ensures { Queues (web_of self.old) (response_bytes answer.status answer.content body.now manner) (web_of self.new) }
+        ensures { Queues (web_of self.old) (response_bytes answer body.now manner) (web_of self.new) }
     {
         self.rests = false;
         if push_response(self.alloc, &mut self.output, answer, body, manner).is_err() {
@@ -237,7 +244,7 @@ impl WebConnection {
 
     /// What stands in place of a response does not leave.
     fn drop_pending(&mut self)
-        ensures { TakesNone (web_of self.old) (web_of self.new) }
+        ensures { Drops (web_of self.old) (web_of self.new) }
     {
         for _piece in 0..u64::MAX {
             if !self.parser.wants_write() {

@@ -9,4 +9,3 @@ mod response;
 
 pub use asked::Asked;
 pub use connection::WebConnection;
-pub use response::Answer;

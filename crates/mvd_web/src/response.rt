@@ -10,15 +10,8 @@ use http::{HeaderName, HeaderValue, StatusCode};
 use http_server::Response;
 use http1::Header;
 use http1::head::write_response;
-use mvd_http::{Content, fill};
+use mvd_http::{Answer, fill};
 use std::alloc::{AllocError, Global};
-
-/// What a response says of its body.
-#[derive(Clone, Copy)]
-pub struct Answer {
-    pub status: StatusCode,
-    pub content: Content,
-}
 
 /// How a response is sent.
 #[derive(Clone, Copy)]
@@ -100,10 +93,10 @@ pub(crate) fn push_response(
     body: &str,
     manner: Manner,
 ) -> Result<(), AllocError>
-    ensures { OnOk result (out.new.items ≡ out.old.items ++ response_bytes answer.status answer.content body.now manner) }
+    ensures { OnOk result (out.new.items ≡ out.old.items ++ response_bytes answer body.now manner) }
 {
     let mut filled = Response::new(alloc);
-    fill(&mut filled, answer.status, answer.content, "")?;
+    fill(&mut filled, answer, "")?;
     push_head(alloc, out, &filled, body.len(), manner.is_last)?;
     push_body(out, body, manner.is_head)
 }

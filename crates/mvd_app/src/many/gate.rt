@@ -4,9 +4,11 @@ use super::talks::{feed, sent};
 use http::StatusCode;
 use mvd_dots::Refusal;
 use mvd_host::Host;
-use mvd_http::{Content, PAGE, Question, push_root, refused_response, response_of};
+use mvd_http::{
+    Answer, Content, Methods, PAGE, Question, push_root, refused_response, response_of,
+};
 use mvd_replica::Replica;
-use mvd_web::{Answer, Asked, WebConnection};
+use mvd_web::{Asked, WebConnection};
 use mvd_wire::{Reply, decode_reply, encode_request, read_frame};
 use sqlite::Alter;
 use std::alloc::Global;
@@ -14,6 +16,7 @@ use std::alloc::Global;
 /// As many bytes of a frame are handed on at once.
 const PIECE: usize = 65_536;
 
+const UNNAMED: &str = "A request names one host, in one field Host.\n";
 const FOREIGN: &str = "Requests of other origins are refused. Ask by an IP address or by localhost.\n";
 const NOWHERE: &str = "There is nothing of that name.\n";
 const NOT_ALLOWED: &str = "That can be asked, but not by this method.\n";
@@ -27,25 +30,47 @@ enum Plan {
     Root,
     Metrics,
     /// It is answered at once, by this.
-    Told(u16, Content, &'static str),
+    Told(Answer, &'static str),
     Refused(Refusal),
 }
 
 fn plan_of(alloc: Global, asked: &Asked) -> Plan {
+    if !asked.names_host {
+        return Plan::Told(plain(StatusCode::BAD_REQUEST), UNNAMED);
+    }
     if !asked.is_own {
-        return Plan::Told(403, Content::Plain, FOREIGN);
+        return Plan::Told(plain(StatusCode::FORBIDDEN), FOREIGN);
     }
     match &asked.question {
         Ok(Question::Ask(request)) => match encode_request(alloc, request) {
             Ok(frame) => Plan::Frame(frame),
             Err(refusal) => Plan::Refused(refusal),
         },
-        Ok(Question::Page) => Plan::Told(200, Content::Html, PAGE),
+        Ok(Question::Page) => Plan::Told(answer_of(StatusCode::OK, Content::Html), PAGE),
         Ok(Question::Root) => Plan::Root,
         Ok(Question::Metrics) => Plan::Metrics,
-        Ok(Question::Nowhere) => Plan::Told(404, Content::Plain, NOWHERE),
-        Ok(Question::NotAllowed) => Plan::Told(405, Content::Plain, NOT_ALLOWED),
+        Ok(Question::Nowhere) => Plan::Told(plain(StatusCode::NOT_FOUND), NOWHERE),
+        Ok(Question::NotAllowed(methods)) => Plan::Told(not_allowed(*methods), NOT_ALLOWED),
         Err(refusal) => Plan::Refused(*refusal),
+    }
+}
+
+fn answer_of(status: StatusCode, content: Content) -> Answer {
+    Answer {
+        status,
+        content,
+        allow: None,
+    }
+}
+
+fn plain(status: StatusCode) -> Answer {
+    answer_of(status, Content::Plain)
+}
+
+fn not_allowed(methods: Methods) -> Answer {
+    Answer {
+        allow: Some(methods),
+        ..plain(StatusCode::METHOD_NOT_ALLOWED)
     }
 }
 
@@ -70,7 +95,7 @@ pub(crate) fn ask<S: Alter + Drop>(
         Plan::Frame(frame) => hand_on(host, number, &frame),
         Plan::Root => tell_root(alloc, web, replica, counts),
         Plan::Metrics => tell_metrics(alloc, web, host, replica, counts),
-        Plan::Told(status, content, body) => respond(web, counts, status, content, body),
+        Plan::Told(answer, body) => respond(web, counts, answer, body),
         Plan::Refused(refusal) => refuse(alloc, web, counts, refusal),
     }
 }
@@ -86,16 +111,9 @@ fn hand_on(host: &mut Host, number: u64, frame: &[u8]) {
     feed(host, number, rest);
 }
 
-fn respond(
-    web: &mut WebConnection,
-    counts: &mut Counts,
-    status: u16,
-    content: Content,
-    body: &str,
-) {
-    counts.note(status);
-    let status = StatusCode::from_u16(status).unwrap_or(StatusCode::INTERNAL_SERVER_ERROR);
-    web.respond(Answer { status, content }, body);
+fn respond(web: &mut WebConnection, counts: &mut Counts, answer: Answer, body: &str) {
+    counts.note(answer.status.as_u16());
+    web.respond(answer, body);
 }
 
 fn refuse(alloc: Global, web: &mut WebConnection, counts: &mut Counts, refusal: Refusal) {
@@ -112,7 +130,8 @@ fn respond_json(web: &mut WebConnection, counts: &mut Counts, status: u16, body:
     } else {
         Content::Json
     };
-    respond(web, counts, status, content, body);
+    let status = StatusCode::from_u16(status).unwrap_or(StatusCode::INTERNAL_SERVER_ERROR);
+    respond(web, counts, answer_of(status, content), body);
 }
 
 fn tell_root<S: Alter + Drop>(
@@ -151,7 +170,7 @@ fn tell_metrics<S: Alter + Drop>(
         open: host.len(),
     };
     match counts.print(now, &mut body) {
-        Ok(()) => respond(web, counts, 200, Content::Plain, body.as_str()),
+        Ok(()) => respond(web, counts, plain(StatusCode::OK), body.as_str()),
         Err(refusal) => refuse(alloc, web, counts, refusal),
     }
 }

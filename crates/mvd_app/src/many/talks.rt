@@ -79,7 +79,7 @@ impl Talks {
                 ask(self.alloc, &mut self.host, web, *number, replica, counts);
             }
         }
-        if self.host.round(replica, ready) {
+        if self.host.round(replica, ready, &mut counts.tally) {
             counts.rounds = counts.rounds.saturating_add(1);
         }
         for number in ready {

@@ -9,4 +9,4 @@ returns c =
     let old = web_of c.args.self.now in
     let new = web_of (record (c.args.self.now) { parser = c.advance.new.self; desk = c.advance.new.service }) in
     subst (λ b. Takes old b new) (sym c.is_some.ensures)
-    (takes c.args.self.now.desk c.advance.new.service old new c.advance.ensures.calls refl refl c.requires)
+    (takes c.args.self.now.desk c.advance.new.service old new c.advance.ensures.calls refl refl c.requires refl c.advance.ensures.quiet.2)

@@ -7,5 +7,5 @@ use Rattle.mvd_web.proofs.connection.WebConnection.respond.Goals as goal
 pub returns : goal.returns
 returns c =
     responds (web_of c.args.self.now) (web_of c.take_asked.new.self) (web_of c.queue.new.self) c.in-Some.is_head
-    (record { is_last = c.is_last-is_last.result; is_head = c.in-Some.is_head }) (λ m. response_bytes c.args.answer.status c.args.answer.content c.args.body.now m)
+    (record { is_last = c.is_last-is_last.result; is_head = c.in-Some.is_head }) (λ m. response_bytes c.args.answer c.args.body.now m)
     c.in-Some.ensures.head c.take_asked.ensures.gone refl c.queue.ensures

@@ -68,6 +68,11 @@ pub fn serve_run<'a, N: Net + Clock + RandomSource, S: Alter + Drop, W: Write>(
         Ok(server) => server,
         Err(error) => return Err(Stop::unheard(address, error)),
     };
+    if let Some(address) = web_address(address, terms) {
+        if let Err(error) = server.open_web(rt, address) {
+            return Err(Stop::unheard(address, error));
+        }
+    }
     Ok(server.serve_at::<N, S, W>(rt, alloc, replica, address, terms, writer)?)
 }
 
@@ -80,21 +85,24 @@ impl Server {
     ) -> io::Result<Server> {
         let poll = Poll::new(rt)?;
         let frames = Door::new(rt, poll.registry(), address, Kind::Frames)?;
-        let http = match web_address(address, terms) {
-            Some(address) => Some(Door::new(rt, poll.registry(), address, Kind::Http)?),
-            None => None,
-        };
         let keys = RandomState::new(rt)?;
         Ok(Server {
             poll,
             events: Events::with_capacity(alloc, CLIENTS_MAX + 2)?,
             frames,
-            http,
+            http: None,
             crowd: Crowd::new(alloc, keys, terms.conns, terms.idle)?,
             ready: Vec::with_capacity(alloc, 2 * CLIENTS_MAX)?,
             next: Vec::with_capacity(alloc, 2 * CLIENTS_MAX)?,
             start: Instant::now(rt)?,
         })
+    }
+
+    /// Listens at an address for HTTP, too.
+    fn open_web<N: Net>(&mut self, rt: &N, address: SocketAddr) -> io::Result<()> {
+        let door = Door::new(rt, self.poll.registry(), address, Kind::Http)?;
+        self.http = Some(door);
+        Ok(())
     }
 
     /// Serves, and tells the address before and the root digest after that.

@@ -5,7 +5,7 @@ ghost use Rattle.mvd_wire.specs.declared.reply.Reply.{Reply};
 ghost use Rattle.mvd_replica.specs.Batch.{AnswersAll, AnswersFront};
 ghost use Rattle.sqlite.specs.Held.{state};
 
-use crate::groups::{install_all, prepare_all, refuse_all, store_all};
+use crate::groups::{has_change, install_all, prepare_all, refuse_all, store_all};
 use crate::replica::Replica;
 use mvd_dots::Refusal;
 use mvd_wire::{Reply, Request};
@@ -47,7 +47,12 @@ impl<S: Alter> Replica<S> {
             return self.answer_each(&requests[..1], replies);
         }
         match store_all(self.alloc, &mut self.records, &group) {
-            Ok(()) => install_all(&mut self.site, group, replies),
+            Ok(()) => {
+                if has_change(&group) {
+                    self.commits = self.commits.saturating_add(1);
+                }
+                install_all(&mut self.site, group, replies)
+            }
             Err(Refusal::Memory) => self.answer_each(&requests[..count], replies),
             Err(_) => refuse_all(group, replies),
         }

@@ -188,6 +188,16 @@ pub fn store_all<S: Alter>(
     records.save_all(&pairs)
 }
 
+/// Whether there is a change among these.
+pub fn has_change(group: &[Prepared]) -> bool {
+    for prepared in group {
+        if let Prepared::Change(_) = prepared {
+            return true;
+        }
+    }
+    false
+}
+
 /// Puts in what was prepared, if the site is not broken.
 fn put_one(site: &mut Site, prepared: Prepared) -> Reply
     requires { site.old.broken ≡ false → MayBeIn site.old prepared }

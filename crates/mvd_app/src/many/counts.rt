@@ -28,6 +28,7 @@ pub(crate) struct Counts {
 #[derive(Clone, Copy)]
 pub(crate) struct Now {
     pub keys: u32,
+    pub commits: u64,
     pub open: usize,
 }
 
@@ -61,6 +62,7 @@ impl Counts {
         writeln!(out, "mvd_connections_total{{kind=\"http\"}} {}", self.https)?;
         writeln!(out, "# TYPE mvd_rounds_total counter\nmvd_rounds_total {}", self.rounds)?;
         self.print_requests(out)?;
+        writeln!(out, "# TYPE mvd_commits_total counter\nmvd_commits_total {}", now.commits)?;
         writeln!(out, "# TYPE mvd_http_responses_total counter")?;
         for (status, count) in &self.statuses {
             writeln!(out, "mvd_http_responses_total{{status=\"{status}\"}} {count}")?;

@@ -154,7 +154,7 @@ ended
 
 serve --db a.db --site 1
 at="127.0.0.1:$port"
-refused "a port in use" 1 "fault 34 ReadFailed" "$at is in use: end the program that listens there, or name another --port" \
+refused "a port in use" 1 "fault 34 ReadFailed" "$at is in use: end the program that listens there, or name another port" \
   b.db serve --db b.db --site 2 --port "$port" --conns 1
 refused "a locked database" 1 "fault 21 Store" "a.db is in use: end the program that has it open, or ask that one through its port" \
   a.db sync --db a.db --site 1 --port "$port"

@@ -39,11 +39,12 @@ pub fn run<'a, S: Start>(rt: &HostRuntime, order: Order<'a>, start: S) -> Result
             address,
             conns,
             idle,
+            http,
         } => run_stored(
             rt,
             db,
             setup,
-            Work::Serve(address, Terms { conns, idle }),
+            Work::Serve(address, Terms { http, conns, idle }),
             start,
         ),
         Order::Shell { db, setup } => run_stored(rt, db, setup, Work::Shell, start),

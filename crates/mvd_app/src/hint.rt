@@ -41,7 +41,7 @@ pub enum Hint<'a> {
     Foreign(&'a str),
     #[error("the file has no room for so many keys: raise --max-keys, up to 1000000")]
     Full,
-    #[error("{0} is in use: end the program that listens there, or name another --port")]
+    #[error("{0} is in use: end the program that listens there, or name another port")]
     PortInUse(SocketAddr),
     #[error("{0}: {1}; --address names an address of this machine")]
     NoListener(SocketAddr, io::Error),

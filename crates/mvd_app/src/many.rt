@@ -1,13 +1,16 @@
 //! A server of many clients at once, from one thread.
 mod client;
+mod counts;
 mod crowd;
 mod door;
+mod gate;
+mod talks;
 mod timers;
 
 use crate::hint::Stop;
 use crate::serving::{print_root, tell};
 use crowd::Crowd;
-use door::{Door, LISTENER};
+use door::{Door, FRAMES, HTTP};
 use mio::{Events, Poll};
 use mvd_dots::Refusal;
 use mvd_input::Fault;
@@ -15,27 +18,33 @@ use mvd_replica::Replica;
 use sqlite::Alter;
 use std::alloc::Global;
 use std::fmt::Write as Print;
+use std::hash::RandomState;
 use std::io::{self, Write};
 use std::mem;
 use std::net::{Net, SocketAddr};
+use std::random::RandomSource;
 use std::time::{Clock, Duration, Instant};
+use talks::Kind;
 
 /// As many clients are served at once. Further ones wait in the listener's queue.
 const CLIENTS_MAX: usize = 256;
 
-/// What a server is asked for: how many connections it serves in all, and for how many seconds no byte need move on one.
+/// What a server is asked for: the port for HTTP, if it serves that too, how many connections it serves in all, and for how many
+/// seconds no byte need move on one.
 #[derive(Clone, Copy)]
 pub struct Terms {
+    pub http: Option<u16>,
     pub conns: Option<u32>,
     pub idle: u32,
 }
 
-/// The clients, the listener, and those clients for which there may be something to do.
+/// The clients, the listeners, and those clients for which there may be something to do.
 #[derive(Drop)]
 struct Server {
     poll: Poll,
     events: Events,
-    door: Door,
+    frames: Door,
+    http: Option<Door>,
     crowd: Crowd,
     ready: Vec<u64>,
     next: Vec<u64>,
@@ -47,7 +56,7 @@ struct Server {
 ///
 /// What came together of all clients is answered together, and then the replies leave. No client is waited for. It is `Stopped` with
 /// `ReadFailed` where it cannot listen or wait, and with `WriteFailed` where a line cannot be written.
-pub fn serve_run<'a, N: Net + Clock, S: Alter + Drop, W: Write>(
+pub fn serve_run<'a, N: Net + Clock + RandomSource, S: Alter + Drop, W: Write>(
     rt: &N,
     alloc: Global,
     replica: &mut Replica<S>,
@@ -59,27 +68,41 @@ pub fn serve_run<'a, N: Net + Clock, S: Alter + Drop, W: Write>(
         Ok(server) => server,
         Err(error) => return Err(Stop::unheard(address, error)),
     };
-    Ok(server.serve_at::<N, S, W>(rt, alloc, replica, address, writer)?)
+    if let Some(address) = web_address(address, terms) {
+        if let Err(error) = server.open_web(rt, address) {
+            return Err(Stop::unheard(address, error));
+        }
+    }
+    Ok(server.serve_at::<N, S, W>(rt, alloc, replica, address, terms, writer)?)
 }
 
 impl Server {
-    fn new<N: Net + Clock>(
+    fn new<N: Net + Clock + RandomSource>(
         rt: &N,
         alloc: Global,
         address: SocketAddr,
         terms: Terms,
     ) -> io::Result<Server> {
         let poll = Poll::new(rt)?;
-        let door = Door::new(rt, poll.registry(), address, terms.conns)?;
+        let frames = Door::new(rt, poll.registry(), address, Kind::Frames)?;
+        let keys = RandomState::new(rt)?;
         Ok(Server {
             poll,
-            events: Events::with_capacity(alloc, CLIENTS_MAX + 1)?,
-            door,
-            crowd: Crowd::new(alloc, terms.idle)?,
+            events: Events::with_capacity(alloc, CLIENTS_MAX + 2)?,
+            frames,
+            http: None,
+            crowd: Crowd::new(alloc, keys, terms.conns, terms.idle)?,
             ready: Vec::with_capacity(alloc, 2 * CLIENTS_MAX)?,
             next: Vec::with_capacity(alloc, 2 * CLIENTS_MAX)?,
             start: Instant::now(rt)?,
         })
+    }
+
+    /// Listens at an address for HTTP, too.
+    fn open_web<N: Net>(&mut self, rt: &N, address: SocketAddr) -> io::Result<()> {
+        let door = Door::new(rt, self.poll.registry(), address, Kind::Http)?;
+        self.http = Some(door);
+        Ok(())
     }
 
     /// Serves, and tells the address before and the root digest after that.
@@ -89,10 +112,14 @@ impl Server {
         alloc: Global,
         replica: &mut Replica<S>,
         address: SocketAddr,
+        terms: Terms,
         writer: &mut W,
     ) -> Result<(), Fault> {
         let mut line = String::new(alloc);
         writeln!(line, "listening {address}")?;
+        if let Some(address) = web_address(address, terms) {
+            writeln!(line, "listening http://{address}/")?;
+        }
         tell(writer, &mut line)?;
         self.serve(rt, replica, writer)?;
         print_root(alloc, replica, &mut line)?;
@@ -100,19 +127,19 @@ impl Server {
     }
 
     /// Serves until all connections have ended.
-    fn serve<N: Net + Clock, S: Alter, W: Write>(
+    fn serve<N: Net + Clock, S: Alter + Drop, W: Write>(
         &mut self,
         rt: &N,
         replica: &mut Replica<S>,
         writer: &mut W,
     ) -> Result<(), Fault> {
         for _round in 0..u64::MAX {
-            if self.door.is_shut() && self.crowd.is_empty() {
+            if self.crowd.is_shut() && self.crowd.is_empty() {
                 return Ok(());
             }
             self.wait(rt)?;
             self.take_in()?;
-            self.crowd.host.round(replica, &self.ready);
+            self.crowd.round(replica, &self.ready);
             self.give_out(writer)?;
         }
         Ok(())
@@ -129,10 +156,13 @@ impl Server {
             self.crowd.now = millis_of(passed);
         }
         for event in &self.events {
-            if event.token() == LISTENER {
-                self.door.knocks = true;
-            } else {
+            let token = event.token();
+            if token == FRAMES {
+                self.frames.knocks = true;
+            } else if token != HTTP {
                 self.crowd.note(event, &mut self.ready);
+            } else if let Some(door) = &mut self.http {
+                door.knocks = true;
             }
         }
         Ok(())
@@ -143,18 +173,27 @@ impl Server {
         if !self.ready.is_empty() {
             return Some(Duration::ZERO);
         }
-        let first = match (self.crowd.next_due(), self.door.next_due(&self.crowd)) {
-            (Some(first), Some(second)) => first.min(second),
-            (Some(due), None) | (None, Some(due)) => due,
-            (None, None) => return None,
-        };
+        let first = earlier(self.crowd.next_due(), self.next_in())?;
         Some(Duration::from_millis(first.saturating_sub(self.crowd.now)))
+    }
+
+    /// When somebody may be let in.
+    fn next_in(&self) -> Option<u64> {
+        let frames = self.frames.next_due(&self.crowd);
+        match &self.http {
+            Some(door) => earlier(frames, door.next_due(&self.crowd)),
+            None => frames,
+        }
     }
 
     /// Lets clients in, ends those that are idle, and reads once of each that is listed.
     fn take_in(&mut self) -> Result<(), Fault> {
         let registry = self.poll.registry();
-        self.door.admit(registry, &mut self.crowd, &mut self.ready)?;
+        self.frames
+            .admit(registry, &mut self.crowd, &mut self.ready)?;
+        if let Some(door) = &mut self.http {
+            door.admit(registry, &mut self.crowd, &mut self.ready)?;
+        }
         self.crowd.end_idle(&mut self.ready);
         for client in &self.ready {
             self.crowd.read(*client);
@@ -174,6 +213,23 @@ impl Server {
             return Ok(());
         }
         tell(writer, &mut self.crowd.told)
+    }
+}
+
+/// The address at which HTTP is served, if it is.
+fn web_address(address: SocketAddr, terms: Terms) -> Option<SocketAddr> {
+    match terms.http {
+        Some(port) => Some(SocketAddr::new(address.ip(), port)),
+        None => None,
+    }
+}
+
+/// The earlier of two times.
+fn earlier(first: Option<u64>, second: Option<u64>) -> Option<u64> {
+    match (first, second) {
+        (Some(first), Some(second)) => Some(first.min(second)),
+        (Some(due), None) | (None, Some(due)) => Some(due),
+        (None, None) => None,
     }
 }
 

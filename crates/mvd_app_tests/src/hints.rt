@@ -82,7 +82,7 @@ fn a_port_in_use_is_told(rt: HostRuntime) -> Result<(), Fail> {
     let address = SocketAddr::new(IpAddr::V4(Ipv4Addr::LOCALHOST), 7007);
     let stop = Stop::unheard(address, io::Error::from(ErrorKind::AddrInUse));
     let wanted =
-        "mvd: fault 34 ReadFailed\nmvd: 127.0.0.1:7007 is in use: end the program that listens there, or name another --port";
+        "mvd: fault 34 ReadFailed\nmvd: 127.0.0.1:7007 is in use: end the program that listens there, or name another port";
     assert!(rt; tells(rt.alloc(), &stop, wanted)?);
     Ok(())
 }

@@ -64,11 +64,12 @@ fn an_order_has_its_options(rt: HostRuntime) -> Result<(), Fail> {
         address: address(Ipv4Addr::LOCALHOST, 1),
         conns: Some(1),
         idle: 1,
+        http: Some(65_535),
     };
     assert!(rt;
         asks(
             alloc,
-            "mvd serve --db f --site 1 --port 1 --conns 1 --idle 1",
+            "mvd serve --db f --site 1 --port 1 --http 65535 --conns 1 --idle 1",
             least
         )?
     );
@@ -97,6 +98,7 @@ fn a_number_out_of_range_is_told(rt: HostRuntime) -> Result<(), Fail> {
         "mvd serve --db f --site 1 --port 0",
         "mvd serve --db f --site 1 --port 65536",
         "mvd serve --db f --site 1 --port 1 --conns 0",
+        "mvd serve --db f --site 1 --port 1 --http 65536",
         "mvd serve --db f --site 1 --port 1 --conns 1001",
         "mvd serve --db f --site 1 --port 1 --idle 0",
         "mvd sync --db f --site 1 --port 1 --idle 86401",
@@ -117,6 +119,7 @@ fn other_words_are_refused(rt: HostRuntime) -> Result<(), Fail> {
         "mvd serve --db f --site x --port 1",
         "mvd serve --db f --site 1 --port 1 --address here",
         "mvd sync --db f --site 1 --port 1 --conns 1",
+        "mvd sync --db f --site 1 --port 1 --http 2",
         "mvd loop --site 1 --idle 1",
         "mvd loop --help",
         "mvd",

@@ -7,5 +7,7 @@ pub mod laws;
 mod queueing;
 mod round;
 mod taking;
+mod tally;
 
 pub use host::{CLIENTS_MAX, Host};
+pub use tally::{KINDS, Tally};

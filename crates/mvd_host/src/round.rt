@@ -6,6 +6,7 @@ ghost use Rattle.sqlite.specs.Held.{state};
 use crate::host::Host;
 use crate::queueing::{queue_faults, queue_refused, queue_replies};
 use crate::taking::Taken;
+use crate::tally::Tally;
 use mvd_replica::Replica;
 use sqlite::Alter;
 
@@ -14,9 +15,15 @@ impl Host {
     ghost use Rattle.mvd_host.specs.Taking.{IsIdle};
     ghost use Rattle.mvd_host.specs.Round.{Round, Side};
 
-    /// Takes at most 64 frames of each ready client, answers them together, and queues each reply on its own client's connection.
+    /// Takes at most 64 frames of each ready client, answers them together, queues each reply on its own client's connection, and
+    /// notes what was asked.
     /// Whether there may be more to do at once: it is `false` where no frame was taken, and memory was not refused for one.
-    pub fn round<S: Alter>(&mut self, replica: &mut Replica<S>, ready: &[u64]) -> bool
+    pub fn round<S: Alter>(
+        &mut self,
+        replica: &mut Replica<S>,
+        ready: &[u64],
+        tally: &mut Tally,
+    ) -> bool
         ensures round { (turns : List (ℕ × Turn)) × Round ready.now turns
             (record { host = self.old; site = replica.old.site; store = state S.Store replica.old.records.conn })
             (record { host = self.new; site = replica.new.site; store = state S.Store replica.new.records.conn }) }
@@ -28,8 +35,14 @@ impl Host {
             return refused;
         }
         match replica.answer_all(&taken.requests) {
-            Ok(replies) => queue_replies(&mut self.clients, &taken.clients, &replies),
-            Err(refusal) => queue_refused(&mut self.clients, &taken.clients, refusal),
+            Ok(replies) => {
+                queue_replies(&mut self.clients, &taken.clients, &replies);
+                tally.note_all(&taken.requests, &replies);
+            }
+            Err(refusal) => {
+                queue_refused(&mut self.clients, &taken.clients, refusal);
+                tally.note_refused(&taken.requests, refusal);
+            }
         }
         queue_faults(&mut self.clients, &taken.faults);
         true

@@ -48,7 +48,7 @@ Meets rows = ((address : SocketAddr) × IsAddressOf rows address) × ((idle : �
 pub serve_meets : (rows : List Row) (order : Order) → IsOrderOf (codes "serve") rows order → Meets rows
 serve_meets rows Sim h = differ _ _ h refl
 serve_meets rows (Loop _) h = differ _ _ h.0 refl
-serve_meets rows (Serve _ _ address _ idle) h = ((address, h.3), (idle, h.5))
+serve_meets rows (Serve _ _ address _ idle _) h = ((address, h.3), (idle, h.5))
 serve_meets rows (Shell _ _) h = differ _ _ h.0 refl
 serve_meets rows (RemoteShell _ _) h = differ _ _ h.0 refl
 serve_meets rows (Sync _ _ _ _ _) h = differ _ _ h.0 refl
@@ -56,7 +56,7 @@ serve_meets rows (Sync _ _ _ _ _) h = differ _ _ h.0 refl
 pub sync_meets : (rows : List Row) (order : Order) → IsOrderOf (codes "sync") rows order → Meets rows
 sync_meets rows Sim h = differ _ _ h refl
 sync_meets rows (Loop _) h = differ _ _ h.0 refl
-sync_meets rows (Serve _ _ _ _ _) h = differ _ _ h.0 refl
+sync_meets rows (Serve _ _ _ _ _ _) h = differ _ _ h.0 refl
 sync_meets rows (Shell _ _) h = differ _ _ h.0 refl
 sync_meets rows (RemoteShell _ _) h = differ _ _ h.0 refl
 sync_meets rows (Sync _ _ address idle _) h = ((address, h.3), (idle, h.4))
@@ -64,7 +64,7 @@ sync_meets rows (Sync _ _ address idle _) h = ((address, h.3), (idle, h.4))
 pub remote_meets : (rows : List Row) → first_of (codes "db") rows ≡ None → (order : Order) → IsOrderOf (codes "shell") rows order → Meets rows
 remote_meets rows e Sim h = differ _ _ h refl
 remote_meets rows e (Loop _) h = differ _ _ h.0 refl
-remote_meets rows e (Serve _ _ _ _ _) h = differ _ _ h.0 refl
+remote_meets rows e (Serve _ _ _ _ _ _) h = differ _ _ h.0 refl
 remote_meets rows e (Shell _ _) h = absurd (cc (h.1, e))
 remote_meets rows e (RemoteShell address idle) h = ((address, h.2), (idle, h.3))
 remote_meets rows e (Sync _ _ _ _ _) h = differ _ _ h.0 refl

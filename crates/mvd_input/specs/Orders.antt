@@ -33,6 +33,10 @@ HasPort address = (1 ≤ socket_port address) × (socket_port address ≤ 65535)
 abbrev pub AreConnections : Option ℕ → Type 0
 AreConnections conns = ForSome conns (λ n. (1 ≤ n) × (n ≤ 1000))
 
+-- a second port is 1..=65,535 where there is one
+abbrev pub IsPort : Option ℕ → Type 0
+IsPort port = ForSome port (λ n. (1 ≤ n) × (n ≤ 65535))
+
 -- no byte need move for 1..=86,400 seconds
 abbrev pub IsIdle : ℕ → Type 0
 IsIdle seconds = (1 ≤ seconds) × (seconds ≤ 86400)
@@ -41,7 +45,7 @@ IsIdle seconds = (1 ≤ seconds) × (seconds ≤ 86400)
 abbrev pub IsInRange : Order → Type 0
 IsInRange Sim = ⊤
 IsInRange (Loop setup) = IsSetUp setup
-IsInRange (Serve _ setup address conns idle) = IsSetUp setup × HasPort address × AreConnections conns × IsIdle idle
+IsInRange (Serve _ setup address conns idle http) = IsSetUp setup × HasPort address × AreConnections conns × IsIdle idle × IsPort http
 IsInRange (Shell _ setup) = IsSetUp setup
 IsInRange (RemoteShell address idle) = HasPort address × IsIdle idle
 IsInRange (Sync _ setup address idle _) = IsSetUp setup × HasPort address × IsIdle idle
@@ -76,7 +80,8 @@ ReadsGiven rows option most (Err (unread.Text _)) = (number : ℕ) → Gives row
 -- some number of the command is out of its range
 abbrev pub HasBadNumber : List Row → Type 0
 HasBadNumber rows = IsOutOfRange rows (codes "site") 4294967295 ⊎ (IsOutOfRange rows (codes "max-keys") 1000000
-    ⊎ (IsOutOfRange rows (codes "port") 65535 ⊎ (IsOutOfRange rows (codes "conns") 1000 ⊎ IsOutOfRange rows (codes "idle") 86400)))
+    ⊎ (IsOutOfRange rows (codes "port") 65535 ⊎ (IsOutOfRange rows (codes "conns") 1000
+    ⊎ (IsOutOfRange rows (codes "idle") 86400 ⊎ IsOutOfRange rows (codes "http") 65535))))
 
 -- why the values of options mean nothing of a kind: a number is out of its range, or nothing of the kind has these values
 abbrev pub IsUnread : {X : Type 0} → List Row → (List Row → X → Type 0) → Unread → Type 0
@@ -107,6 +112,11 @@ abbrev pub IsConns : List Row → Option ℕ → Type 0
 IsConns rows None = first_of (codes "conns") rows ≡ None
 IsConns rows (Some number) = Gives rows (codes "conns") number
 
+-- the port at which HTTP is served, where it is told
+abbrev pub IsHttp : List Row → Option ℕ → Type 0
+IsHttp rows None = first_of (codes "http") rows ≡ None
+IsHttp rows (Some number) = Gives rows (codes "http") number
+
 abbrev pub IsSeconds : List Row → ℕ → Type 0
 IsSeconds rows seconds = Gives rows (codes "idle") seconds
 
@@ -114,8 +124,8 @@ IsSeconds rows seconds = Gives rows (codes "idle") seconds
 abbrev pub IsOrderOf : List ℕ → List Row → Order → Type 0
 IsOrderOf name rows Sim = name ≡ codes "sim"
 IsOrderOf name rows (Loop setup) = (name ≡ codes "loop") × IsSetupOf rows setup
-IsOrderOf name rows (Serve db setup address conns idle) = (name ≡ codes "serve") × IsDbOf rows db
-    × IsSetupOf rows setup × IsAddressOf rows address × IsConns rows conns × IsSeconds rows idle
+IsOrderOf name rows (Serve db setup address conns idle http) = (name ≡ codes "serve") × IsDbOf rows db
+    × IsSetupOf rows setup × IsAddressOf rows address × IsConns rows conns × IsSeconds rows idle × IsHttp rows http
 IsOrderOf name rows (Shell db setup) = (name ≡ codes "shell") × IsDbOf rows db × IsSetupOf rows setup
 IsOrderOf name rows (RemoteShell address idle) = (name ≡ codes "shell") × (first_of (codes "db") rows ≡ None) × IsAddressOf rows address
     × IsSeconds rows idle

@@ -58,6 +58,9 @@ address = by_default (codes "127.0.0.1") (text_option (codes "address"))
 abbrev pub port : Rule
 port = number_option (codes "port")
 
+abbrev pub http : Rule
+http = number_option (codes "http")
+
 abbrev pub conns : Rule
 conns = number_option (codes "conns")
 
@@ -85,7 +88,7 @@ loop_words = leaf (codes "loop") (needed site ∷ defs ∷ max_keys ∷ [])
 
 abbrev pub serve_words : App
 serve_words = leaf (codes "serve")
-    (database ++ needed port ∷ conns ∷ idle (codes "300") ∷ [])
+    (database ++ needed port ∷ http ∷ conns ∷ idle (codes "300") ∷ [])
 
 abbrev pub shell_words : App
 shell_words = leaf (codes "shell")

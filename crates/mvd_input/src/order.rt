@@ -2,7 +2,7 @@
 ghost use Rattle.std.specs.Prelude.{◌≡◌, ◌<◌, ◌≤◌, ◌^◌, ℕ, List, IfErr, IfOk, IfSome, Some, codes, option_map};
 ghost use Rattle.clap.specs.Walk.{texts};
 ghost use Rattle.clap.specs.Words.{first_of};
-ghost use Rattle.mvd_input.specs.Orders.{HasPort, IsAddressOf, IsConns, IsDbOf, IsIdle, IsInRange, IsIpOf, IsSeconds, IsSetUp, IsSetupOf, IsUnread, ReadsGiven, ReadsNumber, ReadsOptions, ReadsOrder, ReadsWords, options_of};
+ghost use Rattle.mvd_input.specs.Orders.{HasPort, IsAddressOf, IsConns, IsDbOf, IsHttp, IsIdle, IsInRange, IsIpOf, IsPort, IsSeconds, IsSetUp, IsSetupOf, IsUnread, ReadsGiven, ReadsNumber, ReadsOptions, ReadsOrder, ReadsWords, options_of};
 
 use crate::command::number_of;
 use crate::words::{command, command_of};
@@ -18,6 +18,9 @@ pub const MOST_KEYS: u32 = 1_000_000;
 /// The most connections that a server may be asked to serve.
 const MOST_CONNECTIONS: u64 = 1_000;
 
+/// The last port.
+const MOST_PORT: u64 = 65_535;
+
 /// The most seconds for which no byte need move.
 const MOST_IDLE: u64 = 86_400;
 
@@ -31,7 +34,7 @@ pub struct Setup<'a> {
 }
 
 /// What a command line asks for. Numbers are in their ranges: those of a site as told there, a port at least 1, `conns` 1 to 1,000,
-/// and `idle` 1 to 86,400 seconds.
+/// `idle` 1 to 86,400 seconds, and the port `http` at least 1.
 #[derive(Debug, Clone, Copy, PartialEq, Eq)]
 pub enum Order<'a> {
     /// Run a script from standard input.
@@ -45,6 +48,7 @@ pub enum Order<'a> {
         address: SocketAddr,
         conns: Option<u32>,
         idle: u32,
+        http: Option<u16>,
     },
     /// Answer the lines of standard input on a database.
     Shell {
@@ -159,6 +163,7 @@ fn serve_of<'a>(matches: &ArgMatches<'a>) -> Result<Order<'a>, Unread>
         setup: setup_in(matches)?,
         conns: conns_in(matches)?,
         idle: idle_in(matches)?,
+        http: http_in(matches)?,
         address: address_in(matches)?,
     })
 }
@@ -256,6 +261,18 @@ fn conns_in(matches: &ArgMatches<'_>) -> Result<Option<u32>, Unread>
     }
 }
 
+/// The port at which HTTP is served.
+fn http_in(matches: &ArgMatches<'_>) -> Result<Option<u16>, Unread>
+    ensures range { IfOk result IsPort }
+    ensures port { IfOk result (IsHttp (options_of matches.now)) }
+    ensures fault { IfErr result (IsUnread (options_of matches.now) IsHttp) }
+{
+    match number_in(matches, "http", MOST_PORT)? {
+        Some(number) => Ok(Some(number as u16)),
+        None => Ok(None),
+    }
+}
+
 /// The seconds for which no byte need move.
 fn idle_in(matches: &ArgMatches<'_>) -> Result<u32, Unread>
     ensures range { IfOk result IsIdle }
@@ -271,7 +288,7 @@ fn address_in(matches: &ArgMatches<'_>) -> Result<SocketAddr, Unread>
     ensures address { IfOk result (IsAddressOf (options_of matches.now)) }
     ensures fault { IfErr result (IsUnread (options_of matches.now) IsAddressOf) }
 {
-    let port = given_in(matches, "port", 65_535)? as u16;
+    let port = given_in(matches, "port", MOST_PORT)? as u16;
     Ok(SocketAddr::new(ip_in(matches)?, port))
 }
 

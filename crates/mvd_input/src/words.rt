@@ -104,6 +104,7 @@ fn serve_command<'a>(alloc: Global) -> Result<Command<'a>, AllocError>
     );
     with_database(alloc, command)?
         .arg(port(alloc, "The port to listen at, 1 to 65535."))?
+        .arg(http(alloc))?
         .arg(conns(alloc))?
         .arg(idle(alloc, SERVED_IDLE, "300"))
 }
@@ -247,6 +248,17 @@ fn max_keys<'a>(alloc: Global) -> Arg<'a>
         "The most keys that the site may hold, 1 to 1000000.",
     )
     .default_value("1000000")
+}
+
+fn http<'a>(alloc: Global) -> Arg<'a>
+    ensures { rule_of result ≡ spec.http }
+{
+    number(
+        alloc,
+        "http",
+        "P2",
+        "A second port, 1 to 65535, at which the same is served over HTTP, with a page for browsers.",
+    )
 }
 
 fn conns<'a>(alloc: Global) -> Arg<'a>

@@ -1,9 +1,8 @@
 //! The clients: their sockets, and their connections.
-ghost use Rattle.std.specs.Prelude.{◌≤◌, length};
-ghost use Rattle.mvd_host.specs.Hosts.{IfClient, client_of};
-
 use super::CLIENTS_MAX;
 use super::client::{Client, Moved, PIECE, Piece, Stage};
+use super::counts::Counts;
+use super::talks::{Kind, Talks};
 use super::timers::Timers;
 use crate::ending::How;
 use mio::event::Event;
@@ -11,21 +10,23 @@ use mio::net::TcpStream;
 use mio::{Interest, Registry, Token};
 use mvd_conn::Ending;
 use mvd_dots::Refusal;
-use mvd_host::Host;
+use mvd_replica::Replica;
+use sqlite::Alter;
 use std::alloc::{AllocError, Global};
 use std::collections::BTreeMap;
 use std::fmt::Write as Print;
+use std::hash::RandomState;
 
 /// As many milliseconds a client has to take its last frame, and then to end.
 const LINGER: u64 = 2_000;
 
-/// Where as many bytes wait to leave to a client, none of its frames is answered.
-const WAITS_MAX: usize = 262_144;
-
 /// The clients' sockets, their connections, and what is told of those that ended.
 #[derive(Drop)]
 pub(crate) struct Crowd {
-    pub host: Host,
+    talks: Talks,
+    counts: Counts,
+    /// As many clients may come in all.
+    most: u64,
     clients: BTreeMap<u64, Client>,
     timers: Timers,
     piece: Piece,
@@ -37,9 +38,16 @@ pub(crate) struct Crowd {
 }
 
 impl Crowd {
-    pub fn new(alloc: Global, idle: u32) -> Result<Crowd, AllocError> {
+    pub fn new(
+        alloc: Global,
+        keys: RandomState,
+        conns: Option<u32>,
+        idle: u32,
+    ) -> Result<Crowd, AllocError> {
         Ok(Crowd {
-            host: Host::new(alloc),
+            talks: Talks::new(alloc, keys),
+            counts: Counts::new(alloc),
+            most: conns.map_or(u64::MAX, u64::from),
             clients: BTreeMap::new(alloc),
             timers: Timers::new(alloc),
             piece: Piece::new(alloc)?,
@@ -53,8 +61,24 @@ impl Crowd {
         self.clients.is_empty()
     }
 
+    /// As many clients have come.
+    fn accepted(&self) -> u64 {
+        self.counts.frames.saturating_add(self.counts.https)
+    }
+
+    /// Whether as many came as are to come.
+    pub fn is_shut(&self) -> bool {
+        self.accepted() >= self.most
+    }
+
+    /// Whether another client may come now.
     pub fn has_place(&self) -> bool {
-        self.clients.len() < CLIENTS_MAX
+        self.clients.len() < CLIENTS_MAX && !self.is_shut()
+    }
+
+    /// Answers what came of some clients, together.
+    pub fn round<S: Alter + Drop>(&mut self, replica: &mut Replica<S>, ready: &[u64]) {
+        self.talks.round(replica, ready, &mut self.counts);
     }
 
     /// When a client is to be looked after next.
@@ -67,10 +91,15 @@ impl Crowd {
         &mut self,
         registry: &Registry,
         stream: TcpStream,
-        ordinal: u64,
+        kind: Kind,
         ready: &mut Vec<u64>,
     ) -> Result<(), Refusal> {
-        let Ok(Some(number)) = self.host.admit() else {
+        match kind {
+            Kind::Frames => self.counts.frames = self.counts.frames.saturating_add(1),
+            Kind::Http => self.counts.https = self.counts.https.saturating_add(1),
+        }
+        let ordinal = self.accepted();
+        let Some(number) = self.talks.admit(kind) else {
             return tell_end(&mut self.told, ordinal, Ending::Stopped(Refusal::Memory));
         };
         match self.place(registry, stream, ordinal, number) {
@@ -81,7 +110,7 @@ impl Crowd {
                 Ok(())
             }
             Err(refusal) => {
-                self.host.dismiss(number);
+                self.talks.dismiss(number);
                 tell_end(&mut self.told, ordinal, Ending::Stopped(refusal))
             }
         }
@@ -137,7 +166,7 @@ impl Crowd {
         match client.stage {
             Stage::Served => {
                 let due = self.now.saturating_add(self.idle);
-                receive(&mut self.host, client, number, &mut self.piece, due);
+                receive(&mut self.talks, client, number, &mut self.piece, due);
             }
             Stage::Left(most) => {
                 if !client.drop_input(&mut self.piece, most) {
@@ -151,10 +180,10 @@ impl Crowd {
     pub fn write(&mut self, number: u64) -> Result<(), Refusal> {
         let due = self.now.saturating_add(self.idle);
         match self.clients.get_mut(&number) {
-            Some(client) if client.writable => send(&mut self.host, client, number, due),
+            Some(client) if client.writable => send(&mut self.talks, client, number, due),
             _ => {}
         }
-        if !self.host.is_done(number) {
+        if !self.talks.is_done(number) {
             return Ok(());
         }
         self.finish(number)
@@ -162,8 +191,8 @@ impl Crowd {
 
     /// Lets a connection go that is done. Its client has a while to take the last replies, unless those failed.
     fn finish(&mut self, number: u64) -> Result<(), Refusal> {
-        let ending = self.host.ending(number).unwrap_or(Ending::End);
-        self.host.dismiss(number);
+        let ending = self.talks.ending(number).unwrap_or(Ending::End);
+        self.talks.dismiss(number);
         let Some(client) = self.clients.get_mut(&number) else {
             return Ok(());
         };
@@ -183,7 +212,7 @@ impl Crowd {
     pub fn list_again(&mut self, number: u64, ready: &mut Vec<u64>) {
         if let Some(client) = self.clients.get_mut(&number) {
             client.listed = false;
-            if is_busy(&self.host, client, number) {
+            if is_busy(&self.talks, client, number) {
                 list(client, number, ready);
             }
         }
@@ -215,10 +244,10 @@ impl Crowd {
                 let due = self.now.saturating_add(LINGER);
                 // It has a while to take the frame that tells it.
                 let lingers = set_alarm(&mut self.timers, client, number, due);
-                if lingers && waits(&self.host, number) == 0 {
-                    self.host.fail_input(number, Refusal::ReadFailed);
+                if lingers && self.talks.waiting(number).is_empty() {
+                    self.talks.fail_input(number);
                 } else {
-                    self.host.fail_output(number);
+                    self.talks.fail_output(number);
                 }
             }
         }
@@ -246,71 +275,49 @@ fn set_alarm(timers: &mut Timers, client: &mut Client, number: u64, due: u64) ->
     timers.set(due, number)
 }
 
-/// As many bytes wait to leave to a client.
-fn waits(host: &Host, number: u64) -> usize
-    ensures { IfClient (client_of host.now number) (λ h. result ≤ length h.waits) }
-{
-    match host.waiting(number) {
-        Some(bytes) => bytes.len(),
-        None => 0,
-    }
-}
-
 /// Whether there may be something to do for a client at once: to read, to write, or to take a frame or its end.
-fn is_busy(host: &Host, client: &Client, number: u64) -> bool {
+fn is_busy(talks: &Talks, client: &Client, number: u64) -> bool {
     if let Stage::Left(_) = client.stage {
         return client.readable;
     }
-    let waits = waits(host, number);
-    if client.writable && waits > 0 {
+    if client.writable && !talks.waiting(number).is_empty() {
         return true;
     }
-    if host.wants_input(number) {
+    if talks.wants_input(number) {
         return client.readable;
     }
-    waits < WAITS_MAX && host.ending(number).is_none()
+    talks.is_busy(number)
 }
 
 /// Reads once of a client of which more is wanted.
-fn receive(host: &mut Host, client: &mut Client, number: u64, piece: &mut Piece, due: u64) {
-    if !host.wants_input(number) {
+fn receive(talks: &mut Talks, client: &mut Client, number: u64, piece: &mut Piece, due: u64) {
+    if !talks.wants_input(number) {
         return;
     }
     match client.read(piece) {
         Moved::Bytes(count) => {
             client.deadline = due;
-            feed(host, number, piece.first(count));
+            talks.feed(number, piece.first(count));
         }
         Moved::Nothing => {}
-        Moved::End => host.end_input(number),
-        Moved::Failed => host.fail_input(number, Refusal::ReadFailed),
-    }
-}
-
-/// Hands on what came of a client.
-#[tactic(auto, using(crate::proofs::Clients::wanted_if))]
-fn feed(host: &mut Host, number: u64, bytes: &[u8])
-    requires { length bytes.now ≤ 65536 }
-{
-    if host.wants_input(number) && host.feed(number, bytes).is_err() {
-        host.fail_input(number, Refusal::Memory);
+        Moved::End => talks.end_input(number),
+        Moved::Failed => talks.fail_input(number),
     }
 }
 
 /// Writes once to a client of what waits.
-fn send(host: &mut Host, client: &mut Client, number: u64, due: u64) {
-    let moved = match host.waiting(number) {
-        Some(bytes) if !bytes.is_empty() => client.write(bytes),
-        _ => return,
-    };
-    match moved {
+fn send(talks: &mut Talks, client: &mut Client, number: u64, due: u64) {
+    let bytes = talks.waiting(number);
+    if bytes.is_empty() {
+        return;
+    }
+    match client.write(bytes) {
         Moved::Bytes(count) => {
             client.deadline = due;
-            let count = count.min(waits(host, number));
-            host.sent(number, count);
+            talks.sent(number, count);
         }
         Moved::Nothing => {}
-        Moved::End | Moved::Failed => host.fail_output(number),
+        Moved::End | Moved::Failed => talks.fail_output(number),
     }
 }
 

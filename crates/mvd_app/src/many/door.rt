@@ -1,26 +1,29 @@
 //! The listener, and whom it lets in.
 use super::CLIENTS_MAX;
 use super::crowd::Crowd;
+use super::talks::Kind;
 use mio::net::TcpListener;
 use mio::{Interest, Registry, Token};
 use mvd_dots::Refusal;
 use std::io::{self, ErrorKind};
 use std::net::{Net, SocketAddr};
 
-/// What the system tells of the listener by. No client's number is as great.
-pub(crate) const LISTENER: Token = Token(usize::MAX);
+/// What the system tells of the listeners by. No client's number is as great.
+pub(crate) const FRAMES: Token = Token(usize::MAX);
+
+pub(crate) const HTTP: Token = Token(usize::MAX - 1);
 
 /// As many milliseconds nobody is let in after the system refused to.
 const PAUSE: u64 = 100;
 
-/// The listener, and how many connections came through it.
+/// A listener.
 #[derive(Drop)]
 pub(crate) struct Door {
     listener: TcpListener,
     /// Somebody may wait.
     pub knocks: bool,
-    accepted: u64,
-    most: u64,
+    /// What those speak who come through it.
+    kind: Kind,
     /// Nobody is let in before this time, in milliseconds.
     opens: u64,
 }
@@ -30,27 +33,25 @@ impl Door {
         rt: &N,
         registry: &Registry,
         address: SocketAddr,
-        conns: Option<u32>,
+        kind: Kind,
     ) -> io::Result<Door> {
         let mut listener = TcpListener::bind(rt, address)?;
-        registry.register(&mut listener, LISTENER, Interest::READABLE)?;
+        let token = match kind {
+            Kind::Frames => FRAMES,
+            Kind::Http => HTTP,
+        };
+        registry.register(&mut listener, token, Interest::READABLE)?;
         Ok(Door {
             listener,
             knocks: true,
-            accepted: 0,
-            most: conns.map_or(u64::MAX, u64::from),
+            kind,
             opens: 0,
         })
     }
 
-    /// Whether as many were let in as there are to be.
-    pub fn is_shut(&self) -> bool {
-        self.accepted >= self.most
-    }
-
     /// When somebody may be let in. It is `None` where nobody waits, or there is no place.
     pub fn next_due(&self, crowd: &Crowd) -> Option<u64> {
-        if self.knocks && !self.is_shut() && crowd.has_place() {
+        if self.knocks && crowd.has_place() {
             Some(self.opens)
         } else {
             None
@@ -70,10 +71,7 @@ impl Door {
                 _ => return Ok(()),
             }
             match self.listener.accept() {
-                Ok((stream, _)) => {
-                    self.accepted = self.accepted.saturating_add(1);
-                    crowd.admit(registry, stream, self.accepted, ready)?;
-                }
+                Ok((stream, _)) => crowd.admit(registry, stream, self.kind, ready)?,
                 Err(error) => self.refused(error.kind(), crowd.now),
             }
         }

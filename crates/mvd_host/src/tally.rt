@@ -1,0 +1,70 @@
+//! How many requests were answered, by their kind.
+ghost use Rattle.std.specs.Prelude.{◌<◌};
+
+use mvd_dots::Refusal;
+use mvd_wire::{Reply, Request};
+
+/// As many kinds of requests there are.
+pub const KINDS: usize = 11;
+
+/// How many requests of each kind were done, and how many were refused.
+#[derive(Clone, Copy, Drop)]
+pub struct Tally {
+    pub done: [u64; KINDS],
+    pub refused: [u64; KINDS],
+}
+
+impl Tally {
+    pub fn new() -> Tally {
+        Tally {
+            done: [0; KINDS],
+            refused: [0; KINDS],
+        }
+    }
+
+    fn note(&mut self, request: &Request, reply: &Reply) {
+        let kind = kind_of(request);
+        match reply {
+            Reply::Refused(_) => self.refused[kind] = self.refused[kind].saturating_add(1),
+            _ => self.done[kind] = self.done[kind].saturating_add(1),
+        }
+    }
+
+    /// Notes requests and the reply to each.
+    pub(crate) fn note_all(&mut self, requests: &[Request], replies: &[Reply]) {
+        let mut replies = replies;
+        for request in requests {
+            let Some((reply, others)) = replies.split_first() else {
+                return;
+            };
+            self.note(request, reply);
+            replies = others;
+        }
+    }
+
+    /// Notes requests that were all refused so.
+    pub(crate) fn note_refused(&mut self, requests: &[Request], refusal: Refusal) {
+        for request in requests {
+            self.note(request, &Reply::Refused(refusal));
+        }
+    }
+}
+
+/// The place of a request's kind, in the order of `Request`.
+fn kind_of(request: &Request) -> usize
+    ensures { result < 11 }
+{
+    match request {
+        Request::Get(_) => 0,
+        Request::Put(..) => 1,
+        Request::Delete(..) => 2,
+        Request::Find(..) => 3,
+        Request::Row(..) => 4,
+        Request::Rows(..) => 5,
+        Request::Node(_) => 6,
+        Request::Bucket(..) => 7,
+        Request::Push(..) => 8,
+        Request::Range(..) => 9,
+        Request::Bye => 10,
+    }
+}

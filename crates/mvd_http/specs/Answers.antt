@@ -1,0 +1,108 @@
+-- What a reply of a site is as a response: its status and its body, by what was asked (statuses of RFC 9110).
+use Rattle.std.specs.Prelude.{ℕ, ◌==◌, ◌≡◌, ◌++◌, ◌⊎◌, if◌then◌else◌, List, [], length, Option, Some, None, Result, Ok, Err}
+use Rattle.std.specs.FinMap.{entries}
+use Rattle.mvd_dots.specs.declared.refusals.Refusal.{Refusal}
+use Rattle.mvd_dots.specs.declared.refusals.Refusal.TheVariants.{BadKey, BadContext, BadDocument, NotObject, BadNumber, DocumentTooLong, NotCanonical, Exhausted, StateTooLarge, Full, DotClash, NoIndex, NoView, BadPath, BadTerm, Memory, Store, Broken, BadBody, BadKind}
+use Rattle.mvd_docs.specs.declared.term.Term.{Term}
+use Rattle.mvd_keys.specs.State.{State}
+use Rattle.mvd_keys.specs.Writes.{Key}
+use Rattle.mvd_wire.specs.declared.reply.RowValue.{RowValue}
+use Rattle.mvd_wire.specs.declared.reply.Reply.{Reply}
+use Rattle.mvd_wire.specs.declared.reply.Reply.TheVariants as reply
+use Rattle.mvd_wire.specs.declared.request.Request.{Request}
+use Rattle.mvd_wire.specs.declared.request.Request.TheVariants.{Get, Row}
+use Rattle.mvd_http.specs.Json.{state_text, written_text, places_text, rows_text, keys_text, row_text, node_text, refused_text}
+
+-- a status and a body
+pub record Told : Type 0 where
+  pub status : ℕ
+  pub body : List ℕ
+
+-- what was asked for was found
+abbrev pub ok_told : List ℕ → Told
+ok_told body = record { status = 200; body = body }
+
+-- ---- refusals
+
+abbrev pub refused_status : Refusal → ℕ
+refused_status BadKey = 400
+refused_status BadContext = 400
+refused_status BadDocument = 400
+refused_status NotObject = 400
+refused_status BadNumber = 400
+refused_status DocumentTooLong = 400
+refused_status NotCanonical = 400
+refused_status BadPath = 400
+refused_status BadTerm = 400
+refused_status BadBody = 400
+refused_status NoIndex = 404
+refused_status NoView = 404
+refused_status Exhausted = 409
+refused_status StateTooLarge = 409
+refused_status Full = 409
+refused_status DotClash = 409
+refused_status Memory = 503
+refused_status Store = 503
+refused_status Broken = 503
+refused_status _ = 500
+
+abbrev pub refused_told : Refusal → Told
+refused_told refusal = record { status = refused_status refusal; body = refused_text refusal }
+
+-- ---- replies
+
+abbrev pub key_asked : Request → Option Key
+key_asked (Get key) = Some key
+key_asked _ = None
+
+abbrev pub term_asked : Request → Option Term
+term_asked (Row view term) = Some term
+term_asked _ = None
+
+-- a key without a sibling is told alike, as one that is not found
+abbrev pub found_status : State → ℕ
+found_status state = if length (entries state.siblings) == 0 then 404 else 200
+
+abbrev pub state_told : Option Key → State → Result Told Refusal
+state_told None state = Err BadKind
+state_told (Some key) state = Ok (record { status = found_status state; body = state_text key state })
+
+abbrev pub row_told : Option Term → RowValue → Result Told Refusal
+row_told None row = Err BadKind
+row_told (Some term) row = Ok (ok_told (row_text term row.count row.sum row.ends))
+
+-- The status and the body, or the refusal that is told in their place. A reply of a kind that answers no such request is 32.
+abbrev pub reply_told : Request → Reply → Result Told Refusal
+reply_told request (reply.State state) = state_told (key_asked request) state
+reply_told request (reply.Written dot) = Ok (record { status = 201; body = written_text dot })
+reply_told request reply.Done = Ok (record { status = 204; body = [] })
+reply_told request (reply.Places places more) = Ok (ok_told (places_text places more))
+reply_told request (reply.Row row) = row_told (term_asked request) row
+reply_told request (reply.Rows rows more) = Ok (ok_told (rows_text rows more))
+reply_told request (reply.Digests digests) = Ok (ok_told (node_text digests.own digests.children))
+reply_told request (reply.Keys keys more) = Ok (ok_told (keys_text keys more))
+reply_told request (reply.Refused refusal) = Err refusal
+
+abbrev pub or_refused : Result Told Refusal → Told
+or_refused (Ok told) = told
+or_refused (Err refusal) = refused_told refusal
+
+-- the response to a request that the site answered so
+abbrev pub told : Request → Reply → Told
+told request reply = or_refused (reply_told request reply)
+
+-- ---- what is told
+
+pub record IsTold (told : Told) (status : ℕ) (body : List ℕ) : Type 0 where
+  pub status_is : status ≡ told.status
+  pub body_is : body ≡ told.body
+
+-- this is told, or that memory was refused
+abbrev pub Responds : Told → ℕ → List ℕ → Type 0
+Responds told status body = IsTold told status body ⊎ IsTold (refused_told Memory) status body
+
+-- the body came behind a text, and its status is given; a refusal is given back, and so is want of memory
+abbrev pub Pushes : Result Told Refusal → List ℕ → List ℕ → Result ℕ Refusal → Type 0
+Pushes (Ok told) old new (Ok status) = (status ≡ told.status) × (new ≡ old ++ told.body)
+Pushes (Ok told) old new (Err refusal) = refusal ≡ Memory
+Pushes (Err refusal) old new result = result ≡ Err refusal

@@ -1,0 +1,214 @@
+-- What a request of HTTP asks, this repository's own: of the site, or of the server. It is read from left to right: the first
+-- refusal decides.
+use Rattle.std.specs.Prelude.{ℕ, ◌-◌, ◌==◌, ◌^◌, ◌≡◌, ◌&&◌, nat_lt, nat_le, if◌then◌else◌, Bool, true, false, List, [], ◌∷◌, codes, length, map, Option, Some, None, Result, Ok, Err}
+use Rattle.std.specs.FinSet as set
+use Rattle.std.specs.Char.{is_ascii_digit}
+use Rattle.std.specs.List.{list_all}
+use Rattle.std.specs.Str.{bytes_eq, is_utf8}
+use Rattle.std.specs.Str.Parse.{digits_value}
+use Rattle.percent_encoding.specs.Percent.{percent_decode}
+use Rattle.mvd_dots.specs.Answer.{IsAnswer, IsReading}
+use Rattle.mvd_dots.specs.Context.{DotSet}
+use Rattle.mvd_dots.specs.Dot.{DotValue}
+use Rattle.mvd_dots.specs.Text.{IsTextOf}
+use Rattle.mvd_dots.specs.declared.refusals.Refusal.{Refusal}
+use Rattle.mvd_dots.specs.declared.refusals.Refusal.TheVariants.{BadBody, BadContext, BadDocument, BadKey, BadTerm, NoIndex, NoView}
+use Rattle.mvd_docs.specs.Document.{document_of}
+use Rattle.mvd_docs.specs.Name.{field_of, view_name_of}
+use Rattle.mvd_docs.specs.Term.{term_of_json}
+use Rattle.mvd_docs.specs.declared.term.Term.{Term}
+use Rattle.mvd_keys.specs.Key.{key_of_text}
+use Rattle.mvd_keys.specs.Path.{path_of}
+use Rattle.mvd_keys.specs.Writes.{Key}
+use Rattle.mvd_keys.specs.declared.places.Place.{Place}
+use Rattle.mvd_wire.specs.declared.request.Request.TheVariants.{Get, Put, Delete, Row, Rows, Node, Bucket, Range}
+use Rattle.mvd_http.specs.declared.question.Question.{Question}
+use Rattle.mvd_http.specs.declared.question.Question.TheVariants.{Page, Root, Metrics, Ask, Nowhere, NotAllowed}
+use Rattle.mvd_http.specs.declared.question.Methods.TheVariants.{OfKey, OfList}
+use Rattle.mvd_http.specs.declared.question.Verb.{Verb}
+use Rattle.mvd_http.specs.declared.question.Verb.TheVariants as verb
+use Rattle.mvd_http.specs.Paths.{before, behind, given, read_part, read_text, without, without_end}
+
+-- what is made of a value, or the refusal in its place
+abbrev pub then_read : {A B : Type 0} → Result A Refusal → (A → Result B Refusal) → Result B Refusal
+then_read (Ok value) read = read value
+then_read (Err refusal) read = Err refusal
+
+-- a refusal in place of another
+abbrev pub else_refused : {A : Type 0} → Refusal → Result A Refusal → Result A Refusal
+else_refused refusal (Ok value) = Ok value
+else_refused refusal (Err other) = Err refusal
+
+-- ---- parts
+
+abbrev pub key_in : List ℕ → Result Key Refusal
+key_in text = read_part key_of_text BadKey text
+
+-- a text that names no field has no index, and one that names no view is none
+abbrev pub field_in : List ℕ → Result (List ℕ) Refusal
+field_in text = read_part (λ t. else_refused NoIndex (field_of t)) NoIndex text
+
+abbrev pub view_in : List ℕ → Result (List ℕ) Refusal
+view_in text = read_part (λ t. else_refused NoView (view_name_of t)) NoView text
+
+abbrev pub term_in : List ℕ → Result Term Refusal
+term_in text = read_part term_of_json BadTerm text
+
+-- the value of a lower-case hexadecimal digit, and of no other byte one that a path may have
+abbrev pub digit_in : ℕ → ℕ
+digit_in byte = if nat_le 48 byte && nat_le byte 57 then byte - 48 else (if nat_le 97 byte && nat_le byte 102 then byte - 87 else 255)
+
+abbrev pub path_in : List ℕ → Result (List ℕ) Refusal
+path_in text = path_of (map digit_in (percent_decode text))
+
+-- nothing where nothing is given
+abbrev pub if_given : {A : Type 0} → (List ℕ → Result A Refusal) → List ℕ → Result (Option A) Refusal
+if_given read [] = Ok None
+if_given read (b ∷ bs) = then_read (read (b ∷ bs)) (λ value. Ok (Some value))
+
+-- ---- the text of a place: `SITE:COUNTER KEY TERM`
+
+-- the number of at most 15 decimal digits
+abbrev pub number_in : List ℕ → Option ℕ
+number_in text = if list_all is_ascii_digit text && nat_lt 0 (length text) && nat_le (length text) 15 then Some (digits_value 10 text) else None
+
+abbrev pub dot_of : Option ℕ → Option ℕ → Result DotValue Refusal
+dot_of (Some site) (Some counter) =
+    if nat_lt 0 site && nat_lt site (2 ^ 32) && nat_lt 0 counter && nat_lt counter (2 ^ 48)
+    then Ok (record { site = site; counter = counter }) else Err BadBody
+dot_of _ _ = Err BadBody
+
+abbrev pub dot_in : List ℕ → Result DotValue Refusal
+dot_in text = dot_of (number_in (before 58 text)) (number_in (behind 58 text))
+
+abbrev pub place_with : DotValue → List ℕ → Result Place Refusal
+place_with dot rest =
+    then_read (read_text key_of_text BadKey (before 32 rest)) (λ key.
+    then_read (read_text term_of_json BadTerm (behind 32 rest)) (λ term. Ok (record { term = term; key = key; dot = dot })))
+
+abbrev pub place_of_text : List ℕ → Result Place Refusal
+place_of_text text = then_read (dot_in (before 32 text)) (λ dot. place_with dot (behind 32 text))
+
+abbrev pub place_in : List ℕ → Result Place Refusal
+place_in text = place_of_text (percent_decode text)
+
+-- ---- lists
+
+-- `is` stands for both bounds
+abbrev pub bound_or : List ℕ → List ℕ → List ℕ
+bound_or [] bound = bound
+bound_or (b ∷ bs) bound = b ∷ bs
+
+abbrev pub bound : List ℕ → List ℕ → List ℕ
+bound name query = bound_or (given (codes "is=") query) (given name query)
+
+abbrev pub index_asked : List ℕ → List ℕ → Result Question Refusal
+index_asked field query =
+    then_read (field_in field) (λ f.
+    then_read (term_in (bound (codes "from=") query)) (λ low.
+    then_read (term_in (bound (codes "to=") query)) (λ high.
+    then_read (if_given place_in (given (codes "after=") query)) (λ after. Ok (Ask (Range f low high after))))))
+
+abbrev pub rows_asked : List ℕ → List ℕ → Result Question Refusal
+rows_asked view query =
+    then_read (view_in view) (λ v.
+    then_read (if_given term_in (given (codes "after=") query)) (λ after. Ok (Ask (Rows v after))))
+
+abbrev pub row_asked : List ℕ → List ℕ → Result Question Refusal
+row_asked view query =
+    then_read (view_in view) (λ v. then_read (term_in (given (codes "is=") query)) (λ term. Ok (Ask (Row v term))))
+
+abbrev pub row_or : Option (List ℕ) → List ℕ → Result Question Refusal
+row_or None query = Ok Nowhere
+row_or (Some view) query = row_asked view query
+
+abbrev pub view_or : Option (List ℕ) → List ℕ → List ℕ → Result Question Refusal
+view_or None view query = row_or (without_end (codes "/row") view) query
+view_or (Some name) view query = rows_asked name query
+
+-- `V/rows` or `V/row`
+abbrev pub view_asked : List ℕ → List ℕ → Result Question Refusal
+view_asked view query = view_or (without_end (codes "/rows") view) view query
+
+-- three digits ask for the keys of a bucket, and fewer for a node
+abbrev pub under : List ℕ → List ℕ → Result Question Refusal
+under path query =
+    if length path == 3
+    then then_read (if_given key_in (given (codes "after=") query)) (λ after. Ok (Ask (Bucket path after)))
+    else Ok (Ask (Node path))
+
+abbrev pub keys_asked : List ℕ → Result Question Refusal
+keys_asked query = then_read (path_in (given (codes "path=") query)) (λ path. under path query)
+
+abbrev pub named_view : Option (List ℕ) → List ℕ → Result Question Refusal
+named_view None query = Ok Nowhere
+named_view (Some view) query = view_asked view query
+
+abbrev pub named_list : Option (List ℕ) → List ℕ → List ℕ → Result Question Refusal
+named_list None path query = named_view (without (codes "/views/") path) query
+named_list (Some field) path query = index_asked field query
+
+abbrev pub list_asked : List ℕ → List ℕ → Result Question Refusal
+list_asked path query =
+    if bytes_eq path (codes "/") then Ok Page else (
+    if bytes_eq path (codes "/root") then Ok Root else (
+    if bytes_eq path (codes "/metrics") then Ok Metrics else (
+    if bytes_eq path (codes "/keys") then keys_asked query else named_list (without (codes "/index/") path) path query)))
+
+-- ---- keys
+
+-- the context that the author of a write saw: that of the field, and where it is absent the empty one, or none
+abbrev pub IsContext : Bool → List ℕ → Result DotSet Refusal → Type 0
+IsContext true text seen = IsReading (λ dots. IsTextOf dots text) BadContext seen
+IsContext false text seen = seen ≡ Err BadContext
+
+abbrev pub IsSeen : Result DotSet Refusal → Option (List ℕ) → Result DotSet Refusal → Type 0
+IsSeen absent None seen = seen ≡ absent
+IsSeen absent (Some text) seen = IsContext (is_utf8 text) text seen
+
+abbrev pub After : {A B : Type 0} → Result A Refusal → (A → Result B Refusal → Type 0) → Result B Refusal → Type 0
+After (Ok value) Is result = Is value result
+After (Err refusal) Is result = result ≡ Err refusal
+
+abbrev pub IsMade : Result DotSet Refusal → Option (List ℕ) → (DotSet → Result Question Refusal) → Result Question Refusal → Type 0
+IsMade absent context make result =
+    (seen : Result DotSet Refusal) × IsSeen absent context seen × After seen (λ dots made. IsAnswer made (make dots)) result
+
+abbrev pub IsWrite : Result DotSet Refusal → List ℕ → Option (List ℕ) → (Key → DotSet → Result Question Refusal) → Result Question Refusal → Type 0
+IsWrite absent key context make result =
+    (read : Result Key Refusal) × IsAnswer read (key_in key) × After read (λ k made. IsMade absent context (make k) made) result
+
+abbrev pub put_of : List ℕ → Key → DotSet → Result Question Refusal
+put_of body key seen = then_read (read_text document_of BadDocument body) (λ document. Ok (Ask (Put key seen document)))
+
+abbrev pub delete_of : Key → DotSet → Result Question Refusal
+delete_of key seen = Ok (Ask (Delete key seen))
+
+abbrev pub IsOfKey : Verb → List ℕ → Option (List ℕ) → List ℕ → Result Question Refusal → Type 0
+IsOfKey verb.Read key context body result = IsAnswer result (then_read (key_in key) (λ k. Ok (Ask (Get k))))
+IsOfKey verb.Put key context body result = IsWrite (Ok set.empty) key context (put_of body) result
+IsOfKey verb.Delete key context body result = IsWrite (Err BadContext) key context delete_of result
+IsOfKey verb.Other key context body result = result ≡ Ok (NotAllowed OfKey)
+
+-- ---- requests
+
+-- `HEAD` asks what `GET` asks
+abbrev pub verb_of : List ℕ → Verb
+verb_of method =
+    if bytes_eq method (codes "GET") then verb.Read else (
+    if bytes_eq method (codes "HEAD") then verb.Read else (
+    if bytes_eq method (codes "PUT") then verb.Put else (
+    if bytes_eq method (codes "DELETE") then verb.Delete else verb.Other)))
+
+abbrev pub read_only : Verb → List ℕ → List ℕ → Result Question Refusal
+read_only verb.Read path query = list_asked path query
+read_only _ path query = Ok (NotAllowed OfList)
+
+abbrev pub IsAsked : Option (List ℕ) → Verb → List ℕ → List ℕ → Option (List ℕ) → List ℕ → Result Question Refusal → Type 0
+IsAsked None verb path query context body result = IsAnswer result (read_only verb path query)
+IsAsked (Some key) verb path query context body result = IsOfKey verb key context body result
+
+-- a request of this method, target, field `Mvd-Context` and body asks this
+abbrev pub IsQuestion : List ℕ → List ℕ → Option (List ℕ) → List ℕ → Result Question Refusal → Type 0
+IsQuestion method target context body result =
+    IsAsked (without (codes "/keys/") (before 63 target)) (verb_of method) (before 63 target) (behind 63 target) context body result

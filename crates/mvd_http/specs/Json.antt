@@ -1,0 +1,119 @@
+-- The JSON that replies are told in (RFC 8259), this repository's own form.
+use Rattle.std.specs.Prelude.{ℕ, ℤ, ◌-◌, ◌++◌, Bool, true, false, List, [], ◌∷◌, codes, length, Option, Some, None, option_map}
+use Rattle.std.specs.Fmt.{decimal, signed_decimal}
+use Rattle.std.specs.List.{flat_map, slice_get}
+use Rattle.std.specs.FinMap.{entries}
+use Rattle.serde_json.specs.Data.{string}
+use Rattle.serde_json.specs.Written.{compact_text}
+use Rattle.hex.specs.Hex.{encode_lower}
+use Rattle.mvd_dots.specs.Dot.{DotValue}
+use Rattle.mvd_dots.specs.Text.{text_of}
+use Rattle.mvd_dots.specs.Refusal.{number_of, name_of}
+use Rattle.mvd_dots.specs.declared.refusals.Refusal.{Refusal}
+use Rattle.mvd_docs.specs.declared.term.Term.{Term}
+use Rattle.mvd_keys.specs.State.{State, Text}
+use Rattle.mvd_keys.specs.Writes.{Key}
+use Rattle.mvd_keys.specs.declared.places.Place.{Place}
+use Rattle.mvd_print.specs.Text.{dot_text, term_text}
+
+-- a text as a JSON string
+abbrev pub quoted : List ℕ → List ℕ
+quoted text = compact_text (string text)
+
+-- ---- lists
+
+-- what goes before each entry but the first
+abbrev pub led : {X : Type 0} → (X → List ℕ) → X → List ℕ
+led text x = codes "," ++ text x
+
+abbrev pub commaed : {X : Type 0} → (X → List ℕ) → List X → List ℕ
+commaed text [] = []
+commaed text (x ∷ xs) = text x ++ flat_map (led text) xs
+
+-- the text to go on from, where more is left
+abbrev pub next_text : Option (List ℕ) → List ℕ
+next_text None = []
+next_text (Some text) = codes ",\"next\":" ++ quoted text
+
+abbrev pub last_of : {X : Type 0} → List X → Option X
+last_of xs = slice_get xs (length xs - 1)
+
+abbrev pub next_of : {X : Type 0} → (X → List ℕ) → Bool → List X → Option (List ℕ)
+next_of text false xs = None
+next_of text true xs = option_map text (last_of xs)
+
+-- ---- entries
+
+abbrev pub sibling_text : DotValue × Text → List ℕ
+sibling_text sibling = codes "{\"dot\":\"" ++ (dot_text sibling.0 ++ (codes "\",\"document\":" ++ (sibling.1 ++ codes "}")))
+
+abbrev pub place_text : Place → List ℕ
+place_text place =
+    codes "{\"term\":" ++ (term_text place.term ++ (codes ",\"key\":" ++ (quoted place.key ++ (codes ",\"dot\":\"" ++ (dot_text place.dot ++ codes "\"}")))))
+
+-- the place as the text that a query takes
+abbrev pub place_mark : Place → List ℕ
+place_mark place = dot_text place.dot ++ (codes " " ++ (place.key ++ (codes " " ++ term_text place.term)))
+
+abbrev pub ends_text : Option (ℤ × ℤ) → List ℕ
+ends_text None = []
+ends_text (Some ends) = codes ",\"least\":" ++ (signed_decimal ends.0 ++ (codes ",\"greatest\":" ++ signed_decimal ends.1))
+
+abbrev pub row_text : Term → ℕ → ℤ → Option (ℤ × ℤ) → List ℕ
+row_text term count sum ends =
+    codes "{\"term\":" ++ (term_text term ++ (codes ",\"count\":" ++ (decimal count ++ (codes ",\"sum\":" ++ (signed_decimal sum ++ (ends_text ends ++ codes "}"))))))
+
+abbrev pub view_row_text : Term × ℕ × ℤ × Option (ℤ × ℤ) → List ℕ
+view_row_text row = row_text row.0 row.1 row.2 row.3
+
+abbrev pub row_mark : Term × ℕ × ℤ × Option (ℤ × ℤ) → List ℕ
+row_mark row = term_text row.0
+
+-- a digest's 64 hexadecimal digits, as a JSON string
+abbrev pub digest_text : List ℕ → List ℕ
+digest_text digest = codes "\"" ++ (encode_lower digest ++ codes "\"")
+
+abbrev pub key_digest_text : Key × List ℕ → List ℕ
+key_digest_text entry = codes "{\"key\":" ++ (quoted entry.0 ++ (codes ",\"digest\":" ++ (digest_text entry.1 ++ codes "}")))
+
+abbrev pub key_mark : Key × List ℕ → List ℕ
+key_mark entry = entry.0
+
+-- ---- whole bodies
+
+abbrev pub siblings_text : List (DotValue × Text) → List ℕ
+siblings_text siblings = commaed sibling_text siblings
+
+abbrev pub state_text : Key → State → List ℕ
+state_text key state =
+    codes "{\"key\":" ++ (quoted key ++ (codes ",\"context\":\"" ++ (text_of state.context ++ (codes "\",\"siblings\":[" ++ (siblings_text (entries state.siblings) ++ codes "]}")))))
+
+abbrev pub written_text : DotValue → List ℕ
+written_text dot = codes "{\"dot\":\"" ++ (dot_text dot ++ codes "\"}")
+
+-- a page of a list, under its name, and the text for the next page
+abbrev pub page_text : {X : Type 0} → List ℕ → (X → List ℕ) → (X → List ℕ) → List X → Bool → List ℕ
+page_text name text mark xs more = name ++ (commaed text xs ++ (codes "]" ++ (next_text (next_of mark more xs) ++ codes "}")))
+
+abbrev pub places_text : List Place → Bool → List ℕ
+places_text places more = page_text (codes "{\"places\":[") place_text place_mark places more
+
+abbrev pub rows_text : List (Term × ℕ × ℤ × Option (ℤ × ℤ)) → Bool → List ℕ
+rows_text rows more = page_text (codes "{\"rows\":[") view_row_text row_mark rows more
+
+abbrev pub keys_text : List (Key × List ℕ) → Bool → List ℕ
+keys_text keys more = page_text (codes "{\"keys\":[") key_digest_text key_mark keys more
+
+abbrev pub children_text : Option (List (List ℕ)) → List ℕ
+children_text None = []
+children_text (Some children) = codes ",\"children\":[" ++ (commaed digest_text children ++ codes "]")
+
+abbrev pub node_text : List ℕ → Option (List (List ℕ)) → List ℕ
+node_text own children = codes "{\"digest\":" ++ (digest_text own ++ (children_text children ++ codes "}"))
+
+abbrev pub root_text : List ℕ → ℕ → ℕ → List ℕ
+root_text digest keys site =
+    codes "{\"root\":" ++ (digest_text digest ++ (codes ",\"keys\":" ++ (decimal keys ++ (codes ",\"site\":" ++ (decimal site ++ codes "}")))))
+
+abbrev pub refused_text : Refusal → List ℕ
+refused_text refusal = codes "{\"refused\":" ++ (decimal (number_of refusal) ++ (codes ",\"name\":\"" ++ (name_of refusal ++ codes "\"}")))

@@ -1,0 +1,106 @@
+//! The fields of a response.
+ghost use Rattle.std.specs.Prelude.{◌≡◌, ◌++◌, OnOk, string_bytes};
+ghost use Rattle.http_server.specs.Response.{IsBlank, IsResponse, fields_of};
+ghost use Rattle.mvd_http.specs.Fields.{allow_of, common, fields_for, names, type_of, typed};
+
+use crate::question::Methods;
+use bytes::BufMut;
+use http::{HeaderName, HeaderValue, StatusCode};
+use http_server::Response;
+use std::alloc::AllocError;
+
+/// What a body is.
+#[derive(Clone, Copy)]
+pub enum Content {
+    /// There is none.
+    Nothing,
+    Json,
+    Html,
+    Plain,
+}
+
+/// What a response says beside its body.
+#[derive(Clone, Copy)]
+pub struct Answer {
+    pub status: StatusCode,
+    pub content: Content,
+    /// The methods by which it is asked, where it was asked by another.
+    pub allow: Option<Methods>,
+}
+
+const POLICY: &str =
+    "default-src 'none'; script-src 'sha256-x2nRk1XET9ed5+SOAbPsjiSRa72AbdyxHVrW2N5xPPs='; style-src 'sha256-Msy/8q7YNwWdxtVl8fIgKxlzyrbWs/8mNZnJFQpkzXE='; connect-src 'self'; img-src data:; base-uri 'none'; form-action 'none'; frame-ancestors 'none'; require-trusted-types-for 'script'; trusted-types 'none'";
+
+/// Fills a response.
+pub fn fill(response: &mut Response, answer: Answer, body: &str) -> Result<(), AllocError>
+    requires { IsBlank response.old }
+    ensures { OnOk result (IsResponse answer.status (fields_for answer) body.now response.new) }
+{
+    add_common(response)?;
+    add_type(response, answer.content)?;
+    add_allow(response, answer.allow)?;
+    response.status = answer.status;
+    response.body.put_slice(body.as_bytes())?;
+    Ok(())
+}
+
+/// The fields of each response.
+fn add_common(response: &mut Response) -> Result<(), AllocError>
+    ensures fields { OnOk result (fields_of response.new ≡ fields_of response.old ++ common) }
+    ensures body { response.new.body ≡ response.old.body }
+{
+    let policy = HeaderName::from_static("content-security-policy");
+    response.add_header(policy, HeaderValue::from_static(POLICY))?;
+    let options = HeaderName::from_static("x-content-type-options");
+    response.add_header(options, HeaderValue::from_static("nosniff"))?;
+    let cache = HeaderName::from_static("cache-control");
+    response.add_header(cache, HeaderValue::from_static("no-store"))?;
+    Ok(())
+}
+
+fn add_typed(response: &mut Response, value: HeaderValue) -> Result<(), AllocError>
+    ensures fields { OnOk result (fields_of response.new ≡ fields_of response.old ++ typed value.bytes) }
+    ensures body { response.new.body ≡ response.old.body }
+{
+    response.add_header(HeaderName::from_static("content-type"), value)
+}
+
+/// The type of the body.
+fn add_type(response: &mut Response, content: Content) -> Result<(), AllocError>
+    ensures fields { OnOk result (fields_of response.new ≡ fields_of response.old ++ type_of content) }
+    ensures body { response.new.body ≡ response.old.body }
+{
+    match content {
+        Content::Nothing => Ok(()),
+        Content::Json => add_typed(response, HeaderValue::from_static("application/json")),
+        Content::Html => add_typed(
+            response,
+            HeaderValue::from_static("text/html; charset=utf-8"),
+        ),
+        Content::Plain => add_typed(
+            response,
+            HeaderValue::from_static("text/plain; charset=utf-8"),
+        ),
+    }
+}
+
+/// The names of methods.
+fn names_of(methods: Methods) -> HeaderValue
+    ensures { result.bytes ≡ names methods }
+{
+    match methods {
+        Methods::OfList => HeaderValue::from_static("GET, HEAD"),
+        Methods::OfKey => HeaderValue::from_static("GET, HEAD, PUT, DELETE"),
+    }
+}
+
+/// The methods by which it is asked.
+fn add_allow(response: &mut Response, allow: Option<Methods>) -> Result<(), AllocError>
+    ensures fields { OnOk result (fields_of response.new ≡ fields_of response.old ++ allow_of allow) }
+    ensures body { response.new.body ≡ response.old.body }
+{
+    match allow {
+        Some(methods) => response.add_header(HeaderName::from_static("allow"), names_of(methods)),
+        None => Ok(()),
+    }
+}

@@ -1,0 +1,73 @@
+//! The parts of a target.
+ghost use Rattle.std.specs.Prelude.{◌≡◌, ◌≤◌, length, option_copied};
+ghost use Rattle.mvd_http.specs.Paths.{before as front_of, behind as rest_of, given as value_of, first_value as value_first, place_of, without as left_behind, without_end as left_before};
+
+/// How many bytes stand before the first one that is this.
+fn place_of(text: &[u8], byte: u8) -> usize
+    ensures value { result ≡ place_of byte text.now }
+    ensures within { result ≤ length text.now }
+{
+    text.iter().take_while(|b| **b != byte).count()
+}
+
+/// What stands before the first such byte, or the whole text.
+#[tactic(auto, unfolding(crate::specs::Paths::before))]
+pub fn before(text: &[u8], byte: u8) -> &[u8]
+    ensures { result.now ≡ front_of byte text.now }
+{
+    &text[..place_of(text, byte)]
+}
+
+/// What stands behind the first such byte, or nothing.
+#[tactic(auto, unfolding(crate::specs::Paths::behind))]
+pub fn behind(text: &[u8], byte: u8) -> &[u8]
+    ensures { result.now ≡ rest_of byte text.now }
+{
+    let place = place_of(text, byte);
+    if place == text.len() {
+        return &[];
+    }
+    &text[place + 1..]
+}
+
+/// What is left behind this front.
+#[tactic(auto, unfolding(crate::specs::Paths::without))]
+pub fn without<'a>(text: &'a [u8], front: &[u8]) -> Option<&'a [u8]>
+    ensures { option_copied result ≡ left_behind front.now text.now }
+{
+    text.strip_prefix(front)
+}
+
+/// What is left before this end.
+#[tactic(auto, unfolding(crate::specs::Paths::without_end))]
+pub fn without_end<'a>(text: &'a [u8], end: &[u8]) -> Option<&'a [u8]>
+    ensures { option_copied result ≡ left_before end.now text.now }
+{
+    text.strip_suffix(end)
+}
+
+/// The value of the option that stands first, if it has this name.
+fn first_value<'a>(query: &'a [u8], name: &[u8]) -> Option<&'a [u8]>
+    ensures { option_copied result ≡ value_first name.now query.now }
+{
+    without(before(query, b'&'), name)
+}
+
+/// The value of the first option of this name, which has its `=`, or nothing.
+#[tactic(auto, unfolding(crate::specs::Paths::given))]
+pub fn given<'a>(query: &'a [u8], name: &[u8]) -> &'a [u8]
+    ensures { result.now ≡ value_of name.now query.now }
+{
+    let second = behind(query, b'&');
+    let third = behind(second, b'&');
+    if let Some(value) = first_value(query, name) {
+        return value;
+    }
+    if let Some(value) = first_value(second, name) {
+        return value;
+    }
+    if let Some(value) = first_value(third, name) {
+        return value;
+    }
+    &[]
+}

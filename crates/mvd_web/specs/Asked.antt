@@ -1,0 +1,59 @@
+-- What a request of HTTP asks, by its parts (RFC 9110).
+use Rattle.std.specs.Prelude.{◌≡◌, ◌⊎◌, ◌↔◌, ℕ, Bool, IsTrue, List, [], codes, length, Option, Some, None, option_map}
+use Rattle.std.specs.Str.{bytes_eq}
+use Rattle.http.specs.declared.request.Parts.{Parts}
+use Rattle.http.specs.declared.request.Request.{Request}
+use Rattle.http.specs.declared.version.TheConstants.Version.{HTTP_10}
+use Rattle.http.specs.Request.{head_of, body_of}
+use Rattle.http_header.specs.FieldValue.{FieldValue}
+use Rattle.http_header.specs.HeaderMap.{Entries, get, get_all}
+use Rattle.http_header.specs.Token.{lowercase}
+use Rattle.http_uri.specs.Grammar.{or_slash}
+use Rattle.http_uri.specs.Uri.{uri_authority, uri_path_and_query}
+use Rattle.http_server.specs.declared.response.Response.{Response}
+use Rattle.mvd_http.specs.Asked.{IsQuestion}
+use Rattle.mvd_http.specs.Guard.{is_own}
+use Rattle.mvd_web.specs.declared.asked.Asked.{Asked}
+use Rattle.mvd_web.specs.declared.desk.Desk.{Desk}
+
+-- the value of the first field of a name
+abbrev pub field_in : List ℕ → Entries FieldValue → Option (List ℕ)
+field_in name fields = option_map (λ value. value.bytes) (get fields (lowercase name))
+
+-- the target's own host, or that of the field
+abbrev pub host_or : Option (List ℕ) → Option (List ℕ) → Option (List ℕ)
+host_or (Some authority) field = Some authority
+host_or None field = field
+
+abbrev pub host_of : Parts → Option (List ℕ)
+host_of parts = host_or (uri_authority parts.uri) (field_in (codes "host") parts.headers)
+
+abbrev pub path_or : Option (List ℕ) → List ℕ
+path_or None = []
+path_or (Some path) = or_slash path
+
+-- the path and the query
+abbrev pub target_of : Parts → List ℕ
+target_of parts = path_or (uri_path_and_query parts.uri)
+
+-- it has one field `Host`; in HTTP/1.0 it may have none (RFC 9112, 3.2)
+abbrev pub HasHosts : Parts → ℕ → Type 0
+HasHosts parts count = length (get_all parts.headers (codes "host")) ≡ count
+
+abbrev pub NamesHost : Parts → Type 0
+NamesHost parts = HasHosts parts 1 ⊎ (HasHosts parts 0 × (parts.version ≡ HTTP_10))
+
+-- what the request asks, whether it names one host, whether it comes of this server's own page or of none, and whether its response has no body
+pub record IsAskedBy (request : Request (List ℕ)) (asked : Asked) : Type 0 where
+  pub question : IsQuestion (head_of request).method (target_of (head_of request))
+      (field_in (codes "mvd-context") (head_of request).headers) (body_of request) asked.question
+  pub host : IsTrue asked.names_host ↔ NamesHost (head_of request)
+  pub own : asked.is_own ≡ is_own (host_of (head_of request)) (field_in (codes "origin") (head_of request).headers)
+  pub head : asked.is_head ≡ bytes_eq (head_of request).method (codes "HEAD")
+
+-- the desk kept nothing, and keeps what the request asks
+pub record Keeps (old : Desk) (request : Request (List ℕ)) (response : Response) (new : Desk) : Type 0 where
+  pub none : old.asked ≡ None
+  pub asked : Asked
+  pub kept : new.asked ≡ Some asked
+  pub asks : IsAskedBy request asked

@@ -1,0 +1,5 @@
+pub mod Asked
+pub mod Ends
+pub mod Response
+pub mod Web
+pub mod Inside

@@ -1,0 +1,33 @@
+-- The bytes of a response (RFC 9110 and 9112).
+use Rattle.std.specs.Prelude.{ℕ, ◌==◌, ◌++◌, Bool, true, false, if◌then◌else◌, List, [], ◌∷◌, codes, length}
+use Rattle.std.specs.Fmt.{decimal}
+use Rattle.http1.specs.Fields.{Header}
+use Rattle.http1.specs.Head.{response_text}
+use Rattle.http1_typed.specs.Parts.{reason_of}
+use Rattle.mvd_http.specs.Fields.{fields_for}
+use Rattle.mvd_http.specs.declared.fields.Answer.{Answer}
+use Rattle.mvd_web.specs.declared.response.Manner.{Manner}
+
+-- whether another response may follow
+abbrev pub persistence : Bool → Header
+persistence true = (codes "connection", codes "close")
+persistence false = (codes "connection", codes "keep-alive")
+
+-- the fields that frame a body whose length has these digits; a 204 has no body, and says no length
+abbrev pub framed : ℕ → List ℕ → Bool → List Header
+framed status digits is_last = persistence is_last ∷ (if status == 204 then [] else (codes "content-length", digits) ∷ [])
+
+abbrev pub framing_of : ℕ → ℕ → Bool → List Header
+framing_of status length is_last = framed status (decimal length) is_last
+
+abbrev pub head_bytes : Answer → ℕ → Bool → List ℕ
+head_bytes answer length is_last =
+    response_text 1 answer.status (reason_of answer.status) (fields_for answer ++ framing_of answer.status length is_last)
+
+abbrev pub body_sent : Bool → List ℕ → List ℕ
+body_sent true body = []
+body_sent false body = body
+
+-- a response with this body
+abbrev pub response_bytes : Answer → List ℕ → Manner → List ℕ
+response_bytes answer body manner = head_bytes answer (length body) manner.is_last ++ body_sent manner.is_head body

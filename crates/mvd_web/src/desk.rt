@@ -1,0 +1,33 @@
+//! What keeps a request until it is answered.
+ghost use Rattle.mvd_web.specs.Asked.{Keeps};
+
+use crate::asked::{Asked, asked_by};
+use bytes::Bytes;
+use http::{Request, StatusCode};
+use http_server::{Response, Service};
+use std::alloc::{AllocError, Global};
+
+/// It keeps one request. What it answers is never sent: the response is queued once it is known.
+#[derive(Drop)]
+pub(crate) struct Desk {
+    pub(crate) alloc: Global,
+    pub(crate) asked: Option<Asked>,
+}
+
+impl Service for Desk {
+    ghost answers = { Keeps };
+
+    fn call(
+        &mut self,
+        request: &Request<Bytes>,
+        response: &mut Response,
+    ) -> Result<(), AllocError> {
+        if self.asked.is_some() {
+            return Err(AllocError);
+        }
+        self.asked = Some(asked_by(self.alloc, request));
+        // No request is refused this status.
+        response.status = StatusCode::NOT_FOUND;
+        Ok(())
+    }
+}

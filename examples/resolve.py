@@ -1,0 +1,55 @@
+#!/usr/bin/env python3
+"""Resolves the siblings of a key over HTTP, with Python's standard library alone.
+
+usage: resolve.py URL KEY       where `mvd serve --http` listens, as http://127.0.0.1:7080
+
+Each name keeps the value that all siblings with that name have. Where they differ, it gets a list of all values. The write carries
+the context that was read with the siblings, so it replaces just those: what somebody else wrote meanwhile stays as a sibling.
+"""
+import json
+import sys
+import urllib.error
+import urllib.parse
+import urllib.request
+
+
+def ask(method, url, document=None, context=None):
+    """Sends one request, and gives the response's status and value."""
+    body = None if document is None else json.dumps(document).encode()
+    request = urllib.request.Request(url, body, {"Mvd-Context": context} if context else {}, method=method)
+    try:
+        with urllib.request.urlopen(request) as response:
+            return response.status, json.load(response)
+    except urllib.error.HTTPError as fault:
+        return fault.code, json.load(fault)
+
+
+def merged(documents):
+    values = {}
+    for document in documents:
+        for name, value in document.items():
+            seen = values.setdefault(name, [])
+            if value not in seen:
+                seen.append(value)
+    return {name: seen[0] if len(seen) == 1 else seen for name, seen in values.items()}
+
+
+def main(server, key):
+    url = f"{server.rstrip('/')}/keys/{urllib.parse.quote(key, safe='')}"
+    status, read = ask("GET", url)
+    if "refused" in read:
+        sys.exit(f"refused {read['refused']} {read['name']}")
+    if len(read["siblings"]) < 2:
+        print("nothing to resolve")
+        return
+    document = merged(sibling["document"] for sibling in read["siblings"])
+    status, written = ask("PUT", url, document, read["context"])
+    if status != 201:
+        sys.exit(f"refused {written['refused']} {written['name']}")
+    print(written["dot"], json.dumps(document, sort_keys=True))
+
+
+if __name__ == "__main__":
+    if len(sys.argv) != 3:
+        sys.exit(__doc__)
+    main(*sys.argv[1:])

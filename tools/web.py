@@ -1,0 +1,244 @@
+#!/usr/bin/env python3
+"""Runs `mvd serve --http` as a process and asks it over HTTP: first what is to hold, then the figures.
+
+usage: tools/web.py PROGRAM
+
+PROGRAM is `mvd` as built. It ends with 1 at the first answer that is not the one wanted, and else prints the rows of the table in
+docs/PERFORMANCE.md. The files are made in TMPDIR (else /tmp). WEB_SECONDS has another time for each figure than 3 seconds.
+"""
+import contextlib
+import http.client
+import json
+import os
+import signal
+import socket
+import struct
+import subprocess
+import sys
+import tempfile
+import threading
+import time
+
+from measure_stored import context, document, frame, short
+
+PROGRAM = os.path.realpath(sys.argv[1]) if len(sys.argv) == 2 else sys.exit(__doc__)
+SECONDS = float(os.environ.get("WEB_SECONDS", "3"))
+PATIENCE = 20
+DOCUMENT = {"city": "Oslo", "days": 3}
+
+
+def wanted(what, holds, seen=""):
+    print(f"{'ok ' if holds else 'NOT'} {what}" + ("" if holds else f": {seen}"), flush=True)
+    if not holds:
+        sys.exit(1)
+
+
+def free_port():
+    with socket.create_server(("127.0.0.1", 0)) as free:
+        return free.getsockname()[1]
+
+
+class Server:
+    def __init__(self, folder, *words):
+        self.frames, self.http = free_port(), free_port()
+        defs = os.path.join(folder, "defs")
+        with open(defs, "w") as file:
+            file.write("index city\nview visits city days\n")
+        self.process = subprocess.Popen(
+            [PROGRAM, "serve", "--db", os.path.join(folder, "a.db"), "--site", "1", "--defs", defs, "--port", str(self.frames),
+             "--http", str(self.http), *words], stdout=subprocess.PIPE)
+        lines = [self.process.stdout.readline() for _ in range(2)]
+        wanted("it listens at both ports", lines[1] == b"listening http://127.0.0.1:%d/\n" % self.http, lines)
+
+    def close(self):
+        self.process.send_signal(signal.SIGTERM)
+        self.process.communicate()
+
+    def client(self):
+        return http.client.HTTPConnection("127.0.0.1", self.http, timeout=PATIENCE)
+
+    def ask(self, method, path, body=None, client=None, **fields):
+        one = client or self.client()
+        named = {name.replace("_", "-"): value for name, value in fields.items()}
+        one.request(method, path, body if body is None or isinstance(body, (bytes, str)) else json.dumps(body), named)
+        response = one.getresponse()
+        text = response.read()
+        if not client:
+            one.close()
+        return response.status, text.decode(), response.headers
+
+    def raw(self, text):
+        """What the server sends for these bytes until it ends the connection."""
+        with socket.create_connection(("127.0.0.1", self.http), PATIENCE) as peer:
+            peer.sendall(text)
+            peer.shutdown(socket.SHUT_WR)
+            return b"".join(iter(lambda: peer.recv(65536), b""))
+
+    def is_told(self, what, status, part, *words, **named):
+        got = self.ask(*words, **named)
+        wanted(what, got[0] == status and part in got[1], got[:2])
+
+
+def check_rows(server):
+    told = server.is_told
+    told("a key without a sibling is 404, with its context", 404, '{"key":"ada","context":"-","siblings":[]}', "GET", "/keys/ada")
+    told("a put is 201", 201, '{"dot":"1:1"}', "PUT", "/keys/ada", DOCUMENT)
+    told("a blind put becomes a sibling", 201, '{"dot":"1:2"}', "PUT", "/keys/ada", '{ "city" : "Rome" }')
+    told("a get has both, compact", 200, '"context":"1:2","siblings":[{"dot":"1:1","document":{"city":"Oslo","days":3}},'
+         '{"dot":"1:2","document":{"city":"Rome"}}]}', "GET", "/keys/ada")
+    told("a put with the context replaces both", 201, '{"dot":"1:3"}', "PUT", "/keys/ada", DOCUMENT, mvd_context="1:2")
+    told("escapes are undone", 200, '"key":"ada"', "GET", "/keys/%61da")
+    told("an index", 200, '{"places":[{"term":"Oslo","key":"ada","dot":"1:3"}]}', "GET", "/index/city?is=%22Oslo%22")
+    told("a part of an index", 200, '"key":"ada"', "GET", "/index/city?from=%22A%22&to=%22Z%22")
+    told("the rows of a view", 200, '{"rows":[{"term":"Oslo","count":1,"sum":3,"least":3,"greatest":3}]}', "GET", "/views/visits/rows")
+    told("a row of a view", 200, '"sum":3', "GET", "/views/visits/row?is=%22Oslo%22")
+    told("a node of the hash tree", 200, '"children":[', "GET", "/keys?path=")
+    told("the root", 200, '"keys":1,"site":1}', "GET", "/root")
+    told("counts", 200, "mvd_keys 1\n", "GET", "/metrics")
+    told("counts by kind and outcome", 200, 'mvd_requests_total{kind="put",outcome="done"} 3\n', "GET", "/metrics")
+    told("the page", 200, "<!DOCTYPE html>", "GET", "/")
+    told("a delete without a context is refused", 400, '{"refused":2,"name":"BadContext"}', "DELETE", "/keys/ada")
+    told("a delete is 204", 204, "", "DELETE", "/keys/ada", mvd_context="1:3")
+    told("and then nothing is there", 404, '"context":"1:3","siblings":[]', "GET", "/keys/ada")
+
+
+def check_refusals(server):
+    told = server.is_told
+    told("no JSON", 400, '"refused":3', "PUT", "/keys/k", "{")
+    told("no object", 400, '"refused":4', "PUT", "/keys/k", "[1]")
+    told("no key", 400, '"refused":1', "GET", "/keys/%20")
+    told("a bad escape", 400, '"refused":1', "GET", "/keys/a%zz%00")
+    told("no index", 404, '"refused":12', "GET", "/index/none?is=1")
+    told("no view", 404, '"refused":13', "GET", "/views/none/rows")
+    told("no term", 400, '"refused":15', "GET", "/index/city?is=x")
+    told("no path", 400, '"refused":14', "GET", "/keys?path=x")
+    told("nothing of that name", 404, "", "GET", "/none")
+    told("another method", 405, "", "POST", "/keys/k", "{}")
+    methods = [server.ask("POST", path)[2]["allow"] for path in ("/keys/k", "/root")]
+    wanted("which says those that do", methods == ["GET, HEAD, PUT, DELETE", "GET, HEAD"], methods)
+    told("another origin", 403, "", "GET", "/root", Origin="http://evil.example")
+    told("its own origin", 200, "", "GET", "/root", Origin=f"http://127.0.0.1:{server.http}")
+    told("another name", 403, "", "GET", "/root", Host="evil.example")
+    told("localhost", 200, "", "GET", "/root", Host="localhost:1")
+    wanted("a body over 1 MiB is 413", server.raw(
+        b"PUT /keys/k HTTP/1.1\r\nHost: localhost\r\nContent-Length: 1048577\r\n\r\n").startswith(b"HTTP/1.1 413"))
+    for fields in b"", b"Host: localhost\r\nHost: localhost\r\n", b"Host: localhost\r\nHost: evil.example\r\n":
+        got = server.raw(b"GET /root HTTP/1.1\r\n" + fields + b"Connection: close\r\n\r\n")
+        wanted(f"{fields.count(b'Host')} hosts are 400", got.startswith(b"HTTP/1.1 400"), got)
+    got = server.raw(b"GET /root HTTP/1.0\r\n\r\n")
+    wanted("HTTP/1.0 without a host is 403", got.startswith(b"HTTP/1.1 403"), got)
+    wanted("no HTTP is 400", server.raw(b"\x00\x01\r\n\r\n").startswith(b"HTTP/1.1 400"))
+
+
+def check_connections(server):
+    client = server.client()
+    wanted("a connection is kept", all(server.ask("GET", "/root", client=client)[0] == 200 for _ in range(5)))
+    whole, head = server.ask("GET", "/keys/big", client=client), server.ask("HEAD", "/keys/big", client=client)
+    wanted("HEAD has no body", (head[0], head[1], head[2]["content-length"]) == (whole[0], "", str(len(whole[1]))), head[:2])
+    policy = head[2]["content-security-policy"]
+    wanted("each response has the policy", policy.startswith("default-src 'none'"), policy)
+    one = b"PUT /keys/p%d HTTP/1.1\r\nHost: localhost\r\nContent-Length: 2\r\n\r\n{}"
+    got = server.raw(b"".join(one % n for n in range(100)))
+    wanted("a hundred puts in one piece are answered in order", got.count(b"HTTP/1.1 201") == 100, got[:200])
+    old = server.raw(b"GET /root HTTP/1.0\r\nHost: localhost\r\n\r\n")
+    wanted("HTTP/1.0 is closed", b"connection: close" in old, old)
+    big = {"n": "x" * 60_000}
+    server.is_told("a document of 60 KB", 201, "dot", "PUT", "/keys/big", big)
+    server.is_told("comes back", 200, json.dumps(big, separators=(",", ":")), "GET", "/keys/big")
+    server.is_told("one over 65,536 bytes is refused", 400, '"refused":6', "PUT", "/keys/big", {"n": "x" * 70_000})
+    with socket.create_connection(("127.0.0.1", server.http), PATIENCE) as slow:
+        slow.sendall(b"PUT /keys/slow HTTP/1.1\r\nHost: localhost\r\nExpect: 100-continue\r\nContent-Length: 7\r\n\r\n")
+        wanted("the body is asked for", slow.recv(65536) == b"HTTP/1.1 100 Continue\r\n\r\n")
+        for byte in b'{"a":1}':
+            server.is_told("others are answered meanwhile", 200, "root", "GET", "/root")
+            slow.sendall(bytes([byte]))
+        wanted("a slow body is taken", slow.recv(65536).startswith(b"HTTP/1.1 201"))
+
+
+def check_together(server):
+    """64 curls at once beside a client of frames."""
+    curls = [subprocess.Popen(["curl", "-s", "-X", "PUT", "-d", '{"n":%d}' % n, f"http://127.0.0.1:{server.http}/keys/c{n % 8}"],
+                              stdout=subprocess.PIPE) for n in range(64)]
+    with socket.create_connection(("127.0.0.1", server.frames), PATIENCE) as peer:
+        for number in range(1, 65):
+            put_frame(peer, "both", number)
+    dots = sorted(curl.communicate()[0] for curl in curls)
+    wanted("64 curls at once beside frames", all(dot.startswith(b'{"dot":"1:') for dot in dots), dots)
+    for n in range(8):
+        found = json.loads(server.ask("GET", f"/keys/c{n}")[1])
+        wanted(f"8 siblings at c{n}", len(found["siblings"]) == 8, found)
+
+
+# ---- figures
+
+def put_frame(peer, key, counter):
+    before, text = context(1, counter - 1) if counter > 1 else bytes(4), document(counter)
+    peer.sendall(frame(0x22, short(key) + before + struct.pack(">I", len(text)) + text))
+    (length,) = struct.unpack(">I", peer.recv(4, socket.MSG_WAITALL))
+    if peer.recv(length, socket.MSG_WAITALL)[0] != 0xA2:
+        sys.exit("web: a put of a frame was refused")
+
+
+def frames_put(server, name):
+    with socket.create_connection(("127.0.0.1", server.frames), PATIENCE) as peer:
+        counter = 0
+        while True:
+            counter += 1
+            put_frame(peer, name, counter)
+            yield
+
+
+def web(server, name, gets):
+    with socket.create_connection(("127.0.0.1", server.http), PATIENCE) as peer:
+        stream, counter = peer.makefile("rb"), 0
+        while True:
+            counter += 1
+            body, seen = document(counter), f"Mvd-Context: 1:{counter - 1}\r\n" if counter > 1 else ""
+            put = f"PUT /keys/{name} HTTP/1.1\r\nHost: localhost\r\n{seen}Content-Length: {len(body)}\r\n\r\n".encode() + body
+            peer.sendall(b"GET /keys/%s HTTP/1.1\r\nHost: localhost\r\n\r\n" % name.encode() if gets and counter > 1 else put)
+            status, length = stream.readline(), 0
+            for line in iter(stream.readline, b"\r\n"):
+                if line.startswith(b"content-length: "):
+                    length = int(line[16:])
+            stream.read(length)
+            if status.split()[1] not in (b"200", b"201"):
+                sys.exit(f"web: {status}")
+            yield
+
+
+def figure(what, clients):
+    counts = [0] * len(clients)
+    ends = time.monotonic() + SECONDS
+
+    def run(place, steps):
+        with contextlib.closing(steps):
+            while time.monotonic() < ends:
+                next(steps)
+                counts[place] += 1
+
+    threads = [threading.Thread(target=run, args=each) for each in enumerate(clients)]
+    for thread in threads:
+        thread.start()
+    for thread in threads:
+        thread.join()
+    print(f"| {what} | {sum(counts) / SECONDS:,.0f} |", flush=True)
+
+
+def main():
+    with tempfile.TemporaryDirectory() as folder:
+        server = Server(folder)
+        try:
+            for check in check_rows, check_refusals, check_connections, check_together:
+                check(server)
+            print("| Clients | a second |\n|---|---:|")
+            for number in 1, 8:
+                figure(f"{number} of frames, puts", [frames_put(server, f"f{number}-{n}") for n in range(number)])
+                figure(f"{number} over HTTP, puts", [web(server, f"h{number}-{n}", False) for n in range(number)])
+                figure(f"{number} over HTTP, gets", [web(server, f"g{number}-{n}", True) for n in range(number)])
+            figure("4 of frames and 4 over HTTP, puts", [frames_put(server, f"m{n}") for n in range(4)]
+                   + [web(server, f"w{n}", False) for n in range(4)])
+        finally:
+            server.close()
+
+
+main()

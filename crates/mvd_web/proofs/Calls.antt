@@ -1,13 +1,22 @@
--- The calls of a desk that keeps one request.
-use Rattle.std.proofs.Common.{◌≡◌, ◌⊎◌, ◌∙◌, ◌++◌, ap, append-nil, append_assoc, inl, inr, Option, refl, is_some, Bool, ℕ, option_map, List, [], ◌∷◌, Some, None, subst, sym}
+-- The calls of a desk that keeps one request, and what the connection makes of them.
+use Rattle.std.proofs.Common.{arith, ◌≡◌, ◌⊎◌, ◌↔◌, ◌∙◌, ◌++◌, ◌-◌, ◌<◌, ◌≤◌, ◌&&◌, ap, append-nil, append_assoc, inl, inr, Option, refl, is_none, is_some, is_err, nat_lt, Bool, true, false, ℕ, option_map, drop, length, List, [], ◌∷◌, Some, None, Result, Ok, Err, OnOk, IsTrue, subst, sym}
+use Rattle.std.proofs.lemmas.List.{length-drop, take-append-drop}
+use Rattle.bytes.specs.Unread.{IsChunkOf}
 use Rattle.http_server.specs.Exchange.{Call, Calls, Chain}
-use Rattle.http_server.specs.History.{History}
-use Rattle.mvd_web.specs.Asked.{Keeps}
+use Rattle.http_server.specs.History.{History, Rests, after_sent}
+use Rattle.http_server.specs.declared.state.Config.{Config}
 use Rattle.mvd_dots.specs.declared.refusals.Refusal.{Refusal}
-use Rattle.mvd_web.specs.Web.{Drops, first_cause, Queues, Takes, TakesNone, TakesOne, WebValue, unasked}
+use Rattle.mvd_dots.specs.declared.refusals.Refusal.TheVariants.{Memory}
+use Rattle.mvd_http.specs.declared.fields.Answer.{Answer}
+use Rattle.mvd_web.specs.Asked.{Keeps}
+use Rattle.mvd_web.specs.Response.{response_bytes}
+use Rattle.mvd_web.specs.Steps.{Drops, Moves, PassesAll, PassesOn, Quiet, Reads, ReadsNone, ReadsOne, Settles}
+use Rattle.mvd_web.specs.Web.{LooksIf, MayRest, Queues, RespondsTo, Stays, Takes, TellsAll, WebValue, first_cause, is_closed, is_free, manner_of, stopped_by, unasked}
 use Rattle.mvd_web.specs.declared.asked.Asked.{Asked}
-use Rattle.mvd_web.specs.declared.response.Manner.{Manner}
 use Rattle.mvd_web.specs.declared.desk.Desk.{Desk}
+use Rattle.mvd_web.specs.declared.response.Manner.{Manner}
+
+-- ---- the desk
 
 -- it was called once, and keeps that request
 pub record CalledOnce (old new : Desk) (calls : List Call) : Type 0 where
@@ -21,55 +30,170 @@ at_most_one old new (c ∷ []) (next, k, e) = inr (record { call = c; one = refl
 at_most_one old new (c ∷ d ∷ calls) (next, k, (later, l, h)) = absurd (cc (k.kept, l.none))
 
 took : (before after : Desk) (old new : WebValue) (calls : List Call) → new.heard.calls ≡ old.heard.calls ++ calls → old.asked ≡ before.asked → new.asked ≡ after.asked → before.asked ≡ None
-    → new.waits ≡ old.waits → new.heard.sent ≡ old.heard.sent → ((calls ≡ []) × (after ≡ before)) ⊎ CalledOnce before after calls → Takes old (is_some new.asked) new
-took before after old new calls e p q none w t (inl (n, s)) =
+    → Quiet old new → Rests new.config new.heard → ((calls ≡ []) × (after ≡ before)) ⊎ CalledOnce before after calls → Reads old (is_some new.asked) new
+took before after old new calls e p q none quiet rests (inl (n, s)) =
     let still : new.asked ≡ None = q ∙ ap (λ (d : Desk). d.asked) s ∙ none in
-    subst (λ o. Takes old (is_some o) new) (sym still) (record { calls = e ∙ ap (λ l. old.heard.calls ++ l) n ∙ append-nil old.heard.calls; asked = still ∙ sym (p ∙ none); told = []; waits = w ∙ sym (append-nil old.waits); sent = t ∙ sym (append-nil old.heard.sent) })
-took before after old new calls e p q none w t (inr once) =
+    subst (λ o. Reads old (is_some o) new) (sym still) (record { calls = e ∙ ap (λ l. old.heard.calls ++ l) n ∙ append-nil old.heard.calls; asked = still ∙ sym (p ∙ none); rests = rests; quiet = quiet })
+took before after old new calls e p q none quiet rests (inr once) =
     let kept : new.asked ≡ Some once.keeps.asked = q ∙ once.keeps.kept in
-    subst (λ o. Takes old (is_some o) new) (sym kept)
-    (record { call = once.call; calls = e ∙ ap (λ l. old.heard.calls ++ l) once.one; asked = once.keeps.asked; kept = kept; asks = once.keeps.asks; waits = w })
+    subst (λ o. Reads old (is_some o) new) (sym kept)
+    (record { call = once.call; calls = e ∙ ap (λ l. old.heard.calls ++ l) once.one; plain = once.keeps.plain; asked = once.keeps.asked; kept = kept; asks = once.keeps.asks; quiet = quiet })
 
 -- a desk that kept nothing reads one request or none
-pub takes : (before after : Desk) (old new : WebValue) → Calls Keeps before after old.heard.calls new.heard.calls → old.asked ≡ before.asked → new.asked ≡ after.asked
-    → before.asked ≡ None → new.waits ≡ old.waits → new.heard.sent ≡ old.heard.sent → Takes old (is_some new.asked) new
-takes before after old new (calls, e, chain) p q none w t = took before after old new calls e p q none w t (at_most_one before after calls chain)
+pub reads : (before after : Desk) (old new : WebValue) → Calls Keeps before after old.heard.calls new.heard.calls → old.asked ≡ before.asked → new.asked ≡ after.asked
+    → before.asked ≡ None → Quiet old new → Rests new.config new.heard → Reads old (is_some new.asked) new
+reads before after old new (calls, e, chain) p q none quiet rests = took before after old new calls e p q none quiet rests (at_most_one before after calls chain)
 
-pub none_then : (a b c : WebValue) → TakesNone a b → TakesNone b c → TakesNone a c
-none_then a b c one two = record {
+-- ---- one call after another
+
+pub stays_then : (a b c : WebValue) → Stays a b → Stays b c → Stays a c
+stays_then a b c one two = record { config = two.config ∙ one.config; received = two.received ∙ one.received; ended = two.ended ∙ one.ended }
+
+pub takes_one : (a b c : WebValue) → IsTrue (is_free a) → ReadsOne a b → Drops b c → c.heard.pending ≡ [] → Takes a true c
+takes_one a b c free one two none = (
+  free,
+  record {
+    call = one.call;
+    calls = two.calls ∙ one.calls;
+    plain = one.plain;
+    asked = one.asked;
+    kept = two.asked ∙ one.kept;
+    asks = one.asks;
+    waits = two.waits ∙ one.quiet.waits;
+    none_left = none;
+    stopped = two.stopped ∙ one.quiet.stopped;
+    stays = stays_then a b c one.quiet.stays two.stays;
+  },
+)
+
+may_rest : (told : List ℕ) (b c : WebValue) → Rests b.config b.heard → c.config ≡ b.config → Settles told b c → MayRest told c
+may_rest [] b c rests same (true_now, heard) = (true_now, subst (λ h. Rests c.config h) (sym heard) (subst (λ f. Rests f b.heard) (sym same) rests))
+may_rest (x ∷ xs) b c rests same settles = settles
+
+tells : (told : List ℕ) (a b c : WebValue) → b.stopped ≡ a.stopped → Rests b.config b.heard → c.config ≡ b.config → PassesAll b told c → TellsAll a told c
+tells told a b c was rests same (inl (s, none, settles)) = inl (s ∙ was, none, may_rest told b c rests same settles)
+tells told a b c was rests same (inr s) = inr (s ∙ ap (λ o. first_cause o Memory) was)
+
+pub takes_none : (a b c : WebValue) → IsTrue (is_free a) → ReadsNone a b → PassesOn b c → Takes a false c
+takes_none a b c free one two = subst (λ f. LooksIf f a c) (sym free) (record {
   calls = two.calls ∙ one.calls;
   asked = two.asked ∙ one.asked;
-  told = one.told ++ two.told;
-  waits = rw (two.waits, one.waits) (simp append_assoc);
+  told = two.told;
+  waits = rw (two.waits, one.quiet.waits) refl;
+  sent = rw (two.sent, one.quiet.sent) refl;
+  tells = tells two.told a b c one.quiet.stopped one.rests two.stays.config two.ends;
+  stays = stays_then a b c one.quiet.stays two.stays;
+})
+
+pub moves_then : (a b c : WebValue) → Moves a b → Moves b c → Moves a c
+moves_then a b c one two = record {
+  part = one.part ++ two.part;
+  split = rw (one.split, two.split) (simp append_assoc);
   sent = rw (two.sent, one.sent) (simp append_assoc);
+  waits = rw (two.waits, one.waits) (simp append_assoc);
+  calls = two.calls ∙ one.calls;
+  asked = two.asked ∙ one.asked;
+  stopped = two.stopped ∙ one.stopped;
+  rests = two.rests ∙ one.rests;
+  stays = stays_then a b c one.stays two.stays;
 }
 
-pub one_then_drops : (a b c : WebValue) → TakesOne a b → Drops b c → TakesOne a c
-one_then_drops a b c one two = record { call = one.call; calls = two.0 ∙ one.calls; asked = one.asked; kept = two.1 ∙ one.kept; asks = one.asks; waits = two.2 ∙ one.waits }
+-- ---- the parts of a call
 
--- nothing happened, but that bytes of the kit's connection were queued
-pub none_told : (a b : WebValue) (told : List ℕ) → b.heard.calls ≡ a.heard.calls → b.asked ≡ a.asked → b.waits ≡ a.waits ++ told → b.heard.sent ≡ a.heard.sent ++ told → TakesNone a b
-none_told a b told c k w s = record { calls = c; asked = k; told = told; waits = w; sent = s }
+free_at : (stopped : Option Refusal) (asked : Option Asked) (room : Bool) → IsTrue (is_none stopped && (is_none asked && room)) → asked ≡ None
+free_at None None room h = refl
+free_at None (Some asked) room h = absurd (cc h)
+free_at (Some refusal) asked room h = absurd (cc h)
 
-pub nothing : (a b : WebValue) → b.heard ≡ a.heard → b.asked ≡ a.asked → b.waits ≡ a.waits → TakesNone a b
-nothing a b h k w = record {
-  calls = ap (λ (x : History). x.calls) h;
-  asked = k;
+pub free_desk : (w : WebValue) → IsTrue (is_free w) → w.asked ≡ None
+free_desk w free = free_at w.stopped w.asked (nat_lt (length w.waits) 262144) free
+
+pub not_free : (w : WebValue) (free : Bool) → free ≡ is_free w → free ≡ false → Takes w false w
+not_free w free e is = subst (λ f. LooksIf f w w) (sym is ∙ e) refl
+
+none_waits : (xs : List ℕ) (b : Bool) → (IsTrue b ↔ (0 < length xs)) → b ≡ false → xs ≡ []
+none_waits [] b h e = refl
+none_waits (x ∷ xs) b h e = absurd (cc (h.1 (omega arith), e))
+
+pub passes_nothing : (old : WebValue) (b : Bool) → (IsTrue b ↔ (0 < length old.heard.pending)) → b ≡ false → PassesOn old (record old { rests = true })
+passes_nothing old b h e = record {
   told = [];
-  waits = w ∙ sym (append-nil a.waits);
-  sent = ap (λ (x : History). x.sent) h ∙ sym (append-nil a.heard.sent);
+  sent = sym (append-nil old.heard.sent);
+  waits = sym (append-nil old.waits);
+  calls = refl;
+  asked = refl;
+  ends = inl (refl, none_waits old.heard.pending b h e, (refl, refl));
+  stays = record { config = refl; received = refl; ended = refl };
 }
 
--- a connection that was stopped has a cause
-pub never_none : (o : Option Refusal) (refusal : Refusal) → first_cause o refusal ≡ None → ⊥
-never_none None refusal e = absurd (cc e)
-never_none (Some first) refusal e = absurd (cc e)
+told_some : (part pending : List ℕ) (old new : WebValue) → pending ≡ part ++ [] → 0 < length pending → new.rests ≡ false → Settles part old new
+told_some [] pending old new e some awake = let l : length pending ≡ 0 = ap length e in absurd (omega (arith, l, some))
+told_some (b ∷ bs) pending old new e some awake = awake
+
+pub on_ok : {T E : Type 0} (r : Result T E) (P : Type 0) → is_err r ≡ false → OnOk r P → P
+on_ok (Ok x) P e h = h
+on_ok (Err x) P e h = absurd (cc e)
+
+pub moved_all : (old mid : WebValue) → Moves (record old { rests = false }) mid → mid.heard.pending ≡ [] → 0 < length old.heard.pending → PassesOn old mid
+moved_all old mid m none some = record {
+  told = m.part;
+  sent = m.sent;
+  waits = m.waits;
+  calls = m.calls;
+  asked = m.asked;
+  ends = inl (m.stopped, none, told_some m.part old.heard.pending old mid (m.split ∙ ap (λ l. m.part ++ l) none) some m.rests);
+  stays = record { config = m.stays.config; received = m.stays.received; ended = m.stays.ended };
+}
+
+pub moved_some : (old mid new : WebValue) → Moves (record old { rests = false }) mid → new ≡ stopped_by mid Memory → PassesOn old new
+moved_some old mid new m e = subst (λ w. PassesOn old w) (sym e) (record {
+  told = m.part;
+  sent = m.sent;
+  waits = m.waits;
+  calls = m.calls;
+  asked = m.asked;
+  ends = inr (ap (λ o. first_cause o Memory) m.stopped);
+  stays = record { config = m.stays.config; received = m.stays.received; ended = m.stays.ended };
+})
+
+-- a piece of what was pending is handed out, and queued
+pub moves_piece : (old mid : WebValue) (piece waits : List ℕ) (config : Config) (heard : History) → IsChunkOf piece mid.heard.pending → waits ≡ mid.waits ++ piece → heard ≡ after_sent mid.heard (length piece)
+    → config ≡ mid.config → Moves old mid → Moves old (record mid { config = config; heard = heard; waits = waits })
+moves_piece old mid piece waits config heard chunk queued handed same m =
+    let next : WebValue = record mid { config = config; heard = heard; waits = waits } in
+    moves_then old mid next m (record {
+      part = piece;
+      split = sym (take-append-drop (length piece) mid.heard.pending) ∙ ap (λ l. l ++ drop (length piece) mid.heard.pending) chunk.front ∙ ap (λ (h : History). piece ++ h.pending) (sym handed);
+      sent = ap (λ (h : History). h.sent) handed ∙ ap (λ l. mid.heard.sent ++ l) chunk.front;
+      waits = queued;
+      calls = ap (λ (h : History). h.calls) handed;
+      asked = refl;
+      stopped = refl;
+      rests = refl;
+      stays = record { config = same; received = ap (λ (h : History). h.received) handed; ended = ap (λ (h : History). h.ended) handed };
+    })
+
+-- and of what was pending less is left
+pub falls : (pending piece : List ℕ) (h new : History) (b : Bool) → pending ≡ h.pending → IsChunkOf piece pending → (IsTrue b ↔ (0 < length pending)) → b ≡ true → new ≡ after_sent h (length piece) → length new.pending < length pending
+falls pending piece h new b same chunk waits more e =
+    let some : 0 < length piece = chunk.some (waits.0 more) in
+    let l : length new.pending ≡ length pending - length piece =
+    ap (λ (x : History). length x.pending) e ∙ ap (λ p. length (drop (length piece) p)) (sym same) ∙ length-drop (length piece) pending in
+    let f : length piece ≤ length pending = chunk.fits in
+    omega (arith, l, some, f)
 
 -- the response that is queued is the one to the request that waited
-pub responds : (old mid new : WebValue) (is_head : Bool) (manner : Manner) (bytes : Manner → List ℕ) → Some is_head ≡ option_map (λ (a : Asked). a.is_head) old.asked
-    → mid ≡ unasked old → manner.is_head ≡ is_head → Queues mid (bytes manner) new
-    → (asked : Asked) → old.asked ≡ Some asked → (m : Manner) × (m.is_head ≡ asked.is_head) × Queues old (bytes m) new
-responds old mid new is_head manner bytes h e k q asked some =
+pub responds : (old mid new : WebValue) (answer : Answer) (body : List ℕ) (is_head : Bool) (manner : Manner) → Some is_head ≡ option_map (λ (a : Asked). a.is_head) old.asked
+    → mid ≡ unasked old → manner ≡ record { is_last = is_closed mid.heard.state; is_head = is_head } → Queues mid (response_bytes answer body manner) new
+    → (asked : Option Asked) → old.asked ≡ asked → RespondsTo asked old answer body new
+responds old mid new answer body is_head manner h e k q None none = absurd (cc (h ∙ ap (option_map (λ (a : Asked). a.is_head)) none))
+responds old mid new answer body is_head manner h e k q (Some asked) some =
     let both : Some is_head ≡ Some asked.is_head = h ∙ ap (option_map (λ (a : Asked). a.is_head)) some in
     let same : is_head ≡ asked.is_head = cc in
-    (manner, k ∙ same, subst (λ w. Queues w (bytes manner) new) e q)
+    let now : manner ≡ manner_of old asked = k ∙ (λ i. record { is_last = is_closed (e i).heard.state; is_head = same i }) in
+    subst (λ w. Queues w (response_bytes answer body (manner_of old asked)) new) e (subst (λ m. Queues mid (response_bytes answer body m) new) now q)
+
+pub nobody : (old mid : WebValue) (answer : Answer) (body : List ℕ) (asked : Option Asked) → None ≡ option_map (λ (a : Asked). a.is_head) old.asked → mid ≡ unasked old → old.asked ≡ asked
+    → RespondsTo asked old answer body mid
+nobody old mid answer body None h e none = e ∙ (λ i. record old { asked = sym none i })
+nobody old mid answer body (Some asked) h e some = absurd (cc (h ∙ ap (option_map (λ (a : Asked). a.is_head)) some))

@@ -1,5 +1,5 @@
 -- What a request of HTTP asks, by its parts (RFC 9110).
-use Rattle.std.specs.Prelude.{◌≡◌, ◌⊎◌, ◌↔◌, ℕ, Bool, IsTrue, List, [], codes, length, Option, Some, None, option_map}
+use Rattle.std.specs.Prelude.{◌≡◌, ◌⊎◌, ◌↔◌, ℕ, IsTrue, List, [], codes, length, Option, Some, None, option_map}
 use Rattle.std.specs.Str.{bytes_eq}
 use Rattle.http.specs.declared.request.Parts.{Parts}
 use Rattle.http.specs.declared.request.Request.{Request}
@@ -10,6 +10,7 @@ use Rattle.http_header.specs.HeaderMap.{Entries, get, get_all}
 use Rattle.http_header.specs.Token.{lowercase}
 use Rattle.http_uri.specs.Grammar.{or_slash}
 use Rattle.http_uri.specs.Uri.{uri_authority, uri_path_and_query}
+use Rattle.http_server.specs.Response.{IsResponse}
 use Rattle.http_server.specs.declared.response.Response.{Response}
 use Rattle.mvd_http.specs.Asked.{IsQuestion}
 use Rattle.mvd_http.specs.Guard.{is_own}
@@ -51,9 +52,10 @@ pub record IsAskedBy (request : Request (List ℕ)) (asked : Asked) : Type 0 whe
   pub own : asked.is_own ≡ is_own (host_of (head_of request)) (field_in (codes "origin") (head_of request).headers)
   pub head : asked.is_head ≡ bytes_eq (head_of request).method (codes "HEAD")
 
--- the desk kept nothing, and keeps what the request asks
+-- The desk kept nothing, and keeps what the request asks. Its own response is plain: the kit's connection is not closed for it.
 pub record Keeps (old : Desk) (request : Request (List ℕ)) (response : Response) (new : Desk) : Type 0 where
   pub none : old.asked ≡ None
   pub asked : Asked
   pub kept : new.asked ≡ Some asked
   pub asks : IsAskedBy request asked
+  pub plain : IsResponse 404 [] [] response

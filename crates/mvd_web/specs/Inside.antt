@@ -1,7 +1,14 @@
 -- What a clause reads of a connection.
-use Rattle.http_server.specs.Connection.{history}
+use Rattle.http_server.specs.Connection.{config_of, history}
 use Rattle.mvd_web.specs.Web.{WebValue}
 use Rattle.mvd_web.specs.declared.connection.WebConnection.{WebConnection}
 
 abbrev pub web_of : WebConnection → WebValue
-web_of w = record { heard = history w.parser; asked = w.desk.asked; waits = w.output.items; stopped = w.stopped }
+web_of w = record {
+  config = config_of w.parser;
+  heard = history w.parser;
+  asked = w.desk.asked;
+  waits = w.output.items;
+  rests = w.rests;
+  stopped = w.stopped;
+}

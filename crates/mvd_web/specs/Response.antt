@@ -1,5 +1,5 @@
 -- The bytes of a response (RFC 9110 and 9112).
-use Rattle.std.specs.Prelude.{ℕ, ◌==◌, ◌++◌, Bool, true, false, if◌then◌else◌, List, [], ◌∷◌, codes, length}
+use Rattle.std.specs.Prelude.{ℕ, ◌==◌, ◌++◌, ◌||◌, Bool, true, false, if◌then◌else◌, List, [], ◌∷◌, codes, length}
 use Rattle.std.specs.Fmt.{decimal}
 use Rattle.http1.specs.Fields.{Header}
 use Rattle.http1.specs.Head.{response_text}
@@ -28,6 +28,10 @@ abbrev pub body_sent : Bool → List ℕ → List ℕ
 body_sent true body = []
 body_sent false body = body
 
+-- a response to a HEAD is sent without its body, and so is a 204 (RFC 9110, 9.3.2 and 15.3.5)
+abbrev pub has_no_body : Answer → Manner → Bool
+has_no_body answer manner = manner.is_head || (answer.status == 204)
+
 -- a response with this body
 abbrev pub response_bytes : Answer → List ℕ → Manner → List ℕ
-response_bytes answer body manner = head_bytes answer (length body) manner.is_last ++ body_sent manner.is_head body
+response_bytes answer body manner = head_bytes answer (length body) manner.is_last ++ body_sent (has_no_body answer manner) body

@@ -1,23 +1,47 @@
 -- What a connection of HTTP is, and what its calls make of it.
-use Rattle.std.specs.Prelude.{◌≡◌, ◌⊎◌, ◌≤◌, ℕ, Bool, true, false, List, [], ◌∷◌, ◌++◌, length, drop, Option, Some, None, if◌then◌else◌}
+use Rattle.std.specs.Prelude.{◌≡◌, ◌⊎◌, ◌&&◌, ℕ, Bool, true, false, not, nat_lt, List, [], ◌∷◌, ◌++◌, length, drop, Option, Some, None, is_none, IsTrue}
 use Rattle.http_server.specs.Exchange.{Call}
-use Rattle.http_server.specs.History.{History, new_history}
+use Rattle.http_server.specs.History.{History, IsDone, Rests, WantsRead, new_history}
+use Rattle.http_server.specs.Response.{IsResponse}
+use Rattle.http_server.specs.declared.state.Config.{Config}
+use Rattle.http_server.specs.declared.state.State.{State}
+use Rattle.http_server.specs.declared.state.State.TheVariants.{Open}
 use Rattle.mvd_conn.specs.declared.ending.Ending.{Ending}
 use Rattle.mvd_conn.specs.declared.ending.Ending.TheVariants.{Stopped}
 use Rattle.mvd_dots.specs.declared.refusals.Refusal.{Refusal}
+use Rattle.mvd_dots.specs.declared.refusals.Refusal.TheVariants.{Memory}
+use Rattle.mvd_http.specs.declared.fields.Answer.{Answer}
 use Rattle.mvd_web.specs.Asked.{IsAskedBy}
 use Rattle.mvd_web.specs.Ends.{ending_of}
+use Rattle.mvd_web.specs.Response.{response_bytes}
 use Rattle.mvd_web.specs.declared.asked.Asked.{Asked}
+use Rattle.mvd_web.specs.declared.response.Manner.{Manner}
 
--- what was read so far, the request that waits for its answer, the bytes that wait to leave, and why nothing more is done
+-- the limits of what is read, what was read so far, the request that waits for its answer, the bytes that wait to leave, whether
+-- all that came was looked at, and why nothing more is done
 pub record WebValue : Type 0 where
+  pub config : Config
   pub heard : History
   pub asked : Option Asked
   pub waits : List ℕ
+  pub rests : Bool
   pub stopped : Option Refusal
 
-abbrev pub new_web : WebValue
-new_web = record { heard = new_history; asked = None; waits = []; stopped = None }
+-- the limits of a request, in bytes; while one waits for its answer, none is read
+pub record AreLimits (config : Config) : Type 0 where
+  pub head : config.limits.max_head_len ≡ 16384
+  pub extensions : config.limits.max_extensions_len ≡ 16384
+  pub trailers : config.limits.max_trailers_len ≡ 16384
+  pub body : config.max_body_len ≡ 1048576
+  pub pending : config.max_pending ≡ 0
+
+abbrev pub new_web : Config → WebValue
+new_web config = record { config = config; heard = new_history; asked = None; waits = []; rests = true; stopped = None }
+
+abbrev pub IsNew : WebValue → Type 0
+IsNew w = AreLimits w.config × (w ≡ new_web w.config)
+
+-- ---- stopping, and the end
 
 -- the first cause stays
 abbrev pub first_cause : Option Refusal → Refusal → Option Refusal
@@ -27,14 +51,6 @@ first_cause (Some first) refusal = Some first
 abbrev pub stopped_by : WebValue → Refusal → WebValue
 stopped_by w refusal = record w { stopped = first_cause w.stopped refusal }
 
--- the request no longer waits for its answer
-abbrev pub unasked : WebValue → WebValue
-unasked w = record w { asked = None }
-
--- so many of the waiting bytes left
-abbrev pub sent : WebValue → ℕ → WebValue
-sent w count = record w { waits = drop count w.waits }
-
 -- the ending of a connection that was stopped, or as the reading of requests stands
 abbrev pub ended : Option Refusal → Option Ending → Option Ending
 ended None ending = ending
@@ -43,32 +59,124 @@ ended (Some refusal) ending = Some (Stopped refusal)
 abbrev pub web_ending : WebValue → Option Ending
 web_ending w = ended w.stopped (ending_of w.heard.state)
 
--- One more request was read, and this is what it asks. Nothing was queued: its response is not known yet.
+-- it was stopped, or no request follows and each was answered, with all its bytes
+abbrev pub IsOver : WebValue → Type 0
+IsOver w = (w.stopped ≡ None → IsDone w.heard × (w.asked ≡ None) × (w.waits ≡ []))
+
+-- ---- what comes in
+
+-- a request may be taken: it was not stopped, none waits for its answer, and there is room for responses
+abbrev pub is_free : WebValue → Bool
+is_free w = is_none w.stopped && (is_none w.asked && nat_lt (length w.waits) 262144)
+
+-- all that came was looked at, and more is wanted
+abbrev pub WantsInput : WebValue → Type 0
+WantsInput w = IsTrue w.rests × IsTrue (is_free w) × WantsRead w.config w.heard
+
+-- there is something to look at
+abbrev pub is_awake : WebValue → Bool
+is_awake w = not w.rests && is_free w
+
+-- these bytes came
+abbrev pub heard_more : History → List ℕ → History
+heard_more h bytes = record h { received = h.received ++ bytes; unread = h.unread ++ bytes }
+
+abbrev pub fed : WebValue → List ℕ → WebValue
+fed w bytes = record w { heard = heard_more w.heard bytes; rests = false }
+
+-- all bytes came, unless the input was at its end; or those of a front, and the connection is stopped for want of memory
+abbrev pub FeedsFront : WebValue → List ℕ → List ℕ → WebValue → Type 0
+FeedsFront old front rest new =
+    ((new ≡ fed old front) × (old.heard.ended ≡ false → rest ≡ [])) ⊎ (new ≡ stopped_by (fed old front) Memory)
+
+abbrev pub Feeds : WebValue → List ℕ → WebValue → Type 0
+Feeds old bytes new = (front : List ℕ) × (rest : List ℕ) × (bytes ≡ front ++ rest) × FeedsFront old front rest new
+
+-- the input is at its end, or the connection is stopped for want of memory
+abbrev pub at_end : WebValue → WebValue
+at_end w = record w { heard = record (w.heard) { ended = true }; rests = false }
+
+abbrev pub EndsInput : WebValue → WebValue → Type 0
+EndsInput old new = (new ≡ at_end old) ⊎ (new ≡ stopped_by (record old { rests = false }) Memory)
+
+-- ---- requests
+
+-- nothing came, and the limits are the same
+pub record Stays (old new : WebValue) : Type 0 where
+  pub config : new.config ≡ old.config
+  pub received : new.heard.received ≡ old.heard.received
+  pub ended : new.heard.ended ≡ old.heard.ended
+
+-- One more request was read, and this is what it asks. Nothing was queued: its response is not known yet. What the kit's connection
+-- had to say in its place is a plain response, which closes nothing, and of that no byte is left to be queued.
 pub record TakesOne (old new : WebValue) : Type 0 where
   pub call : Call
   pub calls : new.heard.calls ≡ old.heard.calls ++ call ∷ []
+  pub plain : IsResponse 404 [] [] call.1
   pub asked : Asked
   pub kept : new.asked ≡ Some asked
   pub asks : IsAskedBy call.0 asked
   pub waits : new.waits ≡ old.waits
+  pub none_left : new.heard.pending ≡ []
+  pub stopped : new.stopped ≡ old.stopped
+  pub stays : Stays old new
 
--- No request was read, and the one that waits for its answer still does. What was queued is what the kit's connection handed out.
+-- where nothing was told, each whole request that came was read
+abbrev pub MayRest : List ℕ → WebValue → Type 0
+MayRest [] new = IsTrue new.rests × Rests new.config new.heard
+MayRest (b ∷ bs) new = new.rests ≡ false
+
+-- all that was to be told is told, or the connection is stopped for want of memory
+abbrev pub TellsAll : WebValue → List ℕ → WebValue → Type 0
+TellsAll old told new =
+    ((new.stopped ≡ old.stopped) × (new.heard.pending ≡ []) × MayRest told new) ⊎ (new.stopped ≡ first_cause old.stopped Memory)
+
+-- No request was read. What was queued is what the kit's connection handed out.
 pub record TakesNone (old new : WebValue) : Type 0 where
   pub calls : new.heard.calls ≡ old.heard.calls
   pub asked : new.asked ≡ old.asked
   pub told : List ℕ
   pub waits : new.waits ≡ old.waits ++ told
   pub sent : new.heard.sent ≡ old.heard.sent ++ told
+  pub tells : TellsAll old told new
+  pub stays : Stays old new
 
--- what the kit's connection handed out is not queued
-abbrev pub Drops : WebValue → WebValue → Type 0
-Drops old new = (new.heard.calls ≡ old.heard.calls) × (new.asked ≡ old.asked) × (new.waits ≡ old.waits)
+-- where no request may be taken, nothing is done
+abbrev pub LooksIf : Bool → WebValue → WebValue → Type 0
+LooksIf false old new = new ≡ old
+LooksIf true old new = TakesNone old new
 
 abbrev pub Takes : WebValue → Bool → WebValue → Type 0
-Takes old true new = TakesOne old new
-Takes old false new = TakesNone old new
+Takes old true new = IsTrue (is_free old) × TakesOne old new
+Takes old false new = LooksIf (is_free old) old new
 
--- the response of these bytes is queued behind what waits, or the connection is stopped for want of memory
+-- ---- responses
+
+-- the request no longer waits for its answer
+abbrev pub unasked : WebValue → WebValue
+unasked w = record w { asked = None }
+
+-- these bytes are queued behind what waits, or the connection is stopped for want of memory
+abbrev pub with_waits : WebValue → List ℕ → WebValue
+with_waits w waits = record w { waits = waits; rests = false }
+
 abbrev pub Queues : WebValue → List ℕ → WebValue → Type 0
 Queues old bytes new =
-    (new.heard ≡ old.heard) × (new.asked ≡ None) × ((new.waits ≡ old.waits ++ bytes) ⊎ (new.stopped ≡ None → ⊥))
+    (new ≡ with_waits old (old.waits ++ bytes)) ⊎ ((waits : List ℕ) × (new ≡ stopped_by (with_waits old waits) Memory))
+
+-- no request is read after those that were
+abbrev pub is_closed : State → Bool
+is_closed Open = false
+is_closed _ = true
+
+abbrev pub manner_of : WebValue → Asked → Manner
+manner_of w asked = record { is_last = is_closed w.heard.state; is_head = asked.is_head }
+
+-- the request that waited is answered, once; where none waited, nothing is done
+abbrev pub RespondsTo : Option Asked → WebValue → Answer → List ℕ → WebValue → Type 0
+RespondsTo None old answer body new = new ≡ old
+RespondsTo (Some asked) old answer body new = Queues (unasked old) (response_bytes answer body (manner_of old asked)) new
+
+-- so many of the waiting bytes left
+abbrev pub sent : WebValue → ℕ → WebValue
+sent w count = record w { waits = drop count w.waits }

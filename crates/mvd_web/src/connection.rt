@@ -1,8 +1,7 @@
 //! One connection: from the bytes that came to the bytes that leave.
-ghost use Rattle.std.specs.Prelude.{◌≡◌, ◌≤◌, length, None, Some, true, option_copied, option_map};
+ghost use Rattle.std.specs.Prelude.{◌≡◌, ◌<◌, ◌≤◌, ◌↔◌, [], length, true, IsTrue, OnOk, option_copied, option_map};
 ghost use Rattle.mvd_web.specs.Response.{response_bytes};
 ghost use Rattle.mvd_web.specs.declared.asked.Asked.{Asked};
-ghost use Rattle.mvd_web.specs.declared.response.Manner.{Manner};
 
 use crate::asked::Asked;
 use crate::desk::Desk;
@@ -37,11 +36,12 @@ pub struct WebConnection {
 
 impl WebConnection {
     ghost use Rattle.mvd_web.specs.Inside.{web_of};
-    ghost use Rattle.mvd_web.specs.Web.{Drops, Queues, Takes, TakesNone, new_web, sent, stopped_by, unasked, web_ending};
+    ghost use Rattle.mvd_web.specs.Web.{EndsInput, Feeds, IsNew, IsOver, Queues, RespondsTo, Takes, WantsInput, is_awake, is_closed, is_free as free_now, sent, stopped_by, unasked, web_ending};
+    ghost use Rattle.mvd_web.specs.Steps.{Drops, Moves, PassesOn, Reads};
 
     /// A connection on which nothing happened yet. The keys hide in which order a peer's fields are kept.
     pub fn new(alloc: Global, keys: RandomState) -> WebConnection
-        ensures { web_of result ≡ new_web }
+        ensures { IsNew (web_of result) }
     {
         // While anything waits there, the parser takes nothing further: so at most one request is taken at a time.
         let config = Config {
@@ -60,24 +60,30 @@ impl WebConnection {
     }
 
     /// Whether more bytes are wanted: all that came was looked at, no request waits for its answer, and there is room for responses.
-    pub fn wants_input(&self) -> bool {
+    pub fn wants_input(&self) -> bool
+        ensures { IsTrue result ↔ WantsInput (web_of self.now) }
+    {
         self.rests && self.is_free() && self.parser.wants_read()
     }
 
     /// Whether a request may be taken.
     fn is_free(&self) -> bool
-        ensures { result ≡ true → (web_of self.now).asked ≡ None }
+        ensures { result ≡ free_now (web_of self.now) }
     {
         self.stopped.is_none() && self.desk.asked.is_none() && self.output.len() < WAITS_MAX
     }
 
     /// Whether there may be a request, or an end, in what came.
-    pub fn is_busy(&self) -> bool {
+    pub fn is_busy(&self) -> bool
+        ensures { result ≡ is_awake (web_of self.now) }
+    {
         !self.rests && self.is_free()
     }
 
     /// Takes bytes that came. Where memory is refused, the connection stops.
-    pub fn feed(&mut self, bytes: &[u8]) {
+    pub fn feed(&mut self, bytes: &[u8])
+        ensures { Feeds (web_of self.old) bytes.now (web_of self.new) }
+    {
         self.rests = false;
         let mut rest = bytes;
         for _piece in 0..bytes.len() {
@@ -91,7 +97,9 @@ impl WebConnection {
     }
 
     /// Tells that the input is at its end.
-    pub fn end_input(&mut self) {
+    pub fn end_input(&mut self)
+        ensures { EndsInput (web_of self.old) (web_of self.new) }
+    {
         self.rests = false;
         let mut none: &[u8] = &[];
         if self.parser.read_from(&mut none).is_err() {
@@ -113,9 +121,17 @@ impl WebConnection {
     pub fn next(&mut self) -> bool
         ensures { Takes (web_of self.old) result (web_of self.new) }
     {
-        if !self.is_free() {
-            return false;
+        if self.is_free() {
+            return self.look();
         }
+        false
+    }
+
+    /// The same, where a request may be taken.
+    fn look(&mut self) -> bool
+        requires { free_now (web_of self.old) ≡ true }
+        ensures { Takes (web_of self.old) result (web_of self.new) }
+    {
         if self.advance() {
             self.drop_pending();
             return true;
@@ -126,12 +142,21 @@ impl WebConnection {
 
     /// Queues what the parser answers for itself, if anything.
     fn pass_on(&mut self)
-        ensures { TakesNone (web_of self.old) (web_of self.new) }
+        ensures { PassesOn (web_of self.old) (web_of self.new) }
     {
-        if !self.parser.wants_write() {
+        if self.parser.wants_write() {
+            self.move_all();
+        } else {
             self.rests = true;
-            return;
         }
+    }
+
+    /// Queues what the parser answers for itself. Where memory is refused, the connection stops.
+    fn move_all(&mut self)
+        requires { 0 < length (web_of self.old).heard.pending }
+        ensures { PassesOn (web_of self.old) (web_of self.new) }
+    {
+        self.rests = false;
         if self.move_pending().is_err() {
             self.stop(Refusal::Memory);
         }
@@ -146,8 +171,7 @@ impl WebConnection {
 
     /// Queues the response to the request that waits for it. Where memory is refused, the connection stops.
     pub fn respond(&mut self, answer: Answer, body: &str)
-        ensures { (asked : Asked) → (web_of self.old).asked ≡ Some asked → (manner : Manner) × (manner.is_head ≡ asked.is_head)
-            × Queues (web_of self.old) (response_bytes answer body.now manner) (web_of self.new) }
+        ensures { RespondsTo (web_of self.old).asked (web_of self.old) answer body.now (web_of self.new) }
     {
         let Some(is_head) = self.take_asked() else {
             return;
@@ -168,14 +192,14 @@ impl WebConnection {
     }
 
     /// Whether no request is read after those that were.
-    fn is_last(&self) -> bool {
+    fn is_last(&self) -> bool
+        ensures { result ≡ is_closed (web_of self.now).heard.state }
+    {
         !matches!(self.parser.state(), State::Open)
     }
 
     /// Queues a response.
-    #[tactic(auto, using(crate::proofs::Calls::never_none))]
     fn queue(&mut self, answer: Answer, body: &str, manner: Manner)
-        requires { (web_of self.old).asked ≡ None }
         ensures { Queues (web_of self.old) (response_bytes answer body.now manner) (web_of self.new) }
     {
         self.rests = false;
@@ -210,7 +234,9 @@ impl WebConnection {
     }
 
     /// Whether nothing is left to do.
-    pub fn is_done(&self) -> bool {
+    pub fn is_done(&self) -> bool
+        ensures { IsTrue result ↔ IsOver (web_of self.now) }
+    {
         if self.stopped.is_some() {
             return true;
         }
@@ -220,7 +246,7 @@ impl WebConnection {
     /// Reads at most one request. Whether one was read.
     fn advance(&mut self) -> bool
         requires { (web_of self.old).asked ≡ None }
-        ensures { Takes (web_of self.old) result (web_of self.new) }
+        ensures { Reads (web_of self.old) result (web_of self.new) }
     {
         self.parser.advance(&mut self.desk);
         self.desk.asked.is_some()
@@ -228,12 +254,10 @@ impl WebConnection {
 
     /// What the parser answers for itself leaves as it is.
     fn move_pending(&mut self) -> Result<(), AllocError>
-        ensures { TakesNone (web_of self.old) (web_of self.new) }
+        ensures moved { Moves (web_of self.old) (web_of self.new) }
+        ensures all { OnOk result ((web_of self.new).heard.pending ≡ []) }
     {
-        for _piece in 0..u64::MAX {
-            if !self.parser.wants_write() {
-                return Ok(());
-            }
+        while self.parser.wants_write() {
             let bytes = self.parser.output();
             let count = bytes.len();
             self.output.extend_from_slice(bytes)?;
@@ -244,12 +268,10 @@ impl WebConnection {
 
     /// What stands in place of a response does not leave.
     fn drop_pending(&mut self)
-        ensures { Drops (web_of self.old) (web_of self.new) }
+        ensures kept { Drops (web_of self.old) (web_of self.new) }
+        ensures all { (web_of self.new).heard.pending ≡ [] }
     {
-        for _piece in 0..u64::MAX {
-            if !self.parser.wants_write() {
-                return;
-            }
+        while self.parser.wants_write() {
             let count = self.parser.output().len();
             self.parser.sent(count);
         }

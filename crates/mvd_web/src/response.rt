@@ -94,14 +94,14 @@ pub(crate) fn push_response(
     let mut filled = Response::new(alloc);
     fill(&mut filled, answer, "")?;
     push_head(alloc, out, &filled, body.len(), manner.is_last)?;
-    push_body(out, body, manner.is_head)
+    push_body(out, body, manner.is_head || filled.status.as_u16() == 204)
 }
 
 /// Puts a body behind what `out` holds, unless it is left out.
-fn push_body(out: &mut BytesMut, body: &str, is_head: bool) -> Result<(), AllocError>
-    ensures { OnOk result (out.new.items ≡ out.old.items ++ body_sent is_head body.now) }
+fn push_body(out: &mut BytesMut, body: &str, is_left_out: bool) -> Result<(), AllocError>
+    ensures { OnOk result (out.new.items ≡ out.old.items ++ body_sent is_left_out body.now) }
 {
-    if is_head {
+    if is_left_out {
         return Ok(());
     }
     out.extend_from_slice(body.as_bytes())

@@ -1,7 +1,11 @@
+use Rattle.std.proofs.Common.{length}
+use Rattle.http_server.specs.Connection.{history}
 use Rattle.mvd_web.specs.Inside.{web_of}
-use Rattle.mvd_web.specs.Web.{Drops}
+use Rattle.mvd_web.specs.Steps.{Drops}
 use Rattle.mvd_web.proofs.connection.WebConnection.drop_pending.Given as goal
 
--- nothing was queued
-abbrev pub invariant-loop-piece : goal.invariant-loop-piece
-invariant-loop-piece l = Drops (web_of l.initial.self) (web_of l.self)
+abbrev pub invariant-loop-self : goal.invariant-loop-self
+invariant-loop-self l = Drops (web_of l.initial.self) (web_of l.self)
+
+abbrev pub decreases-loop-self : goal.decreases-loop-self
+decreases-loop-self l = length (history l.self.parser).pending

@@ -1,7 +1,11 @@
+use Rattle.std.proofs.Common.{length}
+use Rattle.http_server.specs.Connection.{history}
 use Rattle.mvd_web.specs.Inside.{web_of}
-use Rattle.mvd_web.specs.Web.{TakesNone}
+use Rattle.mvd_web.specs.Steps.{Moves}
 use Rattle.mvd_web.proofs.connection.WebConnection.move_pending.Given as goal
 
--- no request was read
-abbrev pub invariant-loop-piece : goal.invariant-loop-piece
-invariant-loop-piece l = TakesNone (web_of l.initial.self) (web_of l.self)
+abbrev pub invariant-loop-self : goal.invariant-loop-self
+invariant-loop-self l = Moves (web_of l.initial.self) (web_of l.self)
+
+abbrev pub decreases-loop-self : goal.decreases-loop-self
+decreases-loop-self l = length (history l.self.parser).pending

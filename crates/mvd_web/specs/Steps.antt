@@ -1,0 +1,73 @@
+-- What the steps within a call do. No public clause cites these.
+use Rattle.std.specs.Prelude.{◌≡◌, ◌⊎◌, ℕ, Bool, true, false, List, [], ◌∷◌, ◌++◌, Some, IsTrue}
+use Rattle.http_server.specs.Exchange.{Call}
+use Rattle.http_server.specs.History.{Rests}
+use Rattle.http_server.specs.Response.{IsResponse}
+use Rattle.mvd_dots.specs.declared.refusals.Refusal.TheVariants.{Memory}
+use Rattle.mvd_web.specs.Asked.{IsAskedBy}
+use Rattle.mvd_web.specs.Web.{Stays, WebValue, first_cause}
+use Rattle.mvd_web.specs.declared.asked.Asked.{Asked}
+
+-- reading hands nothing out, and queues nothing
+pub record Quiet (old new : WebValue) : Type 0 where
+  pub stays : Stays old new
+  pub sent : new.heard.sent ≡ old.heard.sent
+  pub waits : new.waits ≡ old.waits
+  pub stopped : new.stopped ≡ old.stopped
+
+pub record ReadsOne (old new : WebValue) : Type 0 where
+  pub call : Call
+  pub calls : new.heard.calls ≡ old.heard.calls ++ call ∷ []
+  pub plain : IsResponse 404 [] [] call.1
+  pub asked : Asked
+  pub kept : new.asked ≡ Some asked
+  pub asks : IsAskedBy call.0 asked
+  pub quiet : Quiet old new
+
+pub record ReadsNone (old new : WebValue) : Type 0 where
+  pub calls : new.heard.calls ≡ old.heard.calls
+  pub asked : new.asked ≡ old.asked
+  pub rests : Rests new.config new.heard
+  pub quiet : Quiet old new
+
+abbrev pub Reads : WebValue → Bool → WebValue → Type 0
+Reads old true new = ReadsOne old new
+Reads old false new = ReadsNone old new
+
+-- what the kit's connection handed out is not queued
+pub record Drops (old new : WebValue) : Type 0 where
+  pub calls : new.heard.calls ≡ old.heard.calls
+  pub asked : new.asked ≡ old.asked
+  pub waits : new.waits ≡ old.waits
+  pub stopped : new.stopped ≡ old.stopped
+  pub stays : Stays old new
+
+-- it is
+pub record Moves (old new : WebValue) : Type 0 where
+  pub part : List ℕ
+  pub split : old.heard.pending ≡ part ++ new.heard.pending
+  pub sent : new.heard.sent ≡ old.heard.sent ++ part
+  pub waits : new.waits ≡ old.waits ++ part
+  pub calls : new.heard.calls ≡ old.heard.calls
+  pub asked : new.asked ≡ old.asked
+  pub stopped : new.stopped ≡ old.stopped
+  pub rests : new.rests ≡ old.rests
+  pub stays : Stays old new
+
+-- after it nothing is left, and where there was nothing, nothing is to be looked at
+abbrev pub Settles : List ℕ → WebValue → WebValue → Type 0
+Settles [] old new = IsTrue new.rests × (new.heard ≡ old.heard)
+Settles (b ∷ bs) old new = new.rests ≡ false
+
+abbrev pub PassesAll : WebValue → List ℕ → WebValue → Type 0
+PassesAll old told new =
+    ((new.stopped ≡ old.stopped) × (new.heard.pending ≡ []) × Settles told old new) ⊎ (new.stopped ≡ first_cause old.stopped Memory)
+
+pub record PassesOn (old new : WebValue) : Type 0 where
+  pub told : List ℕ
+  pub sent : new.heard.sent ≡ old.heard.sent ++ told
+  pub waits : new.waits ≡ old.waits ++ told
+  pub calls : new.heard.calls ≡ old.heard.calls
+  pub asked : new.asked ≡ old.asked
+  pub ends : PassesAll old told new
+  pub stays : Stays old new

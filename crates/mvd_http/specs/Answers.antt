@@ -1,5 +1,5 @@
 -- What a reply of a site is as a response: its status and its body, by what was asked (statuses of RFC 9110).
-use Rattle.std.specs.Prelude.{ℕ, ◌==◌, ◌≡◌, ◌++◌, ◌⊎◌, if◌then◌else◌, List, [], length, Option, Some, None, Result, Ok, Err}
+use Rattle.std.specs.Prelude.{ℕ, ◌==◌, ◌≡◌, ◌≢◌, ◌++◌, ◌⊎◌, if◌then◌else◌, List, [], length, Option, Some, None, Result, Ok, Err}
 use Rattle.std.specs.FinMap.{entries}
 use Rattle.mvd_dots.specs.declared.refusals.Refusal.{Refusal}
 use Rattle.mvd_dots.specs.declared.refusals.Refusal.TheVariants.{BadKey, BadContext, BadDocument, NotObject, BadNumber, DocumentTooLong, NotCanonical, Exhausted, StateTooLarge, Full, DotClash, NoIndex, NoView, BadPath, BadTerm, Memory, Store, Broken, BadBody, BadKind}
@@ -83,23 +83,16 @@ reply_told request (reply.Digests digests) = Ok (ok_told (node_text digests.own 
 reply_told request (reply.Keys keys more) = Ok (ok_told (keys_text keys more))
 reply_told request (reply.Refused refusal) = Err refusal
 
-abbrev pub or_refused : Result Told Refusal → Told
-or_refused (Ok told) = told
-or_refused (Err refusal) = refused_told refusal
-
--- the response to a request that the site answered so
-abbrev pub told : Request → Reply → Told
-told request reply = or_refused (reply_told request reply)
-
 -- ---- what is told
 
 pub record IsTold (told : Told) (status : ℕ) (body : List ℕ) : Type 0 where
   pub status_is : status ≡ told.status
   pub body_is : body ≡ told.body
 
--- this is told, or that memory was refused
-abbrev pub Responds : Told → ℕ → List ℕ → Type 0
-Responds told status body = IsTold told status body ⊎ IsTold (refused_told Memory) status body
+-- This is told, or the refusal. Want of memory may be told in place of a body alone: a refusal, and what has no body, stay as they are.
+abbrev pub Responds : Result Told Refusal → ℕ → List ℕ → Type 0
+Responds (Ok told) status body = IsTold told status body ⊎ ((told.body ≢ []) × IsTold (refused_told Memory) status body)
+Responds (Err refusal) status body = IsTold (refused_told refusal) status body
 
 -- the body came behind a text, and its status is given; a refusal is given back, and so is want of memory
 abbrev pub Pushes : Result Told Refusal → List ℕ → List ℕ → Result ℕ Refusal → Type 0

@@ -3,7 +3,8 @@ ghost use Rattle.std.specs.Prelude.{◌≡◌, ◌++◌, Ok, OnOk, IfOk, IsOkUnl
 ghost use Rattle.std.specs.List.{flat_map};
 ghost use Rattle.mvd_dots.specs.Text.{text_of};
 ghost use Rattle.mvd_dots.specs.declared.refusals.Refusal.TheVariants.{Memory};
-ghost use Rattle.mvd_http.specs.Answers.{IsTold, Pushes, Responds, found_status as status_found, key_asked as asked_key, ok_told, refused_status as status_of, refused_told, reply_told, row_told, state_told, term_asked as asked_term, told as told_of};
+ghost use Rattle.mvd_http.specs.Answers.{IsTold, Pushes, Responds, found_status as status_found, key_asked as asked_key, ok_told, refused_status as status_of, refused_told, reply_told, row_told, state_told, term_asked as asked_term};
+ghost use Rattle.mvd_wire.specs.declared.reply.Reply.TheVariants.{Done};
 ghost use Rattle.mvd_http.specs.Json.{children_text, commaed, digest_text, led, keys_text, node_text, places_text, refused_text, root_text, rows_text, state_text, written_text};
 
 use crate::lists::{
@@ -65,7 +66,8 @@ pub fn response_of(
     reply: &Reply,
     out: &mut String,
 ) -> Result<u16, AllocError>
-    ensures { IfOk result (λ status. Responds (told_of request.now reply.now) status (string_bytes out.new)) }
+    ensures told { IfOk result (λ status. Responds (reply_told request.now reply.now) status (string_bytes out.new)) }
+    ensures done { reply.now ≡ Done → result ≡ Ok 204 }
 {
     out.clear();
     match push_reply(alloc, request, reply, out) {
@@ -100,7 +102,8 @@ fn push_reply(
     reply: &Reply,
     out: &mut String,
 ) -> Result<u16, Refusal>
-    ensures { Pushes (reply_told request.now reply.now) (string_bytes out.old) (string_bytes out.new) result }
+    ensures told { Pushes (reply_told request.now reply.now) (string_bytes out.old) (string_bytes out.new) result }
+    ensures done { reply.now ≡ Done → result ≡ Ok 204 }
 {
     match reply {
         Reply::State(state) => push_found(alloc, key_asked(request), state, out),

@@ -34,4 +34,5 @@ has_no_body answer manner = manner.is_head || (answer.status == 204)
 
 -- a response with this body
 abbrev pub response_bytes : Answer → List ℕ → Manner → List ℕ
-response_bytes answer body manner = head_bytes answer (length body) manner.is_last ++ body_sent (has_no_body answer manner) body
+response_bytes answer body manner =
+    head_bytes answer (length body) manner.is_last ++ body_sent (has_no_body answer manner) body

@@ -175,7 +175,8 @@ manner_of w asked = record { is_last = is_closed w.heard.state; is_head = asked.
 -- the request that waited is answered, once; where none waited, nothing is done
 abbrev pub RespondsTo : Option Asked → WebValue → Answer → List ℕ → WebValue → Type 0
 RespondsTo None old answer body new = new ≡ old
-RespondsTo (Some asked) old answer body new = Queues (unasked old) (response_bytes answer body (manner_of old asked)) new
+RespondsTo (Some asked) old answer body new =
+    Queues (unasked old) (response_bytes answer body (manner_of old asked)) new
 
 -- so many of the waiting bytes left
 abbrev pub sent : WebValue → ℕ → WebValue

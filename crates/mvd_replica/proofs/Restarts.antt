@@ -1,5 +1,5 @@
 -- Runs of a site, one after the other: what is known goes on through the file.
-use Rattle.std.proofs.Common.{◌≡◌, ◌∙◌, ℕ, Bool, true, false, List, [], ◌∷◌, ◌++◌, append-assoc, append-nil, refl, sym, subst, ap, inl, inr}
+use Rattle.std.proofs.Common.{◌≡◌, ◌∙◌, ℕ, Bool, true, false, List, [], ◌∷◌, ◌++◌, append_assoc, append-nil, refl, sym, subst, ap, inl, inr}
 use Rattle.std.specs.List.{AllByRecursion}
 use Rattle.mvd_keys.specs.Writes.{Stands, Write}
 use Rattle.mvd_wire.specs.declared.request.Request.{Request}
@@ -25,14 +25,14 @@ use Rattle.sqlite.specs.State.{State}
 pub all_stand : (config : ConfigValue) (states : States) (known : List Write) (requests : List Request) (added : List Write) → Stands states known →
     AddAll config known requests added → Stands (after_all config states requests) (known ++ added)
 all_stand config states known [] added stands is = subst (Stands states) (sym (append-nil known) ∙ ap (λ ws. known ++ ws) (sym is)) stands
-all_stand config states known (request ∷ requests) added stands (first, (rest, (is, (one, others)))) =
-    subst (Stands (after_all config (after_from config states request) requests)) (append-assoc known first rest ∙ ap (λ ws. known ++ ws) (sym is))
+all_stand config states known (request ∷ requests) added stands (first, rest, is, one, others) =
+    subst (Stands (after_all config (after_from config states request) requests)) (append_assoc known first rest ∙ ap (λ ws. known ++ ws) (sym is))
     (all_stand config (after_from config states request) (known ++ first) requests rest (after_stands config states known request first stands one) others)
 
 -- one run
-module _ (site : ℕ) (image : Image) (states : States) (known : List Write) (run : Run) (file : HoldsFile image site states) (stands : Stands states known)
-    (from : run.image ≡ image) (number : run.config.site ≡ site) (is : IsRun run) where
-  was_sound : IsSound run.before
+module _ {C : Type 0} (f : C → State) (site : ℕ) (image : Image) (states : States) (known : List Write) (run : Run C) (file : HoldsFile image site states) (stands : Stands states known)
+    (from : run.image ≡ image) (number : run.config.site ≡ site) (is : IsRun f run) where
+  was_sound : IsSound (f run.before)
   was_sound = is.follows.sound is.sound
 
   was_held : HoldsFile run.image site states
@@ -45,7 +45,7 @@ module _ (site : ℕ) (image : Image) (states : States) (known : List Write) (ru
   ours : IsOurs (is.opens was_sound).was
   ours = ours_held site states _ (subst (HoldsStates site states) (sym ((is.opens was_sound).found.holds was_held.db was_held.held)) was_held.holds)
 
-  held_before : HoldsSite run.old run.before.committed
+  held_before : HoldsSite run.old (f run.before).committed
   held_before = ((is.opens was_sound).opened ours).holds
 
   old_stands : Stands run.old.states known
@@ -70,38 +70,36 @@ module _ (site : ℕ) (image : Image) (states : States) (known : List Write) (ru
     pub left_whole : run.new.broken ≡ false → HoldsFile run.left site run.new.states
     left_whole whole =
         is.closes site run.new.states
-        (subst (λ n. HoldsStates n run.new.states run.after.committed) numbered
-        (holds_states run.new run.after.committed whole is.held.spelled (is.follows.holds is.sound held_before)))
+        (subst (λ n. HoldsStates n run.new.states (f run.after).committed) numbered
+        (holds_states run.new (f run.after).committed whole is.held.spelled (is.follows.holds is.sound held_before)))
 
     -- and with what was lost, where it is
-    pub lost : run.new.broken ≡ true → HoldsLost run.turns run.new run.after.committed
+    pub lost : run.new.broken ≡ true → HoldsLost run.turns run.new (f run.after).committed
     lost broken = is.follows.stored is.sound held_before is.whole broken
 
-    pub left_lost : (it : HoldsLost run.turns run.new run.after.committed) → HoldsFile run.left site (after_all run.config run.new.states (it.request ∷ it.rest))
+    pub left_lost : (it : HoldsLost run.turns run.new (f run.after).committed) → HoldsFile run.left site (after_all run.config run.new.states (it.request ∷ it.rest))
     left_lost it =
         subst (λ c. HoldsFile run.left site (after_all c run.new.states (it.request ∷ it.rest))) configured
-        (is.closes site _ (subst (λ n. HoldsStates n (after_all run.new.config run.new.states (it.request ∷ it.rest)) run.after.committed) numbered it.holds))
+        (is.closes site _ (subst (λ n. HoldsStates n (after_all run.new.config run.new.states (it.request ∷ it.rest)) (f run.after).committed) numbered it.holds))
 
-pub all_answered : (site : ℕ) (image : Image) (states : States) (known : List Write) (runs : List Run) → HoldsFile image site states → Stands states known →
-    AreRuns site image runs → AllAnswered site known image runs
-all_answered site image states known [] file stands are = (states, (file, stands))
-all_answered site image states known (run ∷ runs) file stands (from, (number, (is, rest))) events tells = (
-  told site image states known run file stands from number is events tells,
-  (
-    λ whole.
-        all_answered site run.left run.new.states (known ++ known_after events) runs
-        (left_whole site image states known run file stands from number is events tells whole)
-        (new_stands site image states known run file stands from number is events tells) rest,
-    λ broken.
-        let it = lost site image states known run file stands from number is events tells broken in (
-          it,
-          λ added adds.
-              all_answered site run.left _ ((known ++ known_after events) ++ added) runs
-              (left_lost site image states known run file stands from number is events tells it)
-              (all_stand run.config run.new.states (known ++ known_after events) (it.request ∷ it.rest) added
-                (new_stands site image states known run file stands from number is events tells) adds) rest,
-        ),
-  ),
+pub all_answered : {C : Type 0} (f : C → State) (site : ℕ) (image : Image) (states : States) (known : List Write) (runs : List (Run C)) → HoldsFile image site states → Stands states known →
+    AreRuns f site image runs → AllAnswered f site known image runs
+all_answered f site image states known [] file stands are = (states, file, stands)
+all_answered f site image states known (run ∷ runs) file stands (from, number, is, rest) = λ events tells. (
+  told f site image states known run file stands from number is events tells,
+  λ whole.
+      all_answered f site run.left run.new.states (known ++ known_after events) runs
+      (left_whole f site image states known run file stands from number is events tells whole)
+      (new_stands f site image states known run file stands from number is events tells) rest,
+  λ broken.
+      let it = lost f site image states known run file stands from number is events tells broken in (
+        it,
+        λ added adds.
+            all_answered f site run.left _ ((known ++ known_after events) ++ added) runs
+            (left_lost f site image states known run file stands from number is events tells it)
+            (all_stand run.config run.new.states (known ++ known_after events) (it.request ∷ it.rest) added
+            (new_stands f site image states known run file stands from number is events tells) adds) rest,
+      ),
 )
 
 -- ---- a connection as such turns

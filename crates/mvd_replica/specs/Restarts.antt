@@ -15,36 +15,36 @@ use Rattle.mvd_replica.specs.Turns.{AllTold, Event, Replies, StandsOn, Tells, Tu
 use Rattle.sqlite.specs.Recovery.{Image}
 use Rattle.sqlite.specs.State.{State}
 
--- One run: what the file held, the site with its store as it was opened, the turns that it took, the site with its store at the end,
--- and what the file held then
-pub record Run : Type 1 where
+-- One run: what the file held, the site and its connection as it was opened, the turns that it took, both at the end, and what the
+-- file held then
+pub record Run (C : Type 0) : Type 0 where
   pub config : ConfigValue
   pub image : Image
   pub old : SiteValue
-  pub before : State
+  pub before : C
   pub turns : List Turn
   pub new : SiteValue
-  pub after : State
+  pub after : C
   pub left : Image
 
 -- What the calls of a run promise. `open_file` opened the file. `serve`, or a host of many clients in its rounds, took the turns.
 -- `key_count` tells that the states are held ones. `close` left the file. And the store is sound: nobody else has written the file,
 -- its disk has returned what was written, and no failure has shut it.
-pub record IsRun (run : Run) : Type 0 where
+pub record IsRun {C : Type 0} (f : C → State) (run : Run C) : Type 0 where
   pub config : run.old.config ≡ run.config
   pub whole : run.old.broken ≡ false
-  pub opens : IsSound run.before → OpensFile run.image run.config run.old run.before.committed
+  pub opens : IsSound (f run.before) → OpensFile run.image run.config run.old (f run.before).committed
   pub replies : Replies run.old run.new run.turns
   pub stands : StandsOn run.old run.new run.turns
-  pub follows : TurnsFollow run.turns run.old run.new run.before run.after
+  pub follows : TurnsFollow run.turns run.old run.new (f run.before) (f run.after)
   pub held : AreHeld run.new.states
-  pub closes : (site : ℕ) (states : States) → HoldsStates site states run.after.committed → HoldsFile run.left site states
-  pub sound : IsSound run.after
+  pub closes : (site : ℕ) (states : States) → HoldsStates site states (f run.after).committed → HoldsFile run.left site states
+  pub sound : IsSound (f run.after)
 
 -- runs of one site, each on the file that the one before left, the first on this one
-abbrev pub AreRuns : ℕ → Image → List Run → Type 1
-AreRuns site image [] = ⊤
-AreRuns site image (run ∷ runs) = (run.image ≡ image) × (run.config.site ≡ site) × IsRun run × AreRuns site run.left runs
+abbrev pub AreRuns : {C : Type 0} → (C → State) → ℕ → Image → List (Run C) → Type 0
+AreRuns f site image [] = ⊤
+AreRuns f site image (run ∷ runs) = (run.image ≡ image) × (run.config.site ≡ site) × IsRun f run × AreRuns f site run.left runs
 
 -- what requests add, each answered from the writes known before it
 abbrev pub AddAll : ConfigValue → List Write → List Request → List Write → Type 0
@@ -55,11 +55,11 @@ AddAll config known (request ∷ requests) added =
 -- In each run every reply is one that may be given from the writes known then, those of all runs before among them; and the last
 -- file holds states that stand for all that is known. A run in which the site broke has stored what was lost: the changes of the
 -- commit in hand, whose requests were told 22. Their writes are known to the runs after it.
-abbrev pub AllAnswered : ℕ → List Write → Image → List Run → Type 1
-AllAnswered site known image [] = (states : States) × HoldsFile image site states × Stands states known
-AllAnswered site known image (run ∷ runs) = (events : List Event) → Tells events run.turns →
+abbrev pub AllAnswered : {C : Type 0} → (C → State) → ℕ → List Write → Image → List (Run C) → Type 0
+AllAnswered f site known image [] = (states : States) × HoldsFile image site states × Stands states known
+AllAnswered f site known image (run ∷ runs) = (events : List Event) → Tells events run.turns →
     AllTold run.config known false events run.new.broken
-    × (run.new.broken ≡ false → AllAnswered site (known ++ known_after events) run.left runs)
-    × (run.new.broken ≡ true → (lost : HoldsLost run.turns run.new run.after.committed)
-        × ((added : List Write) → AddAll run.config (known ++ known_after events) (lost.request ∷ lost.rest) added
-            → AllAnswered site ((known ++ known_after events) ++ added) run.left runs))
+    × (run.new.broken ≡ false → AllAnswered f site (known ++ known_after events) run.left runs)
+    × (run.new.broken ≡ true → (lost : HoldsLost run.turns run.new (f run.after).committed)
+    × ((added : List Write) → AddAll run.config (known ++ known_after events) (lost.request ∷ lost.rest) added
+    → AllAnswered f site ((known ++ known_after events) ++ added) run.left runs))

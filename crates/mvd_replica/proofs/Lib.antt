@@ -19,4 +19,5 @@ pub mod Follows
 pub mod Files
 pub mod Stops
 pub mod Asking
+pub mod Restarts
 pub mod Pushed

@@ -12,3 +12,4 @@ pub mod Sides
 pub mod Batch
 pub mod Groups
 pub mod Asks
+pub mod Restarts

@@ -1,0 +1,65 @@
+-- A site over several runs of a program. Each run opens the file as the run before left it, answers requests, and closes it.
+use Rattle.std.specs.Prelude.{◌≡◌, ℕ, List, [], ◌∷◌, ◌++◌, ⊤, false, true}
+use Rattle.mvd_keys.specs.Writes.{Stands, Write}
+use Rattle.mvd_wire.specs.declared.request.Request.{Request}
+use Rattle.mvd_records.specs.Records.{IsSound}
+use Rattle.mvd_site.specs.Answer.{answer}
+use Rattle.mvd_site.specs.Config.{ConfigValue}
+use Rattle.mvd_site.specs.Held.{AreHeld, States}
+use Rattle.mvd_site.specs.Known.{Adds}
+use Rattle.mvd_site.specs.Sites.{SiteValue}
+use Rattle.mvd_replica.specs.Batch.{HoldsLost, TurnsFollow}
+use Rattle.mvd_replica.specs.File.{HoldsFile, OpensFile}
+use Rattle.mvd_replica.specs.Kept.{HoldsStates}
+use Rattle.mvd_replica.specs.Turns.{AllTold, Event, Replies, StandsOn, Tells, Turn, known_after}
+use Rattle.sqlite.specs.Recovery.{Image}
+use Rattle.sqlite.specs.State.{State}
+
+-- One run: what the file held, the site and its connection as it was opened, the turns that it took, both at the end, and what the
+-- file held then
+pub record Run (C : Type 0) : Type 0 where
+  pub config : ConfigValue
+  pub image : Image
+  pub old : SiteValue
+  pub before : C
+  pub turns : List Turn
+  pub new : SiteValue
+  pub after : C
+  pub left : Image
+
+-- What the calls of a run promise. `open_file` opened the file. `serve`, or a host of many clients in its rounds, took the turns.
+-- `key_count` tells that the states are held ones. `close` left the file. And the store is sound: nobody else has written the file,
+-- its disk has returned what was written, and no failure has shut it.
+pub record IsRun {C : Type 0} (f : C → State) (run : Run C) : Type 0 where
+  pub config : run.old.config ≡ run.config
+  pub whole : run.old.broken ≡ false
+  pub opens : IsSound (f run.before) → OpensFile run.image run.config run.old (f run.before).committed
+  pub replies : Replies run.old run.new run.turns
+  pub stands : StandsOn run.old run.new run.turns
+  pub follows : TurnsFollow run.turns run.old run.new (f run.before) (f run.after)
+  pub held : AreHeld run.new.states
+  pub closes : (site : ℕ) (states : States) → HoldsStates site states (f run.after).committed → HoldsFile run.left site states
+  pub sound : IsSound (f run.after)
+
+-- runs of one site, each on the file that the one before left, the first on this one
+abbrev pub AreRuns : {C : Type 0} → (C → State) → ℕ → Image → List (Run C) → Type 0
+AreRuns f site image [] = ⊤
+AreRuns f site image (run ∷ runs) = (run.image ≡ image) × (run.config.site ≡ site) × IsRun f run × AreRuns f site run.left runs
+
+-- what requests add, each answered from the writes known before it
+abbrev pub AddAll : ConfigValue → List Write → List Request → List Write → Type 0
+AddAll config known [] added = added ≡ []
+AddAll config known (request ∷ requests) added =
+    (first rest : List Write) × (added ≡ first ++ rest) × Adds request (answer config known request) first × AddAll config (known ++ first) requests rest
+
+-- In each run every reply is one that may be given from the writes known then, those of all runs before among them; and the last
+-- file holds states that stand for all that is known. A run in which the site broke has stored what was lost: the changes of the
+-- commit in hand, whose requests were told 22. Their writes are known to the runs after it.
+abbrev pub AllAnswered : {C : Type 0} → (C → State) → ℕ → List Write → Image → List (Run C) → Type 0
+AllAnswered f site known image [] = (states : States) × HoldsFile image site states × Stands states known
+AllAnswered f site known image (run ∷ runs) = (events : List Event) → Tells events run.turns →
+    AllTold run.config known false events run.new.broken
+    × (run.new.broken ≡ false → AllAnswered f site (known ++ known_after events) run.left runs)
+    × (run.new.broken ≡ true → (lost : HoldsLost run.turns run.new (f run.after).committed)
+    × ((added : List Write) → AddAll run.config (known ++ known_after events) (lost.request ∷ lost.rest) added
+    → AllAnswered f site ((known ++ known_after events) ++ added) run.left runs))

@@ -69,9 +69,9 @@ abbrev pub CameTo : (most_local most_peer : ℕ) (a b a' b' : States) → Key �
 CameTo most_local most_peer a b a' b' key None =
     CanMeet a b key × (state_at a' key ≡ join (state_at a key) (state_at b key)) × (state_at b' key ≡ join (state_at a key) (state_at b key))
 CameTo most_local most_peer a b a' b' key (Some (AtLocal, refusal)) =
-    (get a key ≢ get b key) × (get a' key ≡ get a key) × (get b' key ≡ get b key) × CannotMeet most_local a b key refusal
+    (get a key ≢ get b key) × (get a' key ≡ get a key) × (get b' key ≡ get b key) × CannotMeet most_local a a b key refusal
 CameTo most_local most_peer a b a' b' key (Some (AtPeer, refusal)) =
-    CanMeet a b key × (state_at a' key ≡ join (state_at a key) (state_at b key)) × (get b' key ≡ get b key) × CannotMeet most_peer a b key refusal
+    CanMeet a b key × (state_at a' key ≡ join (state_at a key) (state_at b key)) × (get b' key ≡ get b key) × CannotMeet most_peer b a b key refusal
 
 pub record IsDone (most_local most_peer : ℕ) (number : Option ℕ) (a b a' b' : States) (d : Done) : Type 0 where
   pub came : CameTo most_local most_peer a b a' b' d.key d.refused

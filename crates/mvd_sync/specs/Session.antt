@@ -95,13 +95,13 @@ pub record AreTooMany (most : ℕ) (a b : States) : Type 0 where
   pub by_either : Each (λ key. (get a key ≢ None) ⊎ (get b key ≢ None)) held
   pub many : most < length held
 
--- why a key is refused by a side that takes so many keys: the join of its states is too long (9), both sides' keys together
--- are too many (10), or its states clash (11)
-abbrev pub CannotMeet : ℕ → States → States → Key → Refusal → Type 0
-CannotMeet most a b key StateTooLarge = is_too_large (join (state_at a key) (state_at b key)) ≡ true
-CannotMeet most a b key Full = AreTooMany most a b
-CannotMeet most a b key DotClash = clashes (state_at a key) (state_at b key) ≡ true
-CannotMeet most a b key refusal = ⊥
+-- why a key is refused by a side that takes so many keys and held these: the join of its states is too long (9), the side did
+-- not hold the key, and both sides' keys together are too many (10), or its states clash (11)
+abbrev pub CannotMeet : ℕ → (own a b : States) → Key → Refusal → Type 0
+CannotMeet most own a b key StateTooLarge = is_too_large (join (state_at a key) (state_at b key)) ≡ true
+CannotMeet most own a b key Full = (get own key ≡ None) × AreTooMany most a b
+CannotMeet most own a b key DotClash = clashes (state_at a key) (state_at b key) ≡ true
+CannotMeet most own a b key refusal = ⊥
 
 -- a key that was refused, by which side, and how
 abbrev pub Left : Type 0
@@ -110,6 +110,10 @@ Left = Key × (Side × Refusal)
 abbrev pub most_of : ℕ → ℕ → Side → ℕ
 most_of local peer AtLocal = local
 most_of local peer AtPeer = peer
+
+abbrev pub own_of : States → States → Side → States
+own_of a b AtLocal = a
+own_of a b AtPeer = b
 
 -- at the local side the key's states were not joined; at the peer they were, on the local side alone
 abbrev pub IsLeft : List Key → Left → Type 0
@@ -128,7 +132,7 @@ pub record Tells (most_local most_peer : ℕ) (number : Option ℕ) (a b : State
   pub distinct : AreDistinct (given ++ map (λ l. l.0) left)
   pub whole : (key : Key) → IsIn joined key → IsIn (given ++ map (λ l. l.0) left) key
   pub sides : Each (IsLeft joined) left
-  pub causes : Each (λ l. CannotMeet (most_of most_local most_peer l.1.0) a b l.0 l.1.1) left
+  pub causes : Each (λ l. CannotMeet (most_of most_local most_peer l.1.0) (own_of a b l.1.0) a b l.0 l.1.1) left
   pub differed : Each (λ l. get a l.0 ≢ get b l.0) left
   pub all : HashesTellApart spelled a b → (key : Key) → get a key ≢ get b key → IsIn (given ++ map (λ l. l.0) left) key
   pub counted : (report.keys ≡ length given) × (report.refused ≡ length left) × (report.first_refused ≡ take 100 left)

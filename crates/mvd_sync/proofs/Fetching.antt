@@ -22,6 +22,7 @@ pub page_refused : {S X : Type 0} (s : Side S) (IsTold : Type 0) (result : Resul
 page_refused s IsTold (Ok page) left left' old new spent follows kept told bad = tt
 page_refused s IsTold (Err refusal) left left' old new spent follows kept told bad = record {
   asked = 1;
+  wanted = 0;
   few = omega arith;
   within = omega (arith, spent);
   follows = follows;
@@ -37,6 +38,8 @@ module _ {L P : Type 0} (l : Side L) (p : Side P) (path : List ℕ) (after : Opt
     ends = record {
       asked_local = e.asked;
       asked_peer = 0;
+      wanted_local = e.wanted;
+      wanted_peer = 0;
       within = (e.within, omega arith);
       few = (e.few, omega arith);
       follows = (e.follows, self peer);
@@ -53,14 +56,16 @@ module _ {L P : Type 0} (l : Side L) (p : Side P) (path : List ℕ) (after : Opt
     ends = record {
       asked_local = f.asked;
       asked_peer = e.asked;
+      wanted_local = 0;
+      wanted_peer = e.wanted;
       within = let s = f.spent in (omega (arith, s), e.within);
-      few = (f.one, e.few);
+      few = (let one = f.one in omega (arith, one), e.few);
       follows = (f.follows, e.follows);
       cause = e.cause;
       kept_local = f.kept;
       kept_peer = e.right;
     };
-    needed = (f.needed, λ _. spent);
+    needed = (λ h. f.needed (omega (arith, h)), λ _. spent);
   }
 
 -- ---- pages that are taken one by one

@@ -156,13 +156,16 @@ HasAllThatDiffer a b keys = (key : Key) → get a key ≢ get b key → IsIn key
 
 -- A SESSION of two sides, each asked at most so many questions
 pub record Session {L P : Type 0} (l : SideOf L) (p : SideOf P) (most : ℕ) (local local' : L) (peer peer' : P) (result : Result Report SyncFault) : Type 0 where
-  -- so many questions were made to each, and nothing is changed of either but what so many may change
+  -- so many questions were made to each, and so many more were wanted, and nothing is changed of either but what so many that
+  -- were made may change
   pub asked_local : ℕ
   pub asked_peer : ℕ
+  pub wanted_local : ℕ
+  pub wanted_peer : ℕ
   pub within : (asked_local ≤ most) × (asked_peer ≤ most)
   pub follows : l.follows asked_local local local' × p.follows asked_peer peer peer'
   -- a fault has a cause; with no fault both sides have answered
-  pub cause : IfErr result (IsFaultOf (Blames l most asked_local local local') (Blames p most asked_peer peer peer'))
+  pub cause : IfErr result (IsFaultOf (Blames l most asked_local wanted_local local local') (Blames p most asked_peer wanted_peer peer peer'))
   pub answers : OnOk result (HasAnswered l.follows l.can_answer local local' × HasAnswered p.follows p.can_answer peer peer')
   -- whatever the other is, a true side changes by pushes of states that the other may give, and by nothing else
   pub local_side : l.is_faithful local → Changes (l.is_faithful local') (Local Broken) p.can_give (l.states local) (l.states local') result
@@ -173,6 +176,6 @@ pub record Session {L P : Type 0} (l : SideOf L) (p : SideOf P) (most : ℕ) (lo
   -- between two true sides states are joined, at a fault, too; with no fault all that differ, but those refused for a cause
   pub meets : l.is_faithful local → p.is_faithful peer →
       Meets (l.is_faithful local') (p.is_faithful peer') (l.most_keys local) (p.most_keys peer) (l.number local) (l.states local) (p.states peer) (l.states local') (p.states peer') result
-  -- and few questions were made
+  -- and few questions were made or wanted
   pub few : l.is_faithful local → p.is_faithful peer → (differing : List Key) → HasAllThatDiffer (l.states local) (p.states peer) differing →
-      AreFew asked_local (l.states local) differing × AreFew asked_peer (p.states peer) differing
+      AreFew (asked_local + wanted_local) (l.states local) differing × AreFew (asked_peer + wanted_peer) (p.states peer) differing

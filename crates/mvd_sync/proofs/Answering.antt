@@ -1,5 +1,5 @@
 -- What is made of the answers to many questions.
-use Rattle.std.proofs.Common.{◌≡◌, inl, inr, ℕ, zero, suc, ◌<◌, ◌≤◌, List, [], ◌∷◌, ◌++◌, length, take, get_or, sym, subst, arith, ap, false}
+use Rattle.std.proofs.Common.{◌≡◌, inl, inr, ℕ, zero, suc, ◌<◌, ◌≤◌, List, [], ◌∷◌, ◌++◌, length, take, get_or, refl, sym, subst, arith, ap, false}
 use Rattle.std.specs.Prelude.{Bool, ◌^◌, None, Some, Result, Ok, Err}
 use Rattle.std.specs.declared.vec.Vec.{Vec}
 use Rattle.std.specs.declared.alloc.Global.{Global}
@@ -90,10 +90,11 @@ module _ {S Q : Type 0} (s : Side S) (qs : List Q) (left left' taken : ℕ) (old
   asked_is = let most = takes.most in length-take-le taken qs most
 
   -- so many were asked, and this is why no more are
-  pub ended_by : (T : Type 0) (refusal : Refusal) → s.follows (length (take taken qs)) old new → Blames s left taken old new refusal → (s.is_faithful old → is_of_key refusal ≡ false) → (s.is_faithful old → T) → ComesToEnd s T (length qs) left old new refusal
+  pub ended_by : (T : Type 0) (refusal : Refusal) → s.follows (length (take taken qs)) old new → Blames s left taken 0 old new refusal → (s.is_faithful old → is_of_key refusal ≡ false) → (s.is_faithful old → T) → ComesToEnd s T (length qs) left old new refusal
   ended_by T refusal follows why not_of_key then = record {
     asked = taken;
-    few = takes.most;
+    wanted = 0;
+    few = let most = takes.most in omega (arith, most);
     within = let spent = takes.spent in omega arith;
     follows = subst (λ n. s.follows n old new) asked_is follows;
     cause = why;
@@ -110,6 +111,7 @@ module _ {S Q : Type 0} (s : Side S) (qs : List Q) (left left' taken : ℕ) (old
       let few = ends.count.1 in
       record {
         asked = ends.count.0;
+        wanted = 0;
         few = omega arith;
         within = omega arith;
         follows = ends.count.2;
@@ -123,7 +125,16 @@ module _ {S Q : Type 0} (s : Side S) (qs : List Q) (left left' taken : ℕ) (old
   ended_few T refusal is few follows then =
       let spent = takes.spent in
       let none = takes.all few in
-      ended_by T refusal follows (of_questions is (omega arith)) (λ _. ap is_of_key is) then
+      record {
+        asked = taken;
+        wanted = 1;
+        few = omega (arith, few);
+        within = omega (arith, spent);
+        follows = subst (λ n. s.follows n old new) asked_is follows;
+        cause = of_questions is (omega (arith, spent, none)) refl;
+        not_of_key = λ _. ap is_of_key is;
+        right = then;
+      }
 
   -- memory was refused
   pub ended_memory : (T : Type 0) (refusal : Refusal) → refusal ≡ Memory → s.follows (length (take taken qs)) old new → (s.is_faithful old → T) → ComesToEnd s T (length qs) left old new refusal

@@ -36,7 +36,7 @@ module _ {L P : Type 0} (l : Side L) (p : Side P) where
       let n = length-append before.waiting (e ∷ []) in
       record {
         goes = goes_of_exchange l p (before.waiting ++ e ∷ []) left left' local local' peer peer' before after result (omega (arith, n)) x;
-        meets = λ t u a b done so counts next. subst (λ es. SettlesAll l p before.number a b done (before.waiting ++ es) x.asked_local x.asked_peer local' peer' (l.most_keys local) (p.most_keys peer) after result) one (record {
+        meets = λ t u a b done so counts next. subst (λ es. SettlesAll l p before.number a b done (before.waiting ++ es) (x.asked_local + x.wanted_local) (x.asked_peer + x.wanted_peer) local' peer' (l.most_keys local) (p.most_keys peer) after result) one (record {
           few = x.few;
           fewer = x.fewer;
           ends = x.meets t u a b done so counts (subst (λ es. AreNext a b done (before.waiting ++ es)) (sym one) next);
@@ -50,7 +50,7 @@ module _ {L P : Type 0} (l : Side L) (p : Side P) where
       let n = length-append before.waiting [] in
       record {
         goes = goes_nowhere l p self self' (tt {0}) left local peer before;
-        meets = λ t u a b done so counts next. subst (λ es. SettlesAll l p before.number a b done (before.waiting ++ es) 0 0 local peer (l.most_keys local) (p.most_keys peer) before (Ok (tt {0}))) none (record {
+        meets = λ t u a b done so counts next. subst (λ es. SettlesAll l p before.number a b done (before.waiting ++ es) (0 + 0) (0 + 0) local peer (l.most_keys local) (p.most_keys peer) before (Ok (tt {0}))) none (record {
           few = (omega arith, omega arith);
           fewer = (omega (arith, n), omega (arith, n));
           ends = subst (λ es. GoesOn l p before.number a b done es local peer (l.most_keys local) (p.most_keys peer) before) (sym (append-nil before.waiting))
@@ -136,7 +136,7 @@ module _ {L P : Type 0} (l : Side L) (p : Side P) (number : Option ℕ) (a b : S
 
   -- one of the listings was not filled
   pub unfilled : {A : Type 0} (left : Questions) (fault : SyncFault) → (f : FillEnds l p mine1 theirs1 left local1 local2 peer1 peer2 fault)
-      → Finds {A = A} l p number a b done (path ∷ []) 0 (held_in a (path ∷ [])) (held_in b (path ∷ [])) (asked_l + f.ends.asked_local) (asked_p + f.ends.asked_peer) local2 peer2 most_local most_peer before at (Err fault)
+      → Finds {A = A} l p number a b done (path ∷ []) 0 (held_in a (path ∷ [])) (held_in b (path ∷ [])) ((asked_l + f.ends.asked_local) + f.ends.wanted_local) ((asked_p + f.ends.asked_peer) + f.ends.wanted_peer) local2 peer2 most_local most_peer before at (Err fault)
   unfilled left fault f =
       let t = here.goes_on.still in
       let k = f.ends.kept_local t.0 in
@@ -146,11 +146,11 @@ module _ {L P : Type 0} (l : Side L) (p : Side P) (number : Option ℕ) (a b : S
         found = here.found;
         below = below_one path here.upto here.found here.gone.below;
         next = here.gone.next;
-        pages_local = here.pages_local + f.ends.asked_local;
-        pages_peer = here.pages_peer + f.ends.asked_peer;
+        pages_local = here.pages_local + (f.ends.asked_local + f.ends.wanted_local);
+        pages_peer = here.pages_peer + (f.ends.asked_peer + f.ends.wanted_peer);
         pages = (
-          one_held a path (1000 * (here.pages_local + f.ends.asked_local)) (counted_more a path (Some e.key) mine1 here.pages_local f.ends.asked_local taken.first f.ends.few.0 f.needed.0),
-          one_held b path (1000 * (here.pages_peer + f.ends.asked_peer)) (counted_more b path (Some e.key) theirs1 here.pages_peer f.ends.asked_peer taken.second f.ends.few.1 f.needed.1),
+          one_held a path (1000 * (here.pages_local + (f.ends.asked_local + f.ends.wanted_local))) (counted_more a path (Some e.key) mine1 here.pages_local (f.ends.asked_local + f.ends.wanted_local) taken.first f.ends.few.0 f.needed.0),
+          one_held b path (1000 * (here.pages_peer + (f.ends.asked_peer + f.ends.wanted_peer))) (counted_more b path (Some e.key) theirs1 here.pages_peer (f.ends.asked_peer + f.ends.wanted_peer) taken.second f.ends.few.1 f.needed.1),
         );
         few = let n = here.fewer in (omega (arith, n.0), omega (arith, n.1));
         ends = joins_some most_local most_peer a b (l.states local2) (p.states peer2) number (l.is_faithful local2) (p.is_faithful peer2) (done ++ g.now) g.so_far;
@@ -171,7 +171,7 @@ module _ {L P : Type 0} (l : Side L) (p : Side P)
   same_peer : p.most_keys peer2 ≡ p.most_keys peer
   same_peer = stays' m peer peer2 follows.1
 
-  pub settled : SettlesAll l p before.number a b (done ++ f.goes_on.now) (at.waiting ++ waits_if e) s.goes.asked_local s.goes.asked_peer local3 peer3 (l.most_keys local) (p.most_keys peer) after result
+  pub settled : SettlesAll l p before.number a b (done ++ f.goes_on.now) (at.waiting ++ waits_if e) (s.goes.asked_local + s.goes.wanted_local) (s.goes.asked_peer + s.goes.wanted_peer) local3 peer3 (l.most_keys local) (p.most_keys peer) after result
   settled =
       let g = f.goes_on in
       let t = g.still in
@@ -181,9 +181,9 @@ module _ {L P : Type 0} (l : Side L) (p : Side P)
       (subst (λ i. SoFar i (p.most_keys peer2) before.number a b (l.states local2) (p.states peer2) (done ++ g.now)) (sym same_local)
       (subst (λ j. SoFar (l.most_keys local) j before.number a b (l.states local2) (p.states peer2) (done ++ g.now)) (sym same_peer) g.so_far)) in
       let all = s.meets t.0 t.1 a b (done ++ g.now) so g.counts (still_next done g.now (before.waiting ++ f.found) at.waiting (waits_if e) g.is a b g.waits.each next) in
-      subst (λ o. SettlesAll l p o a b (done ++ g.now) (at.waiting ++ waits_if e) s.goes.asked_local s.goes.asked_peer local3 peer3 (l.most_keys local) (p.most_keys peer) after result) same
-      (subst (λ i. SettlesAll l p at.number a b (done ++ g.now) (at.waiting ++ waits_if e) s.goes.asked_local s.goes.asked_peer local3 peer3 i (p.most_keys peer) after result) same_local
-      (subst (λ j. SettlesAll l p at.number a b (done ++ g.now) (at.waiting ++ waits_if e) s.goes.asked_local s.goes.asked_peer local3 peer3 (l.most_keys local2) j after result) same_peer all))
+      subst (λ o. SettlesAll l p o a b (done ++ g.now) (at.waiting ++ waits_if e) (s.goes.asked_local + s.goes.wanted_local) (s.goes.asked_peer + s.goes.wanted_peer) local3 peer3 (l.most_keys local) (p.most_keys peer) after result) same
+      (subst (λ i. SettlesAll l p at.number a b (done ++ g.now) (at.waiting ++ waits_if e) (s.goes.asked_local + s.goes.wanted_local) (s.goes.asked_peer + s.goes.wanted_peer) local3 peer3 i (p.most_keys peer) after result) same_local
+      (subst (λ j. SettlesAll l p at.number a b (done ++ g.now) (at.waiting ++ waits_if e) (s.goes.asked_local + s.goes.wanted_local) (s.goes.asked_peer + s.goes.wanted_peer) local3 peer3 (l.most_keys local2) j after result) same_peer all))
 
   lengths : (length (before.waiting ++ (f.found ++ waits_if e)) ≡ length (before.waiting ++ f.found) + length (waits_if e)) × (length (at.waiting ++ waits_if e) ≡ length at.waiting + length (waits_if e))
   lengths = (
@@ -191,7 +191,7 @@ module _ {L P : Type 0} (l : Side L) (p : Side P)
     length-append at.waiting (waits_if e),
   )
 
-  few_settled : (asked_l + s.goes.asked_local ≤ f.pages_local + 2 * length (before.waiting ++ (f.found ++ waits_if e))) × (asked_p + s.goes.asked_peer ≤ f.pages_peer + 2 * length (before.waiting ++ (f.found ++ waits_if e)))
+  few_settled : ((asked_l + s.goes.asked_local) + s.goes.wanted_local ≤ f.pages_local + 2 * length (before.waiting ++ (f.found ++ waits_if e))) × ((asked_p + s.goes.asked_peer) + s.goes.wanted_peer ≤ f.pages_peer + 2 * length (before.waiting ++ (f.found ++ waits_if e)))
   few_settled =
       let k = lengths in
       let x = f.fewer in
@@ -221,7 +221,7 @@ module _ {L P : Type 0} (l : Side L) (p : Side P)
       }
 
   pub settled_ends : (fault : SyncFault) → (s : Settles {A = Unit {0}} l p e left left' local2 local3 peer2 peer3 at after (Err fault))
-      → Finds {A = Unit {0}} l p before.number a b done (path ∷ []) 0 (held_in a (path ∷ [])) (held_in b (path ∷ [])) (asked_l + s.goes.asked_local) (asked_p + s.goes.asked_peer) local3 peer3 (l.most_keys local) (p.most_keys peer) before after (Err fault)
+      → Finds {A = Unit {0}} l p before.number a b done (path ∷ []) 0 (held_in a (path ∷ [])) (held_in b (path ∷ [])) ((asked_l + s.goes.asked_local) + s.goes.wanted_local) ((asked_p + s.goes.asked_peer) + s.goes.wanted_peer) local3 peer3 (l.most_keys local) (p.most_keys peer) before after (Err fault)
   settled_ends fault s =
       let all = settled l p stays stays' a b done path mine theirs e asked_l asked_p local local2 local3 peer peer2 peer3 n m before at after follows same f left left' {A = Unit {0}} (Err fault) s in
       let few = few_settled l p stays stays' a b done path mine theirs e asked_l asked_p local local2 local3 peer peer2 peer3 n m before at after follows same f left left' {A = Unit {0}} (Err fault) s in
@@ -265,6 +265,7 @@ module _ {L P : Type 0} (l : Side L) (p : Side P) (path : List ℕ) (first secon
       goes = over.goes;
       meets = λ t u distinct long a b done so counts next elsewhere told.
           let here = over.meets t u a b done so counts next elsewhere told.0.0 told.1.0 in
+          let calm = over.goes.calm in
           record {
             found = here.found;
             below = below_one path here.upto here.found here.gone.below;
@@ -272,11 +273,11 @@ module _ {L P : Type 0} (l : Side L) (p : Side P) (path : List ℕ) (first secon
             pages_local = here.pages_local;
             pages_peer = here.pages_peer;
             pages = (one_held a path (1000 * here.pages_local) here.gone.first.many, one_held b path (1000 * here.pages_peer) here.gone.second.many);
-            few = let n = here.fewer in (omega (arith, n.0), omega (arith, n.1));
+            few = let n = here.fewer in (omega (arith, n.0, calm.0), omega (arith, n.1, calm.1));
             ends = record {
               all = λ key u differ. gone_ends a b done before.waiting path here.upto mine theirs here.found here.pages_local here.pages_peer here.gone mine_more theirs_more none none' key (under_one path key u) differ;
               goes_on = here.goes_on;
-              fewer = let n = here.fewer in (omega (arith, n.0), omega (arith, n.1));
+              fewer = let n = here.fewer in (omega (arith, n.0, calm.0), omega (arith, n.1, calm.1));
             };
           };
     }

@@ -19,20 +19,21 @@ module _ {S : Type 0} (s : Side S) (on : (m n : ℕ) (old mid new : S) → s.fol
 
   module _ (left left' n : ℕ) (old mid new : S) (spent : left ≡ left' + n) (before : s.follows n old mid) (still : s.is_faithful old → s.is_faithful mid) where
     -- a cause after questions is one with them
-    pub blames_later : (asked : ℕ) (refusal : Refusal) → Blames s left' asked mid new refusal → Blames s left (n + asked) old new refusal
-    blames_later asked refusal (of_side h apart) = of_side (refused_later old mid new refusal (n, before) h) (λ t. apart (still t))
-    blames_later asked refusal (of_answer e false_one) = of_answer e (λ t. false_one (still t))
-    blames_later asked refusal (of_questions e all) = of_questions e (omega arith)
-    blames_later asked refusal (of_memory e) = of_memory e
+    pub blames_later : (asked wanted : ℕ) (refusal : Refusal) → Blames s left' asked wanted mid new refusal → Blames s left (n + asked) wanted old new refusal
+    blames_later asked wanted refusal (of_side h apart) = of_side (refused_later old mid new refusal (n, before) h) (λ t. apart (still t))
+    blames_later asked wanted refusal (of_answer e false_one) = of_answer e (λ t. false_one (still t))
+    blames_later asked wanted refusal (of_questions e all one) = of_questions e (omega arith) one
+    blames_later asked wanted refusal (of_memory e) = of_memory e
 
     -- questions that came to an end after others
     pub ends_later : (T U : Type 0) (questions : ℕ) (refusal : Refusal) → (s.is_faithful old → T → U) → ComesToEnd s T questions left' mid new refusal → ComesToEnd s U (n + questions) left old new refusal
     ends_later T U questions refusal then e = record {
       asked = n + e.asked;
+      wanted = e.wanted;
       few = let few = e.few in omega arith;
       within = let within = e.within in omega arith;
       follows = on n e.asked old mid new before e.follows;
-      cause = blames_later e.asked refusal e.cause;
+      cause = blames_later e.asked e.wanted refusal e.cause;
       not_of_key = λ t. e.not_of_key (still t);
       right = λ t. then t (e.right (still t));
     }
@@ -41,7 +42,8 @@ module _ {S : Type 0} (s : Side S) (on : (m n : ℕ) (old mid new : S) → s.fol
 pub ends_for_memory : {S : Type 0} (s : Side S) (T : Type 0) (questions left left' n : ℕ) (old new : S) (refusal : Refusal) → left ≡ left' + n → n ≤ questions → s.follows n old new → (s.is_faithful old → T) → refusal ≡ Memory → ComesToEnd s T questions left old new refusal
 ends_for_memory s T questions left left' n old new refusal spent few follows then is = record {
   asked = n;
-  few = few;
+  wanted = 0;
+  few = omega (arith, few);
   within = omega arith;
   follows = follows;
   cause = of_memory is;

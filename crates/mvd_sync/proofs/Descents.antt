@@ -125,10 +125,13 @@ reads_of s May Right qs ts left left' old new a = record { spent = a.spent; foll
 module _ {L P : Type 0} (l : Side L) (p : Side P)
     (on : (m n : ℕ) (old mid new : L) → l.follows m old mid → l.follows n mid new → l.follows (m + n) old new)
     (on' : (m n : ℕ) (old mid new : P) → p.follows m old mid → p.follows n mid new → p.follows (m + n) old new) where
-  fault_later : (left mid : Questions) (n m : ℕ) (local local1 local2 : L) (peer peer1 peer2 : P) → Reads l n left.local mid.local local local1 → Reads p m left.peer mid.peer peer peer1 → (i j : ℕ) (fault : SyncFault)
-      → IsFaultOf (Blames l mid.local i local1 local2) (Blames p mid.peer j peer1 peer2) fault → IsFaultOf (Blames l left.local (n + i) local local2) (Blames p left.peer (m + j) peer peer2) fault
-  fault_later left mid n m local local1 local2 peer peer1 peer2 r q i j (Local refusal) h = blames_later l on left.local mid.local n local local1 local2 r.spent r.follows (λ t. (r.kept t).still) i refusal h
-  fault_later left mid n m local local1 local2 peer peer1 peer2 r q i j (Peer refusal) h = blames_later p on' left.peer mid.peer m peer peer1 peer2 q.spent q.follows (λ t. (q.kept t).still) j refusal h
+  sums : (a b c : ℕ) → a + (b + c) ≡ (a + b) + c
+  sums a b c = omega arith
+
+  fault_later : (left mid : Questions) (n m : ℕ) (local local1 local2 : L) (peer peer1 peer2 : P) → Reads l n left.local mid.local local local1 → Reads p m left.peer mid.peer peer peer1 → (i j v w : ℕ) (fault : SyncFault)
+      → IsFaultOf (Blames l mid.local i v local1 local2) (Blames p mid.peer j w peer1 peer2) fault → IsFaultOf (Blames l left.local (n + i) v local local2) (Blames p left.peer (m + j) w peer peer2) fault
+  fault_later left mid n m local local1 local2 peer peer1 peer2 r q i j v w (Local refusal) h = blames_later l on left.local mid.local n local local1 local2 r.spent r.follows (λ t. (r.kept t).still) i v refusal h
+  fault_later left mid n m local local1 local2 peer peer1 peer2 r q i j v w (Peer refusal) h = blames_later p on' left.peer mid.peer m peer peer1 peer2 q.spent q.follows (λ t. (q.kept t).still) j w refusal h
 
   -- a walk that came to an end after questions
   pub end_later : (Few Most : ℕ → Type 0) (left mid : Questions) (n m : ℕ) (local local1 local2 : L) (peer peer1 peer2 : P) (fault : SyncFault) → Reads l n left.local mid.local local local1 → Reads p m left.peer mid.peer peer peer1 → ((i : ℕ) → Few i → Most (n + i)) → ((i : ℕ) → Few i → Most (m + i))
@@ -136,10 +139,12 @@ module _ {L P : Type 0} (l : Side L) (p : Side P)
   end_later Few Most left mid n m local local1 local2 peer peer1 peer2 fault r q f f' e = record {
     asked_local = n + e.asked_local;
     asked_peer = m + e.asked_peer;
+    wanted_local = e.wanted_local;
+    wanted_peer = e.wanted_peer;
     within = let a = r.spent in let b = q.spent in let c = e.within in (omega (arith, a, c.0), omega (arith, b, c.1));
-    few = (f e.asked_local e.few.0, f' e.asked_peer e.few.1);
+    few = (subst Most (sums n e.asked_local e.wanted_local) (f (e.asked_local + e.wanted_local) e.few.0), subst Most (sums m e.asked_peer e.wanted_peer) (f' (e.asked_peer + e.wanted_peer) e.few.1));
     follows = (on n e.asked_local local local1 local2 r.follows e.follows.0, on' m e.asked_peer peer peer1 peer2 q.follows e.follows.1);
-    cause = fault_later left mid n m local local1 local2 peer peer1 peer2 r q e.asked_local e.asked_peer fault e.cause;
+    cause = fault_later left mid n m local local1 local2 peer peer1 peer2 r q e.asked_local e.asked_peer e.wanted_local e.wanted_peer fault e.cause;
     kept_local = λ t. let k = r.kept t in keeps_on l local local1 local2 k (e.kept_local k.still);
     kept_peer = λ t. let k = q.kept t in keeps_on p peer peer1 peer2 k (e.kept_peer k.still);
   }
@@ -149,6 +154,8 @@ module _ {L P : Type 0} (l : Side L) (p : Side P)
   local_ends questions self left local local' peer refusal e = record {
     asked_local = e.asked;
     asked_peer = 0;
+    wanted_local = e.wanted;
+    wanted_peer = 0;
     within = (e.within, omega arith);
     few = (e.few, omega arith);
     follows = (e.follows, self peer);
@@ -161,6 +168,8 @@ module _ {L P : Type 0} (l : Side L) (p : Side P)
   peer_ends questions self left local peer peer' refusal e = record {
     asked_local = 0;
     asked_peer = e.asked;
+    wanted_local = 0;
+    wanted_peer = e.wanted;
     within = (omega arith, e.within);
     few = (omega arith, e.few);
     follows = (self local, e.follows);
@@ -173,6 +182,8 @@ module _ {L P : Type 0} (l : Side L) (p : Side P)
   memory_ends self self' left local peer refusal is = record {
     asked_local = 0;
     asked_peer = 0;
+    wanted_local = 0;
+    wanted_peer = 0;
     within = (omega arith, omega arith);
     few = (omega arith, omega arith);
     follows = (self local, self' peer);

@@ -52,6 +52,8 @@ module _ {L P : Type 0} (l : SideOf L) (p : SideOf P) (number : Option ℕ) (ent
   ends_at_plans {A} left left' local local' peer peer' fault e = record {
     asked_local = e.asked_local;
     asked_peer = e.asked_peer;
+    wanted_local = e.wanted_local;
+    wanted_peer = e.wanted_peer;
     within = e.within;
     spent = tt;
     few = (let few = e.few.0 in omega (arith, few), let few = e.few.1 in omega (arith, few));
@@ -106,12 +108,14 @@ module _ {L P : Type 0} (l : SideOf L) (p : SideOf P) (number : Option ℕ) (ent
     ends_at_local {A} left' local2 refusal e alone = record {
       asked_local = n_l + e.asked;
       asked_peer = n_p;
+      wanted_local = e.wanted;
+      wanted_peer = 0;
       within = (let a = plan.from_local.spent in let b = e.within in omega (arith, a, b), let a = plan.from_peer.spent in omega (arith, a));
       spent = tt;
       few = (let a = held_short AtLocal entries in let b = e.few in omega (arith, a, b, short_l), let a = held_short AtPeer entries in omega (arith, a));
       least = tt;
       follows = (on n_l e.asked local local1 local2 plan.from_local.follows e.follows, plan.from_peer.follows);
-      cause = blames_later l on left.local left1.local n_l local local1 local2 plan.from_local.spent plan.from_local.follows (λ t. (keep_l t).still) e.asked refusal e.cause;
+      cause = blames_later l on left.local left1.local n_l local local1 local2 plan.from_local.spent plan.from_local.follows (λ t. (keep_l t).still) e.asked e.wanted refusal e.cause;
       local_side = λ t.
           let k = keep_l t in
           let took = e.right k.still in
@@ -200,12 +204,14 @@ module _ {L P : Type 0} (l : SideOf L) (p : SideOf P) (number : Option ℕ) (ent
           record {
             asked_local = asked_l;
             asked_peer = n_p + e.asked;
+            wanted_local = 0;
+            wanted_peer = e.wanted;
             within = (let a = spent_l in omega (arith, a), let a = plan.from_peer.spent in let b = e.within in omega (arith, a, b));
             spent = tt;
-            few = (few_l, let a = held_short AtPeer entries in let b = e.few in omega (arith, a, b, short_p));
+            few = (let few = few_l in omega (arith, few), let a = held_short AtPeer entries in let b = e.few in omega (arith, a, b, short_p));
             least = tt;
             follows = (follows_l, on' n_p e.asked peer peer1 peer2 plan.from_peer.follows e.follows);
-            cause = blames_later p on' left.peer left1.peer n_p peer peer1 peer2 plan.from_peer.spent plan.from_peer.follows (λ t. (keep_p t).still) e.asked refusal e.cause;
+            cause = blames_later p on' left.peer left1.peer n_p peer peer1 peer2 plan.from_peer.spent plan.from_peer.follows (λ t. (keep_p t).still) e.asked e.wanted refusal e.cause;
             local_side = λ t. changes_by {A = Vec Meeting A} (l.is_faithful local2) (Local Broken) p.can_give (l.states local) (l.states local2) (Err (Peer refusal)) (took_l t).still (comes_l p.can_give from_p t);
             peer_side = λ t.
                 let k = keep_p t in
@@ -248,9 +254,11 @@ module _ {L P : Type 0} (l : SideOf L) (p : SideOf P) (number : Option ℕ) (ent
           record {
             asked_local = asked_l;
             asked_peer = n_p + length pairs_p;
+            wanted_local = 0;
+            wanted_peer = 0;
             within = (omega (arith, spent), omega (arith, spent_p, spent_p'));
             spent = (spent, omega (arith, spent_p, spent_p'));
-            few = (few_l, let a = held_short AtPeer entries in omega (arith, a, short_p));
+            few = (let few = few_l in omega (arith, few), let a = held_short AtPeer entries in omega (arith, a, short_p));
             least = let a = held_by_one entries held in omega (arith, a);
             follows = (follows_l, on' n_p (length pairs_p) peer peer1 peer2 plan.from_peer.follows d.answered.follows);
             cause = tt;

@@ -61,10 +61,13 @@ module _ {L P : Type 0} (l : SideOf L) (p : SideOf P) {A B : Type 0} (next : Lis
   exchanges_end fault number e = record {
     asked_local = e.asked_local;
     asked_peer = e.asked_peer;
+    wanted_local = e.wanted_local;
+    wanted_peer = e.wanted_peer;
     within = e.within;
     spent = tt;
     few = e.few;
     fewer = tt;
+    calm = tt;
     room = tt;
     short = λ _. tt;
     follows = e.follows;
@@ -83,10 +86,13 @@ module _ {L P : Type 0} (l : SideOf L) (p : SideOf P) {A B : Type 0} (next : Lis
     exchanges_memory refusal is number = record {
       asked_local = e.asked_local;
       asked_peer = e.asked_peer;
+      wanted_local = e.wanted_local;
+      wanted_peer = e.wanted_peer;
       within = e.within;
       spent = tt;
       few = e.few;
       fewer = tt;
+      calm = tt;
       room = tt;
       short = λ _. tt;
       follows = e.follows;
@@ -114,10 +120,13 @@ module _ {L P : Type 0} (l : SideOf L) (p : SideOf P) {A B : Type 0} (next : Lis
         record {
           asked_local = e.asked_local;
           asked_peer = e.asked_peer;
+          wanted_local = 0;
+          wanted_peer = 0;
           within = e.within;
           spent = e.spent;
-          few = e.few;
+          few = (omega (arith, few.0), omega (arith, few.1));
           fewer = (omega (arith, few.0, none), omega (arith, few.1, none));
+          calm = (refl, refl);
           room = omega (arith, count, long, many, least, spent.0, spent.1, adds.keys, adds.refused);
           short = λ _. omega (arith, none);
           follows = e.follows;
@@ -148,10 +157,13 @@ module _ {L P : Type 0} (l : SideOf L) (p : SideOf P) {B : Type 0} (next : List 
       record {
         asked_local = e.asked_local;
         asked_peer = e.asked_peer;
+        wanted_local = e.wanted_local;
+        wanted_peer = e.wanted_peer;
         within = e.within;
         spent = e.spent;
         few = e.few;
         fewer = e.fewer;
+        calm = e.calm;
         room = e.room;
         short = e.short;
         follows = e.follows;
@@ -170,10 +182,13 @@ module _ {L P : Type 0} (l : SideOf L) (p : SideOf P) {B : Type 0} (self : (s : 
   exchanges_none refusal is number = record {
     asked_local = 0;
     asked_peer = 0;
+    wanted_local = 0;
+    wanted_peer = 0;
     within = (omega arith, omega arith);
     spent = tt;
     few = (omega arith, omega arith);
     fewer = tt;
+    calm = tt;
     room = tt;
     short = λ _. tt;
     follows = (self local, self' peer);
@@ -196,10 +211,13 @@ module _ {L P : Type 0} (l : SideOf L) (p : SideOf P) {B : Type 0} (self : (s : 
       record {
         asked_local = 0;
         asked_peer = 0;
+        wanted_local = 0;
+        wanted_peer = 0;
         within = (omega arith, omega arith);
         spent = (omega arith, omega arith);
         few = (omega arith, omega arith);
         fewer = (omega (arith, many), omega (arith, many));
+        calm = (refl, refl);
         room = omega (arith, keys, refused);
         short = λ _. omega (arith, many, low);
         follows = (self local, self' peer);

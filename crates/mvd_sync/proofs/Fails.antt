@@ -17,10 +17,12 @@ module _ {L P : Type 0} (l : Side L) (p : Side P) (most n m left_l left_p : ℕ)
   local_fails on k local2 small e = record {
     asked_local = n + e.asked;
     asked_peer = m;
+    wanted_local = e.wanted;
+    wanted_peer = 0;
     within = let a = first.spent in let b = second.spent in let c = e.within in (omega (arith, a, c), omega (arith, b));
-    few = let c = e.few in (omega (arith, c, small), few_p);
+    few = let c = e.few in (omega (arith, c, small), omega (arith, few_p));
     follows = (on n e.asked local local1 local2 first.follows e.follows, second.follows);
-    cause = blames_later l on left.local left_l n local local1 local2 first.spent first.follows (λ t. (first.kept t).still) e.asked refusal e.cause;
+    cause = blames_later l on left.local left_l n local local1 local2 first.spent first.follows (λ t. (first.kept t).still) e.asked e.wanted refusal e.cause;
     kept_local = λ t. let k = first.kept t in keeps_on l local local1 local2 k (e.right k.still);
     kept_peer = second.kept;
   }
@@ -30,10 +32,12 @@ module _ {L P : Type 0} (l : Side L) (p : Side P) (most n m left_l left_p : ℕ)
   peer_fails on k peer2 small e = record {
     asked_local = n;
     asked_peer = m + e.asked;
+    wanted_local = 0;
+    wanted_peer = e.wanted;
     within = let a = first.spent in let b = second.spent in let c = e.within in (omega (arith, a), omega (arith, b, c));
-    few = let c = e.few in (few_l, omega (arith, c, small));
+    few = let c = e.few in (omega (arith, few_l), omega (arith, c, small));
     follows = (first.follows, on m e.asked peer peer1 peer2 second.follows e.follows);
-    cause = blames_later p on left.peer left_p m peer peer1 peer2 second.spent second.follows (λ t. (second.kept t).still) e.asked refusal e.cause;
+    cause = blames_later p on left.peer left_p m peer peer1 peer2 second.spent second.follows (λ t. (second.kept t).still) e.asked e.wanted refusal e.cause;
     kept_local = first.kept;
     kept_peer = λ t. let k = second.kept t in keeps_on p peer peer1 peer2 k (e.right k.still);
   }
@@ -42,8 +46,10 @@ module _ {L P : Type 0} (l : Side L) (p : Side P) (most n m left_l left_p : ℕ)
   memory_fails is = record {
     asked_local = n;
     asked_peer = m;
+    wanted_local = 0;
+    wanted_peer = 0;
     within = let a = first.spent in let b = second.spent in (omega (arith, a), omega (arith, b));
-    few = (few_l, few_p);
+    few = (omega (arith, few_l), omega (arith, few_p));
     follows = (first.follows, second.follows);
     cause = of_memory is;
     kept_local = first.kept;

@@ -10,7 +10,7 @@ use Rattle.mvd_sync.specs.Answers.{Entry, IsPage, IsPageOf}
 use Rattle.mvd_sync.specs.Buckets.{ArePages, FillEnds, IsSpent}
 use Rattle.mvd_sync.specs.Questions.{AllAnswered, ComesToEnd, Fills, ForEach, Keeps, Tells}
 use Rattle.mvd_sync.specs.Session.{Each}
-use Rattle.mvd_sync.specs.Sides.{Side, of_answer, is_of_key}
+use Rattle.mvd_sync.specs.Sides.{Side, of_answer, of_side, is_of_key}
 use Rattle.mvd_sync.specs.Walk.{Reads}
 use Rattle.mvd_sync.specs.declared.questions.Questions.{Questions}
 use Rattle.mvd_sync.specs.declared.report.SyncFault.TheVariants.{Local, Peer}
@@ -22,11 +22,26 @@ pub page_refused : {S X : Type 0} (s : Side S) (IsTold : Type 0) (result : Resul
 page_refused s IsTold (Ok page) left left' old new spent follows kept told bad = tt
 page_refused s IsTold (Err refusal) left left' old new spent follows kept told bad = record {
   asked = 1;
+  wanted = 0;
   few = omega arith;
   within = omega (arith, spent);
   follows = follows;
   cause = of_answer bad.0 (λ t. bad.1 (told t));
   not_of_key = λ t. ap is_of_key bad.0;
+  right = kept;
+}
+
+-- it was refused
+pub one_refused : {S : Type 0} (s : Side S) (left left' : ℕ) (old new : S) (refusal : Refusal) → left ≡ left' + 1 → s.follows 1 old new → s.follows 0 new new → s.can_refuse new refusal → (s.is_faithful old → is_of_key refusal ≡ false) → (s.is_faithful old → Keeps s old new)
+    → ComesToEnd s (Keeps s old new) 1 left old new refusal
+one_refused s left left' old new refusal spent follows self told not_of_key kept = record {
+  asked = 1;
+  wanted = 0;
+  few = omega arith;
+  within = omega (arith, spent);
+  follows = follows;
+  cause = of_side (new, (1, follows), told, (0, self)) not_of_key;
+  not_of_key = not_of_key;
   right = kept;
 }
 
@@ -37,6 +52,8 @@ module _ {L P : Type 0} (l : Side L) (p : Side P) (path : List ℕ) (after : Opt
     ends = record {
       asked_local = e.asked;
       asked_peer = 0;
+      wanted_local = e.wanted;
+      wanted_peer = 0;
       within = (e.within, omega arith);
       few = (e.few, omega arith);
       follows = (e.follows, self peer);
@@ -53,14 +70,16 @@ module _ {L P : Type 0} (l : Side L) (p : Side P) (path : List ℕ) (after : Opt
     ends = record {
       asked_local = f.asked;
       asked_peer = e.asked;
+      wanted_local = 0;
+      wanted_peer = e.wanted;
       within = let s = f.spent in (omega (arith, s), e.within);
-      few = (f.one, e.few);
+      few = (let one = f.one in omega (arith, one), e.few);
       follows = (f.follows, e.follows);
       cause = e.cause;
       kept_local = f.kept;
       kept_peer = e.right;
     };
-    needed = (f.needed, λ _. spent);
+    needed = (λ h. f.needed (omega (arith, h)), λ _. spent);
   }
 
 -- ---- pages that are taken one by one

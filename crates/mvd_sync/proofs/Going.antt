@@ -50,8 +50,11 @@ module _ {L P : Type 0} (l : Side L) (p : Side P) where
   goes_of_exchange next left left' local local' peer peer' before after result one e = record {
     asked_local = e.asked_local;
     asked_peer = e.asked_peer;
+    wanted_local = e.wanted_local;
+    wanted_peer = e.wanted_peer;
     within = e.within;
     spent = e.spent;
+    calm = e.calm;
     follows = e.follows;
     cause = e.cause;
     local_side = e.local_side;
@@ -69,8 +72,11 @@ module _ {L P : Type 0} (l : Side L) (p : Side P) where
   goes_of_reads x n m left left' local local' peer peer' e r q = record {
     asked_local = n;
     asked_peer = m;
+    wanted_local = 0;
+    wanted_peer = 0;
     within = let a = r.spent in let b = q.spent in (omega (arith, a), omega (arith, b));
     spent = (r.spent, q.spent);
+    calm = (refl, refl);
     follows = (r.follows, q.follows);
     cause = tt;
     local_side = λ t. let k = r.kept t in changes_none (l.is_faithful local') (Local _) p.can_give (l.states local) (l.states local') (Ok x) k.still k.states;
@@ -88,8 +94,11 @@ module _ {L P : Type 0} (l : Side L) (p : Side P) where
   goes_of_end {A} Few left left' local local' peer peer' e fault r = record {
     asked_local = r.asked_local;
     asked_peer = r.asked_peer;
+    wanted_local = r.wanted_local;
+    wanted_peer = r.wanted_peer;
     within = r.within;
     spent = tt;
+    calm = tt;
     follows = r.follows;
     cause = r.cause;
     local_side = λ t. let k = r.kept_local t in changes_none {A = A} (l.is_faithful local') (Local _) p.can_give (l.states local) (l.states local') (Err fault) k.still k.states;
@@ -113,10 +122,10 @@ module _ {L P : Type 0} (l : Side L) (p : Side P) where
       (on' : (m n : ℕ) (old mid new : P) → p.follows m old mid → p.follows n mid new → p.follows (m + n) old new)
       {A B : Type 0} (left mid left' : Questions) (local local1 local2 : L) (peer peer1 peer2 : P) (before at after : Exchanging) (x : A) (result : Result B SyncFault)
       (first : Goes l p left mid local local1 peer peer1 before at (Ok x)) (second : Goes l p mid left' local1 local2 peer1 peer2 at after result) where
-    pub fault_on : (fault : SyncFault) → IsFaultOf (Blames l mid.local second.asked_local local1 local2) (Blames p mid.peer second.asked_peer peer1 peer2) fault
-        → IsFaultOf (Blames l left.local (first.asked_local + second.asked_local) local local2) (Blames p left.peer (first.asked_peer + second.asked_peer) peer peer2) fault
-    fault_on (Local refusal) h = blames_later l on left.local mid.local first.asked_local local local1 local2 first.spent.0 first.follows.0 (λ t. (first.local_side t).after_ok) second.asked_local refusal h
-    fault_on (Peer refusal) h = blames_later p on' left.peer mid.peer first.asked_peer peer peer1 peer2 first.spent.1 first.follows.1 (λ t. (first.peer_side t).after_ok) second.asked_peer refusal h
+    pub fault_on : (fault : SyncFault) → IsFaultOf (Blames l mid.local second.asked_local second.wanted_local local1 local2) (Blames p mid.peer second.asked_peer second.wanted_peer peer1 peer2) fault
+        → IsFaultOf (Blames l left.local (first.asked_local + second.asked_local) second.wanted_local local local2) (Blames p left.peer (first.asked_peer + second.asked_peer) second.wanted_peer peer peer2) fault
+    fault_on (Local refusal) h = blames_later l on left.local mid.local first.asked_local local local1 local2 first.spent.0 first.follows.0 (λ t. (first.local_side t).after_ok) second.asked_local second.wanted_local refusal h
+    fault_on (Peer refusal) h = blames_later p on' left.peer mid.peer first.asked_peer peer peer1 peer2 first.spent.1 first.follows.1 (λ t. (first.peer_side t).after_ok) second.asked_peer second.wanted_peer refusal h
 
     pub silent_local : IsSilent l.follows l.can_answer local → IsSilent l.follows l.can_answer local1
     silent_local silent after reaches = silent after (first.asked_local + reaches.0, on first.asked_local reaches.0 local local1 after first.follows.0 reaches.1)
@@ -128,6 +137,9 @@ module _ {L P : Type 0} (l : Side L) (p : Side P) where
     goes_on = record {
       asked_local = first.asked_local + second.asked_local;
       asked_peer = first.asked_peer + second.asked_peer;
+      wanted_local = second.wanted_local;
+      wanted_peer = second.wanted_peer;
+      calm = second.calm;
       within = let a = first.spent in let b = second.within in (omega (arith, a.0, b.0), omega (arith, a.1, b.1));
       spent = let a = first.spent in if_ok result (λ b. (omega (arith, a.0, b.0), omega (arith, a.1, b.1))) second.spent;
       follows = (on first.asked_local second.asked_local local local1 local2 first.follows.0 second.follows.0, on' first.asked_peer second.asked_peer peer peer1 peer2 first.follows.1 second.follows.1);

@@ -33,6 +33,8 @@ module _ {L P : Type 0} (l : SideOf L) (p : SideOf P) (entries : List Entry) (le
       record {
         asked_local = e.asked;
         asked_peer = 0;
+        wanted_local = e.wanted;
+        wanted_peer = 0;
         few = (let few = e.few in omega (arith, few, short), omega arith);
         within = (e.within, omega arith);
         follows = (e.follows, self);
@@ -48,7 +50,9 @@ module _ {L P : Type 0} (l : SideOf L) (p : SideOf P) (entries : List Entry) (le
       record {
         asked_local = length (held_keys AtLocal entries);
         asked_peer = e.asked;
-        few = (short, let few = e.few in omega (arith, few, short'));
+        wanted_local = 0;
+        wanted_peer = e.wanted;
+        few = (omega (arith, short), let few = e.few in omega (arith, few, short'));
         within = (let spent = given.spent in omega (arith, spent), e.within);
         follows = (given.follows, e.follows);
         cause = e.cause;
@@ -60,7 +64,9 @@ module _ {L P : Type 0} (l : SideOf L) (p : SideOf P) (entries : List Entry) (le
   ends_for_memory mine theirs left' left'' given given' is = record {
     asked_local = length (held_keys AtLocal entries);
     asked_peer = length (held_keys AtPeer entries);
-    few = (held_short AtLocal entries, held_short AtPeer entries);
+    wanted_local = 0;
+    wanted_peer = 0;
+    few = (let a = held_short AtLocal entries in omega (arith, a), let b = held_short AtPeer entries in omega (arith, b));
     within = (let spent = given.spent in omega (arith, spent), let spent = given'.spent in omega (arith, spent));
     follows = (given.follows, given'.follows);
     cause = of_memory is;

@@ -95,11 +95,12 @@ module _ {S : Type 0} (s : Side S) (pairs : List Pair) (left : ℕ) (old : S) wh
       }
 
   -- and the last answer, or what was made of it, ended them
-  pub ended_after : (rest : List Pair) (told : List Told) (left' : ℕ) (new : S) (refusal : Refusal) (f : FrontPushed s pairs rest told left left' old new) → Blames s left (length f.done) old new refusal → is_of_key refusal ≡ false → ComesToEnd s (TakesFirst s pairs old new refusal) (length pairs) left old new refusal
+  pub ended_after : (rest : List Pair) (told : List Told) (left' : ℕ) (new : S) (refusal : Refusal) (f : FrontPushed s pairs rest told left left' old new) → Blames s left (length f.done) 0 old new refusal → is_of_key refusal ≡ false → ComesToEnd s (TakesFirst s pairs old new refusal) (length pairs) left old new refusal
   ended_after rest told left' new refusal f why not_of_key =
       let longer : length pairs ≡ length f.done + length rest = ap length f.whole ∙ length-append f.done rest in
       record {
         asked = length f.done;
+        wanted = 0;
         few = omega arith;
         within = let spent = f.spent in omega arith;
         follows = f.follows;
@@ -123,8 +124,21 @@ module _ {S : Type 0} (s : Side S) (pairs : List Pair) (left : ℕ) (old : S) wh
   ended_for_memory rest told left' new refusal f is = ended_after rest told left' new refusal f (of_memory is) (ap is_of_key is)
 
   -- no question was left
-  pub ended_for_want : (rest : List Pair) (told : List Told) (left' : ℕ) (new : S) (refusal : Refusal) → FrontPushed s pairs rest told left left' old new → refusal ≡ TooManyRequests → left' ≡ 0 → ComesToEnd s (TakesFirst s pairs old new refusal) (length pairs) left old new refusal
-  ended_for_want rest told left' new refusal f is none = ended_after rest told left' new refusal f (of_questions is (let spent = f.spent in omega arith)) (ap is_of_key is)
+  pub ended_for_want : (rest : List Pair) (told : List Told) (left' : ℕ) (new : S) (refusal : Refusal) → FrontPushed s pairs rest told left left' old new → refusal ≡ TooManyRequests → left' ≡ 0 → 1 ≤ length rest → ComesToEnd s (TakesFirst s pairs old new refusal) (length pairs) left old new refusal
+  ended_for_want rest told left' new refusal f is none more =
+      let longer : length pairs ≡ length f.done + length rest = ap length f.whole ∙ length-append f.done rest in
+      let spent = f.spent in
+      let before = ended_for_memory rest told left' new Memory f refl in
+      record {
+        asked = length f.done;
+        wanted = 1;
+        few = omega (arith, longer, more);
+        within = omega (arith, spent);
+        follows = f.follows;
+        cause = of_questions is (omega (arith, spent, none)) refl;
+        not_of_key = λ _. ap is_of_key is;
+        right = λ t. let k = before.right t in record { still = λ _. (f.took t).0; pushes = k.pushes };
+      }
 
 -- ---- one window more
 
@@ -185,6 +199,7 @@ module _ {S : Type 0} (s : Side S) (on : (m n : ℕ) (old mid new : S) → s.fol
         let all : length pairs ≡ length before.done + length rest = ap length before.whole ∙ length-append before.done rest in
         record {
           asked = length before.done + ends.count.0;
+          wanted = 0;
           few = omega arith;
           within = omega arith;
           follows = on (length before.done) ends.count.0 old mid new before.follows ends.count.2;

@@ -88,11 +88,13 @@ module _ {L P : Type 0} (l : SideOf L) (p : SideOf P) (most : ℕ) (local local'
 
   pub session_ends : {A : Type 0} (fault : SyncFault) (g : Goes {A = A} l p all_left left' local local' peer peer' before after (Err fault))
       → (l.is_faithful local → p.is_faithful peer → JoinsSome (l.is_faithful local') (p.is_faithful peer') (l.states local) (p.states peer) (l.states local') (p.states peer'))
-      → (l.is_faithful local → p.is_faithful peer → (differing : List (List ℕ)) → HasAllThatDiffer (l.states local) (p.states peer) differing → AreFew g.asked_local (l.states local) differing × AreFew g.asked_peer (p.states peer) differing)
+      → (l.is_faithful local → p.is_faithful peer → (differing : List (List ℕ)) → HasAllThatDiffer (l.states local) (p.states peer) differing → AreFew (g.asked_local + g.wanted_local) (l.states local) differing × AreFew (g.asked_peer + g.wanted_peer) (p.states peer) differing)
       → Session l p most local local' peer peer' (Err fault)
   session_ends fault g joins few = record {
     asked_local = g.asked_local;
     asked_peer = g.asked_peer;
+    wanted_local = g.wanted_local;
+    wanted_peer = g.wanted_peer;
     within = g.within;
     follows = g.follows;
     cause = g.cause;
@@ -108,11 +110,13 @@ module _ {L P : Type 0} (l : SideOf L) (p : SideOf P) (most : ℕ) (local local'
   pub session_done : {A : Type 0} (x : A) (report : Report) (g : Goes {A = A} l p all_left left' local local' peer peer' before after (Ok x))
       → HasAnswered l.follows l.can_answer local local' × HasAnswered p.follows p.can_answer peer peer'
       → (l.is_faithful local → p.is_faithful peer → Meets (l.is_faithful local') (p.is_faithful peer') (l.most_keys local) (p.most_keys peer) (l.number local) (l.states local) (p.states peer) (l.states local') (p.states peer') (Ok report))
-      → (l.is_faithful local → p.is_faithful peer → (differing : List (List ℕ)) → HasAllThatDiffer (l.states local) (p.states peer) differing → AreFew g.asked_local (l.states local) differing × AreFew g.asked_peer (p.states peer) differing)
+      → (l.is_faithful local → p.is_faithful peer → (differing : List (List ℕ)) → HasAllThatDiffer (l.states local) (p.states peer) differing → AreFew (g.asked_local + g.wanted_local) (l.states local) differing × AreFew (g.asked_peer + g.wanted_peer) (p.states peer) differing)
       → Session l p most local local' peer peer' (Ok report)
   session_done x report g answers meets few = record {
     asked_local = g.asked_local;
     asked_peer = g.asked_peer;
+    wanted_local = g.wanted_local;
+    wanted_peer = g.wanted_peer;
     within = g.within;
     follows = g.follows;
     cause = tt;
@@ -169,7 +173,7 @@ module _ {L P : Type 0} (l : SideOf L) (p : SideOf P)
     gone = goes_on l p on on' total mid left2 local local1 local2 peer peer1 peer2 start start e2 (tt {0}) r2 walked second.goes
 
     abbrev Found : ℕ → ℕ → Type 0
-    Found x y = Finds l p (l.number local) (l.states local) (p.states peer) [] paths (length paths) (held_in (l.states local) paths) (held_in (p.states peer) paths) second.goes.asked_local second.goes.asked_peer local2 peer2 x y start e2 r2
+    Found x y = Finds l p (l.number local) (l.states local) (p.states peer) [] paths (length paths) (held_in (l.states local) paths) (held_in (p.states peer) paths) (second.goes.asked_local + second.goes.wanted_local) (second.goes.asked_peer + second.goes.wanted_peer) local2 peer2 x y start e2 r2
 
     pub found_there : l.is_faithful local → p.is_faithful peer → Found (l.most_keys local) (p.most_keys peer)
     found_there t u =
@@ -223,7 +227,7 @@ module _ {L P : Type 0} (l : SideOf L) (p : SideOf P)
     abbrev Steps : List Done → ℕ → ℕ → Option ℕ → Type 0
     Steps done x y o = SoFar x y o (l.states local) (p.states peer) (l.states local2) (p.states peer2) done → Ends done x y o
 
-    all_found : (t : l.is_faithful local) (u : p.is_faithful peer) → FindsAll l p (l.number local) (l.states local) (p.states peer) [] paths (found_there (Ok x2) second t u).found (found_there (Ok x2) second t u).found (length paths + (found_there (Ok x2) second t u).pages_local) (length paths + (found_there (Ok x2) second t u).pages_peer) second.goes.asked_local second.goes.asked_peer local2 peer2 (l.most_keys local) (p.most_keys peer) e2
+    all_found : (t : l.is_faithful local) (u : p.is_faithful peer) → FindsAll l p (l.number local) (l.states local) (p.states peer) [] paths (found_there (Ok x2) second t u).found (found_there (Ok x2) second t u).found (length paths + (found_there (Ok x2) second t u).pages_local) (length paths + (found_there (Ok x2) second t u).pages_peer) (second.goes.asked_local + second.goes.wanted_local) (second.goes.asked_peer + second.goes.wanted_peer) local2 peer2 (l.most_keys local) (p.most_keys peer) e2
     all_found t u = (found_there (Ok x2) second t u).ends
 
     ended : (t : l.is_faithful local) (u : p.is_faithful peer) → Ends (all_found t u).goes_on.now (l.most_keys local) (p.most_keys peer) (l.number local)
@@ -235,7 +239,7 @@ module _ {L P : Type 0} (l : SideOf L) (p : SideOf P)
     abbrev AllFew : ℕ → ℕ → List (List ℕ) → Type 0
     AllFew i j differing = AreFew i (l.states local) differing × AreFew j (p.states peer) differing
 
-    all_few : l.is_faithful local → p.is_faithful peer → (differing : List (List ℕ)) → HasAllThatDiffer (l.states local) (p.states peer) differing → AllFew (w.asked + second.goes.asked_local + third.asked_local) (w.asked + second.goes.asked_peer + third.asked_peer) differing
+    all_few : l.is_faithful local → p.is_faithful peer → (differing : List (List ℕ)) → HasAllThatDiffer (l.states local) (p.states peer) differing → AllFew ((w.asked + second.goes.asked_local + third.asked_local) + third.wanted_local) ((w.asked + second.goes.asked_peer + third.asked_peer) + third.wanted_peer) differing
     all_few t u differing all =
         let f = found_there (Ok x2) second t u in
         let pages = pages_few (Ok x2) second t u in

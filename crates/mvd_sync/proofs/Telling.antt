@@ -13,7 +13,7 @@ use Rattle.mvd_tree.specs.Hashed.{HashesTellApart}
 use Rattle.mvd_site.specs.Answer.{spelled}
 use Rattle.mvd_site.specs.Held.{States}
 use Rattle.mvd_sync.specs.Exchanges.{CameTo, Counts, Done, Exchanging, IsDone, SoFar, given_keys, is_given, is_joined, joined_keys, keys_done, left_keys}
-use Rattle.mvd_sync.specs.Session.{AreDistinct, CannotMeet, Each, IsIn, IsLeft, IsOld, Left, Tells, is_member, most_of}
+use Rattle.mvd_sync.specs.Session.{AreDistinct, CannotMeet, Each, IsIn, IsLeft, IsOld, Left, Tells, is_member, most_of, own_of}
 use Rattle.mvd_sync.specs.declared.report.Report.{Report}
 use Rattle.mvd_sync.specs.declared.report.Side.{Side}
 use Rattle.mvd_sync.specs.declared.report.Side.TheVariants.{Local as AtLocal, Peer as AtPeer}
@@ -137,7 +137,7 @@ or_else true X Y Z h = h
 or_else false X Y Z h = inl h
 
 module _ (ml mp : ℕ) (number : Option ℕ) (a b a' b' : States) where
-  left_cause : (key : List ℕ) (refused : Option (Side × Refusal)) (r : Side × Refusal) → refused ≡ Some r → CameTo ml mp a b a' b' key refused → CannotMeet (most_of ml mp r.0) a b key r.1 × (get a key ≢ get b key)
+  left_cause : (key : List ℕ) (refused : Option (Side × Refusal)) (r : Side × Refusal) → refused ≡ Some r → CameTo ml mp a b a' b' key refused → CannotMeet (most_of ml mp r.0) (own_of a b r.0) a b key r.1 × (get a key ≢ get b key)
   left_cause key refused (AtLocal, refusal) e h = let c = subst (CameTo ml mp a b a' b' key) e h in (c.3, c.0)
   left_cause key refused (AtPeer, refusal) e h = let c = subst (CameTo ml mp a b a' b' key) e h in (c.3, c.0.differ)
 
@@ -191,7 +191,7 @@ module _ (ml mp : ℕ) (number : Option ℕ) (a b a' b' : States) where
         (λ out. absurd (true≢false (sym h ∙ filtered (λ (d : Done). is_joined d.refused) key done (sym (parts_are done key) ∙ out))));
     sides = left_each (λ (d : Done). is_member (joined_keys done) d.key ≡ is_joined d.refused) (IsLeft (joined_keys done))
         (λ d r h e. left_side (joined_keys done) d.key r (h ∙ ap is_joined e)) done (joined_is done so.distinct);
-    causes = left_each (IsDone ml mp number a b a' b') (λ l. CannotMeet (most_of ml mp l.1.0) a b l.0 l.1.1) (λ d r h e. (left_cause d.key d.refused r e h.came).0) done so.each;
+    causes = left_each (IsDone ml mp number a b a' b') (λ l. CannotMeet (most_of ml mp l.1.0) (own_of a b l.1.0) a b l.0 l.1.1) (λ d r h e. (left_cause d.key d.refused r e h.came).0) done so.each;
     differed = left_each (IsDone ml mp number a b a' b') (λ l. get a l.0 ≢ get b l.0) (λ d r h e. (left_cause d.key d.refused r e h.came).1) done so.each;
     all = λ apart key differ. parts_are done key ∙ all apart key differ;
     counted = (keys ∙ counts.keys, refused ∙ counts.refused, first ∙ counts.first_refused);

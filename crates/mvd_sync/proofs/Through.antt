@@ -154,6 +154,19 @@ module _ {L P A : Type 0} (l : Side L) (p : Side P) (number : Option ℕ) (a b :
         ends = ends_both result second.ends;
       }
 
+-- by so many questions, however they are counted
+found_at : {L P A : Type 0} (l : Side L) (p : Side P) (number : Option ℕ) (a b : States) (done : List Done) (paths : List (List ℕ)) (firsts held_local held_peer i j i' j' : ℕ) (local' : L) (peer' : P) (most_local most_peer : ℕ) (before after : Exchanging) (result : Result A SyncFault) → i ≡ i' → j ≡ j'
+    → Finds l p number a b done paths firsts held_local held_peer i j local' peer' most_local most_peer before after result → Finds l p number a b done paths firsts held_local held_peer i' j' local' peer' most_local most_peer before after result
+found_at l p number a b done paths firsts held_local held_peer i j i' j' local' peer' most_local most_peer before after result e e' h =
+    subst (λ n. Finds l p number a b done paths firsts held_local held_peer n j' local' peer' most_local most_peer before after result) e
+    (subst (λ m. Finds l p number a b done paths firsts held_local held_peer i m local' peer' most_local most_peer before after result) e' h)
+
+later_sum : (a v b w : ℕ) → v ≡ 0 → (a + v) + (b + w) ≡ (a + b) + w
+later_sum a v b w none = omega (arith, none)
+
+sums : (n a w : ℕ) → n + (a + w) ≡ (n + a) + w
+sums n a w = omega arith
+
 -- ---- buckets that are gone over, and then others
 
 -- nothing was gone over
@@ -218,8 +231,12 @@ module _ {L P : Type 0} (l : Side L) (p : Side P)
         let now = as_now l p stays stays' local local1 peer peer1 i j before at first.goes.follows first.goes.same (λ x y o. SoFar x y o a b (l.states local1) (p.states peer1) (done ++ g.now)) g.so_far in
         let two = second.meets g.still.0 g.still.1 (distinct_second ps qs distinct) (Each-right (λ path. length path ≡ 3) ps qs long) a b (done ++ g.now) now g.counts g.waits
         (elsewhere_second ps qs done g.now before.waiting one.found at.waiting distinct long g.is elsewhere one.below) (then a b told) in
-        finds_both l p before.number a b done ps qs (l.most_keys local) (p.most_keys peer) firsts1 firsts2 first.goes.asked_local first.goes.asked_peer second.goes.asked_local second.goes.asked_peer local1 local2 peer1 peer2 before at after one result
-        (as_then l p stays stays' local local1 peer peer1 i j before at first.goes.follows first.goes.same (λ x y o. Finds l p o a b (done ++ g.now) qs firsts2 (held_in a qs) (held_in b qs) second.goes.asked_local second.goes.asked_peer local2 peer2 x y at after result) two);
+        let w = first.goes.calm in
+        let sl = second.goes.asked_local + second.goes.wanted_local in
+        let sp = second.goes.asked_peer + second.goes.wanted_peer in
+        found_at l p before.number a b done (ps ++ qs) (firsts1 + firsts2) (held_in a (ps ++ qs)) (held_in b (ps ++ qs)) _ _ _ _ local2 peer2 (l.most_keys local) (p.most_keys peer) before after result (later_sum first.goes.asked_local first.goes.wanted_local second.goes.asked_local second.goes.wanted_local w.0) (later_sum first.goes.asked_peer first.goes.wanted_peer second.goes.asked_peer second.goes.wanted_peer w.1)
+        (finds_both l p before.number a b done ps qs (l.most_keys local) (p.most_keys peer) firsts1 firsts2 (first.goes.asked_local + first.goes.wanted_local) (first.goes.asked_peer + first.goes.wanted_peer) sl sp local1 local2 peer1 peer2 before at after one result
+        (as_then l p stays stays' local local1 peer peer1 i j before at first.goes.follows first.goes.same (λ x y o. Finds l p o a b (done ++ g.now) qs firsts2 (held_in a qs) (held_in b qs) sl sp local2 peer2 x y at after result) two));
   }
 
   -- ---- a window
@@ -261,8 +278,11 @@ module _ {L P : Type 0} (l : Side L) (p : Side P)
           pages_then b (p.states peer) paths theirs (λ x h. (kept x h).1) (told_p u),
         ) in
         let f = second.meets k.still j.still distinct long a b done now counts next elsewhere told in
-        let g = as_then l p stays stays' local local1 peer peer1 n n before before (r.follows, q.follows) refl (λ x y o. Finds l p o a b done paths 0 (held_in a paths) (held_in b paths) second.goes.asked_local second.goes.asked_peer local2 peer2 x y before after result) f in
-        later before.number a b done paths n (held_in a paths) (held_in b paths) second.goes.asked_local second.goes.asked_peer local2 peer2 (l.most_keys local) (p.most_keys peer) before after result g;
+        let sl = second.goes.asked_local + second.goes.wanted_local in
+        let sp = second.goes.asked_peer + second.goes.wanted_peer in
+        let g = as_then l p stays stays' local local1 peer peer1 n n before before (r.follows, q.follows) refl (λ x y o. Finds l p o a b done paths 0 (held_in a paths) (held_in b paths) sl sp local2 peer2 x y before after result) f in
+        found_at l p before.number a b done paths n (held_in a paths) (held_in b paths) _ _ _ _ local2 peer2 (l.most_keys local) (p.most_keys peer) before after result (sums n second.goes.asked_local second.goes.wanted_local) (sums n second.goes.asked_peer second.goes.wanted_peer)
+        (later before.number a b done paths n (held_in a paths) (held_in b paths) sl sp local2 peer2 (l.most_keys local) (p.most_keys peer) before after result g);
   }
     where
       ends_later : {B : Type 0} (number : Option ℕ) (a b : States) (done : List Done) (paths : List (List ℕ)) (found next : List Entry) (n i j asked_l asked_p : ℕ) (local' : L) (peer' : P) (most_local most_peer : ℕ) (after : Exchanging) (r : Result B SyncFault)

@@ -156,6 +156,8 @@ module _ {L P : Type 0} (l : Side L) (p : Side P) where
   no_walk self self' left local peer fault e = record {
     asked_local = e.asked_local;
     asked_peer = e.asked_peer;
+    wanted_local = e.wanted_local;
+    wanted_peer = e.wanted_peer;
     within = e.within;
     few = ((λ t u keys all. let few = e.few.0 in omega (arith, few)), (λ t u keys all. let few = e.few.1 in omega (arith, few)));
     follows = e.follows;

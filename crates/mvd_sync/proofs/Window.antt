@@ -127,7 +127,7 @@ asked_keys side (m ∷ ms) = ap (λ (ks : List (List ℕ)). m.key ∷ ks) (asked
 -- ---- after the local side
 
 pub data Pulled (most : ℕ) (a b new : States) (key : List ℕ) (give : Option State) (refused : Option (Side × Refusal)) : Type 0 where
-  left : (refusal : Refusal) → refused ≡ Some (AtLocal, refusal) → get new key ≡ get a key → CannotMeet most a b key refusal → Pulled most a b new key give refused
+  left : (refusal : Refusal) → refused ≡ Some (AtLocal, refusal) → get new key ≡ get a key → CannotMeet most a a b key refusal → Pulled most a b new key give refused
   took : refused ≡ None → clashes (state_at a key) (state_at b key) ≡ false → state_at new key ≡ join (state_at a key) (state_at b key) → IsGive (state_at a key) (state_at b key) give → Pulled most a b new key give refused
 
 -- what the local side was to take
@@ -144,10 +144,10 @@ wants_local s t m (meeting r h (inr p) g) = included (ap (λ o. cond (is_some o)
 some_same : (s t : State) → Some s ≡ Some t → s ≡ t
 some_same s t e = cc
 
-why_local : (most : ℕ) (a b x : States) (key : List ℕ) (p : State) (refusal : Refusal) → is_of_key refusal ≡ true → get x key ≡ get a key → p ≡ state_at b key → is_too_large (state_at b key) ≡ false → Cannot (AreTooMany most a b) x key p refusal → CannotMeet most a b key refusal
+why_local : (most : ℕ) (a b x : States) (key : List ℕ) (p : State) (refusal : Refusal) → is_of_key refusal ≡ true → get x key ≡ get a key → p ≡ state_at b key → is_too_large (state_at b key) ≡ false → Cannot (AreTooMany most a b) x key p refusal → CannotMeet most a a b key refusal
 why_local most a b x key p StateTooLarge one same is short (inl h) = absurd (true≢false (sym h ∙ ap is_too_large is ∙ short))
 why_local most a b x key p StateTooLarge one same is short (inr h) = (λ i. is_too_large (join (same_state a x key (sym same) i) (sym is i))) ∙ h
-why_local most a b x key p Full one same is short h = h.1
+why_local most a b x key p Full one same is short h = (sym same ∙ h.0, h.1)
 why_local most a b x key p DotClash one same is short h = (λ i. clashes (same_state a x key (sym same) i) (sym is i)) ∙ h
 why_local most a b x key p refusal one same is short h = absurd (true≢false (sym one))
 
@@ -181,7 +181,7 @@ module _ (most : ℕ) (a b x new : States) where
 -- ---- after the peer
 
 pub data Wants_peer (most : ℕ) (a b a' : States) (key : List ℕ) (w : Option State) (refused : Option (Side × Refusal)) : Type 0 where
-  not_asked : (refusal : Refusal) → w ≡ None → refused ≡ Some (AtLocal, refusal) → get a' key ≡ get a key → CannotMeet most a b key refusal → Wants_peer most a b a' key w refused
+  not_asked : (refusal : Refusal) → w ≡ None → refused ≡ Some (AtLocal, refusal) → get a' key ≡ get a key → CannotMeet most a a b key refusal → Wants_peer most a b a' key w refused
   it_has : w ≡ None → refused ≡ None → clashes (state_at a key) (state_at b key) ≡ false → state_at a' key ≡ join (state_at a key) (state_at b key) → join (state_at a key) (state_at b key) ≡ state_at b key → Wants_peer most a b a' key w refused
   mine : w ≡ Some (state_at a key) → refused ≡ None → clashes (state_at a key) (state_at b key) ≡ false → state_at a' key ≡ join (state_at a key) (state_at b key) → Wants_peer most a b a' key w refused
 
@@ -191,10 +191,10 @@ wants_peer most a b a' m (took r h is (inl g)) = mine (ap (λ o. cond (is_some o
 wants_peer most a b a' m (took r h is (inr g)) = it_has (ap (λ o. cond (is_some o) None m.give) r ∙ g.0) r h is g.1
 
 module _ (most_local most : ℕ) (a b a' y new : States) where
-  why_peer : (key : List ℕ) (p : State) (refusal : Refusal) → is_of_key refusal ≡ true → get y key ≡ get b key → p ≡ state_at a key → is_too_large (state_at a key) ≡ false → join (state_at a key) (state_at b key) ≡ join (state_at b key) (state_at a key) → Cannot (AreTooMany most a b) y key p refusal → CannotMeet most a b key refusal
+  why_peer : (key : List ℕ) (p : State) (refusal : Refusal) → is_of_key refusal ≡ true → get y key ≡ get b key → p ≡ state_at a key → is_too_large (state_at a key) ≡ false → join (state_at a key) (state_at b key) ≡ join (state_at b key) (state_at a key) → Cannot (AreTooMany most a b) y key p refusal → CannotMeet most b a b key refusal
   why_peer key p StateTooLarge one same is short turned (inl h) = absurd (true≢false (sym h ∙ ap is_too_large is ∙ short))
   why_peer key p StateTooLarge one same is short turned (inr h) = ap is_too_large turned ∙ (λ i. is_too_large (join (same_state b y key (sym same) i) (sym is i))) ∙ h
-  why_peer key p Full one same is short turned h = h.1
+  why_peer key p Full one same is short turned h = (sym same ∙ h.0, h.1)
   why_peer key p DotClash one same is short turned h = clashes_turned (state_at a key) (state_at b key) ∙ (λ i. clashes (same_state b y key (sym same) i) (sym is i)) ∙ h
   why_peer key p refusal one same is short turned h = absurd (true≢false (sym one))
 

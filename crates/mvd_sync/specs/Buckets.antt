@@ -26,10 +26,13 @@ pub record Goes {L P A : Type 0} (l : Side L) (p : Side P) (left left' : Questio
   -- so many questions were made to each side
   pub asked_local : ℕ
   pub asked_peer : ℕ
+  pub wanted_local : ℕ
+  pub wanted_peer : ℕ
   pub within : (asked_local ≤ left.local) × (asked_peer ≤ left.peer)
   pub spent : OnOk result ((left.local ≡ left'.local + asked_local) × (left.peer ≡ left'.peer + asked_peer))
+  pub calm : OnOk result ((wanted_local ≡ 0) × (wanted_peer ≡ 0))
   pub follows : l.follows asked_local local local' × p.follows asked_peer peer peer'
-  pub cause : IfErr result (IsFaultOf (Blames l left.local asked_local local local') (Blames p left.peer asked_peer peer peer'))
+  pub cause : IfErr result (IsFaultOf (Blames l left.local asked_local wanted_local local local') (Blames p left.peer asked_peer wanted_peer peer peer'))
   -- whatever the other side is
   pub local_side : l.is_faithful local → Changes (l.is_faithful local') (Local Broken) p.can_give (l.states local) (l.states local') result
   pub peer_side : p.is_faithful peer → Changes (p.is_faithful peer') (Peer Broken) l.can_give (p.states peer) (p.states peer') result
@@ -85,7 +88,7 @@ pub record FillsBoth {L P : Type 0} (l : Side L) (p : Side P) (path : List ℕ) 
 -- or one side came to an end; of each side no more was asked than was needed
 pub record FillEnds {L P : Type 0} (l : Side L) (p : Side P) (mine theirs : List (Key × List ℕ) × Bool) (left : Questions) (local local' : L) (peer peer' : P) (fault : SyncFault) : Type 0 where
   pub ends : ReadsEnd l p (λ asked. asked ≤ 1) left local local' peer peer' fault
-  pub needed : (1 ≤ ends.asked_local → IsSpent mine) × (1 ≤ ends.asked_peer → IsSpent theirs)
+  pub needed : (1 ≤ ends.asked_local + ends.wanted_local → IsSpent mine) × (1 ≤ ends.asked_peer + ends.wanted_peer → IsSpent theirs)
 
 -- the entry, if it differs
 abbrev pub waits_if : Entry → List Entry
@@ -103,7 +106,7 @@ pub record Settles {L P A : Type 0} (l : Side L) (p : Side P) (e : Entry) (left 
   pub meets : l.is_faithful local → p.is_faithful peer
       → (a b : States) (done : List Done) → SoFar (l.most_keys local) (p.most_keys peer) before.number a b (l.states local) (p.states peer) done → Counts done before
       → AreNext a b done (before.waiting ++ waits_if e)
-      → SettlesAll l p before.number a b done (before.waiting ++ waits_if e) goes.asked_local goes.asked_peer local' peer' (l.most_keys local) (p.most_keys peer) after result
+      → SettlesAll l p before.number a b done (before.waiting ++ waits_if e) (goes.asked_local + goes.wanted_local) (goes.asked_peer + goes.wanted_peer) local' peer' (l.most_keys local) (p.most_keys peer) after result
 
 -- ---- buckets
 
@@ -118,7 +121,7 @@ pub record GoesThrough {L P A : Type 0} (l : Side L) (p : Side P) (Told : States
   pub meets : l.is_faithful local → p.is_faithful peer → AreDistinct paths → Each (λ path. length path ≡ 3) paths
       → (a b : States) (done : List Done) → SoFar (l.most_keys local) (p.most_keys peer) before.number a b (l.states local) (p.states peer) done → Counts done before
       → AreNext a b done before.waiting → AreElsewhere paths (keys_done done ++ keys_next before.waiting) → Told a b
-      → Finds l p before.number a b done paths firsts (held_in a paths) (held_in b paths) goes.asked_local goes.asked_peer local' peer' (l.most_keys local) (p.most_keys peer) before after result
+      → Finds l p before.number a b done paths firsts (held_in a paths) (held_in b paths) (goes.asked_local + goes.wanted_local) (goes.asked_peer + goes.wanted_peer) local' peer' (l.most_keys local) (p.most_keys peer) before after result
 
 -- BUCKETS ARE GONE OVER, with so many questions about their first pages, and what differs in them is exchanged, or waits
 abbrev pub GoesOver : {L P A : Type 0} → Side L → Side P → List (List ℕ) → ℕ → (left left' : Questions) (local local' : L) (peer peer' : P) (before after : Exchanging) → Result A SyncFault → Type 0

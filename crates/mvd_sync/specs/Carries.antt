@@ -36,10 +36,12 @@ pub record Planned {L P : Type 0} (l : SideOf L) (p : SideOf P) (number : Option
 pub record PlanEnds {L P : Type 0} (l : SideOf L) (p : SideOf P) (count : ℕ) (left : Questions) (local local' : L) (peer peer' : P) (fault : SyncFault) : Type 0 where
   pub asked_local : ℕ
   pub asked_peer : ℕ
-  pub few : (asked_local ≤ count) × (asked_peer ≤ count)
+  pub wanted_local : ℕ
+  pub wanted_peer : ℕ
+  pub few : (asked_local + wanted_local ≤ count) × (asked_peer + wanted_peer ≤ count)
   pub within : (asked_local ≤ left.local) × (asked_peer ≤ left.peer)
   pub follows : l.follows asked_local local local' × p.follows asked_peer peer peer'
-  pub cause : IsFaultOf (Blames l left.local asked_local local local') (Blames p left.peer asked_peer peer peer') fault
+  pub cause : IsFaultOf (Blames l left.local asked_local wanted_local local local') (Blames p left.peer asked_peer wanted_peer peer peer') fault
   pub local_side : l.is_faithful local → Keeps l local local'
   pub peer_side : p.is_faithful peer → Keeps p peer peer'
 
@@ -53,12 +55,14 @@ pub record Carried {S : Type 0} (s : SideOf S) (name : Side) (before after : Lis
 pub record ExchangesAll {L P A : Type 0} (l : SideOf L) (p : SideOf P) (number : Option ℕ) (entries : List Entry) (left left' : Questions) (local local' : L) (peer peer' : P) (result : Result (Vec Meeting A) SyncFault) : Type 0 where
   pub asked_local : ℕ
   pub asked_peer : ℕ
+  pub wanted_local : ℕ
+  pub wanted_peer : ℕ
   pub within : (asked_local ≤ left.local) × (asked_peer ≤ left.peer)
   pub spent : OnOk result ((left.local ≡ left'.local + asked_local) × (left.peer ≡ left'.peer + asked_peer))
-  pub few : (asked_local ≤ 2 * length entries) × (asked_peer ≤ 2 * length entries)
+  pub few : (asked_local + wanted_local ≤ 2 * length entries) × (asked_peer + wanted_peer ≤ 2 * length entries)
   pub least : OnOk result (length entries ≤ asked_local + asked_peer)
   pub follows : l.follows asked_local local local' × p.follows asked_peer peer peer'
-  pub cause : IfErr result (IsFaultOf (Blames l left.local asked_local local local') (Blames p left.peer asked_peer peer peer'))
+  pub cause : IfErr result (IsFaultOf (Blames l left.local asked_local wanted_local local local') (Blames p left.peer asked_peer wanted_peer peer peer'))
   pub local_side : l.is_faithful local → Changes (l.is_faithful local') (Local Broken) p.can_give (l.states local) (l.states local') result
   pub peer_side : p.is_faithful peer → Changes (p.is_faithful peer') (Peer Broken) l.can_give (p.states peer) (p.states peer') result
   pub beside_local : IsSilent l.follows l.can_answer local → p.is_faithful peer → p.is_faithful peer' × (p.states peer' ≡ p.states peer)

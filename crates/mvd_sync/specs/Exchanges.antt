@@ -69,9 +69,9 @@ abbrev pub CameTo : (most_local most_peer : ℕ) (a b a' b' : States) → Key �
 CameTo most_local most_peer a b a' b' key None =
     CanMeet a b key × (state_at a' key ≡ join (state_at a key) (state_at b key)) × (state_at b' key ≡ join (state_at a key) (state_at b key))
 CameTo most_local most_peer a b a' b' key (Some (AtLocal, refusal)) =
-    (get a key ≢ get b key) × (get a' key ≡ get a key) × (get b' key ≡ get b key) × CannotMeet most_local a b key refusal
+    (get a key ≢ get b key) × (get a' key ≡ get a key) × (get b' key ≡ get b key) × CannotMeet most_local a a b key refusal
 CameTo most_local most_peer a b a' b' key (Some (AtPeer, refusal)) =
-    CanMeet a b key × (state_at a' key ≡ join (state_at a key) (state_at b key)) × (get b' key ≡ get b key) × CannotMeet most_peer a b key refusal
+    CanMeet a b key × (state_at a' key ≡ join (state_at a key) (state_at b key)) × (get b' key ≡ get b key) × CannotMeet most_peer b a b key refusal
 
 pub record IsDone (most_local most_peer : ℕ) (number : Option ℕ) (a b a' b' : States) (d : Done) : Type 0 where
   pub came : CameTo most_local most_peer a b a' b' d.key d.refused
@@ -136,16 +136,19 @@ pub record Exchanges {L P A : Type 0} (l : SideOf L) (p : SideOf P) (next : List
   -- so many questions were made to each side
   pub asked_local : ℕ
   pub asked_peer : ℕ
+  pub wanted_local : ℕ
+  pub wanted_peer : ℕ
   pub within : (asked_local ≤ left.local) × (asked_peer ≤ left.peer)
   pub spent : OnOk result ((left.local ≡ left'.local + asked_local) × (left.peer ≡ left'.peer + asked_peer))
   -- two for each key at most
-  pub few : (asked_local ≤ 2 * length next) × (asked_peer ≤ 2 * length next)
-  pub fewer : OnOk result ((asked_local + 2 * length after.waiting ≤ 2 * length next) × (asked_peer + 2 * length after.waiting ≤ 2 * length next))
+  pub few : (asked_local + wanted_local ≤ 2 * length next) × (asked_peer + wanted_peer ≤ 2 * length next)
+  pub fewer : OnOk result (((asked_local + wanted_local) + 2 * length after.waiting ≤ 2 * length next) × ((asked_peer + wanted_peer) + 2 * length after.waiting ≤ 2 * length next))
+  pub calm : OnOk result ((wanted_local ≡ 0) × (wanted_peer ≡ 0))
   -- and one at least
   pub room : OnOk result (after.keys + after.refused + left'.local + left'.peer ≤ before.keys + before.refused + left.local + left.peer)
   pub short : length next ≤ 1000 → OnOk result (length after.waiting < 1000)
   pub follows : l.follows asked_local local local' × p.follows asked_peer peer peer'
-  pub cause : IfErr result (IsFaultOf (Blames l left.local asked_local local local') (Blames p left.peer asked_peer peer peer'))
+  pub cause : IfErr result (IsFaultOf (Blames l left.local asked_local wanted_local local local') (Blames p left.peer asked_peer wanted_peer peer peer'))
   -- whatever the other side is
   pub local_side : l.is_faithful local → Changes (l.is_faithful local') (Local Broken) p.can_give (l.states local) (l.states local') result
   pub peer_side : p.is_faithful peer → Changes (p.is_faithful peer') (Peer Broken) l.can_give (p.states peer) (p.states peer') result

@@ -37,14 +37,15 @@ pub record AllAnswered {S Q A : Type 0} (s : Side S) (May : Q → A → Type 0) 
   pub may : ForEach May questions answers
   pub right : s.is_faithful old → True
 
--- THEY CAME TO AN END: so many were made, no more than there are, nor than were left, and this is why; and of a side that was true
+-- THEY CAME TO AN END: so many were made, and wanted, no more than there are, nor than were left, and this is why; and of a side that was true
 -- this is so
 pub record ComesToEnd {S : Type 0} (s : Side S) (True : Type 0) (questions left : ℕ) (old new : S) (refusal : Refusal) : Type 0 where
   pub asked : ℕ
-  pub few : asked ≤ questions
+  pub wanted : ℕ
+  pub few : asked + wanted ≤ questions
   pub within : asked ≤ left
   pub follows : s.follows asked old new
-  pub cause : Blames s left asked old new refusal
+  pub cause : Blames s left asked wanted old new refusal
   pub not_of_key : s.is_faithful old → is_of_key refusal ≡ false
   pub right : s.is_faithful old → True
 

@@ -95,13 +95,13 @@ pub record AreTooMany (most : ℕ) (a b : States) : Type 0 where
   pub by_either : Each (λ key. (get a key ≢ None) ⊎ (get b key ≢ None)) held
   pub many : most < length held
 
--- why a key is refused by a side that takes so many keys: the join of its states is too long (9), both sides' keys together
--- are too many (10), or its states clash (11)
-abbrev pub CannotMeet : ℕ → States → States → Key → Refusal → Type 0
-CannotMeet most a b key StateTooLarge = is_too_large (join (state_at a key) (state_at b key)) ≡ true
-CannotMeet most a b key Full = AreTooMany most a b
-CannotMeet most a b key DotClash = clashes (state_at a key) (state_at b key) ≡ true
-CannotMeet most a b key refusal = ⊥
+-- why a key is refused by a side that takes so many keys and held these: the join of its states is too long (9), the side did
+-- not hold the key, and both sides' keys together are too many (10), or its states clash (11)
+abbrev pub CannotMeet : ℕ → (own a b : States) → Key → Refusal → Type 0
+CannotMeet most own a b key StateTooLarge = is_too_large (join (state_at a key) (state_at b key)) ≡ true
+CannotMeet most own a b key Full = (get own key ≡ None) × AreTooMany most a b
+CannotMeet most own a b key DotClash = clashes (state_at a key) (state_at b key) ≡ true
+CannotMeet most own a b key refusal = ⊥
 
 -- a key that was refused, by which side, and how
 abbrev pub Left : Type 0
@@ -110,6 +110,10 @@ Left = Key × (Side × Refusal)
 abbrev pub most_of : ℕ → ℕ → Side → ℕ
 most_of local peer AtLocal = local
 most_of local peer AtPeer = peer
+
+abbrev pub own_of : States → States → Side → States
+own_of a b AtLocal = a
+own_of a b AtPeer = b
 
 -- at the local side the key's states were not joined; at the peer they were, on the local side alone
 abbrev pub IsLeft : List Key → Left → Type 0
@@ -128,7 +132,7 @@ pub record Tells (most_local most_peer : ℕ) (number : Option ℕ) (a b : State
   pub distinct : AreDistinct (given ++ map (λ l. l.0) left)
   pub whole : (key : Key) → IsIn joined key → IsIn (given ++ map (λ l. l.0) left) key
   pub sides : Each (IsLeft joined) left
-  pub causes : Each (λ l. CannotMeet (most_of most_local most_peer l.1.0) a b l.0 l.1.1) left
+  pub causes : Each (λ l. CannotMeet (most_of most_local most_peer l.1.0) (own_of a b l.1.0) a b l.0 l.1.1) left
   pub differed : Each (λ l. get a l.0 ≢ get b l.0) left
   pub all : HashesTellApart spelled a b → (key : Key) → get a key ≢ get b key → IsIn (given ++ map (λ l. l.0) left) key
   pub counted : (report.keys ≡ length given) × (report.refused ≡ length left) × (report.first_refused ≡ take 100 left)
@@ -152,13 +156,16 @@ HasAllThatDiffer a b keys = (key : Key) → get a key ≢ get b key → IsIn key
 
 -- A SESSION of two sides, each asked at most so many questions
 pub record Session {L P : Type 0} (l : SideOf L) (p : SideOf P) (most : ℕ) (local local' : L) (peer peer' : P) (result : Result Report SyncFault) : Type 0 where
-  -- so many questions were made to each, and nothing is changed of either but what so many may change
+  -- so many questions were made to each, and so many more were wanted, and nothing is changed of either but what so many that
+  -- were made may change
   pub asked_local : ℕ
   pub asked_peer : ℕ
+  pub wanted_local : ℕ
+  pub wanted_peer : ℕ
   pub within : (asked_local ≤ most) × (asked_peer ≤ most)
   pub follows : l.follows asked_local local local' × p.follows asked_peer peer peer'
   -- a fault has a cause; with no fault both sides have answered
-  pub cause : IfErr result (IsFaultOf (Blames l most asked_local local local') (Blames p most asked_peer peer peer'))
+  pub cause : IfErr result (IsFaultOf (Blames l most asked_local wanted_local local local') (Blames p most asked_peer wanted_peer peer peer'))
   pub answers : OnOk result (HasAnswered l.follows l.can_answer local local' × HasAnswered p.follows p.can_answer peer peer')
   -- whatever the other is, a true side changes by pushes of states that the other may give, and by nothing else
   pub local_side : l.is_faithful local → Changes (l.is_faithful local') (Local Broken) p.can_give (l.states local) (l.states local') result
@@ -169,6 +176,6 @@ pub record Session {L P : Type 0} (l : SideOf L) (p : SideOf P) (most : ℕ) (lo
   -- between two true sides states are joined, at a fault, too; with no fault all that differ, but those refused for a cause
   pub meets : l.is_faithful local → p.is_faithful peer →
       Meets (l.is_faithful local') (p.is_faithful peer') (l.most_keys local) (p.most_keys peer) (l.number local) (l.states local) (p.states peer) (l.states local') (p.states peer') result
-  -- and few questions were made
+  -- and few questions were made or wanted
   pub few : l.is_faithful local → p.is_faithful peer → (differing : List Key) → HasAllThatDiffer (l.states local) (p.states peer) differing →
-      AreFew asked_local (l.states local) differing × AreFew asked_peer (p.states peer) differing
+      AreFew (asked_local + wanted_local) (l.states local) differing × AreFew (asked_peer + wanted_peer) (p.states peer) differing

@@ -35,10 +35,12 @@ pub record Reads {S : Type 0} (s : Side S) (asked left left' : ℕ) (old new : S
 pub record ReadsEnd {L P : Type 0} (l : Side L) (p : Side P) (AreFew : ℕ → Type 0) (left : Questions) (local local' : L) (peer peer' : P) (fault : SyncFault) : Type 0 where
   pub asked_local : ℕ
   pub asked_peer : ℕ
+  pub wanted_local : ℕ
+  pub wanted_peer : ℕ
   pub within : (asked_local ≤ left.local) × (asked_peer ≤ left.peer)
-  pub few : AreFew asked_local × AreFew asked_peer
+  pub few : AreFew (asked_local + wanted_local) × AreFew (asked_peer + wanted_peer)
   pub follows : l.follows asked_local local local' × p.follows asked_peer peer peer'
-  pub cause : IsFaultOf (Blames l left.local asked_local local local') (Blames p left.peer asked_peer peer peer') fault
+  pub cause : IsFaultOf (Blames l left.local asked_local wanted_local local local') (Blames p left.peer asked_peer wanted_peer peer peer') fault
   pub kept_local : l.is_faithful local → Keeps l local local'
   pub kept_peer : p.is_faithful peer → Keeps p peer peer'
 

@@ -18,7 +18,7 @@ use Rattle.mvd_site.proofs.Answered.{answered}
 use Rattle.mvd_site.proofs.Clashes.{clash_alone}
 use Rattle.mvd_site.proofs.OfTheSet.{states_of-stands}
 use Rattle.mvd_site.proofs.Steps.{state_at-stands}
-use Rattle.mvd_sync.specs.Session.{CannotMeet, Each, Left, most_of}
+use Rattle.mvd_sync.specs.Session.{CannotMeet, Each, Left, most_of, own_of}
 use Rattle.mvd_sync.specs.Sides.{IsFaultOf}
 use Rattle.mvd_sync.specs.declared.report.Report.{Report}
 use Rattle.mvd_sync.proofs.Answering.{each-take}
@@ -93,9 +93,9 @@ no_states_clash before local peer sound key =
     ∙ apart_within before V W key sound (sound.known local) (sound.known peer)
 
 -- no key is refused for a clash
-left_apart : (a b : States) (m n : ℕ) → ((key : Key) → clashes (state_at a key) (state_at b key) ≡ false) → (l : Left) → CannotMeet (most_of m n l.1.0) a b l.0 l.1.1 → l.1.1 ≢ DotClash
+left_apart : (a b : States) (m n : ℕ) → ((key : Key) → clashes (state_at a key) (state_at b key) ≡ false) → (l : Left) → CannotMeet (most_of m n l.1.0) (own_of a b l.1.0) a b l.0 l.1.1 → l.1.1 ≢ DotClash
 left_apart a b m n apart l cannot is =
-    let clash : clashes (state_at a l.0) (state_at b l.0) ≡ true = subst (CannotMeet (most_of m n l.1.0) a b l.0) is cannot in
+    let clash : clashes (state_at a l.0) (state_at b l.0) ≡ true = subst (CannotMeet (most_of m n l.1.0) (own_of a b l.1.0) a b l.0) is cannot in
     true≢false (sym clash ∙ apart l.0)
 
 -- nor is a session
@@ -130,7 +130,7 @@ takes_apart setting before (Session local peer) (Met report) after sound may tol
       let apart = no_states_clash before local peer sound in
       subst (λ (r : Report). Each (λ l. l.1.1 ≢ DotClash) r.first_refused) (met_is report other e)
       (subst (Each (λ l. l.1.1 ≢ DotClash)) (sym tells.counted.2) (each-take (λ l. l.1.1 ≢ DotClash) tells.left 100
-      (Each-weaker (λ l. CannotMeet (most_of told.mine.max_keys told.theirs.max_keys l.1.0) (states_of (before.known local)) (states_of (before.known peer)) l.0 l.1.1) (λ l. l.1.1 ≢ DotClash)
+      (Each-weaker (λ l. CannotMeet (most_of told.mine.max_keys told.theirs.max_keys l.1.0) (own_of (states_of (before.known local)) (states_of (before.known peer)) l.1.0) (states_of (before.known local)) (states_of (before.known peer)) l.0 l.1.1) (λ l. l.1.1 ≢ DotClash)
       (left_apart (states_of (before.known local)) (states_of (before.known peer)) told.mine.max_keys told.theirs.max_keys apart) tells.left tells.causes)));
 }
 takes_apart setting before (Session local peer) (Failed fault) after sound may told = record {

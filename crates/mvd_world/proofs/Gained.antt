@@ -1,5 +1,5 @@
 -- What a session adds, from the states of two sites to the writes that they know.
-use Rattle.std.proofs.Common.{◌≡◌, ◌≢◌, ◌⊎◌, inl, inr, ℕ, Bool, true, false, ◌==◌, cond, List, [], ◌∷◌, ◌++◌, Some, None, Result, Ok, Err, refl, sym, ap, ap₂, ◌∙◌, subst, subst₂, ⊎_elim, true≢false, unwrap_or, append-nil, MatchBool, MatchResult, IfErr, IfOk}
+use Rattle.std.proofs.Common.{◌≡◌, ◌≢◌, ◌⊎◌, inl, inr, ℕ, ◌+◌, arith, Bool, true, false, ◌==◌, cond, List, [], ◌∷◌, ◌++◌, Some, None, Result, Ok, Err, refl, sym, ap, ap₂, ◌∙◌, subst, subst₂, ⊎_elim, true≢false, unwrap_or, append-nil, MatchBool, MatchResult, IfErr, IfOk}
 use Rattle.std.specs.Prelude.{OnOk}
 use Rattle.std.specs.Ordering.{eq_by_cmp}
 use Rattle.std.specs.FinMap.{get}
@@ -164,23 +164,23 @@ broken_after mid site' refusal told stays whole = ⊎_elim
     (λ other. whole other ∙ sym (not_broken refusal other))
     (is_broken refusal)
 
-module _ (a b held : States) (site site' : SiteValue) (asked : ℕ) (first : IsTrue_side site) where
-  may_fail : (refusal : Refusal) → (refusal ≢ Broken → site'.broken ≡ false) → ((differing : List Key) → HasAllThatDiffer a b differing → AreFew asked held differing) → Blames site_side 10000000 asked site site' refusal → MayFail a b held site'.broken refusal
+module _ (a b held : States) (site site' : SiteValue) (asked wanted : ℕ) (first : IsTrue_side site) where
+  may_fail : (refusal : Refusal) → (refusal ≢ Broken → site'.broken ≡ false) → ((differing : List Key) → HasAllThatDiffer a b differing → AreFew (asked + wanted) held differing) → Blames site_side 10000000 asked wanted site site' refusal → MayFail a b held site'.broken refusal
   may_fail refusal whole few (of_side h apart) = it_refused h.2.0 (apart first) (broken_after h.0 site' refusal h.2.1 h.3.1.1 whole)
   may_fail refusal whole few (of_answer e untrue) = absurd (untrue first)
-  may_fail refusal whole few (of_questions e all) = all_asked e (λ differing every. subst (λ n. AreFew n held differing) all (few differing every))
+  may_fail refusal whole few (of_questions e all one) = all_asked e (λ differing every. let n = few differing every in omega (arith, n, all, one))
   may_fail refusal whole few (of_memory e) = it_refused (ap is_site_refusal e) (ap is_of_key e) (whole (λ is. cc) ∙ sym (ap tells_broken e))
 
-fails_for : (a b : States) (local peer local' peer' : SiteValue) (i j : ℕ) (result : Result Report SyncFault) → IsTrue_side local → IsTrue_side peer →
+fails_for : (a b : States) (local peer local' peer' : SiteValue) (i j v w : ℕ) (result : Result Report SyncFault) → IsTrue_side local → IsTrue_side peer →
     MatchResult result (λ _. local'.broken ≡ false) (λ fault. fault ≢ Local Broken → local'.broken ≡ false) →
     MatchResult result (λ _. peer'.broken ≡ false) (λ fault. fault ≢ Peer Broken → peer'.broken ≡ false) →
-    ((differing : List Key) → HasAllThatDiffer a b differing → AreFew i a differing × AreFew j b differing) →
-    IfErr result (IsFaultOf (Blames site_side 10000000 i local local') (Blames site_side 10000000 j peer peer')) → FailsFor a b local'.broken peer'.broken result
-fails_for a b local peer local' peer' i j (Ok report) first second mine theirs few cause = tt
-fails_for a b local peer local' peer' i j (Err (Local refusal)) first second mine theirs few cause =
-    may_fail a b a local local' i first refusal (λ other. mine (λ e. other (let is : refusal ≡ Broken = cc in is))) (λ differing every. (few differing every).0) cause
-fails_for a b local peer local' peer' i j (Err (Peer refusal)) first second mine theirs few cause =
-    may_fail a b b peer peer' j second refusal (λ other. theirs (λ e. other (let is : refusal ≡ Broken = cc in is))) (λ differing every. (few differing every).1) cause
+    ((differing : List Key) → HasAllThatDiffer a b differing → AreFew (i + v) a differing × AreFew (j + w) b differing) →
+    IfErr result (IsFaultOf (Blames site_side 10000000 i v local local') (Blames site_side 10000000 j w peer peer')) → FailsFor a b local'.broken peer'.broken result
+fails_for a b local peer local' peer' i j v w (Ok report) first second mine theirs few cause = tt
+fails_for a b local peer local' peer' i j v w (Err (Local refusal)) first second mine theirs few cause =
+    may_fail a b a local local' i v first refusal (λ other. mine (λ e. other (let is : refusal ≡ Broken = cc in is))) (λ differing every. (few differing every).0) cause
+fails_for a b local peer local' peer' i j v w (Err (Peer refusal)) first second mine theirs few cause =
+    may_fail a b b peer peer' j w second refusal (λ other. theirs (λ e. other (let is : refusal ≡ Broken = cc in is))) (λ differing every. (few differing every).1) cause
 
 -- ---- and what it does
 
@@ -203,7 +203,7 @@ sites_meet local peer local' peer' result first second held held' session V W st
       peer_breaks = breaks_by (Peer Broken) is_peer_broken peer.broken peer'.broken result second.0 there;
       at_once = subst₂ (λ a b. ToldAtOnce a b m.joined result) (sym first.0) (sym second.0) tt;
       fails = subst₂ (λ a b. FailsFor a b local'.broken peer'.broken result) a_is b_is
-          (fails_for local.states peer.states local peer local' peer' session.asked_local session.asked_peer result first second here there (session.few first second) session.cause);
+          (fails_for local.states peer.states local peer local' peer' session.asked_local session.asked_peer session.wanted_local session.wanted_peer result first second here there (session.few first second) session.cause);
       local_stands = λ is. joined_stands m.joined local.states peer.states local'.states V W (stands first.0) (stands' second.0) held (m.joins.local_side (is, held));
       peer_stands = λ is. given_stands m.joined m.given local.states peer.states peer'.states V W first.1 second.1 (stands first.0) (stands' second.0) held' m.joins.part m.joins.met (m.joins.peer_side (is, held'));
     }

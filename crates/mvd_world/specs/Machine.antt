@@ -185,11 +185,11 @@ ToldAtOnce false true joined result = (result ≡ Err (Peer Broken)) × (joined 
 ToldAtOnce true peer_was joined result = (result ≡ Err (Local Broken)) × (joined ≡ [])
 
 -- Why a session of two sites that held `a` and `b` ends by the one that held `held`, and is broken afterwards or not: by a
--- refusal of the site that is not of a key alone, as that of memory; or all questions were made to it, which are many only
--- where many keys differ
+-- refusal of the site that is not of a key alone, as that of memory; or all questions were made to it and one more was
+-- wanted, which are many only where many keys differ
 pub data MayFail (a b held : States) (broken : Bool) (refusal : Refusal) : Type 0 where
   it_refused : is_site_refusal refusal ≡ true → is_of_key refusal ≡ false → broken ≡ tells_broken refusal → MayFail a b held broken refusal
-  all_asked : refusal ≡ TooManyRequests → ((differing : List Key) → HasAllThatDiffer a b differing → AreFew 10000000 held differing) → MayFail a b held broken refusal
+  all_asked : refusal ≡ TooManyRequests → ((differing : List Key) → HasAllThatDiffer a b differing → AreFew 10000001 held differing) → MayFail a b held broken refusal
 
 abbrev pub FailsFor : States → States → Bool → Bool → Result Report SyncFault → Type 0
 FailsFor a b local_broken peer_broken result = IfErr result (IsFaultOf (MayFail a b a local_broken) (MayFail a b b peer_broken))

@@ -12,7 +12,7 @@ use Rattle.mvd_sync.proofs.Inner.{inner_right, not_without}
 use Rattle.mvd_sync.specs.Questions.{ForEach}
 use Rattle.mvd_sync.specs.Sides.{HasAnswered, HasRefused, of_answer, of_side, side, is_of_key}
 use Rattle.mvd_sync.specs.Windows.{EachTold}
-use Rattle.mvd_sync.proofs.Answering.{IsNodeOf, Passes, answered_all, each-take, ended_by, ended_memory, ended_within, for_each_more, passed, told_at}
+use Rattle.mvd_sync.proofs.Answering.{IsNodeOf, Passes, answered_all, each-take, ended_by, ended_few, ended_memory, ended_within, for_each_more, passed, told_at}
 use Rattle.mvd_sync.proofs.OneByOne.{at_err, at_err_same}
 use Rattle.mvd_sync.proofs.questions.ask_nodes.Goals as goal
 
@@ -56,6 +56,18 @@ pub returns-in_err-push-clause-ended : goal.returns-in_err-push-clause-ended
 returns-in_err-push-clause-ended g c =
     let s = side g.P.Peer.states g.P.Peer.is_faithful g.P.Peer.can_give g.P.Peer.follows g.P.Peer.can_refuse g.P.Peer.can_answer g.P.Peer.most_keys g.P.Peer.number in
     at_err _ _ _ c.from_residual-in_err-push.ensures (λ e memory. ended_memory s c.args.paths.now c.args.left.now c.take-taken.new.left c.take-taken.result c.args.side.now c.nodes.new.self c.take-taken.ensures _ e memory c.in_ok-told.ensures.told.count (λ t. let k = c.nodes.ensures.kept t in record { still = k.0; states = k.1 }))
+
+pub returns-in_err-nodes-clause-ended : goal.returns-in_err-nodes-clause-ended
+returns-in_err-nodes-clause-ended g c =
+    let s = side g.P.Peer.states g.P.Peer.is_faithful g.P.Peer.can_give g.P.Peer.follows g.P.Peer.can_refuse g.P.Peer.can_answer g.P.Peer.most_keys g.P.Peer.number in
+    at_err _ _ _ c.from_residual-in_err-nodes.ensures (λ e memory. ended_memory s c.args.paths.now c.args.left.now c.take-taken.new.left c.take-taken.result c.args.side.now c.nodes.new.self c.take-taken.ensures _ e memory c.in_ok-told.ensures.told.count (λ t. let k = c.nodes.ensures.kept t in record { still = k.0; states = k.1 }))
+
+pub returns-in_err-are_all-clause-ended : goal.returns-in_err-are_all-clause-ended
+returns-in_err-are_all-clause-ended g c =
+    let s = side g.P.Peer.states g.P.Peer.is_faithful g.P.Peer.can_give g.P.Peer.follows g.P.Peer.can_refuse g.P.Peer.can_answer g.P.Peer.most_keys g.P.Peer.number in
+    let few = c.in_err-are_all.ensures.few in
+    at_err_same _ _ _ c.in_err-are_all.field-0.0 c.from_residual-in_err-are_all.ensures (λ e is. cc)
+    (ended_few s c.args.paths.now c.args.left.now c.take-taken.new.left c.take-taken.result c.args.side.now c.nodes.new.self c.take-taken.ensures _ _ few.0 few.1 c.in_ok-told.ensures.told.count (λ t. let k = c.nodes.ensures.kept t in record { still = k.0; states = k.1 }))
 
 pub returns-clause-told : goal.returns-clause-told
 returns-clause-told g c =

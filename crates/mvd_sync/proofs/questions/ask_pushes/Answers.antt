@@ -1,5 +1,6 @@
 use Rattle.std.proofs.Common.{◌≡◌, ◌≤◌, [], List, length, refl, sym, subst, arith}
 use Rattle.std.specs.Prelude.{All, Result}
+use Rattle.std.proofs.lemmas.List.{length-drop}
 use Rattle.std.proofs.lemmas.List.Elements.{All-append}
 use Rattle.mvd_dots.specs.declared.refusals.Refusal.{Refusal}
 use Rattle.mvd_keys.specs.State.{State}
@@ -37,8 +38,10 @@ returns-in_err-are_all-clause-ended g c =
     let low : c.take-taken.result ≤ length c.loop-rest.rest.now = omega arith in
     let front = front_on s g.met.P.Peer.follows_on g.met.P.Peer.most_stays c.args.pairs.now c.loop-rest.rest.now c.loop-rest.told.items c.in_ok-answers.answers.items c.args.left.now c.loop-rest.left c.take-taken.new.left c.take-taken.result c.args.side.now c.loop-rest.side c.push_all.new.self c.loop-rest.invariant.front c.take-taken.ensures.spent low c.in_ok-answers.ensures.told c.in_ok-answers.ensures.pushes in
     let few = c.in_err-are_all.ensures.few in
+    let count = c.window-count.ensures.within in
+    let cut = length-drop c.take-taken.result c.loop-rest.rest.now in
     at_err_same _ _ _ c.in_err-are_all.field-0.0 c.from_residual-in_err-are_all.ensures (λ e is. cc)
-    (ended_for_want s c.args.pairs.now c.args.left.now c.args.side.now _ _ c.take-taken.new.left c.push_all.new.self c.in_err-are_all.field-0.0 front few.0 (c.take-taken.ensures.all few.1))
+    (ended_for_want s c.args.pairs.now c.args.left.now c.args.side.now _ _ c.take-taken.new.left c.push_all.new.self c.in_err-are_all.field-0.0 front few.0 (c.take-taken.ensures.all few.1) (let most = few.1 in omega (arith, count, cut, most)))
 
 pub loop-rest-preserved : goal.loop-rest-preserved
 loop-rest-preserved g c =

@@ -5,12 +5,15 @@ usage: tools/check_docs.py [FILE..]      (without a file: README.md, CONTRIBUTIN
 
 In each document it looks at the texts between backquotes, at file names that stand without them (docs/NAME.md), and at the
 width of lines of prose. A name is there if it is a word of the code, the specs, the proofs, the tools or the examples, or of the
-list below. Prints a line for each that is not found, and ends with 1 if there is one.
+list below. CONTRIBUTING.md has to name each file that tools/places.py prints. Prints a line for each that is not found, and ends
+with 1 if there is one.
 """
 import pathlib
 import re
 import subprocess
 import sys
+
+import places
 
 TOP = pathlib.Path(__file__).resolve().parent.parent
 WIDTH = 100
@@ -100,11 +103,20 @@ def check(path, names, words):
     return faults
 
 
+def unlisted_places():
+    """The files that go through all requests, replies or lines, and that the lists of CONTRIBUTING.md leave out."""
+    listed = (TOP / "CONTRIBUTING.md").read_text()
+    files = {path for name in places.DECLARED for path, _ in places.places_of(name)}
+    return [f"CONTRIBUTING.md: no {path}" for path in sorted(files) if path.rsplit("/", 1)[1] not in listed]
+
+
 def main():
     names = tracked()
     documents = sys.argv[1:] or [name for name in names if name.endswith(".md")]
     words = words_of([name for name in names if not name.endswith(".md")])
     faults = [fault for path in documents for fault in check(path, names, words)]
+    if "CONTRIBUTING.md" in documents:
+        faults += unlisted_places()
     print("\n".join(faults) if faults else f"{len(documents)} documents: all that they name is there")
     return 1 if faults else 0
 

@@ -13,6 +13,7 @@ import re
 import subprocess
 import sys
 
+sys.dont_write_bytecode = True
 import places
 
 TOP = pathlib.Path(__file__).resolve().parent.parent

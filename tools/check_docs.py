@@ -5,12 +5,16 @@ usage: tools/check_docs.py [FILE..]      (without a file: README.md, CONTRIBUTIN
 
 In each document it looks at the texts between backquotes, at file names that stand without them (docs/NAME.md), and at the
 width of lines of prose. A name is there if it is a word of the code, the specs, the proofs, the tools or the examples, or of the
-list below. Prints a line for each that is not found, and ends with 1 if there is one.
+list below. CONTRIBUTING.md has to name each file that tools/places.py prints. Prints a line for each that is not found, and ends
+with 1 if there is one.
 """
 import pathlib
 import re
 import subprocess
 import sys
+
+sys.dont_write_bytecode = True
+import places
 
 TOP = pathlib.Path(__file__).resolve().parent.parent
 WIDTH = 100
@@ -100,11 +104,34 @@ def check(path, names, words):
     return faults
 
 
+def listed_places():
+    """The files that the lists of CONTRIBUTING.md name, as CRATE/FILE. A name without a crate is of the crate of the last heading
+    (**4. `mvd_kept`**), or of the last name that has one."""
+    text = (TOP / "CONTRIBUTING.md").read_text().split("## A new request\n", 1)[1].split("\n## ", 1)[0]
+    crate, listed = "", set()
+    for heading, name in re.findall(r"\*\*\d+\. `(mvd_\w+)`|`([\w/]+\.(?:rt|antt))`", re.sub(r"```.*?```", "", text, flags=re.S)):
+        if name.startswith("mvd_"):
+            crate = name.split("/")[0]
+        crate = heading or crate
+        if name:
+            listed.add(f"{crate}/{name.rsplit('/', 1)[-1]}")
+    return listed
+
+
+def unlisted_places():
+    """The files that go through all requests, replies or lines, and that the lists of CONTRIBUTING.md leave out."""
+    listed = listed_places()
+    files = {path for name in places.DECLARED for path, _ in places.places_of(name)}
+    return [f"CONTRIBUTING.md: no {path}" for path in sorted(files) if f"{path.split('/')[0]}/{path.rsplit('/', 1)[1]}" not in listed]
+
+
 def main():
     names = tracked()
     documents = sys.argv[1:] or [name for name in names if name.endswith(".md")]
     words = words_of([name for name in names if not name.endswith(".md")])
     faults = [fault for path in documents for fault in check(path, names, words)]
+    if "CONTRIBUTING.md" in documents:
+        faults += unlisted_places()
     print("\n".join(faults) if faults else f"{len(documents)} documents: all that they name is there")
     return 1 if faults else 0
 

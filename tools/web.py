@@ -6,6 +6,7 @@ usage: tools/web.py PROGRAM
 PROGRAM is `mvd` as built. It ends with 1 at the first answer that is not the one wanted, and else prints the rows of the table in
 docs/PERFORMANCE.md. The files are made in TMPDIR (else /tmp). WEB_SECONDS has another time for each figure than 3 seconds.
 """
+import atexit
 import contextlib
 import http.client
 import json
@@ -57,6 +58,7 @@ class Server:
         self.process = subprocess.Popen(
             [PROGRAM, "serve", "--db", os.path.join(folder, name), "--site", "1", "--defs", defs, "--port", str(self.frames),
              "--http", str(self.http), *words], stdout=subprocess.PIPE, preexec_fn=most and (lambda: has_room(most)))
+        atexit.register(self.process.kill)
         lines = [self.process.stdout.readline() for _ in range(2)]
         wanted("it listens at both ports", lines[1] == b"listening http://127.0.0.1:%d/\n" % self.http, lines)
 

@@ -273,7 +273,7 @@ def check_most(folder):
             sender.start()
             stream, count = peer.makefile("rb"), 0
             with contextlib.suppress(OSError):
-                count = sum(line == b"HTTP/1.1 404 Not Found\r\n" for line in stream)
+                count = sum(line.endswith(b"HTTP/1.1 404 Not Found\r\n") for line in stream)
             sender.join()
         found[name] = count
 

@@ -1,1 +1,1 @@
-pub mod Clients
+pub mod Wanted

@@ -40,7 +40,7 @@ pub fn admit(host: &mut Host) -> Result<u64, Refusal> {
 }
 
 /// Hands on what came of a client, where more is wanted. How many bytes were taken.
-#[tactic(auto, using(crate::proofs::Clients::wanted_if))]
+#[tactic(auto, using(crate::proofs::Wanted::wanted_if))]
 pub fn feed(host: &mut Host, client: u64, bytes: &[u8]) -> usize {
     if bytes.len() > 65_536 || !host.wants_input(client) {
         return 0;

@@ -30,9 +30,6 @@ pub const EMPTY: &str = "00000007a1000000000000";
 pub const STATE: &str =
     "0000002ea100000001000000010000000000000001000000000001000000010000000000000001000000077b2261223a317d";
 
-/// A Bye.
-pub const BYE: &str = "000000012f";
-
 /// As many bytes has a connection here at most, each way.
 pub const ROOM: usize = 600;
 

@@ -3,7 +3,7 @@
 ghost use Rattle.std.specs.Prelude.{◌≤◌, length};
 ghost use Rattle.mvd_host.specs.Hosts.{IfClient, client_of};
 
-use super::calls::{BYE, Bytes, CLASH, GET, PUT, ROOM, WIDE, new_replica, push, replies, root_of};
+use super::calls::{Bytes, CLASH, GET, PUT, ROOM, WIDE, new_replica, push, replies, root_of};
 use mvd_dots::Refusal;
 use mvd_host::{Host, Tally};
 use mvd_replica::Replica;
@@ -107,11 +107,20 @@ struct Client {
     wanted: Vec<u8>,
 }
 
+/// One of what clients ask.
+fn one(random: &mut Random) -> &'static str {
+    ASKED[random.below(10) as usize % 10]
+}
+
 fn new_client(alloc: Global, random: &mut Random) -> Client {
-    let mut asked = [BYE; REQUESTS];
-    for request in asked.iter_mut() {
-        *request = ASKED[random.below(10) as usize % 10];
-    }
+    let asked = [
+        one(random),
+        one(random),
+        one(random),
+        one(random),
+        one(random),
+        one(random),
+    ];
     Client {
         asked,
         input: Bytes::of(&asked),
@@ -138,9 +147,15 @@ fn new_clients(
 
 /// At most so many of the next bytes of a client come.
 fn come(host: &mut Host, number: u64, client: &mut Client, most: usize) {
-    let rest = client.input.bytes().get(client.came..).unwrap_or(&[]);
+    let count = come_of(host, number, client.input, client.came, most);
+    client.came = client.came.saturating_add(count);
+}
+
+/// At most so many of these bytes come, behind those that came. How many did.
+fn come_of(host: &mut Host, number: u64, input: Bytes, came: usize, most: usize) -> usize {
+    let rest = input.bytes().get(came..).unwrap_or(&[]);
     let piece = rest.get(..most.min(rest.len())).unwrap_or(&[]);
-    client.came = client.came.saturating_add(feed(host, number, piece));
+    feed(host, number, piece)
 }
 
 /// At most so many of the bytes that wait leave to a client.

@@ -152,10 +152,10 @@ fn done(alloc: Global, most: usize, of_log: bool, calls: u64) -> Result<Left, Re
 }
 
 /// The roots after each of the puts, where nothing stops.
-fn roots(alloc: Global) -> Result<[Root; 7], Refusal> {
-    let mut roots = [[0; 33]; 7];
-    for (most, root) in roots.iter_mut().enumerate() {
-        *root = done(alloc, most, true, u64::MAX)?.last;
+fn roots(alloc: Global) -> Result<Vec<Root>, Refusal> {
+    let mut roots = Vec::new(alloc);
+    for most in 0..7usize {
+        roots.push(done(alloc, most, true, u64::MAX)?.last)?;
     }
     Ok(roots)
 }
@@ -186,8 +186,8 @@ fn until_done(alloc: Global, roots: &[Root], of_log: bool) -> Result<u64, Fail> 
 #[test]
 fn each_file_may_stop(rt: HostRuntime) -> Result<(), Fail> {
     let roots = roots(rt.alloc())?;
-    let log = until_done(rt.alloc(), &roots, true)?;
-    let db = until_done(rt.alloc(), &roots, false)?;
+    let log = until_done(rt.alloc(), roots.as_slice(), true)?;
+    let db = until_done(rt.alloc(), roots.as_slice(), false)?;
     println!(rt; "six puts of three clients: {log} calls of the log, {db} of the database")?;
     Ok(())
 }

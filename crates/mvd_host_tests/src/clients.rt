@@ -203,7 +203,10 @@ fn take_round(alloc: Global, sides: &mut Sides, clients: &mut [Client], ready: &
 /// One step: bytes of a client come, or bytes leave to it, or there is a round of two clients.
 fn step(alloc: Global, random: &mut Random, sides: &mut Sides, clients: &mut [Client]) {
     let number = random.below(CLIENTS);
-    let other = (number + 1 + random.below(CLIENTS - 1)) % CLIENTS;
+    let other = number
+        .wrapping_add(1)
+        .wrapping_add(random.below(CLIENTS - 1))
+        % CLIENTS;
     let most = random.below(80) as usize;
     let kind = random.below(5);
     if kind == 0 {

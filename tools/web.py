@@ -6,10 +6,12 @@ usage: tools/web.py PROGRAM
 PROGRAM is `mvd` as built. It ends with 1 at the first answer that is not the one wanted, and else prints the rows of the table in
 docs/PERFORMANCE.md. The files are made in TMPDIR (else /tmp). WEB_SECONDS has another time for each figure than 3 seconds.
 """
+import atexit
 import contextlib
 import http.client
 import json
 import os
+import resource
 import signal
 import socket
 import struct
@@ -20,11 +22,14 @@ import threading
 import time
 
 from measure_stored import context, document, frame, short
+from web_table import by_curl
 
 PROGRAM = os.path.realpath(sys.argv[1]) if len(sys.argv) == 2 else sys.exit(__doc__)
 SECONDS = float(os.environ.get("WEB_SECONDS", "3"))
 PATIENCE = 20
 DOCUMENT = {"city": "Oslo", "days": 3}
+# as many requests of one connection are answered
+MOST = 1_000_000
 
 
 def wanted(what, holds, seen=""):
@@ -38,21 +43,34 @@ def free_port():
         return free.getsockname()[1]
 
 
+def has_room(most):
+    """No file grows over so many bytes, and a write that would is refused."""
+    signal.signal(signal.SIGXFSZ, signal.SIG_IGN)
+    resource.setrlimit(resource.RLIMIT_FSIZE, (most, resource.getrlimit(resource.RLIMIT_FSIZE)[1]))
+
+
 class Server:
-    def __init__(self, folder, *words):
+    def __init__(self, folder, *words, name="a.db", most=None):
         self.frames, self.http = free_port(), free_port()
         defs = os.path.join(folder, "defs")
         with open(defs, "w") as file:
             file.write("index city\nview visits city days\n")
         self.process = subprocess.Popen(
-            [PROGRAM, "serve", "--db", os.path.join(folder, "a.db"), "--site", "1", "--defs", defs, "--port", str(self.frames),
-             "--http", str(self.http), *words], stdout=subprocess.PIPE)
+            [PROGRAM, "serve", "--db", os.path.join(folder, name), "--site", "1", "--defs", defs, "--port", str(self.frames),
+             "--http", str(self.http), *words], stdout=subprocess.PIPE, preexec_fn=most and (lambda: has_room(most)))
+        atexit.register(self.process.kill)
         lines = [self.process.stdout.readline() for _ in range(2)]
         wanted("it listens at both ports", lines[1] == b"listening http://127.0.0.1:%d/\n" % self.http, lines)
 
     def close(self):
         self.process.send_signal(signal.SIGTERM)
         self.process.communicate()
+
+    def ended(self):
+        """How its connections ended, once all have."""
+        lines = self.process.communicate(timeout=PATIENCE)[0].decode().splitlines()
+        wanted("the server ends well", self.process.returncode == 0 and lines[-1].startswith("root "), lines)
+        return sorted(line.removeprefix("connection ") for line in lines[:-1])
 
     def client(self):
         return http.client.HTTPConnection("127.0.0.1", self.http, timeout=PATIENCE)
@@ -155,6 +173,121 @@ def check_connections(server):
         wanted("a slow body is taken", slow.recv(65536).startswith(b"HTTP/1.1 201"))
 
 
+def curl(server, path, words):
+    """The status and the body of a request by curl."""
+    given = ["curl", "-s", "-g", "--path-as-is", "--max-time", str(PATIENCE), "-w", "\n%{http_code}", *words]
+    done = subprocess.run([*given, f"http://127.0.0.1:{server.http}{path}"], capture_output=True, timeout=2 * PATIENCE)
+    body, status = done.stdout.rsplit(b"\n", 1)
+    return int(status), body.decode()
+
+
+def check_table(folder):
+    server = Server(folder, "--max-keys", "3", name="table.db")
+    try:
+        count = 0
+        for path, words, status, part in by_curl():
+            got = curl(server, path, words)
+            if got[0] != status or part not in got[1]:
+                wanted(f"{path[:80]} {str(words)[:80]} is {status} with {part}", False, (got[0], got[1][:200]))
+            count += 1
+        wanted(f"{count} requests by curl: each row of the table, and each refusal of it", True)
+        server.is_told("as many keys as may be", 201, "dot", "PUT", "/keys/third", "{}")
+        server.is_told("and one more is refused", 409, '{"refused":10,"name":"Full"}', "PUT", "/keys/fourth", "{}")
+    finally:
+        server.close()
+
+
+def statuses(answer):
+    return [int(part.split()[0]) for part in answer.split(b"HTTP/1.1 ")[1:]]
+
+
+def check_pipelines(server):
+    field = b"Host: localhost\r\n"
+    asked = [(b"PUT /keys/pipe", b'{"a":1}', 201), (b"GET /keys/pipe", b"", 200), (b"HEAD /keys/pipe", b"", 200), (b"GET /none", b"", 404),
+             (b"DELETE /keys/pipe", b"", 400), (b"GET /root", b"", 200), (b"PUT /keys/pipe", b"{", 400), (b"GET /metrics", b"", 200)]
+    texts = [b"%s HTTP/1.1\r\n%sContent-Length: %d\r\n\r\n%s" % (line, field, len(body), body) for line, body, _ in asked]
+    got = statuses(server.raw(b"".join(texts)))
+    wanted("requests of all kinds in one piece are answered in order", got == [status for _, _, status in asked], got)
+    with socket.create_connection(("127.0.0.1", server.http), PATIENCE) as peer:
+        for byte in b"".join(texts):
+            peer.sendall(bytes([byte]))
+        peer.shutdown(socket.SHUT_WR)
+        got = statuses(b"".join(iter(lambda: peer.recv(65536), b"")))
+    wanted("and byte by byte", got == [status for _, _, status in asked], got)
+    got = server.raw(texts[1].replace(field, field + b"Connection: close\r\n") + texts[5])
+    wanted("after Connection: close nothing is answered", statuses(got) == [200] and b"connection: close" in got, got[:200])
+    head = b"PUT /keys/pieces HTTP/1.1\r\n" + field + b"Transfer-Encoding: chunked\r\n\r\n"
+    wanted("a body in chunks is taken", statuses(server.raw(head + b'3\r\n{"a\r\n4;x=y\r\n":1}\r\n0\r\n\r\n')) == [201])
+    long = b"10000\r\n" + b" " * 65_536 + b"\r\n"
+    wanted("chunks over 1 MiB are 413", statuses(server.raw(head + long * 17 + b"0\r\n\r\n")) == [413])
+    wanted("a chunk out of form is 400", statuses(server.raw(head + b"zz\r\n")) == [400])
+    wanted("another coding is 501", statuses(server.raw(head.replace(b"chunked", b"gzip, chunked") + b"0\r\n\r\n")) == [501])
+    wanted("a target that is too long is 414", statuses(server.raw(b"GET /keys/" + b"k" * 20_000 + b" HTTP/1.1\r\n" + field + b"\r\n")) == [414])
+    wanted("fields that are too long are 431", statuses(server.raw(b"GET /root HTTP/1.1\r\n" + field + b"A: " + b"a" * 20_000 + b"\r\n\r\n")) == [431])
+
+
+def check_endings(folder):
+    """How connections end, and that a last response comes through."""
+    server = Server(folder, "--conns", "6", "--idle", "2", name="endings.db")
+    ask = b"GET /root HTTP/1.1\r\nHost: localhost\r\n\r\n"
+    long = b"PUT /keys/k HTTP/1.1\r\nHost: localhost\r\nContent-Length: 1048577\r\n\r\n"
+    for text in ask.replace(b"\r\n\r\n", b"\r\nConnection: close\r\n\r\n"), ask, ask[:20], long, b"\x00\r\n\r\n":
+        server.raw(text)
+    with socket.create_connection(("127.0.0.1", server.http), PATIENCE) as slow:
+        slow.sendall(ask[:20])
+        began = time.monotonic()
+        wanted("a client that stops amid a request is ended", slow.recv(1) == b"" and time.monotonic() - began > 1)
+    endings = server.ended()
+    wanted("connections end as they should", endings == ["1 bye", "2 end", "3 30 Truncated", "4 31 FrameTooLong", "5 33 BadBody", "6 34 ReadFailed"], endings)
+
+
+def check_no_room(folder):
+    """A write for which the file has no room is refused, and just what was told as written is there, also when it is opened again."""
+    server, got, written = Server(folder, name="room.db", most=1_000_000), None, 0
+    while (got := server.ask("PUT", f"/keys/r{written}", {"n": "x" * 20_000}))[0] == 201:
+        written += 1
+    wanted("a write with no room is 503", got[:2] == (503, '{"refused":21,"name":"Store"}') and written > 2, (written, got[:2]))
+    for what in "what was told as written is there", "and when the file is opened again":
+        found = [server.ask("GET", f"/keys/r{number}")[0] for number in range(written + 1)]
+        wanted(what, found == [200] * written + [404], found)
+        server.close()
+        server = Server(folder, name="room.db")
+    server.close()
+
+
+def check_most(folder):
+    """One connection asks more than is answered on one, and another just as often and then waits: no response is lost."""
+    server = Server(folder, "--conns", "3", name="most.db")
+    one = b"GET /keys/k HTTP/1.1\r\nHost: localhost\r\n\r\n"
+    found = {}
+
+    def run(name, more):
+        with socket.create_connection(("127.0.0.1", server.http), 10 * PATIENCE) as peer:
+            def send():
+                with contextlib.suppress(OSError):
+                    for _ in range(MOST // 1_000):
+                        peer.sendall(one * 1_000)
+                    peer.sendall(one * more)
+
+            sender = threading.Thread(target=send)
+            sender.start()
+            stream, count = peer.makefile("rb"), 0
+            with contextlib.suppress(OSError):
+                count = sum(line.endswith(b"HTTP/1.1 404 Not Found\r\n") for line in stream)
+            sender.join()
+        found[name] = count
+
+    threads = [threading.Thread(target=run, args=each) for each in (("just as often", 0), ("more often", 1_000))]
+    for thread in threads:
+        thread.start()
+    for thread in threads:
+        thread.join()
+    wanted(f"{MOST:,} requests of a connection are answered, also the last, and then it is ended", set(found.values()) == {MOST}, found)
+    server.is_told("another connection goes on", 404, '"siblings":[]', "GET", "/keys/k")
+    endings = server.ended()
+    wanted("which is told as 36", [end[2:] for end in endings] == ["36 TooManyRequests"] * 2 + ["end"], endings)
+
+
 def check_together(server):
     """64 curls at once beside a client of frames."""
     curls = [subprocess.Popen(["curl", "-s", "-X", "PUT", "-d", '{"n":%d}' % n, f"http://127.0.0.1:{server.http}/keys/c{n % 8}"],
@@ -228,8 +361,10 @@ def main():
     with tempfile.TemporaryDirectory() as folder:
         server = Server(folder)
         try:
-            for check in check_rows, check_refusals, check_connections, check_together:
+            for check in check_rows, check_refusals, check_connections, check_pipelines, check_together:
                 check(server)
+            for check in check_table, check_endings, check_no_room, check_most:
+                check(folder)
             print("| Clients | a second |\n|---|---:|")
             for number in 1, 8:
                 figure(f"{number} of frames, puts", [frames_put(server, f"f{number}-{n}") for n in range(number)])

@@ -197,9 +197,6 @@ pub(crate) fn answer(
         Ok(status) => respond_json(web, counts, status, body.as_str()),
         Err(refusal) => web.stop(refusal),
     }
-    if host.ending(number).is_some() {
-        web.stop(Refusal::TooManyRequests);
-    }
 }
 
 /// The reply that these bytes are.

@@ -75,6 +75,10 @@ impl Talks {
         counts: &mut Counts,
     ) {
         for number in ready {
+            // A request is taken only where the host takes its frame.
+            if !self.host.wants_input(*number) {
+                continue;
+            }
             if let Some(web) = self.webs.get_mut(number) {
                 ask(self.alloc, &mut self.host, web, *number, replica, counts);
             }
@@ -91,7 +95,7 @@ impl Talks {
 
     pub fn wants_input(&self, number: u64) -> bool {
         match self.webs.get(&number) {
-            Some(web) => web.wants_input(),
+            Some(web) => web.wants_input() && self.host.ending(number).is_none(),
             None => self.host.wants_input(number),
         }
     }
@@ -150,14 +154,14 @@ impl Talks {
 
     pub fn ending(&self, number: u64) -> Option<Ending> {
         match self.webs.get(&number) {
-            Some(web) => web.ending(),
+            Some(web) => web.ending().or(self.host.ending(number)),
             None => self.host.ending(number),
         }
     }
 
     pub fn is_done(&self, number: u64) -> bool {
         match self.webs.get(&number) {
-            Some(web) => web.is_done(),
+            Some(web) => web.is_done() || (self.is_over(number, web) && web.waiting().is_empty()),
             None => self.host.is_done(number),
         }
     }
@@ -165,9 +169,14 @@ impl Talks {
     /// Whether a frame, a request or an end may be taken at once, where no more is read.
     pub fn is_busy(&self, number: u64) -> bool {
         match self.webs.get(&number) {
-            Some(web) => web.is_busy() || web.asked().is_some(),
+            Some(web) => !self.is_over(number, web) && (web.is_busy() || web.asked().is_some()),
             None => self.waiting(number).len() < WAITS_MAX && self.host.ending(number).is_none(),
         }
+    }
+
+    /// Whether no further request of a client over HTTP is taken, since the host ended its connection. The responses that wait leave.
+    fn is_over(&self, number: u64, web: &WebConnection) -> bool {
+        web.asked().is_none() && self.host.ending(number).is_some()
     }
 }
 

@@ -1,0 +1,80 @@
+"""Requests over HTTP: each row of the table in docs/USING.md, and each refusal of it that a request alone can bring."""
+
+
+def put(body, context=None):
+    return ["-X", "PUT", "--data-binary", body, *(["-H", f"Mvd-Context: {context}"] if context else [])]
+
+
+def delete(context=None):
+    return ["-X", "DELETE", *(["-H", f"Mvd-Context: {context}"] if context else [])]
+
+
+def by_curl():
+    """The path of each request, the words of curl, the status, and a part of the body."""
+    rome, last = '{"city":"Rome","days":2}', "1:281474976710655"
+    yield "/keys/t", [], 404, '{"key":"t","context":"-","siblings":[]}'
+    yield "/keys/t", put('{ "city": "Rome",\n"days": 2}'), 201, '{"dot":"1:1"}'
+    yield "/keys/t", [], 200, '{"key":"t","context":"1:1","siblings":[{"dot":"1:1","document":' + rome + '}]}'
+    yield "/keys/%74", [], 200, '"key":"t"'
+    yield "/index/city?is=%22Rome%22", [], 200, '{"places":[{"term":"Rome","key":"t","dot":"1:1"}]}'
+    yield "/index/city?from=%22R%22&to=%22S%22", [], 200, '"key":"t"'
+    yield "/index/city?from=%22S%22&to=%22R%22", [], 200, '{"places":[]}'
+    yield "/index/city?is=%22Rome%22&after=1:1%20t%20%22Rome%22", [], 200, '{"places":[]}'
+    yield "/views/visits/rows", [], 200, '{"term":"Rome","count":1,"sum":2,"least":2,"greatest":2}'
+    yield "/views/visits/rows?after=%22Rome%22", [], 200, '{"rows":[]}'
+    yield "/views/visits/row?is=%22Rome%22", [], 200, '"count":1'
+    yield "/views/visits/row?is=null", [], 200, '"count":0'
+    for path in "", "0", "00", "000", "fff":
+        yield f"/keys?path={path}", [], 200, '"keys":[' if len(path) == 3 else '"children":['
+    yield "/root", [], 200, '"site":1}'
+    yield "/metrics", [], 200, 'mvd_requests_total{kind="put",outcome="done"}'
+    yield "/", [], 200, "<!DOCTYPE html>"
+    for path in "/keys/t", "/root", "/metrics", "/", "/index/city?is=1", "/keys?path=":
+        yield path, ["-I"], 200, "content-security-policy: default-src 'none'"
+    # 1: a key
+    for key in "%20", "k" * 129, "%C3%A9", "", "%00", "%ff":
+        for words in [], put("{}"), delete("1:1"):
+            yield f"/keys/{key}", words, 400, '{"refused":1,"name":"BadKey"}'
+    yield "/keys?path=000&after=%20", [], 400, '"refused":1'
+    # a bad escape stands for itself
+    for key in "a%zz", "a%4", "a%":
+        yield f"/keys/{key}", [], 404, f'"key":"{key}"'
+    # 2: a context
+    for context in "x", "1:0", "0:1", "1:1,1:1", "2:1,1:1", "1", "1:1,", "1:281474976710656":
+        yield "/keys/t", put("{}", context), 400, '{"refused":2,"name":"BadContext"}'
+        yield "/keys/t", delete(context), 400, '"refused":2'
+    yield "/keys/t", delete(), 400, '"refused":2'
+    # 3 to 6: a document
+    for body in "", "{", '{"a":}', b'{"a":"\xff"}', "{} {}":
+        yield "/keys/t", put(body), 400, '{"refused":3,"name":"BadDocument"}'
+    for body in "[1]", "1", "null", '"a"':
+        yield "/keys/t", put(body), 400, '{"refused":4,"name":"NotObject"}'
+    for body in '{"n":1.5}', '{"n":1e3}', '{"n":[9223372036854775808]}':
+        yield "/keys/t", put(body), 400, '{"refused":5,"name":"BadNumber"}'
+    yield "/keys/t", put('{"n":"' + "x" * 65_536 + '"}'), 400, '{"refused":6,"name":"DocumentTooLong"}'
+    # 8 to 10: what the site cannot take
+    yield "/keys/full", put("{}", last), 409, '{"refused":8,"name":"Exhausted"}'
+    for number in range(1, 19):
+        many = number < 18
+        yield "/keys/large", put('{"n":"' + "x" * 65_500 + '"}'), 201 if many else 409, f'"1:{number}"' if many else '{"refused":9,"name":"StateTooLarge"}'
+    # 12 to 15, and 33: lists
+    for path in "/index/none?is=1", "/index/?is=1", "/index/%ff?is=1":
+        yield path, [], 404, '{"refused":12,"name":"NoIndex"}'
+    for path in "/views/none/rows", "/views/none/row?is=1", "/views/%20/rows":
+        yield path, [], 404, '{"refused":13,"name":"NoView"}'
+    for path in "x", "0000", "A", "0%20":
+        yield f"/keys?path={path}", [], 400, '{"refused":14,"name":"BadPath"}'
+    for path in "/index/city?is=x", "/index/city", "/index/city?from=1", "/views/visits/row", "/views/visits/rows?after=x", "/index/city?is=%7B%7D":
+        yield path, [], 400, '{"refused":15,"name":"BadTerm"}'
+    for after in "x", "0:1%20t%201", "1%20t%201", "1:x%20t%201":
+        yield f"/index/city?is=1&after={after}", [], 400, '{"refused":33,"name":"BadBody"}'
+    # what is not there, and what cannot be asked so
+    for path in "/none", "/keysx", "/views/visits", "/views/visits/none", "/root/", "/index":
+        yield path, [], 404, "There is nothing of that name."
+    for method in "POST", "PATCH", "OPTIONS", "TRACE", "BREW":
+        yield "/keys/t", ["-X", method], 405, "not by this method"
+    for method in "PUT", "POST", "DELETE":
+        for path in "/root", "/metrics", "/", "/keys?path=", "/index/city?is=1", "/views/visits/rows":
+            yield path, ["-X", method], 405, "not by this method"
+    yield "/keys/t", delete("1:1"), 204, ""
+    yield "/keys/t", [], 404, '"context":"1:1"'

@@ -113,6 +113,7 @@ def check_rows(server):
     told("a node of the hash tree", 200, '"children":[', "GET", "/keys?path=")
     told("the root", 200, '"keys":1,"site":1}', "GET", "/root")
     told("counts", 200, "mvd_keys 1\n", "GET", "/metrics")
+    told("counts of commits", 200, "mvd_commits_total 3\n", "GET", "/metrics")
     told("counts by kind and outcome", 200, 'mvd_requests_total{kind="put",outcome="done"} 3\n', "GET", "/metrics")
     told("the page", 200, "<!DOCTYPE html>", "GET", "/")
     told("a delete without a context is refused", 400, '{"refused":2,"name":"BadContext"}', "DELETE", "/keys/ada")

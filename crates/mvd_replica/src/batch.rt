@@ -5,7 +5,7 @@ ghost use Rattle.mvd_wire.specs.declared.reply.Reply.{Reply};
 ghost use Rattle.mvd_replica.specs.Batch.{AnswersAll, AnswersFront};
 ghost use Rattle.sqlite.specs.Held.{state};
 
-use crate::groups::{prepare_all, refuse_all, store_all};
+use crate::groups::{counted, prepare_all, refuse_all, store_all};
 use crate::replica::Replica;
 use mvd_dots::Refusal;
 use mvd_wire::{Reply, Request};
@@ -47,7 +47,10 @@ impl<S: Alter> Replica<S> {
             return self.answer_each(&requests[..1], replies);
         }
         match store_all(self.alloc, &mut self.records, &group) {
-            Ok(()) => self.site.install_all(group, replies),
+            Ok(()) => {
+                self.commits = counted(self.commits, &group);
+                self.site.install_all(group, replies)
+            }
             Err(Refusal::Memory) => self.answer_each(&requests[..count], replies),
             Err(_) => refuse_all(group, replies),
         }

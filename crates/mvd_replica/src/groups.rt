@@ -188,6 +188,16 @@ pub fn store_all<S: Alter>(
     records.save_all(&pairs)
 }
 
+/// A count of commits, with the one that stored these; there is none where no change is among them.
+pub fn counted(commits: u64, group: &[Prepared]) -> u64 {
+    for prepared in group {
+        if let Prepared::Change(_) = prepared {
+            return commits.saturating_add(1);
+        }
+    }
+    commits
+}
+
 /// The replies where the store refused the changes.
 pub fn refuse_all(group: Vec<Prepared>, replies: &mut Vec<Reply>)
     requires room { length replies.old.items + length group.items ≤ vec_capacity replies.old }

@@ -37,6 +37,8 @@ pub struct Replica<S: Alter> {
     pub(crate) alloc: Global,
     pub(crate) site: Site,
     pub(crate) records: Records<S>,
+    /// As many commits of changes were made since it was opened.
+    pub(crate) commits: u64,
     ghost moved: { records.version ≡ 2 },
 }
 
@@ -72,6 +74,7 @@ impl<S: Alter> Replica<S> {
                     alloc,
                     site,
                     records,
+                    commits: 0,
                 })
             }
             Err(refusal) => Err((refusal, records.into_connection())),
@@ -92,6 +95,11 @@ impl<S: Alter> Replica<S> {
         ensures held { AreHeld self.now.site.states }
     {
         self.site.key_count()
+    }
+
+    /// How many commits of changes were made since it was opened, up to the greatest count.
+    pub fn commits(&self) -> u64 {
+        self.commits
     }
 
     /// Whether an install was refused memory: the replica then answers `Broken` to everything, until it is opened again.
@@ -128,7 +136,7 @@ impl<S: Alter> Replica<S> {
         ensures survives { Survives (state S.Store self.old.records.conn) (state S.Store self.new.records.conn) (LeavesChange self.old.site change (state S.Store self.old.records.conn)) }
     {
         match self.records.save(change.key(), change.bytes()) {
-            Ok(()) => {}
+            Ok(()) => self.commits = self.commits.saturating_add(1),
             Err(refusal) => return Err(refusal),
         }
         self.site.install(change)

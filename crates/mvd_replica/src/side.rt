@@ -113,10 +113,7 @@ impl<S: Alter> Peer for Replica<S> {
         pushed
     }
     /// It makes one commit of as many pushes as do not see each other, up to 1,024.
-    fn push_all(&mut self, pairs: &[(Key, KeyState)]) -> Result<Vec<Result<(), Refusal>>, Refusal>
-        // The call itself is refused for want of memory, or where the replica is broken afterwards.
-        ensures memory { IfErr result (λ refusal. (refusal ≡ Memory) ⊎ ((refusal ≡ Broken) × (self.new.site.broken ≡ true))) }
-    {
+    fn push_all(&mut self, pairs: &[(Key, KeyState)]) -> Result<Vec<Result<(), Refusal>>, Refusal> {
         let _held_before = self.key_count();
         let mut told = Vec::with_capacity(self.alloc, pairs.len())?;
         let requests = pushes_of(self.alloc, pairs)?;

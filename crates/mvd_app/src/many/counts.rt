@@ -28,6 +28,7 @@ pub(crate) struct Counts {
 #[derive(Clone, Copy)]
 pub(crate) struct Now {
     pub keys: u32,
+    pub commits: u64,
     pub open: usize,
 }
 
@@ -71,6 +72,11 @@ impl Counts {
             out,
             "# TYPE mvd_rounds_total counter\nmvd_rounds_total {}",
             self.rounds
+        )?;
+        writeln!(
+            out,
+            "# TYPE mvd_commits_total counter\nmvd_commits_total {}",
+            now.commits
         )?;
         self.print_requests(out)?;
         writeln!(out, "# TYPE mvd_http_responses_total counter")?;

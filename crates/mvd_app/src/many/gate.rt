@@ -167,6 +167,7 @@ fn tell_metrics<S: Alter + Drop>(
     let mut body = String::new(alloc);
     let now = Now {
         keys: replica.key_count(),
+        commits: replica.commits(),
         open: host.len(),
     };
     match counts.print(now, &mut body) {

@@ -26,17 +26,9 @@ flag name = record (new_rule name) { long = Some name; action = Some SetTrue }
 abbrev pub needed : Rule → Rule
 needed option = record option { required = true }
 
--- it need not be given
-abbrev pub spare : Rule → Rule
-spare option = record option { required = false }
-
 -- left out, it has this value
 abbrev pub by_default : Text → Rule → Rule
 by_default value option = record option { defaults = value ∷ [] }
-
--- another option says whether it may be given
-abbrev pub tied : Rule → Rule
-tied option = record option { is_free = false }
 
 -- ---- the options
 
@@ -92,7 +84,7 @@ serve_words = leaf (codes "serve")
 
 abbrev pub shell_words : App
 shell_words = leaf (codes "shell")
-    (tied db ∷ tied site ∷ tied defs ∷ tied max_keys ∷ port ∷ tied address ∷ tied (idle (codes "60")) ∷ [])
+    (db ∷ site ∷ defs ∷ max_keys ∷ port ∷ address ∷ idle (codes "60") ∷ [])
 
 abbrev pub sync_words : App
 sync_words = leaf (codes "sync")
@@ -116,10 +108,3 @@ program = record {
 abbrev pub with_rules : App → List Rule → App
 with_rules command [] = command
 with_rules command (option ∷ options) = with_rules (with_rule command option) options
-
--- `new` is `old` with one more option, which another one says more about
-abbrev pub AddsTied : Command → Arg → Command → Type 0
-AddsTied old option new = (rule_of option).is_simple ≡ true → app_of new ≡ with_rule (app_of old) (tied (rule_of option))
-
-abbrev pub AddsSpare : Command → Arg → Command → Type 0
-AddsSpare old option new = (rule_of option).is_simple ≡ true → app_of new ≡ with_rule (app_of old) (tied (spare (rule_of option)))

@@ -13,7 +13,7 @@ use Rattle.mvd_wire.specs.declared.reply.Reply.{Reply}
 use Rattle.mvd_wire.specs.declared.request.Request.{Request}
 use Rattle.sqlite.specs.State.{State}
 use Rattle.mvd_app.specs.Asked.{Exchange}
-use Rattle.mvd_app.specs.Stored.{AreRounds, IsServed, ReplicaAnswers}
+use Rattle.mvd_app.specs.Stored.{AreRounds, HasRound, IsRound, IsServed, ReplicaAnswers}
 use Rattle.mvd_app.specs.Talk.{Answered, Asks}
 
 module _ {A : Type 0} (site : A → SiteValue) (store : A → State) where
@@ -54,31 +54,30 @@ module _ {C : Type 0} (store : C → State) where
   InRound ready turns host host' old new before after =
       Round ready turns (record { host = host; site = old; store = store before }) (record { host = host'; site = new; store = store after })
 
+  pub has_round : (ready : List ℕ) (host host' : HostValue) (old new : SiteValue) (before after : C) → (turns : List (ℕ × Turn)) × InRound ready turns host host' old new before after → HasRound store old new before after
+  has_round ready host host' old new before after (turns, round) = (turns, (ready, host, host', round))
+
   pub served_none : (site : SiteValue) (conn : C) → IsServed store site site conn conn
   unfolding AreRounds
   served_none site conn = record { rounds = []; are_rounds = (refl, refl); serves = serves_none site (store conn) }
 
-  rounds_on : (rounds : List (List (ℕ × Turn))) (turns : List (ℕ × Turn)) (ready : List ℕ) (host host' : HostValue) (old mid new : SiteValue) (before between after : C) → AreRounds store rounds old mid before between
-      → InRound ready turns host host' mid new between after → AreRounds store (rounds ++ turns ∷ []) old new before after
+  rounds_on : (rounds : List (List (ℕ × Turn))) (turns : List (ℕ × Turn)) (old mid new : SiteValue) (before between after : C) → AreRounds store rounds old mid before between → IsRound store turns mid new between after
+      → AreRounds store (rounds ++ turns ∷ []) old new before after
   unfolding AreRounds
-  rounds_on [] turns ready host host' old mid new before between after (same, still) round = (
-    ready,
-    host,
-    host',
+  rounds_on [] turns old mid new before between after (same, still) round = (
     new,
     after,
-    subst (λ (c : C). InRound ready turns host host' old new c after) still (subst (λ (v : SiteValue). InRound ready turns host host' v new between after) same round),
+    subst (λ (c : C). IsRound store turns old new c after) still (subst (λ (v : SiteValue). IsRound store turns v new between after) same round),
     (refl, refl),
   )
-  rounds_on (first ∷ rounds) turns ready host host' old mid new before between after (ready', one, two, then, there, round', others) round =
-      (ready', one, two, then, there, round', rounds_on rounds turns ready host host' then mid new there between after others round)
+  rounds_on (first ∷ rounds) turns old mid new before between after (then, there, round', others) round =
+      (then, there, round', rounds_on rounds turns then mid new there between after others round)
 
   -- one round more
-  pub served_on : (old mid new : SiteValue) (before between after : C) (turns : List (ℕ × Turn)) (ready : List ℕ) (host host' : HostValue) → IsServed store old mid before between
-      → InRound ready turns host host' mid new between after → IsServed store old new before after
-  served_on old mid new before between after turns ready host host' p round = record {
+  pub served_on : (old mid new : SiteValue) (before between after : C) → IsServed store old mid before between → HasRound store mid new between after → IsServed store old new before after
+  served_on old mid new before between after p (turns, round) = record {
     rounds = p.rounds ++ turns ∷ [];
-    are_rounds = rounds_on p.rounds turns ready host host' old mid new before between after p.are_rounds round;
+    are_rounds = rounds_on p.rounds turns old mid new before between after p.are_rounds round;
     serves = subst (λ (ts : List Turn). Serves ts old new (store before) (store after)) (sym (turns_on p.rounds turns))
-        (serves_on (turns_of (all_turns p.rounds)) (turns_of turns) old mid new (store before) (store between) (store after) p.serves round.serves);
+        (serves_on (turns_of (all_turns p.rounds)) (turns_of turns) old mid new (store before) (store between) (store after) p.serves round.3.serves);
   }

@@ -17,14 +17,21 @@ pub record ReplicaAnswers (old new : SiteValue) (before after : State) (request 
 
 -- ---- a server
 
--- Rounds of a host, one after the other, on a site with its connection: in each some frames of clients were taken, asked of the site
--- in one order, and the replies queued for their own clients. What a host does between two rounds is left out
+-- A round of a host on a site with its connection: some frames of clients were taken, asked of the site in one order, and the
+-- replies queued for their own clients. A request over HTTP is such a frame
+abbrev pub IsRound : {C : Type 0} → (C → State) → List (ℕ × Turn) → SiteValue → SiteValue → C → C → Type 0
+IsRound store turns old new before after =
+    (ready : List ℕ) × (host : HostValue) × (host' : HostValue)
+    × Round ready turns (record { host = host; site = old; store = store before }) (record { host = host'; site = new; store = store after })
+
+abbrev pub HasRound : {C : Type 0} → (C → State) → SiteValue → SiteValue → C → C → Type 0
+HasRound store old new before after = (turns : List (ℕ × Turn)) × IsRound store turns old new before after
+
+-- Rounds one after the other. What a host does between two of them is left out
 unfoldable pub AreRounds : {C : Type 0} → (C → State) → List (List (ℕ × Turn)) → SiteValue → SiteValue → C → C → Type 0
 AreRounds store [] old new before after = (new ≡ old) × (after ≡ before)
 AreRounds {C} store (turns ∷ rounds) old new before after =
-    (ready : List ℕ) × (host : HostValue) × (host' : HostValue) × (mid : SiteValue) × (between : C)
-    × Round ready turns (record { host = host; site = old; store = store before }) (record { host = host'; site = mid; store = store between })
-    × AreRounds store rounds mid new between after
+    (mid : SiteValue) × (between : C) × IsRound store turns old mid before between × AreRounds store rounds mid new between after
 
 -- All that was done to it are the turns of rounds: each reply is one that may be given from the writes known then, and the records
 -- follow

@@ -124,6 +124,9 @@ pub fn sync_over<L: Line, S: Alter + Drop, E: Write>(
 ) -> Result<Report, SyncFault>
     ensures meets { IsTrueSite replica.old.site → IsTrueRemote L.is_true L.far watched.old.side →
         MeetsFar L.is_true L.far replica.old.site replica.new.site watched.old.side watched.new.side result }
+    // Whatever is at the other end.
+    ensures pushed { SideFollows replica.old.site replica.new.site
+        (store S.Store replica.old.records.conn) (store S.Store replica.new.records.conn) }
 {
     let report = match sync(alloc, replica, watched) {
         Ok(report) => report,

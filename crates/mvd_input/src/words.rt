@@ -265,7 +265,7 @@ fn verbose<'a>(alloc: Global) -> Arg<'a>
     Arg::new(alloc, "verbose")
         .long("verbose")
         .action(ArgAction::SetTrue)
-        .help("Tell on standard error, after each thousand keys, how many were exchanged so far.")
+        .help("Tell on standard error, after each thousand states, how many came or went so far.")
 }
 
 /// An option whose value is a text.

@@ -1,4 +1,4 @@
-use Rattle.std.proofs.Common.{◌≡◌, ap, rules, true}
+use Rattle.std.proofs.Common.{ap, rules}
 use Rattle.mvd_replica.proofs.Sides.{follows_by}
 use Rattle.mvd_replica.specs.declared.replica.Replica.{Replica}
 use Rattle.mvd_app.proofs.endpoint.ReplicaEndpoint.ask.Goals as goal

@@ -199,4 +199,11 @@ refused "a line of a script" 3 "line 1: not a command" \
 refused "a bad number" 2 "bad number" "\`mvd help COMMAND\` tells the range of each" b.db serve --db b.db --site 0 --port "$port"
 refused "a word that is no text" 2 "a word is no UTF-8" "name each file in UTF-8" \
   b.db shell --db "$(printf '\377').db" --site 2
+# Where standard error is closed, the status still tells.
+for words in "2 shell --db b.db" "2 loop --site 0" "1 shell --db no/b.db --site 2" "3 serve --db b.db --site 2 --port $port --defs bad"; do
+  status=0
+  # shellcheck disable=SC2086
+  "$program" ${words#* } 2>&- </dev/null >out || status=$?
+  same "the status of \`${words#* }\` with standard error closed" "${words%% *}" "$status"
+done
 echo "served: all as wanted"

@@ -21,9 +21,9 @@ fn obey(rt: &HostRuntime, words: &[String]) -> io::Result<ExitCode> {
         // A torn write is taken to leave each byte old or new.
         Ok(order) => match run(rt, order, Unknown) {
             Ok(()) => Ok(ExitCode::SUCCESS),
-            Err(stop) => tell_stop(rt, &stop),
+            Err(stop) => Ok(tell_stop(rt, &stop)),
         },
-        Err(fault) => refused(rt, &fault),
+        Err(fault) => Ok(refused(rt, &fault)),
     }
 }
 
@@ -32,7 +32,8 @@ fn unread(rt: &impl Eprint, error: io::Error) -> io::Result<ExitCode> {
     if error.kind() != io::ErrorKind::InvalidData {
         return Err(error);
     }
-    eprintln!(rt; "mvd: a word is no UTF-8\nmvd: name each file in UTF-8")?;
+    // Where standard error takes nothing, the status still tells.
+    let _ = eprintln!(rt; "mvd: a word is no UTF-8\nmvd: name each file in UTF-8");
     Ok(ExitCode::from(2))
 }
 
@@ -54,21 +55,25 @@ fn texts<'a>(rt: &HostRuntime, words: &'a [String]) -> io::Result<Vec<&'a str>> 
 }
 
 /// Tells on standard error why a command line asks for nothing, and gives its status.
-fn refused(rt: &impl Eprint, fault: &OrderFault) -> io::Result<ExitCode> {
+fn refused(rt: &impl Eprint, fault: &OrderFault) -> ExitCode {
     match fault {
-        OrderFault::Words(error) => rt.eprint(error)?,
+        OrderFault::Words(error) => {
+            let _ = rt.eprint(error);
+        }
         OrderFault::Range => {
-            eprintln!(rt; "mvd: bad number\nmvd: `mvd help COMMAND` tells the range of each")?
+            let _ = eprintln!(rt;
+                "mvd: bad number\nmvd: `mvd help COMMAND` tells the range of each"
+            );
         }
         OrderFault::Stopped(refusal) => return tell_stop(rt, &Stop::from(*refusal)),
     }
-    Ok(ExitCode::from(2))
+    ExitCode::from(2)
 }
 
 /// Tells on standard error why a command was stopped, and gives its status.
-fn tell_stop(rt: &impl Eprint, stop: &Stop<'_>) -> io::Result<ExitCode> {
-    eprintln!(rt; "{stop}")?;
-    Ok(status_of(&stop.fault))
+fn tell_stop(rt: &impl Eprint, stop: &Stop<'_>) -> ExitCode {
+    let _ = eprintln!(rt; "{stop}");
+    status_of(&stop.fault)
 }
 
 /// 1 where a command was stopped, and 3 where a line is not a command.

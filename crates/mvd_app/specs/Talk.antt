@@ -16,6 +16,11 @@ unfoldable pub Answered : {A : Type 0} → (A → A → Request → Reply → Ty
 Answered Answers [] old new = new ≡ old
 Answered {A} Answers (exchange ∷ exchanges) old new = (between : A) × Answers old between exchange.request exchange.reply × Answered Answers exchanges between new
 
+-- requests were asked of it, and answered, one after the other
+pub record Asks {A : Type 0} (Answers : A → A → Request → Reply → Type 0) (asked asked' : A) : Type 0 where
+  pub exchanges : List Exchange
+  pub answered : Answered Answers exchanges asked asked'
+
 -- the request that a line asks for, with what is asked before it, seen at what answers
 pub record AsksFirst {A : Type 0} (Answers : A → A → Request → Reply → Type 0) (asked asked' : A) (ask : Ask) (request : Result Request Refusal) : Type 0 where
   pub exchanges : List Exchange

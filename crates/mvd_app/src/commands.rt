@@ -1,5 +1,7 @@
 //! What a command line asks for, done: with standard input and output, files and sockets.
 ghost use Rattle.mvd_input.specs.Orders.{IsInRange, IsSetUp};
+ghost use Rattle.mvd_replica.specs.Sides.{ReplicaFollows};
+ghost use Rattle.sqlite.specs.Held.{state as store};
 
 use crate::hint::{Hint, Stop};
 use crate::looping::loop_run;
@@ -112,7 +114,7 @@ fn work_on<'a, S: Alter + Drop>(
     replica: &mut Replica<S>,
     work: Work,
 ) -> Result<(), Stop<'a>> {
-    let mut writer = io::writer(rt);
+    let mut writer = Output::new(io::writer(rt));
     match work {
         Work::Serve(address, terms) => {
             serve_run(rt, rt.alloc(), replica, address, terms, &mut writer)
@@ -128,9 +130,14 @@ fn work_on<'a, S: Alter + Drop>(
 }
 
 /// Answers the lines of standard input on a replica.
-fn typed<'a, S: Alter + Drop>(rt: &HostRuntime, replica: &mut Replica<S>) -> Result<(), Stop<'a>> {
+fn typed<'a, S: Alter + Drop>(rt: &HostRuntime, replica: &mut Replica<S>) -> Result<(), Stop<'a>>
+    // The records follow, however it ends.
+    ensures { ReplicaFollows (λ _. Unit {0}) replica.old.site replica.new.site
+        (store S.Store replica.old.records.conn) (store S.Store replica.new.records.conn) }
+{
     let mut reader = input(rt)?;
-    match shell_run(rt.alloc(), replica, &mut reader, &mut io::writer(rt)) {
+    let mut writer = Output::new(io::writer(rt));
+    match shell_run(rt.alloc(), replica, &mut reader, &mut writer) {
         Ok(()) => Ok(()),
         Err(fault) => Err(Stop::in_input(fault, Hint::Script)),
     }

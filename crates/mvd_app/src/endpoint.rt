@@ -2,7 +2,8 @@
 ghost use Rattle.std.specs.Prelude.{◌≡◌};
 ghost use Rattle.mvd_app.specs.Script.{asked_step, reply_in};
 ghost use Rattle.mvd_app.specs.Staged.{MemberReplies};
-ghost use Rattle.mvd_replica.specs.Turns.{AnswersStored};
+ghost use Rattle.mvd_app.specs.Stored.{ReplicaAnswers};
+ghost use Rattle.sqlite.specs.Held.{state as store};
 ghost use Rattle.mvd_wire.specs.declared.reply.Reply.{Reply};
 ghost use Rattle.mvd_wire.specs.declared.request.Request.{Request};
 
@@ -64,7 +65,9 @@ fn reply_of(outcome: Outcome) -> Reply
 }
 
 impl<S: Alter> Endpoint for Replica<S> {
-    ghost answers = { λ old new request reply. AnswersStored old.site new.site request reply };
+    ghost answers = { λ old new request reply.
+        ReplicaAnswers old.site new.site
+        (store S.Store old.records.conn) (store S.Store new.records.conn) request reply };
 
     fn ask(&mut self, request: Request) -> Reply {
         let reply = self.answer(&request);

@@ -43,6 +43,8 @@ pub enum Hint<'a> {
     Full,
     #[error("{0} is in use: end the program that listens there, or name another port")]
     PortInUse(SocketAddr),
+    #[error("there is no right to listen at {0}: name another --port, of 1024 or more")]
+    NoRight(SocketAddr),
     #[error("{0}: {1}; --address names an address of this machine")]
     NoListener(SocketAddr, io::Error),
     #[error("{0}: {1}; start `mvd serve` there, or name another --address and --port")]
@@ -191,6 +193,7 @@ impl<'a> Stop<'a> {
     {
         let hint = match error.kind() {
             ErrorKind::AddrInUse => Hint::PortInUse(address),
+            ErrorKind::PermissionDenied => Hint::NoRight(address),
             _ => Hint::NoListener(address, error),
         };
         Stop::new(Refusal::ReadFailed, hint)

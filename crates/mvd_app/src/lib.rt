@@ -6,6 +6,7 @@ mod ending;
 mod endpoint;
 mod head;
 mod hint;
+mod lines;
 mod link;
 mod looping;
 mod many;

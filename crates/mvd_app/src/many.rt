@@ -1,4 +1,7 @@
 //! A server of many clients at once, from one thread.
+ghost use Rattle.mvd_app.specs.Stored.{IsServed};
+ghost use Rattle.sqlite.specs.Held.{state as store};
+
 mod client;
 mod counts;
 mod crowd;
@@ -56,6 +59,7 @@ struct Server {
 ///
 /// What came together of all clients is answered together, and then the replies leave. No client is waited for. It is `Stopped` with
 /// `ReadFailed` where it cannot listen or wait, and with `WriteFailed` where a line cannot be written.
+#[tactic(auto, using(crate::proofs::Following::served_none))]
 pub fn serve_run<'a, N: Net + Clock + RandomSource, S: Alter + Drop, W: Write>(
     rt: &N,
     alloc: Global,
@@ -63,7 +67,11 @@ pub fn serve_run<'a, N: Net + Clock + RandomSource, S: Alter + Drop, W: Write>(
     address: SocketAddr,
     terms: Terms,
     writer: &mut W,
-) -> Result<(), Stop<'a>> {
+) -> Result<(), Stop<'a>>
+    // However it ends, the site changed by turns alone, and its records follow.
+    ensures served { IsServed (store S.Store) replica.old.site replica.new.site
+        replica.old.records.conn replica.new.records.conn }
+{
     let mut server = match Server::new(rt, alloc, address, terms) {
         Ok(server) => server,
         Err(error) => return Err(Stop::unheard(address, error)),
@@ -106,6 +114,7 @@ impl Server {
     }
 
     /// Serves, and tells the address before and the root digest after that.
+    #[tactic(auto, using(crate::proofs::Following::served_none))]
     fn serve_at<N: Net + Clock, S: Alter + Drop, W: Write>(
         &mut self,
         rt: &N,
@@ -114,7 +123,10 @@ impl Server {
         address: SocketAddr,
         terms: Terms,
         writer: &mut W,
-    ) -> Result<(), Fault> {
+    ) -> Result<(), Fault>
+        ensures served { IsServed (store S.Store) replica.old.site replica.new.site
+            replica.old.records.conn replica.new.records.conn }
+    {
         let mut line = String::new(alloc);
         writeln!(line, "listening {address}")?;
         if let Some(address) = web_address(address, terms) {
@@ -132,7 +144,10 @@ impl Server {
         rt: &N,
         replica: &mut Replica<S>,
         writer: &mut W,
-    ) -> Result<(), Fault> {
+    ) -> Result<(), Fault>
+        ensures served { IsServed (store S.Store) replica.old.site replica.new.site
+            replica.old.records.conn replica.new.records.conn }
+    {
         for _round in 0..u64::MAX {
             if self.crowd.is_shut() && self.crowd.is_empty() {
                 return Ok(());

@@ -1,9 +1,14 @@
 //! The commands on a stored site that meet a peer.
-ghost use Rattle.std.specs.Prelude.{◌≢◌, [], IfErr, IsErr};
+ghost use Rattle.std.specs.Prelude.{◌≡◌, ◌≢◌, ◌++◌, [], IfErr, IsErr, OnOk, string_bytes};
+ghost use Rattle.std.specs.Io.KnownBytes.{Appends};
+ghost use Rattle.mvd_dots.specs.declared.refusals.Refusal.TheVariants.{WriteFailed};
+ghost use Rattle.mvd_app.specs.Reported.{Reports, refused_text, root_text, session_text};
 ghost use Rattle.mvd_app.specs.Synced.{MeetsFar};
+ghost use Rattle.mvd_input.specs.declared.fault.Fault.TheVariants.{Stopped};
 ghost use Rattle.mvd_input.specs.Ends.{EndsEarly};
-ghost use Rattle.mvd_replica.specs.Sides.{IsTrueSite};
+ghost use Rattle.mvd_replica.specs.Sides.{IsTrueSite, SideFollows};
 ghost use Rattle.mvd_sync.specs.Lines.{IsTrueRemote};
+ghost use Rattle.sqlite.specs.Held.{state as store};
 
 use crate::hint::{Older, Stop};
 use crate::link::Link;
@@ -11,6 +16,7 @@ use crate::progress::Watched;
 use mvd_dots::Refusal;
 use mvd_input::{Fault, write_out};
 use mvd_keys::Path;
+use mvd_print::print_keys;
 use mvd_replica::{Replica, is_foreign};
 use mvd_site::Config;
 use mvd_sync::{Left, Line, Remote, Report, Side, SyncFault, sync};
@@ -64,6 +70,7 @@ pub fn connected<N: Net>(rt: &N, address: SocketAddr, idle: u32) -> io::Result<N
 }
 
 /// Runs a session with the server at an address, and says Bye. Where `told` is given, it is told how far the session is.
+#[tactic(auto, using(crate::proofs::Following::pushed_none))]
 pub fn sync_run<'a, N: Net, S: Alter + Drop, E: Write>(
     rt: &N,
     alloc: Global,
@@ -71,7 +78,11 @@ pub fn sync_run<'a, N: Net, S: Alter + Drop, E: Write>(
     address: SocketAddr,
     idle: u32,
     told: Option<&mut E>,
-) -> Result<Report, Stop<'a>> {
+) -> Result<Report, Stop<'a>>
+    // However it ends, the site changed by pushes alone, and its records follow.
+    ensures pushed { SideFollows replica.old.site replica.new.site
+        (store S.Store replica.old.records.conn) (store S.Store replica.new.records.conn) }
+{
     let stream = match connected(rt, address, idle) {
         Ok(stream) => stream,
         Err(error) => return Err(Stop::unanswered(address, error)),
@@ -84,12 +95,16 @@ pub fn sync_run<'a, N: Net, S: Alter + Drop, E: Write>(
 }
 
 /// Runs a session over a stream.
+#[tactic(auto, using(crate::proofs::Following::pushed_none))]
 fn sync_stream<T: Read + Write + Drop, S: Alter + Drop, E: Write>(
     alloc: Global,
     stream: T,
     replica: &mut Replica<S>,
     told: Option<&mut E>,
-) -> Result<Report, SyncFault> {
+) -> Result<Report, SyncFault>
+    ensures pushed { SideFollows replica.old.site replica.new.site
+        (store S.Store replica.old.records.conn) (store S.Store replica.new.records.conn) }
+{
     let link = Link::new(alloc, stream).map_err(SyncFault::Local)?;
     let incoming = link.incoming(alloc).map_err(SyncFault::Local)?;
     let mut watched = Watched {
@@ -109,6 +124,9 @@ pub fn sync_over<L: Line, S: Alter + Drop, E: Write>(
 ) -> Result<Report, SyncFault>
     ensures meets { IsTrueSite replica.old.site → IsTrueRemote L.is_true L.far watched.old.side →
         MeetsFar L.is_true L.far replica.old.site replica.new.site watched.old.side watched.new.side result }
+    // Whatever is at the other end.
+    ensures pushed { SideFollows replica.old.site replica.new.site
+        (store S.Store replica.old.records.conn) (store S.Store replica.new.records.conn) }
 {
     let report = match sync(alloc, replica, watched) {
         Ok(report) => report,
@@ -129,6 +147,7 @@ pub fn tell_report<'a, S: Alter + Drop, W: Write, E: Write>(
     writer: &mut W,
     errors: &mut E,
 ) -> Result<(), Stop<'a>>
+    ensures told { Reports report.now replica.now.site.states (W.contents writer.old) (W.contents writer.new) result }
     ensures left { report.now.first_refused ≢ [] → IsErr result }
 {
     tell_counts(alloc, replica, report, writer)?;
@@ -149,14 +168,25 @@ fn tell_counts<S: Alter + Drop, W: Write>(
     replica: &Replica<S>,
     report: &Report,
     writer: &mut W,
-) -> Result<(), Fault> {
+) -> Result<(), Fault>
+    ensures told { OnOk result (Appends (W.contents writer.old) (W.contents writer.new)
+        (session_text report.now replica.now.site.states)) }
+{
     let mut lines = String::new(alloc);
-    writeln!(lines, "keys {}", report.keys)?;
-    if report.refused > 0 {
-        writeln!(lines, "refused {}", report.refused)?;
-    }
+    print_keys(report.keys, &mut lines)?;
+    print_refused(report.refused, &mut lines)?;
     print_root(alloc, replica, &mut lines)?;
     tell(writer, &mut lines)
+}
+
+/// Adds a line with how many keys were refused, where some were.
+fn print_refused(count: u64, lines: &mut String) -> Result<(), Refusal>
+    ensures { OnOk result (string_bytes lines.new ≡ string_bytes lines.old ++ refused_text count) }
+{
+    if count > 0 {
+        writeln!(lines, "refused {count}")?;
+    }
+    Ok(())
 }
 
 /// Tells which key was refused, by which side, and how. A line that cannot be written is left out.
@@ -174,7 +204,9 @@ pub fn print_root<S: Alter + Drop>(
     alloc: Global,
     replica: &Replica<S>,
     line: &mut String,
-) -> Result<(), Refusal> {
+) -> Result<(), Refusal>
+    ensures { OnOk result (string_bytes line.new ≡ string_bytes line.old ++ root_text replica.now.site.states) }
+{
     let path = Path::new(alloc, &[])?;
     let digests = replica.node(&path)?;
     let root = hex::encode(alloc, digests.own)?;
@@ -184,7 +216,9 @@ pub fn print_root<S: Alter + Drop>(
 
 /// Writes the lines at once, and begins anew.
 pub fn tell<W: Write>(writer: &mut W, lines: &mut String) -> Result<(), Fault>
-    ensures { IfErr result EndsEarly }
+    ensures told { OnOk result (Appends (W.contents writer.old) (W.contents writer.new) (string_bytes lines.old)) }
+    ensures failed { IfErr result (λ fault. fault ≡ Stopped WriteFailed) }
+    ensures ends { IfErr result EndsEarly }
 {
     write_out(writer, lines.as_str())?;
     lines.clear();

@@ -1,9 +1,14 @@
 //! Lines that are typed, each answered at once.
-ghost use Rattle.std.specs.Prelude.{◌≤◌, ◌<◌, length, IfErr};
+ghost use Rattle.std.specs.Prelude.{◌≡◌, ◌++◌, IfErr, OnOk, string_bytes};
+ghost use Rattle.mvd_dots.specs.declared.refusals.Refusal.TheVariants.{Memory};
+ghost use Rattle.mvd_input.specs.declared.fault.Fault.TheVariants.{Stopped};
 ghost use Rattle.mvd_input.specs.Ends.{EndsEarly};
+ghost use Rattle.mvd_app.specs.Shell.{Shells, TakesLine, TellsLine, no_command_text};
+ghost use Rattle.mvd_app.specs.Talk.{Asks};
 
 use crate::endpoint::Endpoint;
 use crate::hint::{Hint, Stop};
+use crate::lines::read_line;
 use crate::link::Link;
 use crate::serving::{connected, tell};
 use crate::talk::answer;
@@ -15,10 +20,8 @@ use std::fmt::Write as Print;
 use std::io::{BufRead, Read, Write};
 use std::net::{Net, SocketAddr};
 
-/// The most bytes of a line.
-const LINE_MAX: usize = 16_777_216;
-
-const HELP: &str = "\
+/// What `help` prints.
+pub const HELP: &str = "\
 put K CTX DOC   writes the JSON object DOC at key K; prints its dot
 del K CTX       deletes what CTX has seen of key K
 get K           the context of key K, and its siblings, each with its dot
@@ -35,28 +38,60 @@ CTX is - where nothing was read, @ for all that `get K` shows now, or a context.
 /// `#`, are skipped and counted; a line that is no command is told with its number, counted from 1, and the next one is read.
 ///
 /// It ends as `Stopped` where a line has over 16,777,216 bytes, the reader or the writer fails, or memory is refused for what is
-/// read or printed.
+/// read or printed; and where there are more lines than can be counted. What was told before stays.
 pub fn shell_run<A: Endpoint, R: BufRead, W: Write>(
     alloc: Global,
     asked: &mut A,
     reader: &mut R,
     writer: &mut W,
 ) -> Result<(), Fault>
-    ensures { IfErr result EndsEarly }
+    ensures told { Shells A.answers asked.old asked.new (R.remaining reader.old) (R.remaining reader.new)
+        (W.contents writer.old) (W.contents writer.new) result }
+    // Whatever ends it, only requests were asked, one after the other.
+    ensures asked { Asks A.answers asked.old asked.new }
+    ensures ends { IfErr result EndsEarly }
 {
     let mut out = String::new(alloc);
     for number in 1..u64::MAX {
-        let mut line = Vec::new(alloc);
-        if !read_line(reader, &mut line)? {
-            return Ok(());
+        match take_line(alloc, asked, number, reader, writer, &mut out) {
+            Ok(true) => {}
+            Ok(false) => return Ok(()),
+            Err(fault) => return Err(fault),
         }
-        take(alloc, asked, number, &line, &mut out)?;
-        tell(writer, &mut out)?;
     }
-    Ok(())
+    Err(Fault::Stopped(Refusal::FrameTooLong))
 }
 
-/// Answers the line of this number.
+/// Reads the line of this number, answers it, and tells that; and whether another line follows.
+#[tactic(auto, using(crate::proofs::Typing::asks_none))]
+fn take_line<A: Endpoint, R: BufRead, W: Write>(
+    alloc: Global,
+    asked: &mut A,
+    number: u64,
+    reader: &mut R,
+    writer: &mut W,
+    out: &mut String,
+) -> Result<bool, Fault>
+    ensures told { TakesLine A.answers number asked.old asked.new (R.remaining reader.old) (R.remaining reader.new)
+        (W.contents writer.old) (W.contents writer.new) result }
+    ensures asked { Asks A.answers asked.old asked.new }
+    ensures ends { IfErr result EndsEarly }
+{
+    let mut line = Vec::new(alloc);
+    match read_line(reader, &mut line) {
+        Ok(goes_on) => match take(alloc, asked, number, &line, out) {
+            Ok(()) => match tell(writer, out) {
+                Ok(()) => Ok(goes_on),
+                Err(fault) => Err(fault),
+            },
+            Err(fault) => Err(fault),
+        },
+        Err(fault) => Err(fault),
+    }
+}
+
+/// Answers the line of this number, and puts what is printed of it in place of what `out` held.
+#[tactic(auto, using(crate::proofs::Typing::asks_none))]
 fn take<A: Endpoint>(
     alloc: Global,
     asked: &mut A,
@@ -64,57 +99,30 @@ fn take<A: Endpoint>(
     line: &[u8],
     out: &mut String,
 ) -> Result<(), Fault>
-    ensures { IfErr result EndsEarly }
+    ensures told { OnOk result (TellsLine A.answers number line.now asked.old asked.new (string_bytes out.new)) }
+    ensures memory { IfErr result (λ fault. fault ≡ Stopped Memory) }
+    ensures asked { Asks A.answers asked.old asked.new }
 {
-    let typed = match text_of(line) {
-        Some("") => return Ok(()),
-        Some(text) => typed_of(text),
-        None => None,
+    out.clear();
+    let Some(text) = text_of(line) else {
+        return print_no_command(number, out);
     };
-    match typed {
-        Some(Typed::Help) => out.push_str(HELP)?,
-        Some(Typed::Ask(ask)) => answer(alloc, asked, ask, out)?,
-        None => writeln!(out, "{}", Fault::Line(number))?,
+    if text.is_empty() {
+        return Ok(());
     }
-    Ok(())
+    match typed_of(text) {
+        Some(Typed::Help) => Ok(out.push_str(HELP)?),
+        Some(Typed::Ask(ask)) => Ok(answer(alloc, asked, ask, out)?),
+        None => print_no_command(number, out),
+    }
 }
 
-/// Takes the next line, without its line feed, and whether there was one.
-fn read_line<R: BufRead>(reader: &mut R, line: &mut Vec<u8>) -> Result<bool, Fault>
-    requires { length line.old.items ≤ 16777216 }
-    ensures { IfErr result EndsEarly }
+/// Prints that the line of this number is no command.
+fn print_no_command(number: u64, out: &mut String) -> Result<(), Fault>
+    ensures text { OnOk result (string_bytes out.new ≡ string_bytes out.old ++ no_command_text number) }
+    ensures memory { IfErr result (λ fault. fault ≡ Stopped Memory) }
 {
-    for _ in 0..u64::MAX {
-        let Ok(piece) = reader.fill_buf() else {
-            return Err(Fault::Stopped(Refusal::ReadFailed));
-        };
-        let count = piece.len();
-        if count == 0 {
-            return Ok(!line.is_empty());
-        }
-        let end = piece.iter().position(|byte| *byte == b'\n');
-        add(line, &piece[..end.unwrap_or(count)])?;
-        match end {
-            Some(at) => {
-                reader.consume(at + 1);
-                return Ok(true);
-            }
-            None => reader.consume(count),
-        }
-    }
-    Ok(true)
-}
-
-/// Adds a piece to a line.
-fn add(line: &mut Vec<u8>, piece: &[u8]) -> Result<(), Fault>
-    requires { length line.old.items ≤ 16777216 }
-    ensures short { length line.new.items ≤ 16777216 }
-    ensures ends { IfErr result EndsEarly }
-{
-    if piece.len() > LINE_MAX - line.len() {
-        return Err(Fault::Stopped(Refusal::FrameTooLong));
-    }
-    line.extend_from_slice(piece)?;
+    writeln!(out, "line {number}: not a command")?;
     Ok(())
 }
 

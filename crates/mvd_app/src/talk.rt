@@ -1,6 +1,6 @@
 //! What is asked by one line, and what is printed of it.
 ghost use Rattle.std.specs.Prelude.{◌≡◌, ℕ, [], IfErr, List, OnOk, Result, string_bytes};
-ghost use Rattle.mvd_app.specs.Talk.{Prints_line, Shows, Speaks, SpeaksPages, TellsPage, Turns, told_text};
+ghost use Rattle.mvd_app.specs.Talk.{Asks, Prints_line, Shows, Speaks, SpeaksPages, TellsPage, Turns, told_text};
 
 use crate::endpoint::Endpoint;
 use crate::pages::next_page;
@@ -17,6 +17,7 @@ pub const LINE: usize = 64;
 
 /// Asks, and puts what is printed of it in place of what `out` held: what is answered, of a list page after page, or only how it is
 /// refused.
+#[tactic(auto, using(crate::proofs::Typing::asks_none, crate::proofs::Typing::speaks_asks))]
 pub fn answer<A: Endpoint>(
     alloc: Global,
     asked: &mut A,
@@ -25,6 +26,8 @@ pub fn answer<A: Endpoint>(
 ) -> Result<(), Refusal>
     ensures told { OnOk result (Prints_line A.answers asked.old asked.new ask.entry (string_bytes out.new)) }
     ensures memory { IfErr result (λ refusal. refusal ≡ Refusal.Memory) }
+    // Whatever was refused, what was asked was answered.
+    ensures asked { Asks A.answers asked.old asked.new }
 {
     begin_line(out)?;
     let said = say(alloc, asked, ask, out);

@@ -88,6 +88,16 @@ fn a_port_in_use_is_told(rt: HostRuntime) -> Result<(), Fail> {
 }
 
 #[test]
+fn a_port_without_rights_is_told(rt: HostRuntime) -> Result<(), Fail> {
+    let address = SocketAddr::new(IpAddr::V4(Ipv4Addr::LOCALHOST), 80);
+    let stop = Stop::unheard(address, io::Error::from(ErrorKind::PermissionDenied));
+    let wanted =
+        "mvd: fault 34 ReadFailed\nmvd: there is no right to listen at 127.0.0.1:80: name another --port, of 1024 or more";
+    assert!(rt; tells(rt.alloc(), &stop, wanted)?);
+    Ok(())
+}
+
+#[test]
 fn a_peer_that_is_none_is_told(rt: HostRuntime) -> Result<(), Fail> {
     let address = SocketAddr::new(IpAddr::V4(Ipv4Addr::LOCALHOST), 7007);
     let wanted =

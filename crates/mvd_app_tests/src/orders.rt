@@ -147,7 +147,18 @@ fn a_shell_is_on_a_database_or_a_server(rt: HostRuntime) -> Result<(), Fail> {
     assert!(rt; is_out_of_range(alloc, "mvd shell --db f --site 0")?);
     assert!(rt; is_no_order(alloc, "mvd shell")?);
     assert!(rt; is_no_order(alloc, "mvd shell --db f")?);
-    assert!(rt; is_no_order(alloc, "mvd shell --db f --site 1 --port 7")?);
+    let lines = [
+        "mvd shell --db f --site 1 --port 7",
+        "mvd shell --db f --site 1 --address 127.0.0.1",
+        "mvd shell --db f --port 7",
+        "mvd shell --port 7 --site 1",
+        "mvd shell --port 7 --defs d",
+        "mvd shell --port 7 --max-keys 1000000",
+        "mvd shell --site 1",
+    ];
+    for line in lines {
+        assert!(rt; is_no_order(alloc, line)?, "{line}");
+    }
     Ok(())
 }
 
@@ -168,6 +179,27 @@ fn a_refusal_shows_the_usage_of_its_command(rt: HostRuntime) -> Result<(), Fail>
     let shell =
         "Usage: mvd shell --db <FILE> --site <N> [--defs <FILE>] [--max-keys <N>]\n       mvd shell --port <P>";
     assert!(rt; says(alloc, "mvd shell", shell)?);
+    assert!(rt;
+        says(
+            alloc,
+            "mvd shell",
+            "'--db <FILE>' with '--site <N>', or '--port <P>', is missing"
+        )?
+    );
+    assert!(rt;
+        says(
+            alloc,
+            "mvd shell --db f",
+            "the option '--site <N>' is missing"
+        )?
+    );
+    assert!(rt;
+        says(
+            alloc,
+            "mvd shell --db f --port 7",
+            "a shell has '--db <FILE>' with its options, or '--port <P>'"
+        )?
+    );
     assert!(rt; says(alloc, "mvd shell --port 7 --address here", shell)?);
     Ok(())
 }

@@ -40,3 +40,11 @@ loop_asked = (
     max_keys = (codes "1000000", refl, million);
   },
 )
+
+-- a shell is taken, too
+abbrev shell_line : List Text
+shell_line = codes "mvd" ∷ codes "shell" ∷ codes "--port" ∷ codes "7" ∷ []
+
+pub shell_taken : takes program shell_line ≡ true
+unfolding clap_on_literals program
+shell_taken = refl

@@ -1,15 +1,12 @@
 -- A command with one more option, or with one more command below it.
-use Rattle.std.proofs.Common.{◌≡◌, ◌∙◌, ◌∷◌, ◌++◌, ◌&&◌, ◌==◌, [], ℕ, List, ap, ap₂, refl, true, false, not, Bool, is_some, length, arith, suc}
-use Rattle.std.proofs.lemmas.Bool.{and_parts, and_right}
-use Rattle.std.proofs.lemmas.Bool.Decides.{nat_tests}
-use Rattle.std.specs.Borrow.{Bor}
-use Rattle.clap.specs.Words.{App, Rule, app_of, rule_of, with_rule, with_subcommand, AddsArg, AddsSubcommand, AddsConflicts, AddsRequiredUnless}
-use Rattle.clap.specs.Walk.{is_empty, is_free_arg, is_simple_arg}
+use Rattle.std.proofs.Common.{◌≡◌, ◌∙◌, ap, ap₂, refl, true, false, not, Bool, is_some}
+use Rattle.std.proofs.lemmas.Bool.{and_parts}
+use Rattle.clap.specs.Words.{App, Rule, app_of, rule_of, with_rule, with_subcommand, AddsArg, AddsSubcommand}
+use Rattle.clap.specs.Walk.{is_empty, is_simple_arg}
 use Rattle.clap.specs.Simple.{has_plain_fields}
 use Rattle.clap.specs.declared.builder.arg.Arg.{Arg}
 use Rattle.clap.specs.declared.builder.command.Command.{Command}
 use Rattle.clap.specs.declared.builder.command.Command.TheViews.{out-Command}
-use Rattle.mvd_input.specs.Words.{tied}
 
 no : (b : Bool) → not b ≡ true → b ≡ false
 no true e = absurd (cc e)
@@ -44,25 +41,3 @@ adds old a new s r h e f simple =
 pub adds_below : (old sub new : Command) (s below : App) → AddsSubcommand old sub new → app_of old ≡ s → app_of sub ≡ below → below.top.is_plain ≡ true → app_of new ≡ with_subcommand s below.top
 adds_below old sub new s below h e f simple =
     h.shape (plain sub (ap (λ (x : App). x.top.is_plain) f ∙ simple)) ∙ ap₂ with_subcommand e (ap (λ (x : App). x.top) f)
-
-positive : (n : ℕ) → (suc n == 0) ≡ false
-positive n = grind (arith, nat_tests)
-
-not_empty : {X : Type 0} (xs : List X) (x : X) → is_empty (xs ++ x ∷ []) ≡ false
-not_empty [] x = refl
-not_empty (y ∷ ys) x = positive (length (ys ++ x ∷ []))
-
--- an option with a rule on another one is not free
-pub is_tied : (a b : Arg) (x : Bor (List ℕ)) → AddsConflicts a b (x ∷ []) → rule_of b ≡ tied (rule_of a)
-is_tied a b x h =
-    let some : is_empty b.conflicts.items ≡ false = ap is_empty h.1 ∙ not_empty a.conflicts.items x in
-    let bound : is_free_arg b ≡ false = and_right (not b.exclusive) _ (ap₂ (λ (x y : Bool). x && y) some refl) in
-    ap (λ (y : Bool). record (rule_of b) { is_free = y }) bound ∙ ap (λ (z : Arg). tied (rule_of z)) h.0
-
-pub unless : (a b : Arg) (x : Bor (List ℕ)) → AddsRequiredUnless a b (x ∷ []) → tied (rule_of b) ≡ tied (rule_of a)
-unless a b x h = ap (λ (z : Arg). tied (rule_of z)) h.0
-
--- an option that is changed before it is added
-pub adds_changed : (f : Rule → Rule) (new s t : App) (q r : Rule) → (q.is_simple ≡ true → new ≡ with_rule s (f q)) → s ≡ t → q ≡ r → r.is_simple ≡ true → new ≡ with_rule t (f r)
-adds_changed f new s t q r h e g simple =
-    h (ap (λ (x : Rule). x.is_simple) g ∙ simple) ∙ ap₂ with_rule e (ap f g)

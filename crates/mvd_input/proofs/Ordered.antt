@@ -1,19 +1,25 @@
 -- What the words ask for.
-use Rattle.std.proofs.Common.{◌≡◌, ◌∙◌, ap, refl, sym, subst, ℕ, List, Option, Some, None, Result, Ok, Err, true, false, is_some, codes, option_map, IsSomeAnd}
+use Rattle.std.proofs.Common.{◌≡◌, ◌∙◌, ap, refl, sym, subst, ℕ, List, Option, Some, None, Result, Ok, Err, true, false, is_some, codes, find, option_and_then, option_map, IsSomeAnd}
 use Rattle.std.specs.Prelude.{Box}
 use Rattle.std.specs.Box.{box_value}
+use Rattle.std.specs.Option.{option_map_or}
 use Rattle.std.specs.Str.{bytes_eq}
 use Rattle.std.proofs.lemmas.Slice.Eq.{bytes_eq-Decides}
 use Rattle.std.specs.declared.net.socket_addr.SocketAddr.{SocketAddr}
-use Rattle.clap.specs.Walk.{Text}
-use Rattle.clap.specs.Words.{HasMatchesOf, Row, app_of, first_of, has_subcommand, is_simple, kind_of, subcommand_name_of, subcommand_of, subcommand_rows, subcommand_rows_of, takes}
+use Rattle.clap.proofs.WalkLemmas.{find_row}
+use Rattle.clap.specs.Facts.{Entry}
+use Rattle.clap.specs.Walk.{Text, row_of}
+use Rattle.clap.specs.Words.{HasMatchesOf, Row, app_of, first_of, has_subcommand, is_simple, kind_of, matched_of, rows_of, subcommand_name_of, subcommand_of, subcommand_rows, subcommand_rows_of, takes}
 use Rattle.clap.specs.declared.builder.command.Command.{Command}
 use Rattle.clap.specs.declared.error.Error.{Error}
 use Rattle.clap.specs.declared.error.kind.ErrorKind.TheVariants.{OutOfMemory}
 use Rattle.clap.specs.declared.parser.matches.ArgMatches.{ArgMatches}
+use Rattle.clap.specs.declared.parser.matches.Found.{Found}
+use Rattle.clap.specs.declared.parser.matches.MatchedArg.{MatchedArg}
+use Rattle.clap.specs.declared.parser.matches.ValueSource.{ValueSource}
 use Rattle.clap.specs.declared.parser.matches.SubCommand.{SubCommand}
 use Rattle.clap.specs.declared.parser.matches.ArgMatches.TheViews.{out-ArgMatches, out-SubCommand}
-use Rattle.mvd_input.specs.Orders.{AskFor, Gives, HasBadNumber, IsAddressOf, IsFaultBy, IsOrderOf, IsOutOfRange, IsSeconds, IsUnread, ReadsGiven, ReadsOrder, ReadsWords}
+use Rattle.mvd_input.specs.Orders.{AskFor, Gives, HasBadNumber, IsAddressOf, IsFaultBy, IsOrderOf, IsOutOfRange, IsSeconds, IsUnread, ReadsGiven, ReadsOrder, ReadsWords, is_given, is_word, names_server, sets_up, source_in}
 use Rattle.mvd_input.specs.Words.{program}
 use Rattle.mvd_input.specs.declared.order.Order.{Order}
 use Rattle.mvd_input.specs.declared.order.Order.TheVariants.{Sim, Loop, Serve, Shell, RemoteShell, Sync}
@@ -68,6 +74,35 @@ remote_meets rows e (Serve _ _ _ _ _ _) h = differ _ _ h.0 refl
 remote_meets rows e (Shell _ _) h = absurd (cc (h.1, e))
 remote_meets rows e (RemoteShell address idle) h = ((address, h.2), (idle, h.3))
 remote_meets rows e (Sync _ _ _ _ _) h = differ _ _ h.0 refl
+
+-- nor is a shell that names both a database and a server, or a server and how a site is set up
+pub no_server_beside : (rows : List Row) (db : Text) → first_of (codes "db") rows ≡ Some db → names_server rows ≡ true → (order : Order) → IsOrderOf (codes "shell") rows order → ⊥
+no_server_beside rows db e named Sim h = differ _ _ h refl
+no_server_beside rows db e named (Loop _) h = differ _ _ h.0 refl
+no_server_beside rows db e named (Serve _ _ _ _ _ _) h = differ _ _ h.0 refl
+no_server_beside rows db e named (Shell _ _) h = cc (h.3, named)
+no_server_beside rows db e named (RemoteShell _ _) h = cc (h.1, e)
+no_server_beside rows db e named (Sync _ _ _ _ _) h = differ _ _ h.0 refl
+
+pub no_setup_beside : (rows : List Row) → first_of (codes "db") rows ≡ None → sets_up rows ≡ true → (order : Order) → IsOrderOf (codes "shell") rows order → ⊥
+no_setup_beside rows e set Sim h = differ _ _ h refl
+no_setup_beside rows e set (Loop _) h = differ _ _ h.0 refl
+no_setup_beside rows e set (Serve _ _ _ _ _ _) h = differ _ _ h.0 refl
+no_setup_beside rows e set (Shell _ _) h = cc (h.1, e)
+no_setup_beside rows e set (RemoteShell _ _) h = cc (h.4, set)
+no_setup_beside rows e set (Sync _ _ _ _ _) h = differ _ _ h.0 refl
+
+-- ---- where a value came from
+
+source_row : (f : Found) (option : Text) → option_and_then (λ (a : MatchedArg). a.source) (matched_of f option) ≡ source_in (rows_of f) option
+source_row f option = go (find (λ (e : Entry). bytes_eq e.0.now option) f.entries.items) ∙ ap (option_and_then (λ (r : Row). r.source)) (sym (find_row f.entries.items option))
+  where
+    go : (o : Option Entry) → option_and_then (λ (a : MatchedArg). a.source) (option_map (λ e. e.1) o) ≡ option_and_then (λ (r : Row). r.source) (option_map row_of o)
+    go None = refl
+    go (Some e) = refl
+
+pub given_by : (f : Found) (option : Text) (o : Option ValueSource) → o ≡ option_and_then (λ (a : MatchedArg). a.source) (matched_of f option) → option_map_or is_word o false ≡ is_given (rows_of f) option
+given_by f option o e = ap (λ (s : Option ValueSource). option_map_or is_word s false) (e ∙ source_row f option)
 
 -- ---- the matches are those of the words
 

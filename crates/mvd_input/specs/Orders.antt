@@ -1,15 +1,18 @@
 -- What a command line may ask for.
-use Rattle.std.specs.Prelude.{ℕ, Option, Some, None, ◌≡◌, ◌<◌, ◌≤◌, ◌^◌, ◌⊎◌, ◌↔◌, ◌≢◌, ⊤, true, List, IsSomeAnd, Result, Ok, Err, IsTrue, codes, option_map}
+use Rattle.std.specs.Prelude.{ℕ, Bool, Option, Some, None, ◌≡◌, ◌<◌, ◌≤◌, ◌^◌, ◌⊎◌, ◌↔◌, ◌≢◌, ◌||◌, ⊤, true, false, List, IsSomeAnd, Result, Ok, Err, IsTrue, codes, find, option_and_then, option_map}
 use Rattle.std.specs.Net.Grammar.{IsIpText}
 use Rattle.std.specs.Net.Socket.{socket_ip, socket_port}
 use Rattle.std.specs.Borrow.{Bor}
-use Rattle.std.specs.Option.{ForSome}
+use Rattle.std.specs.Option.{ForSome, option_map_or}
+use Rattle.std.specs.Str.{bytes_eq}
 use Rattle.std.specs.declared.net.ip_addr.IpAddr.{IpAddr}
 use Rattle.std.specs.declared.net.socket_addr.SocketAddr.{SocketAddr}
 use Rattle.clap.specs.Walk.{Text}
 use Rattle.clap.specs.Words.{Row, first_of, found_of, kind_of, rows_of, subcommand_of, takes}
 use Rattle.clap.specs.declared.error.Error.{Error}
 use Rattle.clap.specs.declared.parser.matches.ArgMatches.{ArgMatches}
+use Rattle.clap.specs.declared.parser.matches.ValueSource.{ValueSource}
+use Rattle.clap.specs.declared.parser.matches.ValueSource.TheVariants.{DefaultValue, CommandLine}
 use Rattle.clap.specs.declared.error.kind.ErrorKind.TheVariants.{OutOfMemory}
 use Rattle.mvd_dots.specs.declared.refusals.Refusal.TheVariants.{Memory}
 use Rattle.mvd_input.specs.Lines.{IsNoNumber, IsNumber}
@@ -120,15 +123,33 @@ IsHttp rows (Some number) = Gives rows (codes "http") number
 abbrev pub IsSeconds : List Row → ℕ → Type 0
 IsSeconds rows seconds = Gives rows (codes "idle") seconds
 
+-- an option is among the words, and has not its default
+abbrev pub is_word : ValueSource → Bool
+is_word DefaultValue = false
+is_word CommandLine = true
+
+abbrev pub source_in : List Row → List ℕ → Option ValueSource
+source_in rows option = option_and_then (λ r. r.source) (find (λ r. bytes_eq r.id option) rows)
+
+abbrev pub is_given : List Row → List ℕ → Bool
+is_given rows option = option_map_or is_word (source_in rows option) false
+
+-- the words of a shell name a server, or say how a site is set up
+abbrev pub names_server : List Row → Bool
+names_server rows = is_given rows (codes "port") || (is_given rows (codes "address") || is_given rows (codes "idle"))
+
+abbrev pub sets_up : List Row → Bool
+sets_up rows = is_given rows (codes "site") || (is_given rows (codes "defs") || is_given rows (codes "max-keys"))
+
 -- the order that a command with the values of its options is
 abbrev pub IsOrderOf : List ℕ → List Row → Order → Type 0
 IsOrderOf name rows Sim = name ≡ codes "sim"
 IsOrderOf name rows (Loop setup) = (name ≡ codes "loop") × IsSetupOf rows setup
 IsOrderOf name rows (Serve db setup address conns idle http) = (name ≡ codes "serve") × IsDbOf rows db
     × IsSetupOf rows setup × IsAddressOf rows address × IsConns rows conns × IsSeconds rows idle × IsHttp rows http
-IsOrderOf name rows (Shell db setup) = (name ≡ codes "shell") × IsDbOf rows db × IsSetupOf rows setup
+IsOrderOf name rows (Shell db setup) = (name ≡ codes "shell") × IsDbOf rows db × IsSetupOf rows setup × (names_server rows ≡ false)
 IsOrderOf name rows (RemoteShell address idle) = (name ≡ codes "shell") × (first_of (codes "db") rows ≡ None) × IsAddressOf rows address
-    × IsSeconds rows idle
+    × IsSeconds rows idle × (sets_up rows ≡ false)
 IsOrderOf name rows (Sync db setup address idle verbose) = (name ≡ codes "sync") × IsDbOf rows db
     × IsSetupOf rows setup × IsAddressOf rows address × IsSeconds rows idle × (IsTrue verbose ↔ (first_of (codes "verbose") rows ≡ Some (codes "true")))
 

@@ -1,10 +1,8 @@
 -- The words that the program takes: its commands, and of each its options.
-use Rattle.std.specs.Prelude.{List, [], ◌∷◌, ◌++◌, ◌≡◌, Some, true, false, codes}
+use Rattle.std.specs.Prelude.{List, [], ◌∷◌, ◌++◌, Some, true, false, codes}
 use Rattle.clap.specs.Simple.{new_shape}
 use Rattle.clap.specs.Walk.{Text}
-use Rattle.clap.specs.Words.{App, Rule, app_of, new_rule, rule_of, with_rule}
-use Rattle.clap.specs.declared.builder.arg.Arg.{Arg}
-use Rattle.clap.specs.declared.builder.command.Command.{Command}
+use Rattle.clap.specs.Words.{App, Rule, new_rule, with_rule}
 use Rattle.clap.specs.declared.builder.action.ArgAction.TheVariants.{SetTrue}
 use Rattle.clap.specs.declared.builder.value_parser.ValueParser.TheVariants.{Unsigned}
 
@@ -26,17 +24,9 @@ flag name = record (new_rule name) { long = Some name; action = Some SetTrue }
 abbrev pub needed : Rule → Rule
 needed option = record option { required = true }
 
--- it need not be given
-abbrev pub spare : Rule → Rule
-spare option = record option { required = false }
-
 -- left out, it has this value
 abbrev pub by_default : Text → Rule → Rule
 by_default value option = record option { defaults = value ∷ [] }
-
--- another option says whether it may be given
-abbrev pub tied : Rule → Rule
-tied option = record option { is_free = false }
 
 -- ---- the options
 
@@ -92,7 +82,7 @@ serve_words = leaf (codes "serve")
 
 abbrev pub shell_words : App
 shell_words = leaf (codes "shell")
-    (tied db ∷ tied site ∷ tied defs ∷ tied max_keys ∷ port ∷ tied address ∷ tied (idle (codes "60")) ∷ [])
+    (db ∷ site ∷ defs ∷ max_keys ∷ port ∷ address ∷ idle (codes "60") ∷ [])
 
 abbrev pub sync_words : App
 sync_words = leaf (codes "sync")
@@ -116,10 +106,3 @@ program = record {
 abbrev pub with_rules : App → List Rule → App
 with_rules command [] = command
 with_rules command (option ∷ options) = with_rules (with_rule command option) options
-
--- `new` is `old` with one more option, which another one says more about
-abbrev pub AddsTied : Command → Arg → Command → Type 0
-AddsTied old option new = (rule_of option).is_simple ≡ true → app_of new ≡ with_rule (app_of old) (tied (rule_of option))
-
-abbrev pub AddsSpare : Command → Arg → Command → Type 0
-AddsSpare old option new = (rule_of option).is_simple ≡ true → app_of new ≡ with_rule (app_of old) (tied (spare (rule_of option)))

@@ -1,12 +1,14 @@
 //! The command line.
-ghost use Rattle.std.specs.Prelude.{◌≡◌, ◌<◌, ◌≤◌, ◌^◌, ℕ, List, IfErr, IfOk, IfSome, Some, codes, option_map};
+ghost use Rattle.std.specs.Prelude.{◌≡◌, ◌<◌, ◌≤◌, ◌^◌, ℕ, List, IfErr, IfOk, IfSome, Some, codes, false, option_map};
+ghost use Rattle.std.specs.Option.{option_map_or};
 ghost use Rattle.clap.specs.Walk.{texts};
 ghost use Rattle.clap.specs.Words.{first_of};
-ghost use Rattle.mvd_input.specs.Orders.{HasPort, IsAddressOf, IsConns, IsDbOf, IsHttp, IsIdle, IsInRange, IsIpOf, IsPort, IsSeconds, IsSetUp, IsSetupOf, IsUnread, ReadsGiven, ReadsNumber, ReadsOptions, ReadsOrder, ReadsWords, options_of};
+ghost use Rattle.mvd_input.specs.Orders.{HasPort, IsAddressOf, IsConns, IsDbOf, IsHttp, IsIdle, IsInRange, IsIpOf, IsPort, IsSeconds, IsSetUp, IsSetupOf, IsUnread, ReadsGiven, ReadsNumber, ReadsOptions, ReadsOrder, ReadsWords, is_given, is_word, names_server, options_of, sets_up};
 
 use crate::command::number_of;
 use crate::words::{command, command_of};
 use clap::error::ErrorKind;
+use clap::parser::ValueSource;
 use clap::{ArgMatches, Command, Error};
 use mvd_dots::Refusal;
 use std::alloc::{AllocError, Global};
@@ -23,6 +25,12 @@ const MOST_PORT: u64 = 65_535;
 
 /// The most seconds for which no byte need move.
 const MOST_IDLE: u64 = 86_400;
+
+/// What a shell needs.
+const NEITHER: &str = "'--db <FILE>' with '--site <N>', or '--port <P>', is missing";
+
+/// What a shell cannot have together.
+const BOTH: &str = "a shell has '--db <FILE>' with its options, or '--port <P>' with its own";
 
 /// What a site is set up with: its number is at least 1, and it may hold 1 to 1,000,000 keys. A file may define its indexes and
 /// views.
@@ -184,6 +192,8 @@ fn shell_of<'a>(matches: &ArgMatches<'a>) -> Result<Order<'a>, Unread>
     ensures { ReadsOptions (codes "shell") (options_of matches.now) result }
 {
     match text_in(matches, "db") {
+        Some(_) if names_server(matches) => Err(Unread::Text(BOTH)),
+        None if sets_up(matches) => Err(Unread::Text(BOTH)),
         Some(db) => Ok(Order::Shell {
             db,
             setup: setup_in(matches)?,
@@ -192,6 +202,38 @@ fn shell_of<'a>(matches: &ArgMatches<'a>) -> Result<Order<'a>, Unread>
             address: address_in(matches)?,
             idle: idle_in(matches)?,
         }),
+    }
+}
+
+/// Whether the words of a shell name a server.
+fn names_server(matches: &ArgMatches<'_>) -> bool
+    ensures { result ≡ names_server (options_of matches.now) }
+{
+    is_given(matches, "port") || is_given(matches, "address") || is_given(matches, "idle")
+}
+
+/// Whether the words of a shell say how a site is set up.
+fn sets_up(matches: &ArgMatches<'_>) -> bool
+    ensures { result ≡ sets_up (options_of matches.now) }
+{
+    is_given(matches, "site") || is_given(matches, "defs") || is_given(matches, "max-keys")
+}
+
+/// Whether an option is among the words, and has not its default.
+fn is_given(matches: &ArgMatches<'_>, option: &str) -> bool
+    ensures { result ≡ is_given (options_of matches.now) option.now }
+{
+    is_word(matches.value_source(option))
+}
+
+/// Whether a value came from the words.
+fn is_word(source: Option<ValueSource>) -> bool
+    ensures { result ≡ option_map_or is_word source false }
+{
+    match source {
+        Some(ValueSource::CommandLine) => true,
+        Some(ValueSource::DefaultValue) => false,
+        None => false,
     }
 }
 
@@ -246,7 +288,15 @@ fn given_in(matches: &ArgMatches<'_>, option: &str, most: u64) -> Result<u64, Un
 {
     match number_in(matches, option, most)? {
         Some(number) => Ok(number),
-        None => Err(Unread::Text("an option is missing")),
+        None => Err(Unread::Text(missing(option))),
+    }
+}
+
+/// What is told where an option is missing that has no default. Only a shell can come to that.
+fn missing(option: &str) -> &'static str {
+    match option {
+        "site" => "the option '--site <N>' is missing",
+        _ => NEITHER,
     }
 }
 

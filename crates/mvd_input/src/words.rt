@@ -112,43 +112,24 @@ fn serve_command<'a>(alloc: Global) -> Result<Command<'a>, AllocError>
 fn shell_command<'a>(alloc: Global) -> Result<Command<'a>, AllocError>
     ensures { IfOk result (λ command. app_of command ≡ spec.shell_words) }
 {
-    let command = named(
+    let port = port(
+        alloc,
+        "The port of a server, 1 to 65535, in place of a database.",
+    );
+    named(
         alloc,
         "shell",
         SHELL,
         "Example: echo 'put k - {\"a\":1}' | mvd shell --db a.db --site 1",
     )
-    .override_usage(SHELL_USAGE);
-    let command = instead_of_port(command, db(alloc))?;
-    let command = instead_of_port(command, site(alloc))?;
-    let command = apart_from(command, defs(alloc), "port")?;
-    let command = apart_from(command, max_keys(alloc), "port")?;
-    let port = port(
-        alloc,
-        "The port of a server, 1 to 65535, in place of a database.",
-    );
-    let command = command.arg(port.required(false))?;
-    let command = apart_from(command, address(alloc), "db")?;
-    apart_from(command, idle(alloc, IDLE, "60"), "db")
-}
-
-/// Adds an option that is given where no port is.
-fn instead_of_port<'a>(command: Command<'a>, option: Arg<'a>) -> Result<Command<'a>, AllocError>
-    ensures { IfOk result (spec.AddsSpare command.entry option.entry) }
-{
-    let option = option.required(false).required_unless_present("port")?;
-    apart_from(command, option, "port")
-}
-
-/// Adds an option that is not given beside the other one.
-fn apart_from<'a>(
-    command: Command<'a>,
-    option: Arg<'a>,
-    other: &'a str,
-) -> Result<Command<'a>, AllocError>
-    ensures { IfOk result (spec.AddsTied command.entry option.entry) }
-{
-    command.arg(option.conflicts_with(other)?)
+    .override_usage(SHELL_USAGE)
+    .arg(db(alloc).required(false))?
+    .arg(site(alloc).required(false))?
+    .arg(defs(alloc))?
+    .arg(max_keys(alloc))?
+    .arg(port.required(false))?
+    .arg(address(alloc))?
+    .arg(idle(alloc, IDLE, "60"))
 }
 
 fn sync_command<'a>(alloc: Global) -> Result<Command<'a>, AllocError>
@@ -284,7 +265,7 @@ fn verbose<'a>(alloc: Global) -> Arg<'a>
     Arg::new(alloc, "verbose")
         .long("verbose")
         .action(ArgAction::SetTrue)
-        .help("Tell on standard error, after each thousand keys, how many were exchanged so far.")
+        .help("Tell on standard error, after each thousand states, how many came or went so far.")
 }
 
 /// An option whose value is a text.

@@ -1,4 +1,7 @@
 //! The clients: their sockets, and their connections.
+ghost use Rattle.mvd_app.specs.Stored.{HasRound};
+ghost use Rattle.sqlite.specs.Held.{state as store};
+
 use super::CLIENTS_MAX;
 use super::client::{Client, Moved, PIECE, Piece, Stage};
 use super::counts::Counts;
@@ -77,7 +80,10 @@ impl Crowd {
     }
 
     /// Answers what came of some clients, together.
-    pub fn round<S: Alter + Drop>(&mut self, replica: &mut Replica<S>, ready: &[u64]) {
+    pub fn round<S: Alter + Drop>(&mut self, replica: &mut Replica<S>, ready: &[u64])
+        ensures round { HasRound (store S.Store) replica.old.site replica.new.site
+            replica.old.records.conn replica.new.records.conn }
+    {
         self.talks.round(replica, ready, &mut self.counts);
     }
 

@@ -1,6 +1,8 @@
 //! What the clients say, in frames or over HTTP.
 ghost use Rattle.std.specs.Prelude.{◌≤◌, length};
+ghost use Rattle.mvd_app.specs.Stored.{HasRound};
 ghost use Rattle.mvd_host.specs.Hosts.{IfClient, client_of};
+ghost use Rattle.sqlite.specs.Held.{state as store};
 
 use super::counts::Counts;
 use super::gate::{answer, ask};
@@ -67,13 +69,17 @@ impl Talks {
         self.host.dismiss(number);
     }
 
-    /// Takes the requests of some clients, answers them together, and queues what each is told. Whether anything was answered.
+    /// Takes the requests of some clients, answers them together, and queues what each is told.
     pub fn round<S: Alter + Drop>(
         &mut self,
         replica: &mut Replica<S>,
         ready: &[u64],
         counts: &mut Counts,
-    ) {
+    )
+        // Nothing but the host's round changes the replica.
+        ensures round { HasRound (store S.Store) replica.old.site replica.new.site
+            replica.old.records.conn replica.new.records.conn }
+    {
         for number in ready {
             // A request is taken only where the host takes its frame.
             if !self.host.wants_input(*number) {

@@ -12,4 +12,5 @@ returns-in-Err-bye g c = record {
       let far = g.L.Line.far in
       let kept = bye_keeps (far c.sync.new.peer.side.line).most (far c.sync.new.peer.side.line).states (far c.bye.new.self.line).states c.bye.result (c.bye.ensures.truth still).1 in
       after_bye _ _ _ _ _ _ _ _ _ _ _ _ _ (session.meets t r) still kept tt;
+  pushed = c.sync.ensures.session.follows.0;
 }

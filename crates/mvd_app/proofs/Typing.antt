@@ -1,0 +1,185 @@
+-- Lines that were typed, one after the other, and what was told of them.
+use Rattle.std.proofs.Common.{◌≡◌, ◌∙◌, ◌≤◌, ◌+◌, ◌-◌, ◌^◌, ℕ, Bool, true, false, List, [], ◌∷◌, ◌++◌, IfSome, Option, Some, None, Result, Ok, Err, inl, inr, length, refl, sym, ap, subst, arith, append_assoc}
+use Rattle.std.specs.Io.KnownBytes.{Appends, Consumes}
+use Rattle.std.specs.List.{concat}
+use Rattle.std.proofs.lemmas.List.{append-nil, length-append}
+use Rattle.std.proofs.lemmas.List.Folds.{concat-append}
+use Rattle.mvd_dots.specs.declared.refusals.Refusal.{Refusal}
+use Rattle.mvd_dots.specs.declared.refusals.Refusal.TheVariants.{FrameTooLong, Memory, WriteFailed}
+use Rattle.mvd_input.specs.declared.command.Ask.{Ask}
+use Rattle.mvd_input.specs.declared.command.Typed.TheVariants.{Ask as Asked, Help}
+use Rattle.mvd_input.specs.declared.fault.Fault.{Fault}
+use Rattle.mvd_input.specs.declared.fault.Fault.TheVariants.{Line, Stopped}
+use Rattle.mvd_input.specs.Hexadecimal.{lines_of}
+use Rattle.mvd_wire.specs.declared.reply.Reply.{Reply}
+use Rattle.mvd_wire.specs.declared.request.Request.{Request}
+use Rattle.mvd_app.specs.ReadLine.{CameIn, ReadsLine}
+use Rattle.mvd_app.specs.Shell.{IsNoTyped, IsUntold, Shells, TakesLine, TellAll, TellsLine, Told, no_command_text}
+use Rattle.mvd_app.specs.Talk.{Answered, Asks, Speaks}
+use Rattle.mvd_app.proofs.Pieces.{consumes_none, consumes_on, lines_fed, lines_one}
+use Rattle.mvd_app.proofs.Running.{appends_none, appends_on}
+use Rattle.mvd_app.proofs.Talking.{answered_both}
+
+module _ {A : Type 0} (Answers : A → A → Request → Reply → Type 0) where
+  -- ---- what was asked
+
+  pub asks_none : (a : A) → Asks Answers a a
+  unfolding Answered
+  asks_none a = record { exchanges = []; answered = refl }
+
+  pub speaks_asks : (old new : A) (ask : Ask) (text text' : List ℕ) (result : Result (Unit {0}) Refusal) → Speaks Answers old new ask text text' result → Asks Answers old new
+  speaks_asks old new ask text text' result speaks = record { exchanges = speaks.talks.exchanges; answered = speaks.talks.answered }
+
+  -- ---- one line
+
+  pub unread : (number : ℕ) (a : A) (input input' out : Option (List ℕ)) (line : List ℕ) (fault : Fault) → ReadsLine input input' line (Err fault) → TakesLine Answers number a a input input' out out (Err fault)
+  unread number a input input' out line fault (read, came, inl is) =
+      subst (λ (f : Fault). TakesLine Answers number a a input input' out out (Err f)) (sym is) (read, came, (asks_none a, refl))
+  unread number a input input' out line fault (read, came, inr (inl is)) =
+      subst (λ (f : Fault). TakesLine Answers number a a input input' out out (Err f)) (sym is) (read, came, (refl, refl))
+  unread number a input input' out line fault (read, came, inr (inr (is, long))) =
+      subst (λ (f : Fault). TakesLine Answers number a a input input' out out (Err f)) (sym is) (read, came, (refl, refl, inl long))
+
+  came_in : (input input' : Option (List ℕ)) (line : List ℕ) (goes_on : Bool) → ReadsLine input input' line (Ok goes_on) → CameIn input input' line
+  came_in input input' line true (one, short, read) = (one, inr read)
+  came_in input input' line false (one, short, read, all) = (one, inl read)
+
+  pub unanswered : (number : ℕ) (old new : A) (input input' out : Option (List ℕ)) (line : List ℕ) (goes_on : Bool) (fault : Fault) → ReadsLine input input' line (Ok goes_on) → fault ≡ Stopped Memory → Asks Answers old new → TakesLine Answers number old new input input' out out (Err fault)
+  unanswered number old new input input' out line goes_on fault reads is asks =
+      subst (λ (f : Fault). TakesLine Answers number old new input input' out out (Err f)) (sym is) (line, came_in input input' line goes_on reads, (asks, refl))
+
+  pub unwritten : (number : ℕ) (old new : A) (input input' out out' : Option (List ℕ)) (line : List ℕ) (goes_on : Bool) (text : List ℕ) (fault : Fault) → ReadsLine input input' line (Ok goes_on) → fault ≡ Stopped WriteFailed → TellsLine Answers number line old new text
+      → TakesLine Answers number old new input input' out out' (Err fault)
+  unwritten number old new input input' out out' line goes_on text fault reads is tells =
+      subst (λ (f : Fault). TakesLine Answers number old new input input' out out' (Err f)) (sym is) (line, came_in input input' line goes_on reads, (text, tells))
+
+  -- a line that is no command
+  pub no_command : (number : ℕ) (line text : List ℕ) (a : A) (empty : List ℕ) → empty ≡ [] → IsNoTyped line → text ≡ empty ++ no_command_text number → TellsLine Answers number line a a text
+  no_command number line text a empty none is_none is = inr (is_none, refl, is ∙ ap (λ (t : List ℕ). t ++ no_command_text number) none)
+
+  -- ---- lines
+
+  tell_more : (lines : List (List ℕ)) (number : ℕ) (line : List ℕ) (old mid new : A) (texts : List (List ℕ)) (text : List ℕ) → TellAll Answers number lines old mid texts → length line ≤ 16777216 → TellsLine Answers (number + length lines) line mid new text
+      → TellAll Answers number (lines ++ line ∷ []) old new (texts ++ text ∷ [])
+  unfolding TellAll
+  tell_more [] number line old mid new [] text (same, none) short tells =
+      (new, short, subst (λ (a : A). TellsLine Answers number line a new text) same (subst (λ (n : ℕ). TellsLine Answers n line mid new text) (omega arith) tells), (refl, refl))
+  tell_more [] number line old mid new (first ∷ texts) text (same, none) short tells = absurd cc
+  tell_more (first ∷ lines) number line old mid new [] text told short tells = absurd told
+  tell_more (first ∷ lines) number line old mid new (printed ∷ texts) text (between, fits, one, others) short tells =
+      let counted : number + length (first ∷ lines) ≡ (number + 1) + length lines = omega arith in
+      (between, fits, one, tell_more lines (number + 1) line between mid new texts text others short (subst (λ (n : ℕ). TellsLine Answers n line mid new text) counted tells))
+
+  told_more : (lines : List (List ℕ)) (line : List ℕ) (old mid new : A) (out now out' : Option (List ℕ)) (text : List ℕ) → Told Answers lines old mid out now → length line ≤ 16777216 → TellsLine Answers (length lines + 1) line mid new text → Appends now out' text
+      → Told Answers (lines ++ line ∷ []) old new out out'
+  told_more lines line old mid new out now out' text told short tells appends = record {
+    texts = told.texts ++ text ∷ [];
+    told = tell_more lines 1 line old mid new told.texts text told.told short (subst (λ (n : ℕ). TellsLine Answers n line mid new text) (omega arith) tells);
+    written = subst (Appends out out') (sym (concat-append told.texts (text ∷ []) ∙ ap (λ (t : List ℕ). concat told.texts ++ t) (append-nil text))) (appends_on out now out' (concat told.texts) text told.written appends);
+  }
+
+  -- The lines before the one of a number were told, and all that was read is their text
+  pub record Far (old new : A) (input input' out out' : Option (List ℕ)) (number : ℕ) : Type 0 where
+    pub before : List (List ℕ)
+    pub counted : number ≡ length before + 1
+    pub text : List ℕ
+    pub read : Consumes input input' text
+    pub lines : (more : List ℕ) → lines_of (text ++ more) ≡ before ++ lines_of more
+    pub told : Told Answers before old new out out'
+
+  pub begins : (a : A) (input out : Option (List ℕ)) → Far a a input input out out 1
+  unfolding TellAll
+  begins a input out = record {
+    before = [];
+    counted = refl;
+    text = [];
+    read = consumes_none input;
+    lines = λ more. refl;
+    told = record { texts = []; told = (refl, refl); written = appends_none out };
+  }
+
+  at_number : (m n : ℕ) (line : List ℕ) (old new : A) (text : List ℕ) → m ≡ n → TellsLine Answers m line old new text → TellsLine Answers n line old new text
+  at_number m n line old new text same tells = subst (λ (k : ℕ). TellsLine Answers k line old new text) same tells
+
+  pub goes_on : (old mid new : A) (input now input' out so_far out' : Option (List ℕ)) (number : ℕ) → Far old mid input now out so_far number → TakesLine Answers number mid new now input' so_far out' (Ok true) → Far old new input input' out out' (number + 1)
+  goes_on old mid new input now input' out so_far out' number far (line, text, (one, short, read), tells, appends) = record {
+    before = far.before ++ line ∷ [];
+    counted = omega (arith, far.counted, length-append far.before (line ∷ []));
+    text = far.text ++ (line ++ 10 ∷ []);
+    read = consumes_on input now input' far.text (line ++ 10 ∷ []) far.read read;
+    lines = λ more. ap lines_of (append_assoc far.text (line ++ 10 ∷ []) more ∙ ap (λ (t : List ℕ). far.text ++ t) (append_assoc line (10 ∷ []) more)) ∙ far.lines (line ++ 10 ∷ more)
+        ∙ ap (λ (ls : List (List ℕ)). far.before ++ ls) (lines_fed line more one) ∙ sym (append_assoc far.before (line ∷ []) (lines_of more));
+    told = told_more far.before line old mid new out so_far out' text far.told short (at_number number (length far.before + 1) line mid new text far.counted tells) appends;
+  }
+
+  all_of : (input now : Option (List ℕ)) (text line : List ℕ) → Consumes input now text → IfSome now (λ all. all ≡ line) → IfSome input (λ all. all ≡ text ++ line)
+  all_of None now text line read is = tt
+  all_of (Some x) None text line read is = absurd read
+  all_of (Some x) (Some y) text line read is = read ∙ ap (λ (t : List ℕ). text ++ t) is
+
+  pub ends : (old mid new : A) (input now input' out so_far out' : Option (List ℕ)) (number : ℕ) (done : Unit {0}) → Far old mid input now out so_far number → TakesLine Answers number mid new now input' so_far out' (Ok false) → Shells Answers old new input input' out out' (Ok done)
+  ends old mid new input now input' out so_far out' number done far (line, text, (one, short, read, all), tells, appends) = record {
+    text = far.text ++ line;
+    read = consumes_on input now input' far.text line far.read read;
+    all = all_of input now far.text line far.read all;
+    lines = subst (λ (ls : List (List ℕ)). Told Answers ls old new out out') (sym (far.lines line ∙ ap (λ (ls : List (List ℕ)). far.before ++ ls) (lines_one line one)))
+        (told_more far.before line old mid new out so_far out' text far.told short (at_number number (length far.before + 1) line mid new text far.counted tells) appends);
+  }
+
+  breaks : (refusal : Refusal) (old mid new : A) (input now input' out so_far out' : Option (List ℕ)) (number : ℕ) (far : Far old mid input now out so_far number) (line more : List ℕ) (after : List (List ℕ)) → Consumes now input' more → lines_of more ≡ line ∷ after
+      → IsUntold Answers refusal number line mid new so_far out' → Shells Answers old new input input' out out' (Err (Stopped refusal))
+  breaks refusal old mid new input now input' out so_far out' number far line more after read is untold = record {
+    text = far.text ++ more;
+    read = consumes_on input now input' far.text more far.read read;
+    all = tt;
+    lines = record {
+      before = far.before;
+      line = line;
+      after = after;
+      parts = far.lines more ∙ ap (λ (ls : List (List ℕ)). far.before ++ ls) is;
+      between = mid;
+      so_far = so_far;
+      told = far.told;
+      untold = subst (λ (n : ℕ). IsUntold Answers refusal n line mid new so_far out') far.counted untold;
+    };
+  }
+
+  pub fails : (old mid new : A) (input now input' out so_far out' : Option (List ℕ)) (number : ℕ) (fault : Fault) → Far old mid input now out so_far number → TakesLine Answers number mid new now input' so_far out' (Err fault) → Shells Answers old new input input' out out' (Err fault)
+  fails old mid new input now input' out so_far out' number (Line at) far never = absurd never
+  fails old mid new input now input' out so_far out' number (Stopped refusal) far (line, (one, inl read), untold) =
+      breaks refusal old mid new input now input' out so_far out' number far line line [] read (lines_one line one) untold
+  fails old mid new input now input' out so_far out' number (Stopped refusal) far (line, (one, inr read), untold) =
+      breaks refusal old mid new input now input' out so_far out' number far line (line ++ 10 ∷ []) (lines_of []) read (lines_fed line [] one) untold
+
+  -- there are more lines than can be counted
+  pub counted_out : (old new : A) (input input' out out' : Option (List ℕ)) (number : ℕ) → Far old new input input' out out' number → number ≡ 2 ^ 64 - 1 → Shells Answers old new input input' out out' (Err (Stopped FrameTooLong))
+  unfolding lines_of
+  counted_out old new input input' out out' number far last =
+      breaks FrameTooLong old new new input input' input' out out' out' number far [] [] [] (consumes_none input') refl (refl, refl, inr last)
+
+  -- ---- all that was asked
+
+  asks_both : (old mid new : A) → Asks Answers old mid → Asks Answers mid new → Asks Answers old new
+  asks_both old mid new first then = record {
+    exchanges = first.exchanges ++ then.exchanges;
+    answered = answered_both Answers first.exchanges then.exchanges old mid new first.answered then.answered;
+  }
+
+  asks_same : (old new : A) → new ≡ old → Asks Answers old new
+  asks_same old new same = subst (λ (a : A). Asks Answers old a) (sym same) (asks_none old)
+
+  line_asks : (number : ℕ) (line : List ℕ) (old new : A) (text : List ℕ) → TellsLine Answers number line old new text → Asks Answers old new
+  line_asks number line old new text (inl (utf8, inl (nothing, same, none))) = asks_same old new same
+  line_asks number line old new text (inl (utf8, inr (Help, is, (same, help)))) = asks_same old new same
+  line_asks number line old new text (inl (utf8, inr (Asked ask, is, prints))) = record { exchanges = prints.talks.exchanges; answered = prints.talks.answered }
+  line_asks number line old new text (inr (none, same, told)) = asks_same old new same
+
+  all_ask : (lines : List (List ℕ)) (number : ℕ) (old new : A) (texts : List (List ℕ)) → TellAll Answers number lines old new texts → Asks Answers old new
+  unfolding TellAll
+  all_ask [] number old new texts (same, none) = asks_same old new same
+  all_ask (line ∷ lines) number old new [] told = absurd told
+  all_ask (line ∷ lines) number old new (text ∷ texts) (between, short, one, others) = asks_both old between new (line_asks number line old between text one) (all_ask lines (number + 1) between new texts others)
+
+  -- whatever became of the next line
+  pub far_asks : (old mid new : A) (input input' out out' : Option (List ℕ)) (number : ℕ) → Far old mid input input' out out' number → Asks Answers mid new → Asks Answers old new
+  far_asks old mid new input input' out out' number far asks = asks_both old mid new (all_ask far.before 1 old mid far.told.texts far.told.told) asks

@@ -1,0 +1,12 @@
+use Rattle.std.proofs.Common.{ap, rules}
+use Rattle.mvd_replica.proofs.Sides.{follows_by}
+use Rattle.mvd_replica.specs.declared.replica.Replica.{Replica}
+use Rattle.mvd_app.proofs.endpoint.ReplicaEndpoint.ask.Goals as goal
+
+pub returns : goal.returns
+returns g c =
+    let said = c.answer-reply.ensures in
+    record {
+      replies = said.answer;
+      follows = follows_by _ _ c.args.request c.answer-reply.result _ _ said.config (λ broken. ap (λ r. r.site) (said.stays broken)) (λ broken. search (rules, said.stays broken)) said.before said.records said.clean said.taken said.broken said.states said.stored;
+    }

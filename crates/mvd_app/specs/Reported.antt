@@ -1,0 +1,28 @@
+-- What is printed of a session with a server, and of all that a site holds.
+use Rattle.std.specs.Prelude.{ℕ, ◌≡◌, List, [], ◌++◌, codes, nat_lt, if◌then◌else◌, Option, Some, Result, Ok, Err}
+use Rattle.std.specs.Fmt.{decimal}
+use Rattle.std.specs.Io.KnownBytes.{Appends}
+use Rattle.hex.specs.Hex.{encode_lower}
+use Rattle.mvd_print.specs.Text.{keys_text}
+use Rattle.mvd_site.specs.Answer.{digests, node_digests}
+use Rattle.mvd_site.specs.Held.{States}
+use Rattle.mvd_sync.specs.declared.report.Report.{Report}
+use Rattle.mvd_app.specs.declared.hint.Hint.TheVariants.{Left}
+use Rattle.mvd_app.specs.declared.hint.Stop.{Stop}
+
+-- the digest of all that is held
+abbrev pub root_text : States → List ℕ
+root_text states = codes "root " ++ encode_lower (node_digests (digests states) []).own ++ codes "\n"
+
+-- how many keys were refused, where some were
+abbrev pub refused_text : ℕ → List ℕ
+refused_text count = if nat_lt 0 count then codes "refused " ++ decimal count ++ codes "\n" else []
+
+-- how many keys a session exchanged and refused, and the digest of all that the site holds then
+abbrev pub session_text : Report → States → List ℕ
+session_text report states = keys_text report.keys ++ (refused_text report.refused ++ root_text states)
+
+-- All is printed of a session that left no key, and of one that left some, for which the command is stopped
+abbrev pub Reports : Report → States → Option (List ℕ) → Option (List ℕ) → Result (Unit {0}) Stop → Type 0
+Reports report states out out' (Ok done) = (report.first_refused ≡ []) × Appends out out' (session_text report states)
+Reports report states out out' (Err stop) = stop.hint ≡ Some Left → Appends out out' (session_text report states)

@@ -81,10 +81,12 @@ fn first_frame(bytes: &[u8]) -> (&[u8], &[u8]) {
 }
 
 /// Whether a put and the question behind it may be answered so, where the put is there afterwards or not. The put that breaks the
-/// site is there; of those behind it only such as share its commit may be.
+/// site is there; of those behind it only such as share its commit may be. Where puts share a commit, a later one may break the site
+/// before the question is asked.
 fn may_tell(put: Told, question: Told, is_there: bool, was_broken: bool, shares: bool) -> bool {
     match (put, question) {
         (Told::Wanted, Told::Wanted | Told::Refused | Told::Nothing) => is_there,
+        (Told::Wanted, Told::Broken) => shares && is_there,
         (Told::Refused, Told::Wanted | Told::Nothing) => !is_there,
         (Told::Nothing, Told::Nothing) => !is_there,
         (Told::Broken, Told::Broken) => is_there != was_broken || (shares && is_there),

@@ -6,7 +6,7 @@ use Rattle.mvd_wire.specs.declared.request.Request.TheVariants.{Bye}
 use Rattle.mvd_wire.specs.declared.reply.Reply.TheVariants.{Done}
 use Rattle.mvd_site.specs.Held.{States}
 use Rattle.mvd_sync.specs.Lines.{AnswersTruly}
-use Rattle.mvd_sync.specs.Session.{HasJoined, Meets, Tells}
+use Rattle.mvd_sync.specs.Session.{HasJoined, Meets, ReportsDone}
 use Rattle.mvd_sync.specs.declared.report.Report.{Report}
 use Rattle.mvd_sync.specs.declared.report.SyncFault.{SyncFault}
 
@@ -19,7 +19,7 @@ bye_keeps most old new (Err refusal) (inr (inr (e, inl same))) = same
 bye_keeps most old new (Err refusal) (inr (inr (e, inr h))) = h.1
 
 -- what two sides came to have, they have after it
-pub after_bye : (local_true peer_true later_true : Type 0) (most_local most_peer : ℕ) (number : Option ℕ) (a b a' b' b'' : States) (result told : Result Report SyncFault) (m : Meets local_true peer_true most_local most_peer number a b a' b' result) → peer_true → b'' ≡ b' → IfOk told (Tells most_local most_peer number a b m.joined m.given) → Meets local_true later_true most_local most_peer number a b a' b'' told
+pub after_bye : (local_true peer_true later_true : Type 0) (most_local most_peer : ℕ) (number : Option ℕ) (a b a' b' b'' : States) (result told : Result Report SyncFault) (m : Meets local_true peer_true most_local most_peer number a b a' b' result) → peer_true → b'' ≡ b' → IfOk told (ReportsDone most_local most_peer number a b m.joined m.given) → Meets local_true later_true most_local most_peer number a b a' b'' told
 after_bye local_true peer_true later_true most_local most_peer number a b a' b' b'' result told m t same tells = record {
   joined = m.joined;
   given = m.given;

@@ -67,7 +67,7 @@ TellsRead ask (Err refusal) exchanges told = (exchanges ≡ []) × (told ≡ Err
 TellsRead ask (Ok request) exchanges told = TellsPages ask request exchanges told
 
 -- What a line asks, with the replies, and what is told of it
-pub record Tells (ask : Ask) (exchanges : List Exchange) (told : Result (List ℕ) Refusal) : Type 0 where
+pub record TellsAsk (ask : Ask) (exchanges : List Exchange) (told : Result (List ℕ) Refusal) : Type 0 where
   pub first : List Exchange
   pub rest : List Exchange
   pub all : exchanges ≡ first ++ rest
@@ -90,7 +90,7 @@ told_text (Err refusal) = refused_text refusal
 pub record Talks {A : Type 0} (Answers : A → A → Request → Reply → Type 0) (asked asked' : A) (ask : Ask) (told : Result (List ℕ) Refusal) : Type 0 where
   pub exchanges : List Exchange
   pub answered : Answered Answers exchanges asked asked'
-  pub tells : Tells ask exchanges told
+  pub tells : TellsAsk ask exchanges told
 
 -- the same of pages alone, from a request on
 pub record TalksPages {A : Type 0} (Answers : A → A → Request → Reply → Type 0) (asked asked' : A) (ask : Ask) (request : Request) (told : Result (List ℕ) Refusal) : Type 0 where

@@ -2,24 +2,24 @@
 #![tactic(auto)]
 
 mod commands;
-mod ending;
+mod endings;
 mod endpoint;
 mod head;
 mod hint;
-mod lines;
+mod line_reader;
 mod link;
 mod looping;
 mod many;
 mod output;
 mod pages;
+mod peers;
 mod play;
 mod printing;
 mod progress;
-mod requests;
 mod script;
-mod serving;
 mod shell;
 mod talk;
+mod text_requests;
 
 pub use commands::run;
 pub use endpoint::Endpoint;
@@ -28,6 +28,6 @@ pub use link::{Incoming, Link, Outgoing};
 pub use looping::loop_run;
 pub use many::{Terms, serve_run};
 pub use output::Output;
+pub use peers::{replica_in, sync_run, tell_report};
 pub use script::sim;
-pub use serving::{replica_in, sync_run, tell_report};
 pub use shell::{remote_shell_run, shell_run};

@@ -2,7 +2,7 @@
 ghost use Rattle.std.specs.Prelude.{◌<◌, ◌≤◌, length};
 ghost use Rattle.mvd_wire.specs.Frames.{frame_limit};
 
-use crate::ending::How;
+use crate::endings::How;
 use mvd_dots::Refusal;
 use mvd_input::{BYTES_MAX, Fault, HEX_MAX, hex_bytes, read_input, write_out};
 use mvd_replica::{Ended, Replica, serve};

@@ -3,15 +3,15 @@ ghost use Rattle.mvd_app.specs.Stored.{IsServed};
 ghost use Rattle.sqlite.specs.Held.{state as store};
 
 mod client;
-mod counts;
 mod crowd;
 mod door;
 mod gate;
+mod metrics;
 mod talks;
 mod timers;
 
 use crate::hint::Stop;
-use crate::serving::{print_root, tell};
+use crate::peers::{print_root, tell};
 use crowd::Crowd;
 use door::{Door, FRAMES, HTTP};
 use mio::{Events, Poll};

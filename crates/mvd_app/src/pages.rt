@@ -3,7 +3,7 @@ ghost use Rattle.std.specs.Prelude.{Some};
 ghost use Rattle.mvd_dots.specs.Answer.{IsAnswer};
 ghost use Rattle.mvd_app.specs.Asked.{next_asked, next_places, next_rows};
 
-use crate::requests::{find_of, range_of, rows_of};
+use crate::text_requests::{find_of, range_of, rows_of};
 use mvd_docs::Term;
 use mvd_dots::Refusal;
 use mvd_input::Ask;

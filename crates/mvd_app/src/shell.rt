@@ -8,9 +8,9 @@ ghost use Rattle.mvd_app.specs.Talk.{Asks};
 
 use crate::endpoint::Endpoint;
 use crate::hint::{Hint, Stop};
-use crate::lines::read_line;
+use crate::line_reader::read_line;
 use crate::link::Link;
-use crate::serving::{connected, tell};
+use crate::peers::{connected, tell};
 use crate::talk::answer;
 use mvd_dots::Refusal;
 use mvd_input::{Fault, Typed, text_of, typed_of};

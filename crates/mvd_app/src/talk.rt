@@ -5,7 +5,7 @@ ghost use Rattle.mvd_app.specs.Talk.{Asks, Prints_line, Shows, Speaks, SpeaksPag
 use crate::endpoint::Endpoint;
 use crate::pages::next_page;
 use crate::printing::print_answer;
-use crate::requests::request_of;
+use crate::text_requests::request_of;
 use mvd_dots::Refusal;
 use mvd_input::Ask;
 use mvd_print::print_refusal;

@@ -1,7 +1,7 @@
 //! Requests that are answered at once: as one after the other, and with one growth refused.
-use super::calls::{conn_of, memory, new_replica, opened, or_refusal, root_of};
 use super::memory::request_of;
-use super::random::Maker;
+use super::random_frames::Maker;
+use super::replica_calls::{conn_of, memory, new_replica, opened, or_refusal, root_of};
 use mvd_dots::Refusal;
 use mvd_replica::Replica;
 use mvd_wire::{Reply, Request, decode_request, encode_reply, read_frame};

@@ -1,5 +1,5 @@
 //! Bytes that are no request, or those of another.
-use super::calls::{Bytes, CLASH, GET, PUT, ROOM, WIDE, new_replica, replies, served_on};
+use super::replica_calls::{Bytes, CLASH, GET, PUT, ROOM, WIDE, new_replica, replies, served_on};
 use mvd_dots::Refusal;
 use mvd_replica::Replica;
 use mvd_wire::{Frame, decode_reply, read_frame};

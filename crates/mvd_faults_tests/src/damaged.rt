@@ -1,5 +1,5 @@
 //! Records that are damaged, and files that are.
-use super::calls::{Root, conn_of, or_refusal, push, replies, root_of, run};
+use super::replica_calls::{Root, conn_of, or_refusal, push, replies, root_of, run};
 use super::stops::{connected, in_files, no_files};
 use mvd_dots::Refusal;
 use mvd_replica::Replica;

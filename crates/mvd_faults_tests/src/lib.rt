@@ -3,13 +3,11 @@
 #![tactic(auto)]
 
 #[cfg(test)]
-mod asked;
+mod asked_sites;
 #[cfg(test)]
 mod batches;
 #[cfg(test)]
 mod bytes;
-#[cfg(test)]
-mod calls;
 #[cfg(test)]
 mod damaged;
 #[cfg(test)]
@@ -17,9 +15,11 @@ mod memory;
 #[cfg(test)]
 mod poisoned;
 #[cfg(test)]
-mod random;
+mod random_frames;
 #[cfg(test)]
 mod reopened;
+#[cfg(test)]
+mod replica_calls;
 #[cfg(test)]
 mod scale;
 #[cfg(test)]
@@ -27,4 +27,4 @@ mod stops;
 #[cfg(test)]
 mod streams;
 #[cfg(test)]
-mod worlds;
+mod world_steps;

@@ -1,10 +1,10 @@
 //! One growth that is refused, whichever it is: tools/faults.sh refuses each in turn. With none refused all is as ever.
-use super::asked::{ASKED, Asked};
-use super::calls::{
+use super::asked_sites::{ASKED, Asked};
+use super::damaged::{OLD, ONE};
+use super::replica_calls::{
     Bytes, EMPTY, GET, PUT, STATE, Told, WRITTEN, asks, asks_again, config, conn_of, memory,
     new_replica, opened, or_refusal, run, serves, tells,
 };
-use super::damaged::{OLD, ONE};
 use super::stops::OLD_ROWS;
 use mvd_dots::Refusal;
 use mvd_replica::Replica;

@@ -1,5 +1,5 @@
 //! Sessions of two stored sites: past a key whose join is too long, and with one commit for a window.
-use super::calls::{memory, new_replica, opened, or_refusal};
+use super::replica_calls::{memory, new_replica, opened, or_refusal};
 use super::stops::{fused, in_files, no_files};
 use mvd_docs::Document;
 use mvd_dots::{Context, Refusal};

@@ -1,5 +1,7 @@
 //! Records that are opened again, by the same site and by another.
-use super::calls::{GET, PUT, STATE, WRITTEN, conn_of, gives, new_replica, opened, or_refusal};
+use super::replica_calls::{
+    GET, PUT, STATE, WRITTEN, conn_of, gives, new_replica, opened, or_refusal,
+};
 use mvd_dots::Refusal;
 use mvd_replica::Replica;
 use sqlite::{Connection, MemStore};

@@ -1,5 +1,5 @@
 //! States at their limits: each request in time.
-use super::calls::{new_replica, push, replies};
+use super::replica_calls::{new_replica, push, replies};
 use mvd_replica::Replica;
 use sqlite::MemStore;
 use std::alloc::Global;

@@ -1,7 +1,9 @@
 //! Files that stop before some call, and are opened again.
-use super::calls::{Bytes, Root, conn_of, new_replica, opened, or_refusal, root_of, run, serves};
 use super::damaged::{OLD, ONE};
 use super::memory::request_of;
+use super::replica_calls::{
+    Bytes, Root, conn_of, new_replica, opened, or_refusal, root_of, run, serves,
+};
 use mvd_dots::Refusal;
 use mvd_replica::Replica;
 use mvd_sync::sync_within;

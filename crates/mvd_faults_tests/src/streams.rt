@@ -1,5 +1,5 @@
 //! Readers and writers that fail in the middle, and such as give and take a byte a call.
-use super::calls::{
+use super::replica_calls::{
     BAD_CONTEXT, BYE, Bytes, CLASH, CLASHES, DONE, EMPTY, GET, PUT, ROOM, STATE, Told, WIDE,
     WRITTEN, asks, new_replica, served_on,
 };

@@ -10,7 +10,7 @@ use Rattle.mvd_replica.specs.Turns.{Turn}
 use Rattle.mvd_host.specs.Hosts.{AdmitsOne, HostValue, Leaves, altered, altered_if, client_in, client_of, new_host, with_client}
 use Rattle.mvd_host.specs.Course.{AreQueued, Both, asked_by, own}
 use Rattle.mvd_host.specs.Round.{Course, Round, Serves, turns_of}
-use Rattle.mvd_host.specs.Runs.{Call, Calls, Closes, Comes, Cuts, Feeds, Goes, Happening, May, Moment, OneList, Releases, Rounds, Runs, Sends, Tells, after_call, after_one, after_run, side_of, turns_at, turns_in}
+use Rattle.mvd_host.specs.Runs.{Call, Calls, Closes, Comes, Cuts, Feeds, Goes, Happening, May, Moment, OneList, Releases, Rounds, Runs, Sends, TellsOwn, after_call, after_one, after_run, side_of, turns_at, turns_in}
 use Rattle.mvd_host.proofs.Hosts.{at_is}
 use Rattle.mvd_host.proofs.Own.{own-append}
 use Rattle.mvd_host.proofs.RoundLemmas.{was}
@@ -89,7 +89,7 @@ call_answers (Closes source) h = refl
 call_answers (Sends count) h = refl
 call_answers Cuts h = refl
 
-tells_call : (turns : List Turn) (call : Call) (h : History) → Tells turns h → Tells turns (after_call call h)
+tells_call : (turns : List Turn) (call : Call) (h : History) → TellsOwn turns h → TellsOwn turns (after_call call h)
 tells_call turns call h t = record {
   asked = ap (map asked_by) (call_taken call h) ∙ t.asked;
   told = subst (AreQueued (map (λ (t : Turn). t.reply) turns)) (sym (call_answers call h)) t.told;
@@ -99,7 +99,7 @@ tells_call turns call h t = record {
 
 pub record SoFar {C : Type 0} (f : C → State) (old : Moment C) (turns : List (ℕ × Turn)) (side : Moment C) : Type 0 where
   pub serves : Serves (turns_of turns) old.site side.site (f old.conn) (f side.conn)
-  pub tells : (n : ℕ) (h : History) → client_of side.host n ≡ Some h → Tells (own n turns) h
+  pub tells : (n : ℕ) (h : History) → client_of side.host n ≡ Some h → TellsOwn (own n turns) h
   pub given : (n : ℕ) (h : History) → client_of side.host n ≡ Some h → n < side.host.admitted
   pub later : (n : ℕ) → side.host.admitted ≤ n → own n turns ≡ []
 
@@ -114,8 +114,8 @@ begins f side empty = record {
   later = λ n above. refl;
 }
 
-tells_none : (turns : List Turn) (h : History) → turns ≡ [] → h ≡ new_history → Tells turns h
-tells_none turns h none new = subst (λ l. Tells l h) (sym none) (subst (Tells []) (sym new) (record { asked = refl; told = tt }))
+tells_none : (turns : List Turn) (h : History) → turns ≡ [] → h ≡ new_history → TellsOwn turns h
+tells_none turns h none new = subst (λ l. TellsOwn l h) (sym none) (subst (TellsOwn []) (sym new) (record { asked = refl; told = tt }))
 
 came : {C : Type 0} (f : C → State) → (old : Moment C) (turns : List (ℕ × Turn)) (side : Moment C) (n : ℕ) (host : HostValue) → AdmitsOne side.host host n → SoFar f old turns side → SoFar f old turns (record side { host = host })
 came f old turns side n host one s = record {
@@ -125,7 +125,7 @@ came f old turns side n host one s = record {
   later = λ q above. let next = one.next in s.later q (omega (arith, above, next));
 }
   where
-    on : (q : ℕ) (h : History) (b : Bool) → (q == n) ≡ b → cond (q == n) (Some new_history) (client_of side.host q) ≡ Some h → Tells (own q turns) h
+    on : (q : ℕ) (h : History) (b : Bool) → (q == n) ≡ b → cond (q == n) (Some new_history) (client_of side.host q) ≡ Some h → TellsOwn (own q turns) h
     on q h true is found =
         let some : ◌≡◌ {A = Option History} (Some new_history) (Some h) = sym (ap (λ b. cond b (Some new_history) (client_of side.host q)) is) ∙ found in
         let eq : new_history ≡ h = cc in
@@ -162,12 +162,12 @@ was_called f old turns side n call s =
     let same : (altered side.host n (after_call call)).admitted ≡ side.host.admitted = admitted_called side.host n (after_call call) (client_of side.host n) in
     record {
       serves = s.serves;
-      tells = called side.host n (after_call call) (λ q h. Tells (own q turns) h) (λ q h t. tells_call (own q turns) call h t) s.tells;
+      tells = called side.host n (after_call call) (λ q h. TellsOwn (own q turns) h) (λ q h t. tells_call (own q turns) call h t) s.tells;
       given = λ q h found. subst (λ a. q < a) (sym same) (called side.host n (after_call call) (λ q h. q < side.host.admitted) (λ q h below. below) s.given q h found);
       later = λ q above. s.later q (subst (λ a. a ≤ q) same above);
     }
 
-tells_on : (first second : List Turn) (h k : History) → Tells first h → Course second h k → Tells (first ++ second) k
+tells_on : (first second : List Turn) (h k : History) → TellsOwn first h → Course second h k → TellsOwn (first ++ second) k
 tells_on first second h k t c = record {
   asked = ap (map asked_by) c.taken ∙ map-append asked_by h.taken c.frames ∙ ap₂ (λ a b. a ++ b) t.asked c.asked ∙ sym (map-append (λ (t : Turn). t.asked) first second);
   told = subst (AreQueued (map (λ (t : Turn). t.reply) (first ++ second))) (sym c.answers)
@@ -185,7 +185,7 @@ answered f old turns side ready more new r s = record {
       (serves_on (turns_of turns) (turns_of more) old.site side.site new.site (f old.conn) (f side.conn) (f new.conn) s.serves r.serves);
   tells = λ n k found.
       let h = was (client_of side.host n) k (Course (own n more)) (subst (λ o. Both (client_of side.host n) o (Course (own n more))) found (r.clients n)) in
-      subst (λ l. Tells l k) (sym (own-append n turns more)) (tells_on (own n turns) (own n more) h.0 k (s.tells n h.0 h.1) h.2);
+      subst (λ l. TellsOwn l k) (sym (own-append n turns more)) (tells_on (own n turns) (own n more) h.0 k (s.tells n h.0 h.1) h.2);
   given = λ n k found.
       let h = was (client_of side.host n) k (Course (own n more)) (subst (λ o. Both (client_of side.host n) o (Course (own n more))) found (r.clients n)) in
       subst (λ a. n < a) (sym r.admitted) (s.given n h.0 h.1);
@@ -263,7 +263,7 @@ turns-append [] ys = refl
 turns-append (x ∷ xs) ys = ap (λ l. turns_at x ++ l) (turns-append xs ys) ∙ sym (append_assoc (turns_at x) (turns_in xs) (turns_in ys))
 
 pub tells_gone : {C : Type 0} (f : C → State) → (side : Moment C) (before after : List (Happening C)) (n : ℕ) (host : HostValue) (h : History) → side.host ≡ new_host → Runs f side before → Runs f (after_run side before) (Goes n host ∷ after)
-    → client_of (after_run side before).host n ≡ Some h → Tells (own n (turns_in (before ++ Goes n host ∷ after))) h
+    → client_of (after_run side before).host n ≡ Some h → TellsOwn (own n (turns_in (before ++ Goes n host ∷ after))) h
 tells_gone f side before after n host h empty first second found =
     let s = so_far f side before empty first in
     let mid = after_run side before in
@@ -273,4 +273,4 @@ tells_gone f side before after n host h empty first second found =
     let nothing : own n (turns_in after) ≡ [] = gone_for_good f n (record mid { host = host }) after second.1 gone in
     let all : own n (turns_in (before ++ Goes n host ∷ after)) ≡ own n (turns_in before) =
     ap (own n) (turns-append before (Goes n host ∷ after)) ∙ own-append n (turns_in before) (turns_in after) ∙ ap (λ l. own n (turns_in before) ++ l) nothing ∙ append-nil (own n (turns_in before)) in
-    subst (λ l. Tells l h) (sym all) (s.tells n h found)
+    subst (λ l. TellsOwn l h) (sym all) (s.tells n h found)

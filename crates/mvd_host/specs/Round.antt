@@ -4,7 +4,7 @@ use Rattle.std.specs.List.{AllByRecursion}
 use Rattle.mvd_wire.specs.Frames.{FrameValue}
 use Rattle.mvd_conn.specs.History.{History}
 use Rattle.mvd_site.specs.Sites.{SiteValue}
-use Rattle.mvd_replica.specs.Turns.{Event, IsToldElse, Replies, StandsOn, Tells, Turn}
+use Rattle.mvd_replica.specs.Turns.{Event, IsToldElse, Replies, StandsOn, TellsTurns, Turn}
 use Rattle.mvd_replica.specs.Batch.{TurnsFollow}
 use Rattle.mvd_host.specs.Hosts.{HostValue, client_of}
 use Rattle.mvd_host.specs.Course.{AreQueued, Both, IsOut, NoneMoved, asked_by, own}
@@ -26,7 +26,7 @@ pub record Serves (turns : List Turn) (old new : SiteValue) (before after : Stat
   pub replies : Replies old new turns
   pub stands : StandsOn old new turns
   pub config : new.config ≡ old.config
-  pub choice : (events : List Event) × Tells events turns
+  pub choice : (events : List Event) × TellsTurns events turns
   pub told : new.broken ≡ false → AllByRecursion IsToldElse turns
   pub follows : TurnsFollow turns old new before after
 

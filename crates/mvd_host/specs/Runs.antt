@@ -78,11 +78,11 @@ Runs f side (x ∷ xs) = May f side x × Runs f (after_one side x) xs
 
 -- The frames that were taken of a client are those of these turns, in order, and what was queued for it are the frames of their
 -- replies, in order
-pub record Tells (turns : List Turn) (h : History) : Type 0 where
+pub record TellsOwn (turns : List Turn) (h : History) : Type 0 where
   pub asked : map asked_by h.taken ≡ map (λ t. t.asked) turns
   pub told : AreQueued (map (λ t. t.reply) turns) h.answers
 
 -- The turns of the list are those of one replica, and what each client asked and was told are its own turns
 pub record OneList (turns : List (ℕ × Turn)) (old new : Side) : Type 0 where
   pub serves : Serves (turns_of turns) old.site new.site old.store new.store
-  pub clients : (n : ℕ) (h : History) → client_of new.host n ≡ Some h → Tells (own n turns) h
+  pub clients : (n : ℕ) (h : History) → client_of new.host n ≡ Some h → TellsOwn (own n turns) h

@@ -3,7 +3,7 @@ ghost use Rattle.std.specs.Prelude.{◌≡◌, ◌∷◌, ◌++◌, ℕ, List, S
 ghost use Rattle.mvd_conn.specs.History.{History};
 ghost use Rattle.mvd_host.specs.Course.{own};
 ghost use Rattle.mvd_host.specs.Hosts.{HostValue, client_of, new_host};
-ghost use Rattle.mvd_host.specs.Runs.{Goes, Happening, Moment, OneList, Runs, Tells, after_run, side_of, turns_in};
+ghost use Rattle.mvd_host.specs.Runs.{Goes, Happening, Moment, OneList, Runs, TellsOwn, after_run, side_of, turns_in};
 ghost use Rattle.sqlite.specs.Held.{Held, state};
 
 use sqlite::Alter;
@@ -18,5 +18,5 @@ pub fn rounds_are_one_list<S: Alter>()
         start.host ≡ new_host → Runs (state S.Store) start before →
         Runs (state S.Store) (after_run start before) (Goes n host ∷ after) →
         client_of (after_run start before).host n ≡ Some h →
-        Tells (own n (turns_in (before ++ Goes n host ∷ after))) h }
+        TellsOwn (own n (turns_in (before ++ Goes n host ∷ after))) h }
 {}

@@ -3,7 +3,7 @@
 ghost use Rattle.std.specs.Prelude.{◌≤◌, length};
 ghost use Rattle.mvd_host.specs.Hosts.{IfClient, client_of};
 
-use super::calls::{Bytes, CLASH, GET, PUT, ROOM, WIDE, new_replica, push, replies, root_of};
+use super::round_calls::{Bytes, CLASH, GET, PUT, ROOM, WIDE, new_replica, push, replies, root_of};
 use mvd_dots::Refusal;
 use mvd_host::{Host, Tally};
 use mvd_replica::Replica;

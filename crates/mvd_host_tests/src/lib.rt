@@ -2,10 +2,10 @@
 #![tactic(auto)]
 
 #[cfg(test)]
-mod calls;
-#[cfg(test)]
 mod clients;
 #[cfg(test)]
-mod memory;
+mod round_calls;
 #[cfg(test)]
-mod stops;
+mod round_memory;
+#[cfg(test)]
+mod round_stops;

@@ -9,10 +9,10 @@ ghost use Rattle.mvd_wire.specs.declared.request.Request.TheVariants.{Get};
 ghost use Rattle.mvd_http.specs.Asked.{then_read, key_in as key_read, IsAsked, IsContext, IsOfKey, IsQuestion, IsSeen, IsWrite, bound as bound_given, delete_of as deletes, index_asked, keys_asked, list_asked, named_list as list_named, put_of as puts, read_only, row_asked, row_or, rows_asked, under, verb_of as verb_read, view_asked};
 ghost use Rattle.mvd_http.specs.Paths.{without as left_behind};
 
-use crate::paths::{before, behind, given, without, without_end};
 use crate::place::place_if_given;
 use crate::question::{Methods, Question, Verb};
-use crate::reading::{
+use crate::target::{before, behind, given, without, without_end};
+use crate::target_parts::{
     document_in, field_in, key_if_given, key_in, path_in, term_if_given, term_in, view_in,
 };
 use mvd_dots::{Context, Refusal};

@@ -3,7 +3,7 @@ ghost use Rattle.std.specs.Prelude.{◌≡◌, option_copied};
 ghost use Rattle.std.specs.List.{list_all};
 ghost use Rattle.mvd_http.specs.Guard.{is_number_byte, is_origin as origin_own, is_own as request_own, is_safe_host as host_safe, is_safe_name as name_safe};
 
-use crate::paths::{before, without};
+use crate::target::{before, without};
 
 /// Whether the fields `Host` and `Origin` are those of such a request.
 pub fn is_own(host: Option<&[u8]>, origin: Option<&[u8]>) -> bool

@@ -4,18 +4,18 @@
 mod asked;
 pub mod fields;
 mod guard;
-mod lists;
+mod json_lists;
+mod json_words;
 mod page;
-mod paths;
 mod place;
 pub mod question;
-mod reading;
-mod replies;
-mod words;
+mod responses;
+mod target;
+mod target_parts;
 
 pub use asked::question_of;
 pub use fields::{Answer, Content, fill};
 pub use guard::is_own;
 pub use page::PAGE;
 pub use question::{Methods, Question, Verb};
-pub use replies::{push_root, refused_response, refused_status, response_of};
+pub use responses::{push_root, refused_response, refused_status, response_of};

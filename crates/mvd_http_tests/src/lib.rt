@@ -2,8 +2,8 @@
 #![tactic(auto)]
 
 #[cfg(test)]
-mod asked;
+mod asked_site;
 #[cfg(test)]
-mod keys;
+mod key_requests;
 #[cfg(test)]
-mod lists;
+mod list_requests;

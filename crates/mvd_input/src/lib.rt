@@ -3,15 +3,15 @@
 #![tactic(auto)]
 
 mod command;
-mod definitions;
+mod command_words;
+mod defs_file;
 mod fault;
 mod hexadecimal;
 mod input;
 mod order;
-mod words;
 
 pub use command::{Ask, Command, Line, Typed, View, line_of, typed_of};
-pub use definitions::{DEFS_MAX, add_index, add_view, read_defs, text_of};
+pub use defs_file::{DEFS_MAX, add_index, add_view, read_defs, text_of};
 pub use fault::Fault;
 pub use hexadecimal::{BYTES_MAX, HEX_MAX, first_line, hex_bytes};
 pub use input::{read_input, write_out};

@@ -6,7 +6,7 @@ ghost use Rattle.clap.specs.Words.{first_of};
 ghost use Rattle.mvd_input.specs.Orders.{HasPort, IsAddressOf, IsConns, IsDbOf, IsHttp, IsIdle, IsInRange, IsIpOf, IsPort, IsSeconds, IsSetUp, IsSetupOf, IsUnread, ReadsGiven, ReadsNumber, ReadsOptions, ReadsOrder, ReadsWords, is_given, is_word, names_server, options_of, sets_up};
 
 use crate::command::number_of;
-use crate::words::{command, command_of};
+use crate::command_words::{command, command_of};
 use clap::error::ErrorKind;
 use clap::parser::ValueSource;
 use clap::{ArgMatches, Command, Error};

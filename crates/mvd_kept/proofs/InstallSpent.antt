@@ -31,8 +31,8 @@ use Rattle.mvd_kept.specs.Costs.{Costs}
 use Rattle.mvd_kept.specs.Held.{States}
 use Rattle.mvd_kept.specs.Installs.{InstallCosts, TreeCosts, bytes_in, bytes_of, changes_in, digests_in, is_change, moved_in, moved_of, with_group, with_prepared}
 use Rattle.mvd_kept.specs.Sites.{SiteValue}
-use Rattle.mvd_kept.specs.declared.changes.Prepared.{Prepared}
-use Rattle.mvd_kept.specs.declared.changes.Prepared.TheVariants.{Answer, Change}
+use Rattle.mvd_kept.specs.declared.prepared.Prepared.{Prepared}
+use Rattle.mvd_kept.specs.declared.prepared.Prepared.TheVariants.{Answer, Change}
 use Rattle.mvd_kept.specs.declared.work.Work.{Work}
 use Rattle.mvd_kept.proofs.Installed.{digests_with, no_digests}
 use Rattle.mvd_kept.proofs.OpenCosted.{one_more_each}

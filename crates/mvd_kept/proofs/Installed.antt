@@ -18,8 +18,8 @@ use Rattle.mvd_kept.specs.Config.{ConfigValue}
 use Rattle.mvd_kept.specs.Held.{States}
 use Rattle.mvd_kept.specs.Installs.{MayAllBeIn, PutsAll, PutsIfWhole, PutsOne, changes_in, digests_in, is_change, with_group, with_one, with_prepared}
 use Rattle.mvd_kept.specs.Sites.{KeepsKeys, SiteValue, has_no_room}
-use Rattle.mvd_kept.specs.declared.changes.Prepared.{Prepared}
-use Rattle.mvd_kept.specs.declared.changes.Prepared.TheVariants.{Answer, Change}
+use Rattle.mvd_kept.specs.declared.prepared.Prepared.{Prepared}
+use Rattle.mvd_kept.specs.declared.prepared.Prepared.TheVariants.{Answer, Change}
 use Rattle.mvd_kept.proofs.HeldMaps.{room_left}
 
 -- ---- one

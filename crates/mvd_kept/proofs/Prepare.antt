@@ -23,8 +23,8 @@ use Rattle.mvd_kept.specs.Held.{States, state_at}
 use Rattle.mvd_kept.specs.Known.{Adds, Changes, MayReply}
 use Rattle.mvd_kept.specs.Prepared.{LimitsTo, Prepares, PreparesAnswer, PreparesAnswerFrom, PreparesChange, PreparesChangeFrom, PreparesFrom, PreparesFromStates, PreparesReply}
 use Rattle.mvd_kept.specs.Sites.{AnswersOne, SiteValue}
-use Rattle.mvd_kept.specs.declared.changes.Prepared.{Prepared}
-use Rattle.mvd_kept.specs.declared.changes.Prepared.TheVariants.{Answer, Change}
+use Rattle.mvd_kept.specs.declared.prepared.Prepared.{Prepared}
+use Rattle.mvd_kept.specs.declared.prepared.Prepared.TheVariants.{Answer, Change}
 use Rattle.mvd_kept.proofs.Answered.{answered, changed_alike, insert_differs, with_state-same, with_state-seen}
 use Rattle.mvd_kept.proofs.Steps.{Adds-change_of, Adds-nothing, Stands-insert, Stands-nothing, Stands-same, state_at-stands}
 

@@ -30,8 +30,8 @@ use Rattle.mvd_kept.specs.Held.{States, state_at}
 use Rattle.mvd_kept.specs.Prepared.{PreparesChangeFrom}
 use Rattle.mvd_kept.specs.Change.{ChangeValue}
 use Rattle.mvd_kept.specs.Sites.{KeepsKeys, SiteValue}
-use Rattle.mvd_kept.specs.declared.changes.Prepared.{Prepared}
-use Rattle.mvd_kept.specs.declared.changes.Prepared.TheVariants.{Answer, Change}
+use Rattle.mvd_kept.specs.declared.prepared.Prepared.{Prepared}
+use Rattle.mvd_kept.specs.declared.prepared.Prepared.TheVariants.{Answer, Change}
 use Rattle.mvd_kept.proofs.Answered.{insert_differs}
 use Rattle.mvd_kept.specs.declared.work.Work.{Work}
 

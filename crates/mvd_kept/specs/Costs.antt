@@ -20,8 +20,8 @@ use Rattle.mvd_kept.specs.Config.{ConfigValue}
 use Rattle.mvd_kept.specs.FromStates.{after_from, answer_from, change_from}
 use Rattle.mvd_kept.specs.Held.{key_digests, state_at}
 use Rattle.mvd_kept.specs.Sites.{SiteValue}
-use Rattle.mvd_kept.specs.declared.changes.Prepared.{Prepared}
-use Rattle.mvd_kept.specs.declared.changes.Prepared.TheVariants.{Answer}
+use Rattle.mvd_kept.specs.declared.prepared.Prepared.{Prepared}
+use Rattle.mvd_kept.specs.declared.prepared.Prepared.TheVariants.{Answer}
 use Rattle.mvd_kept.specs.declared.work.Work.{Work}
 
 -- nothing was done yet
@@ -67,8 +67,8 @@ PrepareCosts (Bucket path after) prepared = Costs 0 0 0 0 0
 PrepareCosts Bye prepared = Costs 0 0 0 0 0
 
 -- What it takes to give a key this state: besides what is looked up already, a look at its old one; for each sibling that stands in one of
--- the two alone, what each index and view cost; and six computations: of the key with its state, of the key's place, and of
--- the digests of its bucket, which are those of the keys with its place, and of three nodes
+-- the two alone, what each index and view cost; and six computations: of the key with its state, of the key's path, and of
+-- the digests of its bucket, which are those of the keys with its path, and of three nodes
 abbrev pub ChangeCosts : ℕ → SiteValue → Key → State → Work → Work → Type 0
 ChangeCosts looked site key s =
     let moved = differing (state_at site.states key) s in
@@ -104,7 +104,7 @@ abbrev pub all_bytes : List (Key × State) → ℕ
 all_bytes states = sum_by (λ e. length (spelled e.0 e.1)) states
 
 -- What it takes to open a site with these states: of each sibling what each index and view cost; and two computations for each
--- key, of the key with its state and of its place, and one for each of the 4,369 nodes
+-- key, of the key with its state and of its path, and one for each of the 4,369 nodes
 abbrev pub OpenCosts : ConfigValue → List (Key × State) → Work → Work → Type 0
 OpenCosts config states =
     Costs 0 (all_siblings states * looks_each config.defs) (all_siblings states * updates_each config.defs) (2 * length states + 4369)

@@ -17,8 +17,8 @@ use Rattle.mvd_kept.specs.Costs.{Costs}
 use Rattle.mvd_kept.specs.Held.{IsHeldState, States, state_at}
 use Rattle.mvd_kept.specs.Prepared.{IsChangeNow}
 use Rattle.mvd_kept.specs.Sites.{SiteValue, has_no_room}
-use Rattle.mvd_kept.specs.declared.changes.Prepared.{Prepared}
-use Rattle.mvd_kept.specs.declared.changes.Prepared.TheVariants.{Answer, Change}
+use Rattle.mvd_kept.specs.declared.prepared.Prepared.{Prepared}
+use Rattle.mvd_kept.specs.declared.prepared.Prepared.TheVariants.{Answer, Change}
 use Rattle.mvd_kept.specs.declared.work.Work.{Work}
 
 -- ---- one
@@ -119,8 +119,8 @@ TreeCosts held group =
     (bytes_in group + changed_bytes changes + 32 * keys_touched (changed_all held changes) changes + 512 * inner_touched changes)
 
 -- What it takes to put in a group: for each change a look at the key's old state and two computations, of the key with its state
--- and of the key's place; for each sibling that comes or goes what each index and view cost; and one computation of each
--- bucket with the place of a changed key, and of each node above one, however many of the keys stand there
+-- and of the key's path; for each sibling that comes or goes what each index and view cost; and one computation of each
+-- bucket with the path of a changed key, and of each node above one, however many of the keys stand there
 abbrev pub InstallCosts : SiteValue → List Prepared → Work → Work → Type 0
 InstallCosts site group =
     let moved = moved_in site.states group in

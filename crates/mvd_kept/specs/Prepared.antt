@@ -17,8 +17,8 @@ use Rattle.mvd_kept.specs.Held.{IsHeldState, States, state_at}
 use Rattle.mvd_kept.specs.FromStates.{after_from, answer_from, change_from, within}
 use Rattle.mvd_kept.specs.Sites.{SiteValue, has_no_room}
 use Rattle.mvd_kept.specs.Change.{ChangeValue, reply_of}
-use Rattle.mvd_kept.specs.declared.changes.Prepared.{Prepared}
-use Rattle.mvd_kept.specs.declared.changes.Prepared.TheVariants.{Answer, Change}
+use Rattle.mvd_kept.specs.declared.prepared.Prepared.{Prepared}
+use Rattle.mvd_kept.specs.declared.prepared.Prepared.TheVariants.{Answer, Change}
 
 -- An answer with nothing to change: the reply is the answer, and if it accepts a state, that is the state before
 pub record PreparesAnswer (config : ConfigValue) (known : List Write) (request : Request) (reply : Reply) : Type 0 where

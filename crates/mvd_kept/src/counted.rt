@@ -16,8 +16,8 @@ ghost use Rattle.mvd_kept.specs.Known.{Adds, IsValidRequest};
 ghost use Rattle.mvd_kept.specs.Prepared.{IsChangeNow, IsFrugal, IsReady, PreparesAt, PreparesFromStates};
 ghost use Rattle.mvd_kept.specs.Sites.{AnswersOne, has_no_room};
 
-use crate::changes::{Change, Prepared};
 use crate::kept::Kept;
+use crate::prepared::{Change, Prepared};
 use crate::work::Work;
 use mvd_dots::Refusal;
 use mvd_keys::{Key, KeyState};

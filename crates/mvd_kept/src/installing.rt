@@ -12,10 +12,10 @@ ghost use Rattle.mvd_kept.specs.Held.{IsHeldState, state_at};
 ghost use Rattle.mvd_kept.specs.Installs.{InstallCosts, InstallsAll, MayAllBeIn, MayBeIn, PutsIfWhole, TreeCosts, bytes_in, changes_in, digests_in, is_change, moved_in, moved_of};
 ghost use Rattle.mvd_kept.specs.Sites.{has_no_room};
 
-use crate::changes::{Change, Prepared};
 use crate::config::Config;
 use crate::held::Held;
 use crate::kept::Kept;
+use crate::prepared::{Change, Prepared};
 use crate::work::Work;
 use mvd_dots::Refusal;
 use mvd_keys::Key;

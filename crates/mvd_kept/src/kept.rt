@@ -14,9 +14,9 @@ ghost use Rattle.mvd_kept.specs.Known.{IsValidRequest};
 ghost use Rattle.mvd_kept.specs.Prepared.{IsFrugal, IsReady, LimitsTo, PreparesFrom, PreparesFromStates, PreparesReply};
 ghost use Rattle.mvd_kept.specs.Sites.{SiteValue, has_no_room};
 
-use crate::changes::{Change, Prepared, reply_of};
 use crate::config::Config;
 use crate::held::Held;
+use crate::prepared::{Change, Prepared, reply_of};
 use crate::work::{HeldLook, Work};
 use mvd_count::Count;
 use mvd_docs::Document;

@@ -2,7 +2,6 @@
 //! begin a count.
 #![tactic(auto)]
 
-mod changes;
 mod config;
 pub mod counted;
 mod held;
@@ -11,11 +10,12 @@ mod kept;
 pub mod laws;
 mod listing;
 mod opening;
+mod prepared;
 mod questions;
 mod work;
 
-pub use changes::{Change, Prepared};
 pub use config::Config;
 pub use kept::Kept;
 pub use opening::may_be_held;
+pub use prepared::{Change, Prepared};
 pub use work::{HeldLook, Work};

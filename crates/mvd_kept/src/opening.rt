@@ -15,11 +15,11 @@ ghost use Rattle.mvd_kept.specs.Costs.{Costs, OpenCosts, all_bytes};
 ghost use Rattle.mvd_kept.specs.Held.{AreHeld, IsHeldState, IsSpelled, key_digests};
 ghost use Rattle.mvd_kept.specs.Sites.{opened};
 
-use crate::changes::spelled_key_state;
 use crate::config::Config;
 use crate::held::Held;
 use crate::kept::Kept;
 use crate::listing::rows_of;
+use crate::prepared::spelled_key_state;
 use crate::work::Work;
 use mvd_dots::Refusal;
 use mvd_keys::{Key, KeyState};

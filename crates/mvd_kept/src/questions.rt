@@ -14,8 +14,8 @@ ghost use Rattle.mvd_kept.specs.Costs.{prepared_looks};
 ghost use Rattle.mvd_kept.specs.FromStates.{bucket_refusal, unless_broken};
 ghost use Rattle.mvd_kept.specs.Prepared.{IsReady, PreparesReply};
 
-use crate::changes::Prepared;
 use crate::kept::Kept;
+use crate::prepared::Prepared;
 use mvd_docs::{Field, Term, ViewName};
 use mvd_dots::{Dot, Refusal};
 use mvd_keys::{Key, Path, Place};

@@ -2,8 +2,8 @@
 #![tactic(auto)]
 
 #[cfg(test)]
-mod contexts;
+mod context_texts;
 #[cfg(test)]
 mod documents;
 #[cfg(test)]
-mod states;
+mod key_states;

@@ -2,12 +2,12 @@
 #![tactic(auto)]
 
 mod lines;
-mod lists;
-mod replies;
-mod states;
+mod reply_lines;
+mod row_lines;
+mod state_lines;
 mod words;
 
 pub use lines::{
     print_keys, print_left, print_message, print_more_left, print_none_such, print_refusal,
 };
-pub use replies::{print_reply, print_short};
+pub use reply_lines::{print_reply, print_short};

@@ -2,6 +2,6 @@
 #![tactic(auto)]
 
 #[cfg(test)]
-mod calls;
+mod in_tables;
 #[cfg(test)]
-mod memory;
+mod memory_file;

@@ -19,10 +19,10 @@ use Rattle.mvd_site.specs.FromStates.{answer_from, put_from, unless_broken}
 use Rattle.mvd_site.specs.Held.{States, state_at}
 use Rattle.mvd_site.specs.Sites.{SiteValue}
 use Rattle.mvd_site.specs.Prepared.{PreparesFromStates}
-use Rattle.mvd_kept.specs.declared.changes.Prepared.{Prepared}
+use Rattle.mvd_kept.specs.declared.prepared.Prepared.{Prepared}
 use Rattle.mvd_site.proofs.Answered.{limited_cases}
 use Rattle.mvd_site.proofs.Outcomes.{err_is}
-use Rattle.mvd_replica.specs.Asks.{ArePlaces, AreRows, IsReplyTo, IsRow, IsWritten, Tells}
+use Rattle.mvd_replica.specs.Asks.{ArePlaces, AreRows, IsReplyTo, IsRow, IsWritten, TellsAnswer}
 use Rattle.mvd_replica.specs.Batch.{AnswersOneFrom}
 
 refused_is : (request : Request) (refusal : Refusal) → IsReplyTo request (Refused refusal)
@@ -84,7 +84,7 @@ is_reply old new request told it = elim old.broken as (λ b. old.broken ≡ b �
   ]
 ] refl
 
-pub told_is : (site : SiteValue) (request : Request) (told : Reply) → Tells site request told → IsReplyTo request told
+pub told_is : (site : SiteValue) (request : Request) (told : Reply) → TellsAnswer site request told → IsReplyTo request told
 told_is site request told (inr memory) = refusal_is_reply request told _ memory.1
 told_is site request told (inl is) = subst (IsReplyTo request) (sym is)
     (elim site.broken as (λ b. IsReplyTo request (unless_broken b (Refused Broken) (answer_from site.config site.states request))) [
@@ -94,13 +94,13 @@ told_is site request told (inl is) = subst (IsReplyTo request) (sym is)
 
 -- ---- what a question is told
 
-pub whole_tells : (site : SiteValue) (request : Request) (told : Reply) → site.broken ≡ false → told ≡ answer_from site.config site.states request → Tells site request told
+pub whole_tells : (site : SiteValue) (request : Request) (told : Reply) → site.broken ≡ false → told ≡ answer_from site.config site.states request → TellsAnswer site request told
 whole_tells site request told whole is =
     inl (is ∙ sym (ap (λ b. unless_broken b (Refused Broken) (answer_from site.config site.states request)) whole))
 
 pub tells_refusal : (site : SiteValue) (request : Request) (refusal : Refusal) → (site.broken ≡ true → ◌≡◌ {A = Result Prepared Refusal} (Err refusal) (Err Broken)) → PreparesFromStates site request (Err refusal) →
-    Tells site request (Refused refusal)
-tells_refusal site request refusal broken from = elim site.broken as (λ b. site.broken ≡ b → Tells site request (Refused refusal)) [
+    TellsAnswer site request (Refused refusal)
+tells_refusal site request refusal broken from = elim site.broken as (λ b. site.broken ≡ b → TellsAnswer site request (Refused refusal)) [
   | true ↦ λ is. inl (ap Refused (err_is refusal Broken (broken is)) ∙ sym (ap (λ b. unless_broken b (Refused Broken) (answer_from site.config site.states request)) is))
   | false ↦ λ whole. elim (from whole) [
     | inl is ↦ whole_tells site request (Refused refusal) whole is

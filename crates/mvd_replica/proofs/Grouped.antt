@@ -21,8 +21,8 @@ use Rattle.mvd_site.specs.FromStates.{answer_from, change_from, with_change as w
 use Rattle.mvd_site.specs.Held.{IsSpelled, States, state_at}
 use Rattle.mvd_site.specs.Known.{IsValidRequest}
 use Rattle.mvd_site.specs.Prepared.{IsPlain, IsReady, PreparesAnswerFrom, PreparesFrom, is_refusal}
-use Rattle.mvd_kept.specs.declared.changes.Prepared.{Prepared}
-use Rattle.mvd_kept.specs.declared.changes.Prepared.TheVariants.{Answer, Change}
+use Rattle.mvd_kept.specs.declared.prepared.Prepared.{Prepared}
+use Rattle.mvd_kept.specs.declared.prepared.Prepared.TheVariants.{Answer, Change}
 use Rattle.mvd_site.specs.Sites.{SiteValue}
 use Rattle.mvd_site.proofs.Outcomes.{change_plain, refused_fits}
 use Rattle.mvd_site.proofs.Pushes.{refusal_is}

@@ -14,17 +14,17 @@ use Rattle.mvd_wire.specs.Replies.{is_short}
 use Rattle.mvd_site.specs.Config.{ConfigValue}
 use Rattle.mvd_site.specs.Known.{Adds}
 use Rattle.mvd_site.specs.Sites.{SiteStands, SiteValue}
-use Rattle.mvd_replica.specs.Turns.{AddsAt, AllTold, AreFrames, Event, GoesOn, MayTell, Replies, RepliesOne, StandsOn, Tells, Turn, known_after}
+use Rattle.mvd_replica.specs.Turns.{AddsAt, AllTold, AreFrames, Event, GoesOn, MayTell, Replies, RepliesOne, StandsOn, TellsTurns, Turn, known_after}
 use Rattle.mvd_replica.specs.Steps.{IsSent}
 
 record Split (events : List Event) (first second : List Turn) : Type 0 where
   pub before : List Event
   pub after : List Event
   pub all : events ≡ before ++ after
-  pub one : Tells before first
-  pub other : Tells after second
+  pub one : TellsTurns before first
+  pub other : TellsTurns after second
 
-split : (first second : List Turn) (events : List Event) → Tells events (first ++ second) → Split events first second
+split : (first second : List Turn) (events : List Event) → TellsTurns events (first ++ second) → Split events first second
 split [] second events tells = record { before = []; after = events; all = refl; one = record { told = refl; fits = tt }; other = tells }
 split (t ∷ first) second [] tells = absurd (let none : ◌≡◌ {A = List Turn} [] (t ∷ (first ++ second)) = tells.told in cc)
 split (t ∷ first) second (e ∷ es) tells =
@@ -158,7 +158,7 @@ GoesOn-append [] second one other = other
 GoesOn-append (t ∷ first) second one other = (one.0, GoesOn-append first second one.1 other)
 
 abbrev pub HasChoice : List Turn → Type 0
-HasChoice turns = (events : List Event) × Tells events turns
+HasChoice turns = (events : List Event) × TellsTurns events turns
 
 pub HasChoice-none : HasChoice []
 HasChoice-none = ([], record { told = refl; fits = tt })

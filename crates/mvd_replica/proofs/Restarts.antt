@@ -14,7 +14,7 @@ use Rattle.mvd_replica.specs.File.{HoldsFile}
 use Rattle.mvd_replica.specs.Kept.{HoldsSite, HoldsStates}
 use Rattle.mvd_replica.specs.Restarts.{AddAll, AllAnswered, AreRuns, IsRun, Run}
 use Rattle.mvd_replica.specs.Sides.{HoldsBroken, ReplicaFollows, after_all}
-use Rattle.mvd_replica.specs.Turns.{AllTold, Event, IsFirstBroken, IsToldBroken, IsToldElse, Tells, Turn, known_after}
+use Rattle.mvd_replica.specs.Turns.{AllTold, Event, IsFirstBroken, IsToldBroken, IsToldElse, TellsTurns, Turn, known_after}
 use Rattle.mvd_replica.proofs.Follows.{ours_held}
 use Rattle.mvd_replica.proofs.Storing.{holds_states}
 use Rattle.sqlite.specs.Effect.{Database}
@@ -58,7 +58,7 @@ module _ {C : Type 0} (f : C → State) (site : ℕ) (image : Image) (states : S
   numbered : run.new.config.site ≡ site
   numbered = ap (λ (c : ConfigValue). c.site) configured ∙ number
 
-  module _ (events : List Event) (tells : Tells events run.turns) where
+  module _ (events : List Event) (tells : TellsTurns events run.turns) where
     pub told : AllTold run.config known false events run.new.broken
     told = subst (λ c. AllTold c known false events run.new.broken) is.config
         (subst (λ b. AllTold run.old.config known b events run.new.broken) is.whole (is.replies known events (λ _. old_stands) tells).0)

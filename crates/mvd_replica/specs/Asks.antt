@@ -37,8 +37,8 @@ pub record Asks (request : Request) (told : Reply) (old new : SiteValue) (before
 -- ---- a question
 
 -- The reply that `answer` gives to a question, from the states that are held: 22 of a broken replica, and 20 where memory was refused
-abbrev pub Tells : SiteValue → Request → Reply → Type 0
-Tells site request told =
+abbrev pub TellsAnswer : SiteValue → Request → Reply → Type 0
+TellsAnswer site request told =
     (told ≡ unless_broken site.broken (reply.Refused Broken) (answer_from site.config site.states request)) ⊎ ((site.broken ≡ false) × (told ≡ reply.Refused Memory))
 
 -- the reply to a question of a row that came to this

@@ -15,7 +15,7 @@ use Rattle.mvd_site.specs.Sites.{SiteValue}
 use Rattle.mvd_sync.specs.Sides.{SiteFollows}
 use Rattle.mvd_replica.specs.Kept.{HoldsSite, HoldsStates}
 use Rattle.mvd_replica.specs.Sides.{AnswersFromStored, after_all}
-use Rattle.mvd_replica.specs.Turns.{Event, IsFirstBroken, IsToldBroken, IsToldElse, Replies, StandsOn, Tells, Turn}
+use Rattle.mvd_replica.specs.Turns.{Event, IsFirstBroken, IsToldBroken, IsToldElse, Replies, StandsOn, TellsTurns, Turn}
 use Rattle.sqlite.specs.Effect.{Database}
 use Rattle.sqlite.specs.State.{HasCleanDisk, State}
 
@@ -82,7 +82,7 @@ pub record TakesTurns (turns : List Turn) (old new : SiteValue) (before after : 
   pub replies : Replies old new turns
   pub stands : StandsOn old new turns
   pub config : new.config ≡ old.config
-  pub choice : (events : List Event) × Tells events turns
+  pub choice : (events : List Event) × TellsTurns events turns
   pub fits : AllByRecursion (λ turn. CanBeSent turn.reply) turns
   -- a request is told 22 where the site is broken, and one that breaks it is
   pub told : new.broken ≡ false → AllByRecursion IsToldElse turns

@@ -16,8 +16,8 @@ use Rattle.mvd_site.specs.Held.{IsHeldState, IsSpelled, States}
 use Rattle.mvd_site.specs.Installs.{changes_in, with_prepared}
 use Rattle.mvd_site.specs.Known.{Adds}
 use Rattle.mvd_site.specs.Prepared.{PreparesAnswerFrom, PreparesChangeFrom}
-use Rattle.mvd_kept.specs.declared.changes.Prepared.{Prepared}
-use Rattle.mvd_kept.specs.declared.changes.Prepared.TheVariants.{Answer, Change}
+use Rattle.mvd_kept.specs.declared.prepared.Prepared.{Prepared}
+use Rattle.mvd_kept.specs.declared.prepared.Prepared.TheVariants.{Answer, Change}
 use Rattle.mvd_site.specs.Sites.{SiteValue, has_no_room}
 
 -- ---- one request

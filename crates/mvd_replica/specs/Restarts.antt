@@ -11,7 +11,7 @@ use Rattle.mvd_site.specs.Sites.{SiteValue}
 use Rattle.mvd_replica.specs.Batch.{HoldsLost, TurnsFollow}
 use Rattle.mvd_replica.specs.File.{HoldsFile, OpensFile}
 use Rattle.mvd_replica.specs.Kept.{HoldsStates}
-use Rattle.mvd_replica.specs.Turns.{AllTold, Event, Replies, StandsOn, Tells, Turn, known_after}
+use Rattle.mvd_replica.specs.Turns.{AllTold, Event, Replies, StandsOn, TellsTurns, Turn, known_after}
 use Rattle.sqlite.specs.Recovery.{Image}
 use Rattle.sqlite.specs.State.{State}
 
@@ -57,7 +57,7 @@ AddAll config known (request ∷ requests) added =
 -- commit in hand, whose requests were told 22. Their writes are known to the runs after it.
 abbrev pub AllAnswered : {C : Type 0} → (C → State) → ℕ → List Write → Image → List (Run C) → Type 0
 AllAnswered f site known image [] = (states : States) × HoldsFile image site states × Stands states known
-AllAnswered f site known image (run ∷ runs) = (events : List Event) → Tells events run.turns →
+AllAnswered f site known image (run ∷ runs) = (events : List Event) → TellsTurns events run.turns →
     AllTold run.config known false events run.new.broken
     × (run.new.broken ≡ false → AllAnswered f site (known ++ known_after events) run.left runs)
     × (run.new.broken ≡ true → (lost : HoldsLost run.turns run.new (f run.after).committed)

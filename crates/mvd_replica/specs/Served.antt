@@ -13,7 +13,7 @@ use Rattle.mvd_site.specs.Sites.{SiteValue}
 use Rattle.mvd_replica.specs.declared.serving.Ended.{Ended}
 use Rattle.mvd_replica.specs.declared.serving.Ended.TheVariants as ended
 use Rattle.mvd_replica.specs.Sides.{ReplicaFollows}
-use Rattle.mvd_replica.specs.Turns.{AreFrames, Event, GoesOn, IsFirstBroken, IsToldElse, Replies, StandsOn, Tells, Turn}
+use Rattle.mvd_replica.specs.Turns.{AreFrames, Event, GoesOn, IsFirstBroken, IsToldElse, Replies, StandsOn, TellsTurns, Turn}
 use Rattle.sqlite.specs.State.{State}
 
 -- a site with its store, between a reader and a writer, whose bytes may not be known
@@ -98,7 +98,7 @@ pub record Served (old new : Side) (result : Result Ended Refusal) : Type 0 wher
   pub ending : Ending
   pub replies : Replies old.site new.site turns
   pub stands : StandsOn old.site new.site turns
-  pub choice : (events : List Event) × Tells events turns
+  pub choice : (events : List Event) × TellsTurns events turns
   pub goes_on : AllByRecursion GoesOn turns
   pub told : new.site.broken ≡ false → AllByRecursion IsToldElse turns
   pub follows : ReplicaFollows (IsFirstBroken turns) old.site new.site old.store new.store
@@ -112,7 +112,7 @@ pub record Went (turns : List Turn) (old new : Side) : Type 0 where
   pub replies : Replies old.site new.site turns
   pub stands : StandsOn old.site new.site turns
   pub config : new.site.config ≡ old.site.config
-  pub choice : (events : List Event) × Tells events turns
+  pub choice : (events : List Event) × TellsTurns events turns
   pub goes_on : AllByRecursion GoesOn turns
   pub told : new.site.broken ≡ false → AllByRecursion IsToldElse turns
   pub follows : ReplicaFollows (IsFirstBroken turns) old.site new.site old.store new.store

@@ -12,7 +12,7 @@ use Rattle.mvd_wire.specs.Replies.{CanBeSent, is_short}
 use Rattle.mvd_site.specs.Sites.{SiteValue}
 use Rattle.mvd_replica.specs.declared.serving.Ended.{Ended}
 use Rattle.mvd_replica.specs.Sides.{ReplicaFollows}
-use Rattle.mvd_replica.specs.Turns.{AddsAt, AreFrames, Event, GoesOn, IsFirstBroken, IsToldElse, Replies, RepliesOne, StandsOn, Tells, Turn}
+use Rattle.mvd_replica.specs.Turns.{AddsAt, AreFrames, Event, GoesOn, IsFirstBroken, IsToldElse, Replies, RepliesOne, StandsOn, TellsTurns, Turn}
 use Rattle.mvd_replica.specs.Served.{AtBye, AtEnd, AtRefusal, AtWriter, Ending, GoesOut, Side, Stops, Went, last_bytes, replies_bytes, result_of}
 
 -- the reply that goes out: want of memory may stand in place of one that needs memory
@@ -49,7 +49,7 @@ pub record Ends (old new : Side) (result : Result Ended Refusal) : Type 0 where
   pub ending : Ending
   pub replies : Replies old.site new.site turns
   pub stands : StandsOn old.site new.site turns
-  pub choice : (events : List Event) × Tells events turns
+  pub choice : (events : List Event) × TellsTurns events turns
   pub goes_on : AllByRecursion GoesOn turns
   pub told : new.site.broken ≡ false → AllByRecursion IsToldElse turns
   pub follows : ReplicaFollows (IsFirstBroken turns) old.site new.site old.store new.store

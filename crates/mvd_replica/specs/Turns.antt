@@ -53,7 +53,7 @@ pub record Event : Type 0 where
   pub added : List Write
 
 -- the events are these turns, in order, with a choice that fits
-pub record Tells (events : List Event) (turns : List Turn) : Type 0 where
+pub record TellsTurns (events : List Event) (turns : List Turn) : Type 0 where
   pub told : map (λ event. event.turn) events ≡ turns
   pub fits : AllByRecursion (λ event. AddsAt event.turn.asked event.turn.reply event.added) events
 
@@ -70,12 +70,12 @@ AllTold config known broken (event ∷ events) after =
 -- From any writes that the site stood for, and for every choice of what the turns added, each reply is one that may be given
 -- from the writes known before it, and the site stands for all of them afterwards, unless it is broken
 abbrev pub Replies : SiteValue → SiteValue → List Turn → Type 0
-Replies old new turns = (known : List Write) (events : List Event) → SiteStands old known → Tells events turns →
+Replies old new turns = (known : List Write) (events : List Event) → SiteStands old known → TellsTurns events turns →
     AllTold old.config known old.broken events new.broken × SiteStands new (known ++ known_after events)
 
 -- The states themselves, also those of a site that is broken, stand afterwards for what they stood for and what the turns added
 abbrev pub StandsOn : SiteValue → SiteValue → List Turn → Type 0
-StandsOn old new turns = (known : List Write) (events : List Event) → Stands old.states known → Tells events turns → Stands new.states (known ++ known_after events)
+StandsOn old new turns = (known : List Write) (events : List Event) → Stands old.states known → TellsTurns events turns → Stands new.states (known ++ known_after events)
 
 -- the same of one turn
 pub record RepliesOne (old new : SiteValue) (turn : Turn) : Type 0 where

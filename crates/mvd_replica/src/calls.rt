@@ -6,7 +6,7 @@ ghost use Rattle.mvd_tree.specs.HashTree.{node_digest};
 ghost use Rattle.mvd_wire.specs.declared.request.Request.TheVariants.{Put, Delete, Find, Range, Row, Rows};
 ghost use Rattle.mvd_site.specs.Answer.{digests, is_question, places_reply, rows_reply};
 ghost use Rattle.mvd_site.specs.FromStates.{push_reply, unless_broken};
-ghost use Rattle.mvd_replica.specs.Asks.{ArePlaces, AreRows, Asks, IsDone, IsReplyTo, IsRow, IsWritten, Tells, put_reply, row_told};
+ghost use Rattle.mvd_replica.specs.Asks.{ArePlaces, AreRows, Asks, IsDone, IsReplyTo, IsRow, IsWritten, TellsAnswer, put_reply, row_told};
 ghost use Rattle.sqlite.specs.Held.{state};
 
 use crate::replica::Replica;
@@ -27,7 +27,7 @@ impl<S: Alter> Replica<S> {
             (state S.Store self.old.records.conn) (state S.Store self.new.records.conn) }
     {
         let request = Request::Put(key, seen, document);
-        let reply = self.asked(&request);
+        let reply = self.write(&request);
         spend(request);
         dot_in(reply)
     }
@@ -38,7 +38,7 @@ impl<S: Alter> Replica<S> {
             (state S.Store self.old.records.conn) (state S.Store self.new.records.conn) }
     {
         let request = Request::Delete(key, seen);
-        let reply = self.asked(&request);
+        let reply = self.write(&request);
         spend(request);
         done_in(reply)
     }
@@ -50,10 +50,10 @@ impl<S: Alter> Replica<S> {
         term: Term,
         after: Option<(Key, Dot)>,
     ) -> Result<(Items<Place>, bool), Refusal>
-        ensures { Tells self.now.site (Find field term after) (places_reply result) }
+        ensures { TellsAnswer self.now.site (Find field term after) (places_reply result) }
     {
         let request = Request::Find(field, term, after);
-        let reply = self.told(&request);
+        let reply = self.look_up(&request);
         spend(request);
         places_in(reply)
     }
@@ -66,30 +66,30 @@ impl<S: Alter> Replica<S> {
         to: Term,
         after: Option<Place>,
     ) -> Result<(Items<Place>, bool), Refusal>
-        ensures { Tells self.now.site (Range field from to after) (places_reply result) }
+        ensures { TellsAnswer self.now.site (Range field from to after) (places_reply result) }
     {
         let request = Request::Range(field, from, to, after);
-        let reply = self.told(&request);
+        let reply = self.look_up(&request);
         spend(request);
         places_in(reply)
     }
 
     /// One row of a view.
     pub fn row(&self, view: ViewName, term: Term) -> Result<RowValue, Refusal>
-        ensures { Tells self.now.site (Row view term) (row_told result) }
+        ensures { TellsAnswer self.now.site (Row view term) (row_told result) }
     {
         let request = Request::Row(view, term);
-        let reply = self.told(&request);
+        let reply = self.look_up(&request);
         spend(request);
         row_in(reply)
     }
 
     /// The rows of a view: at most 1,000, those after a term if one is given, and whether more follow.
     pub fn rows(&self, view: ViewName, after: Option<Term>) -> Result<(ViewRows, bool), Refusal>
-        ensures { Tells self.now.site (Rows view after) (rows_reply result) }
+        ensures { TellsAnswer self.now.site (Rows view after) (rows_reply result) }
     {
         let request = Request::Rows(view, after);
-        let reply = self.told(&request);
+        let reply = self.look_up(&request);
         spend(request);
         rows_in(reply)
     }
@@ -109,7 +109,7 @@ impl<S: Alter> Replica<S> {
     }
 
     /// Has a request answered.
-    fn asked(&mut self, request: &Request) -> Reply
+    fn write(&mut self, request: &Request) -> Reply
         ensures asks { Asks request.now result self.old.site self.new.site
             (state S.Store self.old.records.conn) (state S.Store self.new.records.conn) }
         ensures kind { IsReplyTo request.now result }
@@ -118,9 +118,9 @@ impl<S: Alter> Replica<S> {
     }
 
     /// The reply to a question, which changes nothing.
-    fn told(&self, request: &Request) -> Reply
+    fn look_up(&self, request: &Request) -> Reply
         requires { is_question request.now ≡ true }
-        ensures tells { Tells self.now.site request.now result }
+        ensures tells { TellsAnswer self.now.site request.now result }
         ensures kind { IsReplyTo request.now result }
     {
         match self.site.prepare(request) {

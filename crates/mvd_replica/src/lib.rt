@@ -6,7 +6,7 @@ pub mod calls;
 pub mod file;
 mod groups;
 pub mod laws;
-mod opening;
+mod loading;
 mod pushes;
 pub mod replica;
 pub mod serving;

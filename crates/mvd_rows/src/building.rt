@@ -8,7 +8,7 @@ ghost use Rattle.mvd_rows.specs.Stands.{IsIndexOf, IsRowsOf, IsViewOf, definitio
 use crate::changes::Rows;
 use crate::definitions::{Defs, ViewDef};
 use crate::index::Index;
-use crate::kept::Kept;
+use crate::ordered_map::Kept;
 use crate::tallies::Tallies;
 use crate::views::View;
 use mvd_docs::Field;

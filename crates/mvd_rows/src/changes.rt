@@ -9,12 +9,12 @@ ghost use Rattle.mvd_rows.specs.Counted.{Within};
 ghost use Rattle.mvd_rows.specs.Stands.{AreRowsOf, IsSmall, definitions_of};
 ghost use Rattle.mvd_rows.specs.Visible.{Visible};
 
+use crate::among::is_among;
 use crate::index::Index;
 use crate::loops::{change_places, change_rows};
 use crate::marks::Spot;
 use crate::meters::Meter;
 use crate::moves::Way;
-use crate::siblings::is_among;
 use crate::views::View;
 use mvd_docs::Document;
 use mvd_dots::Refusal;

@@ -15,7 +15,7 @@ ghost use Rattle.mvd_rows.specs.Stands.{IsRowsOf, definitions_of};
 use crate::changes::Rows;
 use crate::marks::Mark;
 use crate::meters::Meter;
-use crate::questions::{spot_of, start_of};
+use crate::starts::{spot_of, start_of};
 use crate::views::ShownRow;
 use mvd_docs::{Field, Term, ViewName};
 use mvd_dots::{Dot, Refusal};

@@ -17,10 +17,10 @@ ghost use Rattle.mvd_rows.specs.Stands.{IsIndexOf};
 ghost use Rattle.mvd_rows.specs.Visible.{Visible};
 
 use crate::PAGE;
-use crate::kept::Kept;
 use crate::marks::{Mark, Spot};
 use crate::meters::Meter;
 use crate::moves::Way;
+use crate::ordered_map::Kept;
 use mvd_docs::{Field, Parsed, Term};
 use mvd_dots::Refusal;
 use mvd_keys::Place;

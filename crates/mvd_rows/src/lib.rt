@@ -1,19 +1,19 @@
 //! Indexes and views, kept as ordered rows while the states of keys change.
 #![tactic(auto)]
 
+mod among;
 mod building;
 mod changes;
 pub mod counted;
 mod definitions;
 mod index;
-mod kept;
 pub mod laws;
 mod loops;
 mod marks;
 mod meters;
 mod moves;
-mod questions;
-mod siblings;
+mod ordered_map;
+mod starts;
 mod tallies;
 mod views;
 

@@ -7,9 +7,9 @@ ghost use Rattle.mvd_rows.specs.Counted.{Within};
 ghost use Rattle.mvd_rows.specs.Marks.{tally_cmp};
 ghost use Rattle.mvd_rows.specs.Stands.{unless_none, AreEnds};
 
-use crate::kept::Kept;
 use crate::marks::Tally;
 use crate::meters::Meter;
+use crate::ordered_map::Kept;
 use mvd_docs::Term;
 use mvd_dots::Refusal;
 use std::alloc::{AllocError, Global};

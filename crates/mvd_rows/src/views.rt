@@ -18,10 +18,10 @@ ghost use Rattle.mvd_rows.specs.Views.{widened, no_row, row_of};
 ghost use Rattle.mvd_rows.specs.Visible.{Visible};
 
 use crate::PAGE;
-use crate::kept::{Kept, Walk};
 use crate::marks::Tally;
 use crate::meters::Meter;
 use crate::moves::Way;
+use crate::ordered_map::{Kept, Walk};
 use crate::tallies::Tallies;
 use mvd_docs::{Field, Parsed, Term, ViewName};
 use mvd_dots::Refusal;

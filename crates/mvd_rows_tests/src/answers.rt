@@ -1,7 +1,7 @@
 //! One change of one key, and each question after it.
 ghost use Rattle.std.specs.Prelude.{◌≡◌};
 
-use crate::definitions::defs;
+use crate::copied_defs::defs;
 use mvd_count::Count;
 use mvd_docs::{Document, Field, Term, ViewName};
 use mvd_dots::{Context, Refusal};

@@ -4,4 +4,4 @@
 #[cfg(test)]
 mod answers;
 #[cfg(test)]
-mod definitions;
+mod copied_defs;

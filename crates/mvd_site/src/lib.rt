@@ -2,8 +2,8 @@
 #![tactic(auto)]
 
 mod sites;
-mod work;
+mod uncounted;
 
 pub use mvd_kept::{Change, Config, Prepared, may_be_held};
 pub use sites::Site;
-pub use work::no_work;
+pub use uncounted::no_work;

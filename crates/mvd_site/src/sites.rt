@@ -21,7 +21,7 @@ ghost use Rattle.mvd_kept.specs.Known.{Adds, Event, IsValidRequest, Tells};
 ghost use Rattle.mvd_kept.specs.Prepared.{IsChangeNow, IsFrugal, IsReady, PreparesAt, PreparesFromStates};
 ghost use Rattle.mvd_kept.specs.Sites.{AnswersAll, AnswersOne, SiteValue, has_no_room, opened};
 
-use crate::work::no_work;
+use crate::uncounted::no_work;
 use mvd_dots::Refusal;
 use mvd_kept::{Change, Config, Kept, Prepared, Work, counted};
 use mvd_keys::{Key, KeyState, Path};

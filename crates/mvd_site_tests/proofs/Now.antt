@@ -6,8 +6,8 @@ use Rattle.mvd_wire.specs.declared.request.Request.{Request}
 use Rattle.mvd_site.specs.Change.{ChangeValue}
 use Rattle.mvd_site.specs.Prepared.{IsChangeNow, PreparesFrom, PreparesFromStates}
 use Rattle.mvd_site.specs.Sites.{SiteValue}
-use Rattle.mvd_kept.specs.declared.changes.Prepared.{Prepared}
-use Rattle.mvd_kept.specs.declared.changes.Prepared.TheVariants.{Change}
+use Rattle.mvd_kept.specs.declared.prepared.Prepared.{Prepared}
+use Rattle.mvd_kept.specs.declared.prepared.Prepared.TheVariants.{Change}
 
 -- a change that a site prepared is one now
 pub is_now : (site : SiteValue) (request : Request) (prepared : Prepared) (change : ChangeValue) → PreparesFromStates site request (Ok prepared) →

@@ -2,12 +2,12 @@
 #![tactic(auto)]
 
 #[cfg(test)]
-mod asked;
+mod asking_site;
 #[cfg(test)]
-mod changes;
+mod list_answers;
 #[cfg(test)]
-mod listing;
-#[cfg(test)]
-mod opening;
+mod opened_sites;
 #[cfg(test)]
 mod side_by_side;
+#[cfg(test)]
+mod two_steps;

@@ -1,5 +1,5 @@
 //! Changes of two keys that were prepared on one site and are installed one after the other, or at once.
-use crate::asked::{dot_of, holds, put, site};
+use crate::asking_site::{dot_of, holds, put, site};
 use mvd_dots::{Dot, Refusal};
 use mvd_keys::Path;
 use mvd_site::{Change, Prepared, Site};

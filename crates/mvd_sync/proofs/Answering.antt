@@ -5,11 +5,11 @@ use Rattle.std.specs.declared.vec.Vec.{Vec}
 use Rattle.std.specs.declared.alloc.Global.{Global}
 use Rattle.mvd_wire.specs.declared.reply.Digests.{Digests}
 use Rattle.mvd_sync.specs.Answers.{Entry, IsPage}
-use Rattle.mvd_sync.specs.declared.questions.Node.{Node}
+use Rattle.mvd_sync.specs.declared.asking.Node.{Node}
 use Rattle.mvd_dots.specs.declared.refusals.Refusal.{Refusal}
 use Rattle.mvd_dots.specs.declared.refusals.Refusal.TheVariants.{Memory, TooManyRequests}
 use Rattle.std.proofs.lemmas.List.{length-take-le, take_all}
-use Rattle.mvd_sync.specs.Questions.{AllAnswered, ComesToEnd, ForEach, Keeps, Takes, Tells}
+use Rattle.mvd_sync.specs.Questions.{AllAnswered, ComesToEnd, ForEach, Keeps, Takes, AnswersEach}
 use Rattle.mvd_sync.specs.Session.{Each}
 use Rattle.mvd_sync.specs.Sides.{Blames, Side, of_memory, of_questions, of_side, is_of_key}
 use Rattle.mvd_sync.specs.Windows.{EachAnswer, EachTold, Ends}
@@ -142,7 +142,7 @@ module _ {S Q : Type 0} (s : Side S) (qs : List Q) (left left' taken : ℕ) (old
 
   -- all were answered
   pub answered_all : {A : Type 0} (May Right : Q → A → Type 0) (answers : List A) → length qs ≤ taken → s.follows (length (take taken qs)) old new → ForEach May (take taken qs) answers → (s.is_faithful old → Keeps s old new × ForEach Right (take taken qs) answers)
-      → AllAnswered s May (Tells s Right qs answers old new) qs answers left left' old new
+      → AllAnswered s May (AnswersEach s Right qs answers old new) qs answers left left' old new
   answered_all May Right answers all follows may right =
       let whole : take taken qs ≡ qs = take_all taken qs all in
       let spent = takes.spent in

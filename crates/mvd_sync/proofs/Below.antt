@@ -5,7 +5,7 @@ use Rattle.std.specs.Cmp.{nat_eq_equiv, unsigned_Decides}
 use Rattle.std.specs.FinMap.{get}
 use Rattle.mvd_site.specs.Held.{States}
 use Rattle.mvd_site.specs.Answer.{digests, spelled}
-use Rattle.mvd_tree.specs.HashTree.{place_of, begins, is_under, KeyDigests, digits, node_digest}
+use Rattle.mvd_tree.specs.HashTree.{path_of_key, begins, is_under, KeyDigests, digits, node_digest}
 use Rattle.mvd_tree.specs.States.{key_digest}
 use Rattle.mvd_tree.specs.Hashed.{SameUnder}
 use Rattle.mvd_tree.proofs.Under.{digest_above-same, begins-less}
@@ -56,13 +56,13 @@ tell_below path child a b a' b' within kept tell =
     let digests_b : (k : List ℕ) → IsTrue (is_under child k) → get (digests b') k ≡ get (digests b) k = λ k h. get-digests_of spelled b' k ∙ ap (option_map (key_digest spelled k)) (kept k h).1 ∙ sym (get-digests_of spelled b k) in
     record {
       nodes = λ below h short e k u.
-          let inside : (q : List ℕ) → IsTrue (is_under below q) → IsTrue (is_under child q) = λ q i. begins-trans child below (place_of q) h i in
+          let inside : (q : List ℕ) → IsTrue (is_under below q) → IsTrue (is_under child q) = λ q i. begins-trans child below (path_of_key q) h i in
           let levels = 3 - length below in
           let was = sym (digest_above-same levels below (digests a') (digests a) (λ q i. digests_a q (inside q i))) ∙ e ∙ digest_above-same levels below (digests b') (digests b) (λ q i. digests_b q (inside q i)) in
           let same = tell.nodes below (begins-trans path child below within h) short was k u in
           (kept k (inside k u)).0 ∙ same ∙ sym (kept k (inside k u)).1;
       keys = λ k u e.
-          let same = tell.keys k (begins-trans path child (place_of k) within u) (sym (digests_a k u) ∙ e ∙ digests_b k u) in
+          let same = tell.keys k (begins-trans path child (path_of_key k) within u) (sym (digests_a k u) ∙ e ∙ digests_b k u) in
           (kept k u).0 ∙ same ∙ sym (kept k u).1;
     }
 

@@ -15,8 +15,8 @@ use Rattle.mvd_sync.specs.Nodes.{has_below}
 use Rattle.mvd_sync.specs.Session.{Each}
 use Rattle.mvd_sync.specs.Sides.{Side}
 use Rattle.mvd_sync.specs.Walk.{Reads}
-use Rattle.mvd_sync.specs.declared.listing.Entry.{Entry}
-use Rattle.mvd_sync.specs.declared.questions.Questions.{Questions}
+use Rattle.mvd_sync.specs.declared.cursor.Entry.{Entry}
+use Rattle.mvd_sync.specs.declared.asking.Questions.{Questions}
 use Rattle.mvd_sync.specs.declared.report.SyncFault.{SyncFault}
 use Rattle.mvd_sync.proofs.Descents.{Each-left}
 use Rattle.mvd_sync.proofs.Going.{goes_nowhere, goes_of_end, goes_of_exchange, goes_of_reads, goes_on}

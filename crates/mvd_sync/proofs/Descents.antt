@@ -7,12 +7,12 @@ use Rattle.mvd_dots.specs.declared.refusals.Refusal.TheVariants.{Memory}
 use Rattle.mvd_site.specs.Answer.{digests}
 use Rattle.mvd_tree.specs.HashTree.{KeyDigests}
 use Rattle.mvd_sync.specs.Nodes.{differing_children}
-use Rattle.mvd_sync.specs.Questions.{AllAnswered, ComesToEnd, ForEach, IsInner, Keeps, Tells}
+use Rattle.mvd_sync.specs.Questions.{AllAnswered, ComesToEnd, ForEach, IsInner, Keeps, AnswersEach}
 use Rattle.mvd_sync.specs.Session.{Each}
 use Rattle.mvd_sync.specs.Sides.{Blames, HasAnswered, IsFaultOf, Side, of_memory}
 use Rattle.mvd_sync.specs.Walk.{Descends, HaveAnswered, Reads, ReadsEnd, told, told_all}
-use Rattle.mvd_sync.specs.declared.questions.Node.{Node}
-use Rattle.mvd_sync.specs.declared.questions.Questions.{Questions}
+use Rattle.mvd_sync.specs.declared.asking.Node.{Node}
+use Rattle.mvd_sync.specs.declared.asking.Questions.{Questions}
 use Rattle.mvd_sync.specs.declared.report.SyncFault.{SyncFault}
 use Rattle.mvd_sync.specs.declared.report.SyncFault.TheVariants.{Local, Peer}
 use Rattle.std.specs.Prelude.{bytes_eq, cond, map, not}
@@ -119,7 +119,7 @@ reads_on s on m n left mid left' old at new p q = record {
   kept = λ t. let k = p.kept t in keeps_on s old at new k (q.kept k.still);
 }
 
-pub reads_of : {S Q A : Type 0} (s : Side S) (May Right : Q → A → Type 0) (qs : List Q) (ts : List A) (left left' : ℕ) (old new : S) → AllAnswered s May (Tells s Right qs ts old new) qs ts left left' old new → Reads s (length qs) left left' old new
+pub reads_of : {S Q A : Type 0} (s : Side S) (May Right : Q → A → Type 0) (qs : List Q) (ts : List A) (left left' : ℕ) (old new : S) → AllAnswered s May (AnswersEach s Right qs ts old new) qs ts left left' old new → Reads s (length qs) left left' old new
 reads_of s May Right qs ts left left' old new a = record { spent = a.spent; follows = a.follows; kept = λ t. (a.right t).kept }
 
 module _ {L P : Type 0} (l : Side L) (p : Side P)
@@ -205,8 +205,8 @@ module _ {L P : Type 0} (l : Side L) (p : Side P)
 
   module _ (done window : List (List ℕ)) (left mid left' : Questions) (local local1 local2 : L) (peer peer1 peer2 : P) (below : List (List ℕ)) (mine theirs : List Node)
       (before : Descends l p done left mid local local1 peer peer1 below)
-      (first : AllAnswered l (λ _ _. HasAnswered l.follows l.can_answer local1 local2) (Tells l (IsInner (digests (l.states local1))) window mine local1 local2) window mine mid.local left'.local local1 local2)
-      (second : AllAnswered p (λ _ _. HasAnswered p.follows p.can_answer peer1 peer2) (Tells p (IsInner (digests (p.states peer1))) window theirs peer1 peer2) window theirs mid.peer left'.peer peer1 peer2) where
+      (first : AllAnswered l (λ _ _. HasAnswered l.follows l.can_answer local1 local2) (AnswersEach l (IsInner (digests (l.states local1))) window mine local1 local2) window mine mid.local left'.local local1 local2)
+      (second : AllAnswered p (λ _ _. HasAnswered p.follows p.can_answer peer1 peer2) (AnswersEach p (IsInner (digests (p.states peer1))) window theirs peer1 peer2) window theirs mid.peer left'.peer peer1 peer2) where
     answers_more : (ds : List (List ℕ)) → ds ≡ done → ds ++ window ≢ [] → HaveAnswered l p local local2 peer peer2
     answers_more [] e some = (
       answered_later l on local local1 local2 (length done, before.local_side.follows) (some_answered (HasAnswered l.follows l.can_answer local1 local2) window mine first.may some),

@@ -15,9 +15,9 @@ use Rattle.mvd_sync.specs.Questions.{ComesToEnd, ForEach, IsOfKey, Keeps, TakesF
 use Rattle.mvd_sync.specs.Session.{ComesByPushes, Each}
 use Rattle.mvd_sync.specs.Sides.{IsSilent, Side as SideOf}
 use Rattle.mvd_sync.specs.Windows.{Pushes}
-use Rattle.mvd_sync.specs.declared.listing.Entry.{Entry}
+use Rattle.mvd_sync.specs.declared.cursor.Entry.{Entry}
 use Rattle.mvd_sync.specs.declared.meetings.Meeting.{Meeting}
-use Rattle.mvd_sync.specs.declared.questions.Questions.{Questions}
+use Rattle.mvd_sync.specs.declared.asking.Questions.{Questions}
 use Rattle.mvd_sync.specs.declared.report.Side.TheVariants.{Local as AtLocal, Peer as AtPeer}
 use Rattle.mvd_sync.specs.declared.report.SyncFault.{SyncFault}
 use Rattle.mvd_sync.specs.declared.report.SyncFault.TheVariants.{Local, Peer}

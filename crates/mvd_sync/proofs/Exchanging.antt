@@ -11,9 +11,9 @@ use Rattle.mvd_sync.specs.Exchanges.{Adds, AreNext, Counts, Done, Exchanges, Exc
 use Rattle.mvd_sync.specs.Meetings.{done_of}
 use Rattle.mvd_sync.specs.Session.{AreDistinct, Changes}
 use Rattle.mvd_sync.specs.Sides.{Side as SideOf, of_memory}
-use Rattle.mvd_sync.specs.declared.listing.Entry.{Entry}
+use Rattle.mvd_sync.specs.declared.cursor.Entry.{Entry}
 use Rattle.mvd_sync.specs.declared.meetings.Meeting.{Meeting}
-use Rattle.mvd_sync.specs.declared.questions.Questions.{Questions}
+use Rattle.mvd_sync.specs.declared.asking.Questions.{Questions}
 use Rattle.mvd_sync.specs.declared.report.SyncFault.{SyncFault}
 use Rattle.mvd_sync.specs.declared.report.SyncFault.TheVariants.{Local, Peer}
 use Rattle.mvd_sync.proofs.Counting.{counts_on, given_one, left_one, one_of_two}

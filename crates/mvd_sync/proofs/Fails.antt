@@ -6,7 +6,7 @@ use Rattle.mvd_dots.specs.declared.refusals.Refusal.TheVariants.{Memory}
 use Rattle.mvd_sync.specs.Questions.{ComesToEnd, Keeps}
 use Rattle.mvd_sync.specs.Sides.{Side, of_memory}
 use Rattle.mvd_sync.specs.Walk.{Reads, ReadsEnd}
-use Rattle.mvd_sync.specs.declared.questions.Questions.{Questions}
+use Rattle.mvd_sync.specs.declared.asking.Questions.{Questions}
 use Rattle.mvd_sync.specs.declared.report.SyncFault.TheVariants.{Local, Peer}
 use Rattle.mvd_sync.proofs.Compose.{blames_later, keeps_on}
 

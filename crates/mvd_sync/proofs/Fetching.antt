@@ -8,11 +8,11 @@ use Rattle.mvd_site.specs.Answer.{digests}
 use Rattle.mvd_tree.specs.HashTree.{KeyDigests}
 use Rattle.mvd_sync.specs.Answers.{Entry, IsPage, IsPageOf}
 use Rattle.mvd_sync.specs.Buckets.{ArePages, FillEnds, IsSpent}
-use Rattle.mvd_sync.specs.Questions.{AllAnswered, ComesToEnd, Fills, ForEach, Keeps, Tells}
+use Rattle.mvd_sync.specs.Questions.{AllAnswered, ComesToEnd, Fills, ForEach, Keeps, AnswersEach}
 use Rattle.mvd_sync.specs.Session.{Each}
 use Rattle.mvd_sync.specs.Sides.{Side, of_answer, of_side, is_of_key}
 use Rattle.mvd_sync.specs.Walk.{Reads}
-use Rattle.mvd_sync.specs.declared.questions.Questions.{Questions}
+use Rattle.mvd_sync.specs.declared.asking.Questions.{Questions}
 use Rattle.mvd_sync.specs.declared.report.SyncFault.TheVariants.{Local, Peer}
 use Rattle.mvd_sync.proofs.Descents.{Each-at, answers_long}
 
@@ -119,7 +119,7 @@ module _ {S : Type 0} (s : Side S) (held : KeyDigests) (T : Type 0) where
   first_told (q ∷ paths) (x ∷ pages) h = (h.0, first_told paths pages h.1)
 
 module _ {S : Type 0} (s : Side S) (T : Type 0) (paths : List (List ℕ)) (asked : List (List ℕ × Option (List ℕ))) (pages : List (List Entry × Bool)) (left left' : ℕ) (old new : S) (is : asked ≡ map (λ path. (path, None)) paths)
-    (h : AllAnswered s (λ q page. IsPage None page.0 page.1 × (length page.0 < 2 ^ 64) × T) (Tells s (λ q page. IsPageOf (digests (s.states old)) q.0 q.1 page.0 page.1) asked pages old new) asked pages left left' old new) where
+    (h : AllAnswered s (λ q page. IsPage None page.0 page.1 × (length page.0 < 2 ^ 64) × T) (AnswersEach s (λ q page. IsPageOf (digests (s.states old)) q.0 q.1 page.0 page.1) asked pages old new) asked pages left left' old new) where
   as_long : length asked ≡ length paths
   as_long = ap length is ∙ length-map paths (λ path. (path, None))
 

@@ -9,8 +9,8 @@ use Rattle.mvd_sync.specs.Exchanges.{Exchanges, Exchanging}
 use Rattle.mvd_sync.specs.Session.{Changes}
 use Rattle.mvd_sync.specs.Sides.{Blames, IsFaultOf, IsSilent, Side}
 use Rattle.mvd_sync.specs.Walk.{Reads, ReadsEnd}
-use Rattle.mvd_sync.specs.declared.listing.Entry.{Entry}
-use Rattle.mvd_sync.specs.declared.questions.Questions.{Questions}
+use Rattle.mvd_sync.specs.declared.cursor.Entry.{Entry}
+use Rattle.mvd_sync.specs.declared.asking.Questions.{Questions}
 use Rattle.mvd_sync.specs.declared.report.SyncFault.{SyncFault}
 use Rattle.mvd_sync.specs.declared.report.SyncFault.TheVariants.{Local, Peer}
 use Rattle.mvd_sync.proofs.Compose.{blames_later}

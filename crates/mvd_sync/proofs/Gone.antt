@@ -19,7 +19,7 @@ use Rattle.mvd_sync.specs.Answers.{IsListing, IsPageOf, TakesNext}
 use Rattle.mvd_sync.specs.Buckets.{IsSpent, waits_if}
 use Rattle.mvd_sync.specs.Exchanges.{AreNext, Done, IsNext, keys_done, keys_next}
 use Rattle.mvd_sync.specs.Session.{AreDistinct, Each, IsIn, is_member}
-use Rattle.mvd_sync.specs.declared.listing.Entry.{Entry}
+use Rattle.mvd_sync.specs.declared.cursor.Entry.{Entry}
 use Rattle.mvd_sync.proofs.Keys.{Each-weaker, distinct-append, is_member-append}
 use Rattle.mvd_sync.proofs.Nexts.{keys_next-append}
 use Rattle.mvd_sync.proofs.Nodes.{Each-append}

@@ -7,7 +7,7 @@ use Rattle.mvd_keys.specs.State.{IsValid, State}
 use Rattle.mvd_sync.specs.Meetings.{ArePlans, Meets, clash, first_if, has, held_keys, is_held, meet, noted, pair_of, rest_if, taken_from, wanted}
 use Rattle.mvd_sync.specs.Questions.{ForEach}
 use Rattle.mvd_sync.specs.Session.{Each}
-use Rattle.mvd_sync.specs.declared.listing.Entry.{Entry}
+use Rattle.mvd_sync.specs.declared.cursor.Entry.{Entry}
 use Rattle.mvd_sync.specs.declared.meetings.Meeting.{Meeting}
 use Rattle.mvd_sync.specs.declared.report.Side.{Side}
 use Rattle.mvd_sync.specs.declared.report.Side.TheVariants.{Local as AtLocal, Peer as AtPeer}

@@ -7,7 +7,7 @@ use Rattle.std.specs.Cmp.Lexicographic.{slice_cmp}
 use Rattle.std.specs.FinMap.{contains_key-keys, entries, entries_sorted, get, keys, len, len-entries}
 use Rattle.mvd_tree.proofs.KeyDigests.{get-digests_of}
 use Rattle.mvd_tree.specs.States.{key_digest}
-use Rattle.mvd_tree.specs.HashTree.{KeyDigests, is_under, place_of}
+use Rattle.mvd_tree.specs.HashTree.{KeyDigests, is_under, path_of_key}
 use Rattle.mvd_tree.specs.Page.{is_after, rest_of}
 use Rattle.mvd_site.specs.Answer.{digests, spelled}
 use Rattle.mvd_site.specs.Held.{States}
@@ -66,7 +66,7 @@ not_below : (p : List ℕ) (ps : List (List ℕ)) (k : List ℕ) → length p �
 not_below p [] k long longs apart h i = true≢false (sym i)
 not_below p (q ∷ ps) k long longs apart h i =
     elim (or_cases (is_under q k) (has_below ps k) i) [
-      | inl here ↦ true≢false (sym (tied p) ∙ ap (tie p) (begins-one p q (place_of k) (long ∙ sym longs.0) h here) ∙ or_left (tie p q) (is_member ps p) apart)
+      | inl here ↦ true≢false (sym (tied p) ∙ ap (tie p) (begins-one p q (path_of_key k) (long ∙ sym longs.0) h here) ∙ or_left (tie p q) (is_member ps p) apart)
       | inr later ↦ not_below p ps k long longs.1 (or_right (tie p q) (is_member ps p) apart) h later
     ]
 

@@ -8,7 +8,7 @@ use Rattle.mvd_wire.specs.declared.reply.Digests.{Digests}
 use Rattle.mvd_sync.specs.Questions.{ForEach, IsInner}
 use Rattle.mvd_sync.specs.Session.{Each}
 use Rattle.mvd_sync.specs.Windows.{EachAnswer, EachTold, IsNode}
-use Rattle.mvd_sync.specs.declared.questions.Node.{Node}
+use Rattle.mvd_sync.specs.declared.asking.Node.{Node}
 use Rattle.mvd_sync.proofs.Answering.{IsNodeOf, Passes, answer_at}
 
 -- a true side does not leave the children out

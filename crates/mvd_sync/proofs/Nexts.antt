@@ -8,7 +8,7 @@ use Rattle.mvd_site.specs.Held.{States}
 use Rattle.mvd_sync.specs.Exchanges.{AreNext, Counts, Done, Exchanging, GoesOn, IsNext, SoFar, keys_done, keys_next}
 use Rattle.mvd_sync.specs.Session.{AreDistinct, Each}
 use Rattle.mvd_sync.specs.Sides.{Side}
-use Rattle.mvd_sync.specs.declared.listing.Entry.{Entry}
+use Rattle.mvd_sync.specs.declared.cursor.Entry.{Entry}
 use Rattle.mvd_sync.proofs.Descents.{Each-left, Each-right}
 use Rattle.mvd_sync.proofs.Keys.{no_member}
 use Rattle.mvd_sync.proofs.Nodes.{Each-append}

@@ -13,7 +13,7 @@ use Rattle.std.proofs.lemmas.List.Elements.{filter-append}
 use Rattle.std.proofs.lemmas.Grind.{flat_map-append}
 use Rattle.std.proofs.lemmas.List.Folds.{list_any-append, list_any_at}
 use Rattle.std.proofs.lemmas.Slice.Eq.{bytes_eq-Decides}
-use Rattle.mvd_tree.specs.HashTree.{KeyDigests, begins, digits, is_under, node_digest, place_of}
+use Rattle.mvd_tree.specs.HashTree.{KeyDigests, begins, digits, is_under, node_digest, path_of_key}
 use Rattle.mvd_tree.proofs.Bytes.{digits_small, place_length}
 use Rattle.mvd_tree.proofs.Lists.{begins-more}
 use Rattle.mvd_tree.proofs.Under.{digest_above-same}
@@ -263,7 +263,7 @@ few_nodes n (p ∷ ps) ks l d h =
     Each-three p n ks (q ∷ ps) e l a h = (
       any-filter (is_under q) (λ k. not (is_under p k)) ks
           (Each-all (λ k. is_under q k ≡ true → not (is_under p k) ≡ true) (λ k u. is_not (is_under p k) (λ v.
-          let same : p ≡ q = begins-one p q (place_of k) (e ∙ sym l.0) v u in
+          let same : p ≡ q = begins-one p q (path_of_key k) (e ∙ sym l.0) v u in
           absurd (true≢false (sym (member_itself p) ∙ ap (eq_by_cmp (slice_cmp nat_cmp) p) same ∙ a.0)))) ks) h.0,
       Each-three p n ks ps e l.1 a.1 h.1,
     )
@@ -307,12 +307,12 @@ any-children n (p ∷ ps) k short l h =
     list_any-append (λ path. is_under path k) (children_of p) (flat_map children_of ps)
     ∙ elim (or_cases (is_under p k) (has_below ps k) h) [
       | inl u ↦
-          let d = get_or (place_of k) (length p) 0 in
+          let d = get_or (path_of_key k) (length p) 0 in
           let small : d < 16 = digits_small k (length p) in
           let sixteen = sixteen_digits in
           let long = length-map digits (λ d. p ++ d ∷ []) in
           let three = place_length k in
-          let more = begins-more p (place_of k) (omega (arith, three, short, l.0)) u in
+          let more = begins-more p (path_of_key k) (omega (arith, three, short, l.0)) u in
           let at : get_or (children_of p) d [] ≡ p ++ d ∷ [] = get_or-map (λ d. p ++ d ∷ []) digits d 0 [] (omega (arith, small, sixteen)) ∙ ap (λ d. p ++ d ∷ []) (digit_at d small) in
           or_first (has_below (children_of p) k) (has_below (flat_map children_of ps) k)
           (list_any_at (λ path. is_under path k) (children_of p) d [] (omega (arith, small, sixteen, long)) (ap (λ path. is_under path k) at ∙ more))

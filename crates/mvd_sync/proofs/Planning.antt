@@ -8,8 +8,8 @@ use Rattle.mvd_sync.specs.Carries.{Gives, PlanEnds}
 use Rattle.mvd_sync.specs.Meetings.{held_keys, is_held}
 use Rattle.mvd_sync.specs.Questions.{ComesToEnd, Keeps}
 use Rattle.mvd_sync.specs.Sides.{Side as SideOf, of_memory}
-use Rattle.mvd_sync.specs.declared.listing.Entry.{Entry}
-use Rattle.mvd_sync.specs.declared.questions.Questions.{Questions}
+use Rattle.mvd_sync.specs.declared.cursor.Entry.{Entry}
+use Rattle.mvd_sync.specs.declared.asking.Questions.{Questions}
 use Rattle.mvd_sync.specs.declared.report.Side.{Side}
 use Rattle.mvd_sync.specs.declared.report.Side.TheVariants.{Local as AtLocal, Peer as AtPeer}
 use Rattle.mvd_sync.specs.declared.report.SyncFault.TheVariants.{Local, Peer}

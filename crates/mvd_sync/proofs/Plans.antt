@@ -8,7 +8,7 @@ use Rattle.mvd_keys.specs.State.{IsValid, State, empty_state}
 use Rattle.mvd_keys.proofs.Joins.{apart_empty, empty_apart}
 use Rattle.mvd_sync.specs.Meetings.{ArePlans, IsPlan, first_if, meet, or_empty, pair_of, rest_if, taken_from, wanted}
 use Rattle.mvd_sync.specs.Olds.{HasUnseen}
-use Rattle.mvd_sync.specs.declared.listing.Entry.{Entry}
+use Rattle.mvd_sync.specs.declared.cursor.Entry.{Entry}
 use Rattle.mvd_sync.specs.declared.meetings.Meeting.{Meeting}
 use Rattle.mvd_sync.specs.declared.report.Side.{Side}
 use Rattle.mvd_sync.specs.declared.report.Side.TheVariants.{Local as AtLocal, Peer as AtPeer}

@@ -13,8 +13,8 @@ use Rattle.mvd_sync.specs.Exchanges.{AreNext, Done, Exchanges, Exchanging, GoesO
 use Rattle.mvd_sync.specs.Session.{AreDistinct, AreFew, Each, HasAllThatDiffer, Meets, Session, is_member}
 use Rattle.mvd_sync.specs.Sides.{HasAnswered, Side as SideOf}
 use Rattle.mvd_sync.specs.Walk.{FindsBuckets, ReadsEnd, AreFewFor}
-use Rattle.mvd_sync.specs.declared.listing.Entry.{Entry}
-use Rattle.mvd_sync.specs.declared.questions.Questions.{Questions}
+use Rattle.mvd_sync.specs.declared.cursor.Entry.{Entry}
+use Rattle.mvd_sync.specs.declared.asking.Questions.{Questions}
 use Rattle.mvd_sync.specs.declared.report.Report.{Report}
 use Rattle.mvd_sync.specs.declared.report.SyncFault.{SyncFault}
 use Rattle.mvd_sync.proofs.Compose.{answered_still}

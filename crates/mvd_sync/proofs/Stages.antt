@@ -13,9 +13,9 @@ use Rattle.mvd_sync.specs.Meetings.{ArePlans, held_keys, is_held, noted, pair_of
 use Rattle.mvd_sync.specs.Questions.{ForEach, TakesFirst, TakesIn}
 use Rattle.mvd_sync.specs.Session.{Changes, ComesByPushes, Each, pushed_all}
 use Rattle.mvd_sync.specs.Sides.{HasAnswered, IsSilent, Side as SideOf}
-use Rattle.mvd_sync.specs.declared.listing.Entry.{Entry}
+use Rattle.mvd_sync.specs.declared.cursor.Entry.{Entry}
 use Rattle.mvd_sync.specs.declared.meetings.Meeting.{Meeting}
-use Rattle.mvd_sync.specs.declared.questions.Questions.{Questions}
+use Rattle.mvd_sync.specs.declared.asking.Questions.{Questions}
 use Rattle.mvd_sync.specs.declared.report.Side.{Side}
 use Rattle.mvd_sync.specs.declared.report.Side.TheVariants.{Local as AtLocal, Peer as AtPeer}
 use Rattle.mvd_sync.specs.declared.report.SyncFault.{SyncFault}

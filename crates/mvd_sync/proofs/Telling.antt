@@ -13,7 +13,7 @@ use Rattle.mvd_tree.specs.Hashed.{HashesTellApart}
 use Rattle.mvd_site.specs.Answer.{spelled}
 use Rattle.mvd_site.specs.Held.{States}
 use Rattle.mvd_sync.specs.Exchanges.{CameTo, Counts, Done, Exchanging, IsDone, SoFar, given_keys, is_given, is_joined, joined_keys, keys_done, left_keys}
-use Rattle.mvd_sync.specs.Session.{AreDistinct, CannotMeet, Each, IsIn, IsLeft, IsOld, Left, Tells, is_member, most_of, own_of}
+use Rattle.mvd_sync.specs.Session.{AreDistinct, CannotMeet, Each, IsIn, IsLeft, IsOld, Left, ReportsDone, is_member, most_of, own_of}
 use Rattle.mvd_sync.specs.declared.report.Report.{Report}
 use Rattle.mvd_sync.specs.declared.report.Side.{Side}
 use Rattle.mvd_sync.specs.declared.report.Side.TheVariants.{Local as AtLocal, Peer as AtPeer}
@@ -182,7 +182,7 @@ module _ (ml mp : ℕ) (number : Option ℕ) (a b a' b' : States) where
   -- ---- the report
 
   pub tells_of : (done : List Done) (e : Exchanging) (report : Report) → SoFar ml mp number a b a' b' done → Counts done e → report.keys ≡ e.keys → report.refused ≡ e.refused → report.old ≡ e.older → report.first_refused ≡ e.first_refused
-      → (HashesTellApart spelled a b → (key : List ℕ) → get a key ≢ get b key → is_member (keys_done done) key ≡ true) → Tells ml mp number a b (joined_keys done) (given_keys done) report
+      → (HashesTellApart spelled a b → (key : List ℕ) → get a key ≢ get b key → is_member (keys_done done) key ≡ true) → ReportsDone ml mp number a b (joined_keys done) (given_keys done) report
   tells_of done e report so counts keys refused old first all = record {
     left = left_keys done;
     old_keys = olds done;

@@ -9,7 +9,7 @@ use Rattle.std.proofs.lemmas.List.Folds.{list_any-append}
 use Rattle.mvd_keys.specs.Writes.{Key}
 use Rattle.mvd_site.specs.Answer.{digests}
 use Rattle.mvd_site.specs.Held.{States}
-use Rattle.mvd_tree.specs.HashTree.{KeyDigests, is_under, place_of}
+use Rattle.mvd_tree.specs.HashTree.{KeyDigests, is_under, path_of_key}
 use Rattle.mvd_sync.specs.Answers.{IsPageOf}
 use Rattle.mvd_sync.specs.Buckets.{AreElsewhere, ArePages, Finds, FindsAll, GoesOver, GoesThrough, held_in}
 use Rattle.mvd_sync.specs.Exchanges.{AreNext, Done, Exchanging, GoesOn, JoinsSome, SoFar, keys_done, keys_next}
@@ -17,8 +17,8 @@ use Rattle.mvd_sync.specs.Nodes.{has_below}
 use Rattle.mvd_sync.specs.Session.{AreDistinct, Each, IsIn, is_member}
 use Rattle.mvd_sync.specs.Sides.{Side}
 use Rattle.mvd_sync.specs.Walk.{Reads, ReadsEnd}
-use Rattle.mvd_sync.specs.declared.listing.Entry.{Entry}
-use Rattle.mvd_sync.specs.declared.questions.Questions.{Questions}
+use Rattle.mvd_sync.specs.declared.cursor.Entry.{Entry}
+use Rattle.mvd_sync.specs.declared.asking.Questions.{Questions}
 use Rattle.mvd_sync.specs.declared.report.SyncFault.{SyncFault}
 use Rattle.mvd_sync.proofs.Descents.{Each-left, Each-right}
 use Rattle.mvd_sync.proofs.Going.{goes_nowhere, goes_of_end, goes_of_reads, goes_on}
@@ -60,7 +60,7 @@ not_below p (q ∷ qs) key other e l u =
     elim (is_under q key) as (λ b. is_under q key ≡ b → (b || has_below qs key) ≡ false) [
       | false ↦ λ _. rest
       | true ↦ λ v.
-          let same : p ≡ q = begins-one p q (place_of key) (e ∙ sym l.0) u v in
+          let same : p ≡ q = begins-one p q (path_of_key key) (e ∙ sym l.0) u v in
           let tie : eq_by_cmp (slice_cmp nat_cmp) q q ≡ true = tied_path q in
           absurd (true≢false (sym tie ∙ ap (λ x. eq_by_cmp (slice_cmp nat_cmp) x q) (sym same) ∙ or_left (eq_by_cmp (slice_cmp nat_cmp) p q) (is_member qs p) other))
     ] refl

@@ -13,7 +13,7 @@ use Rattle.mvd_sync.specs.Nodes.{children_of, differing_children, differs_at, ha
 use Rattle.mvd_sync.specs.Session.{AreDistinct, Each, HasAllThatDiffer}
 use Rattle.mvd_sync.specs.Sides.{Side}
 use Rattle.mvd_sync.specs.Walk.{AreFewFor, Descends, FindsBuckets, HaveAnswered, Reads, ReadsEnd}
-use Rattle.mvd_sync.specs.declared.questions.Questions.{Questions}
+use Rattle.mvd_sync.specs.declared.asking.Questions.{Questions}
 use Rattle.mvd_sync.specs.declared.report.SyncFault.{SyncFault}
 use Rattle.mvd_sync.proofs.Compose.{answered_later, answered_still}
 use Rattle.mvd_sync.proofs.Descents.{end_later, reads_on}

@@ -14,8 +14,8 @@ use Rattle.mvd_sync.specs.Questions.{Fills, ForEach}
 use Rattle.mvd_sync.specs.Session.{AreDistinct, Changes, Each, IsIn}
 use Rattle.mvd_sync.specs.Sides.{Blames, IsFaultOf, IsSilent, Side}
 use Rattle.mvd_sync.specs.Walk.{ReadsEnd}
-use Rattle.mvd_sync.specs.declared.listing.Entry.{Entry}
-use Rattle.mvd_sync.specs.declared.questions.Questions.{Questions}
+use Rattle.mvd_sync.specs.declared.cursor.Entry.{Entry}
+use Rattle.mvd_sync.specs.declared.asking.Questions.{Questions}
 use Rattle.mvd_sync.specs.declared.report.SyncFault.{SyncFault}
 use Rattle.mvd_sync.specs.declared.report.SyncFault.TheVariants.{Local, Peer}
 

@@ -6,12 +6,12 @@ use Rattle.mvd_keys.specs.State.{State}
 use Rattle.mvd_site.specs.Held.{States, state_at}
 use Rattle.mvd_sync.specs.Exchanges.{AreNext, Done, JoinsSome, SoFar, keys_done, keys_next}
 use Rattle.mvd_sync.specs.Meetings.{ArePlans, done_of, held_keys, noted, pair_of, taken_from}
-use Rattle.mvd_sync.specs.Questions.{AllAnswered, IsOfKey, Keeps, TakesIn, Tells}
+use Rattle.mvd_sync.specs.Questions.{AllAnswered, IsOfKey, Keeps, TakesIn, AnswersEach}
 use Rattle.mvd_sync.specs.Session.{Changes}
 use Rattle.mvd_sync.specs.Sides.{Blames, HasAnswered, IsFaultOf, IsSilent, Side as SideOf}
-use Rattle.mvd_sync.specs.declared.listing.Entry.{Entry}
+use Rattle.mvd_sync.specs.declared.cursor.Entry.{Entry}
 use Rattle.mvd_sync.specs.declared.meetings.Meeting.{Meeting}
-use Rattle.mvd_sync.specs.declared.questions.Questions.{Questions}
+use Rattle.mvd_sync.specs.declared.asking.Questions.{Questions}
 use Rattle.mvd_sync.specs.declared.report.Side.{Side}
 use Rattle.mvd_sync.specs.declared.report.Side.TheVariants.{Local as AtLocal, Peer as AtPeer}
 use Rattle.mvd_sync.specs.declared.report.SyncFault.{SyncFault}
@@ -21,7 +21,7 @@ use Rattle.mvd_sync.specs.declared.report.SyncFault.TheVariants.{Local, Peer}
 abbrev pub Gives : {S : Type 0} → SideOf S → Side → List Entry → List State → ℕ → ℕ → S → S → Type 0
 Gives s name entries states left left' old new =
     AllAnswered s (λ key state. s.can_give key state × HasAnswered s.follows s.can_answer old new)
-    (Tells s (λ key state. state ≡ state_at (s.states old) key) (held_keys name entries) states old new)
+    (AnswersEach s (λ key state. state ≡ state_at (s.states old) key) (held_keys name entries) states old new)
     (held_keys name entries) states left left' old new
 
 -- both gave the states that they hold, and this is to be done

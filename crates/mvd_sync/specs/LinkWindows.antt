@@ -12,7 +12,7 @@ use Rattle.mvd_wire.specs.declared.reply.Reply.TheVariants.{Refused}
 use Rattle.mvd_wire.specs.Frames.{AppendsFront, FrameValue}
 use Rattle.mvd_wire.specs.Replies.{kind_of}
 use Rattle.mvd_wire.specs.Requests.{request_frame}
-use Rattle.mvd_sync.specs.Links.{GoesOn, Link, ReadCause, Receives, Tells, TellsNone}
+use Rattle.mvd_sync.specs.Links.{GoesOn, Link, ReadCause, Receives, TellsReply, TellsNone}
 use Rattle.mvd_sync.specs.Questions.{ForEach}
 
 -- ---- what goes out
@@ -37,7 +37,7 @@ frames_of requests = frames_after ([], []) requests
 
 -- a frame tells this: a reply of the kind that was asked for, or a refusal; or it spells none, and the link goes on
 abbrev pub ToldBy : ℕ → Result Reply Refusal → FrameValue → Type 0
-ToldBy kind (Ok reply) frame = Tells kind reply frame
+ToldBy kind (Ok reply) frame = TellsReply kind reply frame
 ToldBy kind (Err refusal) frame = TellsNone kind refusal frame × (number_of refusal < 30)
 
 -- in its turn a request is answered by the next frame that comes in; one that has no frame is refused so, and nothing is read

@@ -52,8 +52,8 @@ pub record Exchanged (old new : Link) (sent : List ℕ) (Came : FrameValue → T
   pub read : Receives old.input new.input Came
 
 -- the frame spells the reply, which is of the kind that was asked for, or a refusal
-abbrev pub Tells : ℕ → Reply → FrameValue → Type 0
-Tells kind reply frame = ((frame.kind ≡ kind) ⊎ (frame.kind ≡ 0xEE)) × (reply_of frame.kind frame.payload ≡ Ok reply)
+abbrev pub TellsReply : ℕ → Reply → FrameValue → Type 0
+TellsReply kind reply frame = ((frame.kind ≡ kind) ⊎ (frame.kind ≡ 0xEE)) × (reply_of frame.kind frame.payload ≡ Ok reply)
 
 -- the frame is of the kind that was asked for, or a refusal, and spells no reply, for this reason, unless memory was refused
 abbrev pub TellsNone : ℕ → Refusal → FrameValue → Type 0
@@ -83,7 +83,7 @@ pub data ReadCause (old new : Option (List ℕ)) (kind : ℕ) (refusal : Refusal
 
 -- how the reading of a reply of this kind ends, and whether the link refuses from now on
 abbrev pub ReadsReply : Option (List ℕ) → Option (List ℕ) → ℕ → Option Refusal → Result Reply Refusal → Type 0
-ReadsReply old new kind refused (Ok reply) = Receives old new (Tells kind reply) × (refused ≡ None)
+ReadsReply old new kind refused (Ok reply) = Receives old new (TellsReply kind reply) × (refused ≡ None)
 ReadsReply old new kind refused (Err refusal) = (ReadCause old new kind refusal × (refused ≡ Some refusal)) ⊎ (Receives old new (TellsNone kind refusal) × (refused ≡ None) × (number_of refusal < 30))
 
 -- why a link breaks with this refusal
@@ -99,7 +99,7 @@ pub record Breaks (old new : Link) (sent : List ℕ) (kind : ℕ) (refusal : Ref
 
 -- how the sending of a frame over a link that goes on ends, where a reply of this kind is asked for
 abbrev pub Sends : Link → Link → List ℕ → ℕ → Result Reply Refusal → Type 0
-Sends old new sent kind (Ok reply) = Exchanged old new sent (Tells kind reply) × GoesOn new
+Sends old new sent kind (Ok reply) = Exchanged old new sent (TellsReply kind reply) × GoesOn new
 Sends old new sent kind (Err refusal) = Breaks old new sent kind refusal ⊎ (Exchanged old new sent (TellsNone kind refusal) × GoesOn new × (number_of refusal < 30))
 
 -- nothing was sent: the link had refused before, or the request has no frame, or memory was refused for it

@@ -11,7 +11,7 @@ use Rattle.mvd_site.specs.Answer.{digests}
 use Rattle.mvd_sync.specs.Answers.{Entry, IsPage, IsPageOf}
 use Rattle.mvd_sync.specs.Sides.{Blames, Side, is_of_key}
 use Rattle.mvd_sync.specs.Windows.{Pushes, PushesFirst}
-use Rattle.mvd_sync.specs.declared.questions.Node.{Node}
+use Rattle.mvd_sync.specs.declared.asking.Node.{Node}
 
 -- ---- what is left
 
@@ -57,7 +57,7 @@ pub record Keeps {S : Type 0} (s : Side S) (old new : S) : Type 0 where
   pub states : s.states new ≡ s.states old
 
 -- and all of them were answered rightly
-pub record Tells {S Q A : Type 0} (s : Side S) (Right : Q → A → Type 0) (questions : List Q) (answers : List A) (old new : S) : Type 0 where
+pub record AnswersEach {S Q A : Type 0} (s : Side S) (Right : Q → A → Type 0) (questions : List Q) (answers : List A) (old new : S) : Type 0 where
   pub kept : Keeps s old new
   pub right : ForEach Right questions answers
 

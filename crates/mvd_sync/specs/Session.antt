@@ -126,7 +126,7 @@ IsOld number a b key = HasUnseen number (state_at a key) (state_at b key)
 
 -- What a session with no fault tells: the keys that were exchanged and those that were refused, each for its cause, which
 -- together are those that differed; and of how many the local state was older than what the peer saw of it
-pub record Tells (most_local most_peer : ℕ) (number : Option ℕ) (a b : States) (joined given : List Key) (report : Report) : Type 0 where
+pub record ReportsDone (most_local most_peer : ℕ) (number : Option ℕ) (a b : States) (joined given : List Key) (report : Report) : Type 0 where
   pub left : List Left
   pub old_keys : List Key
   pub distinct : AreDistinct (given ++ map (λ l. l.0) left)
@@ -144,7 +144,7 @@ pub record Meets (local_true peer_true : Type 0) (most_local most_peer : ℕ) (n
   pub joined : List Key
   pub given : List Key
   pub joins : Joins local_true peer_true a b a' b' joined given
-  pub tells : IfOk result (Tells most_local most_peer number a b joined given)
+  pub tells : IfOk result (ReportsDone most_local most_peer number a b joined given)
 
 -- so few questions, where all keys that differ are among these
 abbrev pub AreFew : ℕ → States → List Key → Type 0

@@ -10,8 +10,8 @@ use Rattle.mvd_sync.specs.Nodes.{differing_children, differs_at, has_below, told
 use Rattle.mvd_sync.specs.Questions.{Keeps}
 use Rattle.mvd_sync.specs.Session.{AreDistinct, Each, HasAllThatDiffer}
 use Rattle.mvd_sync.specs.Sides.{Blames, HasAnswered, IsFaultOf, Side}
-use Rattle.mvd_sync.specs.declared.questions.Node.{Node}
-use Rattle.mvd_sync.specs.declared.questions.Questions.{Questions}
+use Rattle.mvd_sync.specs.declared.asking.Node.{Node}
+use Rattle.mvd_sync.specs.declared.asking.Questions.{Questions}
 use Rattle.mvd_sync.specs.declared.report.SyncFault.{SyncFault}
 
 -- equal digests under a path mean equal states

@@ -7,10 +7,10 @@ ghost use Rattle.mvd_sync.specs.Session.{Each};
 ghost use Rattle.mvd_sync.specs.Sides.{side as side_of};
 ghost use Rattle.mvd_sync.specs.Carries.{Carried, ExchangesAll, Gives, PlanEnds, Planned};
 
-use crate::listing::Entry;
+use crate::asking::{Questions, ask_gets, ask_pushes};
+use crate::cursor::Entry;
 use crate::meetings::{Meeting, keys_held, note, plan_all, taken};
 use crate::peer::Peer;
-use crate::questions::{Questions, ask_gets, ask_pushes};
 use crate::report::{Left, Report, Side, SyncFault};
 use mvd_dots::Refusal;
 use mvd_keys::{Key, KeyState};

@@ -4,8 +4,8 @@ ghost use Rattle.mvd_sync.specs.Session.{Each};
 ghost use Rattle.mvd_sync.specs.Sides.{side};
 ghost use Rattle.mvd_sync.specs.Walk.{AreFewFor, Descends, FindsBuckets, ReadsEnd, told, told_all};
 
+use crate::asking::{Node, Questions, ask_nodes};
 use crate::peer::Peer;
-use crate::questions::{Node, Questions, ask_nodes};
 use crate::report::SyncFault;
 use mvd_dots::Refusal;
 use mvd_keys::Path;

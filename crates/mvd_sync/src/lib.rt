@@ -1,19 +1,19 @@
 //! Sessions, by which two sides come to hold the same key states, and a site at the other end of a connection.
 #![tactic(auto)]
 
-mod buckets;
+mod asking;
+mod bucket_walk;
+mod cursor;
 mod exchange;
 mod levels;
 pub mod line;
-mod listing;
 mod meetings;
 mod old;
 pub mod peer;
-mod questions;
 mod remote;
 pub mod report;
 pub mod session;
-mod sites;
+mod site_side;
 mod windows;
 
 pub use line::{Duplex, Line};

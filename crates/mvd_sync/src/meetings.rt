@@ -3,7 +3,7 @@ ghost use Rattle.std.specs.Prelude.{◌≡◌, map, filter_map, IfOk, OnOk, IfEr
 ghost use Rattle.std.specs.List.{cons_option};
 ghost use Rattle.mvd_sync.specs.Meetings.{ArePlans, IsPlan, first_if, held_keys, is_held, noted, pair_of, rest_if, taken_from, wanted};
 
-use crate::listing::Entry;
+use crate::cursor::Entry;
 use crate::old::has_unseen;
 use crate::report::Side;
 use mvd_dots::Refusal;

@@ -1,6 +1,6 @@
 //! A site at the other end of a connection.
 mod answer;
-mod many;
+mod batches;
 mod window;
 
 ghost use Rattle.std.specs.Prelude.{◌≡◌, ◌⊎◌, [], IfOk, None, Some, Ok, map};
@@ -52,7 +52,7 @@ fn answered_by(request: &Request) -> u8
 }
 
 /// The refusal that a reply tells which accepts nothing.
-fn told(reply: &Reply) -> Refusal
+fn refusal_in(reply: &Reply) -> Refusal
     ensures { kind_of reply.now ≡ 0xEE → reply.now ≡ Refused result }
 {
     match reply {

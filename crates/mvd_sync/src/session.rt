@@ -3,11 +3,11 @@ ghost use Rattle.std.specs.Prelude.{◌≤◌};
 ghost use Rattle.mvd_sync.specs.Session.{Session};
 ghost use Rattle.mvd_sync.specs.Sides.{side};
 
-use crate::buckets::exchange_buckets;
+use crate::asking::Questions;
+use crate::bucket_walk::exchange_buckets;
 use crate::exchange::Exchange;
 use crate::levels::differing_buckets;
 use crate::peer::Peer;
-use crate::questions::Questions;
 use crate::report::{Report, SyncFault};
 use std::alloc::Global;
 

@@ -3,7 +3,7 @@ ghost use Rattle.std.proofs.Common.{refl, None};
 ghost use Rattle.std.specs.FinMap.{empty};
 
 use crate::peers::Counting;
-use crate::sessions::{first_left, meet, meet_within};
+use crate::two_sites::{first_left, meet, meet_within};
 use mvd_dots::Refusal;
 use mvd_keys::{Key, KeyState, Path};
 use mvd_sync::{Page, Peer, Side, SyncFault};

@@ -2,17 +2,17 @@
 #![tactic(auto)]
 
 #[cfg(test)]
-mod faults;
-#[cfg(test)]
 mod liars;
 #[cfg(test)]
-mod many;
+mod many_keys;
 #[cfg(test)]
 mod peers;
+#[cfg(test)]
+mod refused_growth;
 #[cfg(test)]
 mod remotes;
 pub mod served;
 #[cfg(test)]
-mod sessions;
+mod two_sites;
 
 pub use served::Served;

@@ -1,7 +1,7 @@
 //! A remote site over bytes in memory.
 use crate::peers::Counting;
 use crate::served::Served;
-use crate::sessions::meet;
+use crate::two_sites::meet;
 use mvd_dots::Refusal;
 use mvd_keys::{Key, KeyState, Path};
 use mvd_sync::{Duplex, Remote, SyncFault};

@@ -2,18 +2,18 @@
 #![tactic(auto)]
 
 #[cfg(test)]
-mod bucket;
+mod early_ends;
 #[cfg(test)]
-mod faults;
+mod full_bucket;
 #[cfg(test)]
-mod listing;
+mod list_scripts;
 #[cfg(test)]
 mod long;
 #[cfg(test)]
-mod memory;
+mod random_scripts;
 #[cfg(test)]
-mod random;
+mod script_memory;
 #[cfg(test)]
 mod scripts;
 #[cfg(test)]
-mod sessions;
+mod session_scripts;

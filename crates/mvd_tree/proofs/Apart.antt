@@ -7,7 +7,7 @@ use Rattle.std.specs.Cmp.Lexicographic.{slice_cmp, nat_list_cmp_total}
 use Rattle.std.specs.FinMap.{FinMap, get, entries, len, empty_of_len, same_entries_map}
 use Rattle.mvd_digest.specs.Sha256.{sha256}
 use Rattle.mvd_digest.proofs.Facts256.{length-sha256}
-use Rattle.mvd_tree.specs.HashTree.{KeyDigests, place_of, is_under, under, digits, zero_digest, digest_unless_empty, digest_above, text_above}
+use Rattle.mvd_tree.specs.HashTree.{KeyDigests, path_of_key, is_under, under, digits, zero_digest, digest_unless_empty, digest_above, text_above}
 use Rattle.mvd_tree.specs.States.{key_digest, digests_of}
 use Rattle.mvd_tree.specs.Hashed.{IsNodeText, AreDigests, AreToldApart, HashesTellApart, HaveOneText, SameUnder}
 use Rattle.mvd_tree.proofs.Under.{get-under}
@@ -135,11 +135,11 @@ module _ (a b : KeyDigests) (apart : AreToldApart a b) where
         | inl same ↦ same_part path same
         | inr text ↦ λ key h.
             let pieces = same_pieces (λ d. digest_above levels a (path ++ d ∷ [])) (λ d. digest_above levels b (path ++ d ∷ [])) 32 (λ d. length-digest_above levels _ _) (λ d. length-digest_above levels _ _) digits text in
-            let d = get_or (place_of key) (length path) 0 in
+            let d = get_or (path_of_key key) (length path) 0 in
             let child = each_digit (λ d. digest_above levels a (path ++ d ∷ []) ≡ digest_above levels b (path ++ d ∷ [])) pieces d (digits_small key (length path)) in
             let longer = length-append path (d ∷ []) in
             let three = place_length key in
-            same_under levels (path ++ d ∷ []) (omega arith) child key (begins-more path (place_of key) (omega arith) h)
+            same_under levels (path ++ d ∷ []) (omega arith) child key (begins-more path (path_of_key key) (omega arith) h)
       ]
 
 module _ {S : Type 0} (spelled : List ℕ → S → List ℕ) where

@@ -14,7 +14,7 @@ use Rattle.mvd_digest.specs.Sha256.{sha256}
 use Rattle.mvd_digest.proofs.Facts256.{length-sha256}
 use Rattle.mvd_dots.specs.declared.refusals.Refusal.TheVariants.{BadPath}
 use Rattle.mvd_keys.specs.Path.{path_of}
-use Rattle.mvd_tree.specs.HashTree.{KeyDigests, place_of, begins, is_under, under}
+use Rattle.mvd_tree.specs.HashTree.{KeyDigests, path_of_key, begins, is_under, under}
 use Rattle.mvd_tree.specs.Change.{changed}
 use Rattle.mvd_tree.specs.Page.{is_after, rest_of}
 use Rattle.mvd_tree.specs.Layout.{bucket_of, path_of_one, path_of_two, path_of_three, gathered, AreApart}
@@ -52,14 +52,14 @@ right true b h = h
 right false b h = absurd (cc)
 
 pub under_one : (n : ℕ) (key : List ℕ) → IsTrue (is_under (path_of_one n) key) → bucket_of key / 16 / 16 ≡ n
-unfolding place_of bucket_of
+unfolding path_of_key bucket_of
 under_one n key h =
     let one : n ≡ slice_index (sha256 key) 0 / 16 = (unsigned_Decides n _).0 (left _ _ h) in
     let small : slice_index (sha256 key) 1 < 256 = byte_small key 1 (omega arith) in
     omega arith
 
 pub under_two : (n : ℕ) (key : List ℕ) → IsTrue (is_under (path_of_two n) key) → bucket_of key / 16 ≡ n
-unfolding place_of bucket_of
+unfolding path_of_key bucket_of
 under_two n key h =
     let a = slice_index (sha256 key) 0 in
     let one : n / 16 ≡ a / 16 = (unsigned_Decides (n / 16) (a / 16)).0 (left _ _ h) in
@@ -68,7 +68,7 @@ under_two n key h =
     omega arith
 
 pub under_three : (n : ℕ) (key : List ℕ) → IsTrue (is_under (path_of_three n) key) → bucket_of key ≡ n
-unfolding place_of bucket_of
+unfolding path_of_key bucket_of
 under_three n key h =
     let a = slice_index (sha256 key) 0 in
     let b = slice_index (sha256 key) 1 in
@@ -77,8 +77,8 @@ under_three n key h =
     let three : n % 16 ≡ b / 16 = (unsigned_Decides (n % 16) (b / 16)).0 (left _ _ (right _ _ (right _ _ h))) in
     omega arith
 
-pub path_of_bucket : (key : List ℕ) → path_of_three (bucket_of key) ≡ place_of key
-unfolding place_of bucket_of
+pub path_of_bucket : (key : List ℕ) → path_of_three (bucket_of key) ≡ path_of_key key
+unfolding path_of_key bucket_of
 path_of_bucket key =
     let small : slice_index (sha256 key) 1 < 256 = byte_small key 1 (omega arith) in
     let n = slice_index (sha256 key) 0 * 16 + slice_index (sha256 key) 1 / 16 in
@@ -88,8 +88,8 @@ path_of_bucket key =
     λ i. one i ∷ two i ∷ three i ∷ []
 
 -- the path that a place is
-pub path_of_place : (key digest : List ℕ) → digest ≡ sha256 key → path_of (slice_index digest 0 / 16 ∷ slice_index digest 0 % 16 ∷ slice_index digest 1 / 16 ∷ []) ≡ Ok (place_of key)
-unfolding place_of
+pub path_of_place : (key digest : List ℕ) → digest ≡ sha256 key → path_of (slice_index digest 0 / 16 ∷ slice_index digest 0 % 16 ∷ slice_index digest 1 / 16 ∷ []) ≡ Ok (path_of_key key)
+unfolding path_of_key
 path_of_place key digest e =
     let a = slice_index (sha256 key) 0 in
     let b = slice_index (sha256 key) 1 in
@@ -107,7 +107,7 @@ begins_itself [] = refl
 begins_itself (d ∷ place) = ap (λ b. b && begins place place) (nat_eq_equiv.refl d) ∙ begins_itself place
 
 pub stands_under : (key : List ℕ) → IsTrue (is_under (path_of_three (bucket_of key)) key)
-stands_under key = ap (λ path. begins path (place_of key)) (path_of_bucket key) ∙ begins_itself (place_of key)
+stands_under key = ap (λ path. begins path (path_of_key key)) (path_of_bucket key) ∙ begins_itself (path_of_key key)
 
 -- what is found in buckets that are apart
 

@@ -10,7 +10,7 @@ use Rattle.std.proofs.lemmas.List.{get_or-set_same, get_or-set_other, length-set
 use Rattle.std.proofs.lemmas.List.Sums.{sum_by-cons}
 use Rattle.std.proofs.lemmas.Map.Made.{All-is_member, length-from_keys}
 use Rattle.mvd_tree.specs.Change.{changed, changed_all}
-use Rattle.mvd_tree.specs.HashTree.{KeyDigests, is_under, place_of, under}
+use Rattle.mvd_tree.specs.HashTree.{KeyDigests, is_under, path_of_key, under}
 use Rattle.mvd_tree.specs.Kept.{kept_bucket, kept_inner, kept_node}
 use Rattle.mvd_tree.specs.Layout.{bucket_of, path_of_one, path_of_two, path_of_three, gathered, AreApart, KeepsLevel, KeepsTree}
 use Rattle.mvd_tree.specs.Renewed.{AreQuotients, set_each, with_changes}
@@ -281,7 +281,7 @@ pub one_touched : (held : KeyDigests) (key : List ℕ) (digest : Option (List �
 unfolding under
 one_touched held key digest = λ i. len (retain_keys held (λ other. same other i))
   where
-    same : (other : List ℕ) → is_member nat_eq (touched 0 ((key, digest) ∷ [])) (bucket_of other) ≡ is_under (place_of key) other
+    same : (other : List ℕ) → is_member nat_eq (touched 0 ((key, digest) ∷ [])) (bucket_of other) ≡ is_under (path_of_key key) other
     same other =
         or_false (nat_eq (bucket_of other) (bucket_of key / 1))
         ∙ ap (nat_eq (bucket_of other)) (omega arith)

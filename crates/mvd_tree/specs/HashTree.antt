@@ -9,11 +9,11 @@ use Rattle.mvd_keys.specs.Key.{key_cmp}
 abbrev pub KeyDigests : Type 0
 KeyDigests = FinMap key_cmp (List ℕ)
 
--- where a key stands: the first three hexadecimal digits of its SHA-256
-unfoldable pub place_of : List ℕ → List ℕ
-place_of key = slice_index (sha256 key) 0 / 16 ∷ slice_index (sha256 key) 0 % 16 ∷ slice_index (sha256 key) 1 / 16 ∷ []
+-- the path of a key in the tree: the first three hexadecimal digits of its SHA-256
+unfoldable pub path_of_key : List ℕ → List ℕ
+path_of_key key = slice_index (sha256 key) 0 / 16 ∷ slice_index (sha256 key) 0 % 16 ∷ slice_index (sha256 key) 1 / 16 ∷ []
 
--- whether a place begins with the digits of a path
+-- whether a path begins with the digits of a path
 abbrev pub begins : List ℕ → List ℕ → Bool
 begins [] place = true
 begins (d ∷ path) [] = false
@@ -21,7 +21,7 @@ begins (d ∷ path) (e ∷ place) = (d == e) && begins path place
 
 -- whether a key stands under the node at a path
 abbrev pub is_under : List ℕ → List ℕ → Bool
-is_under path key = begins path (place_of key)
+is_under path key = begins path (path_of_key key)
 
 -- the keys under a path, with their digests
 unfoldable pub under : List ℕ → KeyDigests → KeyDigests

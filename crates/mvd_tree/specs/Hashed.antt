@@ -45,7 +45,7 @@ abbrev pub NodesDependOnKeysUnder : Type 0
 NodesDependOnKeysUnder =
     (a b : KeyDigests) (path : List ℕ) → SameUnder path a b → node_digest a path ≡ node_digest b path
 
--- a change of one key leaves the digest of each node whose path does not begin the key's place
+-- a change of one key leaves the digest of each node whose path does not begin the key's path
 abbrev pub ChangeLeavesOtherNodes : Type 0
 ChangeLeavesOtherNodes =
     (held : KeyDigests) (key : List ℕ) (digest : Option (List ℕ)) (path : List ℕ)

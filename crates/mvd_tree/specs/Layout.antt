@@ -10,7 +10,7 @@ pub record IsPath (path : List ℕ) : Type 0 where
   pub short : length path ≤ 3
   pub small : All (λ digit. digit < 16) path
 
--- the number of a key's bucket: its place, read as a number
+-- the number of a key's bucket: its path, read as a number
 unfoldable pub bucket_of : List ℕ → ℕ
 bucket_of key = slice_index (sha256 key) 0 * 16 + slice_index (sha256 key) 1 / 16
 
@@ -28,7 +28,7 @@ path_of_three n = n / 16 / 16 ∷ n / 16 % 16 ∷ n % 16 ∷ []
 unfoldable pub gathered : List KeyDigests → KeyDigests
 gathered buckets = from_entries (flat_map entries buckets)
 
--- each bucket holds only keys whose place it is
+-- each bucket holds only keys whose path it is
 abbrev pub AreApart : List KeyDigests → Type 0
 AreApart buckets = (number : ℕ) (key : List ℕ) → bucket_of key ≢ number → get (slice_index_or buckets number empty) key ≡ None
 

@@ -36,7 +36,7 @@ abbrev pub changed_bytes : Changes → ℕ
 changed_bytes changes = sum_by (λ c. length c.0) changes
 
 -- What a call does that is to change all these keys: it does, or memory is refused, which is `Broken`, and some of the
--- first are changed. It computes the place of each key, the digest of each bucket and that of each node above once. These
+-- first are changed. It computes the path of each key, the digest of each bucket and that of each node above once. These
 -- read the keys, the digests of the keys in the buckets, and at most sixteen digests of each node
 pub record ChangesAll
     (changes : Changes) (old new : KeyDigests) (result : Result ⊤ Refusal) (before after : Hashed) : Type 0 where

@@ -10,7 +10,7 @@ pub fn nodes_depend_on_keys_under()
     ensures { NodesDependOnKeysUnder }
 {}
 
-/// A change of one key leaves the digest of each node whose path does not begin the key's place.
+/// A change of one key leaves the digest of each node whose path does not begin the key's path.
 pub fn change_leaves_other_nodes()
     ensures { ChangeLeavesOtherNodes }
 {}

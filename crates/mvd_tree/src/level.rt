@@ -5,7 +5,7 @@ ghost use Rattle.mvd_tree.specs.Kept.{digest_or_zeros, kept_inner};
 ghost use Rattle.mvd_tree.specs.Layout.{AreOver};
 ghost use Rattle.mvd_tree.specs.Midstates.{AreForgotten, HasMidstates, IsMidstate};
 
-use crate::digest::{none_held, read_on};
+use crate::node_text::{none_held, read_on};
 use mvd_digest::{CountedHasher, Hashed};
 use mvd_dots::Refusal;
 use std::alloc::Global;

@@ -3,11 +3,11 @@
 
 mod bucket;
 mod buckets;
-mod digest;
 pub mod laws;
 mod level;
-mod many;
+mod node_text;
 mod nodes;
+mod touched;
 mod tree;
 
 ghost use Rattle.std.specs.Prelude.{◌≡◌, Ok, length};
@@ -17,7 +17,7 @@ ghost use Rattle.std.specs.Ordering.{is_lt};
 ghost use Rattle.mvd_dots.specs.Answer.{IsAnswer};
 ghost use Rattle.mvd_keys.specs.Key.{key_cmp};
 ghost use Rattle.mvd_digest.specs.Counted.{Hashes};
-ghost use Rattle.mvd_tree.specs.HashTree.{place_of};
+ghost use Rattle.mvd_tree.specs.HashTree.{path_of_key};
 
 pub use mvd_digest::Hashed;
 use mvd_digest::text_digest;
@@ -26,9 +26,9 @@ use mvd_keys::{Key, Path};
 use std::alloc::Global;
 pub use tree::Tree;
 
-/// Where a key stands in the tree: the first three hexadecimal digits of its bytes' SHA-256, which is one computation.
-pub fn place(alloc: Global, key: &Key, hashed: &mut Hashed) -> Result<Path, Refusal>
-    ensures place { IsAnswer result (Ok (place_of key.now)) }
+/// The path of a key in the tree: the first three hexadecimal digits of its bytes' SHA-256, which is one computation.
+pub fn key_path(alloc: Global, key: &Key, hashed: &mut Hashed) -> Result<Path, Refusal>
+    ensures path { IsAnswer result (Ok (path_of_key key.now)) }
     ensures counts { Hashes 1 (length key.now) hashed.old hashed.new }
 {
     let digest = text_digest(key.text().as_bytes(), hashed);

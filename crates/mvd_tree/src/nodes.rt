@@ -6,7 +6,7 @@ ghost use Rattle.mvd_tree.specs.Counted.{all_keys};
 ghost use Rattle.mvd_tree.specs.Kept.{kept_bucket, digest_or_zeros};
 
 use crate::bucket::Bucket;
-use crate::digest::or_zeros;
+use crate::node_text::or_zeros;
 use mvd_digest::Hashed;
 use mvd_dots::Refusal;
 use std::alloc::Global;

@@ -13,10 +13,10 @@ ghost use Rattle.mvd_tree.specs.Touched.{ChangesAll};
 
 use crate::bucket::{Bucket, copies};
 use crate::buckets::{bucket_number, change_bucket, filled};
-use crate::digest::or_zeros;
 use crate::level::Level;
-use crate::many::{Touched, change_buckets, renew_buckets, renew_nodes};
+use crate::node_text::or_zeros;
 use crate::nodes::{all_or_zeros, bucket_nodes};
+use crate::touched::{Touched, change_buckets, renew_buckets, renew_nodes};
 use mvd_digest::Hashed;
 use mvd_dots::Refusal;
 use mvd_keys::{Key, Path};
@@ -127,8 +127,8 @@ impl Tree {
         ensures ok { OnOk result (self.new ≡ changed self.old key.now digest) }
         ensures err { IfErr result (λ refusal. refusal ≡ Refusal.Broken) }
         ensures unchanged { OnErr result (self.new ≡ self.old) }
-        // The computations of its place, its bucket and the three nodes above. They read the key, the digests of the keys
-        // with its place, and at most sixteen digests of each node.
+        // The computations of its path, its bucket and the three nodes above. They read the key, the digests of the keys
+        // with its path, and at most sixteen digests of each node.
         ensures counts { Hashes 5 (length key.now + 32 * keys_beside self.new key.now + 3 * 512) hashed.old hashed.new }
         ensures refused { IfErr result (λ _. Hashes 1 (length key.now) hashed.old hashed.new) }
     {
@@ -145,7 +145,7 @@ impl Tree {
         Ok(())
     }
 
-    /// Changes many keys at once, each as `change` does, the later ones after the earlier ones. It computes the place of
+    /// Changes many keys at once, each as `change` does, the later ones after the earlier ones. It computes the path of
     /// each key, each bucket that they touch and each node above once. Where memory is refused, which is `Broken`, some of
     /// the first are changed.
     pub fn change_all(

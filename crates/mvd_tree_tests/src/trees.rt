@@ -3,7 +3,7 @@ use mvd_count::Count;
 use mvd_dots::Refusal;
 use mvd_keys::{Key, Path};
 use mvd_start::Start;
-use mvd_tree::{Hashed, Tree, key_digest, place, rises};
+use mvd_tree::{Hashed, Tree, key_digest, key_path, rises};
 use std::alloc::Global;
 use std::test::Fail;
 
@@ -24,7 +24,7 @@ const ROOT: [u8; 32] = [
     0xdd, 0xdc, 0x3e, 0xfa, 0x96, 0xf7, 0xb3, 0x48, 0x54, 0xa4, 0xe6, 0xd4, 0xe8, 0x66, 0xd1, 0x07,
 ];
 
-// And for the keys `0` to `2999` with the digests of `keys_with_digests`.
+// And for the keys `0` to `2999` with the digests that `digest` gives.
 const MANY: [u8; 32] = [
     0x89, 0x61, 0xc0, 0xcd, 0xd5, 0x66, 0x05, 0xec, 0xdc, 0xa1, 0x38, 0x70, 0x77, 0xfa, 0xd5, 0x95,
     0x5a, 0x84, 0xf3, 0xb9, 0xf2, 0xd9, 0x9f, 0x16, 0x10, 0xc3, 0xcf, 0x7c, 0x1a, 0xb8, 0x25, 0xaa,
@@ -53,12 +53,12 @@ fn nothing() -> Hashed {
 /// Whether the key has this place.
 fn stands_at(alloc: Global, name: &str, digits: &[u8]) -> Result<bool, Refusal> {
     let key = Key::read(alloc, name)?;
-    let place = place(alloc, &key, &mut nothing())?;
-    Ok(place.digits() == digits)
+    let path = key_path(alloc, &key, &mut nothing())?;
+    Ok(path.digits() == digits)
 }
 
 #[test]
-fn keys_have_their_places(rt: HostRuntime) -> Result<(), Fail> {
+fn keys_have_their_paths(rt: HostRuntime) -> Result<(), Fail> {
     assert!(rt; stands_at(rt.alloc(), "a", &[12, 10, 9])?);
     assert!(rt; stands_at(rt.alloc(), "b", &[3, 14, 2])?);
     assert!(rt; stands_at(rt.alloc(), "abc", &[11, 10, 7])?);
@@ -108,7 +108,7 @@ fn takes_abc(alloc: Global, tree: &mut Tree) -> Result<bool, Refusal> {
     let bare = is_bare(alloc, tree)?;
     // The key, its digest, and the sixteen digests of each of the three nodes above.
     let came = changes_by(tree, &abc, Some(digest_of_abc()), 3 + 32 + 3 * 512)?;
-    // And of these four digests of each group from that of the place `ba7` on.
+    // And of these four digests of each group from that of the path `ba7` on.
     let again = changes_by(tree, &abc, Some(digest_of_abc()), 3 + 32 + 384 + 256 + 256)?;
     let held = is_of_abc(alloc, tree)?;
     tree.change(&abc, None, &mut nothing())?;

@@ -12,7 +12,7 @@ use Rattle.mvd_web.specs.Asked.{Keeps}
 use Rattle.mvd_web.specs.Response.{response_bytes}
 use Rattle.mvd_web.specs.Steps.{Drops, Moves, PassesAll, PassesOn, Quiet, Reads, ReadsNone, ReadsOne, Settles}
 use Rattle.mvd_web.specs.Web.{LooksIf, MayRest, Queues, RespondsTo, Stays, Takes, TellsAll, WebValue, first_cause, is_closed, is_free, manner_of, stopped_by, unasked}
-use Rattle.mvd_web.specs.declared.asked.Asked.{Asked}
+use Rattle.mvd_web.specs.declared.taken.Asked.{Asked}
 use Rattle.mvd_web.specs.declared.desk.Desk.{Desk}
 use Rattle.mvd_web.specs.declared.response.Manner.{Manner}
 

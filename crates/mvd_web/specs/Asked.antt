@@ -14,7 +14,7 @@ use Rattle.http_server.specs.Response.{IsResponse}
 use Rattle.http_server.specs.declared.response.Response.{Response}
 use Rattle.mvd_http.specs.Asked.{IsQuestion}
 use Rattle.mvd_http.specs.Guard.{is_own}
-use Rattle.mvd_web.specs.declared.asked.Asked.{Asked}
+use Rattle.mvd_web.specs.declared.taken.Asked.{Asked}
 use Rattle.mvd_web.specs.declared.desk.Desk.{Desk}
 
 -- the value of the first field of a name

@@ -1,7 +1,7 @@
 -- What a clause reads of a connection.
 use Rattle.http_server.specs.Connection.{config_of, history}
 use Rattle.mvd_web.specs.Web.{WebValue}
-use Rattle.mvd_web.specs.declared.connection.WebConnection.{WebConnection}
+use Rattle.mvd_web.specs.declared.web_connection.WebConnection.{WebConnection}
 
 abbrev pub web_of : WebConnection → WebValue
 web_of w = record {

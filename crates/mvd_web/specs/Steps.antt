@@ -6,7 +6,7 @@ use Rattle.http_server.specs.Response.{IsResponse}
 use Rattle.mvd_dots.specs.declared.refusals.Refusal.TheVariants.{Memory}
 use Rattle.mvd_web.specs.Asked.{IsAskedBy}
 use Rattle.mvd_web.specs.Web.{Stays, WebValue, first_cause}
-use Rattle.mvd_web.specs.declared.asked.Asked.{Asked}
+use Rattle.mvd_web.specs.declared.taken.Asked.{Asked}
 
 -- reading hands nothing out, and queues nothing
 pub record Quiet (old new : WebValue) : Type 0 where

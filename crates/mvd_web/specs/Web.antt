@@ -14,7 +14,7 @@ use Rattle.mvd_http.specs.declared.fields.Answer.{Answer}
 use Rattle.mvd_web.specs.Asked.{IsAskedBy}
 use Rattle.mvd_web.specs.Ends.{ending_of}
 use Rattle.mvd_web.specs.Response.{response_bytes}
-use Rattle.mvd_web.specs.declared.asked.Asked.{Asked}
+use Rattle.mvd_web.specs.declared.taken.Asked.{Asked}
 use Rattle.mvd_web.specs.declared.response.Manner.{Manner}
 
 -- the limits of what is read, what was read so far, the request that waits for its answer, the bytes that wait to leave, whether

@@ -1,7 +1,7 @@
 //! What keeps a request until it is answered.
 ghost use Rattle.mvd_web.specs.Asked.{Keeps};
 
-use crate::asked::{Asked, asked_by};
+use crate::taken::{Asked, asked_by};
 use bytes::Bytes;
 use http::{Request, StatusCode};
 use http_server::{Response, Service};

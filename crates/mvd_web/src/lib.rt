@@ -1,11 +1,11 @@
 //! One HTTP connection without IO: bytes come in, one request at a time is taken, its response is queued, and bytes leave.
 #![tactic(auto)]
 
-mod asked;
-mod connection;
 mod desk;
-mod ending;
 mod response;
+mod taken;
+mod web_connection;
+mod web_ending;
 
-pub use asked::Asked;
-pub use connection::WebConnection;
+pub use taken::Asked;
+pub use web_connection::WebConnection;

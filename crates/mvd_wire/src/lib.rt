@@ -1,15 +1,14 @@
 //! How values are spelled in bytes, and frames.
 #![tactic(auto)]
 
-mod contexts;
+mod context_bytes;
 mod encoding;
 pub mod frame;
 pub mod items;
 mod lengths;
 mod limits;
 mod lists;
-mod many;
-mod numbers;
+mod number_bytes;
 mod replies;
 pub mod reply;
 pub mod request;
@@ -19,7 +18,8 @@ mod rows;
 mod sending;
 pub mod short;
 mod spelled;
-mod states;
+mod spelled_lists;
+mod state_bytes;
 mod transport;
 mod unique;
 mod values;
@@ -40,7 +40,7 @@ pub use sending::{
     encode_put, encode_range, encode_reply, encode_request, encode_row, encode_rows,
 };
 pub use short::{Short, short_reply};
-pub use states::{decode_old_state, decode_state};
+pub use state_bytes::{decode_old_state, decode_state};
 pub use transport::{read_frame, write_frame};
 pub use unique::{
     can_be_sent, decoded_again, old_states_are_short, one_spelling, one_text, spelled_states,

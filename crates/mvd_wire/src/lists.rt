@@ -3,7 +3,7 @@ ghost use Rattle.std.specs.Prelude.{◌≡◌, ◌<◌, ◌+◌, length, take};
 ghost use Rattle.mvd_wire.specs.Codec.{Gives, Codec, each};
 ghost use Rattle.mvd_wire.specs.Rows.{children, digest, digests, item_of, key_entry, view_row};
 
-use crate::numbers::byte_at;
+use crate::number_bytes::byte_at;
 use crate::reply::Digests;
 use crate::rows::{row_at, term_at};
 use crate::values::key_at;

@@ -8,12 +8,12 @@ ghost use Rattle.mvd_wire.specs.Replies.{SpellsReply, numbered, refusal, reply_o
 
 use crate::items::Items;
 use crate::lists::digests_at;
-use crate::many::page_at;
-use crate::numbers::byte_at;
+use crate::number_bytes::byte_at;
 use crate::reply::{Digests, Reply, RowValue};
 use crate::requests::nothing_of;
 use crate::rows::row_at;
-use crate::states::decode_state;
+use crate::spelled_lists::page_at;
+use crate::state_bytes::decode_state;
 use crate::values::dot_at;
 use crate::version::Version;
 use mvd_docs::Term;

@@ -5,11 +5,11 @@ ghost use Rattle.mvd_wire.specs.Codec.{Gives, Codec, whole, nothing};
 ghost use Rattle.mvd_wire.specs.Codecs.{key, path};
 ghost use Rattle.mvd_wire.specs.Requests.{SpellsRequest, request_of, put, delete, find, row_of_view, rows_of_view, bucket, push, range};
 
-use crate::contexts::context_at;
-use crate::many::optional_at;
+use crate::context_bytes::context_at;
 use crate::request::Request;
 use crate::rows::{field_at, path_at, term_at, view_name_at};
-use crate::states::state_at;
+use crate::spelled_lists::optional_at;
+use crate::state_bytes::state_at;
 use crate::values::{document_at, key_at};
 use crate::version::Version;
 use mvd_docs::{Document, Field, Term, ViewName};

@@ -5,7 +5,7 @@ ghost use Rattle.mvd_wire.specs.Codec.{Gives, Codec};
 ghost use Rattle.mvd_wire.specs.Codecs.{path};
 ghost use Rattle.mvd_wire.specs.Rows.{field_of_bytes, field, view_name_of_bytes, view_name, whole_number, text_of_bytes, term_text, term, term_behind, spot, place, sum, ends, row};
 
-use crate::numbers::{byte_at, raw_at, u16_at, u64_at};
+use crate::number_bytes::{byte_at, raw_at, u16_at, u64_at};
 use crate::reply::RowValue;
 use crate::values::{dot_at, key_at};
 use crate::version::Version;

@@ -11,7 +11,6 @@ ghost use Rattle.mvd_wire.specs.declared.request.Request.TheVariants as asked;
 
 use crate::lengths::state_length;
 use crate::limits::{FRAME_LIMIT, PAGE_LIMIT, STATE_LIMIT};
-use crate::many::{write_optional, write_page};
 use crate::reply::{Digests, Reply, RowValue};
 use crate::request::Request;
 use crate::row_writing::{
@@ -19,6 +18,7 @@ use crate::row_writing::{
 };
 use crate::short::Short;
 use crate::spelled::Spelled;
+use crate::spelled_lists::{write_optional, write_page};
 use crate::writing::{write_context, write_document, write_key, write_state};
 use mvd_docs::{Document, Field, Term, ViewName};
 use mvd_dots::{Context, Dot, Refusal};

@@ -6,7 +6,7 @@ ghost use Rattle.mvd_wire.specs.Codec.{Gives, Codec, number};
 ghost use Rattle.mvd_wire.specs.Codecs.{dot, key, document, document_of_bytes, layout_of};
 
 use crate::limits::DOCUMENT_LIMIT;
-use crate::numbers::{byte_at, raw_at, u16_at, u32_at, u64_at};
+use crate::number_bytes::{byte_at, raw_at, u16_at, u32_at, u64_at};
 use crate::version::Version;
 use mvd_docs::Document;
 use mvd_dots::{COUNTER_MAX, Dot, Refusal};

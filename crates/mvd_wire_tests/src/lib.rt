@@ -4,8 +4,8 @@
 #[cfg(test)]
 mod frames;
 #[cfg(test)]
-mod replies;
+mod reply_frames;
 #[cfg(test)]
-mod requests;
+mod request_frames;
 #[cfg(test)]
-mod states;
+mod state_frames;

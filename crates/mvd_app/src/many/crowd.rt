@@ -7,7 +7,7 @@ use super::client::{Client, Moved, PIECE, Piece, Stage};
 use super::counts::Counts;
 use super::talks::{Kind, Talks};
 use super::timers::Timers;
-use crate::ending::How;
+use crate::endings::How;
 use mio::event::Event;
 use mio::net::TcpStream;
 use mio::{Interest, Registry, Token};

@@ -191,7 +191,7 @@ pub(crate) fn answer(
     sent(host, number, count);
     let mut body = String::new(alloc);
     let status = match web.asked() {
-        Some(asked) => told(alloc, asked, &reply, &mut body),
+        Some(asked) => put_body(alloc, asked, &reply, &mut body),
         None => return,
     };
     match status {
@@ -214,7 +214,12 @@ fn reply_in(alloc: Global, bytes: &[u8]) -> Reply {
 }
 
 /// Puts the body of a response into `body`, and gives its status.
-fn told(alloc: Global, asked: &Asked, reply: &Reply, body: &mut String) -> Result<u16, Refusal> {
+fn put_body(
+    alloc: Global,
+    asked: &Asked,
+    reply: &Reply,
+    body: &mut String,
+) -> Result<u16, Refusal> {
     match &asked.question {
         Ok(Question::Ask(request)) => Ok(response_of(alloc, request, reply, body)?),
         _ => Err(Refusal::BadKind),

@@ -8,7 +8,7 @@ ghost use Rattle.mvd_sync.specs.LinkWindows.{Answers, IsOfKind};
 ghost use Rattle.mvd_sync.specs.Lines.{IsSettled};
 ghost use Rattle.mvd_sync.specs.Questions.{ForEach};
 
-use super::told;
+use super::refusal_in;
 use crate::peer::Page;
 use crate::windows::{is_over, room_for};
 use mvd_dots::Refusal;
@@ -47,7 +47,7 @@ impl Answer for Digests {
     fn of(reply: Reply) -> Result<Self, Refusal> {
         match reply {
             Reply::Digests(digests) => Ok(digests),
-            other => Err(told(&other)),
+            other => Err(refusal_in(&other)),
         }
     }
 }
@@ -64,7 +64,7 @@ impl Answer for Page {
     fn of(reply: Reply) -> Result<Self, Refusal> {
         match reply {
             Reply::Keys(keys, more) => Ok((keys.into_vec(), more)),
-            other => Err(told(&other)),
+            other => Err(refusal_in(&other)),
         }
     }
 }
@@ -81,7 +81,7 @@ impl Answer for KeyState {
     fn of(reply: Reply) -> Result<Self, Refusal> {
         match reply {
             Reply::State(state) => Ok(state),
-            other => Err(told(&other)),
+            other => Err(refusal_in(&other)),
         }
     }
 }
@@ -98,7 +98,7 @@ impl Answer for () {
     fn of(reply: Reply) -> Result<Self, Refusal> {
         match reply {
             Reply::Done => Ok(()),
-            other => Err(told(&other)),
+            other => Err(refusal_in(&other)),
         }
     }
 }

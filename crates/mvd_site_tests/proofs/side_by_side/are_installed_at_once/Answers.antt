@@ -4,7 +4,7 @@ use Rattle.mvd_site.specs.Config.{ConfigValue}
 use Rattle.mvd_site.specs.Installs.{MayAllBeIn}
 use Rattle.mvd_site.specs.Prepared.{IsChangeNow, IsReady}
 use Rattle.mvd_site.proofs.SideBySide.{room_for_both, still_now}
-use Rattle.mvd_kept.specs.declared.changes.Prepared.TheVariants.{Change}
+use Rattle.mvd_kept.specs.declared.prepared.Prepared.TheVariants.{Change}
 use Rattle.mvd_site_tests.proofs.Now.{is_now}
 use Rattle.mvd_site_tests.proofs.side_by_side.are_installed_at_once.Goals as goal
 

@@ -1,6 +1,6 @@
 use Rattle.std.proofs.Common.{[], ◌∙◌}
 use Rattle.mvd_sync.proofs.Descents.{told_all-more}
-use Rattle.mvd_sync.specs.declared.questions.Node.{Node}
+use Rattle.mvd_sync.specs.declared.asking.Node.{Node}
 use Rattle.mvd_sync.proofs.levels.add_all_children.Goals as goal
 
 pub loop-index-preserved : goal.loop-index-preserved

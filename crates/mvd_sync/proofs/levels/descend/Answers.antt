@@ -2,7 +2,7 @@ use Rattle.std.proofs.Common.{◌≡◌, ◌<◌, ◌≤◌, ◌+◌, ℕ, List,
 use Rattle.mvd_sync.specs.Session.{Each}
 use Rattle.mvd_sync.specs.Sides.{side}
 use Rattle.mvd_sync.specs.Walk.{Descends, told_all}
-use Rattle.mvd_sync.specs.declared.questions.Questions.{Questions}
+use Rattle.mvd_sync.specs.declared.asking.Questions.{Questions}
 use Rattle.mvd_sync.proofs.Descents.{Each-right, Each-take, answers_long, descends_on, nothing_asked, reads_of, reads_on}
 use Rattle.std.specs.Cmp.{unsigned_Decides}
 use Rattle.mvd_sync.proofs.Pages.{no_entries}

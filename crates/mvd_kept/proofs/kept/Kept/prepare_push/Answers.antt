@@ -6,7 +6,7 @@ use Rattle.mvd_wire.specs.declared.reply.Reply.TheVariants.{Done, Refused}
 use Rattle.mvd_kept.specs.Answer.{is_too_large}
 use Rattle.mvd_kept.specs.Held.{state_at}
 use Rattle.mvd_kept.proofs.Lengths.{is_short}
-use Rattle.mvd_kept.specs.declared.changes.Prepared.TheVariants.{Answer}
+use Rattle.mvd_kept.specs.declared.prepared.Prepared.TheVariants.{Answer}
 use Rattle.mvd_kept.proofs.Outcomes.{change_plain, join_err, join_ok, memory_or_not}
 use Rattle.mvd_kept.proofs.Prepare.{limited_push, pushed_clash}
 use Rattle.mvd_kept.proofs.Steps.{within-still}

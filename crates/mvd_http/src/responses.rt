@@ -1,0 +1,295 @@
+//! The response that a reply is: its status, and its body.
+ghost use Rattle.std.specs.Prelude.{◌≡◌, ◌++◌, Ok, OnOk, IfOk, IsOkUnless, option_copied, string_bytes};
+ghost use Rattle.std.specs.List.{flat_map};
+ghost use Rattle.mvd_dots.specs.Text.{text_of};
+ghost use Rattle.mvd_dots.specs.declared.refusals.Refusal.TheVariants.{Memory};
+ghost use Rattle.mvd_http.specs.Answers.{IsTold, Pushes, Responds, found_status as status_found, key_asked as asked_key, ok_told, refused_status as status_of, refused_told, reply_told, row_told, state_told, term_asked as asked_term};
+ghost use Rattle.mvd_wire.specs.declared.reply.Reply.TheVariants.{Done};
+ghost use Rattle.mvd_http.specs.Json.{children_text, commaed, digest_text, led, keys_text, node_text, places_text, refused_text, root_text, rows_text, state_text, written_text};
+
+use crate::json_lists::{
+    KeyDigest, ViewRow, push_keys_page, push_places_page, push_row, push_rows_page, push_siblings,
+};
+use crate::json_words::{push_digest, push_dot, push_number, push_quoted, push_word};
+use mvd_docs::Term;
+use mvd_dots::{Context, Dot, Refusal};
+use mvd_keys::{Key, KeyState, Place};
+use mvd_wire::{Digests, Reply, Request, RowValue};
+use std::alloc::{AllocError, Global};
+
+/// The status of a refusal.
+pub fn refused_status(refusal: Refusal) -> u16
+    ensures { result ≡ status_of refusal }
+{
+    match refusal {
+        Refusal::BadKey
+        | Refusal::BadContext
+        | Refusal::BadDocument
+        | Refusal::NotObject
+        | Refusal::BadNumber
+        | Refusal::DocumentTooLong
+        | Refusal::NotCanonical
+        | Refusal::BadPath
+        | Refusal::BadTerm
+        | Refusal::BadBody => 400,
+        Refusal::NoIndex | Refusal::NoView => 404,
+        Refusal::Exhausted | Refusal::StateTooLarge | Refusal::Full | Refusal::DotClash => 409,
+        Refusal::Memory | Refusal::Store | Refusal::Broken => 503,
+        _ => 500,
+    }
+}
+
+fn push_refused(out: &mut String, refusal: Refusal) -> Result<(), AllocError>
+    ensures { OnOk result (string_bytes out.new ≡ string_bytes out.old ++ refused_text refusal) }
+{
+    push_word(out, "{\"refused\":")?;
+    push_number(out, u64::from(refusal.number()))?;
+    push_word(out, ",\"name\":\"")?;
+    push_word(out, refusal.name())?;
+    push_word(out, "\"}")?;
+    Ok(())
+}
+
+/// Puts the body of a refusal in place of what `out` held, and gives its status.
+pub fn refused_response(out: &mut String, refusal: Refusal) -> Result<u16, AllocError>
+    ensures { IfOk result (λ status. IsTold (refused_told refusal) status (string_bytes out.new)) }
+{
+    out.clear();
+    push_refused(out, refusal)?;
+    Ok(refused_status(refusal))
+}
+
+/// Puts the body of a reply in place of what `out` held, and gives its status.
+pub fn response_of(
+    alloc: Global,
+    request: &Request,
+    reply: &Reply,
+    out: &mut String,
+) -> Result<u16, AllocError>
+    ensures told { IfOk result (λ status. Responds (reply_told request.now reply.now) status (string_bytes out.new)) }
+    ensures done { reply.now ≡ Done → result ≡ Ok 204 }
+{
+    out.clear();
+    match push_reply(alloc, request, reply, out) {
+        Ok(status) => Ok(status),
+        Err(refusal) => refused_response(out, refusal),
+    }
+}
+
+/// The key whose state is asked for.
+fn key_asked(request: &Request) -> Option<&Key>
+    ensures { option_copied result ≡ asked_key request.now }
+{
+    match request {
+        Request::Get(key) => Some(key),
+        _ => None,
+    }
+}
+
+/// The term whose row is asked for.
+fn term_asked(request: &Request) -> Option<&Term>
+    ensures { option_copied result ≡ asked_term request.now }
+{
+    match request {
+        Request::Row(_, term) => Some(term),
+        _ => None,
+    }
+}
+
+fn push_reply(
+    alloc: Global,
+    request: &Request,
+    reply: &Reply,
+    out: &mut String,
+) -> Result<u16, Refusal>
+    ensures told { Pushes (reply_told request.now reply.now) (string_bytes out.old) (string_bytes out.new) result }
+    ensures done { reply.now ≡ Done → result ≡ Ok 204 }
+{
+    match reply {
+        Reply::State(state) => push_found(alloc, key_asked(request), state, out),
+        Reply::Written(dot) => push_written(out, *dot),
+        Reply::Done => Ok(204),
+        Reply::Places(places, more) => push_places_of(alloc, out, places.as_slice(), *more),
+        Reply::Row(row) => push_row_of(alloc, term_asked(request), row, out),
+        Reply::Rows(rows, more) => push_rows_of(alloc, out, rows.as_slice(), *more),
+        Reply::Digests(digests) => push_node(alloc, digests, out),
+        Reply::Keys(keys, more) => push_keys_of(alloc, out, keys.as_slice(), *more),
+        Reply::Refused(refusal) => Err(*refusal),
+    }
+}
+
+fn push_places_of(
+    alloc: Global,
+    out: &mut String,
+    places: &[Place],
+    more: bool,
+) -> Result<u16, Refusal>
+    ensures { Pushes (Ok (ok_told (places_text places.now more))) (string_bytes out.old) (string_bytes out.new) result }
+{
+    push_places_page(alloc, out, places, more)?;
+    Ok(200)
+}
+
+fn push_rows_of(
+    alloc: Global,
+    out: &mut String,
+    rows: &[ViewRow],
+    more: bool,
+) -> Result<u16, Refusal>
+    ensures { Pushes (Ok (ok_told (rows_text rows.now more))) (string_bytes out.old) (string_bytes out.new) result }
+{
+    push_rows_page(alloc, out, rows, more)?;
+    Ok(200)
+}
+
+fn push_keys_of(
+    alloc: Global,
+    out: &mut String,
+    keys: &[KeyDigest],
+    more: bool,
+) -> Result<u16, Refusal>
+    ensures { Pushes (Ok (ok_told (keys_text keys.now more))) (string_bytes out.old) (string_bytes out.new) result }
+{
+    push_keys_page(alloc, out, keys, more)?;
+    Ok(200)
+}
+
+fn push_found(
+    alloc: Global,
+    key: Option<&Key>,
+    state: &KeyState,
+    out: &mut String,
+) -> Result<u16, Refusal>
+    ensures { Pushes (state_told (option_copied key.entry) state.now) (string_bytes out.old) (string_bytes out.new) result }
+{
+    let Some(key) = key else {
+        return Err(Refusal::BadKind);
+    };
+    push_state(alloc, key, state, out)?;
+    Ok(found_status(state))
+}
+
+fn found_status(state: &KeyState) -> u16
+    ensures { result ≡ status_found state.now }
+{
+    if state.siblings().is_empty() {
+        404
+    } else {
+        200
+    }
+}
+
+fn push_context(out: &mut String, context: &Context) -> Result<(), Refusal>
+    ensures text { OnOk result (string_bytes out.new ≡ string_bytes out.old ++ text_of context.now) }
+    ensures memory { IsOkUnless result Refusal.Memory }
+{
+    let text = context.print()?;
+    Ok(push_word(out, text.as_str())?)
+}
+
+fn push_state(alloc: Global, key: &Key, state: &KeyState, out: &mut String) -> Result<(), Refusal>
+    ensures text { OnOk result (string_bytes out.new ≡ string_bytes out.old ++ state_text key.now state.now) }
+    ensures memory { IsOkUnless result Refusal.Memory }
+{
+    push_word(out, "{\"key\":")?;
+    push_quoted(alloc, out, key.text())?;
+    push_word(out, ",\"context\":\"")?;
+    push_context(out, state.context())?;
+    push_word(out, "\",\"siblings\":[")?;
+    push_siblings(out, state.siblings())?;
+    push_word(out, "]}")?;
+    Ok(())
+}
+
+fn push_written(out: &mut String, dot: Dot) -> Result<u16, Refusal>
+    ensures { Pushes (Ok (record { status = 201; body = written_text dot })) (string_bytes out.old) (string_bytes out.new) result }
+{
+    push_word(out, "{\"dot\":\"")?;
+    push_dot(out, dot)?;
+    push_word(out, "\"}")?;
+    Ok(201)
+}
+
+fn push_row_of(
+    alloc: Global,
+    term: Option<&Term>,
+    row: &RowValue,
+    out: &mut String,
+) -> Result<u16, Refusal>
+    ensures { Pushes (row_told (option_copied term.entry) row.now) (string_bytes out.old) (string_bytes out.new) result }
+{
+    let Some(term) = term else {
+        return Err(Refusal::BadKind);
+    };
+    push_row(alloc, out, term, row.count, row.sum, row.ends)?;
+    Ok(200)
+}
+
+fn push_more_digests(alloc: Global, out: &mut String, digests: &[[u8; 32]]) -> Result<(), Refusal>
+    ensures text { OnOk result (string_bytes out.new ≡ string_bytes out.old ++ flat_map (led digest_text) digests.now) }
+    ensures memory { IsOkUnless result Refusal.Memory }
+{
+    for digest in digests {
+        push_word(out, ",")?;
+        push_digest(alloc, out, *digest)?;
+    }
+    Ok(())
+}
+
+fn push_digests(alloc: Global, out: &mut String, digests: &[[u8; 32]]) -> Result<(), Refusal>
+    ensures text { OnOk result (string_bytes out.new ≡ string_bytes out.old ++ commaed digest_text digests.now) }
+    ensures memory { IsOkUnless result Refusal.Memory }
+{
+    let Some((first, rest)) = digests.split_first() else {
+        return Ok(());
+    };
+    push_digest(alloc, out, *first)?;
+    push_more_digests(alloc, out, rest)
+}
+
+fn push_children(
+    alloc: Global,
+    out: &mut String,
+    children: &Option<[[u8; 32]; 16]>,
+) -> Result<(), Refusal>
+    ensures text { OnOk result (string_bytes out.new ≡ string_bytes out.old ++ children_text children.now) }
+    ensures memory { IsOkUnless result Refusal.Memory }
+{
+    let Some(children) = children else {
+        return Ok(());
+    };
+    push_word(out, ",\"children\":[")?;
+    push_digests(alloc, out, children)?;
+    Ok(push_word(out, "]")?)
+}
+
+fn push_node(alloc: Global, digests: &Digests, out: &mut String) -> Result<u16, Refusal>
+    ensures { Pushes (Ok (ok_told (node_text digests.now.own digests.now.children))) (string_bytes out.old) (string_bytes out.new) result }
+{
+    push_word(out, "{\"digest\":")?;
+    push_digest(alloc, out, digests.own)?;
+    push_children(alloc, out, &digests.children)?;
+    push_word(out, "}")?;
+    Ok(200)
+}
+
+/// The root of the hash tree, with the number of keys and the site, behind what `out` holds.
+pub fn push_root(
+    alloc: Global,
+    out: &mut String,
+    digest: [u8; 32],
+    keys: u64,
+    site: u32,
+) -> Result<(), Refusal>
+    ensures text { OnOk result (string_bytes out.new ≡ string_bytes out.old ++ root_text digest keys site) }
+    ensures memory { IsOkUnless result Refusal.Memory }
+{
+    push_word(out, "{\"root\":")?;
+    push_digest(alloc, out, digest)?;
+    push_word(out, ",\"keys\":")?;
+    push_number(out, keys)?;
+    push_word(out, ",\"site\":")?;
+    push_number(out, u64::from(site))?;
+    push_word(out, "}")?;
+    Ok(())
+}

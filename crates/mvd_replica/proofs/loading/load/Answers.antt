@@ -1,0 +1,33 @@
+use Rattle.std.proofs.Common.{◌∙◌}
+use Rattle.sqlite.specs.Held.{state}
+use Rattle.mvd_replica.proofs.Loading.{loaded_full, loaded_spelled, states_rise}
+use Rattle.mvd_replica.proofs.Ordered.{loaded_order, not_whole, read_order, too_many}
+use Rattle.mvd_replica.proofs.loading.load.Goals as goal
+
+pub open-requires-clause-rising : goal.open-requires-clause-rising
+open-requires-clause-rising g c = states_rise _ _ c.in-Ok-states_of.ensures.spelled c.in-Ok.ensures.rising
+
+pub returns-clause-spelled : goal.returns-clause-spelled
+returns-clause-spelled g c version number sound holds =
+    loaded_spelled c.args.config _ c.in-Ok-states_of.states.items c.open.result c.open.ensures.opened (c.in-Ok-states_of.ensures.spelled ∙ c.in-Ok.ensures.entries version number sound holds)
+
+pub returns-clause-full : goal.returns-clause-full
+returns-clause-full g c version number sound holds =
+    too_many c.open.result c.args.config.max_keys _
+    (read_order c.args.records.now.version (state g.S.Store c.args.records.now.conn).committed c.in-Ok.pairs.items c.requires (c.in-Ok.ensures.whole version number sound holds) (c.in-Ok.ensures.entries version number sound holds)
+    c.in-Ok-states_of.ensures.stored)
+    (loaded_full c.args.config _ c.in-Ok-states_of.states.items c.open.result c.open.ensures.opened (c.in-Ok-states_of.ensures.spelled ∙ c.in-Ok.ensures.entries version number sound holds))
+
+pub returns-in-Err-clause-order : goal.returns-in-Err-clause-order
+returns-in-Err-clause-order g c version number sound holds damaged =
+    not_whole c.args.records.now.version (state g.S.Store c.args.records.now.conn).committed c.requires (c.in-Err.ensures.damaged version number sound holds damaged)
+
+pub returns-in-Err-states_of-clause-order : goal.returns-in-Err-states_of-clause-order
+returns-in-Err-states_of-clause-order g c version number sound holds damaged order =
+    c.in-Err-states_of.ensures.damaged _ (c.in-Ok.ensures.entries version number sound holds) damaged order.new_stored
+
+pub returns-clause-order : goal.returns-clause-order
+returns-clause-order g c version number sound holds =
+    loaded_order c.args.config c.in-Ok-states_of.states.items c.open.result _ _ c.open.ensures.opened
+    (read_order c.args.records.now.version (state g.S.Store c.args.records.now.conn).committed c.in-Ok.pairs.items c.requires (c.in-Ok.ensures.whole version number sound holds) (c.in-Ok.ensures.entries version number sound holds)
+    c.in-Ok-states_of.ensures.stored)

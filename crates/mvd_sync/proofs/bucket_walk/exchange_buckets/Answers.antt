@@ -1,0 +1,58 @@
+use Rattle.std.proofs.Common.{◌≡◌, ◌+◌, [], ◌++◌, length, take, drop, refl, sym, ap, subst, ◌∙◌, length-append, append_assoc, append-nil}
+use Rattle.std.specs.Prelude.{Ok, Err}
+use Rattle.std.specs.Cmp.{unsigned_Decides}
+use Rattle.std.proofs.lemmas.List.{take-append-drop}
+use Rattle.mvd_site.specs.Held.{States}
+use Rattle.mvd_sync.specs.Buckets.{GoesThrough}
+use Rattle.mvd_sync.specs.Sides.{side}
+use Rattle.mvd_sync.proofs.Fails.{window_moves}
+use Rattle.mvd_sync.proofs.Pages.{no_entries}
+use Rattle.mvd_sync.proofs.Through.{through_cut, through_none, through_on}
+use Rattle.mvd_sync.proofs.bucket_walk.exchange_buckets.Goals as goal
+
+pub loop-rest-init : goal.loop-rest-init
+loop-rest-init g c =
+    let l = side g.L.Peer.states g.L.Peer.is_faithful g.L.Peer.can_give g.L.Peer.follows g.L.Peer.can_refuse g.L.Peer.can_answer g.L.Peer.most_keys g.L.Peer.number in
+    let p = side g.P.Peer.states g.P.Peer.is_faithful g.P.Peer.can_give g.P.Peer.follows g.P.Peer.can_refuse g.P.Peer.can_answer g.P.Peer.most_keys g.P.Peer.number in
+    ([], refl, through_none l p (λ a b. Unit {0}) g.met.L.Peer.follows_self g.met.P.Peer.follows_self c.args.left.now c.args.local.now c.args.peer.now c.args.exchange.now)
+
+pub returns-in-Err : goal.returns-in-Err
+returns-in-Err g c =
+    let l = side g.L.Peer.states g.L.Peer.is_faithful g.L.Peer.can_give g.L.Peer.follows g.L.Peer.can_refuse g.L.Peer.can_answer g.L.Peer.most_keys g.L.Peer.number in
+    let p = side g.P.Peer.states g.P.Peer.is_faithful g.P.Peer.can_give g.P.Peer.follows g.P.Peer.can_refuse g.P.Peer.can_answer g.P.Peer.most_keys g.P.Peer.number in
+    let at = c.loop-rest.invariant in
+    let done = at.0 in
+    let n = c.min-count.result in
+    let window = take n c.loop-rest.rest.now in
+    let Told : States → States → Type 0 = λ a b. Unit {0} in
+    let more = through_on l p g.met.L.Peer.follows_on g.met.P.Peer.follows_on g.met.L.Peer.most_stays g.met.P.Peer.most_stays Told Told (λ a b told. told) done window (length done) (length window) c.args.left.now c.loop-rest.left c.exchange_window.new.left c.args.local.now c.loop-rest.local c.exchange_window.new.local c.args.peer.now c.loop-rest.peer c.exchange_window.new.peer c.args.exchange.now c.loop-rest.exchange c.exchange_window.new.exchange (Err c.in-Err.fault) at.2 c.in-Err.ensures in
+    let later = drop n c.loop-rest.rest.now in
+    let all : (done ++ window) ++ later ≡ c.args.paths.now = append_assoc done window later ∙ ap (λ xs. done ++ xs) (take-append-drop n c.loop-rest.rest.now) ∙ sym at.1 in
+    let long : (length done + length window) + length later ≡ length c.args.paths.now = ap (λ k. k + length later) (sym (length-append done window)) ∙ sym (length-append (done ++ window) later) ∙ ap length all in
+    subst (λ k. GoesThrough {A = Unit {0}} l p Told c.args.paths.now k c.args.left.now c.exchange_window.new.left c.args.local.now c.exchange_window.new.local c.args.peer.now c.exchange_window.new.peer c.args.exchange.now c.exchange_window.new.exchange (Err c.in-Err.fault)) long
+    (subst (λ qs. GoesThrough {A = Unit {0}} l p Told qs ((length done + length window) + length later) c.args.left.now c.exchange_window.new.left c.args.local.now c.exchange_window.new.local c.args.peer.now c.exchange_window.new.peer c.args.exchange.now c.exchange_window.new.exchange (Err c.in-Err.fault)) all
+    (through_cut l p Told (done ++ window) later (length done + length window) (length later) c.args.left.now c.exchange_window.new.left c.args.local.now c.exchange_window.new.local c.args.peer.now c.exchange_window.new.peer c.args.exchange.now c.exchange_window.new.exchange c.in-Err.fault more))
+
+pub loop-rest-preserved : goal.loop-rest-preserved
+loop-rest-preserved g c =
+    let l = side g.L.Peer.states g.L.Peer.is_faithful g.L.Peer.can_give g.L.Peer.follows g.L.Peer.can_refuse g.L.Peer.can_answer g.L.Peer.most_keys g.L.Peer.number in
+    let p = side g.P.Peer.states g.P.Peer.is_faithful g.P.Peer.can_give g.P.Peer.follows g.P.Peer.can_refuse g.P.Peer.can_answer g.P.Peer.most_keys g.P.Peer.number in
+    let at = c.loop-rest.invariant in
+    let done = at.0 in
+    let n = c.min-count.result in
+    let window = take n c.loop-rest.rest.now in
+    let Told : States → States → Type 0 = λ a b. Unit {0} in
+    let more = through_on l p g.met.L.Peer.follows_on g.met.P.Peer.follows_on g.met.L.Peer.most_stays g.met.P.Peer.most_stays Told Told (λ a b told. told) done window (length done) (length window) c.args.left.now c.loop-rest.left c.exchange_window.new.left c.args.local.now c.loop-rest.local c.exchange_window.new.local c.args.peer.now c.loop-rest.peer c.exchange_window.new.peer c.args.exchange.now c.loop-rest.exchange c.exchange_window.new.exchange (Ok (tt {0})) at.2 c.in-Ok.ensures in (
+      done ++ window,
+      window_moves c.args.paths.now done c.loop-rest.rest.now n at.1,
+      subst (λ k. GoesThrough l p Told (done ++ window) k c.args.left.now c.exchange_window.new.left c.args.local.now c.exchange_window.new.local c.args.peer.now c.exchange_window.new.peer c.args.exchange.now c.exchange_window.new.exchange (Ok (tt {0}))) (sym (length-append done window)) more,
+    )
+
+pub returns : goal.returns
+returns g c =
+    let l = side g.L.Peer.states g.L.Peer.is_faithful g.L.Peer.can_give g.L.Peer.follows g.L.Peer.can_refuse g.L.Peer.can_answer g.L.Peer.most_keys g.L.Peer.number in
+    let p = side g.P.Peer.states g.P.Peer.is_faithful g.P.Peer.can_give g.P.Peer.follows g.P.Peer.can_refuse g.P.Peer.can_answer g.P.Peer.most_keys g.P.Peer.number in
+    let at = c.loop-rest.invariant in
+    let none = no_entries c.loop-rest.rest.now ((unsigned_Decides (length c.loop-rest.rest.now) 0).0 (sym c.is_empty.ensures ∙ c.loop-rest-test.false)) in
+    let all : c.args.paths.now ≡ at.0 = at.1 ∙ ap (λ xs. at.0 ++ xs) none ∙ append-nil at.0 in
+    subst (λ xs. GoesThrough l p (λ a b. Unit {0}) xs (length xs) c.args.left.now c.loop-rest.left c.args.local.now c.loop-rest.local c.args.peer.now c.loop-rest.peer c.args.exchange.now c.loop-rest.exchange (Ok (tt {0}))) (sym all) at.2

@@ -1,0 +1,242 @@
+//! Questions to a side, of which no more are made than were given.
+ghost use Rattle.std.specs.Prelude.{◌≡◌, ◌≢◌, ◌+◌, ◌-◌, ◌<◌, ◌≤◌, ◌^◌, [], length, false, OnOk, IfOk, IfErr, IsTrue, ◌↔◌, ◌⊎◌, ◌++◌, All, Contains, Some, None, min};
+ghost use Rattle.mvd_site.specs.Answer.{digests};
+ghost use Rattle.mvd_site.specs.Held.{state_at};
+ghost use Rattle.mvd_sync.specs.Answers.{IsPage, IsPageOf};
+ghost use Rattle.mvd_sync.specs.Questions.{AllAnswered, ComesToEnd, ForEach, IsInner, IsOfKey, IsWindow, Keeps, Takes, TakesFirst, TakesIn, AnswersEach, push_bytes};
+ghost use Rattle.mvd_sync.specs.Session.{Each};
+ghost use Rattle.mvd_sync.specs.Sides.{HasAnswered, is_of_key, side as side_of};
+
+use crate::cursor::Listing;
+use crate::peer::Peer;
+use mvd_dots::Refusal;
+use mvd_keys::{Key, KeyState, Path};
+use mvd_wire::{Digests, state_length};
+
+/// How many questions each side may still be asked.
+#[derive(Clone, Copy, Debug)]
+pub struct Questions {
+    pub local: u64,
+    pub peer: u64,
+}
+
+/// How many of so many questions are still left, which are taken.
+fn take(left: &mut u64, wanted: usize) -> usize
+    ensures { Takes left.old left.new wanted result }
+{
+    let taken = if *left < wanted as u64 {
+        *left as usize
+    } else {
+        wanted
+    };
+    *left -= taken as u64;
+    taken
+}
+
+/// That as many questions were left as were wanted.
+fn are_all(taken: usize, wanted: usize) -> Result<(), Refusal>
+    ensures all { OnOk result (wanted ≤ taken) }
+    ensures few { IfErr result (λ refusal. (refusal ≡ Refusal.TooManyRequests) × (taken < wanted)) }
+{
+    if taken < wanted {
+        return Err(Refusal::TooManyRequests);
+    }
+    Ok(())
+}
+
+/// Takes one question, if one is left.
+pub fn take_one(left: &mut u64) -> Result<(), Refusal>
+    ensures taken { OnOk result (left.old ≡ left.new + 1) }
+    ensures none { IfErr result (λ refusal. (refusal ≡ Refusal.TooManyRequests) × (left.old ≡ 0) × (left.new ≡ 0)) }
+{
+    are_all(take(left, 1), 1)
+}
+
+/// A node above the buckets.
+#[derive(Drop)]
+pub struct Node {
+    pub own: [u8; 32],
+    pub children: [[u8; 32]; 16],
+}
+
+/// The digests of a node above the buckets; without children they are 33.
+fn inner(digests: Digests) -> Result<Node, Refusal>
+    ensures node { IfOk result (λ node. (node.own ≡ digests.own) × (digests.children ≡ Some node.children)) }
+    ensures none { IfErr result (λ refusal. (refusal ≡ Refusal.BadBody) × (digests.children ≡ None)) }
+{
+    let own = digests.own;
+    match digests.children {
+        Some(children) => Ok(Node { own, children }),
+        None => Err(Refusal::BadBody),
+    }
+}
+
+/// What a side answers for nodes above the buckets; digests without children are 33.
+pub fn ask_nodes<P: Peer>(
+    side: &mut P,
+    left: &mut u64,
+    paths: &[Path],
+) -> Result<Vec<Node>, Refusal>
+    requires inner { Each (λ path. length path < 3) paths.now }
+    ensures told { let s = side_of P.states P.is_faithful P.can_give P.follows P.can_refuse P.can_answer P.most_keys P.number in
+        IfOk result
+        (λ nodes. AllAnswered s (λ _ _. HasAnswered P.follows P.can_answer side.old side.new)
+        (AnswersEach s (IsInner (digests (P.states side.old))) paths.now nodes.items side.old side.new)
+        paths.now nodes.items left.old left.new side.old side.new) }
+    ensures ended { let s = side_of P.states P.is_faithful P.can_give P.follows P.can_refuse P.can_answer P.most_keys P.number in
+        IfErr result
+        (ComesToEnd s (Keeps s side.old side.new) (length paths.now) left.old side.old side.new) }
+{
+    let taken = take(left, paths.len());
+    let told = side.nodes(&paths[..taken])?;
+    let mut nodes = Vec::with_capacity(side.alloc(), told.len())?;
+    for answer in told {
+        nodes.push(inner(answer?)?)?;
+    }
+    are_all(taken, paths.len())?;
+    Ok(nodes)
+}
+
+/// The first pages of buckets; keys that do not rise, or more without a key, are 33.
+pub fn ask_pages<P: Peer>(
+    side: &mut P,
+    left: &mut u64,
+    asked: &[(Path, Option<Key>)],
+) -> Result<Vec<Listing>, Refusal>
+    ensures told { let s = side_of P.states P.is_faithful P.can_give P.follows P.can_refuse P.can_answer P.most_keys P.number in
+        IfOk result
+        (λ pages. AllAnswered s (λ q page. IsPage None page.0 page.1 × (length page.0 < 2 ^ 64) × HasAnswered P.follows P.can_answer side.old side.new)
+        (AnswersEach s (λ q page. IsPageOf (digests (P.states side.old)) q.0 q.1 page.0 page.1) asked.now pages.items side.old side.new)
+        asked.now pages.items left.old left.new side.old side.new) }
+    ensures ended { let s = side_of P.states P.is_faithful P.can_give P.follows P.can_refuse P.can_answer P.most_keys P.number in
+        IfErr result
+        (ComesToEnd s (Keeps s side.old side.new) (length asked.now) left.old side.old side.new) }
+{
+    let taken = take(left, asked.len());
+    let told = side.pages(&asked[..taken])?;
+    let mut listings = Vec::with_capacity(side.alloc(), told.len())?;
+    for answer in told {
+        listings.push(Listing::of_page(None, answer?)?)?;
+    }
+    are_all(taken, asked.len())?;
+    Ok(listings)
+}
+
+/// The states of keys.
+pub fn ask_gets<P: Peer>(
+    side: &mut P,
+    left: &mut u64,
+    keys: &[Key],
+) -> Result<Vec<KeyState>, Refusal>
+    ensures told { let s = side_of P.states P.is_faithful P.can_give P.follows P.can_refuse P.can_answer P.most_keys P.number in
+        IfOk result
+        (λ states. AllAnswered s (λ key state. P.can_give key state × HasAnswered P.follows P.can_answer side.old side.new)
+        (AnswersEach s (λ key state. state ≡ state_at (P.states side.old) key) keys.now states.items side.old side.new)
+        keys.now states.items left.old left.new side.old side.new) }
+    ensures ended { let s = side_of P.states P.is_faithful P.can_give P.follows P.can_refuse P.can_answer P.most_keys P.number in
+        IfErr result
+        (ComesToEnd s (Keeps s side.old side.new) (length keys.now) left.old side.old side.new) }
+{
+    let taken = take(left, keys.len());
+    let told = side.get_all(&keys[..taken])?;
+    let mut states = Vec::with_capacity(side.alloc(), told.len())?;
+    for answer in told {
+        states.push(answer?)?;
+    }
+    are_all(taken, keys.len())?;
+    Ok(states)
+}
+
+/// So many bytes of pushes are sent at once, unless it is one push.
+const WINDOW_BYTES: u64 = 1_048_576;
+
+/// How long the frame of a push is.
+fn frame_length(pair: &(Key, KeyState)) -> u64
+    ensures { result ≡ min (push_bytes pair.now) (2 ^ 64 - 1) }
+{
+    let key = pair.0.text().len() as u64;
+    state_length(&pair.1).saturating_add(key).saturating_add(6)
+}
+
+/// How many of these pushes are sent at once: one, or as many of the first as are within the limit together.
+fn window(pairs: &[(Key, KeyState)]) -> usize
+    ensures { IsWindow pairs.now result }
+{
+    let mut bytes = 0u64;
+    let mut count = 0;
+    for pair in pairs {
+        bytes = bytes.saturating_add(frame_length(pair));
+        if bytes > WINDOW_BYTES && count > 0 {
+            return count;
+        }
+        count += 1;
+    }
+    count
+}
+
+/// Adds these answers to those that were told before; one that is a refusal of more than its key ends it.
+fn add_told(
+    told: &mut Vec<Result<(), Refusal>>,
+    answers: Vec<Result<(), Refusal>>,
+) -> Result<(), Refusal>
+    ensures added { OnOk result (told.new.items ≡ told.old.items ++ answers.items) }
+    ensures of_key { OnOk result (All IsOfKey answers.items) }
+    ensures other { IfErr result
+        (λ refusal. (refusal ≡ Refusal.Memory) ⊎ (Contains answers.items (Err refusal) × (is_of_key refusal ≡ false))) }
+{
+    for answer in answers {
+        told.push(of_key(answer)?)?;
+    }
+    Ok(())
+}
+
+/// Pushes states into a side, a window after the other, and tells of each key whether it was taken.
+pub fn ask_pushes<P: Peer>(
+    side: &mut P,
+    left: &mut u64,
+    pairs: &[(Key, KeyState)],
+) -> Result<Vec<Result<(), Refusal>>, Refusal>
+    ensures told { let s = side_of P.states P.is_faithful P.can_give P.follows P.can_refuse P.can_answer P.most_keys P.number in
+        IfOk result
+        (λ told. AllAnswered s (λ _ told. IsOfKey told)
+        (TakesIn s pairs.now told.items side.old side.new)
+        pairs.now told.items left.old left.new side.old side.new) }
+    ensures ended { let s = side_of P.states P.is_faithful P.can_give P.follows P.can_refuse P.can_answer P.most_keys P.number in
+        IfErr result
+        (λ refusal. ComesToEnd s (TakesFirst s pairs.now side.old side.new refusal) (length pairs.now) left.old
+        side.old side.new refusal) }
+{
+    let mut told = Vec::with_capacity(side.alloc(), pairs.len())?;
+    let mut rest = pairs;
+    while !rest.is_empty() {
+        let count = window(rest);
+        let taken = take(left, count);
+        let answers = side.push_all(&rest[..taken])?;
+        add_told(&mut told, answers)?;
+        are_all(taken, count)?;
+        rest = &rest[count..];
+    }
+    Ok(told)
+}
+
+/// Whether a refusal is of one key alone.
+pub fn is_of_key(refusal: Refusal) -> bool
+    ensures { result ≡ is_of_key refusal }
+{
+    matches!(
+        refusal,
+        Refusal::StateTooLarge | Refusal::Full | Refusal::DotClash
+    )
+}
+
+/// An answer, unless it is a refusal that is not of its key alone.
+fn of_key(answer: Result<(), Refusal>) -> Result<Result<(), Refusal>, Refusal>
+    ensures same { IfOk result (λ told. (told ≡ answer) × IsOfKey told) }
+    ensures other { IfErr result (λ refusal. (answer ≡ Err refusal) × (is_of_key refusal ≡ false)) }
+{
+    match answer {
+        Ok(()) => Ok(Ok(())),
+        Err(refusal) if is_of_key(refusal) => Ok(Err(refusal)),
+        Err(refusal) => Err(refusal),
+    }
+}

@@ -1,0 +1,198 @@
+//! What a session has left of a side's page of a bucket.
+ghost use Rattle.std.specs.Prelude.{◌≡◌, ◌≢◌, ◌+◌, ◌-◌, ◌*◌, ◌≤◌, [], ◌∷◌, length, IfOk, IfErr, IfSome, IfNone, OnSome, ◌<◌, ◌^◌, OnOk, OnErr, MatchOption, option_copied, true, IsTrue, ◌↔◌};
+ghost use Rattle.mvd_tree.specs.Page.{is_after};
+ghost use Rattle.mvd_sync.specs.Answers.{IsPage, Rises, TakesNext, order_of_first};
+ghost use Rattle.mvd_sync.specs.Questions.{ComesToEnd, Fetches, Fills, Keeps};
+ghost use Rattle.mvd_sync.specs.Sides.{side as side_of};
+
+use crate::asking::take_one;
+use crate::levels::is_same;
+use crate::peer::{Page, Peer};
+use mvd_dots::Refusal;
+use mvd_keys::{Key, Path};
+use std::cmp::Ordering;
+use std::marker::Model;
+
+/// What is left of a page, and whether the bucket goes on after it.
+#[derive(Drop)]
+pub struct Listing {
+    // The next entry stands last.
+    page: Vec<(Key, [u8; 32])>,
+    more: bool,
+}
+
+impl Model for Listing {
+    ghost use Rattle.std.specs.Prelude.{List, ℕ, Bool, reverse};
+
+    ghost Value = { List (List ℕ × List ℕ) × Bool };
+
+    ghost view = { λ a. (reverse a.page.items, a.more) };
+}
+
+/// A key that a page of either side tells: which sides hold it, and whether its digests differ.
+#[derive(Drop)]
+pub struct Entry {
+    pub key: Key,
+    pub mine: bool,
+    pub theirs: bool,
+    pub differs: bool,
+}
+
+/// Whether a key comes after another, or after none.
+fn comes_after(last: Option<&Key>, key: &Key) -> bool
+    ensures { result ≡ is_after (option_copied last.entry) key.now }
+{
+    match last {
+        Some(last) => last.cmp(key).is_lt(),
+        None => true,
+    }
+}
+
+/// Whether the keys of a page strictly rise from a key on.
+fn rises(after: Option<&Key>, page: &[(Key, [u8; 32])]) -> bool
+    ensures { IsTrue result ↔ Rises (option_copied after.entry) page.now }
+{
+    let mut last = after;
+    for (key, _) in page {
+        if !comes_after(last, key) {
+            return false;
+        }
+        last = Some(key);
+    }
+    true
+}
+
+impl Listing {
+    /// A page that comes after a key. Keys that do not rise, or more without a key, are 33.
+    pub fn of_page(after: Option<&Key>, page: Page) -> Result<Self, Refusal>
+        ensures page { IfOk result (λ listing. listing ≡ (page.0.items, page.1)) }
+        ensures rises { IfOk result (λ listing. IsPage (option_copied after.entry) listing.0 listing.1) }
+        ensures bad { IfErr result (λ refusal. (refusal ≡ Refusal.BadBody) × (IsPage (option_copied after.entry) page.0.items page.1 → ⊥)) }
+        ensures length { IfOk result (λ page. length page.0 < 2 ^ 64) }
+    {
+        let (mut page, more) = page;
+        if !rises(after, page.as_slice()) {
+            return Err(Refusal::BadBody);
+        }
+        if more && page.is_empty() {
+            return Err(Refusal::BadBody);
+        }
+        page.reverse();
+        Ok(Listing { page, more })
+    }
+
+    /// The page of a bucket that comes after a key. Keys that do not rise, or more without a key, are 33.
+    fn fetch<P: Peer>(
+        side: &mut P,
+        left: &mut u64,
+        path: &Path,
+        after: Option<&Key>,
+    ) -> Result<Self, Refusal>
+        ensures told { let s = side_of P.states P.is_faithful P.can_give P.follows P.can_refuse P.can_answer P.most_keys P.number in
+            IfOk result
+            (λ listing. Fetches s path.now (option_copied after.entry) listing left.old left.new side.old side.new) }
+        ensures ended { let s = side_of P.states P.is_faithful P.can_give P.follows P.can_refuse P.can_answer P.most_keys P.number in
+            IfErr result (ComesToEnd s (Keeps s side.old side.new) 1 left.old side.old side.new) }
+    {
+        match take_one(left) {
+            Ok(()) => {}
+            Err(refusal) => return Err(refusal),
+        }
+        match side.bucket(path, after) {
+            Ok(page) => Listing::of_page(after, page),
+            Err(refusal) => Err(refusal),
+        }
+    }
+
+    /// Whether no entry is left, and the bucket goes on.
+    fn is_spent(&self) -> bool
+        ensures { IsTrue result ↔ ((self.now.0 ≡ []) × (self.now.1 ≡ true)) }
+    {
+        self.page.is_empty() && self.more
+    }
+
+    /// Makes sure that an entry is there, unless none is left.
+    pub fn fill<P: Peer>(
+        &mut self,
+        side: &mut P,
+        left: &mut u64,
+        path: &Path,
+        after: Option<&Key>,
+    ) -> Result<(), Refusal>
+        ensures filled { let s = side_of P.states P.is_faithful P.can_give P.follows P.can_refuse P.can_answer P.most_keys P.number in
+            OnOk result
+            (Fills s path.now (option_copied after.entry) self.old self.new left.old left.new side.old side.new) }
+        ensures ended { let s = side_of P.states P.is_faithful P.can_give P.follows P.can_refuse P.can_answer P.most_keys P.number in
+            IfErr result (ComesToEnd s (Keeps s side.old side.new) 1 left.old side.old side.new) }
+        ensures needed { OnErr result ((self.old.0 ≡ []) × (self.old.1 ≡ true)) }
+    {
+        if !self.is_spent() {
+            return Ok(());
+        }
+        match Listing::fetch(side, left, path, after) {
+            Ok(listing) => {
+                *self = listing;
+                Ok(())
+            }
+            Err(refusal) => Err(refusal),
+        }
+    }
+
+    /// The first entry, which is taken out.
+    pub fn take(&mut self) -> Option<(Key, [u8; 32])>
+        ensures { MatchOption result ((self.old.0 ≡ []) × (self.new ≡ self.old)) (λ e. (self.old.0 ≡ e ∷ self.new.0) × (self.new.1 ≡ self.old.1)) }
+    {
+        self.page.pop()
+    }
+
+    /// Which of two listings has the lesser first key.
+    pub fn order(&self, other: &Listing) -> Option<Ordering>
+        ensures { result ≡ order_of_first self.now.0 other.now.0 }
+    {
+        match (self.page.last(), other.page.last()) {
+            (None, None) => None,
+            (Some(_), None) => Some(Ordering::Less),
+            (None, Some(_)) => Some(Ordering::Greater),
+            (Some(first), Some(second)) => Some(first.0.cmp(&second.0)),
+        }
+    }
+}
+
+/// Takes the lesser first key of two listings, from both where both begin with it.
+pub fn next(mine: &mut Listing, theirs: &mut Listing) -> Option<Entry>
+    ensures none { IfNone result ((mine.old.0 ≡ []) × (theirs.old.0 ≡ [])) }
+    ensures next { IfSome result (λ e. TakesNext mine.old.0 theirs.old.0 e.key e.mine e.theirs e.differs mine.new.0 theirs.new.0) }
+    ensures fewer { OnSome result (length mine.new.0 + length theirs.new.0 < length mine.old.0 + length theirs.old.0) }
+    ensures more { (mine.new.1 ≡ mine.old.1) × (theirs.new.1 ≡ theirs.old.1) }
+{
+    match mine.order(theirs)? {
+        Ordering::Less => {
+            let (key, _) = mine.take()?;
+            Some(Entry {
+                key,
+                mine: true,
+                theirs: false,
+                differs: true,
+            })
+        }
+        Ordering::Greater => {
+            let (key, _) = theirs.take()?;
+            Some(Entry {
+                key,
+                mine: false,
+                theirs: true,
+                differs: true,
+            })
+        }
+        Ordering::Equal => {
+            let (key, first) = mine.take()?;
+            let (_, second) = theirs.take()?;
+            Some(Entry {
+                key,
+                mine: true,
+                theirs: true,
+                differs: !is_same(&first, &second),
+            })
+        }
+    }
+}

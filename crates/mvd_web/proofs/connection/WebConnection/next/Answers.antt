@@ -1,6 +1,0 @@
-use Rattle.mvd_web.specs.Inside.{web_of}
-use Rattle.mvd_web.proofs.Calls.{not_free}
-use Rattle.mvd_web.proofs.connection.WebConnection.next.Goals as goal
-
-pub returns : goal.returns
-returns c = not_free (web_of c.args.self.now) c.is_free.result c.is_free.ensures c.if-is_free.false

@@ -1,0 +1,279 @@
+//! One connection: from the bytes that came to the bytes that leave.
+ghost use Rattle.std.specs.Prelude.{◌≡◌, ◌<◌, ◌≤◌, ◌↔◌, [], length, true, IsTrue, OnOk, option_copied, option_map};
+ghost use Rattle.mvd_web.specs.Response.{response_bytes};
+ghost use Rattle.mvd_web.specs.declared.taken.Asked.{Asked};
+
+use crate::desk::Desk;
+use crate::response::{Manner, push_response};
+use crate::taken::Asked;
+use crate::web_ending::ending_of;
+use bytes::BytesMut;
+use http_server::{Config, Connection, State};
+use mvd_conn::Ending;
+use mvd_dots::Refusal;
+use mvd_http::Answer;
+use std::alloc::{AllocError, Global};
+use std::hash::RandomState;
+
+/// Where as many bytes wait to leave, no request is taken and no input is wanted.
+pub const WAITS_MAX: usize = 262_144;
+
+/// A body may have as many bytes.
+pub const BODY_MAX: usize = 1_048_576;
+
+/// The bytes that came, the request that was taken of them and is not answered, and the bytes that wait to leave.
+#[derive(Drop)]
+pub struct WebConnection {
+    alloc: Global,
+    parser: Connection,
+    desk: Desk,
+    output: BytesMut,
+    /// There is nothing to take before more bytes come.
+    rests: bool,
+    /// Why nothing more is taken and nothing more leaves.
+    stopped: Option<Refusal>,
+}
+
+impl WebConnection {
+    ghost use Rattle.mvd_web.specs.Inside.{web_of};
+    ghost use Rattle.mvd_web.specs.Web.{EndsInput, Feeds, IsNew, IsOver, Queues, RespondsTo, Takes, WantsInput, is_awake, is_closed, is_free as free_now, sent, stopped_by, unasked, web_ending};
+    ghost use Rattle.mvd_web.specs.Steps.{Drops, Moves, PassesOn, Reads};
+
+    /// A connection on which nothing happened yet. The keys hide in which order a peer's fields are kept.
+    pub fn new(alloc: Global, keys: RandomState) -> WebConnection
+        ensures { IsNew (web_of result) }
+    {
+        // While anything waits there, the parser takes nothing further: so at most one request is taken at a time.
+        let config = Config {
+            max_body_len: BODY_MAX,
+            max_pending: 0,
+            ..Config::default()
+        };
+        WebConnection {
+            alloc,
+            parser: Connection::new(alloc, keys, config),
+            desk: Desk { alloc, asked: None },
+            output: BytesMut::new(alloc),
+            rests: true,
+            stopped: None,
+        }
+    }
+
+    /// Whether more bytes are wanted: all that came was looked at, no request waits for its answer, and there is room for responses.
+    pub fn wants_input(&self) -> bool
+        ensures { IsTrue result ↔ WantsInput (web_of self.now) }
+    {
+        self.rests && self.is_free() && self.parser.wants_read()
+    }
+
+    /// Whether a request may be taken.
+    fn is_free(&self) -> bool
+        ensures { result ≡ free_now (web_of self.now) }
+    {
+        self.stopped.is_none() && self.desk.asked.is_none() && self.output.len() < WAITS_MAX
+    }
+
+    /// Whether there may be a request, or an end, in what came.
+    pub fn is_busy(&self) -> bool
+        ensures { result ≡ is_awake (web_of self.now) }
+    {
+        !self.rests && self.is_free()
+    }
+
+    /// Takes bytes that came. Where memory is refused, the connection stops.
+    pub fn feed(&mut self, bytes: &[u8])
+        ensures { Feeds (web_of self.old) bytes.now (web_of self.new) }
+    {
+        self.rests = false;
+        let mut rest = bytes;
+        for _piece in 0..bytes.len() {
+            if rest.is_empty() {
+                return;
+            }
+            if self.parser.read_from(&mut rest).is_err() {
+                return self.stop(Refusal::Memory);
+            }
+        }
+    }
+
+    /// Tells that the input is at its end.
+    pub fn end_input(&mut self)
+        ensures { EndsInput (web_of self.old) (web_of self.new) }
+    {
+        self.rests = false;
+        let mut none: &[u8] = &[];
+        if self.parser.read_from(&mut none).is_err() {
+            self.stop(Refusal::Memory);
+        }
+    }
+
+    /// Ends the connection at once, for this cause.
+    pub fn stop(&mut self, refusal: Refusal)
+        ensures { web_of self.new ≡ stopped_by (web_of self.old) refusal }
+    {
+        if self.stopped.is_none() {
+            self.stopped = Some(refusal);
+        }
+    }
+
+    /// Takes the next request, where no other waits for its answer. Whether one was taken. Where none was, what the parser answers
+    /// for itself is queued.
+    pub fn next(&mut self) -> bool
+        ensures { Takes (web_of self.old) result (web_of self.new) }
+    {
+        if self.is_free() {
+            return self.look();
+        }
+        false
+    }
+
+    /// The same, where a request may be taken.
+    fn look(&mut self) -> bool
+        requires { free_now (web_of self.old) ≡ true }
+        ensures { Takes (web_of self.old) result (web_of self.new) }
+    {
+        if self.advance() {
+            self.drop_pending();
+            return true;
+        }
+        self.pass_on();
+        false
+    }
+
+    /// Queues what the parser answers for itself, if anything.
+    fn pass_on(&mut self)
+        ensures { PassesOn (web_of self.old) (web_of self.new) }
+    {
+        if self.parser.wants_write() {
+            self.move_all();
+        } else {
+            self.rests = true;
+        }
+    }
+
+    /// Queues what the parser answers for itself. Where memory is refused, the connection stops.
+    fn move_all(&mut self)
+        requires { 0 < length (web_of self.old).heard.pending }
+        ensures { PassesOn (web_of self.old) (web_of self.new) }
+    {
+        self.rests = false;
+        if self.move_pending().is_err() {
+            self.stop(Refusal::Memory);
+        }
+    }
+
+    /// The request that waits for its answer.
+    pub fn asked(&self) -> Option<&Asked>
+        ensures { option_copied result ≡ (web_of self.now).asked }
+    {
+        self.desk.asked.as_ref()
+    }
+
+    /// Queues the response to the request that waits for it. Where memory is refused, the connection stops.
+    pub fn respond(&mut self, answer: Answer, body: &str)
+        ensures { RespondsTo (web_of self.old).asked (web_of self.old) answer body.now (web_of self.new) }
+    {
+        let Some(is_head) = self.take_asked() else {
+            return;
+        };
+        let is_last = self.is_last();
+        self.queue(answer, body, Manner { is_last, is_head });
+    }
+
+    /// The request no longer waits. Whether its response is sent without the body.
+    fn take_asked(&mut self) -> Option<bool>
+        ensures head { result ≡ option_map (λ (asked : Asked). asked.is_head) (web_of self.old).asked }
+        ensures gone { web_of self.new ≡ unasked (web_of self.old) }
+    {
+        match self.desk.asked.take() {
+            Some(asked) => Some(asked.is_head),
+            None => None,
+        }
+    }
+
+    /// Whether no request is read after those that were.
+    fn is_last(&self) -> bool
+        ensures { result ≡ is_closed (web_of self.now).heard.state }
+    {
+        !matches!(self.parser.state(), State::Open)
+    }
+
+    /// Queues a response.
+    fn queue(&mut self, answer: Answer, body: &str, manner: Manner)
+        ensures { Queues (web_of self.old) (response_bytes answer body.now manner) (web_of self.new) }
+    {
+        self.rests = false;
+        if push_response(self.alloc, &mut self.output, answer, body, manner).is_err() {
+            self.stop(Refusal::Memory);
+        }
+    }
+
+    /// The bytes that wait to leave.
+    pub fn waiting(&self) -> &[u8]
+        ensures { result.now ≡ (web_of self.now).waits }
+    {
+        self.output.as_slice()
+    }
+
+    /// Tells that so many of the waiting bytes left.
+    pub fn sent(&mut self, count: usize)
+        requires { count ≤ length (web_of self.old).waits }
+        ensures { web_of self.new ≡ sent (web_of self.old) count }
+    {
+        self.output.advance(count);
+    }
+
+    /// How the connection ends, where no further request is taken.
+    pub fn ending(&self) -> Option<Ending>
+        ensures { result ≡ web_ending (web_of self.now) }
+    {
+        match self.stopped {
+            Some(refusal) => Some(Ending::Stopped(refusal)),
+            None => ending_of(self.parser.state()),
+        }
+    }
+
+    /// Whether nothing is left to do.
+    pub fn is_done(&self) -> bool
+        ensures { IsTrue result ↔ IsOver (web_of self.now) }
+    {
+        if self.stopped.is_some() {
+            return true;
+        }
+        self.parser.is_done() && self.desk.asked.is_none() && self.output.is_empty()
+    }
+
+    /// Reads at most one request. Whether one was read.
+    fn advance(&mut self) -> bool
+        requires { (web_of self.old).asked ≡ None }
+        ensures { Reads (web_of self.old) result (web_of self.new) }
+    {
+        self.parser.advance(&mut self.desk);
+        self.desk.asked.is_some()
+    }
+
+    /// What the parser answers for itself leaves as it is.
+    fn move_pending(&mut self) -> Result<(), AllocError>
+        ensures moved { Moves (web_of self.old) (web_of self.new) }
+        ensures all { OnOk result ((web_of self.new).heard.pending ≡ []) }
+    {
+        while self.parser.wants_write() {
+            let bytes = self.parser.output();
+            let count = bytes.len();
+            self.output.extend_from_slice(bytes)?;
+            self.parser.sent(count);
+        }
+        Ok(())
+    }
+
+    /// What stands in place of a response does not leave.
+    fn drop_pending(&mut self)
+        ensures kept { Drops (web_of self.old) (web_of self.new) }
+        ensures all { (web_of self.new).heard.pending ≡ [] }
+    {
+        while self.parser.wants_write() {
+            let count = self.parser.output().len();
+            self.parser.sent(count);
+        }
+    }
+}

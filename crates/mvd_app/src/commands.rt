@@ -7,7 +7,7 @@ use crate::hint::{Hint, Stop};
 use crate::looping::loop_run;
 use crate::many::{Terms, serve_run};
 use crate::output::Output;
-use crate::peers::{refused_in, sync_run, tell_report};
+use crate::peer_commands::{refused_in, sync_run, tell_report};
 use crate::script::sim;
 use crate::shell::{remote_shell_run, shell_run};
 use mvd_dots::Refusal;

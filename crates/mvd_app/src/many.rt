@@ -11,7 +11,7 @@ mod talks;
 mod timers;
 
 use crate::hint::Stop;
-use crate::peers::{print_root, tell};
+use crate::peer_commands::{print_root, tell};
 use crowd::Crowd;
 use door::{Door, FRAMES, HTTP};
 use mio::{Events, Poll};

@@ -10,7 +10,7 @@ use crate::endpoint::Endpoint;
 use crate::hint::{Hint, Stop};
 use crate::line_reader::read_line;
 use crate::link::Link;
-use crate::peers::{connected, tell};
+use crate::peer_commands::{connected, tell};
 use crate::talk::answer;
 use mvd_dots::Refusal;
 use mvd_input::{Fault, Typed, text_of, typed_of};

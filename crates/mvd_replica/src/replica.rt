@@ -22,7 +22,7 @@ ghost use Rattle.mvd_replica.specs.Pushes.{told_of};
 ghost use Rattle.sqlite.specs.Held.{state};
 ghost use Rattle.sqlite.specs.State.{HasCleanDisk, Survives};
 
-use crate::loading::site_in;
+use crate::restoring::site_in;
 use mvd_dots::Refusal;
 use mvd_keys::{Key, KeyState, Path};
 use mvd_records::Records;

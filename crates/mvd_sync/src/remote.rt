@@ -1,7 +1,7 @@
 //! A site at the other end of a connection.
 mod answer;
-mod batches;
 mod window;
+mod window_calls;
 
 ghost use Rattle.std.specs.Prelude.{◌≡◌, ◌⊎◌, [], IfOk, None, Some, Ok, map};
 ghost use Rattle.mvd_dots.specs.declared.refusals.Refusal.{Refusal};

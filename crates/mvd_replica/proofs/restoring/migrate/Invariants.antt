@@ -4,7 +4,7 @@ use Rattle.mvd_records.specs.Records.{HoldsRecords, IsSound}
 use Rattle.mvd_records.specs.Pairs.{entries_of}
 use Rattle.mvd_replica.proofs.Moving.{Moving}
 use Rattle.mvd_replica.proofs.Ordered.{Moved}
-use Rattle.mvd_replica.proofs.loading.migrate.Given as goal
+use Rattle.mvd_replica.proofs.restoring.migrate.Given as goal
 
 abbrev pub invariant-loop-key : goal.invariant-loop-key
 invariant-loop-key g l = record {

@@ -2,7 +2,7 @@ use Rattle.std.proofs.Common.{◌∙◌}
 use Rattle.sqlite.specs.Held.{state}
 use Rattle.mvd_replica.proofs.Loading.{loaded_full, loaded_spelled, states_rise}
 use Rattle.mvd_replica.proofs.Ordered.{loaded_order, not_whole, read_order, too_many}
-use Rattle.mvd_replica.proofs.loading.load.Goals as goal
+use Rattle.mvd_replica.proofs.restoring.load.Goals as goal
 
 pub open-requires-clause-rising : goal.open-requires-clause-rising
 open-requires-clause-rising g c = states_rise _ _ c.in-Ok-states_of.ensures.spelled c.in-Ok.ensures.rising

@@ -8,7 +8,7 @@ use Rattle.mvd_replica.proofs.Ordered.{migrated, moved_more, moved_none, not_sto
 use Rattle.mvd_records.specs.Records.{HoldsRecords}
 use Rattle.mvd_replica.proofs.Loading.{moved_by}
 use Rattle.mvd_replica.proofs.Moving.{ended_same, found_at, moving_more, moving_none, same_then, same_unchanged}
-use Rattle.mvd_replica.proofs.loading.migrate.Goals as goal
+use Rattle.mvd_replica.proofs.restoring.migrate.Goals as goal
 
 pub returns-in-Err-clause-moved : goal.returns-in-Err-clause-moved
 returns-in-Err-clause-moved g c number sound holds =

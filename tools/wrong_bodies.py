@@ -33,12 +33,11 @@ def pairs_of(edit):
 
 
 def function_at(text, at):
-    """The name of the function that stands around a position of a file, or '' above the first."""
-    name = ""
-    for line in text[: text.find("\n", at) + 1 or None].split("\n"):
-        told = FN.match(line)
-        name = told.group(1) if told else name
-    return name
+    """The name of the function that stands around a position of a file, or '' outside of functions (a constant, say)."""
+    lines = text[: text.find("\n", at) + 1 or None].rstrip("\n").split("\n")
+    if re.match(r"(pub(\([a-z]+\))? )?(const|static|use|type) ", lines[-1]):
+        return ""
+    return next((told.group(1) for told in map(FN.match, reversed(lines)) if told), "")
 
 
 def applied(texts, edit, folder):
@@ -53,6 +52,11 @@ def applied(texts, edit, folder):
     return after, changed
 
 
+def clash(some, others):
+    """Whether two edits change one function, or one of them what stands outside of functions in a file that the other changes."""
+    return any(path == other and (name == its or not name or not its) for path, name in some for other, its in others)
+
+
 def groups_of(edits, folder):
     """The edits in groups: those of one group change different functions. Each group is (edits with their functions, texts)."""
     groups, left = [], list(edits)
@@ -60,7 +64,7 @@ def groups_of(edits, folder):
         texts, taken, group, later = {}, set(), [], []
         for edit in left:
             made = applied(texts, edit, folder)
-            if made is None or made[1] & taken:
+            if made is None or clash(made[1], taken):
                 later.append(edit)
                 continue
             texts, taken = made[0], taken | made[1]
@@ -86,13 +90,14 @@ def check(folder, texts):
 
 def judged(said, functions):
     """Where a check refused a change of these functions: 'clause', 'answer', 'name', or '' if each of them is proved."""
-    open_now = {name.rpartition("::")[2] for name in re.findall(r"^fn (\S+): (?!proved)", said, re.M)}
-    hit = {name for _, name in functions} & open_now
+    open_now = re.findall(r"^fn (\S+): (?!proved)", said, re.M)
+    hit = [name for path, own in functions for name in open_now
+           if name.endswith(f"::{own}") or not own and f"::{pathlib.Path(path).stem}::" in name]
     if not hit:
         return ""
     lines = said.split("\n")
     for name in hit:
-        at = next(n for n, line in enumerate(lines) if re.match(rf"fn \S*::{name}: (?!proved)", line))
+        at = next(n for n, line in enumerate(lines) if re.match(rf"fn {name}: (?!proved)", line))
         before = at
         while before and not lines[before - 1].startswith("fn "):
             before -= 1

@@ -73,6 +73,23 @@ def unknown_words(text, words):
     return [word for word in found if not is_known(word, words)]
 
 
+def strangers(text, sources):
+    """The names behind a crate's, as in `mvd_host_tests::clients`, that are no word of its code and no module of it."""
+    return [f"{crate}::{name}" for crate, name in re.findall(r"\b(mvd\w*)::(\w+)", text) if crate in sources and name not in sources[crate]]
+
+
+def sources_of(names):
+    """Of each crate the words of its code and its modules."""
+    sources = {}
+    for name in names:
+        if name.startswith("crates/") and name.endswith(".rt"):
+            words = sources.setdefault(name.split("/")[1], set())
+            words.add(pathlib.Path(name).stem)
+            words.update(re.findall(r"(?:fn|struct|enum|trait|const|type|mod) (\w+)", (TOP / name).read_text()))
+            words.update(re.findall(r"\w+", " ".join(re.findall(r"^pub use ([^;]*);", (TOP / name).read_text(), re.M))))
+    return sources
+
+
 def is_known(word, words):
     """A word that ends with _ stands for all that begin so; goals of proofs and the kit's name are the toolchain's."""
     if word in words or word in FOREIGN or len(word) < 3 or word.isupper() or re.match(r"[A-Z]+-|returns-|rattle-kit-", word):
@@ -80,7 +97,7 @@ def is_known(word, words):
     return word.endswith("_") and any(known.startswith(word) for known in words)
 
 
-def check(path, names, words):
+def check(path, names, words, sources):
     faults = []
     in_block = False
     for number, line in enumerate((TOP / path).read_text().splitlines(), 1):
@@ -96,6 +113,8 @@ def check(path, names, words):
                 if not path_is_there(text, names):
                     faults.append(f"{path}:{number}: no file {text}")
                 continue
+            for name in strangers(text, sources):
+                faults.append(f"{path}:{number}: no {name}")
             for word in unknown_words(text, words):
                 faults.append(f"{path}:{number}: no name {word} (in `{text}`)")
         for target in re.findall(r"\]\(([^)#]+)\)", line):
@@ -137,7 +156,8 @@ def main():
     names = tracked()
     documents = sys.argv[1:] or [name for name in names if name.endswith(".md")]
     words = words_of([name for name in names if not name.endswith(".md")])
-    faults = [fault for path in documents for fault in check(path, names, words)]
+    sources = sources_of(names)
+    faults = [fault for path in documents for fault in check(path, names, words, sources)]
     if "CONTRIBUTING.md" in documents:
         faults += unlisted_places() + misplaced(names)
     print("\n".join(faults) if faults else f"{len(documents)} documents: all that they name is there")

@@ -5,8 +5,8 @@ usage: tools/check_docs.py [FILE..]      (without a file: README.md, CONTRIBUTIN
 
 In each document it looks at the texts between backquotes, at file names that stand without them (docs/NAME.md), and at the
 width of lines of prose. A name is there if it is a word of the code, the specs, the proofs, the tools or the examples, or of the
-list below. CONTRIBUTING.md has to name each file that tools/places.py prints. Prints a line for each that is not found, and ends
-with 1 if there is one.
+list below. CONTRIBUTING.md has to name each file that tools/places.py prints, and each file of its lists under its crate. Prints
+a line for each that is not found, and ends with 1 if there is one.
 """
 import pathlib
 import re
@@ -73,6 +73,23 @@ def unknown_words(text, words):
     return [word for word in found if not is_known(word, words)]
 
 
+def strangers(text, sources):
+    """The names behind a crate's, as in `mvd_host_tests::clients`, that are no word of its code and no module of it."""
+    return [f"{crate}::{name}" for crate, name in re.findall(r"\b(mvd\w*)::(\w+)", text) if crate in sources and name not in sources[crate]]
+
+
+def sources_of(names):
+    """Of each crate the words of its code and its modules."""
+    sources = {}
+    for name in names:
+        if name.startswith("crates/") and name.endswith(".rt"):
+            words = sources.setdefault(name.split("/")[1], set())
+            words.add(pathlib.Path(name).stem)
+            words.update(re.findall(r"(?:fn|struct|enum|trait|const|type|mod) (\w+)", (TOP / name).read_text()))
+            words.update(re.findall(r"\w+", " ".join(re.findall(r"^pub use ([^;]*);", (TOP / name).read_text(), re.M))))
+    return sources
+
+
 def is_known(word, words):
     """A word that ends with _ stands for all that begin so; goals of proofs and the kit's name are the toolchain's."""
     if word in words or word in FOREIGN or len(word) < 3 or word.isupper() or re.match(r"[A-Z]+-|returns-|rattle-kit-", word):
@@ -80,7 +97,7 @@ def is_known(word, words):
     return word.endswith("_") and any(known.startswith(word) for known in words)
 
 
-def check(path, names, words):
+def check(path, names, words, sources):
     faults = []
     in_block = False
     for number, line in enumerate((TOP / path).read_text().splitlines(), 1):
@@ -96,6 +113,8 @@ def check(path, names, words):
                 if not path_is_there(text, names):
                     faults.append(f"{path}:{number}: no file {text}")
                 continue
+            for name in strangers(text, sources):
+                faults.append(f"{path}:{number}: no {name}")
             for word in unknown_words(text, words):
                 faults.append(f"{path}:{number}: no name {word} (in `{text}`)")
         for target in re.findall(r"\]\(([^)#]+)\)", line):
@@ -104,10 +123,11 @@ def check(path, names, words):
     return faults
 
 
-def listed_places():
+def listed_places(*sections):
     """The files that the lists of CONTRIBUTING.md name, as CRATE/FILE. A name without a crate is of the crate of the last heading
     (**4. `mvd_kept`**), or of the last name that has one."""
-    text = (TOP / "CONTRIBUTING.md").read_text().split("## A new request\n", 1)[1].split("\n## ", 1)[0]
+    page = (TOP / "CONTRIBUTING.md").read_text()
+    text = "".join(page.split(f"## {section}\n", 1)[1].split("\n## ", 1)[0] for section in sections)
     crate, listed = "", set()
     for heading, name in re.findall(r"\*\*\d+\. `(mvd_\w+)`|`([\w/]+\.(?:rt|antt))`", re.sub(r"```.*?```", "", text, flags=re.S)):
         if name.startswith("mvd_"):
@@ -120,18 +140,26 @@ def listed_places():
 
 def unlisted_places():
     """The files that go through all requests, replies or lines, and that the lists of CONTRIBUTING.md leave out."""
-    listed = listed_places()
+    listed = listed_places("A new request")
     files = {path for name in places.DECLARED for path, _ in places.places_of(name)}
     return [f"CONTRIBUTING.md: no {path}" for path in sorted(files) if f"{path.split('/')[0]}/{path.rsplit('/', 1)[1]}" not in listed]
+
+
+def misplaced(names):
+    """The files that those lists name and that are in another crate, or in none."""
+    there = {f"{name.split('/')[1]}/{name.rsplit('/', 1)[1]}" for name in names if name.startswith("crates/")}
+    listed = listed_places("A new request", "A new option of a command")
+    return [f"CONTRIBUTING.md: no file {name} in that crate" for name in sorted(listed - there)]
 
 
 def main():
     names = tracked()
     documents = sys.argv[1:] or [name for name in names if name.endswith(".md")]
     words = words_of([name for name in names if not name.endswith(".md")])
-    faults = [fault for path in documents for fault in check(path, names, words)]
+    sources = sources_of(names)
+    faults = [fault for path in documents for fault in check(path, names, words, sources)]
     if "CONTRIBUTING.md" in documents:
-        faults += unlisted_places()
+        faults += unlisted_places() + misplaced(names)
     print("\n".join(faults) if faults else f"{len(documents)} documents: all that they name is there")
     return 1 if faults else 0
 

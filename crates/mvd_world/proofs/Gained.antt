@@ -22,7 +22,7 @@ use Rattle.mvd_site.specs.Held.{AreHeld, States, state_at}
 use Rattle.mvd_site.specs.Sites.{SiteStands, SiteValue}
 use Rattle.mvd_site.proofs.OfTheSet.{states_of-stands}
 use Rattle.mvd_site.proofs.Steps.{state_at-stands}
-use Rattle.mvd_sync.specs.Session.{AreFew, CanMeet, HasAllThatDiffer, HasJoined, IsIn, Session, Tells, is_member}
+use Rattle.mvd_sync.specs.Session.{AreFew, CanMeet, HasAllThatDiffer, HasJoined, IsIn, ReportsDone, Session, is_member}
 use Rattle.mvd_sync.specs.Sides.{Blames, IsBroken, IsFaultOf, Side, SiteFollows, SiteRefuses, Stays, is_of_key, is_site_refusal, of_answer, of_memory, of_questions, of_side, side, tells_broken}
 use Rattle.mvd_sync.specs.declared.report.Report.{Report}
 use Rattle.mvd_sync.specs.declared.report.SyncFault.{SyncFault}
@@ -198,7 +198,7 @@ sites_meet local peer local' peer' result first second held held' session V W st
       given = m.given;
       part = m.joins.part;
       meet = λ key h. subst₂ (λ a b. CanMeet a b key) a_is b_is (m.joins.met key h);
-      tells = subst₂ (λ a b. IfOk result (Tells local.config.max_keys peer.config.max_keys (Some local.config.site) a b m.joined m.given)) a_is b_is m.tells;
+      tells = subst₂ (λ a b. IfOk result (ReportsDone local.config.max_keys peer.config.max_keys (Some local.config.site) a b m.joined m.given)) a_is b_is m.tells;
       local_breaks = breaks_by (Local Broken) is_local_broken local.broken local'.broken result first.0 here;
       peer_breaks = breaks_by (Peer Broken) is_peer_broken peer.broken peer'.broken result second.0 there;
       at_once = subst₂ (λ a b. ToldAtOnce a b m.joined result) (sym first.0) (sym second.0) tt;

@@ -27,7 +27,7 @@ use Rattle.mvd_site.proofs.Answered.{after_stands, answered, changed_alike, with
 use Rattle.mvd_site.proofs.Prepare.{Stands-none, refuses_all}
 use Rattle.mvd_site.proofs.Steps.{Adds-Refused, Stands-nothing, state_at-stands}
 use Rattle.mvd_sync.proofs.SiteSides.{is_broken}
-use Rattle.mvd_sync.specs.Session.{Tells}
+use Rattle.mvd_sync.specs.Session.{ReportsDone}
 use Rattle.mvd_sync.specs.declared.report.Report.{Report}
 use Rattle.mvd_sync.specs.declared.report.SyncFault.{SyncFault}
 use Rattle.mvd_sync.specs.declared.report.SyncFault.TheVariants.{Local, Peer}
@@ -254,7 +254,7 @@ meets_lead old new local peer i j result at at' two both same_messages setting b
       given = does.given;
       part = does.part;
       meet = does.meet;
-      tells = subst (λ n. IfOk result (Tells both.first.config.max_keys both.second.config.max_keys (Some n) (states_of V) (states_of W) does.joined does.given))
+      tells = subst (λ n. IfOk result (ReportsDone both.first.config.max_keys both.second.config.max_keys (Some n) (states_of V) (states_of W) does.joined does.given))
           (sym (setting.numbers local both.first.config mine.config)) does.tells;
       local_broken = both.first'.broken;
       peer_broken = both.second'.broken;

@@ -18,7 +18,7 @@ use Rattle.mvd_site.specs.Config.{ConfigValue}
 use Rattle.mvd_site.specs.FromStates.{unless_broken}
 use Rattle.mvd_site.specs.Held.{States}
 use Rattle.mvd_site.specs.Known.{Adds, Changes, MayReply}
-use Rattle.mvd_sync.specs.Session.{AreFew, CanMeet, Each, HasAllThatDiffer, IsIn, Tells, is_member}
+use Rattle.mvd_sync.specs.Session.{AreFew, CanMeet, Each, HasAllThatDiffer, IsIn, ReportsDone, is_member}
 use Rattle.mvd_sync.specs.Sides.{IsFaultOf, is_of_key, is_site_refusal, tells_broken}
 use Rattle.mvd_sync.specs.declared.report.Report.{Report}
 use Rattle.mvd_sync.specs.declared.report.SyncFault.{SyncFault}
@@ -205,7 +205,7 @@ pub record Meets (setting : Setting) (before : Knowledge) (local peer : ℕ) (re
   pub given : List Key
   pub part : (key : Key) → IsIn given key → IsIn joined key
   pub meet : (key : Key) → IsIn joined key → CanMeet (states_of (before.known local)) (states_of (before.known peer)) key
-  pub tells : IfOk result (Tells mine.max_keys theirs.max_keys (Some local) (states_of (before.known local)) (states_of (before.known peer)) joined given)
+  pub tells : IfOk result (ReportsDone mine.max_keys theirs.max_keys (Some local) (states_of (before.known local)) (states_of (before.known peer)) joined given)
   pub local_broken : Bool
   pub peer_broken : Bool
   pub local_breaks : BreaksBy (before.broken local) local_broken (Local Broken) result

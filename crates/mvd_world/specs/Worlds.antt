@@ -9,7 +9,7 @@ use Rattle.mvd_site.specs.Answer.{is_question, is_too_large, states_of}
 use Rattle.mvd_site.specs.FromStates.{answer_from}
 use Rattle.mvd_site.specs.Held.{state_at}
 use Rattle.mvd_site.specs.Sites.{SiteStands, SiteValue}
-use Rattle.mvd_sync.specs.Session.{CanMeet, IsIn, Tells}
+use Rattle.mvd_sync.specs.Session.{CanMeet, IsIn, ReportsDone}
 use Rattle.mvd_sync.specs.declared.report.Report.{Report}
 use Rattle.mvd_sync.specs.declared.report.SyncFault.{SyncFault}
 use Rattle.mvd_sync.specs.declared.report.SyncFault.TheVariants.{Local, Peer}
@@ -97,7 +97,7 @@ pub record SitesMeet (V W : List Write) (local peer local' peer' : SiteValue) (r
   pub given : List Key
   pub part : (key : Key) → IsIn given key → IsIn joined key
   pub meet : (key : Key) → IsIn joined key → CanMeet (states_of V) (states_of W) key
-  pub tells : IfOk result (Tells local.config.max_keys peer.config.max_keys (Some local.config.site) (states_of V) (states_of W) joined given)
+  pub tells : IfOk result (ReportsDone local.config.max_keys peer.config.max_keys (Some local.config.site) (states_of V) (states_of W) joined given)
   pub local_breaks : BreaksBy local.broken local'.broken (Local Broken) result
   pub peer_breaks : BreaksBy peer.broken peer'.broken (Peer Broken) result
   pub at_once : ToldAtOnce local.broken peer.broken joined result

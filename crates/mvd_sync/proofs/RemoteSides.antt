@@ -92,7 +92,7 @@ module _ {S : Type 0} (refused : S → Option Refusal) (Follows : S → S → Ty
     ended_so refusal (of_read wrote turn now) = inl (refused_now refusal (λ other e. cc))
     ended_so refusal (of_answer replies answered why) = let goes : refused new ≡ None = sym is ∙ answered.goes_on in inl (refused_now refusal (λ own e. absurd (cc)))
 
-    module _ (May Right : Q → A → Type 0) {Apart : Q → Refusal → Type 0} (Was : Type 0) (Settles : List (Result A Refusal) → Type 0) (E : Refusal → Type 0) (free : (q : Q) (a : A) → May q a) (right : (ts : List (Result A Refusal)) → Settles ts → EachAnswer Right qs ts) (of_key : (ts : List (Result A Refusal)) → Settles ts → EachRefusal Apart qs ts) where
+    module _ (May Right : Q → A → Type 0) (Apart : Q → Refusal → Type 0) (Was : Type 0) (Settles : List (Result A Refusal) → Type 0) (E : Refusal → Type 0) (free : (q : Q) (a : A) → May q a) (right : (ts : List (Result A Refusal)) → Settles ts → EachAnswer Right qs ts) (of_key : (ts : List (Result A Refusal)) → Settles ts → EachRefusal Apart qs ts) where
       asked_at : (r : Result V Refusal) → MatchResult r (λ v. AsksAll as_reply kind (frames_of (map request qs)) (items v) l l') (RefusesAll kind (frames_of (map request qs)) l l') → (Was → MatchResult r (λ v. Settles (items v)) E) → IfOk r (λ v. Asked (λ _. Follows) Refuses Goes May Right Apart Was qs (items v) old new)
       asked_at (Ok v) h truth = answered_so May Right Apart Was free (items v) (λ t. right (items v) (truth t)) (λ t. of_key (items v) (truth t)) h
       asked_at (Err refusal) h truth = tt
@@ -101,8 +101,8 @@ module _ {S : Type 0} (refused : S → Option Refusal) (Follows : S → S → Ty
       link_asked truth = asked_at result asked truth
 
     -- nothing is said of one that was true
-    pub link_told : (May Right : Q → A → Type 0) {Apart : Q → Refusal → Type 0} → ((q : Q) (a : A) → May q a) → IfOk result (λ v. Asked (λ _. Follows) Refuses Goes May Right Apart ⊥ qs (items v) old new)
-    link_told May Right {Apart} free = ok_of _ result asked (λ v. answered_so May Right Apart ⊥ free (items v) (λ never. absurd never) (λ never. absurd never))
+    pub link_told : (May Right : Q → A → Type 0) (Apart : Q → Refusal → Type 0) → ((q : Q) (a : A) → May q a) → IfOk result (λ v. Asked (λ _. Follows) Refuses Goes May Right Apart ⊥ qs (items v) old new)
+    link_told May Right Apart free = ok_of _ result asked (λ v. answered_so May Right Apart ⊥ free (items v) (λ never. absurd never) (λ never. absurd never))
 
     pub link_ends : IfErr result (Ends (λ _. Follows) Refuses (length qs) old new)
     link_ends = err_of _ result asked (λ refusal r. record { count = (0, omega arith, still); cause = ended_so refusal r })

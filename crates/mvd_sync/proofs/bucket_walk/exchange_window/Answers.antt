@@ -89,5 +89,5 @@ returns g c =
 pub ask_pages-requires : goal.ask_pages-requires
 ask_pages-requires g c = pages_deep c.args.paths.now c.deref.result.now c.requires.deep (c.deref.ensures.value ∙ c.in-Ok.ensures.asked)
 
-pub ask_pages-2-requires : goal.ask_pages-2-requires
-ask_pages-2-requires g c = pages_deep c.args.paths.now c.deref-2.result.now c.requires.deep (c.deref-2.ensures.value ∙ c.in-Ok.ensures.asked)
+pub ask_pages-requires-2 : goal.ask_pages-requires-2
+ask_pages-requires-2 g c = pages_deep c.args.paths.now c.deref-2.result.now c.requires.deep (c.deref-2.ensures.value ∙ c.in-Ok.ensures.asked)

@@ -32,10 +32,10 @@ module _ {S T : Type 0} (inner : T → S) (outer : S → T) (is : (s : S) → in
     (after.0, subst (λ s. follows after.0 s (inner new)) (sym (is mid)) after.1),
   )
 
-  pub asked_within : {Q A : Type 0} (May Right : Q → A → Type 0) (was_true : Type 0) (qs : List Q) (ts : List (Result A Refusal)) (old new : T) (mid : S) → inner new ≡ mid
-      → Asked follows can_refuse can_answer May Right was_true qs ts (inner old) mid → Asked (λ n a b. follows n (inner a) (inner b)) (λ t. can_refuse (inner t)) (λ t. can_answer (inner t)) May Right was_true qs ts old new
-  asked_within May Right was_true qs ts old new mid same came =
-      let it : Asked follows can_refuse can_answer May Right was_true qs ts (inner old) (inner new) = subst (λ s. Asked follows can_refuse can_answer May Right was_true qs ts (inner old) s) (sym same) came in
+  pub asked_within : {Q A : Type 0} (May Right : Q → A → Type 0) {Apart : Q → Refusal → Type 0} (was_true : Type 0) (qs : List Q) (ts : List (Result A Refusal)) (old new : T) (mid : S) → inner new ≡ mid
+      → Asked follows can_refuse can_answer May Right Apart was_true qs ts (inner old) mid → Asked (λ n a b. follows n (inner a) (inner b)) (λ t. can_refuse (inner t)) (λ t. can_answer (inner t)) May Right Apart was_true qs ts old new
+  asked_within May Right {Apart} was_true qs ts old new mid same came =
+      let it : Asked follows can_refuse can_answer May Right Apart was_true qs ts (inner old) (inner new) = subst (λ s. Asked follows can_refuse can_answer May Right Apart was_true qs ts (inner old) s) (sym same) came in
       record {
         count = it.count;
         may = it.may;

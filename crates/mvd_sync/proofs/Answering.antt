@@ -1,5 +1,5 @@
 -- What is made of the answers to many questions.
-use Rattle.std.proofs.Common.{◌≡◌, inl, inr, ℕ, zero, suc, ◌<◌, ◌≤◌, List, [], ◌∷◌, ◌++◌, length, take, get_or, refl, sym, subst, arith, ap, false}
+use Rattle.std.proofs.Common.{◌≡◌, inl, inr, ℕ, zero, suc, ◌<◌, ◌≤◌, ◌==◌, ◌∙◌, List, [], ◌∷◌, ◌++◌, length, take, get_or, Option, refl, sym, subst, arith, ap, false, true≢false}
 use Rattle.std.specs.Prelude.{Bool, ◌^◌, None, Some, Result, Ok, Err}
 use Rattle.std.specs.declared.vec.Vec.{Vec}
 use Rattle.std.specs.declared.alloc.Global.{Global}
@@ -7,12 +7,12 @@ use Rattle.mvd_wire.specs.declared.reply.Digests.{Digests}
 use Rattle.mvd_sync.specs.Answers.{Entry, IsPage}
 use Rattle.mvd_sync.specs.declared.asking.Node.{Node}
 use Rattle.mvd_dots.specs.declared.refusals.Refusal.{Refusal}
-use Rattle.mvd_dots.specs.declared.refusals.Refusal.TheVariants.{Memory, TooManyRequests}
+use Rattle.mvd_dots.specs.declared.refusals.Refusal.TheVariants.{BadPath, Memory, TooManyRequests}
 use Rattle.std.proofs.lemmas.List.{length-take-le, take_all}
 use Rattle.mvd_sync.specs.Questions.{AllAnswered, ComesToEnd, ForEach, Keeps, Takes, AnswersEach}
 use Rattle.mvd_sync.specs.Session.{Each}
-use Rattle.mvd_sync.specs.Sides.{Blames, Side, of_memory, of_questions, of_side, is_of_key}
-use Rattle.mvd_sync.specs.Windows.{EachAnswer, EachTold, Ends}
+use Rattle.mvd_sync.specs.Sides.{Blames, Side, of_memory, of_questions, of_side, is_of_question}
+use Rattle.mvd_sync.specs.Windows.{EachAnswer, EachRefusal, EachTold, Ends, RefusesPage}
 
 -- ---- lists
 
@@ -76,6 +76,28 @@ pub each_all : {X : Type 0} (xs : List X) → Each (λ _. Unit {0}) xs
 each_all [] = tt
 each_all (x ∷ xs) = (tt, each_all xs)
 
+-- no refusal is of one question alone
+pub none_told : {Q A : Type 0} (qs : List Q) (ts : List (Result A Refusal)) → EachRefusal (λ _ r. is_of_question r ≡ false) qs ts → EachTold (Unit {0}) (λ r. is_of_question r ≡ false) ts
+none_told [] [] h = tt
+none_told [] (Ok a ∷ ts) h = absurd h
+none_told [] (Err r ∷ ts) h = absurd h
+none_told (q ∷ qs) [] h = absurd h
+none_told (q ∷ qs) (Ok a ∷ ts) h = (tt, none_told qs ts h)
+none_told (q ∷ qs) (Err r ∷ ts) h = (h.0, none_told qs ts h.1)
+
+-- nor is that of a page whose path has three digits
+pub page_apart : (path : List ℕ) (refusal : Refusal) → length path ≡ 3 → RefusesPage path refusal → is_of_question refusal ≡ false
+page_apart path BadPath three h = absurd (true≢false (sym (ap (λ n. n == 3) three) ∙ h))
+page_apart path refusal three h = h
+
+pub no_page_told : {A : Type 0} (qs : List (List ℕ × Option (List ℕ))) (ts : List (Result A Refusal)) → Each (λ q. length q.0 ≡ 3) qs → EachRefusal (λ q. RefusesPage q.0) qs ts → EachTold (Unit {0}) (λ r. is_of_question r ≡ false) ts
+no_page_told [] [] deep h = tt
+no_page_told [] (Ok a ∷ ts) deep h = absurd h
+no_page_told [] (Err r ∷ ts) deep h = absurd h
+no_page_told (q ∷ qs) [] deep h = absurd h
+no_page_told (q ∷ qs) (Ok a ∷ ts) deep h = (tt, no_page_told qs ts deep.1 h)
+no_page_told (q ∷ qs) (Err r ∷ ts) deep h = (page_apart q.0 r deep.0 h.0, no_page_told qs ts deep.1 h.1)
+
 -- a node that was made of digests, and a listing of a page
 abbrev pub IsNodeOf : Digests → Node → Type 0
 IsNodeOf digests node = (node.own ≡ digests.own) × (digests.children ≡ Some node.children)
@@ -90,7 +112,7 @@ module _ {S Q : Type 0} (s : Side S) (qs : List Q) (left left' taken : ℕ) (old
   asked_is = let most = takes.most in length-take-le taken qs most
 
   -- so many were asked, and this is why no more are
-  pub ended_by : (T : Type 0) (refusal : Refusal) → s.follows (length (take taken qs)) old new → Blames s left taken 0 old new refusal → (s.is_faithful old → is_of_key refusal ≡ false) → (s.is_faithful old → T) → ComesToEnd s T (length qs) left old new refusal
+  pub ended_by : (T : Type 0) (refusal : Refusal) → s.follows (length (take taken qs)) old new → Blames s left taken 0 old new refusal → (s.is_faithful old → is_of_question refusal ≡ false) → (s.is_faithful old → T) → ComesToEnd s T (length qs) left old new refusal
   ended_by T refusal follows why not_of_key then = record {
     asked = taken;
     wanted = 0;
@@ -103,7 +125,7 @@ module _ {S Q : Type 0} (s : Side S) (qs : List Q) (left left' taken : ℕ) (old
   }
 
   -- the call itself was refused
-  pub ended_within : (T : Type 0) (refusal : Refusal) → Ends s.follows s.can_refuse (length (take taken qs)) old new refusal → (s.is_faithful old → is_of_key refusal ≡ false) → (s.is_faithful old → T) → ComesToEnd s T (length qs) left old new refusal
+  pub ended_within : (T : Type 0) (refusal : Refusal) → Ends s.follows s.can_refuse (length (take taken qs)) old new refusal → (s.is_faithful old → is_of_question refusal ≡ false) → (s.is_faithful old → T) → ComesToEnd s T (length qs) left old new refusal
   ended_within T refusal ends not_of_key then =
       let spent = takes.spent in
       let most = takes.most in
@@ -132,13 +154,13 @@ module _ {S Q : Type 0} (s : Side S) (qs : List Q) (left left' taken : ℕ) (old
         within = omega (arith, spent);
         follows = subst (λ n. s.follows n old new) asked_is follows;
         cause = of_questions is (omega (arith, spent, none)) refl;
-        not_of_key = λ _. ap is_of_key is;
+        not_of_key = λ _. ap is_of_question is;
         right = then;
       }
 
   -- memory was refused
   pub ended_memory : (T : Type 0) (refusal : Refusal) → refusal ≡ Memory → s.follows (length (take taken qs)) old new → (s.is_faithful old → T) → ComesToEnd s T (length qs) left old new refusal
-  ended_memory T refusal is follows then = ended_by T refusal follows (of_memory is) (λ _. ap is_of_key is) then
+  ended_memory T refusal is follows then = ended_by T refusal follows (of_memory is) (λ _. ap is_of_question is) then
 
   -- all were answered
   pub answered_all : {A : Type 0} (May Right : Q → A → Type 0) (answers : List A) → length qs ≤ taken → s.follows (length (take taken qs)) old new → ForEach May (take taken qs) answers → (s.is_faithful old → Keeps s old new × ForEach Right (take taken qs) answers)

@@ -3,7 +3,7 @@ use Rattle.std.proofs.Common.{◌≡◌, ℕ, ◌+◌, ◌≤◌, ◌∙◌, ari
 use Rattle.mvd_dots.specs.declared.refusals.Refusal.{Refusal}
 use Rattle.mvd_dots.specs.declared.refusals.Refusal.TheVariants.{Memory}
 use Rattle.mvd_sync.specs.Questions.{ComesToEnd, Keeps}
-use Rattle.mvd_sync.specs.Sides.{Blames, HasAnswered, HasRefused, Reaches, Side, of_answer, of_memory, of_questions, of_side, is_of_key}
+use Rattle.mvd_sync.specs.Sides.{Blames, HasAnswered, HasRefused, Reaches, Side, of_answer, of_memory, of_questions, of_side, is_of_question}
 
 module _ {S : Type 0} (s : Side S) (on : (m n : ℕ) (old mid new : S) → s.follows m old mid → s.follows n mid new → s.follows (m + n) old new) where
   -- what was told after questions was told after more
@@ -47,7 +47,7 @@ ends_for_memory s T questions left left' n old new refusal spent few follows the
   within = omega arith;
   follows = follows;
   cause = of_memory is;
-  not_of_key = λ _. ap is_of_key is;
+  not_of_key = λ _. ap is_of_question is;
   right = then;
 }
 

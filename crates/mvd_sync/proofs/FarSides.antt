@@ -3,7 +3,7 @@ use Rattle.std.proofs.Common.{◌≡◌, ◌≢◌, inl, inr, ℕ, zero, suc, �
 use Rattle.std.proofs.lemmas.Bool.Decides.{nat_tests}
 use Rattle.std.specs.Prelude.{Result, Ok, Err, IfOk, IfErr, OnOk, OnErr, MatchResult, nat_le, if◌then◌else◌}
 use Rattle.mvd_dots.specs.declared.refusals.Refusal.{Refusal}
-use Rattle.mvd_dots.specs.declared.refusals.Refusal.TheVariants.{Broken, DotClash, FrameTooLong, Full, StateTooLarge}
+use Rattle.mvd_dots.specs.declared.refusals.Refusal.TheVariants.{BadPath, Broken, DotClash, FrameTooLong, Full, StateTooLarge}
 use Rattle.mvd_keys.specs.State.{State}
 use Rattle.mvd_keys.specs.Writes.{Key}
 use Rattle.mvd_wire.specs.declared.request.Request.{Request}
@@ -17,17 +17,18 @@ use Rattle.mvd_site.specs.Answer.{is_too_large}
 use Rattle.mvd_site.specs.Held.{States}
 use Rattle.mvd_sync.specs.Lines.{AnswersTruly, EndsOpen, SettleTruly, SettlesTruly, TrueReplies, TrueReply, and_framed, framed}
 use Rattle.mvd_sync.specs.Session.{pushed}
-use Rattle.mvd_sync.specs.Sides.{is_of_key}
-use Rattle.mvd_sync.specs.Windows.{CannotTake, EachAnswer, EachTold, Leaves, Pushes, PushesFirst, Takes, leaves_open}
+use Rattle.mvd_sync.specs.Sides.{is_of_question}
+use Rattle.mvd_sync.specs.Windows.{CannotTake, EachAnswer, EachRefusal, Leaves, Pushes, PushesFirst, RefusesPage, Takes, leaves_open}
 use Rattle.mvd_sync.proofs.ManyPushes.{open_not_of_key}
 
 -- ---- questions
 
--- what is so of a request that changes nothing
-pub record IsQuestion (q : Request) : Type 0 where
+-- what is so of a request that changes nothing, and is refused so
+pub record IsQuestion (q : Request) (May : Refusal → Type 0) : Type 0 where
   pub keeps : (most : ℕ) (old : States) (r : Reply) (new : States) → TrueReply most old q r new → new ≡ old
-  pub refuses : (most : ℕ) (old : States) (refusal : Refusal) (new : States) → TrueReply most old q (reply.Refused refusal) new → is_of_key refusal ≡ false
-  pub unframed : (refusal : Refusal) → request_frame q ≡ Err refusal → is_of_key refusal ≡ false
+  pub refuses : (most : ℕ) (old : States) (refusal : Refusal) (new : States) → TrueReply most old q (reply.Refused refusal) new → May refusal
+  pub unframed : (refusal : Refusal) → request_frame q ≡ Err refusal → May refusal
+  pub unsure : (refusal : Refusal) → leaves_open refusal ≡ true → May refusal
 
 too_long : (kind : ℕ) (payload : List ℕ) (refusal : Refusal) → frame_within kind payload ≡ Err refusal → refusal ≡ FrameTooLong
 too_long kind payload refusal e = elim (nat_le (length payload + 1) frame_limit) as (λ b. (if b then Ok (spell_frame (record { kind = kind; payload = payload })) else Err FrameTooLong) ≡ Err refusal → refusal ≡ FrameTooLong) [
@@ -68,36 +69,44 @@ bucket_keeps path after most old (reply.Row r) new h = absurd h
 bucket_keeps path after most old (reply.Rows rs more) new h = absurd h
 bucket_keeps path after most old (reply.Digests d) new h = absurd h
 
-pub get_asks : (key : Key) → IsQuestion (Get key)
-get_asks key = record { keeps = get_keeps key; refuses = λ most old refusal new h. h.0; unframed = λ refusal e. ap is_of_key (too_long _ _ refusal e) }
+-- a refusal that leaves open whether something was done is of no path
+open_page : (path : List ℕ) (refusal : Refusal) → leaves_open refusal ≡ true → RefusesPage path refusal
+open_page path BadPath e = absurd (cc)
+open_page path StateTooLarge e = absurd (cc)
+open_page path Full e = absurd (cc)
+open_page path DotClash e = absurd (cc)
+open_page path refusal e = refl
 
-pub node_asks : (path : List ℕ) → IsQuestion (Node path)
-node_asks path = record { keeps = node_keeps path; refuses = λ most old refusal new h. h.0; unframed = λ refusal e. ap is_of_key (too_long _ _ refusal e) }
+pub get_asks : (key : Key) → IsQuestion (Get key) (λ refusal. is_of_question refusal ≡ false)
+get_asks key = record { keeps = get_keeps key; refuses = λ most old refusal new h. h.0; unframed = λ refusal e. ap is_of_question (too_long _ _ refusal e); unsure = open_not_of_key }
 
-pub bucket_asks : (path : List ℕ) (after : Option Key) → IsQuestion (Bucket path after)
-bucket_asks path after = record { keeps = bucket_keeps path after; refuses = λ most old refusal new h. h.0; unframed = λ refusal e. ap is_of_key (too_long _ _ refusal e) }
+pub node_asks : (path : List ℕ) → IsQuestion (Node path) (λ refusal. is_of_question refusal ≡ false)
+node_asks path = record { keeps = node_keeps path; refuses = λ most old refusal new h. h.0; unframed = λ refusal e. ap is_of_question (too_long _ _ refusal e); unsure = open_not_of_key }
+
+pub bucket_asks : (path : List ℕ) (after : Option Key) → IsQuestion (Bucket path after) (RefusesPage path)
+bucket_asks path after = record { keeps = bucket_keeps path after; refuses = λ most old refusal new h. h.0; unframed = λ refusal e. subst (RefusesPage path) (sym (too_long _ _ refusal e)) refl; unsure = open_page path }
 
 module _ {A : Type 0} (as_reply : A → Reply) (most : ℕ) where
   -- one question
-  pub one_kept : (q : Request) → IsQuestion q → (old new : States) (result : Result A Refusal) → AnswersTruly as_reply most old q result new → new ≡ old
+  pub one_kept : (q : Request) {May : Refusal → Type 0} → IsQuestion q May → (old new : States) (result : Result A Refusal) → AnswersTruly as_reply most old q result new → new ≡ old
   one_kept q is old new (Ok a) h = is.keeps most old (as_reply a) new h
   one_kept q is old new (Err refusal) (inl h) = is.keeps most old (reply.Refused refusal) new h
   one_kept q is old new (Err refusal) (inr (inl h)) = h.1
   one_kept q is old new (Err refusal) (inr (inr (e, inl same))) = same
   one_kept q is old new (Err refusal) (inr (inr (e, inr h))) = is.keeps most old h.0 new h.1
 
-  pub one_not_of_key : (q : Request) → IsQuestion q → (old new : States) (result : Result A Refusal) → AnswersTruly as_reply most old q result new → IfErr result (λ refusal. is_of_key refusal ≡ false)
+  pub one_not_of_key : (q : Request) {May : Refusal → Type 0} → IsQuestion q May → (old new : States) (result : Result A Refusal) → AnswersTruly as_reply most old q result new → IfErr result May
   one_not_of_key q is old new (Ok a) h = tt
   one_not_of_key q is old new (Err refusal) (inl h) = is.refuses most old refusal new h
   one_not_of_key q is old new (Err refusal) (inr (inl h)) = is.unframed refusal h.0
-  one_not_of_key q is old new (Err refusal) (inr (inr h)) = open_not_of_key refusal h.0
+  one_not_of_key q is old new (Err refusal) (inr (inr h)) = is.unsure refusal h.0
 
   pub one_right : (P : A → Type 0) (q : Request) (old new : States) (result : Result A Refusal) → ((a : A) → TrueReply most old q (as_reply a) new → P a) → AnswersTruly as_reply most old q result new → IfOk result P
   one_right P q old new (Ok a) f h = f a h
   one_right P q old new (Err refusal) f h = tt
 
   -- many questions
-  module _ {Q : Type 0} (request : Q → Request) (is : (q : Q) → IsQuestion (request q)) where
+  module _ {Q : Type 0} (request : Q → Request) {May : Q → Refusal → Type 0} (is : (q : Q) → IsQuestion (request q) (May q)) where
     one_settles : (q : Q) (old new : States) (t : Result A Refusal) → SettlesTruly as_reply most old (request q) t new → new ≡ old
     one_settles q old new (Ok a) h = (is q).keeps most old (as_reply a) new h
     one_settles q old new (Err refusal) (inl h) = (is q).keeps most old (reply.Refused refusal) new h.1
@@ -116,11 +125,11 @@ module _ {A : Type 0} (as_reply : A → Reply) (most : ℕ) where
     all_right Right old f (q ∷ qs) (Ok a ∷ ts) mid new e h = (f q a h.0 (subst (λ m. TrueReply most m (request q) (as_reply a) h.0) e h.1), all_right Right old f qs ts h.0 new (one_settles q mid h.0 (Ok a) h.1 ∙ e) h.2)
     all_right Right old f (q ∷ qs) (Err refusal ∷ ts) mid new e h = all_right Right old f qs ts h.0 new (one_settles q mid h.0 (Err refusal) h.1 ∙ e) h.2
 
-    pub all_not_of_key : (qs : List Q) (ts : List (Result A Refusal)) (old new : States) → SettleTruly as_reply most old (map request qs) ts new → EachTold (Unit {0}) (λ refusal. is_of_key refusal ≡ false) ts
+    pub all_not_of_key : (qs : List Q) (ts : List (Result A Refusal)) (old new : States) → SettleTruly as_reply most old (map request qs) ts new → EachRefusal May qs ts
     all_not_of_key [] [] old new h = tt
     all_not_of_key [] (t ∷ ts) old new h = absurd h
     all_not_of_key (q ∷ qs) [] old new h = absurd h
-    all_not_of_key (q ∷ qs) (Ok a ∷ ts) old new h = (tt, all_not_of_key qs ts h.0 new h.2)
+    all_not_of_key (q ∷ qs) (Ok a ∷ ts) old new h = all_not_of_key qs ts h.0 new h.2
     all_not_of_key (q ∷ qs) (Err refusal ∷ ts) old new h = (elim h.1 [ inl told ↦ (is q).refuses most old refusal h.0 told.1 | inr none ↦ (is q).unframed refusal none.0 ], all_not_of_key qs ts h.0 new h.2)
 
     -- a window that was refused
@@ -147,7 +156,7 @@ module _ {A : Type 0} (as_reply : A → Reply) (most : ℕ) where
       window_kept (Ok v) h = all_kept qs (items v) old new h
       window_kept (Err refusal) h = first_all_kept qs new old h.1.0 h.1.1 h.1.2
 
-      pub window_not_of_key : (result : Result V Refusal) → MatchResult result (λ v. SettleTruly as_reply most old (map request qs) (items v) new) (λ refusal. EndsOpen most old (map request qs) refusal new) → IfErr result (λ refusal. is_of_key refusal ≡ false)
+      pub window_not_of_key : (result : Result V Refusal) → MatchResult result (λ v. SettleTruly as_reply most old (map request qs) (items v) new) (λ refusal. EndsOpen most old (map request qs) refusal new) → IfErr result (λ refusal. is_of_question refusal ≡ false)
       window_not_of_key (Ok v) h = tt
       window_not_of_key (Err refusal) h = open_not_of_key refusal h.0
 
@@ -165,6 +174,7 @@ unframed_push most old key s refusal e = elim (nat_le (length (spell_state s)) s
 
 -- a refusal that leaves a push open has no cause in the key
 open_cause : (most : ℕ) (old : States) (key : Key) (s : State) (refusal : Refusal) → leaves_open refusal ≡ true → CannotTake most old key s refusal
+open_cause most old key s BadPath e = absurd (cc)
 open_cause most old key s StateTooLarge e = absurd (cc)
 open_cause most old key s Full e = absurd (cc)
 open_cause most old key s DotClash e = absurd (cc)
@@ -267,7 +277,7 @@ module _ (most : ℕ) where
     window_first still (Ok v) h = tt
     window_first still (Err refusal) h = let f = first_pushed ps new old h.1.0 h.1.1 h.1.2 in (f.0, f.1, new, f.2, λ _. refl)
 
-    pub pushes_not_of_key : (result : Result V Refusal) → MatchResult result (λ v. SettleTruly (λ _. reply.Done) most old (map asked ps) (items v) new) (λ refusal. EndsOpen most old (map asked ps) refusal new) → IfErr result (λ refusal. is_of_key refusal ≡ false)
+    pub pushes_not_of_key : (result : Result V Refusal) → MatchResult result (λ v. SettleTruly (λ _. reply.Done) most old (map asked ps) (items v) new) (λ refusal. EndsOpen most old (map asked ps) refusal new) → IfErr result (λ refusal. is_of_question refusal ≡ false)
     pushes_not_of_key (Ok v) h = tt
     pushes_not_of_key (Err refusal) h = open_not_of_key refusal h.0
 

@@ -10,7 +10,7 @@ use Rattle.mvd_sync.specs.Answers.{Entry, IsPage, IsPageOf}
 use Rattle.mvd_sync.specs.Buckets.{ArePages, FillEnds, IsSpent}
 use Rattle.mvd_sync.specs.Questions.{AllAnswered, ComesToEnd, Fills, ForEach, Keeps, AnswersEach}
 use Rattle.mvd_sync.specs.Session.{Each}
-use Rattle.mvd_sync.specs.Sides.{Side, of_answer, of_side, is_of_key}
+use Rattle.mvd_sync.specs.Sides.{Side, of_answer, of_side, is_of_question}
 use Rattle.mvd_sync.specs.Walk.{Reads}
 use Rattle.mvd_sync.specs.declared.asking.Questions.{Questions}
 use Rattle.mvd_sync.specs.declared.report.SyncFault.TheVariants.{Local, Peer}
@@ -27,12 +27,12 @@ page_refused s IsTold (Err refusal) left left' old new spent follows kept told b
   within = omega (arith, spent);
   follows = follows;
   cause = of_answer bad.0 (λ t. bad.1 (told t));
-  not_of_key = λ t. ap is_of_key bad.0;
+  not_of_key = λ t. ap is_of_question bad.0;
   right = kept;
 }
 
 -- it was refused
-pub one_refused : {S : Type 0} (s : Side S) (left left' : ℕ) (old new : S) (refusal : Refusal) → left ≡ left' + 1 → s.follows 1 old new → s.follows 0 new new → s.can_refuse new refusal → (s.is_faithful old → is_of_key refusal ≡ false) → (s.is_faithful old → Keeps s old new)
+pub one_refused : {S : Type 0} (s : Side S) (left left' : ℕ) (old new : S) (refusal : Refusal) → left ≡ left' + 1 → s.follows 1 old new → s.follows 0 new new → s.can_refuse new refusal → (s.is_faithful old → is_of_question refusal ≡ false) → (s.is_faithful old → Keeps s old new)
     → ComesToEnd s (Keeps s old new) 1 left old new refusal
 one_refused s left left' old new refusal spent follows self told not_of_key kept = record {
   asked = 1;
@@ -100,6 +100,14 @@ pub page_left : {X : Type 0} (P : X → Type 0) (xs ys : List X) (i n : ℕ) (x 
 page_left P xs ys i n x each e long low is = subst P (sym (first_left xs ys i x e is)) (Each-at P xs i x each (omega (arith, long, low)))
 
 -- ---- the first pages
+
+-- they are asked for at the paths of buckets
+pub pages_deep : (paths : List (List ℕ)) (asked : List (List ℕ × Option (List ℕ))) → Each (λ path. length path ≡ 3) paths → asked ≡ map (λ path. (path, None)) paths → Each (λ q. length q.0 ≡ 3) asked
+pages_deep paths asked deep is = subst (Each (λ (q : List ℕ × Option (List ℕ)). length q.0 ≡ 3)) (sym is) (first_deep paths deep)
+  where
+    first_deep : (paths : List (List ℕ)) → Each (λ path. length path ≡ 3) paths → Each (λ (q : List ℕ × Option (List ℕ)). length q.0 ≡ 3) (map (λ path. (path, None)) paths)
+    first_deep [] deep = tt
+    first_deep (path ∷ paths) deep = (deep.0, first_deep paths deep.1)
 
 -- what a page has, whoever told it
 abbrev pub IsGoodPage : List Entry × Bool → Type 0

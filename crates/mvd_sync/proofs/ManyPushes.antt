@@ -4,13 +4,13 @@ use Rattle.std.specs.Prelude.{Result, Ok, Err, IfErr, OnOk}
 use Rattle.std.proofs.Math.Seq.{take-append-add}
 use Rattle.std.proofs.lemmas.List.{take_more}
 use Rattle.mvd_dots.specs.declared.refusals.Refusal.{Refusal}
-use Rattle.mvd_dots.specs.declared.refusals.Refusal.TheVariants.{Broken, DotClash, Full, StateTooLarge}
+use Rattle.mvd_dots.specs.declared.refusals.Refusal.TheVariants.{BadPath, Broken, DotClash, Full, StateTooLarge}
 use Rattle.mvd_keys.specs.State.{State, clashes}
 use Rattle.mvd_keys.specs.Writes.{Key}
 use Rattle.mvd_site.specs.Held.{States, state_at}
 use Rattle.mvd_sync.specs.Session.{pushed}
-use Rattle.mvd_sync.specs.Sides.{is_of_key}
-use Rattle.mvd_sync.specs.Windows.{CannotTake, Leaves, Pushes, PushesFirst, leaves_open}
+use Rattle.mvd_sync.specs.Sides.{is_of_key, is_of_question}
+use Rattle.mvd_sync.specs.Windows.{CannotTake, EachTold, Leaves, Pushes, PushesFirst, leaves_open}
 
 abbrev Told : Type 0
 Told = Result (Unit {0}) Refusal
@@ -49,9 +49,22 @@ pushes_more most most' old mid new all i p ts us a low at told same before is ap
 pub first_later : (still : Type 0) (most : ℕ) (old mid new : States) (ps : List (Key × State)) (ts : List Told) (qs : List (Key × State)) → Pushes most old ps ts mid → PushesFirst still most mid qs new → PushesFirst still most old (ps ++ qs) new
 first_later still most old mid new ps ts qs h f = (length ps + f.0, ts ++ f.1, f.2, subst (λ (xs : List (Key × State)). Pushes most old xs (ts ++ f.1) f.2) (sym (take-append-add ps qs f.0)) (pushes-append most old mid f.2 ps ts (take f.0 qs) f.1 h f.3), f.4)
 
+-- no push is refused with 14
+push_apart : (most : ℕ) (states : States) (key : Key) (s : State) (refusal : Refusal) → CannotTake most states key s refusal → is_of_key refusal ≡ false → is_of_question refusal ≡ false
+push_apart most states key s BadPath why e = absurd why
+push_apart most states key s refusal why e = e
+
+pub pushes_apart : (most : ℕ) (old new : States) (ps : List (Key × State)) (ts : List Told) → Pushes most old ps ts new → EachTold (Unit {0}) (λ r. is_of_key r ≡ false → is_of_question r ≡ false) ts
+pushes_apart most old new [] [] h = tt
+pushes_apart most old new [] (t ∷ ts) h = absurd h
+pushes_apart most old new (p ∷ ps) [] h = absurd h
+pushes_apart most old new (p ∷ ps) (Ok done ∷ ts) h = (tt, pushes_apart most (pushed old p.0 p.1) new ps ts h.1)
+pushes_apart most old new (p ∷ ps) (Err refusal ∷ ts) h = (push_apart most old p.0 p.1 refusal h.0, pushes_apart most old new ps ts h.1)
+
 -- ---- refusals that leave open whether a push was taken
 
-pub open_not_of_key : (refusal : Refusal) → leaves_open refusal ≡ true → is_of_key refusal ≡ false
+pub open_not_of_key : (refusal : Refusal) → leaves_open refusal ≡ true → is_of_question refusal ≡ false
+open_not_of_key BadPath e = absurd (cc)
 open_not_of_key StateTooLarge e = absurd (cc)
 open_not_of_key Full e = absurd (cc)
 open_not_of_key DotClash e = absurd (cc)

@@ -6,8 +6,8 @@ use Rattle.std.proofs.lemmas.Result.{err_from_is_err_and}
 use Rattle.std.proofs.lemmas.List.{length-take-le, take_more}
 use Rattle.mvd_dots.specs.declared.refusals.Refusal.{Refusal}
 use Rattle.mvd_dots.specs.declared.refusals.Refusal.TheVariants.{Memory}
-use Rattle.mvd_sync.specs.Sides.{HasAnswered, HasRefused, Reaches, is_of_key}
-use Rattle.mvd_sync.specs.Windows.{Asked, EachAnswer, EachTold, Ends}
+use Rattle.mvd_sync.specs.Sides.{HasAnswered, HasRefused, Reaches}
+use Rattle.mvd_sync.specs.Windows.{Asked, EachAnswer, EachRefusal, EachTold, Ends}
 
 pub each_more : {Q A : Type 0} (P : Q → A → Type 0) (qs : List Q) (ts : List (Result A Refusal)) (q : Q) (a : Result A Refusal) → EachAnswer P qs ts → EachAnswer P (q ∷ []) (a ∷ []) → EachAnswer P (qs ++ q ∷ []) (ts ++ a ∷ [])
 each_more P [] [] q a h i = i
@@ -16,6 +16,18 @@ each_more P [] (Err x ∷ ts) q a h i = absurd h
 each_more P (p ∷ qs) [] q a h i = absurd h
 each_more P (p ∷ qs) (Ok x ∷ ts) q a h i = (h.0, each_more P qs ts q a h.1 i)
 each_more P (p ∷ qs) (Err x ∷ ts) q a h i = each_more P qs ts q a h i
+
+pub refusal_more : {Q A : Type 0} (P : Q → Refusal → Type 0) (qs : List Q) (ts : List (Result A Refusal)) (q : Q) (a : Result A Refusal) → EachRefusal P qs ts → EachRefusal P (q ∷ []) (a ∷ []) → EachRefusal P (qs ++ q ∷ []) (ts ++ a ∷ [])
+refusal_more P [] [] q a h i = i
+refusal_more P [] (Ok x ∷ ts) q a h i = absurd h
+refusal_more P [] (Err x ∷ ts) q a h i = absurd h
+refusal_more P (p ∷ qs) [] q a h i = absurd h
+refusal_more P (p ∷ qs) (Ok x ∷ ts) q a h i = refusal_more P qs ts q a h i
+refusal_more P (p ∷ qs) (Err x ∷ ts) q a h i = (h.0, refusal_more P qs ts q a h.1 i)
+
+pub one_refusal : {Q A : Type 0} (P : Q → Refusal → Type 0) (q : Q) (a : Result A Refusal) → IfErr a (P q) → EachRefusal P (q ∷ []) (a ∷ [])
+one_refusal P q (Ok x) h = tt
+one_refusal P q (Err x) h = (h, tt)
 
 pub told_more : {A : Type 0} (P : Type 0) (R : Refusal → Type 0) (ts : List (Result A Refusal)) (a : Result A Refusal) → EachTold P R ts → EachTold P R (a ∷ []) → EachTold P R (ts ++ a ∷ [])
 told_more P R [] a h i = i
@@ -93,8 +105,8 @@ module _ {S : Type 0} (follows : ℕ → S → S → Type 0) (can_refuse : S →
       cause = elim why [ inl told ↦ inl (refused_now old mid new refusal (n, before) (1, step) told) | inr memory ↦ inr memory ];
     }
 
-  pub none_asked : {Q A : Type 0} (May Right : Q → A → Type 0) (T : Type 0) (old : S) → Asked follows can_refuse can_answer May Right T [] [] old old
-  none_asked May Right T old = record {
+  pub none_asked : {Q A : Type 0} (May Right : Q → A → Type 0) (Refuses : Q → Refusal → Type 0) (T : Type 0) (old : S) → Asked follows can_refuse can_answer May Right Refuses T [] [] old old
+  none_asked May Right Refuses T old = record {
     count = self old;
     may = tt;
     right = λ _. tt;
@@ -103,8 +115,8 @@ module _ {S : Type 0} (follows : ℕ → S → S → Type 0) (can_refuse : S →
   }
 
   -- one question more
-  module _ {Q A : Type 0} (May Right : Q → A → Type 0) (T : Type 0) (old mid new : S) (qs : List Q) (ts : List (Result A Refusal)) (q : Q) (a : Result A Refusal) where
-    pub one_more : Asked follows can_refuse can_answer May Right T qs ts old mid → follows 1 mid new → IfOk a (May q) → (T → IfOk a (Right q)) → IfErr a (can_refuse new) → OnOk a (can_answer new) → (T → IfErr a (λ refusal. is_of_key refusal ≡ false)) → Asked follows can_refuse can_answer May Right T (qs ++ q ∷ []) (ts ++ a ∷ []) old new
+  module _ {Q A : Type 0} (May Right : Q → A → Type 0) {Refuses : Q → Refusal → Type 0} (T : Type 0) (old mid new : S) (qs : List Q) (ts : List (Result A Refusal)) (q : Q) (a : Result A Refusal) where
+    pub one_more : Asked follows can_refuse can_answer May Right Refuses T qs ts old mid → follows 1 mid new → IfOk a (May q) → (T → IfOk a (Right q)) → IfErr a (can_refuse new) → OnOk a (can_answer new) → (T → IfErr a (Refuses q)) → Asked follows can_refuse can_answer May Right Refuses T (qs ++ q ∷ []) (ts ++ a ∷ []) old new
     one_more before step may right refuses answers not_of_key =
         let way : Reaches follows old mid = (length qs, before.count) in
         let last : Reaches follows mid new = (1, step) in
@@ -118,15 +130,15 @@ module _ {S : Type 0} (follows : ℕ → S → S → Type 0) (can_refuse : S →
           told = told_more U R ts a
               (told_still (HasAnswered follows can_answer old mid) U (HasRefused follows can_refuse old mid) R ts (answered_on old mid new last) (λ r. refused_on old mid new r last) before.told)
               (one_told U R a (ok_still a answers (answered_now old mid new way last)) (err_still a refuses (λ r. refused_now old mid new r way last)));
-          not_of_key = λ t. told_more (Unit {0}) (λ r. is_of_key r ≡ false) ts a (before.not_of_key t) (one_told (Unit {0}) (λ r. is_of_key r ≡ false) a (ok_still a answers (λ _. tt)) (not_of_key t));
+          not_of_key = λ t. refusal_more Refuses qs ts q a (before.not_of_key t) (one_refusal Refuses q a (not_of_key t));
         }
 
   -- in turn
-  pub one_more_at : {Q A : Type 0} (May Right : Q → A → Type 0) (T : Type 0) (old mid new : S) (all : List Q) (i : ℕ) (q : Q) (ts us : List (Result A Refusal)) (a : Result A Refusal) → i < length all → q ≡ get_or all i q → us ≡ ts ++ a ∷ []
-      → Asked follows can_refuse can_answer May Right T (take i all) ts old mid → follows 1 mid new → IfOk a (May q) → (T → IfOk a (Right q)) → IfErr a (can_refuse new) → OnOk a (can_answer new) → (T → IfErr a (λ refusal. is_of_key refusal ≡ false))
-      → Asked follows can_refuse can_answer May Right T (take (i + 1) all) us old new
-  one_more_at May Right T old mid new all i q ts us a low at pushed before step may right refuses answers not_of_key =
+  pub one_more_at : {Q A : Type 0} (May Right : Q → A → Type 0) {Refuses : Q → Refusal → Type 0} (T : Type 0) (old mid new : S) (all : List Q) (i : ℕ) (q : Q) (ts us : List (Result A Refusal)) (a : Result A Refusal) → i < length all → q ≡ get_or all i q → us ≡ ts ++ a ∷ []
+      → Asked follows can_refuse can_answer May Right Refuses T (take i all) ts old mid → follows 1 mid new → IfOk a (May q) → (T → IfOk a (Right q)) → IfErr a (can_refuse new) → OnOk a (can_answer new) → (T → IfErr a (Refuses q))
+      → Asked follows can_refuse can_answer May Right Refuses T (take (i + 1) all) us old new
+  one_more_at May Right {Refuses} T old mid new all i q ts us a low at pushed before step may right refuses answers not_of_key =
       let more : take (i + 1) all ≡ take i all ++ q ∷ [] = take_more all i q low ∙ ap (λ x. take i all ++ x ∷ []) (sym at) in
-      subst (λ qs. Asked follows can_refuse can_answer May Right T qs us old new) (sym more)
-      (subst (λ us. Asked follows can_refuse can_answer May Right T (take i all ++ q ∷ []) us old new) (sym pushed)
+      subst (λ qs. Asked follows can_refuse can_answer May Right Refuses T qs us old new) (sym more)
+      (subst (λ us. Asked follows can_refuse can_answer May Right Refuses T (take i all ++ q ∷ []) us old new) (sym pushed)
       (one_more May Right T old mid new (take i all) ts q a before step may right refuses answers not_of_key))

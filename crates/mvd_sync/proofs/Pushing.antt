@@ -8,11 +8,11 @@ use Rattle.mvd_dots.specs.declared.refusals.Refusal.TheVariants.{Broken, Memory,
 use Rattle.mvd_keys.specs.State.{State}
 use Rattle.mvd_keys.specs.Writes.{Key}
 use Rattle.mvd_sync.specs.Questions.{AllAnswered, ComesToEnd, ForEach, IsOfKey, TakesFirst, TakesIn}
-use Rattle.mvd_sync.specs.Sides.{Blames, HasAnswered, HasRefused, Side, is_of_key, of_memory, of_questions, of_side}
+use Rattle.mvd_sync.specs.Sides.{Blames, HasAnswered, HasRefused, Side, is_of_key, is_of_question, of_memory, of_questions, of_side}
 use Rattle.mvd_sync.specs.Windows.{Asked, EachAnswer, EachTold, Ends, Pushes, PushesFirst}
 use Rattle.mvd_sync.proofs.Answering.{told_at}
 use Rattle.mvd_sync.proofs.Compose.{ends_for_memory, refused_later}
-use Rattle.mvd_sync.proofs.ManyPushes.{first_later, pushes-append}
+use Rattle.mvd_sync.proofs.ManyPushes.{first_later, pushes-append, pushes_apart}
 
 abbrev Told : Type 0
 Told = Result (Unit {0}) Refusal
@@ -95,7 +95,7 @@ module _ {S : Type 0} (s : Side S) (pairs : List Pair) (left : ℕ) (old : S) wh
       }
 
   -- and the last answer, or what was made of it, ended them
-  pub ended_after : (rest : List Pair) (told : List Told) (left' : ℕ) (new : S) (refusal : Refusal) (f : FrontPushed s pairs rest told left left' old new) → Blames s left (length f.done) 0 old new refusal → is_of_key refusal ≡ false → ComesToEnd s (TakesFirst s pairs old new refusal) (length pairs) left old new refusal
+  pub ended_after : (rest : List Pair) (told : List Told) (left' : ℕ) (new : S) (refusal : Refusal) (f : FrontPushed s pairs rest told left left' old new) → Blames s left (length f.done) 0 old new refusal → (s.is_faithful old → is_of_question refusal ≡ false) → ComesToEnd s (TakesFirst s pairs old new refusal) (length pairs) left old new refusal
   ended_after rest told left' new refusal f why not_of_key =
       let longer : length pairs ≡ length f.done + length rest = ap length f.whole ∙ length-append f.done rest in
       record {
@@ -105,7 +105,7 @@ module _ {S : Type 0} (s : Side S) (pairs : List Pair) (left : ℕ) (old : S) wh
         within = let spent = f.spent in omega arith;
         follows = f.follows;
         cause = why;
-        not_of_key = λ _. not_of_key;
+        not_of_key = not_of_key;
         right = λ t.
             let k = f.took t in
             record {
@@ -121,7 +121,7 @@ module _ {S : Type 0} (s : Side S) (pairs : List Pair) (left : ℕ) (old : S) wh
       }
 
   pub ended_for_memory : (rest : List Pair) (told : List Told) (left' : ℕ) (new : S) (refusal : Refusal) → FrontPushed s pairs rest told left left' old new → refusal ≡ Memory → ComesToEnd s (TakesFirst s pairs old new refusal) (length pairs) left old new refusal
-  ended_for_memory rest told left' new refusal f is = ended_after rest told left' new refusal f (of_memory is) (ap is_of_key is)
+  ended_for_memory rest told left' new refusal f is = ended_after rest told left' new refusal f (of_memory is) (λ _. ap is_of_question is)
 
   -- no question was left
   pub ended_for_want : (rest : List Pair) (told : List Told) (left' : ℕ) (new : S) (refusal : Refusal) → FrontPushed s pairs rest told left left' old new → refusal ≡ TooManyRequests → left' ≡ 0 → 1 ≤ length rest → ComesToEnd s (TakesFirst s pairs old new refusal) (length pairs) left old new refusal
@@ -136,7 +136,7 @@ module _ {S : Type 0} (s : Side S) (pairs : List Pair) (left : ℕ) (old : S) wh
         within = omega (arith, spent);
         follows = f.follows;
         cause = of_questions is (omega (arith, spent, none)) refl;
-        not_of_key = λ _. ap is_of_key is;
+        not_of_key = λ _. ap is_of_question is;
         right = λ t. let k = before.right t in record { still = λ _. (f.took t).0; pushes = k.pushes };
       }
 
@@ -157,7 +157,7 @@ module _ {S : Type 0} (s : Side S) (on : (m n : ℕ) (old mid new : S) → s.fol
     most = stays (length before.done) old mid before.follows
 
     -- it was answered
-    pub front_on : {May Right : Pair → Unit {0} → Type 0} {T : Type 0} → Asked s.follows s.can_refuse s.can_answer May Right T (take taken rest) answers mid new
+    pub front_on : {May Right : Pair → Unit {0} → Type 0} {Refuses : Pair → Refusal → Type 0} {T : Type 0} → Asked s.follows s.can_refuse s.can_answer May Right Refuses T (take taken rest) answers mid new
         → (s.is_faithful mid → s.is_faithful new × Pushes (s.most_keys mid) (s.states mid) (take taken rest) answers (s.states new))
         → FrontPushed s pairs (drop taken rest) (told ++ answers) left left'' old new
     front_on {May} asked pushes = record {
@@ -175,7 +175,7 @@ module _ {S : Type 0} (s : Side S) (on : (m n : ℕ) (old mid new : S) → s.fol
     }
 
     -- a refusal of more than its key, that was told on the way
-    pub ended_told : {May Right : Pair → Unit {0} → Type 0} {T : Type 0} (refusal : Refusal) → Asked s.follows s.can_refuse s.can_answer May Right T (take taken rest) answers mid new
+    pub ended_told : {May Right : Pair → Unit {0} → Type 0} {Refuses : Pair → Refusal → Type 0} {T : Type 0} (refusal : Refusal) → Asked s.follows s.can_refuse s.can_answer May Right Refuses T (take taken rest) answers mid new
         → (s.is_faithful mid → s.is_faithful new × Pushes (s.most_keys mid) (s.states mid) (take taken rest) answers (s.states new))
         → (refusal ≡ Memory) ⊎ (Contains answers (Err refusal) × (is_of_key refusal ≡ false))
         → ComesToEnd s (TakesFirst s pairs old new refusal) (length pairs) left old new refusal
@@ -183,13 +183,15 @@ module _ {S : Type 0} (s : Side S) (on : (m n : ℕ) (old mid new : S) → s.fol
         let f = front_on asked pushes in
         elim why [
           | inl memory ↦ ended_for_memory s pairs left old (drop taken rest) (told ++ answers) left'' new refusal f memory
-          | inr other ↦ ended_after s pairs left old (drop taken rest) (told ++ answers) left'' new refusal f
-              (of_side (refused_later s on old mid new refusal (length before.done, before.follows) (told_in (HasAnswered s.follows s.can_answer mid new) (HasRefused s.follows s.can_refuse mid new) answers refusal asked.told other.0)) (λ _. other.1))
-              other.1
+          | inr other ↦
+              let apart : s.is_faithful old → is_of_question refusal ≡ false = λ t. told_in (Unit {0}) (λ r. is_of_key r ≡ false → is_of_question r ≡ false) answers refusal (pushes_apart (s.most_keys mid) (s.states mid) (s.states new) (take taken rest) answers (pushes (before.took t).0).1) other.0 other.1 in
+              ended_after s pairs left old (drop taken rest) (told ++ answers) left'' new refusal f
+              (of_side (refused_later s on old mid new refusal (length before.done, before.follows) (told_in (HasAnswered s.follows s.can_answer mid new) (HasRefused s.follows s.can_refuse mid new) answers refusal asked.told other.0)) apart)
+              apart
         ]
 
     -- the call was refused
-    pub ended_call : (refusal : Refusal) → Ends s.follows s.can_refuse (length (take taken rest)) mid new refusal → (s.is_faithful mid → is_of_key refusal ≡ false) → (s.is_faithful mid → refusal ≢ Broken → s.is_faithful new)
+    pub ended_call : (refusal : Refusal) → Ends s.follows s.can_refuse (length (take taken rest)) mid new refusal → (s.is_faithful mid → is_of_question refusal ≡ false) → (s.is_faithful mid → refusal ≢ Broken → s.is_faithful new)
         → (s.is_faithful mid → PushesFirst (s.is_faithful new) (s.most_keys mid) (s.states mid) (take taken rest) (s.states new))
         → ComesToEnd s (TakesFirst s pairs old new refusal) (length pairs) left old new refusal
     ended_call refusal ends not_of_key unbroken first =

@@ -24,8 +24,8 @@ use Rattle.mvd_site.specs.Held.{AreHeld, States, state_at}
 use Rattle.mvd_site.specs.Sites.{SiteValue}
 use Rattle.mvd_sync.specs.Session.{is_nothing, put_state, pushed}
 use Rattle.std.specs.Cmp.{unsigned_Decides}
-use Rattle.mvd_sync.specs.Windows.{CannotTake}
-use Rattle.mvd_sync.specs.Sides.{SiteFollows, SiteRefuses, is_site_refusal, tells_broken, is_of_key}
+use Rattle.mvd_sync.specs.Windows.{CannotTake, RefusesPage}
+use Rattle.mvd_sync.specs.Sides.{SiteFollows, SiteRefuses, is_site_refusal, tells_broken, is_of_question}
 use Rattle.mvd_sync.proofs.JoinLaws.{nothing_empty, valid_at}
 
 -- ---- the digests of a node
@@ -47,8 +47,8 @@ module _ (broken : Bool) (m : States) (path : List ℕ) (r : Result Digests Refu
       let is : nat_lt (length path) 3 ≡ false = grind (arith, nat_tests) in
       subst (λ r. IfOk r (λ d. d.children ≡ None)) (sym (told broken m path r e whole)) (ap (λ b. if b then Some (children_digests (digests m) path) else None) is)
 
-  pub node_not_of_key : IfErr r (λ refusal. is_of_key refusal ≡ false)
-  node_not_of_key = subst (λ r. IfErr r (λ refusal. is_of_key refusal ≡ false)) (sym (told broken m path r e whole)) tt
+  pub node_not_of_key : IfErr r (λ refusal. is_of_question refusal ≡ false)
+  node_not_of_key = subst (λ r. IfErr r (λ refusal. is_of_question refusal ≡ false)) (sym (told broken m path r e whole)) tt
 
 -- ---- a push
 
@@ -152,19 +152,23 @@ pub get_refuses : {X : Type 0} (site : SiteValue) (r : Result X Refusal) → IfE
 get_refuses site (Ok done) e = tt
 get_refuses site (Err refusal) e = bucket_told site.broken true refusal e
 
--- no question is refused for its key
-not_of_key : (broken three : Bool) (refusal : Refusal) → refusal ≡ (if broken then Broken else if three then Memory else BadPath) → is_of_key refusal ≡ false
-not_of_key true three refusal e = ap is_of_key e
-not_of_key false true refusal e = ap is_of_key e
-not_of_key false false refusal e = ap is_of_key e
+-- no question is refused for its key, and a page for its path alone
+bucket_apart : (path : List ℕ) (broken three : Bool) (refusal : Refusal) → (length path == 3) ≡ three → refusal ≡ (if broken then Broken else if three then Memory else BadPath) → RefusesPage path refusal
+bucket_apart path true three refusal is e = subst (RefusesPage path) (sym e) refl
+bucket_apart path false true refusal is e = subst (RefusesPage path) (sym e) refl
+bucket_apart path false false refusal is e = subst (RefusesPage path) (sym e) is
 
-pub bucket_not_of_key : {X : Type 0} (broken : Bool) (path : List ℕ) (r : Result X Refusal) → IfErr r (λ refusal. refusal ≡ bucket_refusal broken path) → IfErr r (λ refusal. is_of_key refusal ≡ false)
+pub bucket_not_of_key : {X : Type 0} (broken : Bool) (path : List ℕ) (r : Result X Refusal) → IfErr r (λ refusal. refusal ≡ bucket_refusal broken path) → IfErr r (RefusesPage path)
 bucket_not_of_key broken path (Ok done) e = tt
-bucket_not_of_key broken path (Err refusal) e = not_of_key broken (length path == 3) refusal e
+bucket_not_of_key broken path (Err refusal) e = bucket_apart path broken (length path == 3) refusal refl e
 
-pub get_not_of_key : {X : Type 0} (broken : Bool) (r : Result X Refusal) → IfErr r (λ refusal. refusal ≡ unless_broken broken Broken Memory) → IfErr r (λ refusal. is_of_key refusal ≡ false)
+get_apart : (broken : Bool) (refusal : Refusal) → refusal ≡ (if broken then Broken else Memory) → is_of_question refusal ≡ false
+get_apart true refusal e = ap is_of_question e
+get_apart false refusal e = ap is_of_question e
+
+pub get_not_of_key : {X : Type 0} (broken : Bool) (r : Result X Refusal) → IfErr r (λ refusal. refusal ≡ unless_broken broken Broken Memory) → IfErr r (λ refusal. is_of_question refusal ≡ false)
 get_not_of_key broken (Ok done) e = tt
-get_not_of_key broken (Err refusal) e = not_of_key broken true refusal e
+get_not_of_key broken (Err refusal) e = get_apart broken refusal e
 
 -- why a push is refused, by the limits
 push_told : (large clash larger full : Bool) (refusal : Refusal) → (if large then Refused StateTooLarge else if clash then Refused DotClash else if larger then Refused StateTooLarge else if full then Refused Full else Done) ≡ Refused refusal

@@ -19,8 +19,8 @@ use Rattle.mvd_wire.specs.Requests.{IsRequest, request_frame}
 use Rattle.mvd_wire.specs.Replies.{reply_of}
 use Rattle.mvd_site.specs.Answer.{digests}
 use Rattle.mvd_site.specs.Held.{States, state_at}
-use Rattle.mvd_sync.specs.Sides.{Stays, is_of_key, stays_on}
-use Rattle.mvd_sync.specs.Windows.{CannotTake, IsNode, Takes, leaves_open}
+use Rattle.mvd_sync.specs.Sides.{Stays, is_of_question, stays_on}
+use Rattle.mvd_sync.specs.Windows.{CannotTake, IsNode, RefusesPage, Takes, leaves_open}
 use Rattle.mvd_sync.specs.declared.remote.Remote.{Remote}
 
 -- the far end: the key states that it holds once all that went out is answered, the replies that are still to be read, and how
@@ -32,9 +32,9 @@ pub record Far : Type 0 where
 
 -- ---- what a true side replies
 
--- a question was refused, and not for a key
+-- a question was refused, and not for itself alone
 abbrev pub RefusesQuestion : States → Refusal → States → Type 0
-RefusesQuestion old refusal new = (is_of_key refusal ≡ false) × (new ≡ old)
+RefusesQuestion old refusal new = (is_of_question refusal ≡ false) × (new ≡ old)
 
 -- a push was refused for its cause, and not taken; or the side broke, and may hold it
 abbrev pub RefusesPush : ℕ → States → Key → State → Refusal → States → Type 0
@@ -50,7 +50,7 @@ TrueReply most old (Node path) (Told node) new = IsNode (digests old) path node 
 TrueReply most old (Node path) (Refused refusal) new = RefusesQuestion old refusal new
 TrueReply most old (Node path) reply new = ⊥
 TrueReply most old (Bucket path after) (Keys page more) new = (page ≡ page_of (digests old) path after) × (more ≡ is_more_after_page (digests old) path after) × (new ≡ old)
-TrueReply most old (Bucket path after) (Refused refusal) new = RefusesQuestion old refusal new
+TrueReply most old (Bucket path after) (Refused refusal) new = RefusesPage path refusal × (new ≡ old)
 TrueReply most old (Bucket path after) reply new = ⊥
 TrueReply most old (Push key state) Done new = Takes old key state new
 TrueReply most old (Push key state) (Refused refusal) new = RefusesPush most old key state refusal new

@@ -9,7 +9,7 @@ use Rattle.mvd_tree.specs.Page.{children_digests}
 use Rattle.mvd_wire.specs.Codecs.{spell_state}
 use Rattle.mvd_site.specs.Answer.{digests}
 use Rattle.mvd_sync.specs.Answers.{Entry, IsPage, IsPageOf}
-use Rattle.mvd_sync.specs.Sides.{Blames, Side, is_of_key}
+use Rattle.mvd_sync.specs.Sides.{Blames, Side, is_of_key, is_of_question}
 use Rattle.mvd_sync.specs.Windows.{Pushes, PushesFirst}
 use Rattle.mvd_sync.specs.declared.asking.Node.{Node}
 
@@ -46,7 +46,7 @@ pub record ComesToEnd {S : Type 0} (s : Side S) (True : Type 0) (questions left 
   pub within : asked ≤ left
   pub follows : s.follows asked old new
   pub cause : Blames s left asked wanted old new refusal
-  pub not_of_key : s.is_faithful old → is_of_key refusal ≡ false
+  pub not_of_key : s.is_faithful old → is_of_question refusal ≡ false
   pub right : s.is_faithful old → True
 
 -- ---- what is so of a side that was true

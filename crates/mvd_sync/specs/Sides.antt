@@ -63,12 +63,17 @@ is_of_key Full = true
 is_of_key DotClash = true
 is_of_key refusal = false
 
+-- or of one question alone: these, and 14, of its path
+abbrev pub is_of_question : Refusal → Bool
+is_of_question BadPath = true
+is_of_question refusal = is_of_key refusal
+
 -- ---- why a session ends by a side
 
--- it refused so, and if it was true that is no refusal of a key alone; or it gave what no true side gives (33); or all
--- questions were made that it might be asked, and one more was wanted (36); or memory was refused
+-- it refused so, and if it was true that is no refusal of one question alone (9, 10, 11, 14); or it gave what no true side
+-- gives (33); or all questions were made that it might be asked, and one more was wanted (36); or memory was refused
 pub data Blames {S : Type 0} (s : Side S) (most asked wanted : ℕ) (old new : S) (refusal : Refusal) : Type 0 where
-  of_side : HasRefused s.follows s.can_refuse old new refusal → (s.is_faithful old → is_of_key refusal ≡ false) → Blames s most asked wanted old new refusal
+  of_side : HasRefused s.follows s.can_refuse old new refusal → (s.is_faithful old → is_of_question refusal ≡ false) → Blames s most asked wanted old new refusal
   of_answer : refusal ≡ BadBody → (s.is_faithful old → ⊥) → Blames s most asked wanted old new refusal
   of_questions : refusal ≡ TooManyRequests → asked ≡ most → wanted ≡ 1 → Blames s most asked wanted old new refusal
   of_memory : refusal ≡ Memory → Blames s most asked wanted old new refusal

@@ -1,8 +1,8 @@
 -- Many questions at once: one answer for each, in order, as if they were asked one after the other.
-use Rattle.std.specs.Prelude.{◌≡◌, ◌⊎◌, ◌<◌, ◌≤◌, ℕ, Bool, true, false, List, [], ◌∷◌, length, Some, None, Result, Ok, Err, take}
+use Rattle.std.specs.Prelude.{◌≡◌, ◌⊎◌, ◌<◌, ◌≤◌, ◌==◌, ℕ, Bool, true, false, List, [], ◌∷◌, length, Some, None, Result, Ok, Err, take}
 use Rattle.std.specs.FinMap.{get, len}
 use Rattle.mvd_dots.specs.declared.refusals.Refusal.{Refusal}
-use Rattle.mvd_dots.specs.declared.refusals.Refusal.TheVariants.{BadBody, BadDefs, BadKind, Broken, DotClash, FrameTooLong, Full, Memory, ReadFailed, StateTooLarge, TooManyRequests, Truncated, WriteFailed}
+use Rattle.mvd_dots.specs.declared.refusals.Refusal.TheVariants.{BadBody, BadDefs, BadKind, BadPath, Broken, DotClash, FrameTooLong, Full, Memory, ReadFailed, StateTooLarge, TooManyRequests, Truncated, WriteFailed}
 use Rattle.mvd_keys.specs.State.{State, clashes, join}
 use Rattle.mvd_keys.specs.Writes.{Key}
 use Rattle.mvd_tree.specs.HashTree.{KeyDigests, node_digest}
@@ -26,29 +26,43 @@ EachTold P R [] = Unit {0}
 EachTold P R (Ok a ∷ ts) = P × EachTold P R ts
 EachTold P R (Err refusal ∷ ts) = R refusal × EachTold P R ts
 
+-- this of each question with its refusal
+abbrev pub EachRefusal : {Q A : Type 0} → (Q → Refusal → Type 0) → List Q → List (Result A Refusal) → Type 0
+EachRefusal P [] [] = Unit {0}
+EachRefusal P (q ∷ qs) (Ok a ∷ ts) = EachRefusal P qs ts
+EachRefusal P (q ∷ qs) (Err refusal ∷ ts) = P q refusal × EachRefusal P qs ts
+EachRefusal P qs ts = ⊥
+
+-- what a true side may refuse a page with: with nothing that is of a key alone, and with 14 only a path that has not three digits
+abbrev pub RefusesPage : List ℕ → Refusal → Type 0
+RefusesPage path BadPath = (length path == 3) ≡ false
+RefusesPage path refusal = is_of_key refusal ≡ false
+
 -- a node's digest and, above the buckets, those of its children
 abbrev pub IsNode : KeyDigests → List ℕ → Digests → Type 0
 IsNode held path d = (d.own ≡ node_digest held path) × (length path < 3 → d.children ≡ Some (children_digests held path)) × (3 ≤ length path → d.children ≡ None)
 
 -- Questions that were asked one after the other and answered so: as many as there are, each answer one that the side may
--- give, and right if it was true; each refusal one that it gave on the way, and of a true side none of a key alone
-pub record Asked {S Q A : Type 0} (follows : ℕ → S → S → Type 0) (can_refuse : S → Refusal → Type 0) (can_answer : S → Type 0) (May : Q → A → Type 0) (Right : Q → A → Type 0) (was_true : Type 0) (questions : List Q) (answers : List (Result A Refusal)) (old new : S) : Type 0 where
+-- give, and right if it was true; each refusal one that it gave on the way, and of a true side one that its question may have
+pub record Asked {S Q A : Type 0} (follows : ℕ → S → S → Type 0) (can_refuse : S → Refusal → Type 0) (can_answer : S → Type 0) (May : Q → A → Type 0) (Right : Q → A → Type 0) (Refuses : Q → Refusal → Type 0) (was_true : Type 0) (questions : List Q) (answers : List (Result A Refusal)) (old new : S) : Type 0 where
   pub count : follows (length questions) old new
   pub may : EachAnswer May questions answers
   pub right : was_true → EachAnswer Right questions answers
   pub told : EachTold (HasAnswered follows can_answer old new) (HasRefused follows can_refuse old new) answers
-  pub not_of_key : was_true → EachTold (Unit {0}) (λ refusal. is_of_key refusal ≡ false) answers
+  pub not_of_key : was_true → EachRefusal Refuses questions answers
 
 -- Questions that were not all answered: the side refused one so that it refuses all (22, or its link's own), or memory was refused
 pub record Ends {S : Type 0} (follows : ℕ → S → S → Type 0) (can_refuse : S → Refusal → Type 0) (most : ℕ) (old new : S) (refusal : Refusal) : Type 0 where
   pub count : Within follows most old new
   pub cause : HasRefused follows can_refuse old new refusal ⊎ (refusal ≡ Memory)
 
--- Why a side that holds these states, of which it takes so many keys at most, refuses a push of one key (9, 10, 11)
+-- Why a side that holds these states, of which it takes so many keys at most, refuses a push of one key (9, 10, 11); with 14,
+-- which is of a path, it refuses none
 abbrev pub CannotTake : ℕ → States → Key → State → Refusal → Type 0
 CannotTake most states key state StateTooLarge = (is_too_large state ≡ true) ⊎ (is_too_large (join (state_at states key) state) ≡ true)
 CannotTake most states key state Full = (get states key ≡ None) × (most ≤ len states)
 CannotTake most states key state DotClash = clashes (state_at states key) state ≡ true
+CannotTake most states key state BadPath = ⊥
 CannotTake most states key state refusal = Unit {0}
 
 -- States pushed one after the other, each taken, or refused for its cause

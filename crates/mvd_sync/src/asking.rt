@@ -103,6 +103,7 @@ pub fn ask_pages<P: Peer>(
     left: &mut u64,
     asked: &[(Path, Option<Key>)],
 ) -> Result<Vec<Listing>, Refusal>
+    requires { Each (λ q. length q.0 ≡ 3) asked.now }
     ensures told { let s = side_of P.states P.is_faithful P.can_give P.follows P.can_refuse P.can_answer P.most_keys P.number in
         IfOk result
         (λ pages. AllAnswered s (λ q page. IsPage None page.0 page.1 × (length page.0 < 2 ^ 64) × HasAnswered P.follows P.can_answer side.old side.new)

@@ -26,6 +26,7 @@ fn fill_both<L: Peer, P: Peer>(
     mine: &mut Listing,
     theirs: &mut Listing,
 ) -> Result<(), SyncFault>
+    requires { length path.now ≡ 3 }
     ensures filled { let l = side L.states L.is_faithful L.can_give L.follows L.can_refuse L.can_answer L.most_keys L.number in
         let p = side P.states P.is_faithful P.can_give P.follows P.can_refuse P.can_answer P.most_keys P.number in
         OnOk result
@@ -77,6 +78,7 @@ fn go_over<L: Peer, P: Peer>(
     mut theirs: Listing,
     exchange: &mut Exchange,
 ) -> Result<(), SyncFault>
+    requires deep { length path.now ≡ 3 }
     requires mine { (mine.0 ≡ [] → mine.1 ≡ false) × (length mine.0 < 2 ^ 64) }
     requires theirs { (theirs.0 ≡ [] → theirs.1 ≡ false) × (length theirs.0 < 2 ^ 64) }
     requires waiting { length exchange.old.waiting < 1000 }
@@ -110,6 +112,7 @@ fn go_over_all<L: Peer, P: Peer>(
     mut theirs: Vec<Listing>,
     exchange: &mut Exchange,
 ) -> Result<(), SyncFault>
+    requires deep { Each (λ path. length path ≡ 3) paths.now }
     requires lengths { (length mine.items ≡ length paths.now) × (length theirs.items ≡ length paths.now) }
     requires mine { Each (λ page. (page.0 ≡ [] → page.1 ≡ false) × (length page.0 < 2 ^ 64)) mine.items }
     requires theirs { Each (λ page. (page.0 ≡ [] → page.1 ≡ false) × (length page.0 < 2 ^ 64)) theirs.items }
@@ -153,6 +156,7 @@ fn exchange_window<L: Peer, P: Peer>(
     paths: &[Path],
     exchange: &mut Exchange,
 ) -> Result<(), SyncFault>
+    requires deep { Each (λ path. length path ≡ 3) paths.now }
     requires waiting { length exchange.old.waiting < 1000 }
     requires room { exchange.old.keys + exchange.old.refused + left.old.local + left.old.peer + 1000 < 2 ^ 64 }
     ensures { let l = side L.states L.is_faithful L.can_give L.follows L.can_refuse L.can_answer L.most_keys L.number in
@@ -184,6 +188,7 @@ pub fn exchange_buckets<L: Peer, P: Peer>(
     paths: &[Path],
     exchange: &mut Exchange,
 ) -> Result<(), SyncFault>
+    requires deep { Each (λ path. length path ≡ 3) paths.now }
     requires waiting { length exchange.old.waiting < 1000 }
     requires room { exchange.old.keys + exchange.old.refused + left.old.local + left.old.peer + 1000 < 2 ^ 64 }
     ensures { let l = side L.states L.is_faithful L.can_give L.follows L.can_refuse L.can_answer L.most_keys L.number in

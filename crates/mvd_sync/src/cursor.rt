@@ -88,6 +88,7 @@ impl Listing {
         path: &Path,
         after: Option<&Key>,
     ) -> Result<Self, Refusal>
+        requires { length path.now ≡ 3 }
         ensures told { let s = side_of P.states P.is_faithful P.can_give P.follows P.can_refuse P.can_answer P.most_keys P.number in
             IfOk result
             (λ listing. Fetches s path.now (option_copied after.entry) listing left.old left.new side.old side.new) }
@@ -119,6 +120,7 @@ impl Listing {
         path: &Path,
         after: Option<&Key>,
     ) -> Result<(), Refusal>
+        requires { length path.now ≡ 3 }
         ensures filled { let s = side_of P.states P.is_faithful P.can_give P.follows P.can_refuse P.can_answer P.most_keys P.number in
             OnOk result
             (Fills s path.now (option_copied after.entry) self.old self.new left.old left.new side.old side.new) }

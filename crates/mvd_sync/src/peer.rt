@@ -9,8 +9,8 @@ ghost use Rattle.mvd_tree.specs.Page.{children_digests, is_more_after_page, page
 ghost use Rattle.mvd_site.specs.Held.{AreHeld, States, state_at};
 ghost use Rattle.mvd_site.specs.Answer.{digests};
 ghost use Rattle.mvd_sync.specs.Session.{pushed};
-ghost use Rattle.mvd_sync.specs.Sides.{is_of_key};
-ghost use Rattle.mvd_sync.specs.Windows.{Asked, CannotTake, Ends, IsNode, Leaves, Pushes, PushesFirst};
+ghost use Rattle.mvd_sync.specs.Sides.{is_of_question};
+ghost use Rattle.mvd_sync.specs.Windows.{Asked, CannotTake, Ends, IsNode, Leaves, Pushes, PushesFirst, RefusesPage};
 
 use crate::windows::{is_over, left_open, room_for};
 use mvd_dots::Refusal;
@@ -64,7 +64,7 @@ pub trait Peer {
     fn node(&mut self, path: &Path) -> Result<Digests, Refusal>
         ensures kept { is_faithful self.old → is_faithful self.new × (states self.new ≡ states self.old) }
         ensures answer { is_faithful self.old → IfOk result (IsNode (digests (states self.old)) path.now) }
-        ensures not_of_key { is_faithful self.old → IfErr result (λ refusal. is_of_key refusal ≡ false) }
+        ensures not_of_key { is_faithful self.old → IfErr result (λ refusal. is_of_question refusal ≡ false) }
         ensures follows { follows 1 self.old self.new }
         ensures refuses { IfErr result (can_refuse self.new) }
         ensures answers { OnOk result (can_answer self.new) };
@@ -74,7 +74,7 @@ pub trait Peer {
         ensures kept { is_faithful self.old → is_faithful self.new × (states self.new ≡ states self.old) }
         ensures page { is_faithful self.old → IfOk result (λ page. page.0.items ≡ page_of (digests (states self.old)) path.now (option_copied after.entry)) }
         ensures more { is_faithful self.old → IfOk result (λ page. page.1 ≡ is_more_after_page (digests (states self.old)) path.now (option_copied after.entry)) }
-        ensures not_of_key { is_faithful self.old → IfErr result (λ refusal. is_of_key refusal ≡ false) }
+        ensures not_of_key { is_faithful self.old → IfErr result (RefusesPage path.now) }
         ensures follows { follows 1 self.old self.new }
         ensures refuses { IfErr result (can_refuse self.new) }
         ensures answers { OnOk result (can_answer self.new) };
@@ -84,7 +84,7 @@ pub trait Peer {
         ensures kept { is_faithful self.old → is_faithful self.new × (states self.new ≡ states self.old) }
         ensures answer { is_faithful self.old → IfOk result (λ state. state ≡ state_at (states self.old) key.now) }
         ensures given { IfOk result (λ state. can_give key.now state) }
-        ensures not_of_key { is_faithful self.old → IfErr result (λ refusal. is_of_key refusal ≡ false) }
+        ensures not_of_key { is_faithful self.old → IfErr result (λ refusal. is_of_question refusal ≡ false) }
         ensures follows { follows 1 self.old self.new }
         ensures refuses { IfErr result (can_refuse self.new) }
         ensures answers { OnOk result (can_answer self.new) };
@@ -103,9 +103,11 @@ pub trait Peer {
     /// The digests of several nodes.
     fn nodes(&mut self, paths: &[Path]) -> Result<Vec<Result<Digests, Refusal>>, Refusal>
         ensures kept { is_faithful self.old → is_faithful self.new × (states self.new ≡ states self.old) }
-        ensures told { IfOk result (λ told. Asked follows can_refuse can_answer (λ _ _. Unit {0}) (IsNode (digests (states self.old))) (is_faithful self.old) paths.now told.items self.old self.new) }
+        ensures told { IfOk result
+            (λ told. Asked follows can_refuse can_answer (λ _ _. Unit {0}) (IsNode (digests (states self.old)))
+            (λ _ refusal. is_of_question refusal ≡ false) (is_faithful self.old) paths.now told.items self.old self.new) }
         ensures ended { IfErr result (Ends follows can_refuse (length paths.now) self.old self.new) }
-        ensures not_of_key { is_faithful self.old → IfErr result (λ refusal. is_of_key refusal ≡ false) }
+        ensures not_of_key { is_faithful self.old → IfErr result (λ refusal. is_of_question refusal ≡ false) }
     {
         let mut told = room_for(self.alloc(), paths.len())?;
         for path in paths {
@@ -124,9 +126,13 @@ pub trait Peer {
         asked: &[(Path, Option<Key>)],
     ) -> Result<Vec<Result<Page, Refusal>>, Refusal>
         ensures kept { is_faithful self.old → is_faithful self.new × (states self.new ≡ states self.old) }
-        ensures told { IfOk result (λ told. Asked follows can_refuse can_answer (λ _ _. Unit {0}) (λ q page. (page.0.items ≡ page_of (digests (states self.old)) q.0 q.1) × (page.1 ≡ is_more_after_page (digests (states self.old)) q.0 q.1)) (is_faithful self.old) asked.now told.items self.old self.new) }
+        ensures told { IfOk result
+            (λ told. Asked follows can_refuse can_answer (λ _ _. Unit {0})
+            (λ q page. (page.0.items ≡ page_of (digests (states self.old)) q.0 q.1)
+            × (page.1 ≡ is_more_after_page (digests (states self.old)) q.0 q.1))
+            (λ q. RefusesPage q.0) (is_faithful self.old) asked.now told.items self.old self.new) }
         ensures ended { IfErr result (Ends follows can_refuse (length asked.now) self.old self.new) }
-        ensures not_of_key { is_faithful self.old → IfErr result (λ refusal. is_of_key refusal ≡ false) }
+        ensures not_of_key { is_faithful self.old → IfErr result (λ refusal. is_of_question refusal ≡ false) }
     {
         let mut told = room_for(self.alloc(), asked.len())?;
         for (path, after) in asked {
@@ -142,9 +148,11 @@ pub trait Peer {
     /// The states of several keys.
     fn get_all(&mut self, keys: &[Key]) -> Result<Vec<Result<KeyState, Refusal>>, Refusal>
         ensures kept { is_faithful self.old → is_faithful self.new × (states self.new ≡ states self.old) }
-        ensures told { IfOk result (λ told. Asked follows can_refuse can_answer (can_give) (λ key state. state ≡ state_at (states self.old) key) (is_faithful self.old) keys.now told.items self.old self.new) }
+        ensures told { IfOk result
+            (λ told. Asked follows can_refuse can_answer (can_give) (λ key state. state ≡ state_at (states self.old) key)
+            (λ _ refusal. is_of_question refusal ≡ false) (is_faithful self.old) keys.now told.items self.old self.new) }
         ensures ended { IfErr result (Ends follows can_refuse (length keys.now) self.old self.new) }
-        ensures not_of_key { is_faithful self.old → IfErr result (λ refusal. is_of_key refusal ≡ false) }
+        ensures not_of_key { is_faithful self.old → IfErr result (λ refusal. is_of_question refusal ≡ false) }
     {
         let mut told = room_for(self.alloc(), keys.len())?;
         for key in keys {
@@ -159,10 +167,12 @@ pub trait Peer {
 
     /// Joins each state to that of its key.
     fn push_all(&mut self, pairs: &[(Key, KeyState)]) -> Result<Vec<Result<(), Refusal>>, Refusal>
-        ensures told { IfOk result (λ told. Asked follows can_refuse can_answer (λ _ _. Unit {0}) (λ _ _. Unit {0}) ⊥ pairs.now told.items self.old self.new) }
+        ensures told { IfOk result
+            (λ told. Asked follows can_refuse can_answer (λ _ _. Unit {0}) (λ _ _. Unit {0}) (λ _ _. Unit {0}) ⊥
+            pairs.now told.items self.old self.new) }
         ensures pushes { is_faithful self.old → IfOk result (λ told. is_faithful self.new × Pushes (most_keys self.old) (states self.old) pairs.now told.items (states self.new)) }
         ensures ended { IfErr result (Ends follows can_refuse (length pairs.now) self.old self.new) }
-        ensures not_of_key { is_faithful self.old → IfErr result (λ refusal. is_of_key refusal ≡ false) }
+        ensures not_of_key { is_faithful self.old → IfErr result (λ refusal. is_of_question refusal ≡ false) }
         ensures unbroken { is_faithful self.old → IfErr result (λ refusal. refusal ≢ Refusal.Broken → is_faithful self.new) }
         ensures first { is_faithful self.old → OnErr result (PushesFirst (is_faithful self.new) (most_keys self.old) (states self.old) pairs.now (states self.new)) }
     {

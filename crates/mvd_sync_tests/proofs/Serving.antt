@@ -1,5 +1,5 @@
 -- A site at hand, behind a true line.
-use Rattle.std.proofs.Common.{◌≡◌, ◌≢◌, ◌⊎◌, inl, inr, ℕ, ◌+◌, ◌<◌, ◌≤◌, ◌==◌, ◌&&◌, Bool, true, false, List, [], ◌∷◌, ◌++◌, length, take, Option, Some, None, refl, sym, ap, subst, ◌∙◌, arith, leb-true}
+use Rattle.std.proofs.Common.{◌≡◌, ◌≢◌, ◌⊎◌, inl, inr, ℕ, ◌+◌, ◌<◌, ◌≤◌, ◌==◌, ◌&&◌, Bool, true, false, List, [], ◌∷◌, ◌++◌, length, take, Option, Some, None, refl, sym, ap, subst, ◌∙◌, arith, leb-true, true≢false}
 use Rattle.std.proofs.Math.Seq.{take-append_seam}
 use Rattle.std.proofs.lemmas.List.{append-nil, append_assoc}
 use Rattle.std.specs.Prelude.{Result, Ok, Err, IfOk, IfErr, IfSome, is_some, not, option_map, nat_le, if◌then◌else◌}
@@ -33,17 +33,21 @@ use Rattle.mvd_site.specs.Sites.{SiteValue}
 use Rattle.mvd_sync_tests.specs.Serving.{TakesOne, far_at}
 use Rattle.mvd_sync.specs.Lines.{AreFrames, Far, IsNext, TakesAll, TakesFirst, TrueReplies, TrueReply}
 use Rattle.mvd_sync.specs.Session.{pushed}
-use Rattle.mvd_sync.specs.Sides.{is_of_key}
-use Rattle.mvd_sync.specs.Windows.{CannotTake}
+use Rattle.mvd_sync.specs.Sides.{is_of_question}
+use Rattle.mvd_sync.specs.Windows.{CannotTake, RefusesPage}
 use Rattle.mvd_sync.proofs.SiteSides.{node_bucket, node_inner, node_own, push_cause, put_is_pushed}
 
 -- ---- replies
 
+page_so : (path : List ℕ) (refusal : Refusal) → is_of_question refusal ≡ false → RefusesPage path refusal
+page_so path BadPath free = absurd (true≢false free)
+page_so path refusal free = free
+
 -- want of memory, or that the site is broken
-refused_so : (most : ℕ) (old new : States) (q : Request) (refusal : Refusal) → new ≡ old → is_of_key refusal ≡ false → ((key : Key) (s : State) → CannotTake most old key s refusal) → TrueReply most old q (Refused refusal) new
+refused_so : (most : ℕ) (old new : States) (q : Request) (refusal : Refusal) → new ≡ old → is_of_question refusal ≡ false → ((key : Key) (s : State) → CannotTake most old key s refusal) → TrueReply most old q (Refused refusal) new
 refused_so most old new (Get key) refusal same free why = (free, same)
 refused_so most old new (Node path) refusal same free why = (free, same)
-refused_so most old new (Bucket path after) refusal same free why = (free, same)
+refused_so most old new (Bucket path after) refusal same free why = (page_so path refusal free, same)
 refused_so most old new (Push key s) refusal same free why = inl (why key s, same)
 refused_so most old new Bye refusal same free why = same
 refused_so most old new (Put k c d) refusal same free why = tt
@@ -53,9 +57,9 @@ refused_so most old new (Row v t) refusal same free why = tt
 refused_so most old new (Rows v after) refusal same free why = tt
 refused_so most old new (Range f from to after) refusal same free why = tt
 
-bucket_so : (most : ℕ) (old : States) (path : List ℕ) (after : Option Key) (three : Bool) → TrueReply most old (Bucket path after) (if three then Keys (page_of (digests old) path after) (is_more_after_page (digests old) path after) else Refused BadPath) old
-bucket_so most old path after true = (refl, refl, refl)
-bucket_so most old path after false = (refl, refl)
+bucket_so : (most : ℕ) (old : States) (path : List ℕ) (after : Option Key) (three : Bool) → (length path == 3) ≡ three → TrueReply most old (Bucket path after) (if three then Keys (page_of (digests old) path after) (is_more_after_page (digests old) path after) else Refused BadPath) old
+bucket_so most old path after true is = (refl, refl, refl)
+bucket_so most old path after false is = (is, refl)
 
 node_so : (most : ℕ) (config : ConfigValue) (old : States) (path : List ℕ) → TrueReply most old (Node path) (answer_from config old (Node path)) old
 node_so most config old path = ((node_own false old path (Ok (node_digests (digests old) path)) refl refl, node_inner false old path (Ok (node_digests (digests old) path)) refl refl, node_bucket false old path (Ok (node_digests (digests old) path)) refl refl), refl)
@@ -100,7 +104,7 @@ push_so old new key s reply whole held valid from answered =
 whole_so : (old new : SiteValue) (q : Request) (reply : Reply) → old.broken ≡ false → AreHeld old.states → IsValidRequest q → AnswersFrom old new q reply → TrueReply old.config.max_keys old.states q reply new.states
 whole_so old new (Get key) reply whole held valid from = kept_so old new (Get key) reply whole from (λ a. so old new (Get key) reply whole from a (refl, refl))
 whole_so old new (Node path) reply whole held valid from = kept_so old new (Node path) reply whole from (λ a. so old new (Node path) reply whole from a (node_so old.config.max_keys old.config old.states path))
-whole_so old new (Bucket path after) reply whole held valid from = kept_so old new (Bucket path after) reply whole from (λ a. so old new (Bucket path after) reply whole from a (bucket_so old.config.max_keys old.states path after (length path == 3)))
+whole_so old new (Bucket path after) reply whole held valid from = kept_so old new (Bucket path after) reply whole from (λ a. so old new (Bucket path after) reply whole from a (bucket_so old.config.max_keys old.states path after (length path == 3) refl))
 whole_so old new (Push key s) reply whole held valid from = kept_so old new (Push key s) reply whole from (λ a. push_so old new key s reply whole held valid from a)
 whole_so old new Bye reply whole held valid from = kept_so old new Bye reply whole from (λ a. so old new Bye reply whole from a refl)
 whole_so old new (Put k c d) reply whole held valid from = tt

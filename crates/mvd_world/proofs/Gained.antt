@@ -22,8 +22,8 @@ use Rattle.mvd_site.specs.Held.{AreHeld, States, state_at}
 use Rattle.mvd_site.specs.Sites.{SiteStands, SiteValue}
 use Rattle.mvd_site.proofs.OfTheSet.{states_of-stands}
 use Rattle.mvd_site.proofs.Steps.{state_at-stands}
-use Rattle.mvd_sync.specs.Session.{AreFew, CanMeet, HasAllThatDiffer, HasJoined, IsIn, Session, ReportsDone, is_member}
-use Rattle.mvd_sync.specs.Sides.{Blames, IsBroken, IsFaultOf, Side, SiteFollows, SiteRefuses, Stays, is_of_key, is_site_refusal, of_answer, of_memory, of_questions, of_side, side, tells_broken}
+use Rattle.mvd_sync.specs.Session.{AreFew, CanMeet, HasAllThatDiffer, HasJoined, IsIn, ReportsDone, Session, is_member}
+use Rattle.mvd_sync.specs.Sides.{Blames, IsBroken, IsFaultOf, Side, SiteFollows, SiteRefuses, Stays, is_of_question, is_site_refusal, of_answer, of_memory, of_questions, of_side, side, tells_broken}
 use Rattle.mvd_sync.specs.declared.report.Report.{Report}
 use Rattle.mvd_sync.specs.declared.report.SyncFault.{SyncFault}
 use Rattle.mvd_sync.specs.declared.report.SyncFault.TheVariants.{Local, Peer}
@@ -169,7 +169,7 @@ module _ (a b held : States) (site site' : SiteValue) (asked wanted : ℕ) (firs
   may_fail refusal whole few (of_side h apart) = it_refused h.2.0 (apart first) (broken_after h.0 site' refusal h.2.1 h.3.1.1 whole)
   may_fail refusal whole few (of_answer e untrue) = absurd (untrue first)
   may_fail refusal whole few (of_questions e all one) = all_asked e (λ differing every. let n = few differing every in omega (arith, n, all, one))
-  may_fail refusal whole few (of_memory e) = it_refused (ap is_site_refusal e) (ap is_of_key e) (whole (λ is. cc) ∙ sym (ap tells_broken e))
+  may_fail refusal whole few (of_memory e) = it_refused (ap is_site_refusal e) (ap is_of_question e) (whole (λ is. cc) ∙ sym (ap tells_broken e))
 
 fails_for : (a b : States) (local peer local' peer' : SiteValue) (i j v w : ℕ) (result : Result Report SyncFault) → IsTrue_side local → IsTrue_side peer →
     MatchResult result (λ _. local'.broken ≡ false) (λ fault. fault ≢ Local Broken → local'.broken ≡ false) →

@@ -19,7 +19,7 @@ use Rattle.mvd_site.specs.FromStates.{unless_broken}
 use Rattle.mvd_site.specs.Held.{States}
 use Rattle.mvd_site.specs.Known.{Adds, Changes, MayReply}
 use Rattle.mvd_sync.specs.Session.{AreFew, CanMeet, Each, HasAllThatDiffer, IsIn, ReportsDone, is_member}
-use Rattle.mvd_sync.specs.Sides.{IsFaultOf, is_of_key, is_site_refusal, tells_broken}
+use Rattle.mvd_sync.specs.Sides.{IsFaultOf, is_of_question, is_site_refusal, tells_broken}
 use Rattle.mvd_sync.specs.declared.report.Report.{Report}
 use Rattle.mvd_sync.specs.declared.report.SyncFault.{SyncFault}
 use Rattle.mvd_sync.specs.declared.report.SyncFault.TheVariants.{Local, Peer}
@@ -185,10 +185,10 @@ ToldAtOnce false true joined result = (result ≡ Err (Peer Broken)) × (joined 
 ToldAtOnce true peer_was joined result = (result ≡ Err (Local Broken)) × (joined ≡ [])
 
 -- Why a session of two sites that held `a` and `b` ends by the one that held `held`, and is broken afterwards or not: by a
--- refusal of the site that is not of a key alone, as that of memory; or all questions were made to it and one more was
--- wanted, which are many only where many keys differ
+-- refusal of the site that is not of one question alone, which is 20 or 22; or all questions were made to it and one more
+-- was wanted, which are many only where many keys differ
 pub data MayFail (a b held : States) (broken : Bool) (refusal : Refusal) : Type 0 where
-  it_refused : is_site_refusal refusal ≡ true → is_of_key refusal ≡ false → broken ≡ tells_broken refusal → MayFail a b held broken refusal
+  it_refused : is_site_refusal refusal ≡ true → is_of_question refusal ≡ false → broken ≡ tells_broken refusal → MayFail a b held broken refusal
   all_asked : refusal ≡ TooManyRequests → ((differing : List Key) → HasAllThatDiffer a b differing → AreFew 10000001 held differing) → MayFail a b held broken refusal
 
 abbrev pub FailsFor : States → States → Bool → Bool → Result Report SyncFault → Type 0

@@ -1,4 +1,4 @@
-use Rattle.std.proofs.Common.{◌≡◌, ◌∙◌, ◌∷◌, ◌++◌, [], List, length, refl, sym, subst, rules, false}
+use Rattle.std.proofs.Common.{◌≡◌, ◌∙◌, ◌∷◌, ◌++◌, [], List, length, refl, sym, subst, rules, false, take}
 use Rattle.std.specs.Prelude.{Result, Ok, Err}
 use Rattle.std.proofs.lemmas.Iterator.Adapters.{YieldsList-from_vec}
 use Rattle.std.proofs.lemmas.Iterator.Consumers.{YieldsList-end, YieldsList-turn}
@@ -6,9 +6,9 @@ use Rattle.std.proofs.lemmas.List.{map-id}
 use Rattle.mvd_dots.specs.declared.refusals.Refusal.{Refusal}
 use Rattle.mvd_keys.specs.State.{State}
 use Rattle.mvd_sync.specs.Questions.{ForEach}
-use Rattle.mvd_sync.specs.Sides.{HasAnswered, HasRefused, of_side, side, is_of_key}
+use Rattle.mvd_sync.specs.Sides.{HasAnswered, HasRefused, of_side, side, is_of_question}
 use Rattle.mvd_sync.specs.Windows.{EachTold}
-use Rattle.mvd_sync.proofs.Answering.{Passes, answered_all, ended_by, ended_few, ended_memory, ended_within, for_each_more, passed, told_at}
+use Rattle.mvd_sync.proofs.Answering.{Passes, answered_all, ended_by, ended_few, ended_memory, ended_within, for_each_more, none_told, passed, told_at}
 use Rattle.mvd_sync.proofs.OneByOne.{at_err, at_err_same}
 use Rattle.mvd_sync.proofs.asking.ask_gets.Goals as goal
 
@@ -27,7 +27,7 @@ returns-in_err-answer-clause-ended g c =
     let R = HasRefused g.P.Peer.follows g.P.Peer.can_refuse c.args.side.now c.get_all.new.self in
     let was : c.in-Some.answer ≡ Err c.in_err-answer.field-0.0 = c.in_err-answer.was in
     let told = subst (λ (a : Result State Refusal). EachTold U R (a ∷ [])) was (told_at U R c.in_ok-told.told.items (length c.loop-answer.yielded) c.in-Some.answer asked.told turn.0 turn.1) in
-    let apart : g.P.Peer.is_faithful c.args.side.now → is_of_key c.in_err-answer.field-0.0 ≡ false = λ t. (subst (λ (a : Result State Refusal). EachTold (Unit {0}) (λ r. is_of_key r ≡ false) (a ∷ [])) was (told_at (Unit {0}) (λ r. is_of_key r ≡ false) c.in_ok-told.told.items (length c.loop-answer.yielded) c.in-Some.answer (asked.not_of_key t) turn.0 turn.1)).0 in
+    let apart : g.P.Peer.is_faithful c.args.side.now → is_of_question c.in_err-answer.field-0.0 ≡ false = λ t. (subst (λ (a : Result State Refusal). EachTold (Unit {0}) (λ r. is_of_question r ≡ false) (a ∷ [])) was (told_at (Unit {0}) (λ r. is_of_question r ≡ false) c.in_ok-told.told.items (length c.loop-answer.yielded) c.in-Some.answer (none_told (take c.take-taken.result c.args.keys.now) c.in_ok-told.told.items (asked.not_of_key t)) turn.0 turn.1)).0 in
     at_err_same _ _ _ c.in_err-answer.field-0.0 c.from_residual-in_err-answer.ensures (λ e is. cc) (ended_by s c.args.keys.now c.args.left.now c.take-taken.new.left c.take-taken.result c.args.side.now c.get_all.new.self c.take-taken.ensures _ _ asked.count (of_side told.0 apart) apart (λ t. let k = c.get_all.ensures.kept t in record { still = k.0; states = k.1 }))
 
 pub loop-answer-preserved : goal.loop-answer-preserved

@@ -10,9 +10,9 @@ use Rattle.std.specs.Prelude.{Bool}
 use Rattle.mvd_sync.specs.Answers.{Entry}
 use Rattle.mvd_sync.proofs.ToldPages.{TellsPage, Told, listing_right, not_bad}
 use Rattle.mvd_sync.specs.Questions.{ForEach}
-use Rattle.mvd_sync.specs.Sides.{HasAnswered, HasRefused, of_answer, of_side, side, is_of_key}
+use Rattle.mvd_sync.specs.Sides.{HasAnswered, HasRefused, of_answer, of_side, side, is_of_question}
 use Rattle.mvd_sync.specs.Windows.{EachTold}
-use Rattle.mvd_sync.proofs.Answering.{IsListingOf, Passes, answered_all, ended_by, ended_few, ended_memory, ended_within, for_each_more, passed, told_at}
+use Rattle.mvd_sync.proofs.Answering.{IsListingOf, Passes, answered_all, each-take, ended_by, ended_few, ended_memory, ended_within, for_each_more, no_page_told, passed, told_at}
 use Rattle.mvd_sync.proofs.OneByOne.{at_err, at_err_same}
 use Rattle.mvd_sync.proofs.asking.ask_pages.Goals as goal
 
@@ -31,7 +31,7 @@ returns-in_err-answer-clause-ended g c =
     let R = HasRefused g.P.Peer.follows g.P.Peer.can_refuse c.args.side.now c.pages.new.self in
     let was : c.in-Some.answer ≡ Err c.in_err-answer.field-0.0 = c.in_err-answer.was in
     let told = subst (λ (a : Result Told Refusal). EachTold U R (a ∷ [])) was (told_at U R c.in_ok-told.told.items (length c.loop-answer.yielded) c.in-Some.answer asked.told turn.0 turn.1) in
-    let apart : g.P.Peer.is_faithful c.args.side.now → is_of_key c.in_err-answer.field-0.0 ≡ false = λ t. (subst (λ (a : Result Told Refusal). EachTold (Unit {0}) (λ r. is_of_key r ≡ false) (a ∷ [])) was (told_at (Unit {0}) (λ r. is_of_key r ≡ false) c.in_ok-told.told.items (length c.loop-answer.yielded) c.in-Some.answer (asked.not_of_key t) turn.0 turn.1)).0 in
+    let apart : g.P.Peer.is_faithful c.args.side.now → is_of_question c.in_err-answer.field-0.0 ≡ false = λ t. (subst (λ (a : Result Told Refusal). EachTold (Unit {0}) (λ r. is_of_question r ≡ false) (a ∷ [])) was (told_at (Unit {0}) (λ r. is_of_question r ≡ false) c.in_ok-told.told.items (length c.loop-answer.yielded) c.in-Some.answer (no_page_told (take c.take-taken.result c.args.asked.now) c.in_ok-told.told.items (each-take _ _ _ c.requires) (asked.not_of_key t)) turn.0 turn.1)).0 in
     at_err_same _ _ _ c.in_err-answer.field-0.0 c.from_residual-in_err-answer.ensures (λ e is. cc) (ended_by s c.args.asked.now c.args.left.now c.take-taken.new.left c.take-taken.result c.args.side.now c.pages.new.self c.take-taken.ensures _ _ asked.count (of_side told.0 apart) apart (λ t. let k = c.pages.ensures.kept t in record { still = k.0; states = k.1 }))
 
 pub loop-answer-preserved : goal.loop-answer-preserved
@@ -50,7 +50,7 @@ returns-in_err-of_page-clause-ended g c =
     let bad = c.in_err-of_page.ensures.bad in
     at_err_same _ _ _ c.in_err-of_page.field-0.0 c.from_residual-in_err-of_page.ensures (λ e is. cc) (ended_by s c.args.asked.now c.args.left.now c.take-taken.new.left c.take-taken.result c.args.side.now c.pages.new.self c.take-taken.ensures _ _ asked.count
     (of_answer bad.0 (λ t. not_bad (digests (g.P.Peer.states c.args.side.now)) (take c.take-taken.result c.args.asked.now) c.in_ok-told.told.items (length c.loop-answer.yielded) c.in_ok-answer.field-0 (asked.right t) turn.0 (sym was ∙ turn.1 ∙ ap (λ (a : Result Told Refusal). get_or c.in_ok-told.told.items (length c.loop-answer.yielded) a) was) bad.1))
-    (λ _. ap is_of_key bad.0) (λ t. let k = c.pages.ensures.kept t in record { still = k.0; states = k.1 }))
+    (λ _. ap is_of_question bad.0) (λ t. let k = c.pages.ensures.kept t in record { still = k.0; states = k.1 }))
 
 pub returns-in_err-push-clause-ended : goal.returns-in_err-push-clause-ended
 returns-in_err-push-clause-ended g c =

@@ -1,10 +1,12 @@
-use Rattle.std.proofs.Common.{◌≡◌, ◌+◌, [], ◌++◌, length, take, drop, refl, sym, ap, subst, ◌∙◌, length-append, append_assoc, append-nil}
+use Rattle.std.proofs.Common.{◌≡◌, ℕ, List, ◌+◌, [], ◌++◌, length, take, drop, refl, sym, ap, subst, ◌∙◌, length-append, append_assoc, append-nil}
 use Rattle.std.specs.Prelude.{Ok, Err}
 use Rattle.std.specs.Cmp.{unsigned_Decides}
 use Rattle.std.proofs.lemmas.List.{take-append-drop}
 use Rattle.mvd_site.specs.Held.{States}
 use Rattle.mvd_sync.specs.Buckets.{GoesThrough}
+use Rattle.mvd_sync.specs.Session.{Each}
 use Rattle.mvd_sync.specs.Sides.{side}
+use Rattle.mvd_sync.proofs.Descents.{Each-right, Each-take}
 use Rattle.mvd_sync.proofs.Fails.{window_moves}
 use Rattle.mvd_sync.proofs.Pages.{no_entries}
 use Rattle.mvd_sync.proofs.Through.{through_cut, through_none, through_on}
@@ -56,3 +58,8 @@ returns g c =
     let none = no_entries c.loop-rest.rest.now ((unsigned_Decides (length c.loop-rest.rest.now) 0).0 (sym c.is_empty.ensures ∙ c.loop-rest-test.false)) in
     let all : c.args.paths.now ≡ at.0 = at.1 ∙ ap (λ xs. at.0 ++ xs) none ∙ append-nil at.0 in
     subst (λ xs. GoesThrough l p (λ a b. Unit {0}) xs (length xs) c.args.left.now c.loop-rest.left c.args.local.now c.loop-rest.local c.args.peer.now c.loop-rest.peer c.args.exchange.now c.loop-rest.exchange (Ok (tt {0}))) (sym all) at.2
+
+pub exchange_window-requires-clause-deep : goal.exchange_window-requires-clause-deep
+exchange_window-requires-clause-deep g c =
+    let at = c.loop-rest.invariant in
+    Each-take (λ path. length path ≡ 3) c.min-count.result c.loop-rest.rest.now (Each-right (λ path. length path ≡ 3) at.0 c.loop-rest.rest.now (subst (Each (λ (path : List ℕ). length path ≡ 3)) at.1 c.requires.deep))

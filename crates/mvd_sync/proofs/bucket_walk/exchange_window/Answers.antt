@@ -4,7 +4,7 @@ use Rattle.mvd_sync.specs.Sides.{HasAnswered, Side, side}
 use Rattle.mvd_sync.specs.Walk.{Reads}
 use Rattle.mvd_sync.specs.declared.asking.Questions.{Questions}
 use Rattle.mvd_sync.proofs.Fails.{local_fails, memory_fails, peer_fails}
-use Rattle.mvd_sync.proofs.Fetching.{pages_good, pages_long, pages_read, pages_right}
+use Rattle.mvd_sync.proofs.Fetching.{pages_deep, pages_good, pages_long, pages_read, pages_right}
 use Rattle.mvd_sync.proofs.Through.{window_ends, window_through}
 use Rattle.mvd_sync.proofs.bucket_walk.exchange_window.Goals as goal
 
@@ -85,3 +85,9 @@ returns g c =
     let mid : Questions = record { local = c.ask_pages.new.left; peer = c.ask_pages-2.new.left } in
     window_through l p g.met.L.Peer.follows_on g.met.P.Peer.follows_on g.met.L.Peer.most_stays g.met.P.Peer.most_stays c.args.paths.now c.in-Ok-ask_pages.pages.items c.in-Ok-ask_pages-2.pages.items (length c.args.paths.now) c.args.left.now mid c.go_over_all.new.left c.args.local.now c.ask_pages.new.side c.go_over_all.new.local c.args.peer.now c.ask_pages-2.new.side c.go_over_all.new.peer c.args.exchange.now c.go_over_all.new.exchange c.go_over_all.result
     (pages_read l T c.args.paths.now c.deref.result.now c.in-Ok-ask_pages.pages.items c.args.left.now.local c.ask_pages.new.left c.args.local.now c.ask_pages.new.side is c.in-Ok-ask_pages.ensures.told) (pages_read p U c.args.paths.now c.deref-2.result.now c.in-Ok-ask_pages-2.pages.items c.args.left.now.peer c.ask_pages-2.new.left c.args.peer.now c.ask_pages-2.new.side is' c.in-Ok-ask_pages-2.ensures.told) (pages_right l T c.args.paths.now c.deref.result.now c.in-Ok-ask_pages.pages.items c.args.left.now.local c.ask_pages.new.left c.args.local.now c.ask_pages.new.side is c.in-Ok-ask_pages.ensures.told) (pages_right p U c.args.paths.now c.deref-2.result.now c.in-Ok-ask_pages-2.pages.items c.args.left.now.peer c.ask_pages-2.new.left c.args.peer.now c.ask_pages-2.new.side is' c.in-Ok-ask_pages-2.ensures.told) c.go_over_all.ensures
+
+pub ask_pages-requires : goal.ask_pages-requires
+ask_pages-requires g c = pages_deep c.args.paths.now c.deref.result.now c.requires.deep (c.deref.ensures.value ∙ c.in-Ok.ensures.asked)
+
+pub ask_pages-requires-2 : goal.ask_pages-requires-2
+ask_pages-requires-2 g c = pages_deep c.args.paths.now c.deref-2.result.now c.requires.deep (c.deref-2.ensures.value ∙ c.in-Ok.ensures.asked)

@@ -1,11 +1,11 @@
-use Rattle.std.proofs.Common.{◌≡◌, ◌+◌, [], ◌∷◌, ◌++◌, length, take, drop, refl, sym, ap, subst, ◌∙◌, arith}
+use Rattle.std.proofs.Common.{◌≡◌, ℕ, List, ◌+◌, [], ◌∷◌, ◌++◌, length, take, drop, refl, sym, ap, subst, ◌∙◌, arith}
 use Rattle.std.specs.Prelude.{Ok, Err}
 use Rattle.std.proofs.lemmas.List.{take-append-drop, take_all}
 use Rattle.mvd_site.specs.Answer.{digests}
 use Rattle.mvd_site.specs.Held.{States}
 use Rattle.mvd_sync.specs.Buckets.{ArePages, GoesThrough}
 use Rattle.mvd_sync.specs.Sides.{side}
-use Rattle.mvd_sync.proofs.Descents.{one_taken}
+use Rattle.mvd_sync.proofs.Descents.{Each-at, one_taken}
 use Rattle.mvd_sync.proofs.Fetching.{IsGoodPage, first_left, page_left, rest_left, some_left}
 use Rattle.mvd_sync.proofs.Through.{page_at, through_cut, through_none, through_on}
 use Rattle.mvd_sync.proofs.bucket_walk.go_over_all.Goals as goal
@@ -94,3 +94,6 @@ returns g c =
     let at = c.loop-path.invariant in
     let all : take c.loop-path.path-index c.args.paths.now ≡ c.args.paths.now = take_all c.loop-path.path-index c.args.paths.now c.loop-path-test.false in
     subst (λ qs. GoesThrough l p (λ a b. ArePages (digests a) c.args.paths.now c.args.mine.items × ArePages (digests b) c.args.paths.now c.args.theirs.items) qs 0 c.args.left.now c.loop-path.left c.args.local.now c.loop-path.local c.args.peer.now c.loop-path.peer c.args.exchange.now c.loop-path.exchange (Ok (tt {0}))) all at.over
+
+pub go_over-requires-clause-deep : goal.go_over-requires-clause-deep
+go_over-requires-clause-deep g c = subst (λ (path : List ℕ). length path ≡ 3) (sym c.path-item.is) (Each-at (λ path. length path ≡ 3) c.args.paths.now c.loop-path.path-index c.path-item.result c.requires.deep c.loop-path-test.true)

@@ -1,4 +1,5 @@
-use Rattle.std.proofs.Common.{◌∙◌, ap}
+use Rattle.std.proofs.Common.{◌≡◌, ◌∙◌, ℕ, List, ap, length, subst, sym}
+use Rattle.mvd_sync.specs.Session.{Each}
 use Rattle.mvd_sync.specs.Sides.{side as side_of}
 use Rattle.mvd_sync.proofs.HeldFew.{held_few}
 use Rattle.mvd_sync.proofs.Sessions.{begins_with, over_at, session_all, session_buckets, session_exchanges, session_walks}
@@ -45,3 +46,6 @@ returns-in-Ok-exchange g c =
           c.exchange.new.left c.exchange.new.local c.exchange.new.peer c.exchange.new.self _ c.in-Ok-exchange.ensures.exchanges c.in-Ok-exchange.ensures.none
           c.report.result c.report.ensures.keys c.report.ensures.refused c.report.ensures.old c.report.ensures.first;
     }
+
+pub exchange_buckets-requires-clause-deep : goal.exchange_buckets-requires-clause-deep
+exchange_buckets-requires-clause-deep g c = subst (Each (λ (path : List ℕ). length path ≡ 3)) (sym c.deref.ensures.value) c.in-Ok.ensures.found.deep

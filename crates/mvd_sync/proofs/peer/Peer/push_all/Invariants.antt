@@ -6,5 +6,5 @@ use Rattle.mvd_sync.proofs.peer.Peer.push_all.Given as goal
 abbrev pub invariant-loop-key : goal.invariant-loop-key
 invariant-loop-key g l = record {
   pushes : g.Self.Peer.is_faithful l.fn.self → g.Self.Peer.is_faithful l.self × Pushes (g.Self.Peer.most_keys l.fn.self) (g.Self.Peer.states l.fn.self) (take l.key-index l.pairs) l.told.items (g.Self.Peer.states l.self);
-  so_far : Asked g.Self.Peer.follows g.Self.Peer.can_refuse g.Self.Peer.can_answer (λ _ _. Unit {0}) (λ _ _. Unit {0}) ⊥ (take l.key-index l.pairs) l.told.items l.fn.self l.self;
+  so_far : Asked g.Self.Peer.follows g.Self.Peer.can_refuse g.Self.Peer.can_answer (λ _ _. Unit {0}) (λ _ _. Unit {0}) (λ _ _. Unit {0}) ⊥ (take l.key-index l.pairs) l.told.items l.fn.self l.self;
 }

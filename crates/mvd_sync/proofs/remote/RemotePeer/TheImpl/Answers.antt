@@ -21,7 +21,7 @@ nodes-tells g c =
     record {
       kept = λ was. let t = c.ensures.truth was in (t.0, window_kept (λ digests. Digests digests) far.most (λ path. Node path) node_asks (λ v. v.items) c.args.paths.now far.states after.states c.result t.1);
       told = link_asked (λ (r : Remote g.row.L.Denot). r.refused) (RemoteFollows g.L.Line.far) (remote_follows_self g.L.Line.far) (λ digests. Digests digests) (λ v. v.items) 0xA7 (λ path. Node path) c.args.paths.now c.args.self.now c.new.self.now c.result (link g.L.Line.remaining g.L.Line.contents c.args.self.now) (link g.L.Line.remaining g.L.Line.contents c.new.self.now) refl refl (λ over. (c.ensures.stays over.0 over.1).1, c.ensures.most) c.ensures.asked
-          (λ _ _. Unit {0}) (IsNode (digests far.states)) (IsTrueRemote g.L.Line.is_true g.L.Line.far c.args.self.now) _ _ (λ _ _. tt)
+          (λ _ _. Unit {0}) (IsNode (digests far.states)) _ (IsTrueRemote g.L.Line.is_true g.L.Line.far c.args.self.now) _ _ (λ _ _. tt)
           (λ ts. all_right (λ digests. Digests digests) far.most (λ path. Node path) node_asks (IsNode (digests far.states)) far.states (λ path node after h. h.0) c.args.paths.now ts far.states after.states refl)
           (λ ts. all_not_of_key (λ digests. Digests digests) far.most (λ path. Node path) node_asks c.args.paths.now ts far.states after.states) (λ was. (c.ensures.truth was).1);
       ended = link_ends (λ (r : Remote g.row.L.Denot). r.refused) (RemoteFollows g.L.Line.far) (remote_follows_self g.L.Line.far) (λ digests. Digests digests) (λ v. v.items) 0xA7 (λ path. Node path) c.args.paths.now c.args.self.now c.new.self.now c.result (link g.L.Line.remaining g.L.Line.contents c.args.self.now) (link g.L.Line.remaining g.L.Line.contents c.new.self.now) refl refl (λ over. (c.ensures.stays over.0 over.1).1, c.ensures.most) c.ensures.asked;
@@ -35,7 +35,7 @@ pages-tells g c =
     record {
       kept = λ was. let t = c.ensures.truth was in (t.0, window_kept (λ page. Keys page.0.items page.1) far.most (λ q. Bucket q.0 q.1) (λ q. bucket_asks q.0 q.1) (λ v. v.items) c.args.asked.now far.states after.states c.result t.1);
       told = link_asked (λ (r : Remote g.row.L.Denot). r.refused) (RemoteFollows g.L.Line.far) (remote_follows_self g.L.Line.far) (λ page. Keys page.0.items page.1) (λ v. v.items) 0xA8 (λ q. Bucket q.0 q.1) c.args.asked.now c.args.self.now c.new.self.now c.result (link g.L.Line.remaining g.L.Line.contents c.args.self.now) (link g.L.Line.remaining g.L.Line.contents c.new.self.now) refl refl (λ over. (c.ensures.stays over.0 over.1).1, c.ensures.most) c.ensures.asked
-          (λ _ _. Unit {0}) (λ q page. (page.0.items ≡ page_of (digests far.states) q.0 q.1) × (page.1 ≡ is_more_after_page (digests far.states) q.0 q.1)) (IsTrueRemote g.L.Line.is_true g.L.Line.far c.args.self.now) _ _ (λ _ _. tt)
+          (λ _ _. Unit {0}) (λ q page. (page.0.items ≡ page_of (digests far.states) q.0 q.1) × (page.1 ≡ is_more_after_page (digests far.states) q.0 q.1)) _ (IsTrueRemote g.L.Line.is_true g.L.Line.far c.args.self.now) _ _ (λ _ _. tt)
           (λ ts. all_right (λ page. Keys page.0.items page.1) far.most (λ q. Bucket q.0 q.1) (λ q. bucket_asks q.0 q.1) (λ q page. (page.0.items ≡ page_of (digests far.states) q.0 q.1) × (page.1 ≡ is_more_after_page (digests far.states) q.0 q.1)) far.states (λ q page after h. (h.0, h.1)) c.args.asked.now ts far.states after.states refl)
           (λ ts. all_not_of_key (λ page. Keys page.0.items page.1) far.most (λ q. Bucket q.0 q.1) (λ q. bucket_asks q.0 q.1) c.args.asked.now ts far.states after.states) (λ was. (c.ensures.truth was).1);
       ended = link_ends (λ (r : Remote g.row.L.Denot). r.refused) (RemoteFollows g.L.Line.far) (remote_follows_self g.L.Line.far) (λ page. Keys page.0.items page.1) (λ v. v.items) 0xA8 (λ q. Bucket q.0 q.1) c.args.asked.now c.args.self.now c.new.self.now c.result (link g.L.Line.remaining g.L.Line.contents c.args.self.now) (link g.L.Line.remaining g.L.Line.contents c.new.self.now) refl refl (λ over. (c.ensures.stays over.0 over.1).1, c.ensures.most) c.ensures.asked;
@@ -49,7 +49,7 @@ get_all-tells g c =
     record {
       kept = λ was. let t = c.ensures.truth was in (t.0, window_kept (λ state. State state) far.most (λ key. Get key) get_asks (λ v. v.items) c.args.keys.now far.states after.states c.result t.1);
       told = link_asked (λ (r : Remote g.row.L.Denot). r.refused) (RemoteFollows g.L.Line.far) (remote_follows_self g.L.Line.far) (λ state. State state) (λ v. v.items) 0xA1 (λ key. Get key) c.args.keys.now c.args.self.now c.new.self.now c.result (link g.L.Line.remaining g.L.Line.contents c.args.self.now) (link g.L.Line.remaining g.L.Line.contents c.new.self.now) refl refl (λ over. (c.ensures.stays over.0 over.1).1, c.ensures.most) c.ensures.asked
-          (λ _ _. Unit {0}) (λ key state. state ≡ state_at far.states key) (IsTrueRemote g.L.Line.is_true g.L.Line.far c.args.self.now) _ _ (λ _ _. tt)
+          (λ _ _. Unit {0}) (λ key state. state ≡ state_at far.states key) _ (IsTrueRemote g.L.Line.is_true g.L.Line.far c.args.self.now) _ _ (λ _ _. tt)
           (λ ts. all_right (λ state. State state) far.most (λ key. Get key) get_asks (λ key state. state ≡ state_at far.states key) far.states (λ key state after h. h.0) c.args.keys.now ts far.states after.states refl)
           (λ ts. all_not_of_key (λ state. State state) far.most (λ key. Get key) get_asks c.args.keys.now ts far.states after.states) (λ was. (c.ensures.truth was).1);
       ended = link_ends (λ (r : Remote g.row.L.Denot). r.refused) (RemoteFollows g.L.Line.far) (remote_follows_self g.L.Line.far) (λ state. State state) (λ v. v.items) 0xA1 (λ key. Get key) c.args.keys.now c.args.self.now c.new.self.now c.result (link g.L.Line.remaining g.L.Line.contents c.args.self.now) (link g.L.Line.remaining g.L.Line.contents c.new.self.now) refl refl (λ over. (c.ensures.stays over.0 over.1).1, c.ensures.most) c.ensures.asked;
@@ -61,7 +61,7 @@ push_all-tells g c =
     let far = g.L.Line.far c.args.self.now.line in
     let after = g.L.Line.far c.new.self.now.line in
     record {
-      told = link_told (λ (r : Remote g.row.L.Denot). r.refused) (RemoteFollows g.L.Line.far) (remote_follows_self g.L.Line.far) (λ _. Done) (λ v. v.items) 0xA3 (λ pair. Push pair.0 pair.1) c.args.pairs.now c.args.self.now c.new.self.now c.result (link g.L.Line.remaining g.L.Line.contents c.args.self.now) (link g.L.Line.remaining g.L.Line.contents c.new.self.now) refl refl (λ over. (c.ensures.stays over.0 over.1).1, c.ensures.most) c.ensures.asked (λ _ _. Unit {0}) (λ _ _. Unit {0}) (λ _ _. tt);
+      told = link_told (λ (r : Remote g.row.L.Denot). r.refused) (RemoteFollows g.L.Line.far) (remote_follows_self g.L.Line.far) (λ _. Done) (λ v. v.items) 0xA3 (λ pair. Push pair.0 pair.1) c.args.pairs.now c.args.self.now c.new.self.now c.result (link g.L.Line.remaining g.L.Line.contents c.args.self.now) (link g.L.Line.remaining g.L.Line.contents c.new.self.now) refl refl (λ over. (c.ensures.stays over.0 over.1).1, c.ensures.most) c.ensures.asked (λ _ _. Unit {0}) (λ _ _. Unit {0}) (λ _ _. Unit {0}) (λ _ _. tt);
       pushes = λ was. let t = c.ensures.truth was in window_pushed far.most (λ v. v.items) c.args.pairs.now far.states after.states _ t.0 c.result t.1;
       ended = link_ends (λ (r : Remote g.row.L.Denot). r.refused) (RemoteFollows g.L.Line.far) (remote_follows_self g.L.Line.far) (λ _. Done) (λ v. v.items) 0xA3 (λ pair. Push pair.0 pair.1) c.args.pairs.now c.args.self.now c.new.self.now c.result (link g.L.Line.remaining g.L.Line.contents c.args.self.now) (link g.L.Line.remaining g.L.Line.contents c.new.self.now) refl refl (λ over. (c.ensures.stays over.0 over.1).1, c.ensures.most) c.ensures.asked;
       not_of_key = λ was. pushes_not_of_key far.most (λ v. v.items) c.args.pairs.now far.states after.states c.result (c.ensures.truth was).1;

@@ -2,7 +2,7 @@ use Rattle.std.proofs.Common.{◌≡◌, false, Ok, subst}
 use Rattle.mvd_site.specs.Prepared.{PreparesFrom}
 use Rattle.mvd_site.proofs.Outcomes.{whole_where_ok}
 use Rattle.mvd_replica.proofs.Asking.{tells_refusal, told_is, whole_tells}
-use Rattle.mvd_replica.proofs.replica.Replica.told.Goals as goal
+use Rattle.mvd_replica.proofs.replica.Replica.look_up.Goals as goal
 
 pub returns-in-Ok-Answer-clause-tells : goal.returns-in-Ok-Answer-clause-tells
 returns-in-Ok-Answer-clause-tells g c =

@@ -2,7 +2,7 @@ use Rattle.std.proofs.Common.{ap, ◌∙◌}
 use Rattle.sqlite.specs.Held.{state}
 use Rattle.mvd_replica.proofs.Asking.{is_reply}
 use Rattle.mvd_replica.proofs.Sides.{follows_by}
-use Rattle.mvd_replica.proofs.replica.Replica.asked.Goals as goal
+use Rattle.mvd_replica.proofs.replica.Replica.write.Goals as goal
 
 pub returns-clause-asks : goal.returns-clause-asks
 returns-clause-asks g c = record {

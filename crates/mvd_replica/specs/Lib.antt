@@ -4,6 +4,7 @@ pub mod Opened
 pub mod Pushes
 pub mod File
 pub mod Refused
+pub mod FileCalls
 pub mod Stops
 pub mod Turns
 pub mod Served
@@ -12,4 +13,7 @@ pub mod Sides
 pub mod Batch
 pub mod Groups
 pub mod Asks
+pub mod Replicas
+pub mod ReplicaCalls
+pub mod Restored
 pub mod Restarts

@@ -10,8 +10,10 @@ pub mod Turns
 pub mod Served
 pub mod Steps
 pub mod Sides
+pub mod SideCalls
 pub mod Batch
 pub mod Groups
+pub mod Shared
 pub mod Asks
 pub mod Replicas
 pub mod ReplicaCalls

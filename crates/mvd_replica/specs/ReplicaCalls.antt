@@ -3,7 +3,7 @@
 use Rattle.std.specs.Prelude.{◌≡◌, ◌≢◌, Bool, false, true, ℕ, List, [], ◌++◌, length, Option, Vec, Result, Ok, Err, IfErr, IfOk, OnOk, MatchResult}
 use Rattle.std.specs.declared.alloc.Global.{Global}
 use Rattle.mvd_dots.specs.declared.refusals.Refusal.{Refusal}
-use Rattle.mvd_dots.specs.declared.refusals.Refusal.TheVariants.{Broken, Damaged, DotClash, Memory}
+use Rattle.mvd_dots.specs.declared.refusals.Refusal.TheVariants.{Broken, Damaged, DotClash, Memory, Store}
 use Rattle.mvd_keys.specs.State.{IsValid, State, clashes, join}
 use Rattle.mvd_keys.specs.Writes.{Key, Write}
 use Rattle.mvd_tree.specs.HashTree.{node_digest}
@@ -110,6 +110,10 @@ module _ {S : Type 0} {g : Ghosts S} where
   abbrev pub StoresChange : {A : Type 0} → Replica S g → ChangeValue → Result A Refusal → Replica S g → Type 0
   StoresChange old change result new =
       (number : ℕ) → IsSound (store_of new) → HoldsRecords 2 number (committed_of old) → Stores (committed_of old) (committed_of new) change result
+
+  -- a change that the store refused leaves the last commit as it was
+  abbrev pub UnlessStored : {A : Type 0} → Replica S g → Result A Refusal → Replica S g → Type 0
+  UnlessStored old result new = IsSound (store_of new) → result ≡ Err Store → committed_of new ≡ committed_of old
 
   -- a crash leaves what it left before the call, or the records with the change
   abbrev pub SurvivesChange : Replica S g → ChangeValue → Replica S g → Type 0

@@ -4,7 +4,8 @@ ghost use Rattle.mvd_dots.specs.Answer.{IsAnswer};
 ghost use Rattle.mvd_wire.specs.declared.request.Request.TheVariants.{Put, Delete, Find, Range, Row, Rows};
 ghost use Rattle.mvd_site.specs.Answer.{is_question, places_reply, rows_reply};
 ghost use Rattle.mvd_site.specs.FromStates.{push_reply};
-ghost use Rattle.mvd_replica.specs.Asks.{ArePlaces, AreRows, IsDone, IsReplyTo, IsRow, IsWritten, TellsAnswer, put_reply, row_told};
+ghost use Rattle.mvd_replica.specs.Asks.{ArePlaces, AreRows, IsDone, IsReplyTo, IsRow, IsWritten};
+ghost use Rattle.mvd_replica.specs.Asks.{TellsAnswer, put_reply, row_told};
 ghost use Rattle.mvd_replica.specs.ReplicaCalls.{Answers, root_told};
 ghost use Rattle.mvd_replica.specs.Replicas.{site_of};
 

@@ -1,12 +1,13 @@
 -- What a replica does as a side of a session, beside what its own calls do.
-use Rattle.std.specs.Prelude.{◌≡◌, ◌≢◌, false, Result, IfErr, OnOk}
+use Rattle.std.specs.Prelude.{◌≡◌, ◌≢◌, ◌⊎◌, false, true, ℕ, List, length, Vec, Result, IfErr, OnOk}
+use Rattle.std.specs.declared.alloc.Global.{Global}
 use Rattle.mvd_dots.specs.declared.refusals.Refusal.{Refusal}
-use Rattle.mvd_dots.specs.declared.refusals.Refusal.TheVariants.{Broken}
+use Rattle.mvd_dots.specs.declared.refusals.Refusal.TheVariants.{Broken, Memory}
 use Rattle.mvd_keys.specs.State.{State, clashes}
 use Rattle.mvd_keys.specs.Writes.{Key}
 use Rattle.mvd_site.specs.Held.{state_at}
 use Rattle.mvd_sync.specs.Session.{pushed}
-use Rattle.mvd_sync.specs.Windows.{CannotTake}
+use Rattle.mvd_sync.specs.Windows.{Asked, CannotTake, Ends, Pushes, PushesFirst}
 use Rattle.sqlite_trees.specs.declared.store.Store.{Ghosts}
 use Rattle.mvd_replica.specs.declared.replica.Replica.{Replica}
 use Rattle.mvd_replica.specs.ReplicaCalls.{PushesState}
@@ -34,3 +35,42 @@ module _ {S : Type 0} {g : Ghosts S} where
     pub refuses : IfErr result (ReplicaRefuses (site_of new))
     -- after Ok it is not broken
     pub answers : OnOk result ((site_of new).broken ≡ false)
+
+  -- ---- a window of pushes
+
+  -- what no call of a session changes, after however many questions
+  abbrev pub FollowsSide : ℕ → Replica S g → Replica S g → Type 0
+  FollowsSide count old new = SideFollows (site_of old) (site_of new) (store_of old) (store_of new)
+
+  -- what a replica refuses a question with
+  abbrev pub RefusesSide : Replica S g → Refusal → Type 0
+  RefusesSide replica refusal = ReplicaRefuses (site_of replica) refusal
+
+  -- after an answer it is not broken
+  abbrev pub AnswersSide : Replica S g → Type 0
+  AnswersSide replica = (site_of replica).broken ≡ false
+
+  -- each push is told what it may be told alone
+  abbrev pub TellsWindow : Replica S g → List (Key × State) → Replica S g → Vec (Result (Unit {0}) Refusal) Global → Type 0
+  TellsWindow old pairs new told = Asked FollowsSide RefusesSide AnswersSide (λ _ _. Unit {0}) (λ _ _. Unit {0}) ⊥ pairs told.items old new
+
+  -- the states are joined one after the other, each taken, or refused for its cause, and the site is true still
+  abbrev pub PushesWindow : Replica S g → List (Key × State) → Replica S g → Vec (Result (Unit {0}) Refusal) Global → Type 0
+  PushesWindow old pairs new told =
+      IsTrueSite (site_of new) × Pushes (site_of old).config.max_keys (site_of old).states pairs told.items (site_of new).states
+
+  -- the window was not told: memory was refused, or the replica refused so that it refuses all
+  abbrev pub EndsWindow : Replica S g → List (Key × State) → Replica S g → Refusal → Type 0
+  EndsWindow old pairs new refusal = Ends FollowsSide RefusesSide (length pairs) old new refusal
+
+  -- 20, or 22 where the replica is broken then
+  abbrev pub IsWindowRefusal : Replica S g → Refusal → Type 0
+  IsWindowRefusal new refusal = (refusal ≡ Memory) ⊎ ((refusal ≡ Broken) × ((site_of new).broken ≡ true))
+
+  -- the first of them alone are joined, and if the site is true still nothing else has changed
+  abbrev pub PushesSome : Replica S g → List (Key × State) → Replica S g → Type 0
+  PushesSome old pairs new = PushesFirst (IsTrueSite (site_of new)) (site_of old).config.max_keys (site_of old).states pairs (site_of new).states
+
+  -- the site is true still, unless the refusal is 22
+  abbrev pub IsTrueUnlessBroken : Replica S g → Refusal → Type 0
+  IsTrueUnlessBroken new refusal = refusal ≢ Broken → IsTrueSite (site_of new)

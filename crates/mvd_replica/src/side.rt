@@ -1,9 +1,11 @@
 //! A replica as a side of a session.
-ghost use Rattle.std.specs.Prelude.{◌≡◌, false, Some};
+ghost use Rattle.std.specs.Prelude.{◌≡◌, false, Some, IfErr, IfOk, OnErr};
 ghost use Rattle.std.specs.Option.{option_copied};
 ghost use Rattle.std.proofs.Common.{ap};
 ghost use Rattle.mvd_replica.specs.ReplicaCalls.{TellsPage, TellsState, node_told};
-ghost use Rattle.mvd_replica.specs.SideCalls.{PushesOnSide};
+ghost use Rattle.mvd_replica.specs.SideCalls.{EndsWindow, IsTrueUnlessBroken, IsWindowRefusal, PushesOnSide};
+ghost use Rattle.mvd_replica.specs.SideCalls.{PushesSome, PushesWindow, TellsWindow};
+ghost use Rattle.mvd_sync.specs.Sides.{is_of_key};
 
 use crate::pushes::{add_told, pushes_of};
 use crate::replica::Replica;
@@ -18,7 +20,8 @@ use std::alloc::Global;
 /// records holds after any calls of a session. Many pushes share a commit.
 impl<S: Alter> Peer for Replica<S> {
     ghost use Rattle.mvd_replica.specs.Replicas.{site_of, store_of};
-    ghost use Rattle.mvd_replica.specs.Sides.{IsTrueSite, ReplicaRefuses, SideFollows, side_follows_on, side_follows_self};
+    ghost use Rattle.mvd_replica.specs.Sides.{IsTrueSite, ReplicaRefuses, SideFollows};
+    ghost use Rattle.mvd_replica.specs.Sides.{side_follows_on, side_follows_self};
 
     ghost states = { λ replica. (site_of replica).states };
 
@@ -83,8 +86,18 @@ impl<S: Alter> Peer for Replica<S> {
         let _held = self.key_count();
         pushed
     }
+
     /// It makes one commit of as many pushes as do not see each other, up to 1,024.
-    fn push_all(&mut self, pairs: &[(Key, KeyState)]) -> Result<Vec<Result<(), Refusal>>, Refusal> {
+    fn push_all(&mut self, pairs: &[(Key, KeyState)]) -> Result<Vec<Result<(), Refusal>>, Refusal>
+        ensures told { IfOk result (TellsWindow self.old pairs.now self.new) }
+        ensures pushes { IsTrueSite (site_of self.old) → IfOk result (PushesWindow self.old pairs.now self.new) }
+        ensures ended { IfErr result (EndsWindow self.old pairs.now self.new) }
+        // It is refused for want of memory, or by a replica that is broken then.
+        ensures refusal { IfErr result (IsWindowRefusal self.new) }
+        ensures not_of_key { IsTrueSite (site_of self.old) → IfErr result (λ refusal. is_of_key refusal ≡ false) }
+        ensures unbroken { IsTrueSite (site_of self.old) → IfErr result (IsTrueUnlessBroken self.new) }
+        ensures first { IsTrueSite (site_of self.old) → OnErr result (PushesSome self.old pairs.now self.new) }
+    {
         let _held_before = self.key_count();
         let mut told = Vec::with_capacity(self.alloc, pairs.len())?;
         let requests = pushes_of(self.alloc, pairs)?;

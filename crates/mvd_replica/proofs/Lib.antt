@@ -19,5 +19,6 @@ pub mod Follows
 pub mod Files
 pub mod Stops
 pub mod Asking
+pub mod ReplicaLemmas
 pub mod Restarts
 pub mod Pushed

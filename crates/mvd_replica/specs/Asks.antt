@@ -1,5 +1,5 @@
 -- What a program asks of a replica by a call of its own, as the request that it is and the reply that its result stands for.
-use Rattle.std.specs.Prelude.{◌≡◌, ◌≢◌, ◌⊎◌, ⊤, false, Result, Ok, Err}
+use Rattle.std.specs.Prelude.{◌≡◌, ◌⊎◌, ⊤, false, Result, Ok, Err}
 use Rattle.mvd_dots.specs.Dot.{DotValue}
 use Rattle.mvd_dots.specs.declared.refusals.Refusal.{Refusal}
 use Rattle.mvd_dots.specs.declared.refusals.Refusal.TheVariants.{Broken, Memory}
@@ -8,14 +8,8 @@ use Rattle.mvd_wire.specs.declared.request.Request.TheVariants.{Put, Delete, Fin
 use Rattle.mvd_wire.specs.declared.reply.Reply.{Reply}
 use Rattle.mvd_wire.specs.declared.reply.Reply.TheVariants as reply
 use Rattle.mvd_wire.specs.declared.reply.RowValue.{RowValue}
-use Rattle.mvd_records.specs.Records.{IsSound}
 use Rattle.mvd_site.specs.FromStates.{answer_from, unless_broken}
 use Rattle.mvd_site.specs.Sites.{SiteValue}
-use Rattle.mvd_replica.specs.Batch.{AnswersOneFrom}
-use Rattle.mvd_replica.specs.Sides.{ReplicaFollows}
-use Rattle.mvd_replica.specs.Stops.{LeavesAnswered}
-use Rattle.mvd_replica.specs.Turns.{AnswersStored}
-use Rattle.sqlite.specs.State.{State, Survives}
 
 -- ---- a write
 
@@ -23,16 +17,6 @@ use Rattle.sqlite.specs.State.{State, Survives}
 abbrev pub put_reply : Result DotValue Refusal → Reply
 put_reply (Ok dot) = reply.Written dot
 put_reply (Err refusal) = reply.Refused refusal
-
--- What `answer` says of a request and its reply: from the writes known and from the states that are held, of the records, and of a
--- crash. A refusal but 22 changes nothing
-pub record Asks (request : Request) (told : Reply) (old new : SiteValue) (before after : State) : Type 0 where
-  pub known : AnswersStored old new request told
-  pub states : AnswersOneFrom old new request told
-  pub follows : ReplicaFollows (λ asked. asked ≡ request) old new before after
-  pub survives : Survives before after (LeavesAnswered old request before)
-  pub unchanged : (refusal : Refusal) → told ≡ reply.Refused refusal → refusal ≢ Broken → new ≡ old
-  pub unstored : (refusal : Refusal) → IsSound after → told ≡ reply.Refused refusal → refusal ≢ Broken → after.committed ≡ before.committed
 
 -- ---- a question
 

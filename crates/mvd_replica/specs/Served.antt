@@ -10,11 +10,14 @@ use Rattle.mvd_wire.specs.Frames.{AppendsFront, FrameValue, frame_at}
 use Rattle.mvd_wire.specs.Requests.{request_of}
 use Rattle.mvd_wire.specs.Replies.{reply_bytes}
 use Rattle.mvd_site.specs.Sites.{SiteValue}
+use Rattle.mvd_replica.specs.declared.replica.Replica.{Replica}
 use Rattle.mvd_replica.specs.declared.serving.Ended.{Ended}
 use Rattle.mvd_replica.specs.declared.serving.Ended.TheVariants as ended
+use Rattle.mvd_replica.specs.Replicas.{site_of, store_of}
 use Rattle.mvd_replica.specs.Sides.{ReplicaFollows}
 use Rattle.mvd_replica.specs.Turns.{AreFrames, Event, GoesOn, IsFirstBroken, IsToldElse, Replies, StandsOn, TellsTurns, Turn}
 use Rattle.sqlite.specs.State.{State}
+use Rattle.sqlite_trees.specs.declared.store.Store.{Ghosts}
 
 -- a site with its store, between a reader and a writer, whose bytes may not be known
 pub record Side : Type 1 where
@@ -22,6 +25,10 @@ pub record Side : Type 1 where
   pub store : State
   pub input : Option (List ℕ)
   pub output : Option (List ℕ)
+
+-- a replica between a reader and a writer, by what is left of the one and what the other has taken
+abbrev pub side_of : {S : Type 0} {g : Ghosts S} → Replica S g → Option (List ℕ) → Option (List ℕ) → Side
+side_of replica input output = record { site = site_of replica; store = store_of replica; input = input; output = output }
 
 -- what ends a connection once the turns are over: a Bye, the end of the input, a refusal that is told in one frame more, or the
 -- writer

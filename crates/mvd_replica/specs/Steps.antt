@@ -8,16 +8,34 @@ use Rattle.mvd_wire.specs.declared.request.Request.{Request}
 use Rattle.mvd_wire.specs.declared.request.Request.TheVariants.{Bye}
 use Rattle.mvd_wire.specs.declared.reply.Reply.{Reply}
 use Rattle.mvd_wire.specs.declared.reply.Reply.TheVariants.{Refused}
-use Rattle.mvd_wire.specs.Replies.{CanBeSent, is_short}
+use Rattle.mvd_wire.specs.declared.frame.Frame.{Frame}
+use Rattle.mvd_wire.specs.Replies.{CanBeSent, is_short, reply_bytes}
+use Rattle.mvd_wire.specs.Requests.{request_of}
 use Rattle.mvd_site.specs.Sites.{SiteValue}
+use Rattle.mvd_replica.specs.declared.replica.Replica.{Replica}
 use Rattle.mvd_replica.specs.declared.serving.Ended.{Ended}
+use Rattle.mvd_replica.specs.Replicas.{site_of, store_of}
 use Rattle.mvd_replica.specs.Sides.{ReplicaFollows}
 use Rattle.mvd_replica.specs.Turns.{AddsAt, AreFrames, Event, GoesOn, IsFirstBroken, IsToldElse, Replies, RepliesOne, StandsOn, TellsTurns, Turn}
 use Rattle.mvd_replica.specs.Served.{AtBye, AtEnd, AtRefusal, AtWriter, Ending, GoesOut, Side, Stops, Went, last_bytes, replies_bytes, result_of}
+use Rattle.sqlite_trees.specs.declared.store.Store.{Ghosts}
 
 -- the reply that goes out: want of memory may stand in place of one that needs memory
 abbrev pub IsSent : Reply → Reply → Type 0
 IsSent reply sent = (sent ≡ reply) ⊎ ((is_short reply ≡ false) × (sent ≡ Refused Memory))
+
+-- it went out, or want of memory in its place, or the writer failed
+abbrev pub SendsReply : Option (List ℕ) → Reply → Result (Unit {0}) Refusal → Option (List ℕ) → Type 0
+SendsReply old reply result new =
+    (sent : Reply) × IsSent reply sent × GoesOut old new (reply_bytes sent) (Err WriteFailed) result (Ok tt)
+
+-- a refusal was told in a last frame and is the result, or the writer failed, and 35 is
+abbrev pub StopsWith : Option (List ℕ) → Refusal → Refusal → Option (List ℕ) → Type 0
+StopsWith old refusal result new = GoesOut old new (reply_bytes (Refused refusal)) WriteFailed result refusal
+
+-- the request that a frame is, or its fault
+abbrev pub asked_in : Frame → Result Request Refusal
+asked_in frame = request_of frame.kind frame.payload.items
 
 -- what answering one frame does, a Bye apart
 pub record RepliesTo (asked : Result Request Refusal) (old new : SiteValue) (reply : Reply) : Type 0 where
@@ -62,3 +80,13 @@ abbrev pub TakesTurn : Side → Side → Result (Option Ended) Refusal → Type 
 TakesTurn old new (Ok None) = (turn : Turn) × Went (turn ∷ []) old new
 TakesTurn old new (Ok (Some ended)) = Ends old new (Ok ended)
 TakesTurn old new (Err fault) = Ends old new (Err fault)
+
+module _ {S : Type 0} {g : Ghosts S} where
+  -- a replica answers the frame, unless it is a Bye
+  abbrev pub AnswersFrame : Replica S g → Frame → Option Reply → Replica S g → Type 0
+  AnswersFrame old frame result new = TellsFrame (asked_in frame) (site_of old) (site_of new) result
+
+  -- and its records follow
+  abbrev pub FollowsFrame : Replica S g → Frame → Replica S g → Type 0
+  FollowsFrame old frame new =
+      ReplicaFollows (λ request. asked_in frame ≡ Ok request) (site_of old) (site_of new) (store_of old) (store_of new)

@@ -1,9 +1,6 @@
 //! Many requests at once, whose changes share commits.
-ghost use Rattle.std.specs.Prelude.{◌≡◌, ◌≤◌, ◌<◌, ◌+◌, ◌++◌, List, IfErr, IfOk, length, vec_capacity};
-ghost use Rattle.mvd_dots.specs.declared.refusals.Refusal.TheVariants.{Memory};
-ghost use Rattle.mvd_wire.specs.declared.reply.Reply.{Reply};
-ghost use Rattle.mvd_replica.specs.Batch.{AnswersAll, AnswersFront};
-ghost use Rattle.sqlite.specs.Held.{state};
+ghost use Rattle.std.specs.Prelude.{◌≡◌, ◌≤◌, ◌<◌, ◌+◌, length, vec_capacity};
+ghost use Rattle.mvd_replica.specs.ReplicaCalls.{AnswersEach, AnswersMany, AnswersSome};
 
 use crate::groups::{counted, prepare_all, refuse_all, store_all};
 use crate::replica::Replica;
@@ -17,9 +14,7 @@ impl<S: Alter> Replica<S> {
     /// putting a change in breaks the site, that request and all after it are told so; the records hold all changes of that
     /// commit. Where memory is refused for the list of replies, nothing was done.
     pub fn answer_all(&mut self, requests: &[Request]) -> Result<Vec<Reply>, Refusal>
-        ensures answers { IfOk result (λ replies. AnswersAll requests.now replies.items self.old.site self.new.site
-            (state S.Store self.old.records.conn) (state S.Store self.new.records.conn)) }
-        ensures memory { IfErr result (λ refusal. (refusal ≡ Memory) × (self.new ≡ self.old)) }
+        ensures { AnswersMany self.old requests.now result self.new }
     {
         let mut replies = Vec::with_capacity(self.alloc, requests.len())?;
         'groups: while replies.len() < requests.len() {
@@ -32,8 +27,7 @@ impl<S: Alter> Replica<S> {
     fn answer_front(&mut self, requests: &[Request], replies: &mut Vec<Reply>)
         requires some { 0 < length requests.now }
         requires room { length replies.old.items + length requests.now ≤ vec_capacity replies.old }
-        ensures answers { AnswersFront requests.now replies.old.items replies.new.items self.old.site self.new.site
-            (state S.Store self.old.records.conn) (state S.Store self.new.records.conn) }
+        ensures answers { AnswersSome self.old requests.now replies.old.items replies.new.items self.new }
         ensures room { vec_capacity replies.new ≡ vec_capacity replies.old }
     {
         if self.site.is_broken() {
@@ -59,9 +53,7 @@ impl<S: Alter> Replica<S> {
     /// Answers requests one after the other, each with a commit of its own.
     fn answer_each(&mut self, requests: &[Request], replies: &mut Vec<Reply>)
         requires room { length replies.old.items + length requests.now ≤ vec_capacity replies.old }
-        ensures answers { (told : List Reply) × (replies.new.items ≡ replies.old.items ++ told) ×
-            AnswersAll requests.now told self.old.site self.new.site
-            (state S.Store self.old.records.conn) (state S.Store self.new.records.conn) }
+        ensures answers { AnswersEach self.old requests.now replies.old.items replies.new.items self.new }
         ensures room { vec_capacity replies.new ≡ vec_capacity replies.old }
     {
         for request in requests {

@@ -1,13 +1,13 @@
 //! The calls of a program: each gives what it asks for, or the refusal.
-ghost use Rattle.std.specs.Prelude.{◌≡◌, ◌≢◌, [], Ok, Err, IfErr, true};
+ghost use Rattle.std.specs.Prelude.{◌≡◌, true};
 ghost use Rattle.mvd_dots.specs.Answer.{IsAnswer};
-ghost use Rattle.mvd_dots.specs.declared.refusals.Refusal.TheVariants.{Broken, Memory};
-ghost use Rattle.mvd_tree.specs.HashTree.{node_digest};
 ghost use Rattle.mvd_wire.specs.declared.request.Request.TheVariants.{Put, Delete, Find, Range, Row, Rows};
-ghost use Rattle.mvd_site.specs.Answer.{digests, is_question, places_reply, rows_reply};
-ghost use Rattle.mvd_site.specs.FromStates.{push_reply, unless_broken};
-ghost use Rattle.mvd_replica.specs.Asks.{ArePlaces, AreRows, Asks, IsDone, IsReplyTo, IsRow, IsWritten, TellsAnswer, put_reply, row_told};
-ghost use Rattle.sqlite.specs.Held.{state};
+ghost use Rattle.mvd_site.specs.Answer.{is_question, places_reply, rows_reply};
+ghost use Rattle.mvd_site.specs.FromStates.{push_reply};
+ghost use Rattle.mvd_replica.specs.Asks.{ArePlaces, AreRows, IsDone, IsReplyTo, IsRow, IsWritten};
+ghost use Rattle.mvd_replica.specs.Asks.{TellsAnswer, put_reply, row_told};
+ghost use Rattle.mvd_replica.specs.ReplicaCalls.{Answers, root_told};
+ghost use Rattle.mvd_replica.specs.Replicas.{site_of};
 
 use crate::replica::Replica;
 use mvd_docs::{Document, Field, Term, ViewName};
@@ -17,14 +17,14 @@ use mvd_site::Prepared;
 use mvd_wire::{Items, Reply, Request, RowValue};
 use sqlite::Alter;
 
-/// The rows of a view: of each its term, how many siblings it has, the sum of their numbers, and the least and the greatest of these.
+/// The rows of a view: of each its term, how many siblings it has, the sum of their numbers, and the
+/// least and the greatest of these.
 pub type ViewRows = Items<(Term, u64, i128, Option<(i64, i64)>)>;
 
 impl<S: Alter> Replica<S> {
     /// Writes a document in place of the documents that were seen, and gives its dot. Once this returns, it is stored.
     pub fn put(&mut self, key: Key, seen: Context, document: Document) -> Result<Dot, Refusal>
-        ensures asks { Asks (Put key seen document) (put_reply result) self.old.site self.new.site
-            (state S.Store self.old.records.conn) (state S.Store self.new.records.conn) }
+        ensures { Answers self.old (Put key seen document) (put_reply result) self.new }
     {
         let request = Request::Put(key, seen, document);
         let reply = self.write(&request);
@@ -34,8 +34,7 @@ impl<S: Alter> Replica<S> {
 
     /// Removes the documents that were seen. Once this returns, that is stored.
     pub fn delete(&mut self, key: Key, seen: Context) -> Result<(), Refusal>
-        ensures asks { Asks (Delete key seen) (push_reply result) self.old.site self.new.site
-            (state S.Store self.old.records.conn) (state S.Store self.new.records.conn) }
+        ensures { Answers self.old (Delete key seen) (push_reply result) self.new }
     {
         let request = Request::Delete(key, seen);
         let reply = self.write(&request);
@@ -50,7 +49,7 @@ impl<S: Alter> Replica<S> {
         term: Term,
         after: Option<(Key, Dot)>,
     ) -> Result<(Items<Place>, bool), Refusal>
-        ensures { TellsAnswer self.now.site (Find field term after) (places_reply result) }
+        ensures { TellsAnswer (site_of self.now) (Find field term after) (places_reply result) }
     {
         let request = Request::Find(field, term, after);
         let reply = self.look_up(&request);
@@ -66,7 +65,7 @@ impl<S: Alter> Replica<S> {
         to: Term,
         after: Option<Place>,
     ) -> Result<(Items<Place>, bool), Refusal>
-        ensures { TellsAnswer self.now.site (Range field from to after) (places_reply result) }
+        ensures { TellsAnswer (site_of self.now) (Range field from to after) (places_reply result) }
     {
         let request = Request::Range(field, from, to, after);
         let reply = self.look_up(&request);
@@ -76,7 +75,7 @@ impl<S: Alter> Replica<S> {
 
     /// One row of a view.
     pub fn row(&self, view: ViewName, term: Term) -> Result<RowValue, Refusal>
-        ensures { TellsAnswer self.now.site (Row view term) (row_told result) }
+        ensures { TellsAnswer (site_of self.now) (Row view term) (row_told result) }
     {
         let request = Request::Row(view, term);
         let reply = self.look_up(&request);
@@ -86,7 +85,7 @@ impl<S: Alter> Replica<S> {
 
     /// The rows of a view: at most 1,000, those after a term if one is given, and whether more follow.
     pub fn rows(&self, view: ViewName, after: Option<Term>) -> Result<(ViewRows, bool), Refusal>
-        ensures { TellsAnswer self.now.site (Rows view after) (rows_reply result) }
+        ensures { TellsAnswer (site_of self.now) (Rows view after) (rows_reply result) }
     {
         let request = Request::Rows(view, after);
         let reply = self.look_up(&request);
@@ -96,7 +95,7 @@ impl<S: Alter> Replica<S> {
 
     /// The digest of the root of the hash tree: replicas with the same states have the same.
     pub fn root(&self) -> Result<[u8; 32], Refusal>
-        ensures { IsAnswer result (unless_broken self.now.site.broken (Err Broken) (Ok (node_digest (digests self.now.site.states) []))) }
+        ensures { IsAnswer result (root_told (site_of self.now)) }
     {
         if self.is_broken() {
             return Err(Refusal::Broken);
@@ -110,8 +109,7 @@ impl<S: Alter> Replica<S> {
 
     /// Has a request answered.
     fn write(&mut self, request: &Request) -> Reply
-        ensures asks { Asks request.now result self.old.site self.new.site
-            (state S.Store self.old.records.conn) (state S.Store self.new.records.conn) }
+        ensures answers { Answers self.old request.now result self.new }
         ensures kind { IsReplyTo request.now result }
     {
         self.answer(request)
@@ -120,7 +118,7 @@ impl<S: Alter> Replica<S> {
     /// The reply to a question, which changes nothing.
     fn look_up(&self, request: &Request) -> Reply
         requires { is_question request.now ≡ true }
-        ensures tells { TellsAnswer self.now.site request.now result }
+        ensures tells { TellsAnswer (site_of self.now) request.now result }
         ensures kind { IsReplyTo request.now result }
     {
         match self.site.prepare(request) {

@@ -1,12 +1,7 @@
 //! A site in a file: opened from what the file and its log hold, and closed into them.
-ghost use Rattle.std.specs.Prelude.{◌≡◌, false, List, IfErr, IfOk};
-ghost use Rattle.mvd_keys.specs.Writes.{Stands, Write};
-ghost use Rattle.mvd_records.specs.Records.{IsSound};
-ghost use Rattle.mvd_replica.specs.File.{ClosesFile, OpensFile};
-ghost use Rattle.mvd_replica.specs.Refused.{FailsFile};
-ghost use Rattle.sqlite.specs.Files.{file_state};
+ghost use Rattle.std.specs.Prelude.{IfOk};
+ghost use Rattle.mvd_replica.specs.FileCalls.{ClosesInto, OpensAsSite};
 ghost use Rattle.sqlite.specs.WalFiles.{image_at};
-ghost use Rattle.sqlite.specs.WalReads.{AreClean};
 
 use crate::replica::Replica;
 use mvd_dots::Refusal;
@@ -23,19 +18,16 @@ pub enum FileFault<D: Disk + Drop> {
     Records(Refusal, Connection<FileStore<D>>),
 }
 
-/// Opens the site that the file at a path holds, which is made where it is missing. It holds for whatever stands in the file and its
-/// log: `S` names that, and no code can read it. `main` alone picks one, `Unknown` or `Wary`; no clause ties it to the path.
+/// Opens the site that the file at a path holds, which is made where it is missing. It holds for
+/// whatever stands in the file and its log: `S` names that, and no code can read it. `main` alone
+/// picks one, `Unknown` or `Wary`; no clause ties it to the path.
 pub fn open_file<S: Start>(
     rt: &HostRuntime,
     path: &str,
     start: S,
     config: Config,
 ) -> Result<Replica<FileStore<FileFrom<S>>>, FileFault<FileFrom<S>>>
-    ensures site { IfOk result (λ replica. (replica.site.config ≡ config) × (replica.site.broken ≡ false)) }
-    // There is a set of writes that it stands for.
-    ensures stands { IfOk result (λ replica. (known : List Write) × Stands replica.site.states known) }
-    ensures opens { IfOk result (λ replica. IsSound (file_state replica.records.conn) → OpensFile (image_at S.Start) config replica.site (file_state replica.records.conn).committed) }
-    ensures refused { IfErr result (FailsFile (image_at S.Start) config) }
+    ensures { OpensAsSite (image_at S.Start) config result }
 {
     let conn = match Connection::open_from(rt, path, false, start) {
         Ok(conn) => conn,
@@ -48,9 +40,10 @@ pub fn open_file<S: Start>(
 }
 
 impl<D: Disk + Drop> Replica<FileStore<D>> {
-    /// Copies what the log holds into the file, and gives both back: the states are in them, as they read now and after a crash.
+    /// Copies what the log holds into the file, and gives both back: the states are in them, as they
+    /// read now and after a crash.
     pub fn close(self) -> Result<Files<D>, (Error, FileStore<D>)>
-        ensures closed { IfOk result (λ files. AreClean D.Disk files.log files.db → ClosesFile D.Disk (file_state self.records.conn).committed files) }
+        ensures closed { IfOk result (ClosesInto self) }
     {
         let conn = self.into_connection();
         // Here it is known that the database obeys its schema.

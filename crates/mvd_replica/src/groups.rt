@@ -1,13 +1,13 @@
 //! What requests come to that share a commit: prepared side by side, and stored at once.
-ghost use Rattle.std.specs.Prelude.{◌≡◌, ◌⊎◌, ◌≤◌, ◌<◌, ◌+◌, ◌++◌, ℕ, IfErr, IfOk, OnErr, OnOk, IsTrue, [], false, true, length, map, take, vec_capacity};
+ghost use Rattle.std.specs.Prelude.{◌≡◌, ◌≤◌, ◌<◌, ◌+◌, ◌++◌, IfErr, IfOk, false, length, map, take, vec_capacity};
 ghost use Rattle.std.specs.List.{AllByRecursion};
 ghost use Rattle.mvd_records.specs.Pairs.{entries_of};
-ghost use Rattle.mvd_records.specs.Records.{HoldsRecords, IsSound, SavesStates};
 ghost use Rattle.mvd_wire.specs.Codecs.{spell_state};
 ghost use Rattle.mvd_site.specs.Installs.{changes_in, is_change};
-ghost use Rattle.mvd_replica.specs.Groups.{ComesTo, IsApart, IsElsewhere, IsSendable, MayJoin, StandTogether, pairs_in, reply_unstored};
-ghost use Rattle.sqlite.specs.Held.{state};
-ghost use Rattle.sqlite.specs.State.{HasCleanDisk};
+ghost use Rattle.mvd_replica.specs.Groups.{ComesTo, IsApart, IsElsewhere, IsSendable, MayJoin, StandTogether};
+ghost use Rattle.mvd_replica.specs.Groups.{pairs_in, reply_unstored};
+ghost use Rattle.mvd_replica.specs.Restored.{WereSound};
+ghost use Rattle.mvd_replica.specs.Shared.{IsUnstored, StoresNone, StoresOpen, StoresPairs, WereClean};
 
 use mvd_dots::Refusal;
 use mvd_keys::Key;
@@ -56,7 +56,8 @@ fn sees_any(request: &Request, group: &[Prepared]) -> bool
     false
 }
 
-/// Whether a request has to wait until these, with so many changes, are put in: it could see one, or there may be no room then.
+/// Whether a request has to wait until these, with so many changes, are put in: it could see one, or
+/// there may be no room then.
 fn must_wait(site: &Site, group: &[Prepared], changes: u32, request: &Request) -> bool
     requires count { changes ≡ changes_in group.now }
     requires few { changes ≤ 1000000 }
@@ -103,8 +104,8 @@ fn prepare_one(site: &Site, request: &Request) -> Prepared
     prepared
 }
 
-/// What requests come to, from the first on, up to one that could see what was prepared before it, or for which there may be no
-/// room with that, or for which memory is refused in the list.
+/// What requests come to, from the first on, up to one that could see what was prepared before it, or
+/// for which there may be no room with that, or for which memory is refused in the list.
 pub fn prepare_all(alloc: Global, site: &Site, requests: &[Request]) -> Vec<Prepared>
     ensures count { length result.items ≤ length requests.now }
     ensures together { site.now.broken ≡ false →
@@ -160,19 +161,12 @@ pub fn store_all<S: Alter>(
     group: &[Prepared],
 ) -> Result<(), Refusal>
     requires { records.old.version ≡ 2 }
-    ensures before { IsSound (state S.Store records.new.conn) → IsSound (state S.Store records.old.conn) }
-    ensures clean { HasCleanDisk (state S.Store records.new.conn) →
-        HasCleanDisk (state S.Store records.old.conn) }
-    ensures open { HasCleanDisk (state S.Store records.new.conn) →
-        OnOk result (IsTrue (state S.Store records.new.conn).is_open ⊎ (pairs_in group.now ≡ [])) }
-    ensures stored { (site : ℕ) → IsSound (state S.Store records.new.conn) →
-        HoldsRecords 2 site (state S.Store records.old.conn).committed →
-        OnOk result (HoldsRecords 2 site (state S.Store records.new.conn).committed ×
-        SavesStates (state S.Store records.old.conn).committed (state S.Store records.new.conn).committed
-        (pairs_in group.now)) }
-    ensures unchanged { IsSound (state S.Store records.new.conn) →
-        OnErr result ((state S.Store records.new.conn).committed ≡ (state S.Store records.old.conn).committed) }
-    ensures refusal { IfErr result (λ refusal. (refusal ≡ Refusal.Store) ⊎ ((refusal ≡ Refusal.Memory) × (records.new ≡ records.old))) }
+    ensures before { WereSound S.Store records.old records.new }
+    ensures clean { WereClean S.Store records.old records.new }
+    ensures open { StoresOpen S.Store (pairs_in group.now) result records.new }
+    ensures stored { StoresPairs S.Store records.old (pairs_in group.now) result records.new }
+    ensures unchanged { StoresNone S.Store records.old result records.new }
+    ensures refusal { IfErr result (IsUnstored records.old records.new) }
     ensures version { records.new.version ≡ records.old.version }
 {
     if group.len() == 1 {

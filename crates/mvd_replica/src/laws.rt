@@ -1,5 +1,5 @@
-//! What holds of requests that share a commit, and of a site that is closed and opened again, each law as the contract of an empty
-//! function.
+//! What holds of requests that share a commit, and of a site that is closed and opened again, each
+//! law as the contract of an empty function.
 ghost use Rattle.std.specs.Prelude.{◌≡◌, ◌+◌, ◌<◌, ℕ, List, Option, Result};
 ghost use Rattle.std.specs.FinMap.{insert, len};
 ghost use Rattle.mvd_keys.specs.State.{State};
@@ -28,15 +28,18 @@ pub fn a_request_is_untouched_by_changes_of_others()
         answer_from config (insert states key state) request ≡ answer_from config states request }
 {}
 
-/// A site that is closed and opened again, as often as one likes, with connections between: every reply is one that may be given
-/// from the writes known then, and the last file holds states that stand for all of them.
+/// A site that is closed and opened again, as often as one likes, with connections between: every
+/// reply is one that may be given from the writes known then, and the last file holds states that
+/// stand for all of them.
 pub fn a_site_answers_across_restarts<S: Alter>()
-    ensures answers { (site : ℕ) (image : Image) (states : States) (known : List Write) (runs : List (Run (Held S))) →
-        HoldsFile image site states → Stands states known → AreRuns (state S.Store) site image runs →
-        AllAnswered (state S.Store) site known image runs }
-    // What `serve` promises of a connection is such turns of a run; what a host promises of its rounds says so itself.
-    ensures connection { (old new : SiteValue) (before after : Held S) (input input' output output' : Option (List ℕ)) (result : Result Ended Refusal) →
+    ensures answers { (site : ℕ) (image : Image) (states : States) (known : List Write)
+        (runs : List (Run (Held S))) → HoldsFile image site states → Stands states known →
+        AreRuns (state S.Store) site image runs → AllAnswered (state S.Store) site known image runs }
+    // What `serve` promises of a connection is such turns of a run; what a host promises of its rounds
+    // says so itself.
+    ensures connection { (old new : SiteValue) (before after : Held S)
+        (input input' output output' : Option (List ℕ)) (result : Result Ended Refusal) →
         (it : Served (record { site = old; store = state S.Store before; input = input; output = output })
-        (record { site = new; store = state S.Store after; input = input'; output = output' }) result) →
+            (record { site = new; store = state S.Store after; input = input'; output = output' }) result) →
         TurnsFollow it.turns old new (state S.Store before) (state S.Store after) }
 {}

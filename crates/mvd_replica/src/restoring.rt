@@ -1,17 +1,14 @@
 //! What a replica is opened with: the states that its records spell.
-ghost use Rattle.std.specs.Prelude.{◌≡◌, ◌≢◌, ◌⊎◌, ◌↔◌, List, Err, false, IfErr, IfOk, IsTrue, MatchResult, OnOk};
+ghost use Rattle.std.specs.Prelude.{◌≡◌, ◌≢◌, IfErr, IfOk, OnOk};
 ghost use Rattle.std.specs.List.{AllByRecursion};
-ghost use Rattle.std.specs.FinMap.{entries, is_sorted};
-ghost use Rattle.mvd_keys.specs.Key.{key_cmp};
-ghost use Rattle.mvd_keys.specs.Writes.{Stands, Write};
 ghost use Rattle.mvd_wire.specs.Codecs.{spell_state};
 ghost use Rattle.mvd_records.specs.Pairs.{entries_of};
-ghost use Rattle.mvd_records.specs.States.{States as Stored};
-ghost use Rattle.mvd_records.specs.Records.{IsSound, HasNone, HoldsRecords, new_states, old_states};
 ghost use Rattle.mvd_site.specs.Held.{IsHeldState};
-ghost use Rattle.mvd_replica.specs.Stored.{AreInOrder, AreStored, HoldsTooMany, IsOldStored, IsStored, Migrates, Respells, Resumes, SameStates, spelled_entries};
-ghost use Rattle.mvd_replica.specs.Kept.{SpellStates};
-ghost use Rattle.sqlite.specs.Held.{state};
+ghost use Rattle.mvd_replica.specs.Restored.{DamagedIn, HasWrites, IfDamaged, IsFresh, IsUnloaded, IsUnmoved, IsUnread};
+ghost use Rattle.mvd_replica.specs.Restored.{FindsAgain, FindsFull, FindsNone, FindsOrder, FindsStates, WereSound};
+ghost use Rattle.mvd_replica.specs.Restored.{LoadsFull, LoadsOnly, LoadsOrder, LoadsStates};
+ghost use Rattle.mvd_replica.specs.Restored.{MovesAlike, MovesAll, MovesStates, MovesVersion};
+ghost use Rattle.mvd_replica.specs.Stored.{IsOldStored, IsStored, Respells, spelled_entries};
 
 use mvd_dots::Refusal;
 use mvd_keys::{Key, KeyState};
@@ -23,7 +20,7 @@ use std::alloc::Global;
 
 /// Why a stored state is not read: memory was refused, or it is damaged.
 fn unread(refusal: Refusal) -> Refusal
-    ensures either { (result ≡ Refusal.Damaged) ⊎ (result ≡ Refusal.Memory) }
+    ensures either { IsUnread result }
     ensures damaged { result ≡ Refusal.Damaged → refusal ≢ Refusal.Memory }
 {
     match refusal {
@@ -37,8 +34,8 @@ fn state_of(alloc: Global, bytes: &[u8]) -> Result<KeyState, Refusal>
     ensures held { IfOk result IsHeldState }
     ensures spelled { IfOk result (λ s. spell_state s ≡ bytes.now) }
     ensures stored { OnOk result (IsStored bytes.now) }
-    ensures damaged { IfErr result (λ e. e ≡ Refusal.Damaged → ¬ IsStored bytes.now) }
-    ensures refusal { IfErr result (λ e. (e ≡ Refusal.Damaged) ⊎ (e ≡ Refusal.Memory)) }
+    ensures damaged { IfDamaged result (¬ IsStored bytes.now) }
+    ensures refusal { IfErr result IsUnread }
 {
     match decode_state(alloc, bytes) {
         Ok(state) => {
@@ -56,8 +53,8 @@ fn states_of(alloc: Global, pairs: Vec<(Key, Vec<u8>)>) -> Result<Vec<(Key, KeyS
     ensures spelled { IfOk result (λ states. spelled_entries states.items ≡ entries_of pairs.items) }
     ensures held { IfOk result (λ states. AllByRecursion (λ entry. IsHeldState entry.1) states.items) }
     ensures stored { OnOk result (AllByRecursion (λ entry. IsStored entry.1) (entries_of pairs.items)) }
-    ensures damaged { (stored : Stored) → entries_of pairs.items ≡ entries stored → IfErr result (λ e. e ≡ Refusal.Damaged → ¬ AreStored stored) }
-    ensures refusal { IfErr result (λ e. (e ≡ Refusal.Damaged) ⊎ (e ≡ Refusal.Memory)) }
+    ensures damaged { DamagedIn result (entries_of pairs.items) }
+    ensures refusal { IfErr result IsUnread }
 {
     let mut states = Vec::new(alloc);
     for (key, bytes) in pairs {
@@ -73,16 +70,14 @@ fn states_of(alloc: Global, pairs: Vec<(Key, Vec<u8>)>) -> Result<Vec<(Key, KeyS
 /// The site that records of version 2 hold. 17 exactly where they are not in order, and 10 where they hold too many keys.
 fn load<S: Alter>(alloc: Global, records: &mut Records<S>, config: Config) -> Result<Site, Refusal>
     requires { records.old.version ≡ 2 }
-    ensures config { IfOk result (λ site. (site.config ≡ config) × (site.broken ≡ false)) }
-    ensures stands { IfOk result (λ site. (known : List Write) × Stands site.states known) }
-    ensures before { IsSound (state S.Store records.new.conn) → IsSound (state S.Store records.old.conn) }
-    ensures unchanged { (version number : _) → IsSound (state S.Store records.new.conn) → HoldsRecords version number (state S.Store records.old.conn).committed → (state S.Store records.new.conn).committed ≡ (state S.Store records.old.conn).committed }
-    ensures spelled { (version number : _) → IsSound (state S.Store records.new.conn) → HoldsRecords version number (state S.Store records.old.conn).committed → IfOk result (λ site. SpellStates (new_states (state S.Store records.old.conn).committed) site.states) }
-    ensures full { (version number : _) → IsSound (state S.Store records.new.conn) → HoldsRecords version number (state S.Store records.old.conn).committed → IfErr result (λ e. e ≡ Refusal.Full → HoldsTooMany config.max_keys (state S.Store records.old.conn).committed × AreInOrder 2 (old_states (state S.Store records.old.conn).committed) (new_states (state S.Store records.old.conn).committed)) }
-    ensures order { (version number : _) → IsSound (state S.Store records.new.conn) → HoldsRecords version number (state S.Store records.old.conn).committed → MatchResult result
-        (λ _. AreInOrder 2 (old_states (state S.Store records.old.conn).committed) (new_states (state S.Store records.old.conn).committed))
-        (λ e. e ≡ Refusal.Damaged → ¬ AreInOrder 2 (old_states (state S.Store records.old.conn).committed) (new_states (state S.Store records.old.conn).committed)) }
-    ensures refusal { IfErr result (λ e. (e ≡ Refusal.Damaged) ⊎ ((e ≡ Refusal.Full) ⊎ ((e ≡ Refusal.Memory) ⊎ (e ≡ Refusal.Store)))) }
+    ensures config { IfOk result (IsFresh config) }
+    ensures stands { IfOk result HasWrites }
+    ensures before { WereSound S.Store records.old records.new }
+    ensures unchanged { LoadsOnly S.Store records.old records.new }
+    ensures spelled { LoadsStates S.Store records.old result records.new }
+    ensures full { LoadsFull S.Store config records.old result records.new }
+    ensures order { LoadsOrder S.Store records.old result records.new }
+    ensures refusal { IfErr result IsUnloaded }
     ensures version { records.new.version ≡ records.old.version }
 {
     let pairs = match records.load_all() {
@@ -99,8 +94,8 @@ fn load<S: Alter>(alloc: Global, records: &mut Records<S>, config: Config) -> Re
 /// The spelling in version 2 of a state that version 1 spells so.
 fn respelled(alloc: Global, bytes: &[u8]) -> Result<Vec<u8>, Refusal>
     ensures spelled { IfOk result (λ spelled. Respells bytes.now spelled.items) }
-    ensures damaged { IfErr result (λ e. e ≡ Refusal.Damaged → ¬ IsOldStored bytes.now) }
-    ensures refusal { IfErr result (λ e. (e ≡ Refusal.Damaged) ⊎ (e ≡ Refusal.Memory)) }
+    ensures damaged { IfDamaged result (¬ IsOldStored bytes.now) }
+    ensures refusal { IfErr result IsUnread }
 {
     let state = match decode_old_state(alloc, bytes) {
         Ok(state) => state,
@@ -117,15 +112,12 @@ fn respelled(alloc: Global, bytes: &[u8]) -> Result<Vec<u8>, Refusal>
 
 /// Moves the keys of version 1, one after the other. After a refusal those moved stay moved, and the next call goes on.
 fn migrate<S: Alter>(alloc: Global, records: &mut Records<S>) -> Result<(), Refusal>
-    ensures before { IsSound (state S.Store records.new.conn) → IsSound (state S.Store records.old.conn) }
-    ensures moved { (number : _) → IsSound (state S.Store records.new.conn) → HoldsRecords records.old.version number (state S.Store records.old.conn).committed → MatchResult result (λ _. HoldsRecords 2 number (state S.Store records.new.conn).committed) (λ _. HoldsRecords records.old.version number (state S.Store records.new.conn).committed) }
-    // The key states that the two maps spell are the same, also after a refusal.
-    ensures states { (number : _) → IsSound (state S.Store records.new.conn) → HoldsRecords records.old.version number (state S.Store records.old.conn).committed → SameStates (state S.Store records.old.conn).committed (state S.Store records.new.conn).committed }
-    ensures order { (number : _) → IsSound (state S.Store records.new.conn) → HoldsRecords records.old.version number (state S.Store records.old.conn).committed → MatchResult result
-        (λ _. Migrates records.old.version (state S.Store records.old.conn).committed (state S.Store records.new.conn).committed)
-        (λ e. e ≡ Refusal.Damaged → ¬ AreInOrder records.old.version (old_states (state S.Store records.old.conn).committed) (new_states (state S.Store records.old.conn).committed)) }
-    ensures alike { (number : _) → IsSound (state S.Store records.new.conn) → HoldsRecords records.old.version number (state S.Store records.old.conn).committed → IfErr result (λ _. AreInOrder records.old.version (old_states (state S.Store records.old.conn).committed) (new_states (state S.Store records.old.conn).committed) ↔ AreInOrder records.old.version (old_states (state S.Store records.new.conn).committed) (new_states (state S.Store records.new.conn).committed)) }
-    ensures refusal { IfErr result (λ e. (e ≡ Refusal.Damaged) ⊎ ((e ≡ Refusal.Memory) ⊎ (e ≡ Refusal.Store))) }
+    ensures before { WereSound S.Store records.old records.new }
+    ensures moved { MovesVersion S.Store records.old result records.new }
+    ensures states { MovesStates S.Store records.old records.new }
+    ensures order { MovesAll S.Store records.old result records.new }
+    ensures alike { MovesAlike S.Store records.old result records.new }
+    ensures refusal { IfErr result IsUnmoved }
     ensures version { IfOk result (λ _. records.new.version ≡ 2) }
 {
     let pairs = match records.load_old() {
@@ -151,18 +143,16 @@ pub fn site_in<S: Alter>(
     records: &mut Records<S>,
     config: Config,
 ) -> Result<Site, Refusal>
-    ensures config { IfOk result (λ site. (site.config ≡ config) × (site.broken ≡ false)) }
-    ensures stands { IfOk result (λ site. (known : List Write) × Stands site.states known) }
-    ensures before { IsSound (state S.Store records.new.conn) → IsSound (state S.Store records.old.conn) }
-    ensures holds { (number : _) → IsSound (state S.Store records.new.conn) → HoldsRecords records.old.version number (state S.Store records.old.conn).committed → IfOk result (λ site. HoldsRecords 2 number (state S.Store records.new.conn).committed × SpellStates (new_states (state S.Store records.new.conn).committed) site.states) }
-    ensures states { (number : _) → IsSound (state S.Store records.new.conn) → HoldsRecords records.old.version number (state S.Store records.old.conn).committed → SameStates (state S.Store records.old.conn).committed (state S.Store records.new.conn).committed }
-    ensures alone { (number : _) → IsSound (state S.Store records.new.conn) → HoldsRecords records.old.version number (state S.Store records.old.conn).committed → IfOk result (λ _. HasNone (old_states (state S.Store records.new.conn).committed)) }
-    ensures full { (number : _) → IsSound (state S.Store records.new.conn) → HoldsRecords records.old.version number (state S.Store records.old.conn).committed → IfErr result (λ e. e ≡ Refusal.Full → HoldsTooMany config.max_keys (state S.Store records.new.conn).committed × AreInOrder records.old.version (old_states (state S.Store records.old.conn).committed) (new_states (state S.Store records.old.conn).committed)) }
-    ensures order { (number : _) → IsSound (state S.Store records.new.conn) → HoldsRecords records.old.version number (state S.Store records.old.conn).committed → MatchResult result
-        (λ _. AreInOrder records.old.version (old_states (state S.Store records.old.conn).committed) (new_states (state S.Store records.old.conn).committed))
-        (λ e. e ≡ Refusal.Damaged → ¬ AreInOrder records.old.version (old_states (state S.Store records.old.conn).committed) (new_states (state S.Store records.old.conn).committed)) }
-    ensures resumes { (number : _) → IsSound (state S.Store records.new.conn) → HoldsRecords records.old.version number (state S.Store records.old.conn).committed → Resumes records.old.version number (state S.Store records.old.conn).committed (state S.Store records.new.conn).committed }
-    ensures refusal { IfErr result (λ e. (e ≡ Refusal.Damaged) ⊎ ((e ≡ Refusal.Full) ⊎ ((e ≡ Refusal.Memory) ⊎ (e ≡ Refusal.Store)))) }
+    ensures config { IfOk result (IsFresh config) }
+    ensures stands { IfOk result HasWrites }
+    ensures before { WereSound S.Store records.old records.new }
+    ensures holds { FindsStates S.Store records.old result records.new }
+    ensures states { MovesStates S.Store records.old records.new }
+    ensures alone { FindsNone S.Store records.old result records.new }
+    ensures full { FindsFull S.Store config records.old result records.new }
+    ensures order { FindsOrder S.Store records.old result records.new }
+    ensures resumes { FindsAgain S.Store records.old records.new }
+    ensures refusal { IfErr result IsUnloaded }
     ensures version { IfOk result (λ _. records.new.version ≡ 2) }
 {
     if records.version() == 2 {

@@ -1,9 +1,5 @@
 //! The answering of one connection.
-ghost use Rattle.std.specs.Prelude.{◌≡◌};
-ghost use Rattle.mvd_records.specs.Records.{IsSound};
-ghost use Rattle.mvd_replica.specs.Kept.{HoldsSite};
-ghost use Rattle.mvd_replica.specs.Served.{Served, Side};
-ghost use Rattle.sqlite.specs.Held.{state};
+ghost use Rattle.mvd_replica.specs.Served.{Served, side_of};
 
 use crate::replica::Replica;
 use crate::turns::{stop, take_turn};
@@ -24,22 +20,19 @@ pub enum Ended {
 /// As many frames of a connection are answered.
 pub const FRAMES_MAX: u32 = 1_000_000;
 
-/// Answers the frames of one connection, one after the other, until its Bye or its end. Any other end is a refusal: `Truncated`,
-/// `FrameTooLong`, `ReadFailed` or `Memory` while a frame is read, `TooManyRequests` after as many as there may be, each told in one
-/// frame more; or `WriteFailed`, after which nothing more is written.
+/// Answers the frames of one connection, one after the other, until its Bye or its end. Any other end
+/// is a refusal: `Truncated`, `FrameTooLong`, `ReadFailed` or `Memory` while a frame is read,
+/// `TooManyRequests` after as many as there may be, each told in one frame more; or `WriteFailed`,
+/// after which nothing more is written.
 pub fn serve<R: Read, W: Write, S: Alter>(
     alloc: Global,
     reader: &mut R,
     writer: &mut W,
     replica: &mut Replica<S>,
 ) -> Result<Ended, Refusal>
-    ensures served { Served
-        (record { site = replica.old.site; store = state S.Store replica.old.records.conn; input = R.remaining reader.old; output = W.contents writer.old })
-        (record { site = replica.new.site; store = state S.Store replica.new.records.conn; input = R.remaining reader.new; output = W.contents writer.new }) result }
-    // The records follow the states.
-    ensures before { IsSound (state S.Store replica.new.records.conn) → IsSound (state S.Store replica.old.records.conn) }
-    ensures records { IsSound (state S.Store replica.new.records.conn) → HoldsSite replica.old.site (state S.Store replica.old.records.conn).committed → HoldsSite replica.new.site (state S.Store replica.new.records.conn).committed }
-    ensures config { replica.new.site.config ≡ replica.old.site.config }
+    ensures { Served
+        (side_of replica.old (R.remaining reader.old) (W.contents writer.old))
+        (side_of replica.new (R.remaining reader.new) (W.contents writer.new)) result }
 {
     for _frame in 0..FRAMES_MAX {
         match take_turn(alloc, reader, writer, replica) {

@@ -1,20 +1,11 @@
 //! A replica as a side of a session.
-ghost use Rattle.std.specs.Prelude.{◌≡◌, ◌≢◌, ◌⊎◌, false, true, Ok, Err, IfErr, IfOk, IsTrue, OnErr, OnOk, Some};
+ghost use Rattle.std.specs.Prelude.{◌≡◌, false, Some, IfErr, IfOk, OnErr};
 ghost use Rattle.std.specs.Option.{option_copied};
 ghost use Rattle.std.proofs.Common.{ap};
-ghost use Rattle.mvd_dots.specs.declared.refusals.Refusal.TheVariants.{Broken, Memory};
-ghost use Rattle.mvd_keys.specs.State.{clashes};
-ghost use Rattle.mvd_tree.specs.Page.{is_more_after_page, page_of};
-ghost use Rattle.mvd_wire.specs.declared.request.Request.TheVariants.{Push};
-ghost use Rattle.mvd_site.specs.Answer.{digests, node_digests};
-ghost use Rattle.mvd_records.specs.Records.{IsSound};
-ghost use Rattle.mvd_replica.specs.Kept.{HoldsSite, HoldsStates};
-ghost use Rattle.sqlite.specs.State.{HasCleanDisk};
-ghost use Rattle.mvd_site.specs.FromStates.{after_from, bucket_refusal, push_reply, unless_broken};
-ghost use Rattle.mvd_site.specs.Held.{state_at};
-ghost use Rattle.mvd_sync.specs.Session.{pushed};
-ghost use Rattle.mvd_sync.specs.Windows.{CannotTake};
-ghost use Rattle.sqlite.specs.Held.{state as store};
+ghost use Rattle.mvd_replica.specs.ReplicaCalls.{TellsPage, TellsState, node_told};
+ghost use Rattle.mvd_replica.specs.SideCalls.{EndsWindow, IsTrueUnlessBroken, IsWindowRefusal, PushesOnSide};
+ghost use Rattle.mvd_replica.specs.SideCalls.{PushesSome, PushesWindow, TellsWindow};
+ghost use Rattle.mvd_sync.specs.Sides.{is_of_key};
 
 use crate::pushes::{add_told, pushes_of};
 use crate::replica::Replica;
@@ -25,26 +16,28 @@ use mvd_wire::Digests;
 use sqlite::Alter;
 use std::alloc::Global;
 
-/// A replica is true to the states of its keys as long as it is not broken. What `follows` says of its records holds after any
-/// calls of a session. Many pushes share a commit.
+/// A replica is true to the states of its keys as long as it is not broken. What `follows` says of its
+/// records holds after any calls of a session. Many pushes share a commit.
 impl<S: Alter> Peer for Replica<S> {
-    ghost use Rattle.mvd_replica.specs.Sides.{AnswersFromStored, IsTrueSite, ReplicaRefuses, SideFollows, side_follows_on, side_follows_self};
+    ghost use Rattle.mvd_replica.specs.Replicas.{site_of, store_of};
+    ghost use Rattle.mvd_replica.specs.Sides.{IsTrueSite, ReplicaRefuses, SideFollows};
+    ghost use Rattle.mvd_replica.specs.Sides.{side_follows_on, side_follows_self};
 
-    ghost states = { λ replica. replica.site.states };
+    ghost states = { λ replica. (site_of replica).states };
 
-    ghost is_faithful = { λ replica. IsTrueSite replica.site };
+    ghost is_faithful = { λ replica. IsTrueSite (site_of replica) };
 
     ghost can_give = { λ _ _. Unit {0} };
 
-    ghost follows = { λ _ old new. SideFollows old.site new.site (store S.Store old.records.conn) (store S.Store new.records.conn) };
+    ghost follows = { λ _ old new. SideFollows (site_of old) (site_of new) (store_of old) (store_of new) };
 
-    ghost can_refuse = { λ replica refusal. ReplicaRefuses replica.site refusal };
+    ghost can_refuse = { λ replica refusal. ReplicaRefuses (site_of replica) refusal };
 
-    ghost can_answer = { λ replica. replica.site.broken ≡ false };
+    ghost can_answer = { λ replica. (site_of replica).broken ≡ false };
 
-    ghost most_keys = { λ replica. replica.site.config.max_keys };
+    ghost most_keys = { λ replica. (site_of replica).config.max_keys };
 
-    ghost number = { λ replica. Some replica.site.config.site };
+    ghost number = { λ replica. Some (site_of replica).config.site };
 
     ghost in_form = { λ _ whole. whole.1 };
 
@@ -63,47 +56,28 @@ impl<S: Alter> Peer for Replica<S> {
     }
 
     fn node(&mut self, path: &Path) -> Result<Digests, Refusal>
-        ensures told { result ≡ unless_broken self.old.site.broken (Err Broken) (Ok (node_digests (digests self.old.site.states) path.now)) }
+        ensures told { result ≡ node_told (site_of self.old) path.now }
         ensures same { self.new ≡ self.old }
     {
         Replica::node(self, path)
     }
 
     fn bucket(&mut self, path: &Path, after: Option<&Key>) -> Result<Page, Refusal>
-        ensures whole { IfOk result (λ _. self.old.site.broken ≡ false) }
-        ensures page { IfOk result (λ page. page.0.items ≡ page_of (digests self.old.site.states) path.now (option_copied after.entry)) }
-        ensures more { IfOk result (λ page. page.1 ≡ is_more_after_page (digests self.old.site.states) path.now (option_copied after.entry)) }
-        ensures refused { IfErr result (λ refusal. refusal ≡ bucket_refusal self.old.site.broken path.now) }
+        ensures told { TellsPage (site_of self.old) path.now (option_copied after.entry) result }
         ensures same { self.new ≡ self.old }
     {
         Replica::bucket(self, path, after)
     }
 
     fn get(&mut self, key: &Key) -> Result<KeyState, Refusal>
-        ensures whole { IfOk result (λ _. self.old.site.broken ≡ false) }
-        ensures state { IfOk result (λ state. state ≡ state_at self.old.site.states key.now) }
-        ensures refused { IfErr result (λ refusal. refusal ≡ unless_broken self.old.site.broken Broken Memory) }
+        ensures told { TellsState (site_of self.old) key.now result }
         ensures same { self.new ≡ self.old }
     {
         Replica::get(self, key)
     }
 
     fn push(&mut self, key: &Key, state: &KeyState) -> Result<(), Refusal>
-        ensures answer { AnswersFromStored self.old.site self.new.site (Push key.now state.now) (push_reply result) }
-        ensures stays { self.old.site.broken ≡ true → (result ≡ Err Broken) × (self.new ≡ self.old) }
-        ensures still { after_from self.old.site.config self.old.site.states (Push key.now state.now) ≡ self.old.site.states → self.new ≡ self.old }
-        ensures taken { HasCleanDisk (store S.Store self.new.records.conn) → IsTrue (store S.Store self.new.records.conn).is_open ⊎ (self.new.site ≡ self.old.site) }
-        ensures unstored { IfErr result (λ refusal. refusal ≢ Broken → IsSound (store S.Store self.new.records.conn) → (store S.Store self.new.records.conn).committed ≡ (store S.Store self.old.records.conn).committed) }
-        ensures stored { IsSound (store S.Store self.new.records.conn) → HoldsSite self.old.site (store S.Store self.old.records.conn).committed → self.old.site.broken ≡ false → result ≡ Err Broken →
-            HoldsStates self.old.site.config.site (after_from self.old.site.config self.old.site.states (Push key.now state.now)) (store S.Store self.new.records.conn).committed }
-        ensures ok { IsTrueSite self.old.site → OnOk result (IsTrueSite self.new.site × (self.new.site.states ≡ pushed self.old.site.states key.now state.now)) }
-        ensures apart { IsTrueSite self.old.site → OnOk result (clashes (state_at self.old.site.states key.now) state.now ≡ false) }
-        ensures refused { IsTrueSite self.old.site → IfErr result (λ _. self.new.site.states ≡ self.old.site.states) }
-        ensures unbroken { IsTrueSite self.old.site → IfErr result (λ refusal. refusal ≢ Broken → IsTrueSite self.new.site) }
-        ensures cause { IsTrueSite self.old.site → IfErr result (CannotTake self.old.site.config.max_keys self.old.site.states key.now state.now) }
-        ensures follows { SideFollows self.old.site self.new.site (store S.Store self.old.records.conn) (store S.Store self.new.records.conn) }
-        ensures refuses { IfErr result (ReplicaRefuses self.new.site) }
-        ensures answers { OnOk result (self.new.site.broken ≡ false) }
+        ensures { PushesOnSide self.old key.now state.now result self.new }
     {
         // Here it is known that the pushed state's siblings have been seen, and then what holds of any site.
         let _seen = state.context();
@@ -112,8 +86,18 @@ impl<S: Alter> Peer for Replica<S> {
         let _held = self.key_count();
         pushed
     }
+
     /// It makes one commit of as many pushes as do not see each other, up to 1,024.
-    fn push_all(&mut self, pairs: &[(Key, KeyState)]) -> Result<Vec<Result<(), Refusal>>, Refusal> {
+    fn push_all(&mut self, pairs: &[(Key, KeyState)]) -> Result<Vec<Result<(), Refusal>>, Refusal>
+        ensures told { IfOk result (TellsWindow self.old pairs.now self.new) }
+        ensures pushes { IsTrueSite (site_of self.old) → IfOk result (PushesWindow self.old pairs.now self.new) }
+        ensures ended { IfErr result (EndsWindow self.old pairs.now self.new) }
+        // It is refused for want of memory, or by a replica that is broken then.
+        ensures refusal { IfErr result (IsWindowRefusal self.new) }
+        ensures not_of_key { IsTrueSite (site_of self.old) → IfErr result (λ refusal. is_of_key refusal ≡ false) }
+        ensures unbroken { IsTrueSite (site_of self.old) → IfErr result (IsTrueUnlessBroken self.new) }
+        ensures first { IsTrueSite (site_of self.old) → OnErr result (PushesSome self.old pairs.now self.new) }
+    {
         let _held_before = self.key_count();
         let mut told = Vec::with_capacity(self.alloc, pairs.len())?;
         let requests = pushes_of(self.alloc, pairs)?;

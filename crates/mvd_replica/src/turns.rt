@@ -1,17 +1,11 @@
 //! One frame of a connection.
-ghost use Rattle.std.specs.Prelude.{◌≡◌, if◌then◌else◌, Ok, Err, true, false};
-ghost use Rattle.mvd_dots.specs.declared.refusals.Refusal.TheVariants.{Broken, WriteFailed};
+ghost use Rattle.std.specs.Prelude.{◌≡◌, if◌then◌else◌, true, false};
+ghost use Rattle.mvd_dots.specs.declared.refusals.Refusal.TheVariants.{Broken};
 ghost use Rattle.mvd_wire.specs.declared.request.Request.TheVariants.{Bye};
-ghost use Rattle.mvd_wire.specs.declared.reply.Reply.{Reply};
 ghost use Rattle.mvd_wire.specs.declared.reply.Reply.TheVariants.{Done, Refused};
-ghost use Rattle.mvd_wire.specs.Requests.{request_of};
 ghost use Rattle.mvd_wire.specs.Replies.{CanBeSent, reply_bytes};
-ghost use Rattle.mvd_records.specs.Records.{IsSound};
-ghost use Rattle.mvd_replica.specs.Kept.{HoldsSite};
-ghost use Rattle.mvd_replica.specs.Sides.{ReplicaFollows};
-ghost use Rattle.mvd_replica.specs.Served.{GoesOut, Side};
-ghost use Rattle.mvd_replica.specs.Steps.{IsSent, TakesTurn, TellsFrame};
-ghost use Rattle.sqlite.specs.Held.{state};
+ghost use Rattle.mvd_replica.specs.Served.{side_of};
+ghost use Rattle.mvd_replica.specs.Steps.{AnswersFrame, FollowsFrame, SendsReply, StopsWith, TakesTurn};
 
 use crate::replica::Replica;
 use crate::serving::Ended;
@@ -26,7 +20,7 @@ use std::io::{Read, Write};
 
 /// Writes a Refused at the end of a connection, which ends with it, or with the writer's failure.
 pub fn stop<W: Write>(writer: &mut W, refusal: Refusal) -> Refusal
-    ensures { GoesOut (W.contents writer.old) (W.contents writer.new) (reply_bytes (Refused refusal)) WriteFailed result refusal }
+    ensures { StopsWith (W.contents writer.old) refusal result (W.contents writer.new) }
 {
     match write_frame(writer, Short::refused(refusal).bytes()) {
         Ok(()) => refusal,
@@ -37,7 +31,7 @@ pub fn stop<W: Write>(writer: &mut W, refusal: Refusal) -> Refusal
 /// Writes a reply, or want of memory in its place.
 fn send<W: Write>(alloc: Global, writer: &mut W, reply: &Reply) -> Result<(), Refusal>
     requires { CanBeSent reply.now }
-    ensures { (sent : Reply) × IsSent reply.now sent × GoesOut (W.contents writer.old) (W.contents writer.new) (reply_bytes sent) (Err WriteFailed) result (Ok tt) }
+    ensures { SendsReply (W.contents writer.old) reply.now result (W.contents writer.new) }
 {
     if let Some(short) = short_reply(reply) {
         return write_frame(writer, short.bytes());
@@ -71,11 +65,8 @@ fn is_bye(request: &Request) -> bool
 
 /// Answers a frame. It is `None` for a Bye.
 fn reply_to<S: Alter>(alloc: Global, replica: &mut Replica<S>, frame: &Frame) -> Option<Reply>
-    ensures told { TellsFrame (request_of frame.now.kind frame.now.payload.items) replica.old.site replica.new.site result }
-    ensures before { IsSound (state S.Store replica.new.records.conn) → IsSound (state S.Store replica.old.records.conn) }
-    ensures records { IsSound (state S.Store replica.new.records.conn) → HoldsSite replica.old.site (state S.Store replica.old.records.conn).committed → HoldsSite replica.new.site (state S.Store replica.new.records.conn).committed }
-    ensures config { replica.new.site.config ≡ replica.old.site.config }
-    ensures follows { ReplicaFollows (λ request. request_of frame.now.kind frame.now.payload.items ≡ Ok request) replica.old.site replica.new.site (state S.Store replica.old.records.conn) (state S.Store replica.new.records.conn) }
+    ensures told { AnswersFrame replica.old frame.now result replica.new }
+    ensures follows { FollowsFrame replica.old frame.now replica.new }
 {
     let request = match decode_request(alloc, frame.kind, &frame.payload) {
         Ok(request) => request,
@@ -94,12 +85,9 @@ pub fn take_turn<R: Read, W: Write, S: Alter>(
     writer: &mut W,
     replica: &mut Replica<S>,
 ) -> Result<Option<Ended>, Refusal>
-    ensures taken { TakesTurn
-        (record { site = replica.old.site; store = state S.Store replica.old.records.conn; input = R.remaining reader.old; output = W.contents writer.old })
-        (record { site = replica.new.site; store = state S.Store replica.new.records.conn; input = R.remaining reader.new; output = W.contents writer.new }) result }
-    ensures before { IsSound (state S.Store replica.new.records.conn) → IsSound (state S.Store replica.old.records.conn) }
-    ensures records { IsSound (state S.Store replica.new.records.conn) → HoldsSite replica.old.site (state S.Store replica.old.records.conn).committed → HoldsSite replica.new.site (state S.Store replica.new.records.conn).committed }
-    ensures config { replica.new.site.config ≡ replica.old.site.config }
+    ensures { TakesTurn
+        (side_of replica.old (R.remaining reader.old) (W.contents writer.old))
+        (side_of replica.new (R.remaining reader.new) (W.contents writer.new)) result }
 {
     let frame = match read_frame(alloc, reader) {
         Ok(Some(frame)) => frame,

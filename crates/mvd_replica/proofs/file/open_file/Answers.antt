@@ -11,44 +11,54 @@ image log db = record { log = log; db = db }
 abbrev seen : List ℕ → List ℕ → Bool → List Event → List ℕ
 seen log db is_log history = (replay (cond is_log log db) history).seen
 
-pub returns-in-Ok-open-clause-site : goal.returns-in-Ok-open-clause-site
-returns-in-Ok-open-clause-site g c = c.in-Ok-open.ensures.opens.is
-
-pub returns-in-Ok-open-clause-stands : goal.returns-in-Ok-open-clause-stands
-returns-in-Ok-open-clause-stands g c = c.in-Ok-open.ensures.opens.stands
-
-pub returns-in-Ok-open-clause-opens : goal.returns-in-Ok-open-clause-opens
-returns-in-Ok-open-clause-opens g c sound =
+pub returns-in-Ok-open : goal.returns-in-Ok-open
+returns-in-Ok-open g c =
     let it = c.in-Ok-open.ensures.opens in
-    let was = it.before sound in
-    let found = found_in _ _ (c.in-Ok.ensures.found was.clean) ((c.in-Ok.ensures.opened was.clean).1 was.is_open).1 in
     record {
-      was = _;
-      found = found;
-      opened = it.opened sound;
-      own = λ foreign. it.own (record { foreign = foreign; autocommit = c.in-Ok.ensures.fresh.autocommit; is_open = was.is_open });
-      just = just_held _ _ _ _ _ found (it.opened sound);
-    }
-
-pub returns-in-Err-clause-refused : goal.returns-in-Err-clause-refused
-returns-in-Err-clause-refused g c =
-    fails_opening _ c.args.config c.in-Err.error c.in-Err.ensures.named c.in-Err.left c.in-Err.ensures.unopened
-    (IfSome_then c.in-Err.left c.in-Err.ensures.cause (λ left it. (
-    let log = it.1 in
-    let db = it.2 in
-    let same = ap₂ image (ap₂ (seen g.S.Start.log g.S.Start.db) log.0 log.1) (ap₂ (seen g.S.Start.log g.S.Start.db) db.0 db.1) in
-    (it.0, λ clean. (same, (it.3 clean).0, (it.3 clean).1)))))
-
-pub returns-in-Err-open-clause-refused : goal.returns-in-Err-open-clause-refused
-returns-in-Err-open-clause-refused g c =
-    let it = c.in-Err-open.ensures.opens in (
-      it.refusal,
-      λ sound. (
+      site = it.is;
+      stands = it.stands;
+      opens = λ sound. (
           let was = it.before sound in
+          let found = found_in _ _ (c.in-Ok.ensures.found was.clean) ((c.in-Ok.ensures.opened was.clean).1 was.is_open).1 in
           record {
             was = _;
-            found = found_in _ _ (c.in-Ok.ensures.found was.clean) ((c.in-Ok.ensures.opened was.clean).1 was.is_open).1;
-            refused = it.refused sound;
-            foreign = λ foreign. it.foreign (record { foreign = foreign; autocommit = c.in-Ok.ensures.fresh.autocommit; is_open = was.is_open });
-          }),
-    )
+            found = found;
+            opened = it.opened sound;
+            own = λ foreign. it.own (record { foreign = foreign; autocommit = c.in-Ok.ensures.fresh.autocommit; is_open = was.is_open });
+            just = just_held _ _ _ _ _ found (it.opened sound);
+          });
+      refused = tt;
+    }
+
+pub returns-in-Err : goal.returns-in-Err
+returns-in-Err g c = record {
+  site = tt;
+  stands = tt;
+  opens = tt;
+  refused = fails_opening _ c.args.config c.in-Err.error c.in-Err.ensures.named c.in-Err.left c.in-Err.ensures.unopened
+      (IfSome_then c.in-Err.left c.in-Err.ensures.cause (λ left it. (
+      let log = it.1 in
+      let db = it.2 in
+      let same = ap₂ image (ap₂ (seen g.S.Start.log g.S.Start.db) log.0 log.1) (ap₂ (seen g.S.Start.log g.S.Start.db) db.0 db.1) in
+      (it.0, λ clean. (same, (it.3 clean).0, (it.3 clean).1)))));
+}
+
+pub returns-in-Err-open : goal.returns-in-Err-open
+returns-in-Err-open g c =
+    let it = c.in-Err-open.ensures.opens in
+    record {
+      site = tt;
+      stands = tt;
+      opens = tt;
+      refused = (
+        it.refusal,
+        λ sound. (
+            let was = it.before sound in
+            record {
+              was = _;
+              found = found_in _ _ (c.in-Ok.ensures.found was.clean) ((c.in-Ok.ensures.opened was.clean).1 was.is_open).1;
+              refused = it.refused sound;
+              foreign = λ foreign. it.foreign (record { foreign = foreign; autocommit = c.in-Ok.ensures.fresh.autocommit; is_open = was.is_open });
+            }),
+      );
+    }

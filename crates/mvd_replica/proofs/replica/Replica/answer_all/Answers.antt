@@ -1,4 +1,5 @@
 use Rattle.std.proofs.Common.{ap, length, take, sym, subst, arith}
+use Rattle.std.proofs.lemmas.List.{take_all}
 use Rattle.sqlite.specs.Held.{state}
 use Rattle.mvd_replica.specs.Batch.{AnswersAll}
 use Rattle.mvd_replica.proofs.Batched.{AnswersAll-none, front_answers, front_grows, front_of, front_within}
@@ -40,3 +41,10 @@ groups-smaller g c =
     let grows = front_grows requests told given c.args.self.now.site c.groups.self.site c.answer_front.new.self.site (state g.S.Store c.args.self.now.records.conn) (state g.S.Store c.groups.self.records.conn)
     (state g.S.Store c.answer_front.new.self.records.conn) c.groups.invariant.within c.groups.invariant.answers front in
     omega (arith, grows, c.groups-test.true, c.len.ensures, c.groups.replies.ok.0)
+
+pub returns : goal.returns
+returns g c = record {
+  answers = subst (λ l. AnswersAll l c.groups.replies.items c.args.self.now.site c.groups.self.site (state g.S.Store c.args.self.now.records.conn) (state g.S.Store c.groups.self.records.conn))
+      (take_all (length c.groups.replies.items) c.args.requests.now (omega (arith, c.groups-test.false, c.len.ensures, c.groups.replies.ok.0))) c.groups.invariant.answers;
+  memory = tt;
+}

@@ -1,18 +1,16 @@
-use Rattle.std.proofs.Common.{ap}
-use Rattle.sqlite.specs.Held.{state}
-use Rattle.mvd_replica.proofs.Sides.{follows_by, follows_made, survives_made}
-use Rattle.mvd_replica.proofs.Stops.{survives_self}
+use Rattle.std.proofs.Common.{◌∙◌, refl, sym}
+use Rattle.mvd_site.proofs.Outcomes.{must_be_memory}
+use Rattle.mvd_replica.proofs.ReplicaLemmas.{push_answered, push_broken, push_unmade}
 use Rattle.mvd_replica.proofs.replica.Replica.push.Goals as goal
 
-pub returns-clause-follows : goal.returns-clause-follows
-returns-clause-follows g c =
-    follows_made _ _ _ _ _ _ c.in-Ok.ensures
-    (follows_by c.args.self.now.site c.answer-reply.new.self.site c.in-Ok.request c.answer-reply.result (state g.S.Store c.args.self.now.records.conn) (state g.S.Store c.answer-reply.new.self.records.conn)
-    c.answer-reply.ensures.config (λ broken. ap (λ r. r.site) (c.answer-reply.ensures.stays broken)) (λ broken. ap (λ r. (state g.S.Store r.records.conn).committed) (c.answer-reply.ensures.stays broken))
-    c.answer-reply.ensures.before c.answer-reply.ensures.records c.answer-reply.ensures.clean c.answer-reply.ensures.taken c.answer-reply.ensures.broken c.answer-reply.ensures.states c.answer-reply.ensures.stored)
+pub returns-then-is_broken : goal.returns-then-is_broken
+returns-then-is_broken g c = push_broken c.args.self.now c.args.key.now c.args.pushed.now (sym c.is_broken.ensures ∙ c.if-is_broken.true)
 
-pub returns-clause-survives : goal.returns-clause-survives
-returns-clause-survives g c = survives_made _ _ _ _ _ c.in-Ok.ensures c.answer-reply.ensures.survives
+pub returns-in-Err : goal.returns-in-Err
+returns-in-Err g c =
+    push_unmade c.args.self.now c.args.key.now c.args.pushed.now c.in-Err.refusal (sym c.is_broken.ensures ∙ c.if-is_broken.false) (must_be_memory c.in-Err.refusal _ _ refl c.in-Err.ensures)
 
-pub returns-in-Err-clause-survives : goal.returns-in-Err-clause-survives
-returns-in-Err-clause-survives g c = survives_self _ _
+pub returns : goal.returns
+returns g c =
+    push_answered c.args.self.now c.answer-reply.new.self c.args.key.now c.args.pushed.now c.in-Ok.request c.answer-reply.result c.accepted.result
+    (sym c.is_broken.ensures ∙ c.if-is_broken.false) c.context-seen.ensures.valid c.in-Ok.ensures c.accepted.ensures.accepts c.answer-reply.ensures

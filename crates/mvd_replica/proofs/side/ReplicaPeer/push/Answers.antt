@@ -1,26 +1,35 @@
-use Rattle.mvd_sync.proofs.SiteSides.{push_ok, push_refused}
+use Rattle.std.proofs.Common.{◌≡◌, false, Result, Ok, Err, ap}
+use Rattle.std.specs.Result.{OnOk}
+use Rattle.mvd_dots.specs.declared.refusals.Refusal.{Refusal}
+use Rattle.mvd_site.specs.Config.{ConfigValue}
+use Rattle.mvd_site.specs.Held.{States}
+use Rattle.mvd_site.specs.Sites.{SiteValue}
+use Rattle.mvd_sync.proofs.SiteSides.{push_ok, push_refused, push_unbroken}
 use Rattle.mvd_replica.proofs.Pushed.{cause_stored, follows_push}
 use Rattle.mvd_replica.proofs.Sides.{push_comes, push_refuses}
 use Rattle.mvd_replica.proofs.side.ReplicaPeer.push.Goals as goal
 
-pub returns-clause-ok : goal.returns-clause-ok
-returns-clause-ok g c whole =
-    push_ok c.args.self.now.site c.push-pushed.new.self.site c.args.key.now c.args.state.now whole c.key_count-held.ensures.held c.push-pushed.result c.context-seen.ensures.valid c.push-pushed.ensures.joined
+whole_after : (new : SiteValue) (config : ConfigValue) (states : States) (r : Result (Unit {0}) Refusal) → OnOk r (new ≡ record { config = config; states = states; broken = false }) → OnOk r (new.broken ≡ false)
+whole_after new config states (Ok done) is = ap (λ (s : SiteValue). s.broken) is
+whole_after new config states (Err refusal) is = tt
 
-pub returns-clause-refused : goal.returns-clause-refused
-returns-clause-refused g c whole =
-    push_refused c.args.self.now.site c.push-pushed.new.self.site c.args.key.now c.args.state.now whole c.key_count-held.ensures.held c.push-pushed.result c.push-pushed.ensures.unchanged c.push-pushed.ensures.told
-
-pub returns-clause-cause : goal.returns-clause-cause
-returns-clause-cause g c whole =
-    cause_stored c.args.self.now.site c.push-pushed.new.self.site c.args.key.now c.args.state.now whole.0 c.push-pushed.result c.push-pushed.ensures.answer
-
-pub returns-clause-refuses : goal.returns-clause-refuses
-returns-clause-refuses g c =
-    push_refuses c.args.self.now.site c.push-pushed.new.self.site c.args.key.now c.args.state.now c.push-pushed.result c.push-pushed.ensures.answer c.push-pushed.ensures.told (λ broken. (c.push-pushed.ensures.stays broken).0)
-
-pub returns-clause-follows : goal.returns-clause-follows
-returns-clause-follows g c =
-    follows_push c.args.key.now c.args.state.now _ _ _ _ c.push-pushed.ensures.follows
-    (push_comes c.args.self.now.site c.push-pushed.new.self.site c.args.key.now c.args.state.now c.push-pushed.result c.key_count-held_before.ensures.held c.context-seen.ensures.valid c.push-pushed.ensures.joined
-    c.push-pushed.ensures.unchanged c.push-pushed.ensures.told)
+pub returns : goal.returns
+returns g c =
+    let old = c.args.self.now.site in
+    let new = c.push-pushed.new.self.site in
+    let key = c.args.key.now in
+    let given = c.args.state.now in
+    let result = c.push-pushed.result in
+    let it = c.push-pushed.ensures in
+    record {
+      push = it;
+      ok = λ whole. push_ok old new key given whole c.key_count-held.ensures.held result c.context-seen.ensures.valid it.joined;
+      apart = λ _. it.agreed;
+      refused = λ whole. push_refused old new key given whole c.key_count-held.ensures.held result it.unchanged it.told;
+      unbroken = λ whole. push_unbroken old new key given whole c.key_count-held.ensures.held result it.unchanged;
+      cause = λ whole. cause_stored old new key given whole.0 result it.answer;
+      follows = follows_push key given _ _ _ _ it.follows
+          (push_comes old new key given result c.key_count-held_before.ensures.held c.context-seen.ensures.valid it.joined it.unchanged it.told);
+      refuses = push_refuses old new key given result it.answer it.told (λ broken. (it.stays broken).0);
+      answers = whole_after new old.config _ result it.joined;
+    }

@@ -1,0 +1,212 @@
+-- What each call of a replica does: one relation for a call, over the replica before it, what it was called with, what it returned,
+-- and the replica after it.
+use Rattle.std.specs.Prelude.{◌≡◌, ◌≢◌, Bool, false, true, ℕ, List, [], ◌++◌, length, Option, Vec, Result, Ok, Err, IfErr, IfOk, OnOk, MatchResult}
+use Rattle.std.specs.declared.alloc.Global.{Global}
+use Rattle.mvd_dots.specs.declared.refusals.Refusal.{Refusal}
+use Rattle.mvd_dots.specs.declared.refusals.Refusal.TheVariants.{Broken, Damaged, DotClash, Memory, Store}
+use Rattle.mvd_keys.specs.State.{IsValid, State, clashes, join}
+use Rattle.mvd_keys.specs.Writes.{Key, Write}
+use Rattle.mvd_tree.specs.HashTree.{node_digest}
+use Rattle.mvd_tree.specs.Page.{is_more_after_page, page_of}
+use Rattle.mvd_wire.specs.declared.reply.Digests.{Digests}
+use Rattle.mvd_wire.specs.declared.reply.Reply.{Reply}
+use Rattle.mvd_wire.specs.declared.reply.Reply.TheVariants.{Refused}
+use Rattle.mvd_wire.specs.declared.request.Request.{Request}
+use Rattle.mvd_wire.specs.declared.request.Request.TheVariants.{Push}
+use Rattle.mvd_wire.specs.Replies.{CanBeSent}
+use Rattle.mvd_records.specs.Foreign.{HoldsForeign}
+use Rattle.mvd_records.specs.Records.{HoldsRecords, IsSound}
+use Rattle.mvd_site.specs.Answer.{digests, node_digests}
+use Rattle.mvd_site.specs.Change.{ChangeValue}
+use Rattle.mvd_site.specs.Config.{ConfigValue}
+use Rattle.mvd_site.specs.FromStates.{after_from, bucket_refusal, push_reply, unless_broken, with_state}
+use Rattle.mvd_site.specs.Held.{state_at}
+use Rattle.mvd_site.specs.Installs.{broken_site}
+use Rattle.mvd_site.specs.Known.{Adds}
+use Rattle.mvd_site.specs.Sites.{SiteValue}
+use Rattle.sqlite.specs.Held.{Held, state}
+use Rattle.sqlite.specs.State.{Survives}
+use Rattle.sqlite_trees.specs.declared.store.Store.{Ghosts}
+use Rattle.mvd_replica.specs.declared.replica.Replica.{Replica}
+use Rattle.mvd_replica.specs.Batch.{AnswersAll, AnswersFront}
+use Rattle.mvd_replica.specs.Kept.{HoldsSite, HoldsStates, Stores}
+use Rattle.mvd_replica.specs.Opened.{IsOpened, IsRefused}
+use Rattle.mvd_replica.specs.Replicas.{KeepsCommit, RecordsFollow, TakesIfOpen, WasClean, WasSound, committed_of, conn_of, site_of, store_of}
+use Rattle.mvd_replica.specs.Sides.{AnswersFromStored, ReplicaFollows}
+use Rattle.mvd_replica.specs.Stops.{LeavesAnswered, LeavesChange}
+use Rattle.mvd_replica.specs.Turns.{AnswersStored}
+
+-- the request would change nothing
+abbrev pub ChangesNothing : SiteValue → Request → Type 0
+ChangesNothing site request = after_from site.config site.states request ≡ site.states
+
+-- ---- questions by reference
+
+-- the digests of a node and of its children, or 22 of a broken site
+abbrev pub node_told : SiteValue → List ℕ → Result Digests Refusal
+node_told site path = unless_broken site.broken (Err Broken) (Ok (node_digests (digests site.states) path))
+
+-- the digest of the root, or 22 of a broken site
+abbrev pub root_told : SiteValue → Result (List ℕ) Refusal
+root_told site = unless_broken site.broken (Err Broken) (Ok (node_digest (digests site.states) []))
+
+-- a page of a bucket's keys with their digests, after a key if one is given
+pub record TellsPage (site : SiteValue) (node : List ℕ) (after : Option Key) (result : Result (Vec (Key × List ℕ) Global × Bool) Refusal) : Type 0 where
+  -- a broken site gives none
+  pub whole : IfOk result (λ _. site.broken ≡ false)
+  -- it is of a bucket
+  pub path : IfOk result (λ _. length node ≡ 3)
+  -- the keys with their digests
+  pub keys : IfOk result (λ page. page.0.items ≡ page_of (digests site.states) node after)
+  -- whether more follow
+  pub more : IfOk result (λ page. page.1 ≡ is_more_after_page (digests site.states) node after)
+  -- 22 of a broken site, 14 where the path is of no bucket, 20 otherwise
+  pub refused : IfErr result (λ refusal. refusal ≡ bucket_refusal site.broken node)
+
+-- the state of a key, empty where the key is not held
+pub record TellsState (site : SiteValue) (key : Key) (result : Result State Refusal) : Type 0 where
+  -- a broken site gives none
+  pub whole : IfOk result (λ _. site.broken ≡ false)
+  -- the state that is held
+  pub state : IfOk result (λ s. s ≡ state_at site.states key)
+  -- 22 of a broken site, 20 otherwise
+  pub refused : IfErr result (λ refusal. refusal ≡ unless_broken site.broken Broken Memory)
+
+module _ {S : Type 0} {g : Ghosts S} where
+  -- ---- open, and the connection given back
+
+  -- the replica of the site that a database holds, or a refusal with the connection
+  pub record OpensReplica (conn : Held S) (config : ConfigValue) (result : Result (Replica S g) (Refusal × Held S)) : Type 0 where
+    -- the site that was opened, or the refusal, each with the store that it leaves
+    pub opens : MatchResult result (λ replica. IsOpened config (state g conn) (site_of replica) (store_of replica))
+        (λ refused. IsRefused config (state g conn) refused.0 (state g refused.1))
+    -- the connection to another program's database is given back as it was
+    pub foreign : HoldsForeign (state g conn) → result ≡ Err (Damaged, conn)
+
+  -- the connection of a replica
+  pub record GivesConnection (replica : Replica S g) (conn : Held S) : Type 0 where
+    -- it is the one that the records stood in
+    pub same : conn ≡ conn_of replica
+    -- what it held is what `open` then gives
+    pub holds : (site_of replica).broken ≡ false → HoldsSite (site_of replica) (committed_of replica) →
+        HoldsStates (site_of replica).config.site (site_of replica).states (state g conn).committed
+
+  -- ---- a change
+
+  -- where it breaks the site, the records hold the states that the site had, with what the request changes
+  abbrev pub StoresLost : Replica S g → Request → Type 0 → Replica S g → Type 0
+  StoresLost old request broke new =
+      IsSound (store_of new) → HoldsSite (site_of old) (committed_of old) → (site_of old).broken ≡ false → broke →
+      HoldsStates (site_of old).config.site (after_from (site_of old).config (site_of old).states request) (committed_of new)
+
+  -- a crash leaves what it left before the call, or the states with what the request changes
+  abbrev pub SurvivesRequest : Replica S g → Request → Replica S g → Type 0
+  SurvivesRequest old request new = Survives (store_of old) (store_of new) (LeavesAnswered (site_of old) request (store_of old))
+
+  -- the records stay a site's, and then hold the change, unless the store refused it
+  abbrev pub KeepsRecords : Replica S g → Replica S g → Type 0
+  KeepsRecords old new = (number : ℕ) → IsSound (store_of new) → HoldsRecords 2 number (committed_of old) → HoldsRecords 2 number (committed_of new)
+
+  abbrev pub StoresChange : {A : Type 0} → Replica S g → ChangeValue → Result A Refusal → Replica S g → Type 0
+  StoresChange old change result new =
+      (number : ℕ) → IsSound (store_of new) → HoldsRecords 2 number (committed_of old) → Stores (committed_of old) (committed_of new) change result
+
+  -- a change that the store refused leaves the last commit as it was
+  abbrev pub UnlessStored : {A : Type 0} → Replica S g → Result A Refusal → Replica S g → Type 0
+  UnlessStored old result new = IsSound (store_of new) → result ≡ Err Store → committed_of new ≡ committed_of old
+
+  -- a crash leaves what it left before the call, or the records with the change
+  abbrev pub SurvivesChange : Replica S g → ChangeValue → Replica S g → Type 0
+  SurvivesChange old change new = Survives (store_of old) (store_of new) (LeavesChange (site_of old) change (store_of old))
+
+  -- ---- answer
+
+  -- one request, with its reply
+  pub record Answers (old : Replica S g) (request : Request) (reply : Reply) (new : Replica S g) : Type 0 where
+    -- the reply is one that may be given, from any writes that the states stand for
+    pub answer : AnswersStored (site_of old) (site_of new) request reply
+    -- and it is what the states alone give
+    pub states : AnswersFromStored (site_of old) (site_of new) request reply
+    -- there is a set of writes that it adds
+    pub choice : (added : List Write) × Adds request reply added
+    -- what the site was set up with stays
+    pub config : (site_of new).config ≡ (site_of old).config
+    -- the reply is not too long for its frame
+    pub fits : CanBeSent reply
+    -- where 22 is told, the site is broken
+    pub told : reply ≡ Refused Broken → (site_of new).broken ≡ true
+    -- and where the site is broken, 22 is told
+    pub broken : (site_of new).broken ≡ true → reply ≡ Refused Broken
+    -- a broken replica stays as it is
+    pub stays : (site_of old).broken ≡ true → new ≡ old
+    -- a refusal other than 22 leaves the site as it was
+    pub unchanged : (refusal : Refusal) → reply ≡ Refused refusal → refusal ≢ Broken → site_of new ≡ site_of old
+    -- and the last commit
+    pub unstored : (refusal : Refusal) → IsSound (store_of new) → reply ≡ Refused refusal → refusal ≢ Broken → committed_of new ≡ committed_of old
+    -- what would change nothing leaves all as it was
+    pub still : ChangesNothing (site_of old) request → new ≡ old
+    -- a change is taken only with the store open
+    pub taken : TakesIfOpen old new
+    -- the disk that is clean now was clean before
+    pub clean : WasClean old new
+    -- the store that is sound now was sound before
+    pub before : WasSound old new
+    -- the records follow the states
+    pub records : RecordsFollow old new
+    -- where the change breaks the site, they hold the states with the change in
+    pub stored : StoresLost old request (reply ≡ Refused Broken) new
+    -- a crash leaves what it left before the call, or the states with the request's change
+    pub survives : SurvivesRequest old request new
+
+  -- ---- push
+
+  -- one push, with what it came to
+  pub record PushesState (old : Replica S g) (key : Key) (pushed : State) (result : Result (Unit {0}) Refusal) (new : Replica S g) : Type 0 where
+    -- it is answered as the request to push is, from the states
+    pub answer : AnswersFromStored (site_of old) (site_of new) (Push key pushed) (push_reply result)
+    -- Ok: the state is joined to the key's, and nothing else changes
+    pub joined : OnOk result (site_of new ≡ record { config = (site_of old).config; states = with_state (site_of old).states key (join (state_at (site_of old).states key) pushed); broken = false })
+    -- the two states agreed
+    pub agreed : OnOk result (clashes (state_at (site_of old).states key) pushed ≡ false)
+    -- and 11 comes only where they do not
+    pub clash : IfErr result (λ refusal. refusal ≡ DotClash → clashes (state_at (site_of old).states key) pushed ≡ true)
+    -- a refusal other than 22 leaves the site as it was
+    pub unchanged : IfErr result (λ refusal. refusal ≢ Broken → site_of new ≡ site_of old)
+    -- and the last commit
+    pub unstored : IfErr result (λ refusal. refusal ≢ Broken → KeepsCommit old new)
+    -- what would change nothing leaves all as it was
+    pub still : ChangesNothing (site_of old) (Push key pushed) → new ≡ old
+    -- a change is taken only with the store open
+    pub taken : TakesIfOpen old new
+    -- the disk that is clean now was clean before
+    pub clean : WasClean old new
+    -- after 22 the site is broken, and else as it was
+    pub told : IfErr result (λ refusal. refusal ≡ Broken → site_of new ≡ broken_site (site_of old))
+    -- a broken replica tells 22, and stays as it is
+    pub stays : (site_of old).broken ≡ true → (result ≡ Err Broken) × (new ≡ old)
+    -- a state that was joined is that of some set of writes
+    pub valid : OnOk result (IsValid pushed)
+    -- the records follow the states
+    pub follows : ReplicaFollows (λ asked. asked ≡ Push key pushed) (site_of old) (site_of new) (store_of old) (store_of new)
+    -- where the push breaks the site, they hold the states with the push in
+    pub stored : StoresLost old (Push key pushed) (result ≡ Err Broken) new
+    -- a crash leaves what it left before the call, or the states with the push
+    pub survives : SurvivesRequest old (Push key pushed) new
+
+  -- ---- answer_all
+
+  -- requests one after the other, with as few commits as they allow
+  pub record AnswersMany (old : Replica S g) (requests : List Request) (result : Result (Vec Reply Global) Refusal) (new : Replica S g) : Type 0 where
+    -- each request has its reply, as one turn after the other
+    pub answers : IfOk result (λ replies. AnswersAll requests replies.items (site_of old) (site_of new) (store_of old) (store_of new))
+    -- the call itself is refused for want of memory alone, and then nothing was done
+    pub memory : IfErr result (λ refusal. (refusal ≡ Memory) × (new ≡ old))
+
+  -- some of the requests, from the first on, whose replies stand behind those before
+  abbrev pub AnswersSome : Replica S g → List Request → List Reply → List Reply → Replica S g → Type 0
+  AnswersSome old requests before after new = AnswersFront requests before after (site_of old) (site_of new) (store_of old) (store_of new)
+
+  -- all of them
+  abbrev pub AnswersEach : Replica S g → List Request → List Reply → List Reply → Replica S g → Type 0
+  AnswersEach old requests before after new =
+      (told : List Reply) × (after ≡ before ++ told) × AnswersAll requests told (site_of old) (site_of new) (store_of old) (store_of new)

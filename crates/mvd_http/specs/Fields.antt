@@ -8,7 +8,7 @@ use Rattle.mvd_http.specs.declared.question.Methods.TheVariants.{OfKey, OfList}
 
 -- what a page of the server may load and run: its own script and style, by their digests, and requests to the server
 abbrev pub policy : List ℕ
-policy = codes "default-src 'none'; script-src 'sha256-x2nRk1XET9ed5+SOAbPsjiSRa72AbdyxHVrW2N5xPPs='; style-src 'sha256-Msy/8q7YNwWdxtVl8fIgKxlzyrbWs/8mNZnJFQpkzXE='; connect-src 'self'; img-src data:; base-uri 'none'; form-action 'none'; frame-ancestors 'none'; require-trusted-types-for 'script'; trusted-types 'none'"
+policy = codes "default-src 'none'; script-src 'sha256-LNUu85jp2b3wmoB434AaDTx2n6YeTO3NZdB6Ub9HIjE='; style-src 'sha256-IISvvRT4ZVq+SDlSR8FbC/EG+ul+XtQ3pquGrbccBCI='; connect-src 'self'; img-src data:; base-uri 'none'; form-action 'none'; frame-ancestors 'none'; require-trusted-types-for 'script'; trusted-types 'none'"
 
 -- those of each response
 abbrev pub common : List (List ℕ × List ℕ)

@@ -29,7 +29,7 @@ pub struct Answer {
 }
 
 const POLICY: &str =
-    "default-src 'none'; script-src 'sha256-x2nRk1XET9ed5+SOAbPsjiSRa72AbdyxHVrW2N5xPPs='; style-src 'sha256-Msy/8q7YNwWdxtVl8fIgKxlzyrbWs/8mNZnJFQpkzXE='; connect-src 'self'; img-src data:; base-uri 'none'; form-action 'none'; frame-ancestors 'none'; require-trusted-types-for 'script'; trusted-types 'none'";
+    "default-src 'none'; script-src 'sha256-LNUu85jp2b3wmoB434AaDTx2n6YeTO3NZdB6Ub9HIjE='; style-src 'sha256-IISvvRT4ZVq+SDlSR8FbC/EG+ul+XtQ3pquGrbccBCI='; connect-src 'self'; img-src data:; base-uri 'none'; form-action 'none'; frame-ancestors 'none'; require-trusted-types-for 'script'; trusted-types 'none'";
 
 /// Fills a response.
 pub fn fill(response: &mut Response, answer: Answer, body: &str) -> Result<(), AllocError>

@@ -5,7 +5,7 @@ pub const PAGE: &str = r##"<!DOCTYPE html>
 <!--
 The page of mvd: keys and their siblings, lists, and writes, over the HTTP interface of one site.
 It is built into the program and loads nothing from elsewhere. The server must send it with this policy:
-Content-Security-Policy: default-src 'none'; script-src 'sha256-x2nRk1XET9ed5+SOAbPsjiSRa72AbdyxHVrW2N5xPPs='; style-src 'sha256-Msy/8q7YNwWdxtVl8fIgKxlzyrbWs/8mNZnJFQpkzXE='; connect-src 'self'; img-src data:; base-uri 'none'; form-action 'none'; frame-ancestors 'none'; require-trusted-types-for 'script'; trusted-types 'none'
+Content-Security-Policy: default-src 'none'; script-src 'sha256-LNUu85jp2b3wmoB434AaDTx2n6YeTO3NZdB6Ub9HIjE='; style-src 'sha256-IISvvRT4ZVq+SDlSR8FbC/EG+ul+XtQ3pquGrbccBCI='; connect-src 'self'; img-src data:; base-uri 'none'; form-action 'none'; frame-ancestors 'none'; require-trusted-types-for 'script'; trusted-types 'none'
 tools/page.py stamp   writes the policy of this file's style and script into this comment.
 tools/page.py test    drives the page in a browser, under this policy.
 -->
@@ -84,7 +84,7 @@ button:disabled { opacity: .45; cursor: default; }
 #state-title { width: fit-content; }
 .facts { display: flex; flex-wrap: wrap; gap: .25rem 1.25rem; align-items: center; margin: .5rem 0 .75rem; }
 .facts p { margin: 0; }
-.scroll { overflow-x: auto; border: 1px solid var(--line); border-radius: 6px; }
+.scroll { position: relative; overflow-x: auto; border: 1px solid var(--line); border-radius: 6px; }
 table { border-collapse: collapse; width: 100%; }
 th, td { text-align: left; vertical-align: top; padding: .4rem .7rem; border-bottom: 1px solid var(--line); }
 tbody tr:last-child > * { border-bottom: 0; }
@@ -126,12 +126,13 @@ dialog::backdrop { background: rgb(0 0 0 / .5); }
   main { padding: .625rem; gap: .625rem; }
   section { padding: .875rem; }
   header { padding: .75rem .875rem; }
-  .siblings, .siblings thead, .siblings tbody { display: block; min-width: 0; width: max-content; min-width: 100%; }
+  .siblings, .siblings thead, .siblings tbody { display: block; width: auto; min-width: calc(var(--columns) * 8.75rem); }
   .siblings tr { display: grid; grid-template-columns: repeat(var(--columns), minmax(8.75rem, 1fr)); }
   .siblings thead .name { display: none; }
   .siblings tbody th { grid-column: 1 / -1; width: auto; background: var(--head); border-bottom: 0; padding-block: .2rem; }
   .siblings td:first-of-type, .siblings thead th:nth-child(2) { border-left: 0; }
   .siblings th, .siblings td { padding-inline: .55rem; }
+  .list td:first-child, .list th:first-child { min-width: 7rem; }
 }
 </style>
 </head>
@@ -590,7 +591,7 @@ function describeDifferences(different, all) {
   if (different.length === 0) return `${amount(all, 'field')}, and none differs.`;
   const marks = different.flatMap(({ texts }) => texts.map((text) => markOf(text, texts[shown.base])));
   const count = (mark) => marks.filter((one) => one === mark).length;
-  const parts = [[count('added'), 'added'], [count('removed'), 'removed'], [count('other'), 'other value']]
+  const parts = [[count('added'), 'added'], [count('removed'), 'removed'], [count('other'), count('other') === 1 ? 'other value' : 'other values']]
     .filter(([number]) => number > 0).map(([number, words]) => `${number} ${words}`);
   const verb = different.length === 1 ? 'differs' : 'differ';
   return `${different.length} of ${amount(all, 'field')} ${verb} from ${shown.siblings[shown.base].dot}: ${parts.join(', ')}.`;

@@ -4,7 +4,7 @@ ghost use Rattle.sqlite.specs.Held.{state as store};
 
 use super::CLIENTS_MAX;
 use super::client::{Client, Moved, PIECE, Piece, Stage};
-use super::counts::Counts;
+use super::metrics::Counts;
 use super::talks::{Kind, Talks};
 use super::timers::Timers;
 use crate::endings::How;

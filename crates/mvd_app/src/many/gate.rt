@@ -1,5 +1,5 @@
 //! From a request of HTTP to the frame that the host answers, and from its reply to the response.
-use super::counts::{Counts, Now};
+use super::metrics::{Counts, Now};
 use super::talks::{feed, sent};
 use http::StatusCode;
 use mvd_dots::Refusal;

@@ -4,8 +4,8 @@ ghost use Rattle.mvd_app.specs.Stored.{HasRound};
 ghost use Rattle.mvd_host.specs.Hosts.{IfClient, client_of};
 ghost use Rattle.sqlite.specs.Held.{state as store};
 
-use super::counts::Counts;
 use super::gate::{answer, ask};
+use super::metrics::Counts;
 use mvd_conn::Ending;
 use mvd_dots::Refusal;
 use mvd_host::Host;

@@ -1,7 +1,7 @@
 //! What a command line asks for, done: with standard input and output, files and sockets.
 ghost use Rattle.mvd_input.specs.Orders.{IsInRange, IsSetUp};
-ghost use Rattle.mvd_replica.specs.Replicas.{site_of, store_of};
 ghost use Rattle.mvd_replica.specs.Sides.{ReplicaFollows};
+ghost use Rattle.sqlite.specs.Held.{state as store};
 
 use crate::hint::{Hint, Stop};
 use crate::looping::loop_run;
@@ -132,8 +132,8 @@ fn work_on<'a, S: Alter + Drop>(
 /// Answers the lines of standard input on a replica.
 fn typed<'a, S: Alter + Drop>(rt: &HostRuntime, replica: &mut Replica<S>) -> Result<(), Stop<'a>>
     // The records follow, however it ends.
-    ensures { ReplicaFollows (λ _. Unit {0}) (site_of replica.old) (site_of replica.new)
-        (store_of replica.old) (store_of replica.new) }
+    ensures { ReplicaFollows (λ _. Unit {0}) replica.old.site replica.new.site
+        (store S.Store replica.old.records.conn) (store S.Store replica.new.records.conn) }
 {
     let mut reader = input(rt)?;
     let mut writer = Output::new(io::writer(rt));

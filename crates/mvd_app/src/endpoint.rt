@@ -3,7 +3,7 @@ ghost use Rattle.std.specs.Prelude.{◌≡◌};
 ghost use Rattle.mvd_app.specs.Script.{asked_step, reply_in};
 ghost use Rattle.mvd_app.specs.Staged.{MemberReplies};
 ghost use Rattle.mvd_app.specs.Stored.{ReplicaAnswers};
-ghost use Rattle.mvd_replica.specs.Replicas.{site_of, store_of};
+ghost use Rattle.sqlite.specs.Held.{state as store};
 ghost use Rattle.mvd_wire.specs.declared.reply.Reply.{Reply};
 ghost use Rattle.mvd_wire.specs.declared.request.Request.{Request};
 
@@ -66,7 +66,8 @@ fn reply_of(outcome: Outcome) -> Reply
 
 impl<S: Alter> Endpoint for Replica<S> {
     ghost answers = { λ old new request reply.
-        ReplicaAnswers (site_of old) (site_of new) (store_of old) (store_of new) request reply };
+        ReplicaAnswers old.site new.site
+        (store S.Store old.records.conn) (store S.Store new.records.conn) request reply };
 
     fn ask(&mut self, request: Request) -> Reply {
         let reply = self.answer(&request);

@@ -1,6 +1,5 @@
 //! A server of many clients at once, from one thread.
 ghost use Rattle.mvd_app.specs.Stored.{IsServed};
-ghost use Rattle.mvd_replica.specs.Replicas.{conn_of, site_of};
 ghost use Rattle.sqlite.specs.Held.{state as store};
 
 mod client;
@@ -70,8 +69,8 @@ pub fn serve_run<'a, N: Net + Clock + RandomSource, S: Alter + Drop, W: Write>(
     writer: &mut W,
 ) -> Result<(), Stop<'a>>
     // However it ends, the site changed by turns alone, and its records follow.
-    ensures served { IsServed (store S.Store) (site_of replica.old) (site_of replica.new)
-        (conn_of replica.old) (conn_of replica.new) }
+    ensures served { IsServed (store S.Store) replica.old.site replica.new.site
+        replica.old.records.conn replica.new.records.conn }
 {
     let mut server = match Server::new(rt, alloc, address, terms) {
         Ok(server) => server,
@@ -125,8 +124,8 @@ impl Server {
         terms: Terms,
         writer: &mut W,
     ) -> Result<(), Fault>
-        ensures served { IsServed (store S.Store) (site_of replica.old) (site_of replica.new)
-            (conn_of replica.old) (conn_of replica.new) }
+        ensures served { IsServed (store S.Store) replica.old.site replica.new.site
+            replica.old.records.conn replica.new.records.conn }
     {
         let mut line = String::new(alloc);
         writeln!(line, "listening {address}")?;
@@ -146,8 +145,8 @@ impl Server {
         replica: &mut Replica<S>,
         writer: &mut W,
     ) -> Result<(), Fault>
-        ensures served { IsServed (store S.Store) (site_of replica.old) (site_of replica.new)
-            (conn_of replica.old) (conn_of replica.new) }
+        ensures served { IsServed (store S.Store) replica.old.site replica.new.site
+            replica.old.records.conn replica.new.records.conn }
     {
         for _round in 0..u64::MAX {
             if self.crowd.is_shut() && self.crowd.is_empty() {

@@ -6,10 +6,9 @@ ghost use Rattle.mvd_app.specs.Reported.{Reports, refused_text, root_text, sessi
 ghost use Rattle.mvd_app.specs.Synced.{MeetsFar};
 ghost use Rattle.mvd_input.specs.declared.fault.Fault.TheVariants.{Stopped};
 ghost use Rattle.mvd_input.specs.Ends.{EndsEarly};
-ghost use Rattle.mvd_replica.specs.Replicas.{site_of};
-ghost use Rattle.mvd_replica.specs.SideCalls.{KeepsSide};
-ghost use Rattle.mvd_replica.specs.Sides.{IsTrueSite};
+ghost use Rattle.mvd_replica.specs.Sides.{IsTrueSite, SideFollows};
 ghost use Rattle.mvd_sync.specs.Lines.{IsTrueRemote};
+ghost use Rattle.sqlite.specs.Held.{state as store};
 
 use crate::hint::{Older, Stop};
 use crate::link::Link;
@@ -81,7 +80,8 @@ pub fn sync_run<'a, N: Net, S: Alter + Drop, E: Write>(
     told: Option<&mut E>,
 ) -> Result<Report, Stop<'a>>
     // However it ends, the site changed by pushes alone, and its records follow.
-    ensures pushed { KeepsSide replica.old replica.new }
+    ensures pushed { SideFollows replica.old.site replica.new.site
+        (store S.Store replica.old.records.conn) (store S.Store replica.new.records.conn) }
 {
     let stream = match connected(rt, address, idle) {
         Ok(stream) => stream,
@@ -102,7 +102,8 @@ fn sync_stream<T: Read + Write + Drop, S: Alter + Drop, E: Write>(
     replica: &mut Replica<S>,
     told: Option<&mut E>,
 ) -> Result<Report, SyncFault>
-    ensures pushed { KeepsSide replica.old replica.new }
+    ensures pushed { SideFollows replica.old.site replica.new.site
+        (store S.Store replica.old.records.conn) (store S.Store replica.new.records.conn) }
 {
     let link = Link::new(alloc, stream).map_err(SyncFault::Local)?;
     let incoming = link.incoming(alloc).map_err(SyncFault::Local)?;
@@ -121,11 +122,11 @@ pub fn sync_over<L: Line, S: Alter + Drop, E: Write>(
     replica: &mut Replica<S>,
     watched: &mut Watched<'_, Remote<L>, E>,
 ) -> Result<Report, SyncFault>
-    ensures meets { IsTrueSite (site_of replica.old) → IsTrueRemote L.is_true L.far watched.old.side →
-        MeetsFar L.is_true L.far (site_of replica.old) (site_of replica.new)
-        watched.old.side watched.new.side result }
+    ensures meets { IsTrueSite replica.old.site → IsTrueRemote L.is_true L.far watched.old.side →
+        MeetsFar L.is_true L.far replica.old.site replica.new.site watched.old.side watched.new.side result }
     // Whatever is at the other end.
-    ensures pushed { KeepsSide replica.old replica.new }
+    ensures pushed { SideFollows replica.old.site replica.new.site
+        (store S.Store replica.old.records.conn) (store S.Store replica.new.records.conn) }
 {
     let report = match sync(alloc, replica, watched) {
         Ok(report) => report,
@@ -146,7 +147,7 @@ pub fn tell_report<'a, S: Alter + Drop, W: Write, E: Write>(
     writer: &mut W,
     errors: &mut E,
 ) -> Result<(), Stop<'a>>
-    ensures told { Reports report.now (site_of replica.now).states (W.contents writer.old) (W.contents writer.new) result }
+    ensures told { Reports report.now replica.now.site.states (W.contents writer.old) (W.contents writer.new) result }
     ensures left { report.now.first_refused ≢ [] → IsErr result }
 {
     tell_counts(alloc, replica, report, writer)?;
@@ -169,7 +170,7 @@ fn tell_counts<S: Alter + Drop, W: Write>(
     writer: &mut W,
 ) -> Result<(), Fault>
     ensures told { OnOk result (Appends (W.contents writer.old) (W.contents writer.new)
-        (session_text report.now (site_of replica.now).states)) }
+        (session_text report.now replica.now.site.states)) }
 {
     let mut lines = String::new(alloc);
     print_keys(report.keys, &mut lines)?;
@@ -204,7 +205,7 @@ pub fn print_root<S: Alter + Drop>(
     replica: &Replica<S>,
     line: &mut String,
 ) -> Result<(), Refusal>
-    ensures { OnOk result (string_bytes line.new ≡ string_bytes line.old ++ root_text (site_of replica.now).states) }
+    ensures { OnOk result (string_bytes line.new ≡ string_bytes line.old ++ root_text replica.now.site.states) }
 {
     let path = Path::new(alloc, &[])?;
     let digests = replica.node(&path)?;

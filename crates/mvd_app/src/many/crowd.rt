@@ -1,6 +1,5 @@
 //! The clients: their sockets, and their connections.
 ghost use Rattle.mvd_app.specs.Stored.{HasRound};
-ghost use Rattle.mvd_replica.specs.Replicas.{conn_of, site_of};
 ghost use Rattle.sqlite.specs.Held.{state as store};
 
 use super::CLIENTS_MAX;
@@ -82,8 +81,8 @@ impl Crowd {
 
     /// Answers what came of some clients, together.
     pub fn round<S: Alter + Drop>(&mut self, replica: &mut Replica<S>, ready: &[u64])
-        ensures round { HasRound (store S.Store) (site_of replica.old) (site_of replica.new)
-            (conn_of replica.old) (conn_of replica.new) }
+        ensures round { HasRound (store S.Store) replica.old.site replica.new.site
+            replica.old.records.conn replica.new.records.conn }
     {
         self.talks.round(replica, ready, &mut self.counts);
     }

@@ -6,15 +6,21 @@ use Rattle.mvd_conn.specs.History.{History}
 use Rattle.mvd_site.specs.Sites.{SiteValue}
 use Rattle.mvd_replica.specs.Turns.{Event, IsToldElse, Replies, StandsOn, TellsTurns, Turn}
 use Rattle.mvd_replica.specs.Batch.{TurnsFollow}
+use Rattle.mvd_replica.specs.Replicas.{site_of, store_of}
+use Rattle.mvd_replica.specs.declared.replica.Replica.{Replica}
 use Rattle.mvd_host.specs.Hosts.{HostValue, client_of}
 use Rattle.mvd_host.specs.Course.{AreQueued, Both, IsOut, NoneMoved, asked_by, own}
 use Rattle.sqlite.specs.State.{State}
+use Rattle.sqlite_trees.specs.declared.store.Store.{Ghosts}
 
 -- a host, and the replica that answers its clients
 pub record Side : Type 1 where
   pub host : HostValue
   pub site : SiteValue
   pub store : State
+
+abbrev pub side_of : {S : Type 0} {g : Ghosts S} → HostValue → Replica S g → Side
+side_of host replica = record { host = host; site = site_of replica; store = store_of replica }
 
 -- the turns of all clients
 abbrev pub turns_of : List (ℕ × Turn) → List Turn

@@ -1,7 +1,6 @@
 //! One round: the frames that are held are answered together.
 ghost use Rattle.std.specs.Prelude.{◌≡◌, ◌<◌, ℕ, List, length, slice_index, false};
 ghost use Rattle.mvd_replica.specs.Turns.{Turn};
-ghost use Rattle.sqlite.specs.Held.{state};
 
 use crate::host::Host;
 use crate::queueing::{queue_faults, queue_refused, queue_replies};
@@ -13,7 +12,7 @@ use sqlite::Alter;
 impl Host {
     ghost use Rattle.mvd_host.specs.Hosts.{IfClient, client_of};
     ghost use Rattle.mvd_host.specs.Taking.{IsIdle};
-    ghost use Rattle.mvd_host.specs.Round.{Round, Side};
+    ghost use Rattle.mvd_host.specs.Round.{Round, side_of};
 
     /// Takes at most 64 frames of each ready client, answers them together, queues each reply on its own client's connection, and
     /// notes what was asked.
@@ -25,8 +24,7 @@ impl Host {
         tally: &mut Tally,
     ) -> bool
         ensures round { (turns : List (ℕ × Turn)) × Round ready.now turns
-            (record { host = self.old; site = replica.old.site; store = state S.Store replica.old.records.conn })
-            (record { host = self.new; site = replica.new.site; store = state S.Store replica.new.records.conn }) }
+            (side_of self.old replica.old) (side_of self.new replica.new) }
         ensures idle { result ≡ false → (i : ℕ) → i < length ready.now → IfClient (client_of self.new (slice_index ready.now i)) IsIdle }
     {
         let mut taken = Taken::new(self.alloc);

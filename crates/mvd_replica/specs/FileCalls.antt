@@ -1,5 +1,5 @@
 -- What opening a file as a site does, and what closing it does.
-use Rattle.std.specs.Prelude.{◌≡◌, false, Result, IfErr, IfOk}
+use Rattle.std.specs.Prelude.{Result, IfErr, IfOk}
 use Rattle.mvd_records.specs.Records.{IsSound}
 use Rattle.mvd_site.specs.Config.{ConfigValue}
 use Rattle.sqlite_disk.specs.declared.Disk.{Ghosts}

@@ -36,6 +36,10 @@ use Rattle.mvd_replica.specs.Sides.{AnswersFromStored, ReplicaFollows}
 use Rattle.mvd_replica.specs.Stops.{LeavesAnswered, LeavesChange}
 use Rattle.mvd_replica.specs.Turns.{AnswersStored}
 
+-- the request would change nothing
+abbrev pub ChangesNothing : SiteValue → Request → Type 0
+ChangesNothing site request = after_from site.config site.states request ≡ site.states
+
 -- ---- questions by reference
 
 -- the digests of a node and of its children, or 22 of a broken site
@@ -47,17 +51,17 @@ abbrev pub root_told : SiteValue → Result (List ℕ) Refusal
 root_told site = unless_broken site.broken (Err Broken) (Ok (node_digest (digests site.states) []))
 
 -- a page of a bucket's keys with their digests, after a key if one is given
-pub record TellsPage (site : SiteValue) (path : List ℕ) (after : Option Key) (result : Result (Vec (Key × List ℕ) Global × Bool) Refusal) : Type 0 where
+pub record TellsPage (site : SiteValue) (node : List ℕ) (after : Option Key) (result : Result (Vec (Key × List ℕ) Global × Bool) Refusal) : Type 0 where
   -- a broken site gives none
   pub whole : IfOk result (λ _. site.broken ≡ false)
   -- it is of a bucket
-  pub path : IfOk result (λ _. length path ≡ 3)
+  pub path : IfOk result (λ _. length node ≡ 3)
   -- the keys with their digests
-  pub keys : IfOk result (λ page. page.0.items ≡ page_of (digests site.states) path after)
+  pub keys : IfOk result (λ page. page.0.items ≡ page_of (digests site.states) node after)
   -- whether more follow
-  pub more : IfOk result (λ page. page.1 ≡ is_more_after_page (digests site.states) path after)
+  pub more : IfOk result (λ page. page.1 ≡ is_more_after_page (digests site.states) node after)
   -- 22 of a broken site, 14 where the path is of no bucket, 20 otherwise
-  pub refused : IfErr result (λ refusal. refusal ≡ bucket_refusal site.broken path)
+  pub refused : IfErr result (λ refusal. refusal ≡ bucket_refusal site.broken node)
 
 -- the state of a key, empty where the key is not held
 pub record TellsState (site : SiteValue) (key : Key) (result : Result State Refusal) : Type 0 where
@@ -94,10 +98,6 @@ module _ {S : Type 0} {g : Ghosts S} where
   StoresLost old request broke new =
       IsSound (store_of new) → HoldsSite (site_of old) (committed_of old) → (site_of old).broken ≡ false → broke →
       HoldsStates (site_of old).config.site (after_from (site_of old).config (site_of old).states request) (committed_of new)
-
-  -- the request would change nothing
-  abbrev pub ChangesNothing : SiteValue → Request → Type 0
-  ChangesNothing site request = after_from site.config site.states request ≡ site.states
 
   -- a crash leaves what it left before the call, or the states with what the request changes
   abbrev pub SurvivesRequest : Replica S g → Request → Replica S g → Type 0

@@ -1,5 +1,5 @@
 -- A replica as its callers see it: three views, and what a call may keep of them. Clauses speak of a replica by these words alone.
-use Rattle.std.specs.Prelude.{◌≡◌, ◌⊎◌, false, IsTrue}
+use Rattle.std.specs.Prelude.{◌≡◌, ◌⊎◌, IsTrue}
 use Rattle.mvd_records.specs.Records.{IsSound}
 use Rattle.mvd_site.specs.Sites.{SiteValue}
 use Rattle.sqlite.specs.Effect.{Database}
@@ -7,7 +7,7 @@ use Rattle.sqlite.specs.Held.{Held, state}
 use Rattle.sqlite.specs.State.{HasCleanDisk, State}
 use Rattle.sqlite_trees.specs.declared.store.Store.{Ghosts}
 use Rattle.mvd_replica.specs.declared.replica.Replica.{Replica}
-use Rattle.mvd_replica.specs.Kept.{HoldsSite, HoldsStates}
+use Rattle.mvd_replica.specs.Kept.{HoldsSite}
 
 module _ {S : Type 0} {g : Ghosts S} where
   -- ---- the views

@@ -8,7 +8,6 @@ use Rattle.mvd_records.specs.Records.{HasNone, HoldsRecords, IsSound, new_states
 use Rattle.mvd_records.specs.Seen.{RecordsValue}
 use Rattle.mvd_records.specs.States.{States as Stored}
 use Rattle.mvd_site.specs.Config.{ConfigValue}
-use Rattle.mvd_site.specs.Held.{States}
 use Rattle.mvd_site.specs.Sites.{SiteValue}
 use Rattle.sqlite.specs.Effect.{Database}
 use Rattle.sqlite.specs.Held.{state}

@@ -15,6 +15,10 @@ use Rattle.mvd_replica.specs.Replicas.{site_of, store_of}
 use Rattle.mvd_replica.specs.Sides.{IsTrueSite, ReplicaRefuses, SideFollows}
 
 module _ {S : Type 0} {g : Ghosts S} where
+  -- what no call of a session changes of a replica
+  abbrev pub KeepsSide : Replica S g → Replica S g → Type 0
+  KeepsSide old new = SideFollows (site_of old) (site_of new) (store_of old) (store_of new)
+
   -- one push, with what it came to; the site was true to its states where it is said
   pub record PushesOnSide (old : Replica S g) (key : Key) (given : State) (result : Result (Unit {0}) Refusal) (new : Replica S g) : Type 0 where
     -- what the call by reference does
@@ -30,7 +34,7 @@ module _ {S : Type 0} {g : Ghosts S} where
     -- a refusal has its cause in the key's state, in the count of keys, in memory or in the store
     pub cause : IsTrueSite (site_of old) → IfErr result (CannotTake (site_of old).config.max_keys (site_of old).states key given)
     -- what no call of a session changes
-    pub follows : SideFollows (site_of old) (site_of new) (store_of old) (store_of new)
+    pub follows : KeepsSide old new
     -- a replica refuses with these alone
     pub refuses : IfErr result (ReplicaRefuses (site_of new))
     -- after Ok it is not broken
@@ -40,7 +44,7 @@ module _ {S : Type 0} {g : Ghosts S} where
 
   -- what no call of a session changes, after however many questions
   abbrev pub FollowsSide : ℕ → Replica S g → Replica S g → Type 0
-  FollowsSide count old new = SideFollows (site_of old) (site_of new) (store_of old) (store_of new)
+  FollowsSide count old new = KeepsSide old new
 
   -- what a replica refuses a question with
   abbrev pub RefusesSide : Replica S g → Refusal → Type 0

@@ -40,6 +40,6 @@ pub fn a_site_answers_across_restarts<S: Alter>()
     ensures connection { (old new : SiteValue) (before after : Held S)
         (input input' output output' : Option (List ℕ)) (result : Result Ended Refusal) →
         (it : Served (record { site = old; store = state S.Store before; input = input; output = output })
-            (record { site = new; store = state S.Store after; input = input'; output = output' }) result) →
+        (record { site = new; store = state S.Store after; input = input'; output = output' }) result) →
         TurnsFollow it.turns old new (state S.Store before) (state S.Store after) }
 {}

@@ -37,7 +37,7 @@ among_more (request ∷ requests) [] more all = absurd all
 among_more (request ∷ requests) (turn ∷ turns) more (inl here) = inl (here.0, among_more requests turns more here.1)
 among_more (request ∷ requests) (turn ∷ turns) more (inr later) = inr (among_more (request ∷ requests) turns more later)
 
-loses_more : (turns more : List Turn) (site : SiteValue) → Loses turns site → Loses (turns ++ more) site
+abbrev loses_more : (turns more : List Turn) (site : SiteValue) → Loses turns site → Loses (turns ++ more) site
 loses_more turns more site lost = record {
   before = lost.before;
   broke = lost.broke;
@@ -54,7 +54,7 @@ loses_more turns more site lost = record {
 pub lost_more : (turns more : List Turn) (site : SiteValue) (db : Database) → HoldsLost turns site db → HoldsLost (turns ++ more) site db
 lost_more turns more site db it = record { lost = loses_more turns more site it.lost; holds = it.holds }
 
-pub loses_later : (first turns : List Turn) (site : SiteValue) → AllByRecursion IsToldElse first → Loses turns site → Loses (first ++ turns) site
+abbrev pub loses_later : (first turns : List Turn) (site : SiteValue) → AllByRecursion IsToldElse first → Loses turns site → Loses (first ++ turns) site
 loses_later first turns site none lost = record {
   before = first ++ lost.before;
   broke = lost.broke;

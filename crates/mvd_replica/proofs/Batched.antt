@@ -18,7 +18,7 @@ use Rattle.mvd_site.specs.Sites.{SiteValue}
 use Rattle.mvd_site.proofs.Outcomes.{refused_fits}
 use Rattle.mvd_site.proofs.Pushes.{refusal_is}
 use Rattle.mvd_sync.specs.Sides.{SiteFollows, site_follows_on, site_follows_self}
-use Rattle.mvd_replica.specs.Batch.{AnswersAll, AnswersFront, AnswersOneFrom, AreAmong, HoldsLost, TakesTurns, TurnsFollow}
+use Rattle.mvd_replica.specs.Batch.{AnswersAll, AnswersFront, AnswersOneFrom, AreAmong, HoldsLost, Loses, TakesTurns, TurnsFollow}
 use Rattle.mvd_replica.specs.Kept.{HoldsSite, HoldsStates}
 use Rattle.mvd_replica.specs.Sides.{AnswersFromStored, HoldsBroken, ReplicaFollows}
 use Rattle.mvd_replica.specs.Turns.{IsFirstBroken, IsToldElse, RepliesOne, Turn}
@@ -37,8 +37,8 @@ among_more (request ∷ requests) [] more all = absurd all
 among_more (request ∷ requests) (turn ∷ turns) more (inl here) = inl (here.0, among_more requests turns more here.1)
 among_more (request ∷ requests) (turn ∷ turns) more (inr later) = inr (among_more (request ∷ requests) turns more later)
 
-pub lost_more : (turns more : List Turn) (site : SiteValue) (db : Database) → HoldsLost turns site db → HoldsLost (turns ++ more) site db
-lost_more turns more site db lost = record {
+abbrev loses_more : (turns more : List Turn) (site : SiteValue) → Loses turns site → Loses (turns ++ more) site
+loses_more turns more site lost = record {
   before = lost.before;
   broke = lost.broke;
   later = lost.later ++ more;
@@ -49,11 +49,13 @@ lost_more turns more site db lost = record {
   changes = lost.changes;
   rest = lost.rest;
   among = among_more lost.rest lost.later more lost.among;
-  holds = lost.holds;
 }
 
-pub lost_later : (first turns : List Turn) (site : SiteValue) (db : Database) → AllByRecursion IsToldElse first → HoldsLost turns site db → HoldsLost (first ++ turns) site db
-lost_later first turns site db none lost = record {
+pub lost_more : (turns more : List Turn) (site : SiteValue) (db : Database) → HoldsLost turns site db → HoldsLost (turns ++ more) site db
+lost_more turns more site db it = record { lost = loses_more turns more site it.lost; holds = it.holds }
+
+abbrev pub loses_later : (first turns : List Turn) (site : SiteValue) → AllByRecursion IsToldElse first → Loses turns site → Loses (first ++ turns) site
+loses_later first turns site none lost = record {
   before = first ++ lost.before;
   broke = lost.broke;
   later = lost.later;
@@ -64,8 +66,10 @@ lost_later first turns site db none lost = record {
   changes = lost.changes;
   rest = lost.rest;
   among = lost.among;
-  holds = lost.holds;
 }
+
+pub lost_later : (first turns : List Turn) (site : SiteValue) (db : Database) → AllByRecursion IsToldElse first → HoldsLost turns site db → HoldsLost (first ++ turns) site db
+lost_later first turns site db none it = record { lost = loses_later first turns site none it.lost; holds = it.holds }
 
 module _ (first second : List Turn) (old mid new : SiteValue) (before between after : State) (p : TurnsFollow first old mid before between) (q : TurnsFollow second mid new between after)
     (none : mid.broken ≡ false → AllByRecursion IsToldElse first) where
@@ -165,16 +169,18 @@ TakesTurns-fault site s fault reply told =
 -- one request, answered by itself
 lost_one : (request : Request) (reply : Reply) (site : SiteValue) (db : Database) → reply ≡ Refused Broken → HoldsBroken (λ asked. asked ≡ request) site db → HoldsLost (record { asked = Ok request; reply = reply } ∷ []) site db
 lost_one request reply site db told holds = record {
-  before = [];
-  broke = record { asked = Ok request; reply = reply };
-  later = [];
-  all = refl;
-  first = tt;
-  request = holds.request;
-  asked = (ap (λ (r : Request). Ok r) (sym holds.asked), told);
-  changes = holds.changes;
-  rest = [];
-  among = tt;
+  lost = record {
+    before = [];
+    broke = record { asked = Ok request; reply = reply };
+    later = [];
+    all = refl;
+    first = tt;
+    request = holds.request;
+    asked = (ap (λ (r : Request). Ok r) (sym holds.asked), told);
+    changes = holds.changes;
+    rest = [];
+    among = tt;
+  };
   holds = holds.holds;
 }
 

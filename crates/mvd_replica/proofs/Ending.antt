@@ -32,12 +32,14 @@ pub at_end : (site : SiteValue) (store : State) (before after output : Option (L
 at_end site store before after output came = record {
   turns = [];
   ending = AtEnd;
-  replies = Replies-none site;
-  stands = StandsOn-none site;
-  choice = HasChoice-none;
-  goes_on = tt;
-  told = λ _. tt;
-  follows = replica_follows_self site store;
+  takes = record {
+    replies = Replies-none site;
+    stands = StandsOn-none site;
+    choice = HasChoice-none;
+    goes_on = tt;
+    told = λ _. tt;
+    follows = replica_follows_self site store;
+  };
   count = refl;
   read = λ bytes known.
       let p : (rest : List ℕ) × (after ≡ Some rest) × (frame_at bytes ≡ Ok (None, rest)) = came bytes known in
@@ -64,12 +66,14 @@ pub at_refusal : (site : SiteValue) (store : State) (before after output out : O
 at_refusal site store before after output out e fault came which wrote = record {
   turns = [];
   ending = AtRefusal e;
-  replies = Replies-none site;
-  stands = StandsOn-none site;
-  choice = HasChoice-none;
-  goes_on = tt;
-  told = λ _. tt;
-  follows = replica_follows_self site store;
+  takes = record {
+    replies = Replies-none site;
+    stands = StandsOn-none site;
+    choice = HasChoice-none;
+    goes_on = tt;
+    told = λ _. tt;
+    follows = replica_follows_self site store;
+  };
   count = (refl, few e which);
   read = λ bytes known. (bytes, refl, told e bytes after which (came bytes known));
   wrote = GoesOut-err output out (reply_bytes (Refused e)) WriteFailed fault e wrote;
@@ -88,12 +92,14 @@ at_bye : (old site : SiteValue) (was store : State) (before after output out : O
 at_bye old site was store before after output out frame result came asked same follows wrote = record {
   turns = [];
   ending = AtBye;
-  replies = subst (λ s. Replies s site []) same (Replies-none site);
-  stands = subst (λ s. StandsOn s site []) same (StandsOn-none site);
-  choice = HasChoice-none;
-  goes_on = tt;
-  told = λ _. tt;
-  follows = follows;
+  takes = record {
+    replies = subst (λ s. Replies s site []) same (Replies-none site);
+    stands = subst (λ s. StandsOn s site []) same (StandsOn-none site);
+    choice = HasChoice-none;
+    goes_on = tt;
+    told = λ _. tt;
+    follows = follows;
+  };
   count = refl;
   read = bye_stops before after frame came asked;
   wrote = wrote;
@@ -108,13 +114,15 @@ goes_on old new was store before after output out frame reply sent came replied 
     let turn : Turn = record { asked = asked; reply = sent } in (
       turn,
       record {
-        replies = Replies-one old new turn (RepliesOne-sent old new asked reply sent is replied.long replied.one);
-        stands = StandsOn-one old new turn (RepliesOne-sent old new asked reply sent is replied.long replied.one);
+        takes = record {
+          replies = Replies-one old new turn (RepliesOne-sent old new asked reply sent is replied.long replied.one);
+          stands = StandsOn-one old new turn (RepliesOne-sent old new asked reply sent is replied.long replied.one);
+          choice = HasChoice-sent asked reply sent is replied.choice;
+          goes_on = (replied.goes_on, tt);
+          told = told_sent asked old new reply sent is replied;
+          follows = follows_sent asked old new was store reply sent is replied follows;
+        };
         config = replied.config;
-        choice = HasChoice-sent asked reply sent is replied.choice;
-        goes_on = (replied.goes_on, tt);
-        told = told_sent asked old new reply sent is replied;
-        follows = follows_sent asked old new was store reply sent is replied follows;
         read = λ bytes known.
             let p : (rest : List ℕ) × (after ≡ Some rest) × (frame_at bytes ≡ Ok (Some (frame_value frame), rest)) = came bytes known in
             (p.0, p.1, (frame_value frame, p.0, p.2, refl, refl));
@@ -132,12 +140,14 @@ at_writer old new was store before after output out frame reply sent came replie
     let same : reply_bytes sent ≡ (reply_bytes sent ++ []) ++ [] = sym (append-nil (reply_bytes sent)) ∙ sym (append-nil (reply_bytes sent ++ [])) in record {
       turns = turn ∷ [];
       ending = AtWriter;
-      replies = Replies-one old new turn (RepliesOne-sent old new asked reply sent is replied.long replied.one);
-      stands = StandsOn-one old new turn (RepliesOne-sent old new asked reply sent is replied.long replied.one);
-      choice = HasChoice-sent asked reply sent is replied.choice;
-      goes_on = (replied.goes_on, tt);
-      told = told_sent asked old new reply sent is replied;
-      follows = follows_sent asked old new was store reply sent is replied follows;
+      takes = record {
+        replies = Replies-one old new turn (RepliesOne-sent old new asked reply sent is replied.long replied.one);
+        stands = StandsOn-one old new turn (RepliesOne-sent old new asked reply sent is replied.long replied.one);
+        choice = HasChoice-sent asked reply sent is replied.choice;
+        goes_on = (replied.goes_on, tt);
+        told = told_sent asked old new reply sent is replied;
+        follows = follows_sent asked old new was store reply sent is replied follows;
+      };
       count = refl;
       read = λ bytes known.
           let p : (rest : List ℕ) × (after ≡ Some rest) × (frame_at bytes ≡ Ok (Some (frame_value frame), rest)) = came bytes known in

@@ -262,14 +262,15 @@ among_pushes (request ∷ requests) (turn ∷ turns) (inl here) all = (all.0 req
 among_pushes (request ∷ requests) (turn ∷ turns) (inr later) all = among_pushes (request ∷ requests) turns later all.1
 
 pushes_lost : (turns : List Turn) (site : SiteValue) (db : Database) → AllByRecursion AsksPush turns → HoldsLost turns site db → HoldsPushed site db
-pushes_lost turns site db all lost =
+pushes_lost turns site db all it =
+    let lost = it.lost in
     let parts = all_later lost.before lost.broke lost.later (subst (AllByRecursion AsksPush) lost.all all) in
     record {
       request = lost.request;
       changes = lost.changes;
       rest = lost.rest;
       are_pushes = (parts.0 lost.request lost.asked.0, among_pushes lost.rest lost.later lost.among parts.1);
-      holds = lost.holds;
+      holds = it.holds;
     }
 
 pub follows_pushes : (turns : List Turn) (old new : SiteValue) (before after : Shown) → AllByRecursion AsksPush turns → TurnsFollow turns old new before after → ComesByPushes (λ _ _. Unit {0}) old.states new.states → SideFollows old new before after

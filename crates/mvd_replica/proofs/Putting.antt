@@ -22,13 +22,14 @@ use Rattle.mvd_site.proofs.Answered.{insert_differs}
 use Rattle.mvd_site.proofs.Installed.{broken_stays, states_with, was_whole, whole_after}
 use Rattle.mvd_site.proofs.Outcomes.{refused_fits}
 use Rattle.mvd_site.proofs.Prepare.{answers_from_answer, answers_from_breaking, answers_from_change}
-use Rattle.mvd_replica.specs.Batch.{AnswersOneFrom, AreAmong, TakesAllFrom}
+use Rattle.mvd_replica.specs.Batch.{AnswersOneFrom, AreAmong, Loses, TakesAllFrom, lost_requests}
 use Rattle.mvd_site.specs.Installs.{PutsAll, PutsIfWhole, PutsOne, broken_site, with_group, with_one, with_prepared}
 use Rattle.mvd_replica.specs.Groups.{AllComeTo, AreSendable, ComeInOrder, ComesTo, IsReply, IsSendable, pairs_in, reply_unstored}
 use Rattle.mvd_replica.specs.Sides.{AnswersFromStored, after_all}
 use Rattle.mvd_replica.specs.Turns.{IsToldBroken, IsToldElse, Turn}
 use Rattle.mvd_replica.proofs.Replying.{AddsAt-Refused-none}
 use Rattle.mvd_replica.proofs.Batching.{told_turn}
+use Rattle.mvd_replica.proofs.Batched.{loses_later}
 use Rattle.mvd_replica.proofs.Grouping.{ordered_next}
 
 -- ---- replies as turns
@@ -196,19 +197,10 @@ rest_of config (r ∷ requests) (Change change ∷ group) (x ∷ replies) m site
     rest_of config requests group replies (insert m change.key change.state) all.0 new (ap (λ (s : SiteValue). s.broken) here ∙ was) ordered.1 all.2 in
     (r ∷ later.0, inl ((refl, (all.1.broken was).0), later.1), ap (λ n. after_all config n later.0) ordered.0.0.after ∙ later.2)
 
--- the same of a site that broke, and what it then lacks
+-- the same of a site that broke: with what it lost it has these states
 pub record LostAt (turns : List Turn) (site : SiteValue) (after : States) : Type 0 where
-  pub before : List Turn
-  pub broke : Turn
-  pub later : List Turn
-  pub all : turns ≡ before ++ broke ∷ later
-  pub first : AllByRecursion IsToldElse before
-  pub request : Request
-  pub asked : IsToldBroken request broke
-  pub changes : after_from site.config site.states request ≢ site.states
-  pub rest : List Request
-  pub among : AreAmong rest later
-  pub is : after_all site.config site.states (request ∷ rest) ≡ after
+  pub lost : Loses turns site
+  pub is : after_all site.config site.states (lost_requests lost) ≡ after
 
 lost_here : (requests : List Request) (group : List Prepared) (replies : List Reply) (request : Request) (reply : Reply) (prepared : Prepared) (old mid new : SiteValue) → old.broken ≡ false → mid.broken ≡ true →
     ComesTo old.config old.states request prepared → ComeInOrder old.config (with_prepared old.states prepared) requests group → PutsOne old mid prepared reply → PutsAll mid new group replies →
@@ -223,33 +215,23 @@ lost_here requests group replies request reply (Change change) old mid new was i
     let later : IsRest old.config (insert old.states change.key change.state) (turns_of requests replies) (with_group (insert old.states change.key change.state) group) =
     rest_of old.config requests group replies (insert old.states change.key change.state) mid new is ordered all in
     subst (λ s. LostAt turns s (with_group (insert old.states change.key change.state) group)) (sym end) (record {
-      before = [];
-      broke = record { asked = Ok request; reply = reply };
-      later = turns_of requests replies;
-      all = refl;
-      first = tt;
-      request = request;
-      asked = (refl, puts.0);
-      changes = λ same. insert_differs old.states change.key change.state comes.0.differs (sym comes.0.after ∙ same);
-      rest = later.0;
-      among = later.1;
+      lost = record {
+        before = [];
+        broke = record { asked = Ok request; reply = reply };
+        later = turns_of requests replies;
+        all = refl;
+        first = tt;
+        request = request;
+        asked = (refl, puts.0);
+        changes = λ same. insert_differs old.states change.key change.state comes.0.differs (sym comes.0.after ∙ same);
+        rest = later.0;
+        among = later.1;
+      };
       is = ap (λ n. after_all old.config n later.0) comes.0.after ∙ later.2;
     })
 
 lost_further : (turn : Turn) (turns : List Turn) (site : SiteValue) (after : States) → IsToldElse turn → LostAt turns site after → LostAt (turn ∷ turns) site after
-lost_further turn turns site after none lost = record {
-  before = turn ∷ lost.before;
-  broke = lost.broke;
-  later = lost.later;
-  all = ap (λ l. turn ∷ l) lost.all;
-  first = (none, lost.first);
-  request = lost.request;
-  asked = lost.asked;
-  changes = lost.changes;
-  rest = lost.rest;
-  among = lost.among;
-  is = lost.is;
-}
+lost_further turn turns site after none it = record { lost = loses_later (turn ∷ []) turns site (none, tt) it.lost; is = it.is }
 
 lost_on : (requests : List Request) (group : List Prepared) (replies : List Reply) (request : Request) (reply : Reply) (prepared : Prepared) (old mid new : SiteValue) (is : Bool) → mid.broken ≡ is → old.broken ≡ false →
     ComesTo old.config old.states request prepared → ComeInOrder old.config (with_prepared old.states prepared) requests group → IsSendable request prepared → PutsIfWhole old mid prepared reply → PutsAll mid new group replies →

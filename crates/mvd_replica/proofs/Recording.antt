@@ -60,19 +60,10 @@ module _ (requests : List Request) (group : List Prepared) (replies : List Reply
 
   lost_put : IsSound after → HoldsSite old before.committed → new.broken ≡ true → HoldsLost (turns_of requests replies) new after.committed
   lost_put real holds broken =
-      let lost : LostAt (turns_of requests replies) new (with_group old.states group) = lost_end requests group replies old new was broken ordered sendable all in
+      let it : LostAt (turns_of requests replies) new (with_group old.states group) = lost_end requests group replies old new was broken ordered sendable all in
       record {
-        before = lost.before;
-        broke = lost.broke;
-        later = lost.later;
-        all = lost.all;
-        first = lost.first;
-        request = lost.request;
-        asked = lost.asked;
-        changes = lost.changes;
-        rest = lost.rest;
-        among = lost.among;
-        holds = subst (λ m. HoldsStates new.config.site m after.committed) (sym lost.is) (record {
+        lost = it.lost;
+        holds = subst (λ m. HoldsStates new.config.site m after.committed) (sym it.is) (record {
           records = subst (λ (c : ConfigValue). HoldsRecords 2 c.site after.committed) (sym config_put) (saved old.config.site real holds.records).0;
           alone = alone_put real holds;
           spelled = spelled_put real holds;

@@ -9,7 +9,7 @@ use Rattle.mvd_site.specs.Config.{ConfigValue}
 use Rattle.mvd_site.specs.FromStates.{after_from}
 use Rattle.mvd_site.specs.Held.{States}
 use Rattle.mvd_site.specs.Sites.{SiteValue}
-use Rattle.mvd_replica.specs.Batch.{HoldsLost, TurnsFollow}
+use Rattle.mvd_replica.specs.Batch.{HoldsLost, TurnsFollow, lost_requests}
 use Rattle.mvd_replica.specs.File.{HoldsFile}
 use Rattle.mvd_replica.specs.Kept.{HoldsSite, HoldsStates}
 use Rattle.mvd_replica.specs.Restarts.{AddAll, AllAnswered, AreRuns, IsRun, Run}
@@ -77,10 +77,10 @@ module _ {C : Type 0} (f : C → State) (site : ℕ) (image : Image) (states : S
     pub lost : run.new.broken ≡ true → HoldsLost run.turns run.new (f run.after).committed
     lost broken = is.follows.stored is.sound held_before is.whole broken
 
-    pub left_lost : (it : HoldsLost run.turns run.new (f run.after).committed) → HoldsFile run.left site (after_all run.config run.new.states (it.request ∷ it.rest))
+    pub left_lost : (it : HoldsLost run.turns run.new (f run.after).committed) → HoldsFile run.left site (after_all run.config run.new.states (lost_requests it.lost))
     left_lost it =
-        subst (λ c. HoldsFile run.left site (after_all c run.new.states (it.request ∷ it.rest))) configured
-        (is.closes site _ (subst (λ n. HoldsStates n (after_all run.new.config run.new.states (it.request ∷ it.rest)) (f run.after).committed) numbered it.holds))
+        subst (λ c. HoldsFile run.left site (after_all c run.new.states (lost_requests it.lost))) configured
+        (is.closes site _ (subst (λ n. HoldsStates n (after_all run.new.config run.new.states (lost_requests it.lost)) (f run.after).committed) numbered it.holds))
 
 pub all_answered : {C : Type 0} (f : C → State) (site : ℕ) (image : Image) (states : States) (known : List Write) (runs : List (Run C)) → HoldsFile image site states → Stands states known →
     AreRuns f site image runs → AllAnswered f site known image runs
@@ -97,7 +97,7 @@ all_answered f site image states known (run ∷ runs) file stands (from, number,
         λ added adds.
             all_answered f site run.left _ ((known ++ known_after events) ++ added) runs
             (left_lost f site image states known run file stands from number is events tells it)
-            (all_stand run.config run.new.states (known ++ known_after events) (it.request ∷ it.rest) added
+            (all_stand run.config run.new.states (known ++ known_after events) (lost_requests it.lost) added
             (new_stands f site image states known run file stands from number is events tells) adds) rest,
       ),
 )
@@ -123,7 +123,10 @@ split (turn ∷ turns) request (inr (other, later)) =
 broken_lost : (turns : List Turn) (site : SiteValue) (db : Database) → HoldsBroken (IsFirstBroken turns) site db → HoldsLost turns site db
 broken_lost turns site db it =
     let at = split turns it.request it.asked in
-    record { before = at.before; broke = at.broke; later = at.later; all = at.all; first = at.first; request = it.request; asked = at.asked; changes = it.changes; rest = []; among = tt; holds = it.holds }
+    record {
+      lost = record { before = at.before; broke = at.broke; later = at.later; all = at.all; first = at.first; request = it.request; asked = at.asked; changes = it.changes; rest = []; among = tt };
+      holds = it.holds;
+    }
 
 pub turns_follow : (turns : List Turn) (old new : SiteValue) (before after : State) → ReplicaFollows (IsFirstBroken turns) old new before after → TurnsFollow turns old new before after
 turns_follow turns old new before after it = record {

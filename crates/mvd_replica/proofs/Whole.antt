@@ -12,7 +12,7 @@ use Rattle.mvd_replica.specs.declared.serving.Ended.{Ended}
 use Rattle.mvd_replica.specs.declared.serving.TheConstants.{FRAMES_MAX}
 use Rattle.mvd_replica.specs.Sides.{replica_follows_self}
 use Rattle.mvd_replica.specs.Turns.{AreFrames, Turn}
-use Rattle.mvd_replica.specs.Served.{Side, Ending, AtBye, AtEnd, AtRefusal, AtWriter, Stops, GoesOut, GoesOutAfter, IsCount, IsCutCount, Served, Went, frames_most, replies_bytes, last_bytes, result_of}
+use Rattle.mvd_replica.specs.Served.{Side, Ending, AtBye, AtEnd, AtRefusal, AtWriter, Stops, GoesOut, GoesOutAfter, IsCount, IsCutCount, Served, Takes, Went, frames_most, replies_bytes, last_bytes, result_of}
 use Rattle.mvd_replica.specs.Steps.{Ends, IsLastCount, TakesTurn}
 use Rattle.mvd_replica.proofs.Breaking.{follows_both, told_both}
 use Rattle.mvd_replica.proofs.Replying.{Replies-append, Replies-none, StandsOn-append, StandsOn-none, AreFrames-append, GoesOn-append, HasChoice-none, HasChoice-append}
@@ -23,26 +23,33 @@ replies_bytes-append first second = flat_map-append (λ (t : Turn). reply_bytes 
 -- no turn at all
 pub Went-none : (side : Side) → Went [] side side
 Went-none side = record {
-  replies = Replies-none side.site;
-  stands = StandsOn-none side.site;
+  takes = record {
+    replies = Replies-none side.site;
+    stands = StandsOn-none side.site;
+    choice = HasChoice-none;
+    goes_on = tt;
+    told = λ _. tt;
+    follows = replica_follows_self side.site side.store;
+  };
   config = refl;
-  choice = HasChoice-none;
-  goes_on = tt;
-  told = λ _. tt;
-  follows = replica_follows_self side.site side.store;
   read = λ bytes known. (bytes, known, refl);
   wrote = Appends-nil side.output;
 }
 
-pub Went-append : (first second : List Turn) (a b c : Side) → Went first a b → Went second b c → Went (first ++ second) a c
-Went-append first second a b c one other = record {
-  replies = Replies-append a.site b.site c.site first second one.config one.replies other.replies;
+Takes-append : (first second : List Turn) (a b c : Side) → b.site.config ≡ a.site.config → Takes first a b → Takes second b c → Takes (first ++ second) a c
+Takes-append first second a b c config one other = record {
+  replies = Replies-append a.site b.site c.site first second config one.replies other.replies;
   stands = StandsOn-append a.site b.site c.site first second one.stands other.stands;
-  config = other.config ∙ one.config;
   choice = HasChoice-append first second one.choice other.choice;
   goes_on = GoesOn-append first second one.goes_on other.goes_on;
   told = told_both first second a.site b.site c.site a.store b.store c.store one.follows other.follows one.told other.told;
   follows = follows_both first second a.site b.site c.site a.store b.store c.store one.follows other.follows one.told;
+}
+
+pub Went-append : (first second : List Turn) (a b c : Side) → Went first a b → Went second b c → Went (first ++ second) a c
+Went-append first second a b c one other = record {
+  takes = Takes-append first second a b c one.config one.takes other.takes;
+  config = other.config ∙ one.config;
   read = λ bytes known.
       let p : (rest : List ℕ) × (b.input ≡ Some rest) × AreFrames first bytes rest = one.read bytes known in
       let q : (rest : List ℕ) × (c.input ≡ Some rest) × AreFrames second p.0 rest = other.read p.0 p.1 in
@@ -84,12 +91,7 @@ pub Served-after : (turns : List Turn) (a b c : Side) (result : Result Ended Ref
 Served-after turns a b c result one room last = record {
   turns = turns ++ last.turns;
   ending = last.ending;
-  replies = Replies-append a.site b.site c.site turns last.turns one.config one.replies last.replies;
-  stands = StandsOn-append a.site b.site c.site turns last.turns one.stands last.stands;
-  choice = HasChoice-append turns last.turns one.choice last.choice;
-  goes_on = GoesOn-append turns last.turns one.goes_on last.goes_on;
-  told = told_both turns last.turns a.site b.site c.site a.store b.store c.store one.follows last.follows one.told last.told;
-  follows = follows_both turns last.turns a.site b.site c.site a.store b.store c.store one.follows last.follows one.told;
+  takes = Takes-append turns last.turns a b c one.config one.takes last.takes;
   count = subst (λ n. IsCount n last.ending) (sym (length-append turns last.turns)) (counted (length turns) (length last.turns) last.ending (subst (λ m. length turns < m) most room) last.count);
   read = λ bytes known.
       let p : (rest : List ℕ) × (b.input ≡ Some rest) × AreFrames turns bytes rest = one.read bytes known in
@@ -118,12 +120,14 @@ pub Served-full : (turns : List Turn) (a b : Side) (output : Option (List ℕ)) 
 Served-full turns a b output fault one full told = record {
   turns = turns;
   ending = AtRefusal TooManyRequests;
-  replies = one.replies;
-  stands = one.stands;
-  choice = one.choice;
-  goes_on = one.goes_on;
-  told = one.told;
-  follows = one.follows;
+  takes = record {
+    replies = one.takes.replies;
+    stands = one.takes.stands;
+    choice = one.takes.choice;
+    goes_on = one.takes.goes_on;
+    told = one.takes.told;
+    follows = one.takes.follows;
+  };
   count = inr (full ∙ most, refl);
   read = λ bytes known.
       let p : (rest : List ℕ) × (b.input ≡ Some rest) × AreFrames turns bytes rest = one.read bytes known in

@@ -48,9 +48,9 @@ AreAmong [] turns = ⊤
 AreAmong (request ∷ requests) [] = ⊥
 AreAmong (request ∷ requests) (turn ∷ turns) = (IsToldBroken request turn × AreAmong requests turns) ⊎ AreAmong (request ∷ requests) turns
 
--- What the database holds of a site that turns broke: the states that the site had, with what the first request changes that was
--- told 22, and with what some of the later ones change, those of the same commit
-pub record HoldsLost (turns : List Turn) (site : SiteValue) (db : Database) : Type 0 where
+-- What a site that turns broke has lost: what the first request changes that was told 22, and what some of the later ones change,
+-- those of the same commit
+pub record Loses (turns : List Turn) (site : SiteValue) : Type 0 where
   pub before : List Turn
   pub broke : Turn
   pub later : List Turn
@@ -61,7 +61,15 @@ pub record HoldsLost (turns : List Turn) (site : SiteValue) (db : Database) : Ty
   pub changes : after_from site.config site.states request ≢ site.states
   pub rest : List Request
   pub among : AreAmong rest later
-  pub holds : HoldsStates site.config.site (after_all site.config site.states (request ∷ rest)) db
+
+-- the requests that it lost
+abbrev pub lost_requests : {turns : List Turn} {site : SiteValue} → Loses turns site → List Request
+lost_requests lost = lost.request ∷ lost.rest
+
+-- The database holds the states that the site had, with what it lost
+pub record HoldsLost (turns : List Turn) (site : SiteValue) (db : Database) : Type 0 where
+  pub lost : Loses turns site
+  pub holds : HoldsStates site.config.site (after_all site.config site.states (lost_requests lost)) db
 
 -- What turns do to a replica. It keeps its configuration, and once broken all of its site. If the store is sound now it was, and
 -- if it held the site it does; once the site is broken the store stays as it is, and if that came by these turns it holds what the

@@ -8,7 +8,7 @@ use Rattle.mvd_site.specs.Config.{ConfigValue}
 use Rattle.mvd_site.specs.Held.{AreHeld, States}
 use Rattle.mvd_site.specs.Known.{Adds}
 use Rattle.mvd_site.specs.Sites.{SiteValue}
-use Rattle.mvd_replica.specs.Batch.{HoldsLost, TurnsFollow}
+use Rattle.mvd_replica.specs.Batch.{HoldsLost, TurnsFollow, lost_requests}
 use Rattle.mvd_replica.specs.File.{HoldsFile, OpensFile}
 use Rattle.mvd_replica.specs.Kept.{HoldsStates}
 use Rattle.mvd_replica.specs.Turns.{AllTold, Event, Replies, StandsOn, TellsTurns, Turn, known_after}
@@ -60,6 +60,6 @@ AllAnswered f site known image [] = (states : States) × HoldsFile image site st
 AllAnswered f site known image (run ∷ runs) = (events : List Event) → TellsTurns events run.turns →
     AllTold run.config known false events run.new.broken
     × (run.new.broken ≡ false → AllAnswered f site (known ++ known_after events) run.left runs)
-    × (run.new.broken ≡ true → (lost : HoldsLost run.turns run.new (f run.after).committed)
-    × ((added : List Write) → AddAll run.config (known ++ known_after events) (lost.request ∷ lost.rest) added
+    × (run.new.broken ≡ true → (it : HoldsLost run.turns run.new (f run.after).committed)
+    × ((added : List Write) → AddAll run.config (known ++ known_after events) (lost_requests it.lost) added
     → AllAnswered f site ((known ++ known_after events) ++ added) run.left runs))

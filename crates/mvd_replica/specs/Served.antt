@@ -98,17 +98,27 @@ pub record WentOut (old new : Option (List ℕ)) (turns : List Turn) (ending : E
   pub count : IsCutCount (length cut) ending
   pub wrote : GoesOutAfter old new (replies_bytes whole) (replies_bytes cut ++ last_bytes broken ending) (Err WriteFailed) result (result_of ending)
 
--- Every frame was answered from the writes known then, and the connection ended so. The records follow the states; where the site
--- broke, no request had been told 22 before, and they hold the change of the first that was
+-- What turns of a connection do to a side. The records follow the states; where the site broke, no request had been told 22 before,
+-- and they hold the change of the first that was
+pub record Takes (turns : List Turn) (old new : Side) : Type 0 where
+  -- each reply is one that may be given from the writes known then
+  pub replies : Replies old.site new.site turns
+  -- the states stand for all that is known, also where the site broke
+  pub stands : StandsOn old.site new.site turns
+  -- there is a choice of what the turns added that fits
+  pub choice : (events : List Event) × TellsTurns events turns
+  -- none of them is a Bye
+  pub goes_on : AllByRecursion GoesOn turns
+  -- none is told 22, unless the site is broken
+  pub told : new.site.broken ≡ false → AllByRecursion IsToldElse turns
+  -- the records follow
+  pub follows : ReplicaFollows (IsFirstBroken turns) old.site new.site old.store new.store
+
+-- Every frame was answered, and the connection ended so
 pub record Served (old new : Side) (result : Result Ended Refusal) : Type 0 where
   pub turns : List Turn
   pub ending : Ending
-  pub replies : Replies old.site new.site turns
-  pub stands : StandsOn old.site new.site turns
-  pub choice : (events : List Event) × TellsTurns events turns
-  pub goes_on : AllByRecursion GoesOn turns
-  pub told : new.site.broken ≡ false → AllByRecursion IsToldElse turns
-  pub follows : ReplicaFollows (IsFirstBroken turns) old.site new.site old.store new.store
+  pub takes : Takes turns old new
   pub count : IsCount (length turns) ending
   pub read : (bytes : List ℕ) → old.input ≡ Some bytes → (rest : List ℕ) × AreFrames turns bytes rest × Stops rest new.input ending
   pub wrote : GoesOut old.output new.output (replies_bytes turns ++ last_bytes new.site.broken ending) (Err WriteFailed) result (result_of ending)
@@ -116,12 +126,7 @@ pub record Served (old new : Side) (result : Result Ended Refusal) : Type 0 wher
 
 -- turns that were taken, after which the connection goes on
 pub record Went (turns : List Turn) (old new : Side) : Type 0 where
-  pub replies : Replies old.site new.site turns
-  pub stands : StandsOn old.site new.site turns
+  pub takes : Takes turns old new
   pub config : new.site.config ≡ old.site.config
-  pub choice : (events : List Event) × TellsTurns events turns
-  pub goes_on : AllByRecursion GoesOn turns
-  pub told : new.site.broken ≡ false → AllByRecursion IsToldElse turns
-  pub follows : ReplicaFollows (IsFirstBroken turns) old.site new.site old.store new.store
   pub read : (bytes : List ℕ) → old.input ≡ Some bytes → (rest : List ℕ) × (new.input ≡ Some rest) × AreFrames turns bytes rest
   pub wrote : Appends old.output new.output (replies_bytes turns)

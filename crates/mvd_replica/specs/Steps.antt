@@ -1,6 +1,5 @@
 -- One frame of a connection.
 use Rattle.std.specs.Prelude.{◌≡◌, ◌≢◌, ◌⊎◌, ℕ, false, true, List, [], ◌∷◌, ◌++◌, length, Option, Some, None, Result, Ok, Err}
-use Rattle.std.specs.List.{AllByRecursion}
 use Rattle.mvd_dots.specs.declared.refusals.Refusal.{Refusal}
 use Rattle.mvd_dots.specs.declared.refusals.Refusal.TheVariants.{Broken, Memory, WriteFailed, TooManyRequests}
 use Rattle.mvd_keys.specs.Writes.{Write}
@@ -16,8 +15,8 @@ use Rattle.mvd_replica.specs.declared.replica.Replica.{Replica}
 use Rattle.mvd_replica.specs.declared.serving.Ended.{Ended}
 use Rattle.mvd_replica.specs.Replicas.{site_of, store_of}
 use Rattle.mvd_replica.specs.Sides.{ReplicaFollows}
-use Rattle.mvd_replica.specs.Turns.{AddsAt, AreFrames, Event, GoesOn, IsFirstBroken, IsToldElse, Replies, RepliesOne, StandsOn, TellsTurns, Turn}
-use Rattle.mvd_replica.specs.Served.{AtBye, AtEnd, AtRefusal, AtWriter, Ending, GoesOut, Side, Stops, Went, last_bytes, replies_bytes, result_of}
+use Rattle.mvd_replica.specs.Turns.{AddsAt, AreFrames, IsToldElse, RepliesOne, Turn}
+use Rattle.mvd_replica.specs.Served.{AtBye, AtEnd, AtRefusal, AtWriter, Ending, GoesOut, Side, Stops, Takes, Went, last_bytes, replies_bytes, result_of}
 use Rattle.sqlite_trees.specs.declared.store.Store.{Ghosts}
 
 -- the reply that goes out: want of memory may stand in place of one that needs memory
@@ -65,12 +64,7 @@ IsLastCount count AtWriter = count ≡ 1
 pub record Ends (old new : Side) (result : Result Ended Refusal) : Type 0 where
   pub turns : List Turn
   pub ending : Ending
-  pub replies : Replies old.site new.site turns
-  pub stands : StandsOn old.site new.site turns
-  pub choice : (events : List Event) × TellsTurns events turns
-  pub goes_on : AllByRecursion GoesOn turns
-  pub told : new.site.broken ≡ false → AllByRecursion IsToldElse turns
-  pub follows : ReplicaFollows (IsFirstBroken turns) old.site new.site old.store new.store
+  pub takes : Takes turns old new
   pub count : IsLastCount (length turns) ending
   pub read : (bytes : List ℕ) → old.input ≡ Some bytes → (rest : List ℕ) × AreFrames turns bytes rest × Stops rest new.input ending
   pub wrote : GoesOut old.output new.output (replies_bytes turns ++ last_bytes new.site.broken ending) (Err WriteFailed) result (result_of ending)

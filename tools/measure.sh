@@ -91,19 +91,22 @@ measure() {
     done
 }
 
-# counted PROGRAM: the instructions of one run on the script, in millions.
+# counted PROGRAM: the instructions of one run on the script.
 counted() {
-    valgrind --tool=callgrind --callgrind-out-file=/dev/null "$1" sim < "$work/script" 2>&1 > /dev/null |
-        awk '/Collected/ { printf "%.0f", $NF / 1000000 }'
+    valgrind --tool=callgrind --callgrind-out-file=/dev/null "$1" sim < "$work/script" 2>&1 > /dev/null | sed -n 's/.*Collected : //p'
 }
 
 # count KIND N: what each program counts, which is the same at each run.
 count() {
     script "$1" "$2" > "$work/script"
-    mvd=$(counted "$program")
-    printf '| %s | %s | %s |' "$1" "$2" "$mvd"
-    if [ -n "$before" ]; then counted "$before" | awk -v mvd="$mvd" '{ printf " %s | %.2f |", $1, mvd / $1 }'; fi
-    echo " ${other:+$(counted "$other")} |"
+    for name in "$program" ${before:+"$before"} ${other:+"$other"}; do counted "$name"; done |
+        awk -v kind="$1" -v n="$2" -v before="$before" -v other="$other" '
+        { million[NR] = sprintf("%.0f", $1 / 1000000) }
+        END {
+            row = "| " kind " | " n " | " million[1]
+            if (before) row = row " | " million[2] " | " sprintf("%.2f", million[1] / million[2])
+            print row " | " (other ? million[NR] : "-") " |"
+        }'
 }
 
 # allocated PROGRAM N: how often a program allocates in a run of so many puts at one key.

@@ -130,6 +130,7 @@ for n in $writes; do
 done
 for n in ${MEASURE_WRITES:-$writes 800000}; do measure small $n; done
 if command -v valgrind > /dev/null; then
+    echo
     echo "| script | writes | mvd: millions of instructions |${before:+ before | ratio |} twin |"
     echo "|---|---|---|${before:+---|---|}---|"
     for kind in core blind rows tree small; do count $kind "${writes%% *}"; done

@@ -7,7 +7,8 @@ usage: tools/many.py PROGRAM
 PROGRAM is `mvd` as built. It ends with 1 at the first answer that is not the one wanted, and else prints the rows of the tables in
 docs/PERFORMANCE.md. The files are made in TMPDIR (else /tmp), so the puts are those of its disk. MANY_SECONDS has another time for
 each figure than 3 seconds, and MANY_KILLS another number of servers that are killed than 5. With OTHER, an `mvd` of before, it
-only compares how often one client puts, in MANY_TURNS turns (else 9) of a run of each program.
+only compares how often one client puts, and eight one after the other, in MANY_TURNS turns (else 9) of a run of each program. Beside
+the programs, Python's `sqlite3` makes upserts of states as long, each in a commit of its own.
 """
 import contextlib
 import itertools
@@ -18,6 +19,7 @@ import resource
 import selectors
 import signal
 import socket
+import sqlite3
 import struct
 import subprocess
 import sys
@@ -25,7 +27,7 @@ import tempfile
 import threading
 import time
 
-from measure_stored import REFUSED, context, document, frame, get, memory, processor, short
+from measure_stored import REFUSED, context, document, frame, get, memory, processor, short, state
 
 PROGRAMS = [os.path.realpath(path) for path in sys.argv[1:]] if len(sys.argv) in (2, 3) else sys.exit(__doc__)
 PROGRAM = PROGRAMS[0]
@@ -37,6 +39,8 @@ BYE, DONE = frame(0x2F), frame(0xA3)
 WRITTEN, STATE = 0xA2, 0xA1
 READ_FAILED = frame(REFUSED, b"\x22")
 BIG = 60_000
+BAD = 3
+MODES = {"SQLite with a journal": "delete", "SQLite with a log": "wal"}
 
 
 def wanted(what, holds):
@@ -369,46 +373,100 @@ def send_puts(key, count):
     begun += [time.perf_counter()] * count
 
 
-def puts(path, clients, in_flight, program=PROGRAM):
+def run_load(port, shares, in_flight, seconds):
+    """Runs a process for each share of the clients: how long each put took."""
+    workers = []
+    for share in filter(None, shares):
+        here, there = multiprocessing.Pipe()
+        worker = multiprocessing.Process(target=load, args=(port, share, in_flight, seconds, there))
+        worker.start()
+        workers.append((worker, here))
+    for _, pipe in workers:
+        pipe.recv()
+    for _, pipe in workers:
+        pipe.send("go")
+    took = [second for _, pipe in workers for second in pipe.recv()]
+    for worker, _ in workers:
+        worker.join()
+    return took
+
+
+def puts(path, clients, in_flight, program=PROGRAM, beside=0, in_turn=False):
     """How long each put took, by rising time, and what the server used of the processor."""
-    with Server(path, "--conns", str(clients), program=program) as server:
+    with Server(path, "--conns", str(clients + beside), program=program) as server:
+        bad = bad_clients(server) if beside else []
         names = [f"n{n}" for n in range(clients)]
-        workers = []
-        for share in filter(None, (names[n::3] for n in range(3))):
-            here, there = multiprocessing.Pipe()
-            worker = multiprocessing.Process(target=load, args=(server.port, share, in_flight, SECONDS, there))
-            worker.start()
-            workers.append((worker, here))
-        for _, pipe in workers:
-            pipe.recv()
-        for _, pipe in workers:
-            pipe.send("go")
-        took = sorted(second for _, pipe in workers for second in pipe.recv())
-        for worker, _ in workers:
-            worker.join()
+        if in_turn:
+            took = [second for name in names for second in run_load(server.port, [[name]], in_flight, SECONDS / clients)]
+        else:
+            took = run_load(server.port, (names[n::3] for n in range(3)), in_flight, SECONDS)
         used = processor(server.process.pid)
+        for peer in bad:
+            peer.close()
         server.ended()
-    return took, used
+    return sorted(took), used
 
 
-def figure(path, clients, in_flight):
-    took, used = puts(path, clients, in_flight)
+def bad_clients(server):
+    """A client that is silent, one that stopped in a frame, and one that is deaf."""
+    silent, stopped, deaf = (server.client(4096) for _ in range(BAD))
+    stopped.sendall(big_put("s")[:-1])
+    for _ in range(10):
+        wanted("no big put", ask(deaf, big_put("big"))[0] == WRITTEN)
+    fill(deaf, itertools.repeat(get("big")))
+    return silent, stopped, deaf
+
+
+def upserts(path, mode):
+    """How long each upsert took that Python's `sqlite3` made, by rising time."""
+    db = sqlite3.connect(path, isolation_level=None)
+    db.execute(f"PRAGMA journal_mode = {mode}").fetchall()
+    db.execute("CREATE TABLE states2 (key TEXT PRIMARY KEY NOT NULL, state BLOB NOT NULL) STRICT")
+    took, end = [], time.perf_counter() + SECONDS
+    while (begun := time.perf_counter()) < end:
+        row = f"n0-{len(took) % 64}", state(1, len(took) // 64 + 1)
+        db.execute("INSERT INTO states2 VALUES (?, ?) ON CONFLICT (key) DO UPDATE SET state = excluded.state", row)
+        took.append(time.perf_counter() - begun)
+    db.close()
+    return sorted(took)
+
+
+def told(took):
     slowest = took[-len(took) // 100:]
-    return (f"| {clients} | {in_flight} | {len(took) / SECONDS:.0f} | {took[len(took) // 2] * 1000:.2f} ms | "
-            f"{slowest[0] * 1000:.2f} ms | {used / len(took) * 1e6:.0f} µs |")
+    return f"{len(took) / SECONDS:.0f} | {took[len(took) // 2] * 1000:.2f} ms | {slowest[0] * 1000:.2f} ms"
+
+
+def print_figures(folder):
+    print("| clients | in flight of each | puts a second | median | slowest hundredth from | a put: time |\n|---|---|---|---|---|---|")
+    rates = {}
+    for clients, in_flight, beside in (1, 1, 0), (8, 1, 0), (64, 1, 0), (256, 1, 0), (8, 64, 0), (64, 1, BAD):
+        took, used = puts(os.path.join(folder, f"{clients}-{in_flight}-{beside}.db"), clients, in_flight, beside=beside)
+        rates[clients, in_flight, beside] = len(took)
+        who = f"{clients} beside a silent, a stopped and a deaf one" if beside else clients
+        print(f"| {who} | {in_flight} | {told(took)} | {used / len(took) * 1e6:.0f} µs |", flush=True)
+    for who, mode in MODES.items():
+        print(f"| {who} | 1 | {told(upserts(os.path.join(folder, f'{mode}.db'), mode))} | - |", flush=True)
+    print(f"\n8 clients with 64 in flight put {rates[8, 64, 0] / rates[1, 1, 0]:.1f} times as often as one with one")
 
 
 def compared(folder):
-    """One client's puts, by each program in turn, each on a file of its own."""
-    print("| program | puts a second: best | middle | least | the server's processor for a put: least |\n|---|---|---|---|---|")
-    seen = {program: [] for program in PROGRAMS}
+    """One client's puts, and those of eight one after the other, by each program in turn, and upserts, each on a file of its own."""
+    seen = {}
     for turn in range(TURNS):
         for number, program in enumerate(PROGRAMS):
-            took, used = puts(os.path.join(folder, f"{turn}-{number}.db"), 1, 1, program)
-            seen[program].append((len(took) / SECONDS, used / len(took) * 1e6))
-    for program, runs in seen.items():
-        rates = sorted(rate for rate, _ in runs)
-        print(f"| {program} | {rates[-1]:.0f} | {rates[len(rates) // 2]:.0f} | {rates[0]:.0f} | {min(used for _, used in runs):.0f} µs |")
+            for clients, what in (1, "1 client"), (8, "8 clients, one after the other"):
+                path = os.path.join(folder, f"{turn}-{number}-{clients}.db")
+                took, used = puts(path, clients, 1, program, in_turn=clients > 1)
+                seen.setdefault((program, what), []).append((took, f"{used / len(took) * 1e6:.0f} µs"))
+        for who, mode in MODES.items():
+            seen.setdefault((who, "1 client"), []).append((upserts(os.path.join(folder, f"{turn}-{mode}.db"), mode), "-"))
+    print("| program | clients | puts a second: best | least | of the middle run: puts a second | median | slowest hundredth from | a put: time |")
+    print("|---|---|---|---|---|---|---|---|")
+    for (program, what), runs in seen.items():
+        runs.sort(key=lambda run: len(run[0]))
+        took, used = runs[len(runs) // 2]
+        most, least = (f"{len(runs[at][0]) / SECONDS:.0f}" for at in (-1, 0))
+        print(f"| {program} | {what} | {most} | {least} | {told(took)} | {used} |")
     print(f"\nload {os.getloadavg()}")
 
 
@@ -422,10 +480,8 @@ def main():
         for check in checks:
             path = os.path.join(folder, f"{check.__name__}.db")
             print(f"| {' '.join(check.__doc__.split())} | {check(path)} |", flush=True)
-        print(f"\nload {os.getloadavg()}\n\n| clients | in flight of each | puts a second | median | slowest hundredth from | a put: time |")
-        print("|---|---|---|---|---|---|")
-        for clients, in_flight in (1, 1), (8, 1), (64, 1), (256, 1), (8, 64):
-            print(figure(os.path.join(folder, f"{clients}-{in_flight}.db"), clients, in_flight), flush=True)
+        print(f"\nload {os.getloadavg()}\n")
+        print_figures(folder)
 
 
 if __name__ == "__main__":

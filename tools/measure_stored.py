@@ -7,6 +7,7 @@ PROGRAM is `mvd` as built. FOLDER has a program to compare with, target/release/
 --release` makes it. Each figure is the best of three runs, the programs in turn, but of a first session, which is run once. What is
 measured runs on the last processor, and the clients on the others. The files are made in TMPDIR (else /tmp), so the puts are those
 of its disk. MEASURE_KEYS has other numbers of keys than 10000 100000 1000000, and MEASURE_RUNS another number of runs than 3.
+MEASURE_BEFORE has an earlier `mvd` to compare with. It runs in turn with PROGRAM, and has rows of its own in each table.
 """
 import os
 import shutil
@@ -28,6 +29,10 @@ DIFFERING = 10
 STRIDE = 7919  # how far apart the keys of two puts or reads are
 PROCESSORS = sorted(os.sched_getaffinity(0))
 REFUSED = 0xEE
+OPENING = {"opened": "{:.2f} s", "refused": "{:.2f} s", "opening": "{:.2f} s", "most": "{:.1f} MiB", "held": "{:.1f} MiB",
+           "rows": "{:.2f} s", "rows_went_by": "{:.2f} s", "opened/rows": "{:.2f}"}
+ASKING = {"1/put": "{:.0f}", "put_used": "{:.6f} s", "1/journal": "{:.0f}", "1/log": "{:.0f}", "1/read": "{:.0f}", "read_used": "{:.6f} s"}
+SESSIONS = {"questions": "{}", "session": "{:.3f} s", "asking": "{:.2f} s", "asked": "{:.2f} s"}
 
 
 # What stands in a file, and what goes over a socket.
@@ -223,78 +228,83 @@ class Best:
         for name, figure in figures.items():
             self.least[name] = min(figure, self.least.get(name, figure))
 
-    def told(self, form, name):
-        return form.format(self.least[name]) if name in self.least else "-"
-
-    def rate(self, name):
-        return f"{1 / self.least[name]:.0f}" if name in self.least else "-"
-
-    def ratio(self, name, other):
-        return f"{self.least[name] / self.least[other]:.2f}" if other in self.least else "-"
+    def figure(self, name):
+        """A figure, if there is one; `1/name` is how often in a second, and `name/other` a ratio."""
+        parts = [1 if part == "1" else self.least.get(part) for part in name.split("/")]
+        return None if None in parts else parts[0] / parts[1] if parts[1:] else parts[0]
 
 
-def compare_rows(best, yardstick, path):
-    if yardstick:
-        begun = time.perf_counter()
-        _, used = ended(start([yardstick, "rows", path]))
-        best.add(rows=used, rows_went_by=time.perf_counter() - begun)
+def print_rows(head, found, forms):
+    """Prints a row of figures for each program, and one of how those of PROGRAM are to those of before."""
+    rows = {name: [best.figure(figure) for figure in forms] for name, best in found.items()}
+    for name, figures in rows.items():
+        cells = ["-" if figure is None else form.format(figure) for figure, form in zip(figures, forms.values())]
+        print(f"| {'' if name == 'mvd' else name + ', '}{head} | {' | '.join(cells)} |")
+    if "before" in rows:
+        cells = [f"{now / then:.2f}" if then else "-" for now, then in zip(rows["mvd"], rows["before"])]
+        print(f"| ratio, {head} | {' | '.join(cells)} |")
 
 
-def compare_upserts(best, yardstick, name, path, keys):
-    if yardstick:
-        told, _ = ended(start([yardstick, "upserts", path, str(PUTS), str(keys)]))
-        best.add(**{name: float(told) / PUTS})
+def rows_by(yardstick, path):
+    begun = time.perf_counter()
+    _, used = ended(start([yardstick, "rows", path]))
+    return {"rows": used, "rows_went_by": time.perf_counter() - begun}
 
 
-def measure_file(program, yardstick, folder, keys):
-    """Opening a file, reads of it and puts, each in turn with the yardstick."""
-    ours, journal, log = (os.path.join(folder, name) for name in ("ours.db", "journal.db", "log.db"))
-    make(ours, 1, keys)
-    for copy in journal, log:
-        shutil.copy(ours, copy)
+def upserts_by(yardstick, name, path, keys):
+    told, _ = ended(start([yardstick, "upserts", path, str(PUTS), str(keys)]))
+    return {name: float(told) / PUTS}
+
+
+def measure_file(programs, yardstick, folder, keys):
+    """Opening a file, reads of it and puts, by each program in turn, each on a file of its own, and by the yardstick."""
+    journal, log, *ours = (os.path.join(folder, f"{name}.db") for name in ("journal", "log", *programs))
+    make(journal, 1, keys)
+    for copy in log, *ours:
+        shutil.copy(journal, copy)
     with_log(log)
     reads = b"".join(map(get, keys_of(READS, keys)))
-    best = Best()
+    found = {name: Best() for name in programs}
     for turn in range(RUNS):
-        compare_rows(best, yardstick, journal)
-        best.add(refused=refused(program, ours))
-        server = Server(program, ours)
-        pid = server.process.pid
-        best.add(opened=server.opened, opening=server.opening, most=memory(pid, "VmHWM"), held=memory(pid, "VmRSS"))
-        went_by, used = server.ask(reads, READS * len(frame(0xA1, state(1, 1))))
-        best.add(read=went_by / READS, read_used=used / READS)
-        puts = b"".join(put(key, turn + 2) for key in keys_of(PUTS, keys))
-        went_by, used = server.ask(puts, PUTS * len(frame(0xA2, bytes(12))))
-        best.add(put=went_by / PUTS, put_used=used / PUTS)
-        server.end()
-        compare_upserts(best, yardstick, "journal", journal, keys)
-        compare_upserts(best, yardstick, "log", log, keys)
-    return best
+        for best, program, path in zip(found.values(), programs.values(), ours):
+            measure_turn(best, program, path, keys, turn, reads)
+        if yardstick:
+            plain = {**rows_by(yardstick, journal), **upserts_by(yardstick, "journal", journal, keys), **upserts_by(yardstick, "log", log, keys)}
+            for best in found.values():
+                best.add(**plain)
+    return found
 
 
-def measure_session(program, folder, keys, odd):
+def measure_turn(best, program, path, keys, turn, reads):
+    best.add(refused=refused(program, path))
+    server = Server(program, path)
+    pid = server.process.pid
+    best.add(opened=server.opened, opening=server.opening, most=memory(pid, "VmHWM"), held=memory(pid, "VmRSS"))
+    went_by, used = server.ask(reads, READS * len(frame(0xA1, state(1, 1))))
+    best.add(read=went_by / READS, read_used=used / READS)
+    puts = b"".join(put(key, turn + 2) for key in keys_of(PUTS, keys))
+    went_by, used = server.ask(puts, PUTS * len(frame(0xA2, bytes(12))))
+    best.add(put=went_by / PUTS, put_used=used / PUTS)
+    server.end()
+
+
+def measure_session(best, program, folder, keys, odd):
     """A session of a site with keys of which so many differ, or of a site with none."""
+    clear(folder)
     near, far = (os.path.join(folder, name) for name in ("near.db", "far.db"))
-    best = Best()
-    for _ in range(RUNS if odd else 1):
-        make(far, 1, keys)
-        if odd:
-            make(near, 2, keys, odd)
-        server = Server(program, far)
-        used = processor(server.process.pid)
-        relay = Relay(server)
-        relay.start()
-        told, client = ended(start([program, "sync", "--db", near, "--site", "2", "--port", str(relay.port)]))
-        relay.join()
-        _, in_all = ended(server.process)
-        if told.splitlines()[0] != f"keys {odd or keys}":
-            sys.exit(f"a session told {told}")
-        best.add(questions=relay.questions, session=relay.last - relay.first, asked=in_all - used, asking=client)
-        for path in near, far:
-            for name in path, path + "-wal":
-                if os.path.exists(name):
-                    os.remove(name)
-    return best
+    make(far, 1, keys)
+    if odd:
+        make(near, 2, keys, odd)
+    server = Server(program, far)
+    used = processor(server.process.pid)
+    relay = Relay(server)
+    relay.start()
+    told, client = ended(start([program, "sync", "--db", near, "--site", "2", "--port", str(relay.port)]))
+    relay.join()
+    _, in_all = ended(server.process)
+    if told.splitlines()[0] != f"keys {odd or keys}":
+        sys.exit(f"a session told {told}")
+    best.add(questions=relay.questions, session=relay.last - relay.first, asked=in_all - used, asking=client)
 
 
 def seconds_of_a_sync(folder):
@@ -312,34 +322,29 @@ def seconds_of_a_sync(folder):
     return best.least["sync"]
 
 
-def print_files(program, yardstick, folder):
-    found = [(keys, measure_file(program, yardstick, folder, keys)) for keys in SIZES if not clear(folder)]
+def print_files(programs, yardstick, folder):
+    found = [(keys, measure_file(programs, yardstick, folder, keys)) for keys in SIZES if not clear(folder)]
     print("\n| keys | mvd opens: time | of it the database | went by | most memory | when open | yardstick reads: time | went by | ratio |")
     print("|---|---|---|---|---|---|---|---|---|")
-    for keys, best in found:
-        cells = [best.told("{:.2f} s", "opened"), best.told("{:.2f} s", "refused"), best.told("{:.2f} s", "opening"),
-                 best.told("{:.1f} MiB", "most"), best.told("{:.1f} MiB", "held"), best.told("{:.2f} s", "rows"), best.told("{:.2f} s", "rows_went_by"),
-                 best.ratio("opened", "rows")]
-        print(f"| {keys} | {' | '.join(cells)} |")
+    for keys, bests in found:
+        print_rows(keys, bests, OPENING)
     print("\n| keys | puts a second | a put: time | upserts a second: journal | log | reads a second | a read: time |")
-    print("|---|---|---|---|---|---|---|")
-    for keys, best in found:
-        cells = [best.rate("put"), best.told("{:.6f} s", "put_used"), best.rate("journal"), best.rate("log"),
-                 best.rate("read"), best.told("{:.6f} s", "read_used")]
-        print(f"| {keys} | {' | '.join(cells)} |")
+    print("|---|---|---|---|---|---|---|", flush=True)
+    for keys, bests in found:
+        print_rows(keys, bests, ASKING)
 
 
-def print_sessions(program, folder):
+def print_sessions(programs, folder):
     print("\n| keys | differ | questions | went by | time: who asks | who is asked |")
-    print("|---|---|---|---|---|---|")
+    print("|---|---|---|---|---|---|", flush=True)
     few = [keys for keys in SIZES if keys <= MOST_CARRIED]
     more = [keys for keys in SIZES if keys > MOST_CARRIED]
     for keys, odd in [(k, DIFFERING) for k in few] + [(k, 0) for k in few] + [(k, DIFFERING) for k in more]:
-        clear(folder)
-        best = measure_session(program, folder, keys, odd)
-        cells = [best.told("{}", "questions"), best.told("{:.3f} s", "session"), best.told("{:.2f} s", "asking"),
-                 best.told("{:.2f} s", "asked")]
-        print(f"| {keys} | {odd or 'all'} | {' | '.join(cells)} |", flush=True)
+        found = {name: Best() for name in programs}
+        for _ in range(RUNS if odd else 1):
+            for name, program in programs.items():
+                measure_session(found[name], program, folder, keys, odd)
+        print_rows(f"{keys} | {odd or 'all'}", found, SESSIONS)
 
 
 def clear(folder):
@@ -348,12 +353,15 @@ def clear(folder):
 
 
 def main(program, folder=None):
+    programs = {"mvd": program}
+    if "MEASURE_BEFORE" in os.environ:
+        programs["before"] = os.environ["MEASURE_BEFORE"]
     yardstick = folder and os.path.join(folder, "target/release/yardstick")
     os.sched_setaffinity(0, PROCESSORS[:-1] or PROCESSORS)
     with tempfile.TemporaryDirectory() as room:
         print(f"a sync of 4 KiB: {seconds_of_a_sync(room) * 1000:.2f} ms; the best of {RUNS} runs; load {os.getloadavg()}")
-        print_files(program, yardstick, room)
-        print_sessions(program, room)
+        print_files(programs, yardstick, room)
+        print_sessions(programs, room)
 
 
 if __name__ == "__main__":

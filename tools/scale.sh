@@ -1,9 +1,11 @@
 #!/bin/bash
 # Runs large scripts, each at half its size and whole: neither may take ten seconds of a processor, and twice
 # the size not four times as long.
-# usage: tools/scale.sh PROGRAM (crates/mvd/out/mvd, after `rt run` there)
+# usage: tools/scale.sh PROGRAM [BEFORE] (crates/mvd/out/mvd, after `rt run` there)
+# BEFORE is an earlier one: it runs each script after PROGRAM, and a line tells the ratio of PROGRAM's time to its own.
 set -eu
-program=${1:?usage: tools/scale.sh PROGRAM}
+program=${1:?usage: tools/scale.sh PROGRAM [BEFORE]}
+before=${2:-}
 room=$(mktemp -d)
 trap 'rm -rf "$room"' EXIT
 
@@ -41,10 +43,19 @@ longest() { # BYTES: a script of just so many bytes
 
 run() { # NAME SIZE
     "$1" "$2" >"$room/script"
-    local TIMEFORMAT='%U %S %R' user system wall
-    { time "$program" sim <"$room/script" >"$room/out" 2>"$room/err"; } 2>"$room/time"
-    read -r user system wall <"$room/time"
+    used "$program"
     echo "$1 $2: $(wc -c <"$room/script") bytes, $(wc -l <"$room/out") lines out, $user s of processor ($system s of the system), $wall s"
+    if [ -n "$before" ]; then
+        local now=$user
+        used "$before"
+        echo "$1 $2 before: $user s of processor; ratio $(echo "$now $user" | awk '{ if ($2 > 0) printf "%.2f", $1 / $2; else printf "-" }')"
+    fi
+}
+
+used() { # PROGRAM
+    local TIMEFORMAT='%U %S %R'
+    { time "$1" sim <"$room/script" >"$room/out" 2>"$room/err"; } 2>"$room/time"
+    read -r user system wall <"$room/time"
 }
 
 for half in "keys 50000" "find_all 50000" "meet 50000" "loose 35000" "longest 8388608"; do

@@ -6,9 +6,10 @@ usage: tools/slow_link.py PROGRAM [BEFORE]
 PROGRAM is `mvd` as built, and BEFORE another one, to compare with. The relay holds back what goes either way by LINK_DELAY
 milliseconds (25). Three sessions are run: of two sites with 1000000 keys of which 10 differ, of two sites with 1000 keys and 10 more
 on either side, and of a site with 100000 keys and one with none. LINK_KEYS has other numbers of keys than these three. A first
-session is run without the relay's delay, too, and then beside BEFORE. A row for each tells how many keys crossed, how many bytes and
-round trips went over the link, and the seconds that went by; the last column has the most that is expected. A round trip is counted
-where something comes from the session after something has come from the server. The files are made in TMPDIR (else /tmp).
+session is run without the relay's delay, too, and beside BEFORE in LINK_TURNS turns (3) of a run of each program. A row for each
+tells how many keys crossed, how many bytes and round trips went over the link, and the seconds that went by; the last column has the
+most that is expected. A round trip is counted where something comes from the session after something has come from the server. The
+files are made in TMPDIR (else /tmp).
 """
 import os
 import queue
@@ -23,6 +24,7 @@ import time
 from measure_stored import Server, clear, ended, make, start, state
 
 DELAY = float(os.environ.get("LINK_DELAY", "25")) / 1000
+TURNS = int(os.environ.get("LINK_TURNS", "3"))
 MANY, FEW, FIRST = (int(word) for word in os.environ.get("LINK_KEYS", "1000000 1000 100000").split())
 DIFFERING = 10
 MOST_TRIPS = {"differ": 12, "either": 14, "first": 200}
@@ -141,10 +143,13 @@ def main():
         row("some differ", program, folder, "differ", MANY, DELAY)
         row("some more on either side", program, folder, "either", FEW, DELAY)
         row("a first session", program, folder, "first", FIRST, DELAY)
-        now = row("a first session", program, folder, "first", FIRST, 0)
+        now, then = [], []
+        for _ in range(TURNS if before else 1):
+            now.append(row("a first session", program, folder, "first", FIRST, 0))
+            if before:
+                then.append(row("the same before", before, folder, "first", FIRST, 0))
         if before:
-            then = row("the same before", before, folder, "first", FIRST, 0)
-            print(f"\nWithout a delay a first session takes {now / then:.2f} of the time before.")
+            print(f"\nWithout a delay a first session takes {min(now) / min(then):.2f} of the time before, the best of {TURNS} runs.")
 
 
 if __name__ == "__main__":

@@ -56,7 +56,8 @@ module _ {S : Type 0} {g : Ghosts S} where
 
   -- each push is told what it may be told alone
   abbrev pub TellsWindow : Replica S g → List (Key × State) → Replica S g → Vec (Result (Unit {0}) Refusal) Global → Type 0
-  TellsWindow old pairs new told = Asked FollowsSide RefusesSide AnswersSide (λ _ _. Unit {0}) (λ _ _. Unit {0}) ⊥ pairs told.items old new
+  TellsWindow old pairs new told =
+      Asked FollowsSide RefusesSide AnswersSide (λ _ _. Unit {0}) (λ _ _. Unit {0}) (λ _ _. Unit {0}) ⊥ pairs told.items old new
 
   -- the states are joined one after the other, each taken, or refused for its cause, and the site is true still
   abbrev pub PushesWindow : Replica S g → List (Key × State) → Replica S g → Vec (Result (Unit {0}) Refusal) Global → Type 0

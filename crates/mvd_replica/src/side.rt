@@ -5,7 +5,7 @@ ghost use Rattle.std.proofs.Common.{ap};
 ghost use Rattle.mvd_replica.specs.ReplicaCalls.{TellsPage, TellsState, node_told};
 ghost use Rattle.mvd_replica.specs.SideCalls.{EndsWindow, IsTrueUnlessBroken, IsWindowRefusal, PushesOnSide};
 ghost use Rattle.mvd_replica.specs.SideCalls.{PushesSome, PushesWindow, TellsWindow};
-ghost use Rattle.mvd_sync.specs.Sides.{is_of_key};
+ghost use Rattle.mvd_sync.specs.Sides.{is_of_question};
 
 use crate::pushes::{add_told, pushes_of};
 use crate::replica::Replica;
@@ -94,7 +94,7 @@ impl<S: Alter> Peer for Replica<S> {
         ensures ended { IfErr result (EndsWindow self.old pairs.now self.new) }
         // It is refused for want of memory, or by a replica that is broken then.
         ensures refusal { IfErr result (IsWindowRefusal self.new) }
-        ensures not_of_key { IsTrueSite (site_of self.old) → IfErr result (λ refusal. is_of_key refusal ≡ false) }
+        ensures not_of_key { IsTrueSite (site_of self.old) → IfErr result (λ refusal. is_of_question refusal ≡ false) }
         ensures unbroken { IsTrueSite (site_of self.old) → IfErr result (IsTrueUnlessBroken self.new) }
         ensures first { IsTrueSite (site_of self.old) → OnErr result (PushesSome self.old pairs.now self.new) }
     {

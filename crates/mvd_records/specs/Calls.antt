@@ -34,7 +34,8 @@ abbrev pub LeavesChange : (Contents → Contents → Type 0) → State → Trees
 LeavesChange Change s trees = (was : Contents) → IsTrue s.is_open → Holds s.committed was →
     (now : Contents) × Change was now × (db : Database) × Holds db now × (trees ≡ db.trees)
 
--- A change of what is held: Ok makes it, and a crash leaves the trees as they were, or with the change
+-- A change of what is held: Ok makes it. A crash leaves what it could leave before the call, or the change, all of it;
+-- also after an error, since the store may fail once the change is on its disk
 pub record Commits {A : Type 0} (Change : Contents → Contents → Type 0) (old : State) (result : Result A Refusal)
     (new : State) : Type 0 where
   pub before : IsSound new → IsSound old
@@ -46,8 +47,10 @@ pub record Commits {A : Type 0} (Change : Contents → Contents → Type 0) (old
 pub record SavesAll {A : Type 0} (old : Seen) (pairs : List (List ℕ × List ℕ)) (result : Result A Refusal) (new : Seen)
     : Type 0 where
   pub commits : Commits (SetsStates pairs) old.store result new.store
-  -- the store alone refuses it, and then nothing is changed, also in a database that is none of ours
+  -- the store alone refuses it (21)
   pub refusal : IfErr result (λ e. e ≡ Store)
+  -- and then, where the store is sound, the last commit is the same, also of a database that is none of ours. Where it
+  -- is not sound, the next open may find the whole change (`commits.survives`)
   pub unchanged : IsSound new.store → OnErr result (SameCommit old.store new.store)
   pub stays_open : HasCleanDisk new.store → OnOk result (IsTrue new.store.is_open)
   pub version : new.version ≡ old.version
@@ -84,7 +87,7 @@ pub record Loads (half : Half) (old : Seen) (result : Result (Vec Pair Global) R
   -- the keys rise, whatever the store returned: by their bytes, and in the order in which a site takes its states
   pub rising : IfOk result (λ pairs. rises (entries_of pairs.items))
   pub sorted : IfOk result (λ pairs. IsTrue (is_sorted key_cmp pairs.items))
-  -- 17 exactly where the map is not to be loaded; else 20 or 21
+  -- Ok only where the map can be loaded, 17 only where it cannot; 20 and 21 tell nothing of it
   pub whole : OfHeld old.store new.store (λ was. OnOk result (CanLoad old.version half was))
   pub damaged : OfHeld old.store new.store (λ was. IfErr result (λ e. e ≡ Damaged → ¬ CanLoad old.version half was))
   pub refusal : IfErr result (λ e. (e ≡ Damaged) ⊎ ((e ≡ Memory) ⊎ (e ≡ Store)))

@@ -46,7 +46,7 @@ abbrev pub half_of : Half → Contents → States
 half_of Old it = it.old_map
 half_of New it = it.new_map
 
--- Of records that were opened in this version: the keys of the map that is loaded are in form, no key is in both maps,
--- and in version 2 no old key is left
+-- Of records that were opened in this version, which a later call may have raised: the keys of the map that is loaded
+-- are in form, no key is in both maps, and in version 2 no old key is left
 abbrev pub CanLoad : ℕ → Half → Contents → Type 0
 CanLoad version half it = IsWhole version (half_of half it) it.old_map it.new_map

@@ -94,8 +94,8 @@ module _ {S : Type 0} {g : Ghosts S} where
   -- ---- a change
 
   -- where it breaks the site, the records hold the states that the site had, with what the request changes
-  abbrev pub StoresLost : Replica S g → Request → Type 0 → Replica S g → Type 0
-  StoresLost old request broke new =
+  abbrev pub StoresThoughBroken : Replica S g → Request → Type 0 → Replica S g → Type 0
+  StoresThoughBroken old request broke new =
       IsSound (store_of new) → HoldsSite (site_of old) (committed_of old) → (site_of old).broken ≡ false → broke →
       HoldsStates (site_of old).config.site (after_from (site_of old).config (site_of old).states request) (committed_of new)
 
@@ -125,9 +125,9 @@ module _ {S : Type 0} {g : Ghosts S} where
   pub record Answers (old : Replica S g) (request : Request) (reply : Reply) (new : Replica S g) : Type 0 where
     -- the reply is one that may be given, from any writes that the states stand for
     pub answer : AnswersStored (site_of old) (site_of new) request reply
-    -- and it is what the states alone give
+    -- of a site that is not broken it is what the states alone give, or 20, 21 or 22
     pub states : AnswersFromStored (site_of old) (site_of new) request reply
-    -- there is a set of writes that it adds
+    -- there are writes that it adds, so what `answer` says for all such writes is not empty
     pub choice : (added : List Write) × Adds request reply added
     -- what the site was set up with stays
     pub config : (site_of new).config ≡ (site_of old).config
@@ -141,7 +141,7 @@ module _ {S : Type 0} {g : Ghosts S} where
     pub stays : (site_of old).broken ≡ true → new ≡ old
     -- a refusal other than 22 leaves the site as it was
     pub unchanged : (refusal : Refusal) → reply ≡ Refused refusal → refusal ≢ Broken → site_of new ≡ site_of old
-    -- and the last commit
+    -- and, where the store is sound, the last commit; where it is not, the next open may find the change (`survives`)
     pub unstored : (refusal : Refusal) → IsSound (store_of new) → reply ≡ Refused refusal → refusal ≢ Broken → committed_of new ≡ committed_of old
     -- what would change nothing leaves all as it was
     pub still : ChangesNothing (site_of old) request → new ≡ old
@@ -154,7 +154,7 @@ module _ {S : Type 0} {g : Ghosts S} where
     -- the records follow the states
     pub records : RecordsFollow old new
     -- where the change breaks the site, they hold the states with the change in
-    pub stored : StoresLost old request (reply ≡ Refused Broken) new
+    pub stored : StoresThoughBroken old request (reply ≡ Refused Broken) new
     -- a crash leaves what it left before the call, or the states with the request's change
     pub survives : SurvivesRequest old request new
 
@@ -189,7 +189,7 @@ module _ {S : Type 0} {g : Ghosts S} where
     -- the records follow the states
     pub follows : ReplicaFollows (λ asked. asked ≡ Push key pushed) (site_of old) (site_of new) (store_of old) (store_of new)
     -- where the push breaks the site, they hold the states with the push in
-    pub stored : StoresLost old (Push key pushed) (result ≡ Err Broken) new
+    pub stored : StoresThoughBroken old (Push key pushed) (result ≡ Err Broken) new
     -- a crash leaves what it left before the call, or the states with the push
     pub survives : SurvivesRequest old (Push key pushed) new
 

@@ -1,19 +1,26 @@
 -- A site over several runs of a program. Each run opens the file as the run before left it, answers requests, and closes it.
 use Rattle.std.specs.Prelude.{◌≡◌, ℕ, List, [], ◌∷◌, ◌++◌, ⊤, false, true}
 use Rattle.mvd_keys.specs.Writes.{Stands, Write}
+use Rattle.mvd_wire.specs.declared.reply.Reply.{Reply}
 use Rattle.mvd_wire.specs.declared.request.Request.{Request}
 use Rattle.mvd_records.specs.Records.{IsSound}
 use Rattle.mvd_site.specs.Answer.{answer}
 use Rattle.mvd_site.specs.Config.{ConfigValue}
+use Rattle.mvd_site.specs.FromStates.{after_from}
 use Rattle.mvd_site.specs.Held.{AreHeld, States}
 use Rattle.mvd_site.specs.Known.{Adds}
 use Rattle.mvd_site.specs.Sites.{SiteValue}
 use Rattle.mvd_replica.specs.Batch.{HoldsLost, TurnsFollow, lost_requests}
 use Rattle.mvd_replica.specs.File.{HoldsFile, OpensFile}
-use Rattle.mvd_replica.specs.Kept.{HoldsStates}
+use Rattle.mvd_replica.specs.declared.replica.Replica.{Replica}
+use Rattle.mvd_replica.specs.Kept.{HoldsSite, HoldsStates}
+use Rattle.mvd_replica.specs.ReplicaCalls.{Answers}
+use Rattle.mvd_replica.specs.Replicas.{committed_of, site_of, store_of}
+use Rattle.mvd_replica.specs.Stops.{StopsBetween}
 use Rattle.mvd_replica.specs.Turns.{AllTold, Event, Replies, StandsOn, TellsTurns, Turn, known_after}
 use Rattle.sqlite.specs.Recovery.{Image}
-use Rattle.sqlite.specs.State.{State}
+use Rattle.sqlite.specs.State.{HasCleanDisk, State}
+use Rattle.sqlite_trees.specs.declared.store.Store.{Ghosts}
 
 -- One run: what the file held, the site and its connection as it was opened, the turns that it took, both at the end, and what the
 -- file held then
@@ -63,3 +70,15 @@ AllAnswered f site known image (run ∷ runs) = (events : List Event) → TellsT
     × (run.new.broken ≡ true → (it : HoldsLost run.turns run.new (f run.after).committed)
     × ((added : List Write) → AddAll run.config (known ++ known_after events) (lost_requests it.lost) added
     → AllAnswered f site ((known ++ known_after events) ++ added) run.left runs))
+
+-- A stop in the middle of a call, or before the next one: whatever turns came before, if the store was sound when the call began, the
+-- files hold the states that all of them left, or these with the change of the request in hand, and nothing else. `key_count` tells that
+-- the states are held ones.
+abbrev pub LeavesWholeTurns : {S : Type 0} → Ghosts S → Type 0
+LeavesWholeTurns {S} g =
+    (turns : List Turn) (old mid new : Replica S g) (request : Request) (reply : Reply) →
+    TurnsFollow turns (site_of old) (site_of mid) (store_of old) (store_of mid) → Answers mid request reply new →
+    HoldsSite (site_of old) (committed_of old) → IsSound (store_of mid) → HasCleanDisk (store_of new) →
+    (site_of mid).broken ≡ false → AreHeld (site_of mid).states →
+    StopsBetween (site_of mid).config.site (site_of mid).states (after_from (site_of mid).config (site_of mid).states request)
+    (store_of new).may_leave

@@ -114,14 +114,21 @@ pub record Takes (turns : List Turn) (old new : Side) : Type 0 where
   -- the records follow
   pub follows : ReplicaFollows (IsFirstBroken turns) old.site new.site old.store new.store
 
--- Every frame was answered, and the connection ended so
+-- A connection, from its first frame to its end. A Bye, and what could not be read as a frame, are no turns. Of a crash on the way
+-- nothing is said here, but of each request (`Answers.survives`)
 pub record Served (old new : Side) (result : Result Ended Refusal) : Type 0 where
+  -- what was asked, each with its reply, in order; and why it ended
   pub turns : List Turn
   pub ending : Ending
+  -- each reply may be given from the writes known then, and the records follow
   pub takes : Takes turns old new
+  -- at most 1,000,000 turns
   pub count : IsCount (length turns) ending
+  -- the bytes that came spell the turns' frames, and then a rest at which it ended so
   pub read : (bytes : List ℕ) → old.input ≡ Some bytes → (rest : List ℕ) × AreFrames turns bytes rest × Stops rest new.input ending
+  -- all replies and the last frame were written, or the writer failed after a front of them
   pub wrote : GoesOut old.output new.output (replies_bytes turns ++ last_bytes new.site.broken ending) (Err WriteFailed) result (result_of ending)
+  -- each reply but the one that was being written went out whole
   pub went_out : WentOut old.output new.output turns ending new.site.broken result
 
 -- turns that were taken, after which the connection goes on

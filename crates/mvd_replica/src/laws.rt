@@ -13,7 +13,7 @@ ghost use Rattle.mvd_replica.specs.Batch.{TurnsFollow};
 ghost use Rattle.mvd_replica.specs.declared.serving.Ended.{Ended};
 ghost use Rattle.mvd_replica.specs.File.{HoldsFile};
 ghost use Rattle.mvd_replica.specs.Groups.{IsElsewhere};
-ghost use Rattle.mvd_replica.specs.Restarts.{AllAnswered, AreRuns, Run};
+ghost use Rattle.mvd_replica.specs.Restarts.{AllAnswered, AreRuns, LeavesWholeTurns, Run};
 ghost use Rattle.mvd_replica.specs.Served.{Served};
 ghost use Rattle.mvd_site.specs.Sites.{SiteValue};
 ghost use Rattle.sqlite.specs.Held.{Held, state};
@@ -42,4 +42,10 @@ pub fn a_site_answers_across_restarts<S: Alter>()
         (it : Served (record { site = old; store = state S.Store before; input = input; output = output })
         (record { site = new; store = state S.Store after; input = input'; output = output' }) result) →
         TurnsFollow it.turns old new (state S.Store before) (state S.Store after) }
+{}
+
+/// A stop at any moment of a connection, or of rounds of many: what it leaves in the files are the
+/// states after all turns before the request in hand, or these with what that request changes.
+pub fn a_stop_leaves_whole_turns<S: Alter>()
+    ensures { LeavesWholeTurns S.Store }
 {}

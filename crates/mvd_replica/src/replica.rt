@@ -127,7 +127,8 @@ impl<S: Alter> Replica<S> {
     }
 
     /// Answers one request: the change is prepared, then stored, and then put in. A refusal other than
-    /// `Broken` leaves the site and the records as they were.
+    /// `Broken` leaves the site as it was, and the records too, unless the store failed: then the next
+    /// open may find the change.
     pub fn answer(&mut self, request: &Request) -> Reply
         ensures { Answers self.old request.now result self.new }
     {

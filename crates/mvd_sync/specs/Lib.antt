@@ -4,6 +4,7 @@ pub mod Lines
 pub mod Olds
 pub mod Session
 pub mod Sides
+pub mod PeerSides
 pub mod Windows
 pub mod Answers
 pub mod Walk

@@ -102,9 +102,21 @@ ReadsTruly is_true far old new result = is_true old →
 
 -- ---- a remote side
 
+-- its line
+abbrev pub line_of : {L : Type 0} → Remote L → L
+line_of remote = remote.line
+
+-- what its link itself refuses with, once it does
+abbrev pub refused_of : {L : Type 0} → Remote L → Option Refusal
+refused_of remote = remote.refused
+
 -- what is at the other end of its line
 abbrev pub far_of : {L : Type 0} → (L → Far) → Remote L → Far
 far_of far remote = far remote.line
+
+-- the far side holds as many keys at most
+abbrev pub KeepsMost : {L : Type 0} → (L → Far) → Remote L → Remote L → Type 0
+KeepsMost far old new = (far_of far new).most ≡ (far_of far old).most
 
 -- over a true line: no reply is due, unless its link refuses, and then with a refusal that leaves open what was taken
 pub record IsTrueRemote {L : Type 0} (is_true : L → Type 0) (far : L → Far) (remote : Remote L) : Type 0 where

@@ -124,8 +124,9 @@ IsLeft joined (key, (AtPeer, refusal)) = is_member joined key ≡ true
 abbrev pub IsOld : Option ℕ → States → States → Key → Type 0
 IsOld number a b key = HasUnseen number (state_at a key) (state_at b key)
 
--- What a session with no fault tells: the keys that were exchanged and those that were refused, each for its cause, which
--- together are those that differed; and of how many the local state was older than what the peer saw of it
+-- What a session with no fault tells: the keys that were exchanged (`given`) and those that were refused (`left`), each for its
+-- cause; each of them differed, and where SHA-256 tells the texts of both sides apart they are all that did (`all`); and of how
+-- many the local state was older than what the peer saw of it
 pub record ReportsDone (most_local most_peer : ℕ) (number : Option ℕ) (a b : States) (joined given : List Key) (report : Report) : Type 0 where
   pub left : List Left
   pub old_keys : List Key
@@ -170,10 +171,11 @@ pub record Session {L P : Type 0} (l : SideOf L) (p : SideOf P) (most : ℕ) (lo
   -- whatever the other is, a true side changes by pushes of states that the other may give, and by nothing else
   pub local_side : l.is_faithful local → Changes (l.is_faithful local') (Local Broken) p.can_give (l.states local) (l.states local') result
   pub peer_side : p.is_faithful peer → Changes (p.is_faithful peer') (Peer Broken) l.can_give (p.states peer) (p.states peer') result
-  -- beside a side that answers nothing a true one keeps its states
+  -- beside a side that answers nothing a true one keeps its states: beside a silent local side the peer, and the other way round
   pub beside_local : IsSilent l.follows l.can_answer local → p.is_faithful peer → p.is_faithful peer' × (p.states peer' ≡ p.states peer)
   pub beside_peer : IsSilent p.follows p.can_answer peer → l.is_faithful local → l.is_faithful local' × (l.states local' ≡ l.states local)
-  -- between two true sides states are joined, at a fault, too; with no fault all that differ, but those refused for a cause
+  -- between two true sides states are joined, at a fault, too; with no fault all that differ, but those refused for a cause, where
+  -- SHA-256 tells the texts of both sides apart
   pub meets : l.is_faithful local → p.is_faithful peer →
       Meets (l.is_faithful local') (p.is_faithful peer') (l.most_keys local) (p.most_keys peer) (l.number local) (l.states local) (p.states peer) (l.states local') (p.states peer') result
   -- and few questions were made or wanted

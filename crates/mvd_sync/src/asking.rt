@@ -5,7 +5,8 @@ ghost use Rattle.mvd_site.specs.Held.{state_at};
 ghost use Rattle.mvd_sync.specs.Answers.{IsPage, IsPageOf};
 ghost use Rattle.mvd_sync.specs.Questions.{AllAnswered, ComesToEnd, ForEach, IsInner, IsOfKey, IsWindow, Keeps, Takes, TakesFirst, TakesIn, AnswersEach, push_bytes};
 ghost use Rattle.mvd_sync.specs.Session.{Each};
-ghost use Rattle.mvd_sync.specs.Sides.{HasAnswered, is_of_key, side as side_of};
+ghost use Rattle.mvd_sync.specs.PeerSides.{side_of};
+ghost use Rattle.mvd_sync.specs.Sides.{HasAnswered, is_of_key};
 
 use crate::cursor::Listing;
 use crate::peer::Peer;
@@ -78,12 +79,12 @@ pub fn ask_nodes<P: Peer>(
     paths: &[Path],
 ) -> Result<Vec<Node>, Refusal>
     requires inner { Each (λ path. length path < 3) paths.now }
-    ensures told { let s = side_of P.states P.is_faithful P.can_give P.follows P.can_refuse P.can_answer P.most_keys P.number in
+    ensures told { let s = side_of P.Peer in
         IfOk result
         (λ nodes. AllAnswered s (λ _ _. HasAnswered P.follows P.can_answer side.old side.new)
         (AnswersEach s (IsInner (digests (P.states side.old))) paths.now nodes.items side.old side.new)
         paths.now nodes.items left.old left.new side.old side.new) }
-    ensures ended { let s = side_of P.states P.is_faithful P.can_give P.follows P.can_refuse P.can_answer P.most_keys P.number in
+    ensures ended { let s = side_of P.Peer in
         IfErr result
         (ComesToEnd s (Keeps s side.old side.new) (length paths.now) left.old side.old side.new) }
 {
@@ -104,12 +105,14 @@ pub fn ask_pages<P: Peer>(
     asked: &[(Path, Option<Key>)],
 ) -> Result<Vec<Listing>, Refusal>
     requires { Each (λ q. length q.0 ≡ 3) asked.now }
-    ensures told { let s = side_of P.states P.is_faithful P.can_give P.follows P.can_refuse P.can_answer P.most_keys P.number in
+    ensures told { let s = side_of P.Peer in
         IfOk result
-        (λ pages. AllAnswered s (λ q page. IsPage None page.0 page.1 × (length page.0 < 2 ^ 64) × HasAnswered P.follows P.can_answer side.old side.new)
-        (AnswersEach s (λ q page. IsPageOf (digests (P.states side.old)) q.0 q.1 page.0 page.1) asked.now pages.items side.old side.new)
+        (λ pages. AllAnswered s (λ q page. IsPage None page.0 page.1 × (length page.0 < 2 ^ 64)
+        × HasAnswered P.follows P.can_answer side.old side.new)
+        (AnswersEach s (λ q page. IsPageOf (digests (P.states side.old)) q.0 q.1 page.0 page.1)
+        asked.now pages.items side.old side.new)
         asked.now pages.items left.old left.new side.old side.new) }
-    ensures ended { let s = side_of P.states P.is_faithful P.can_give P.follows P.can_refuse P.can_answer P.most_keys P.number in
+    ensures ended { let s = side_of P.Peer in
         IfErr result
         (ComesToEnd s (Keeps s side.old side.new) (length asked.now) left.old side.old side.new) }
 {
@@ -129,12 +132,13 @@ pub fn ask_gets<P: Peer>(
     left: &mut u64,
     keys: &[Key],
 ) -> Result<Vec<KeyState>, Refusal>
-    ensures told { let s = side_of P.states P.is_faithful P.can_give P.follows P.can_refuse P.can_answer P.most_keys P.number in
+    ensures told { let s = side_of P.Peer in
         IfOk result
-        (λ states. AllAnswered s (λ key state. P.can_give key state × HasAnswered P.follows P.can_answer side.old side.new)
+        (λ states. AllAnswered s (λ key state. P.can_give key state
+        × HasAnswered P.follows P.can_answer side.old side.new)
         (AnswersEach s (λ key state. state ≡ state_at (P.states side.old) key) keys.now states.items side.old side.new)
         keys.now states.items left.old left.new side.old side.new) }
-    ensures ended { let s = side_of P.states P.is_faithful P.can_give P.follows P.can_refuse P.can_answer P.most_keys P.number in
+    ensures ended { let s = side_of P.Peer in
         IfErr result
         (ComesToEnd s (Keeps s side.old side.new) (length keys.now) left.old side.old side.new) }
 {
@@ -197,12 +201,12 @@ pub fn ask_pushes<P: Peer>(
     left: &mut u64,
     pairs: &[(Key, KeyState)],
 ) -> Result<Vec<Result<(), Refusal>>, Refusal>
-    ensures told { let s = side_of P.states P.is_faithful P.can_give P.follows P.can_refuse P.can_answer P.most_keys P.number in
+    ensures told { let s = side_of P.Peer in
         IfOk result
         (λ told. AllAnswered s (λ _ told. IsOfKey told)
         (TakesIn s pairs.now told.items side.old side.new)
         pairs.now told.items left.old left.new side.old side.new) }
-    ensures ended { let s = side_of P.states P.is_faithful P.can_give P.follows P.can_refuse P.can_answer P.most_keys P.number in
+    ensures ended { let s = side_of P.Peer in
         IfErr result
         (λ refusal. ComesToEnd s (TakesFirst s pairs.now side.old side.new refusal) (length pairs.now) left.old
         side.old side.new refusal) }

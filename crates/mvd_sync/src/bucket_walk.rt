@@ -4,7 +4,7 @@ ghost use Rattle.mvd_site.specs.Answer.{digests};
 ghost use Rattle.mvd_sync.specs.Buckets.{ArePages, FillEnds, FillsBoth, GoesOver, GoesThrough, Settles};
 ghost use Rattle.mvd_sync.specs.Exchanges.{IsHeldByEither};
 ghost use Rattle.mvd_sync.specs.Session.{Each};
-ghost use Rattle.mvd_sync.specs.Sides.{side};
+ghost use Rattle.mvd_sync.specs.PeerSides.{side_of};
 
 use crate::asking::{Questions, ask_pages};
 use crate::cursor::{self, Entry, Listing};
@@ -27,13 +27,13 @@ fn fill_both<L: Peer, P: Peer>(
     theirs: &mut Listing,
 ) -> Result<(), SyncFault>
     requires { length path.now ≡ 3 }
-    ensures filled { let l = side L.states L.is_faithful L.can_give L.follows L.can_refuse L.can_answer L.most_keys L.number in
-        let p = side P.states P.is_faithful P.can_give P.follows P.can_refuse P.can_answer P.most_keys P.number in
+    ensures filled { let l = side_of L.Peer in
+        let p = side_of P.Peer in
         OnOk result
         (FillsBoth l p path.now (Some after.now) mine.old mine.new theirs.old theirs.new left.old left.new local.old
         local.new peer.old peer.new) }
-    ensures ended { let l = side L.states L.is_faithful L.can_give L.follows L.can_refuse L.can_answer L.most_keys L.number in
-        let p = side P.states P.is_faithful P.can_give P.follows P.can_refuse P.can_answer P.most_keys P.number in
+    ensures ended { let l = side_of L.Peer in
+        let p = side_of P.Peer in
         IfErr result (FillEnds l p mine.old theirs.old left.old local.old local.new peer.old peer.new) }
 {
     match mine.fill(local, &mut left.local, path, Some(after)) {
@@ -57,8 +57,8 @@ fn settle<L: Peer, P: Peer>(
     requires held { IsHeldByEither entry }
     requires waiting { length exchange.old.waiting < 1000 }
     requires room { exchange.old.keys + exchange.old.refused + left.old.local + left.old.peer + 1000 < 2 ^ 64 }
-    ensures { let l = side L.states L.is_faithful L.can_give L.follows L.can_refuse L.can_answer L.most_keys L.number in
-        let p = side P.states P.is_faithful P.can_give P.follows P.can_refuse P.can_answer P.most_keys P.number in
+    ensures { let l = side_of L.Peer in
+        let p = side_of P.Peer in
         Settles l p entry left.old left.new local.old local.new peer.old peer.new exchange.old exchange.new result }
 {
     if entry.differs {
@@ -83,8 +83,8 @@ fn go_over<L: Peer, P: Peer>(
     requires theirs { (theirs.0 ≡ [] → theirs.1 ≡ false) × (length theirs.0 < 2 ^ 64) }
     requires waiting { length exchange.old.waiting < 1000 }
     requires room { exchange.old.keys + exchange.old.refused + left.old.local + left.old.peer + 1000 < 2 ^ 64 }
-    ensures { let l = side L.states L.is_faithful L.can_give L.follows L.can_refuse L.can_answer L.most_keys L.number in
-        let p = side P.states P.is_faithful P.can_give P.follows P.can_refuse P.can_answer P.most_keys P.number in
+    ensures { let l = side_of L.Peer in
+        let p = side_of P.Peer in
         let paths = path.now ∷ [] in
         GoesThrough l p (λ a b. ArePages (digests a) paths (mine ∷ []) × ArePages (digests b) paths (theirs ∷ [])) paths
         0 left.old left.new local.old local.new peer.old peer.new exchange.old exchange.new result }
@@ -118,8 +118,8 @@ fn go_over_all<L: Peer, P: Peer>(
     requires theirs { Each (λ page. (page.0 ≡ [] → page.1 ≡ false) × (length page.0 < 2 ^ 64)) theirs.items }
     requires waiting { length exchange.old.waiting < 1000 }
     requires room { exchange.old.keys + exchange.old.refused + left.old.local + left.old.peer + 1000 < 2 ^ 64 }
-    ensures { let l = side L.states L.is_faithful L.can_give L.follows L.can_refuse L.can_answer L.most_keys L.number in
-        let p = side P.states P.is_faithful P.can_give P.follows P.can_refuse P.can_answer P.most_keys P.number in
+    ensures { let l = side_of L.Peer in
+        let p = side_of P.Peer in
         GoesThrough l p
         (λ a b. ArePages (digests a) paths.now mine.items × ArePages (digests b) paths.now theirs.items) paths.now
         0 left.old left.new local.old local.new peer.old peer.new exchange.old exchange.new result }
@@ -159,8 +159,8 @@ fn exchange_window<L: Peer, P: Peer>(
     requires deep { Each (λ path. length path ≡ 3) paths.now }
     requires waiting { length exchange.old.waiting < 1000 }
     requires room { exchange.old.keys + exchange.old.refused + left.old.local + left.old.peer + 1000 < 2 ^ 64 }
-    ensures { let l = side L.states L.is_faithful L.can_give L.follows L.can_refuse L.can_answer L.most_keys L.number in
-        let p = side P.states P.is_faithful P.can_give P.follows P.can_refuse P.can_answer P.most_keys P.number in
+    ensures { let l = side_of L.Peer in
+        let p = side_of P.Peer in
         GoesOver l p paths.now (length paths.now) left.old left.new local.old local.new peer.old peer.new exchange.old
         exchange.new result }
 {
@@ -191,8 +191,8 @@ pub fn exchange_buckets<L: Peer, P: Peer>(
     requires deep { Each (λ path. length path ≡ 3) paths.now }
     requires waiting { length exchange.old.waiting < 1000 }
     requires room { exchange.old.keys + exchange.old.refused + left.old.local + left.old.peer + 1000 < 2 ^ 64 }
-    ensures { let l = side L.states L.is_faithful L.can_give L.follows L.can_refuse L.can_answer L.most_keys L.number in
-        let p = side P.states P.is_faithful P.can_give P.follows P.can_refuse P.can_answer P.most_keys P.number in
+    ensures { let l = side_of L.Peer in
+        let p = side_of P.Peer in
         GoesOver l p paths.now (length paths.now) left.old left.new local.old local.new peer.old peer.new exchange.old
         exchange.new result }
 {

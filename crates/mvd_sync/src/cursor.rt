@@ -3,7 +3,7 @@ ghost use Rattle.std.specs.Prelude.{◌≡◌, ◌≢◌, ◌+◌, ◌-◌, ◌*
 ghost use Rattle.mvd_tree.specs.Page.{is_after};
 ghost use Rattle.mvd_sync.specs.Answers.{IsPage, Rises, TakesNext, order_of_first};
 ghost use Rattle.mvd_sync.specs.Questions.{ComesToEnd, Fetches, Fills, Keeps};
-ghost use Rattle.mvd_sync.specs.Sides.{side as side_of};
+ghost use Rattle.mvd_sync.specs.PeerSides.{side_of};
 
 use crate::asking::take_one;
 use crate::levels::is_same;
@@ -67,7 +67,8 @@ impl Listing {
     pub fn of_page(after: Option<&Key>, page: Page) -> Result<Self, Refusal>
         ensures page { IfOk result (λ listing. listing ≡ (page.0.items, page.1)) }
         ensures rises { IfOk result (λ listing. IsPage (option_copied after.entry) listing.0 listing.1) }
-        ensures bad { IfErr result (λ refusal. (refusal ≡ Refusal.BadBody) × (IsPage (option_copied after.entry) page.0.items page.1 → ⊥)) }
+        ensures bad { IfErr result (λ refusal. (refusal ≡ Refusal.BadBody)
+            × (IsPage (option_copied after.entry) page.0.items page.1 → ⊥)) }
         ensures length { IfOk result (λ page. length page.0 < 2 ^ 64) }
     {
         let (mut page, more) = page;
@@ -89,10 +90,10 @@ impl Listing {
         after: Option<&Key>,
     ) -> Result<Self, Refusal>
         requires { length path.now ≡ 3 }
-        ensures told { let s = side_of P.states P.is_faithful P.can_give P.follows P.can_refuse P.can_answer P.most_keys P.number in
+        ensures told { let s = side_of P.Peer in
             IfOk result
             (λ listing. Fetches s path.now (option_copied after.entry) listing left.old left.new side.old side.new) }
-        ensures ended { let s = side_of P.states P.is_faithful P.can_give P.follows P.can_refuse P.can_answer P.most_keys P.number in
+        ensures ended { let s = side_of P.Peer in
             IfErr result (ComesToEnd s (Keeps s side.old side.new) 1 left.old side.old side.new) }
     {
         match take_one(left) {
@@ -121,10 +122,10 @@ impl Listing {
         after: Option<&Key>,
     ) -> Result<(), Refusal>
         requires { length path.now ≡ 3 }
-        ensures filled { let s = side_of P.states P.is_faithful P.can_give P.follows P.can_refuse P.can_answer P.most_keys P.number in
+        ensures filled { let s = side_of P.Peer in
             OnOk result
             (Fills s path.now (option_copied after.entry) self.old self.new left.old left.new side.old side.new) }
-        ensures ended { let s = side_of P.states P.is_faithful P.can_give P.follows P.can_refuse P.can_answer P.most_keys P.number in
+        ensures ended { let s = side_of P.Peer in
             IfErr result (ComesToEnd s (Keeps s side.old side.new) 1 left.old side.old side.new) }
         ensures needed { OnErr result ((self.old.0 ≡ []) × (self.old.1 ≡ true)) }
     {
@@ -142,7 +143,8 @@ impl Listing {
 
     /// The first entry, which is taken out.
     pub fn take(&mut self) -> Option<(Key, [u8; 32])>
-        ensures { MatchOption result ((self.old.0 ≡ []) × (self.new ≡ self.old)) (λ e. (self.old.0 ≡ e ∷ self.new.0) × (self.new.1 ≡ self.old.1)) }
+        ensures { MatchOption result ((self.old.0 ≡ []) × (self.new ≡ self.old))
+            (λ e. (self.old.0 ≡ e ∷ self.new.0) × (self.new.1 ≡ self.old.1)) }
     {
         self.page.pop()
     }
@@ -163,7 +165,8 @@ impl Listing {
 /// Takes the lesser first key of two listings, from both where both begin with it.
 pub fn next(mine: &mut Listing, theirs: &mut Listing) -> Option<Entry>
     ensures none { IfNone result ((mine.old.0 ≡ []) × (theirs.old.0 ≡ [])) }
-    ensures next { IfSome result (λ e. TakesNext mine.old.0 theirs.old.0 e.key e.mine e.theirs e.differs mine.new.0 theirs.new.0) }
+    ensures next { IfSome result (λ e. TakesNext
+        mine.old.0 theirs.old.0 e.key e.mine e.theirs e.differs mine.new.0 theirs.new.0) }
     ensures fewer { OnSome result (length mine.new.0 + length theirs.new.0 < length mine.old.0 + length theirs.old.0) }
     ensures more { (mine.new.1 ≡ mine.old.1) × (theirs.new.1 ≡ theirs.old.1) }
 {

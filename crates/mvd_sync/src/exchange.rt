@@ -4,7 +4,7 @@ ghost use Rattle.mvd_sync.specs.Exchanges.{Adds, Exchanges, IsHeldByEither};
 ghost use Rattle.mvd_sync.specs.Meetings.{done_of, held_keys, pair_of};
 ghost use Rattle.mvd_sync.specs.Questions.{ComesToEnd, Keeps, TakesFirst};
 ghost use Rattle.mvd_sync.specs.Session.{Each};
-ghost use Rattle.mvd_sync.specs.Sides.{side as side_of};
+ghost use Rattle.mvd_sync.specs.PeerSides.{side_of};
 ghost use Rattle.mvd_sync.specs.Carries.{Carried, ExchangesAll, Gives, PlanEnds, Planned};
 
 use crate::asking::{Questions, ask_gets, ask_pushes};
@@ -45,7 +45,14 @@ impl Model for Exchange {
 
     ghost Value = { Exchanging };
 
-    ghost view = { λ e. record { number = e.number; waiting = e.waiting.items; keys = e.keys; refused = e.refused; older = e.older; first_refused = e.first_refused.items } };
+    ghost view = { λ e. record {
+      number = e.number;
+      waiting = e.waiting.items;
+      keys = e.keys;
+      refused = e.refused;
+      older = e.older;
+      first_refused = e.first_refused.items;
+    } };
 
     ghost invariant = { λ e. (e.older ≤ e.keys + e.refused) × Each IsHeldByEither e.waiting.items };
 }
@@ -58,9 +65,9 @@ fn gives<S: Peer>(
     entries: &[Entry],
     name: Side,
 ) -> Result<Vec<KeyState>, Refusal>
-    ensures told { let s = side_of S.states S.is_faithful S.can_give S.follows S.can_refuse S.can_answer S.most_keys S.number in
+    ensures told { let s = side_of S.Peer in
         IfOk result (λ states. Gives s name entries.now states.items left.old left.new side.old side.new) }
-    ensures ended { let s = side_of S.states S.is_faithful S.can_give S.follows S.can_refuse S.can_answer S.most_keys S.number in
+    ensures ended { let s = side_of S.Peer in
         IfErr result
         (ComesToEnd s (Keeps s side.old side.new) (length (held_keys name entries.now)) left.old side.old side.new) }
 {
@@ -80,12 +87,13 @@ fn plans<L: Peer, P: Peer>(
     left: &mut Questions,
     entries: Vec<Entry>,
 ) -> Result<Vec<Meeting>, SyncFault>
-    ensures plans { let l = side_of L.states L.is_faithful L.can_give L.follows L.can_refuse L.can_answer L.most_keys L.number in
-        let p = side_of P.states P.is_faithful P.can_give P.follows P.can_refuse P.can_answer P.most_keys P.number in
+    ensures plans { let l = side_of L.Peer in
+        let p = side_of P.Peer in
         IfOk result
-        (λ meetings. Planned l p number entries.items left.old left.new local.old local.new peer.old peer.new meetings.items) }
-    ensures ended { let l = side_of L.states L.is_faithful L.can_give L.follows L.can_refuse L.can_answer L.most_keys L.number in
-        let p = side_of P.states P.is_faithful P.can_give P.follows P.can_refuse P.can_answer P.most_keys P.number in
+        (λ meetings. Planned l p number entries.items left.old left.new local.old local.new peer.old peer.new
+        meetings.items) }
+    ensures ended { let l = side_of L.Peer in
+        let p = side_of P.Peer in
         IfErr result (PlanEnds l p (length entries.items) left.old local.old local.new peer.old peer.new) }
 {
     let mine = match gives(alloc, local, &mut left.local, &entries, Side::Local) {
@@ -110,9 +118,9 @@ fn carry<S: Peer>(
     meetings: Vec<Meeting>,
     name: Side,
 ) -> Result<Vec<Meeting>, Refusal>
-    ensures told { let s = side_of S.states S.is_faithful S.can_give S.follows S.can_refuse S.can_answer S.most_keys S.number in
+    ensures told { let s = side_of S.Peer in
         IfOk result (λ after. Carried s name meetings.items after.items left.old left.new side.old side.new) }
-    ensures ended { let s = side_of S.states S.is_faithful S.can_give S.follows S.can_refuse S.can_answer S.most_keys S.number in
+    ensures ended { let s = side_of S.Peer in
         let pairs = filter_map (pair_of name) meetings.items in
         IfErr result
         (λ refusal. ComesToEnd s (TakesFirst s pairs side.old side.new refusal) (length pairs) left.old
@@ -140,8 +148,8 @@ fn exchange_all<L: Peer, P: Peer>(
     entries: Vec<Entry>,
 ) -> Result<Vec<Meeting>, SyncFault>
     requires { Each IsHeldByEither entries.items }
-    ensures { let l = side_of L.states L.is_faithful L.can_give L.follows L.can_refuse L.can_answer L.most_keys L.number in
-        let p = side_of P.states P.is_faithful P.can_give P.follows P.can_refuse P.can_answer P.most_keys P.number in
+    ensures { let l = side_of L.Peer in
+        let p = side_of P.Peer in
         ExchangesAll l p number entries.items left.old left.new local.old local.new peer.old peer.new result }
 {
     let meetings = match plans(alloc, number, local, peer, left, entries) {
@@ -161,7 +169,14 @@ fn exchange_all<L: Peer, P: Peer>(
 impl Exchange {
     /// Nothing waits, and nothing was done.
     pub fn new(alloc: Global, number: Option<u32>) -> Exchange
-        ensures { result ≡ record { number = number; waiting = []; keys = 0; refused = 0; older = 0; first_refused = [] } }
+        ensures { result ≡ record {
+          number = number;
+          waiting = [];
+          keys = 0;
+          refused = 0;
+          older = 0;
+          first_refused = [];
+        } }
     {
         Exchange {
             alloc,
@@ -198,9 +213,10 @@ impl Exchange {
         entry: Entry,
     ) -> Result<(), SyncFault>
         requires held { IsHeldByEither entry }
-        requires room { self.old.keys + self.old.refused + length self.old.waiting + left.old.local + left.old.peer + 1 < 2 ^ 64 }
-        ensures { let l = side_of L.states L.is_faithful L.can_give L.follows L.can_refuse L.can_answer L.most_keys L.number in
-            let p = side_of P.states P.is_faithful P.can_give P.follows P.can_refuse P.can_answer P.most_keys P.number in
+        requires room { self.old.keys + self.old.refused + length self.old.waiting + left.old.local +
+            left.old.peer + 1 < 2 ^ 64 }
+        ensures { let l = side_of L.Peer in
+            let p = side_of P.Peer in
             Exchanges l p (self.old.waiting ++ entry ∷ []) left.old left.new local.old local.new peer.old peer.new
             self.old self.new result }
     {
@@ -239,9 +255,10 @@ impl Exchange {
         peer: &mut P,
         left: &mut Questions,
     ) -> Result<(), SyncFault>
-        requires room { self.old.keys + self.old.refused + length self.old.waiting + left.old.local + left.old.peer < 2 ^ 64 }
-        ensures exchanges { let l = side_of L.states L.is_faithful L.can_give L.follows L.can_refuse L.can_answer L.most_keys L.number in
-            let p = side_of P.states P.is_faithful P.can_give P.follows P.can_refuse P.can_answer P.most_keys P.number in
+        requires room { self.old.keys + self.old.refused + length self.old.waiting + left.old.local +
+            left.old.peer < 2 ^ 64 }
+        ensures exchanges { let l = side_of L.Peer in
+            let p = side_of P.Peer in
             Exchanges l p self.old.waiting left.old left.new local.old local.new peer.old peer.new self.old self.new
             result }
         ensures none { OnOk result (self.new.waiting ≡ []) }
@@ -278,7 +295,8 @@ impl Exchange {
         refused: Option<(Side, Refusal)>,
     ) -> Result<(), Refusal>
         requires room { self.old.keys + self.old.refused + 1 < 2 ^ 64 }
-        ensures adds { OnOk result (Adds (record { key = key; is_old = is_old; refused = refused } ∷ []) self.old self.new) }
+        ensures adds { OnOk result (Adds (record { key = key; is_old = is_old; refused = refused } ∷ [])
+            self.old self.new) }
         ensures number { self.new.number ≡ self.old.number }
         ensures memory { IfErr result (λ refusal. refusal ≡ Refusal.Memory) }
     {
@@ -305,8 +323,10 @@ impl Exchange {
         ensures refused { OnOk result (self.new.refused ≡ self.old.refused + 1) }
         ensures older { OnOk result (self.new.older ≡ self.old.older) }
         ensures counted { OnOk result (self.new.older < self.new.keys + self.new.refused) }
-        ensures named { OnOk result (length self.old.first_refused < 100 → self.new.first_refused ≡ self.old.first_refused ++ (key, refused) ∷ []) }
-        ensures full { OnOk result (100 ≤ length self.old.first_refused → self.new.first_refused ≡ self.old.first_refused) }
+        ensures named { OnOk result (length self.old.first_refused < 100
+            → self.new.first_refused ≡ self.old.first_refused ++ (key, refused) ∷ []) }
+        ensures full { OnOk result (100 ≤ length self.old.first_refused
+            → self.new.first_refused ≡ self.old.first_refused) }
         ensures memory { IfErr result (λ refusal. refusal ≡ Refusal.Memory) }
     {
         self.refused += 1;

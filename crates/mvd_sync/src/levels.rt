@@ -1,7 +1,7 @@
 //! The walk from the root to the buckets that differ, level by level.
 ghost use Rattle.std.specs.Prelude.{◌≡◌, ◌<◌, ◌≤◌, ◌+◌, ◌*◌, ◌++◌, ◌∷◌, [], ◌↔◌, length, IfOk, IfErr, OnOk, IsTrue};
 ghost use Rattle.mvd_sync.specs.Session.{Each};
-ghost use Rattle.mvd_sync.specs.Sides.{side};
+ghost use Rattle.mvd_sync.specs.PeerSides.{side_of};
 ghost use Rattle.mvd_sync.specs.Walk.{AreFewFor, Descends, FindsBuckets, ReadsEnd, told, told_all};
 
 use crate::asking::{Node, Questions, ask_nodes};
@@ -86,11 +86,12 @@ fn descend<L: Peer, P: Peer>(
     paths: &[Path],
 ) -> Result<Vec<Path>, SyncFault>
     requires inner { Each (λ path. length path < 3) paths.now }
-    ensures descends { let l = side L.states L.is_faithful L.can_give L.follows L.can_refuse L.can_answer L.most_keys L.number in
-        let p = side P.states P.is_faithful P.can_give P.follows P.can_refuse P.can_answer P.most_keys P.number in
-        IfOk result (λ below. Descends l p paths.now left.old left.new local.old local.new peer.old peer.new below.items) }
-    ensures ended { let l = side L.states L.is_faithful L.can_give L.follows L.can_refuse L.can_answer L.most_keys L.number in
-        let p = side P.states P.is_faithful P.can_give P.follows P.can_refuse P.can_answer P.most_keys P.number in
+    ensures descends { let l = side_of L.Peer in
+        let p = side_of P.Peer in
+        IfOk result (λ below. Descends l p paths.now left.old left.new local.old local.new peer.old peer.new
+        below.items) }
+    ensures ended { let l = side_of L.Peer in
+        let p = side_of P.Peer in
         IfErr result
         (ReadsEnd l p (λ asked. asked ≤ length paths.now) left.old local.old local.new peer.old peer.new) }
 {
@@ -133,11 +134,12 @@ pub fn differing_buckets<L: Peer, P: Peer>(
     peer: &mut P,
     left: &mut Questions,
 ) -> Result<Vec<Path>, SyncFault>
-    ensures found { let l = side L.states L.is_faithful L.can_give L.follows L.can_refuse L.can_answer L.most_keys L.number in
-        let p = side P.states P.is_faithful P.can_give P.follows P.can_refuse P.can_answer P.most_keys P.number in
-        IfOk result (λ buckets. FindsBuckets l p left.old left.new local.old local.new peer.old peer.new buckets.items) }
-    ensures ended { let l = side L.states L.is_faithful L.can_give L.follows L.can_refuse L.can_answer L.most_keys L.number in
-        let p = side P.states P.is_faithful P.can_give P.follows P.can_refuse P.can_answer P.most_keys P.number in
+    ensures found { let l = side_of L.Peer in
+        let p = side_of P.Peer in
+        IfOk result (λ buckets. FindsBuckets l p left.old left.new local.old local.new peer.old peer.new
+        buckets.items) }
+    ensures ended { let l = side_of L.Peer in
+        let p = side_of P.Peer in
         IfErr result
         (ReadsEnd l p (λ asked. AreFewFor l p local.old peer.old (λ most. asked ≤ 1 + 2 * most)) left.old local.old
         local.new peer.old peer.new) }

@@ -5,7 +5,7 @@ ghost use Rattle.std.specs.Io.KnownBytes.{Appends};
 ghost use Rattle.mvd_dots.specs.declared.refusals.Refusal.TheVariants.{WriteFailed};
 ghost use Rattle.mvd_wire.specs.Frames.{AppendsFront, EndsReading, Reads, frame_at, frame_value};
 ghost use Rattle.mvd_site.specs.Held.{AreHeld};
-ghost use Rattle.mvd_sync.specs.Lines.{Far, ReadsTruly, SendsTruly};
+ghost use Rattle.mvd_sync.specs.Lines.{Far, ReadsTruly, SendsTruly, line_of, refused_of};
 
 use crate::remote::Remote;
 use mvd_dots::Refusal;
@@ -15,8 +15,9 @@ use std::io::{Read, Write};
 
 /// A line to a far side: the frames of requests go out, and those of its replies come in.
 ///
-/// A line is true where its far side is, and where it hands on what is sent to that and what that replies. Nothing else is said of
-/// a line that failed: the far side may have taken the first of the requests that went out.
+/// A line is true where its far side is, and where it hands on what is sent to that and what that
+/// replies. Nothing else is said of a line that failed: the far side may have taken the first of the
+/// requests that went out.
 pub trait Line: Sized + Drop {
     /// The bytes that it has still to give, where they are known.
     ghost remaining: { Self → Option (List ℕ) };
@@ -81,17 +82,17 @@ impl<R: Read + Drop, W: Write + Drop> Line for Duplex<R, W> {
 
 impl<R: Read + Drop, W: Write + Drop> Remote<Duplex<R, W>> {
     pub fn new(alloc: Global, reader: R, writer: W) -> Self
-        ensures reader { result.line.reader ≡ reader }
-        ensures writer { result.line.writer ≡ writer }
-        ensures goes_on { result.refused ≡ None }
+        ensures reader { (line_of result).reader ≡ reader }
+        ensures writer { (line_of result).writer ≡ writer }
+        ensures goes_on { refused_of result ≡ None }
     {
         Remote::over(alloc, Duplex { reader, writer })
     }
 
     /// The reader and the writer.
     pub fn into_parts(self) -> (R, W)
-        ensures reader { result.0 ≡ self.line.reader }
-        ensures writer { result.1 ≡ self.line.writer }
+        ensures reader { result.0 ≡ (line_of self).reader }
+        ensures writer { result.1 ≡ (line_of self).writer }
     {
         let Duplex { reader, writer } = self.into_line();
         (reader, writer)

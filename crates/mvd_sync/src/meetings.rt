@@ -184,7 +184,8 @@ fn add_pair(
     key: &Key,
     state: Option<KeyState>,
 ) -> Result<(), Refusal>
-    ensures added { OnOk result (pairs.new.items ≡ pairs.old.items ++ cons_option (option_map (λ s. (key.now, s)) state) []) }
+    ensures added { OnOk result
+        (pairs.new.items ≡ pairs.old.items ++ cons_option (option_map (λ s. (key.now, s)) state) []) }
     ensures memory { IfErr result (λ refusal. refusal ≡ Refusal.Memory) }
 {
     if let Some(state) = state {
@@ -225,7 +226,8 @@ fn next_told(
     if is_asked { told.pop_front() } else { None }
 }
 
-/// The keys of a window after a side took of them: which of them it refused. Its answers are of those asked, in their order.
+/// The keys of a window after a side took of them: which of them it refused. Its answers are of
+/// those asked, in their order.
 pub fn note(
     alloc: Global,
     meetings: Vec<Meeting>,

@@ -25,7 +25,8 @@ fn entry_at(seen: &Context, site: u32) -> Option<&Entry>
 /// Whether a context has each dot of an entry.
 fn has_entry(seen: &Context, entry: &Entry) -> bool
     requires { IsEntry entry.now }
-    ensures { IsTrue result ↔ ((n : ℕ) → HasCounter entry.now.base entry.now.loose n → Holds seen.now entry.now.site n) }
+    ensures { IsTrue result ↔ ((n : ℕ) → HasCounter entry.now.base entry.now.loose n
+        → Holds seen.now entry.now.site n) }
 {
     match entry_at(seen, entry.site) {
         Some(held) => held.includes(entry),
@@ -36,7 +37,8 @@ fn has_entry(seen: &Context, entry: &Entry) -> bool
 /// Whether a local state has seen each dot of an entry. A side that has no state has seen nothing.
 fn has_seen(mine: Option<&KeyState>, entry: &Entry) -> bool
     requires { IsEntry entry.now }
-    ensures { IsTrue result ↔ ((n : ℕ) → HasCounter entry.now.base entry.now.loose n → Holds (unwrap_or (option_copied mine.entry) empty_state).context entry.now.site n) }
+    ensures { IsTrue result ↔ ((n : ℕ) → HasCounter entry.now.base entry.now.loose n
+        → Holds (unwrap_or (option_copied mine.entry) empty_state).context entry.now.site n) }
 {
     match mine {
         Some(mine) => has_entry(mine.context(), entry),
@@ -66,7 +68,8 @@ fn has_any_other(number: Option<u32>, mine: Option<&KeyState>, theirs: &KeyState
 
 /// Whether the peer's state of a key has a dot of this site that the local state has not seen.
 pub fn has_unseen(number: Option<u32>, mine: Option<&KeyState>, theirs: Option<&KeyState>) -> bool
-    ensures { IsTrue result ↔ HasUnseen number (unwrap_or (option_copied mine.entry) empty_state) (unwrap_or (option_copied theirs.entry) empty_state) }
+    ensures { IsTrue result ↔ HasUnseen number
+        (unwrap_or (option_copied mine.entry) empty_state) (unwrap_or (option_copied theirs.entry) empty_state) }
 {
     match theirs {
         Some(theirs) => has_any_other(number, mine, theirs),

@@ -23,10 +23,12 @@ pub type Page = (Vec<(Key, [u8; 32])>, bool);
 
 /// A side of a session: something that holds key states, and is asked for them.
 ///
-/// A side that is true answers each question from the states that it holds, or refuses it; what is pushed into it is joined to
-/// them, or refused, and then nothing is changed, unless the refusal is one that leaves open whether it was: 20, 22, or one from 30
-/// on. It stays true unless it says that it is broken. A question is one call of `node`, `bucket`, `get` or `push`. Each of these
-/// has a call for many questions: one answer for each, in order, as if they were asked one after the other; such a call is refused
+/// A side that is true (`is_faithful`) answers each question from the states that it holds, or
+/// refuses it; what is pushed into it is joined to them, or refused, and then nothing is changed,
+/// unless the refusal is one that leaves open whether it was: 20, 22, or one from 30 on. It stays true
+/// unless it says that it is broken. A question is one call of `node`, `bucket`, `get` or `push`. Each
+/// of these has a call for many questions: one answer for each, in order, as if they were asked one
+/// after the other; such a call is refused
 /// itself where the side is broken, or its link is, or memory is refused.
 pub trait Peer {
     /// The key states that it holds.
@@ -72,8 +74,12 @@ pub trait Peer {
     /// A page of a bucket after a key.
     fn bucket(&mut self, path: &Path, after: Option<&Key>) -> Result<Page, Refusal>
         ensures kept { is_faithful self.old → is_faithful self.new × (states self.new ≡ states self.old) }
-        ensures page { is_faithful self.old → IfOk result (λ page. page.0.items ≡ page_of (digests (states self.old)) path.now (option_copied after.entry)) }
-        ensures more { is_faithful self.old → IfOk result (λ page. page.1 ≡ is_more_after_page (digests (states self.old)) path.now (option_copied after.entry)) }
+        ensures page { is_faithful self.old →
+            IfOk result (λ page. page.0.items
+            ≡ page_of (digests (states self.old)) path.now (option_copied after.entry)) }
+        ensures more { is_faithful self.old →
+            IfOk result (λ page. page.1
+            ≡ is_more_after_page (digests (states self.old)) path.now (option_copied after.entry)) }
         ensures not_of_key { is_faithful self.old → IfErr result (RefusesPage path.now) }
         ensures follows { follows 1 self.old self.new }
         ensures refuses { IfErr result (can_refuse self.new) }
@@ -91,11 +97,16 @@ pub trait Peer {
 
     /// Joins a state to that of a key.
     fn push(&mut self, key: &Key, state: &KeyState) -> Result<(), Refusal>
-        ensures ok { is_faithful self.old → OnOk result (is_faithful self.new × (states self.new ≡ pushed (states self.old) key.now state.now)) }
-        ensures apart { is_faithful self.old → OnOk result (clashes (state_at (states self.old) key.now) state.now ≡ false) }
-        ensures refused { is_faithful self.old → IfErr result (Leaves (states self.old) key.now state.now (states self.new)) }
-        ensures unbroken { is_faithful self.old → IfErr result (λ refusal. refusal ≢ Refusal.Broken → is_faithful self.new) }
-        ensures cause { is_faithful self.old → IfErr result (CannotTake (most_keys self.old) (states self.old) key.now state.now) }
+        ensures ok { is_faithful self.old →
+            OnOk result (is_faithful self.new × (states self.new ≡ pushed (states self.old) key.now state.now)) }
+        ensures apart { is_faithful self.old →
+            OnOk result (clashes (state_at (states self.old) key.now) state.now ≡ false) }
+        ensures refused { is_faithful self.old →
+            IfErr result (Leaves (states self.old) key.now state.now (states self.new)) }
+        ensures unbroken { is_faithful self.old →
+            IfErr result (λ refusal. refusal ≢ Refusal.Broken → is_faithful self.new) }
+        ensures cause { is_faithful self.old →
+            IfErr result (CannotTake (most_keys self.old) (states self.old) key.now state.now) }
         ensures follows { follows 1 self.old self.new }
         ensures refuses { IfErr result (can_refuse self.new) }
         ensures answers { OnOk result (can_answer self.new) };
@@ -105,7 +116,8 @@ pub trait Peer {
         ensures kept { is_faithful self.old → is_faithful self.new × (states self.new ≡ states self.old) }
         ensures told { IfOk result
             (λ told. Asked follows can_refuse can_answer (λ _ _. Unit {0}) (IsNode (digests (states self.old)))
-            (λ _ refusal. is_of_question refusal ≡ false) (is_faithful self.old) paths.now told.items self.old self.new) }
+            (λ _ refusal. is_of_question refusal ≡ false) (is_faithful self.old)
+            paths.now told.items self.old self.new) }
         ensures ended { IfErr result (Ends follows can_refuse (length paths.now) self.old self.new) }
         ensures not_of_key { is_faithful self.old → IfErr result (λ refusal. is_of_question refusal ≡ false) }
     {
@@ -149,8 +161,10 @@ pub trait Peer {
     fn get_all(&mut self, keys: &[Key]) -> Result<Vec<Result<KeyState, Refusal>>, Refusal>
         ensures kept { is_faithful self.old → is_faithful self.new × (states self.new ≡ states self.old) }
         ensures told { IfOk result
-            (λ told. Asked follows can_refuse can_answer (can_give) (λ key state. state ≡ state_at (states self.old) key)
-            (λ _ refusal. is_of_question refusal ≡ false) (is_faithful self.old) keys.now told.items self.old self.new) }
+            (λ told. Asked follows can_refuse can_answer (can_give)
+            (λ key state. state ≡ state_at (states self.old) key)
+            (λ _ refusal. is_of_question refusal ≡ false) (is_faithful self.old)
+            keys.now told.items self.old self.new) }
         ensures ended { IfErr result (Ends follows can_refuse (length keys.now) self.old self.new) }
         ensures not_of_key { is_faithful self.old → IfErr result (λ refusal. is_of_question refusal ≡ false) }
     {
@@ -170,11 +184,16 @@ pub trait Peer {
         ensures told { IfOk result
             (λ told. Asked follows can_refuse can_answer (λ _ _. Unit {0}) (λ _ _. Unit {0}) (λ _ _. Unit {0}) ⊥
             pairs.now told.items self.old self.new) }
-        ensures pushes { is_faithful self.old → IfOk result (λ told. is_faithful self.new × Pushes (most_keys self.old) (states self.old) pairs.now told.items (states self.new)) }
+        ensures pushes { is_faithful self.old →
+            IfOk result (λ told. is_faithful self.new ×
+            Pushes (most_keys self.old) (states self.old) pairs.now told.items (states self.new)) }
         ensures ended { IfErr result (Ends follows can_refuse (length pairs.now) self.old self.new) }
         ensures not_of_key { is_faithful self.old → IfErr result (λ refusal. is_of_question refusal ≡ false) }
-        ensures unbroken { is_faithful self.old → IfErr result (λ refusal. refusal ≢ Refusal.Broken → is_faithful self.new) }
-        ensures first { is_faithful self.old → OnErr result (PushesFirst (is_faithful self.new) (most_keys self.old) (states self.old) pairs.now (states self.new)) }
+        ensures unbroken { is_faithful self.old →
+            IfErr result (λ refusal. refusal ≢ Refusal.Broken → is_faithful self.new) }
+        ensures first { is_faithful self.old →
+            OnErr result (PushesFirst (is_faithful self.new)
+            (most_keys self.old) (states self.old) pairs.now (states self.new)) }
     {
         let mut told = room_for(self.alloc(), pairs.len())?;
         for (key, state) in pairs {
@@ -194,7 +213,8 @@ pub trait Peer {
     ghost follows_self: { (side : Self) → follows 0 side side };
 
     /// Questions after questions are questions.
-    ghost follows_on: { (m n : ℕ) (old mid new : Self) → follows m old mid → follows n mid new → follows (m + n) old new };
+    ghost follows_on: { (m n : ℕ) (old mid new : Self) →
+        follows m old mid → follows n mid new → follows (m + n) old new };
 
     /// How many keys it holds at most does not change.
     ghost most_stays: { (n : ℕ) (old new : Self) → follows n old new → most_keys new ≡ most_keys old };

@@ -9,7 +9,8 @@ ghost use Rattle.mvd_wire.specs.declared.request.Request.{Request};
 ghost use Rattle.mvd_wire.specs.declared.request.Request.TheVariants.{Get, Node, Bucket, Push, Bye};
 ghost use Rattle.mvd_wire.specs.declared.reply.Reply.TheVariants.{State as Shown, Done, Digests as Told, Keys, Refused};
 ghost use Rattle.mvd_sync.specs.LinkWindows.{AsksForAll};
-ghost use Rattle.mvd_sync.specs.Lines.{AsksAllTruly, AsksTruly, IsTrueRemote, RemoteFollows, TakesNext, remote_follows_on, remote_follows_self};
+ghost use Rattle.mvd_sync.specs.Lines.{AsksAllTruly, AsksTruly, IsTrueRemote, KeepsMost, RemoteFollows, TakesNext};
+ghost use Rattle.mvd_sync.specs.Lines.{far_of, line_of, refused_of, remote_follows_on, remote_follows_self};
 ghost use Rattle.mvd_sync.specs.Links.{Asks, AsksFor, ReadsReply, Sends, StaysRefused, answered_by, link};
 ghost use Rattle.mvd_wire.specs.Codec.{Gives};
 ghost use Rattle.mvd_wire.specs.Replies.{kind_of};
@@ -27,7 +28,8 @@ use mvd_wire::{
 };
 use std::alloc::Global;
 
-/// A site that is asked over a line. What it holds is known as far as the line is true; of a reader and a writer alone nothing is.
+/// A site that is asked over a line. What it holds is known as far as the line is true; of a reader
+/// and a writer alone nothing is.
 #[derive(Drop)]
 pub struct Remote<L: Line> {
     alloc: Global,
@@ -64,8 +66,8 @@ fn refusal_in(reply: &Reply) -> Refusal
 impl<L: Line> Remote<L> {
     /// The site at the other end of a line, which is true if the line is and no reply is due.
     pub fn over(alloc: Global, line: L) -> Self
-        ensures line { result.line ≡ line }
-        ensures goes_on { result.refused ≡ None }
+        ensures line { line_of result ≡ line }
+        ensures goes_on { refused_of result ≡ None }
         ensures truth { L.is_true line → (L.far line).due ≡ [] → IsTrueRemote L.is_true L.far result }
     {
         Remote {
@@ -77,7 +79,7 @@ impl<L: Line> Remote<L> {
 
     /// The line.
     pub fn into_line(self) -> L
-        ensures { result ≡ self.line }
+        ensures { result ≡ line_of self }
     {
         let Remote {
             alloc: _,
@@ -89,8 +91,8 @@ impl<L: Line> Remote<L> {
 
     /// The link itself refuses, from now on.
     fn breaks(&mut self, refusal: Refusal) -> Refusal
-        ensures refused { (self.new.refused ≡ Some refusal) × (result ≡ refusal) }
-        ensures kept { self.new.line ≡ self.old.line }
+        ensures refused { (refused_of self.new ≡ Some refusal) × (result ≡ refusal) }
+        ensures kept { line_of self.new ≡ line_of self.old }
     {
         self.refused = Some(refusal);
         refusal
@@ -98,12 +100,12 @@ impl<L: Line> Remote<L> {
 
     /// Reads a reply, which is of this kind or a refusal.
     fn read(&mut self, kind: u8) -> Result<Reply, Refusal>
-        requires { self.old.refused ≡ None }
-        ensures reads { ReadsReply (L.remaining self.old.line) (L.remaining self.new.line)
-            kind self.new.refused result }
+        requires { refused_of self.old ≡ None }
+        ensures reads { ReadsReply (L.remaining (line_of self.old)) (L.remaining (line_of self.new))
+            kind (refused_of self.new) result }
         ensures of_kind { IfOk result (λ reply. (kind_of reply ≡ kind) ⊎ (kind_of reply ≡ 0xEE)) }
-        ensures unsent { L.contents self.new.line ≡ L.contents self.old.line }
-        ensures most { (L.far self.new.line).most ≡ (L.far self.old.line).most }
+        ensures unsent { L.contents (line_of self.new) ≡ L.contents (line_of self.old) }
+        ensures most { KeepsMost L.far self.old self.new }
         ensures truth { TakesNext L.is_true L.far self.old self.new result }
     {
         let came = match self.line.receive(self.alloc) {
@@ -127,11 +129,11 @@ impl<L: Line> Remote<L> {
 
     /// Sends a frame, and reads the reply, which is of this kind or a refusal.
     fn send(&mut self, frame: &[u8], kind: u8) -> Result<Reply, Refusal>
-        requires { self.old.refused ≡ None }
+        requires { refused_of self.old ≡ None }
         ensures sends { Sends (link L.remaining L.contents self.old) (link L.remaining L.contents self.new)
             frame.now kind result }
         ensures of_kind { IfOk result (λ reply. (kind_of reply ≡ kind) ⊎ (kind_of reply ≡ 0xEE)) }
-        ensures most { (L.far self.new.line).most ≡ (L.far self.old.line).most }
+        ensures most { KeepsMost L.far self.old self.new }
         ensures truth { (request : Request) → IsRequest request → request_frame request ≡ Ok frame.now →
             AsksTruly L.is_true L.far (λ reply. reply) request self.old self.new result }
     {
@@ -147,7 +149,7 @@ impl<L: Line> Remote<L> {
         ensures asked { Asks (link L.remaining L.contents self.old) (link L.remaining L.contents self.new)
             request.now result }
         ensures stays { StaysRefused self.old self.new result }
-        ensures most { (L.far self.new.line).most ≡ (L.far self.old.line).most }
+        ensures most { KeepsMost L.far self.old self.new }
         ensures truth { AsksTruly L.is_true L.far (λ reply. reply) request.now self.old self.new result }
     {
         if let Some(refusal) = self.refused {
@@ -164,7 +166,7 @@ impl<L: Line> Remote<L> {
         ensures asked { AsksFor (λ digests. Told digests) (Node path.now)
             (link L.remaining L.contents self.old) (link L.remaining L.contents self.new) result }
         ensures stays { StaysRefused self.old self.new result }
-        ensures most { (L.far self.new.line).most ≡ (L.far self.old.line).most }
+        ensures most { KeepsMost L.far self.old self.new }
         ensures truth { AsksTruly L.is_true L.far (λ digests. Told digests)
             (Node path.now) self.old self.new result }
     {
@@ -176,11 +178,11 @@ impl<L: Line> Remote<L> {
 
     /// Sends the frame of a question for such an answer, and reads that, or tells why the question has no frame.
     fn ask_for<A: Answer>(&mut self, frame: Result<Vec<u8>, Refusal>) -> Result<A, Refusal>
-        requires { self.old.refused ≡ None }
+        requires { refused_of self.old ≡ None }
         ensures asked { (request : Request) → answered_by request ≡ A.of_kind →
             Gives (λ v. v.items) frame (request_frame request) → AsksFor A.as_reply request
             (link L.remaining L.contents self.old) (link L.remaining L.contents self.new) result }
-        ensures most { (L.far self.new.line).most ≡ (L.far self.old.line).most }
+        ensures most { KeepsMost L.far self.old self.new }
         ensures truth { (request : Request) → IfOk frame (λ _. IsRequest request) →
             Gives (λ v. v.items) frame (request_frame request) →
             AsksTruly L.is_true L.far A.as_reply request self.old self.new result }
@@ -211,7 +213,7 @@ impl<L: Line> Remote<L> {
         ensures asked { AsksFor (λ page. Keys page.0.items page.1) (Bucket path.now (option_copied after.entry))
             (link L.remaining L.contents self.old) (link L.remaining L.contents self.new) result }
         ensures stays { StaysRefused self.old self.new result }
-        ensures most { (L.far self.new.line).most ≡ (L.far self.old.line).most }
+        ensures most { KeepsMost L.far self.old self.new }
         ensures truth { AsksTruly L.is_true L.far (λ page. Keys page.0.items page.1)
             (Bucket path.now (option_copied after.entry)) self.old self.new result }
     {
@@ -226,7 +228,7 @@ impl<L: Line> Remote<L> {
         ensures asked { AsksFor (λ state. Shown state) (Get key.now)
             (link L.remaining L.contents self.old) (link L.remaining L.contents self.new) result }
         ensures stays { StaysRefused self.old self.new result }
-        ensures most { (L.far self.new.line).most ≡ (L.far self.old.line).most }
+        ensures most { KeepsMost L.far self.old self.new }
         ensures truth { AsksTruly L.is_true L.far (λ state. Shown state)
             (Get key.now) self.old self.new result }
     {
@@ -241,7 +243,7 @@ impl<L: Line> Remote<L> {
         ensures asked { AsksFor (λ _. Done) (Push key.now state.now)
             (link L.remaining L.contents self.old) (link L.remaining L.contents self.new) result }
         ensures stays { StaysRefused self.old self.new result }
-        ensures most { (L.far self.new.line).most ≡ (L.far self.old.line).most }
+        ensures most { KeepsMost L.far self.old self.new }
         ensures truth { AsksTruly L.is_true L.far (λ _. Done)
             (Push key.now state.now) self.old self.new result }
     {
@@ -256,7 +258,7 @@ impl<L: Line> Remote<L> {
         ensures asked { AsksFor (λ _. Done) (Bye)
             (link L.remaining L.contents self.old) (link L.remaining L.contents self.new) result }
         ensures stays { StaysRefused self.old self.new result }
-        ensures most { (L.far self.new.line).most ≡ (L.far self.old.line).most }
+        ensures most { KeepsMost L.far self.old self.new }
         ensures truth { AsksTruly L.is_true L.far (λ _. Done)
             (Bye) self.old self.new result }
     {
@@ -268,7 +270,7 @@ impl<L: Line> Remote<L> {
 }
 
 impl<L: Line> Peer for Remote<L> {
-    ghost states = { λ remote. (L.far remote.line).states };
+    ghost states = { λ remote. (far_of L.far remote).states };
 
     // It is as true as the line.
     ghost is_faithful = { IsTrueRemote L.is_true L.far };
@@ -279,15 +281,15 @@ impl<L: Line> Peer for Remote<L> {
     ghost follows = { λ _. RemoteFollows L.far };
 
     // Where the link itself refuses, it refuses so.
-    ghost can_refuse = { λ remote refusal. (own : Refusal) → remote.refused ≡ Some own → refusal ≡ own };
+    ghost can_refuse = { λ remote refusal. (own : Refusal) → refused_of remote ≡ Some own → refusal ≡ own };
 
-    ghost can_answer = { λ remote. remote.refused ≡ None };
+    ghost can_answer = { λ remote. refused_of remote ≡ None };
 
-    ghost most_keys = { λ remote. (L.far remote.line).most };
+    ghost most_keys = { λ remote. (far_of L.far remote).most };
 
     ghost number = { λ _. None };
 
-    ghost in_form = { λ remote truth. L.in_form remote.line truth.line };
+    ghost in_form = { λ remote truth. L.in_form (line_of remote) truth.line };
 
     ghost follows_self = { λ remote. remote_follows_self L.far remote };
 
@@ -307,7 +309,7 @@ impl<L: Line> Peer for Remote<L> {
         ensures asked { AsksFor (λ digests. Told digests) (Node path.now)
             (link L.remaining L.contents self.old) (link L.remaining L.contents self.new) result }
         ensures stays { StaysRefused self.old self.new result }
-        ensures most { (L.far self.new.line).most ≡ (L.far self.old.line).most }
+        ensures most { KeepsMost L.far self.old self.new }
         ensures truth { AsksTruly L.is_true L.far (λ digests. Told digests)
             (Node path.now) self.old self.new result }
     {
@@ -318,7 +320,7 @@ impl<L: Line> Peer for Remote<L> {
         ensures asked { AsksFor (λ page. Keys page.0.items page.1) (Bucket path.now (option_copied after.entry))
             (link L.remaining L.contents self.old) (link L.remaining L.contents self.new) result }
         ensures stays { StaysRefused self.old self.new result }
-        ensures most { (L.far self.new.line).most ≡ (L.far self.old.line).most }
+        ensures most { KeepsMost L.far self.old self.new }
         ensures truth { AsksTruly L.is_true L.far (λ page. Keys page.0.items page.1)
             (Bucket path.now (option_copied after.entry)) self.old self.new result }
     {
@@ -329,7 +331,7 @@ impl<L: Line> Peer for Remote<L> {
         ensures asked { AsksFor (λ state. Shown state) (Get key.now)
             (link L.remaining L.contents self.old) (link L.remaining L.contents self.new) result }
         ensures stays { StaysRefused self.old self.new result }
-        ensures most { (L.far self.new.line).most ≡ (L.far self.old.line).most }
+        ensures most { KeepsMost L.far self.old self.new }
         ensures truth { AsksTruly L.is_true L.far (λ state. Shown state)
             (Get key.now) self.old self.new result }
     {
@@ -340,7 +342,7 @@ impl<L: Line> Peer for Remote<L> {
         ensures asked { AsksFor (λ _. Done) (Push key.now state.now)
             (link L.remaining L.contents self.old) (link L.remaining L.contents self.new) result }
         ensures stays { StaysRefused self.old self.new result }
-        ensures most { (L.far self.new.line).most ≡ (L.far self.old.line).most }
+        ensures most { KeepsMost L.far self.old self.new }
         ensures truth { AsksTruly L.is_true L.far (λ _. Done)
             (Push key.now state.now) self.old self.new result }
     {
@@ -351,7 +353,7 @@ impl<L: Line> Peer for Remote<L> {
         ensures asked { AsksForAll (λ digests. Told digests) 0xA7 (map (λ path. Node path) paths.now)
             (link L.remaining L.contents self.old) (link L.remaining L.contents self.new) result }
         ensures stays { StaysRefused self.old self.new result }
-        ensures most { (L.far self.new.line).most ≡ (L.far self.old.line).most }
+        ensures most { KeepsMost L.far self.old self.new }
         ensures truth { AsksAllTruly L.is_true L.far (λ digests. Told digests)
             (map (λ path. Node path) paths.now) self.old self.new result }
     {
@@ -365,7 +367,7 @@ impl<L: Line> Peer for Remote<L> {
         ensures asked { AsksForAll (λ page. Keys page.0.items page.1) 0xA8 (map (λ q. Bucket q.0 q.1) asked.now)
             (link L.remaining L.contents self.old) (link L.remaining L.contents self.new) result }
         ensures stays { StaysRefused self.old self.new result }
-        ensures most { (L.far self.new.line).most ≡ (L.far self.old.line).most }
+        ensures most { KeepsMost L.far self.old self.new }
         ensures truth { AsksAllTruly L.is_true L.far (λ page. Keys page.0.items page.1)
             (map (λ q. Bucket q.0 q.1) asked.now) self.old self.new result }
     {
@@ -376,7 +378,7 @@ impl<L: Line> Peer for Remote<L> {
         ensures asked { AsksForAll (λ state. Shown state) 0xA1 (map (λ key. Get key) keys.now)
             (link L.remaining L.contents self.old) (link L.remaining L.contents self.new) result }
         ensures stays { StaysRefused self.old self.new result }
-        ensures most { (L.far self.new.line).most ≡ (L.far self.old.line).most }
+        ensures most { KeepsMost L.far self.old self.new }
         ensures truth { AsksAllTruly L.is_true L.far (λ state. Shown state)
             (map (λ key. Get key) keys.now) self.old self.new result }
     {
@@ -387,7 +389,7 @@ impl<L: Line> Peer for Remote<L> {
         ensures asked { AsksForAll (λ _. Done) 0xA3 (map (λ pair. Push pair.0 pair.1) pairs.now)
             (link L.remaining L.contents self.old) (link L.remaining L.contents self.new) result }
         ensures stays { StaysRefused self.old self.new result }
-        ensures most { (L.far self.new.line).most ≡ (L.far self.old.line).most }
+        ensures most { KeepsMost L.far self.old self.new }
         ensures truth { AsksAllTruly L.is_true L.far (λ _. Done)
             (map (λ pair. Push pair.0 pair.1) pairs.now) self.old self.new result }
     {

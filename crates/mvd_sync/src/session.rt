@@ -1,7 +1,7 @@
 //! Sessions of two sides.
 ghost use Rattle.std.specs.Prelude.{◌≤◌};
 ghost use Rattle.mvd_sync.specs.Session.{Session};
-ghost use Rattle.mvd_sync.specs.Sides.{side};
+ghost use Rattle.mvd_sync.specs.PeerSides.{side_of};
 
 use crate::asking::Questions;
 use crate::bucket_walk::exchange_buckets;
@@ -25,8 +25,8 @@ pub fn sync_within<L: Peer, P: Peer>(
 ) -> Result<Report, SyncFault>
     requires some { 1 ≤ questions }
     requires limit { questions ≤ MOST_QUESTIONS }
-    ensures session { let l = side L.states L.is_faithful L.can_give L.follows L.can_refuse L.can_answer L.most_keys L.number in
-        let p = side P.states P.is_faithful P.can_give P.follows P.can_refuse P.can_answer P.most_keys P.number in
+    ensures session { let l = side_of L.Peer in
+        let p = side_of P.Peer in
         Session l p questions local.old local.new peer.old peer.new result }
 {
     let number = local.number();
@@ -55,8 +55,8 @@ pub fn sync<L: Peer, P: Peer>(
     local: &mut L,
     peer: &mut P,
 ) -> Result<Report, SyncFault>
-    ensures session { let l = side L.states L.is_faithful L.can_give L.follows L.can_refuse L.can_answer L.most_keys L.number in
-        let p = side P.states P.is_faithful P.can_give P.follows P.can_refuse P.can_answer P.most_keys P.number in
+    ensures session { let l = side_of L.Peer in
+        let p = side_of P.Peer in
         Session l p 10000000 local.old local.new peer.old peer.new result }
 {
     sync_within(alloc, local, peer, MOST_QUESTIONS)

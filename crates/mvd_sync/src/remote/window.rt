@@ -3,7 +3,8 @@ ghost use Rattle.std.specs.Prelude.{◌≡◌, ◌≢◌, Err, List, ℕ, Result
 ghost use Rattle.mvd_dots.specs.declared.refusals.Refusal.TheVariants.{Memory};
 ghost use Rattle.mvd_wire.specs.Codec.{Gives};
 ghost use Rattle.mvd_sync.specs.LinkWindows.{Answered, AsksAll, IsOfKind, RefusesAll, TakesTurn, TakeTurns, TurnBreaks, and_frame, frames_of};
-ghost use Rattle.mvd_sync.specs.Lines.{AreSpelled, AsksAllTruly, DueTurn, DueTurns, EndsTruly, TellsAllTruly, TookTurns};
+ghost use Rattle.mvd_sync.specs.Lines.{AreSpelled, AsksAllTruly, DueTurn, DueTurns, EndsTruly, KeepsMost};
+ghost use Rattle.mvd_sync.specs.Lines.{TellsAllTruly, TookTurns, line_of, refused_of};
 ghost use Rattle.mvd_sync.specs.Links.{ReadCause, link};
 ghost use Rattle.mvd_wire.specs.declared.request.Request.{Request};
 ghost use Rattle.mvd_dots.specs.declared.refusals.Refusal.{Refusal as Cause};
@@ -67,16 +68,18 @@ impl Window {
 impl<L: Line> Remote<L> {
     /// Answers a request in its turn: by the next reply, or by the refusal of its encoding.
     fn turn(&mut self, none: Option<Refusal>, kind: u8) -> Result<Result<Reply, Refusal>, Refusal>
-        requires { self.old.refused ≡ None }
+        requires { refused_of self.old ≡ None }
         ensures told { IfOk result
-            (λ told. TakesTurn kind none told (L.remaining self.old.line) (L.remaining self.new.line)) }
+            (λ told. TakesTurn kind none told (L.remaining (line_of self.old)) (L.remaining (line_of self.new))) }
         ensures of_kind { IfOk result (IsOfKind kind) }
-        ensures goes_on { OnOk result (self.new.refused ≡ None) }
-        ensures broke { IfErr result (λ refusal. ReadCause (L.remaining self.old.line) (L.remaining self.new.line)
-            kind refusal × (self.new.refused ≡ Some refusal)) }
-        ensures unsent { L.contents self.new.line ≡ L.contents self.old.line }
-        ensures most { (L.far self.new.line).most ≡ (L.far self.old.line).most }
-        ensures truth { L.is_true self.old.line → TookTurns L.is_true L.far (DueTurn none) self.old self.new result }
+        ensures goes_on { OnOk result (refused_of self.new ≡ None) }
+        ensures broke { IfErr result (λ refusal. ReadCause
+            (L.remaining (line_of self.old)) (L.remaining (line_of self.new))
+            kind refusal × (refused_of self.new ≡ Some refusal)) }
+        ensures unsent { L.contents (line_of self.new) ≡ L.contents (line_of self.old) }
+        ensures most { KeepsMost L.far self.old self.new }
+        ensures truth { L.is_true (line_of self.old) →
+            TookTurns L.is_true L.far (DueTurn none) self.old self.new result }
     {
         if let Some(refusal) = none {
             return Ok(Err(refusal));
@@ -95,18 +98,20 @@ impl<L: Line> Remote<L> {
         kind: u8,
         replies: &mut Vec<Result<Reply, Refusal>>,
     ) -> Result<(), Refusal>
-        requires goes_on { self.old.refused ≡ None }
+        requires goes_on { refused_of self.old ≡ None }
         requires empty { replies.old.items ≡ [] }
         ensures came { OnOk result
-            (TakeTurns kind nones.now replies.new.items (L.remaining self.old.line) (L.remaining self.new.line)) }
+            (TakeTurns kind nones.now replies.new.items
+            (L.remaining (line_of self.old)) (L.remaining (line_of self.new))) }
         ensures of_kind { OnOk result (All (IsOfKind kind) replies.new.items) }
-        ensures goes_on { OnOk result (self.new.refused ≡ None) }
+        ensures goes_on { OnOk result (refused_of self.new ≡ None) }
         ensures broke { IfErr result
-            (λ refusal. TurnBreaks kind nones.now (L.remaining self.old.line) (L.remaining self.new.line) refusal
-            × (self.new.refused ≡ Some refusal)) }
-        ensures unsent { L.contents self.new.line ≡ L.contents self.old.line }
-        ensures most { (L.far self.new.line).most ≡ (L.far self.old.line).most }
-        ensures truth { L.is_true self.old.line → TookTurns L.is_true L.far
+            (λ refusal. TurnBreaks kind nones.now
+            (L.remaining (line_of self.old)) (L.remaining (line_of self.new)) refusal
+            × (refused_of self.new ≡ Some refusal)) }
+        ensures unsent { L.contents (line_of self.new) ≡ L.contents (line_of self.old) }
+        ensures most { KeepsMost L.far self.old self.new }
+        ensures truth { L.is_true (line_of self.old) → TookTurns L.is_true L.far
             (λ due left _. DueTurns nones.now replies.new.items due left) self.old self.new result }
     {
         for none in nones {
@@ -124,14 +129,14 @@ impl<L: Line> Remote<L> {
         window: &Window,
         kind: u8,
     ) -> Result<Vec<Result<Reply, Refusal>>, Refusal>
-        requires { self.old.refused ≡ None }
+        requires { refused_of self.old ≡ None }
         ensures sent { MatchResult result
             (λ replies. Answered kind window.now replies.items
             (link L.remaining L.contents self.old) (link L.remaining L.contents self.new))
             (RefusesAll kind window.now
             (link L.remaining L.contents self.old) (link L.remaining L.contents self.new)) }
         ensures of_kind { IfOk result (λ replies. All (IsOfKind kind) replies.items) }
-        ensures most { (L.far self.new.line).most ≡ (L.far self.old.line).most }
+        ensures most { KeepsMost L.far self.old self.new }
         ensures truth { (requests : List Request) → window.now ≡ frames_of requests → AreSpelled requests →
             EndsTruly L.is_true L.far (λ most before told. TellsAllTruly most before requests told.items)
             requests self.old self.new result }
@@ -151,13 +156,13 @@ impl<L: Line> Remote<L> {
         &mut self,
         window: &Window,
     ) -> Result<Vec<Result<A, Refusal>>, Refusal>
-        requires { self.old.refused ≡ None }
+        requires { refused_of self.old ≡ None }
         ensures asked { MatchResult result
             (λ told. AsksAll A.as_reply A.of_kind window.now told.items
             (link L.remaining L.contents self.old) (link L.remaining L.contents self.new))
             (RefusesAll A.of_kind window.now
             (link L.remaining L.contents self.old) (link L.remaining L.contents self.new)) }
-        ensures most { (L.far self.new.line).most ≡ (L.far self.old.line).most }
+        ensures most { KeepsMost L.far self.old self.new }
         ensures truth { (requests : List Request) → window.now ≡ frames_of requests → AreSpelled requests →
             AsksAllTruly L.is_true L.far A.as_reply requests self.old self.new result }
     {

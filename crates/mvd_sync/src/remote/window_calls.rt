@@ -3,7 +3,7 @@ ghost use Rattle.std.specs.Prelude.{◌≡◌, map};
 ghost use Rattle.mvd_wire.specs.declared.request.Request.TheVariants.{Get, Node, Bucket, Push};
 ghost use Rattle.mvd_wire.specs.declared.reply.Reply.TheVariants.{State, Done, Digests as Told, Keys};
 ghost use Rattle.mvd_sync.specs.LinkWindows.{AsksForAll};
-ghost use Rattle.mvd_sync.specs.Lines.{AsksAllTruly};
+ghost use Rattle.mvd_sync.specs.Lines.{AsksAllTruly, KeepsMost};
 ghost use Rattle.mvd_sync.specs.Links.{StaysRefused, link};
 
 use super::Remote;
@@ -20,7 +20,7 @@ impl<L: Line> Remote<L> {
         ensures asked { AsksForAll (λ digests. Told digests) 0xA7 (map (λ path. Node path) paths.now)
             (link L.remaining L.contents self.old) (link L.remaining L.contents self.new) result }
         ensures stays { StaysRefused self.old self.new result }
-        ensures most { (L.far self.new.line).most ≡ (L.far self.old.line).most }
+        ensures most { KeepsMost L.far self.old self.new }
         ensures truth { AsksAllTruly L.is_true L.far (λ digests. Told digests)
             (map (λ path. Node path) paths.now) self.old self.new result }
     {
@@ -42,7 +42,7 @@ impl<L: Line> Remote<L> {
         ensures asked { AsksForAll (λ page. Keys page.0.items page.1) 0xA8 (map (λ q. Bucket q.0 q.1) asked.now)
             (link L.remaining L.contents self.old) (link L.remaining L.contents self.new) result }
         ensures stays { StaysRefused self.old self.new result }
-        ensures most { (L.far self.new.line).most ≡ (L.far self.old.line).most }
+        ensures most { KeepsMost L.far self.old self.new }
         ensures truth { AsksAllTruly L.is_true L.far (λ page. Keys page.0.items page.1)
             (map (λ q. Bucket q.0 q.1) asked.now) self.old self.new result }
     {
@@ -61,7 +61,7 @@ impl<L: Line> Remote<L> {
         ensures asked { AsksForAll (λ state. State state) 0xA1 (map (λ key. Get key) keys.now)
             (link L.remaining L.contents self.old) (link L.remaining L.contents self.new) result }
         ensures stays { StaysRefused self.old self.new result }
-        ensures most { (L.far self.new.line).most ≡ (L.far self.old.line).most }
+        ensures most { KeepsMost L.far self.old self.new }
         ensures truth { AsksAllTruly L.is_true L.far (λ state. State state)
             (map (λ key. Get key) keys.now) self.old self.new result }
     {
@@ -83,7 +83,7 @@ impl<L: Line> Remote<L> {
         ensures asked { AsksForAll (λ _. Done) 0xA3 (map (λ pair. Push pair.0 pair.1) pairs.now)
             (link L.remaining L.contents self.old) (link L.remaining L.contents self.new) result }
         ensures stays { StaysRefused self.old self.new result }
-        ensures most { (L.far self.new.line).most ≡ (L.far self.old.line).most }
+        ensures most { KeepsMost L.far self.old self.new }
         ensures truth { AsksAllTruly L.is_true L.far (λ _. Done)
             (map (λ pair. Push pair.0 pair.1) pairs.now) self.old self.new result }
     {

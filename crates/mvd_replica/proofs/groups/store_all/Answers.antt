@@ -1,15 +1,16 @@
 use Rattle.std.proofs.Common.{◌∙◌, ◌∷◌, [], ap}
 use Rattle.mvd_records.specs.Pairs.{entries_of}
 use Rattle.mvd_records.specs.Seen.{seen}
+use Rattle.mvd_records.proofs.Follows.{saves_kept, saves_saved}
 use Rattle.mvd_replica.proofs.Grouped.{one_only, store_many, store_one}
 use Rattle.mvd_replica.proofs.groups.store_all.Goals as goal
 
 pub returns-clause-stored : goal.returns-clause-stored
 returns-clause-stored g c site sound holds =
-    store_many c.save_all.result (seen g.S.Store c.args.records.now) (seen g.S.Store c.save_all.new.self) (entries_of c.deref.result.now) c.args.group.now site c.save_all.ensures.saves
+    store_many c.save_all.result (seen g.S.Store c.args.records.now) (seen g.S.Store c.save_all.new.self) (entries_of c.deref.result.now) c.args.group.now site c.save_all.ensures
     (ap entries_of c.deref.ensures.value ∙ c.in_ok-pairs.ensures.pairs) sound holds
 
 pub returns-in-Change-clause-stored : goal.returns-in-Change-clause-stored
 returns-in-Change-clause-stored g c site sound holds =
     store_one c.save.result _ _ c.in-Change.change c.args.group.now c.key.result.now c.bytes.result.now site c.key.ensures c.bytes.ensures
-    (one_only c.args.group.now c.index-group-0.result c.if-group-eq1.true c.index-group-0.is ∙ ap (λ p. p ∷ []) c.in-Change.is) (c.save.ensures.kept 2 site sound holds) (c.save.ensures.saved 2 site sound holds)
+    (one_only c.args.group.now c.index-group-0.result c.if-group-eq1.true c.index-group-0.is ∙ ap (λ p. p ∷ []) c.in-Change.is) (saves_kept _ _ _ c.save.result c.save.ensures 2 site sound holds) (saves_saved _ _ _ _ c.save.result c.save.ensures 2 site sound holds)

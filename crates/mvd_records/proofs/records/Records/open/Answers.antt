@@ -2,16 +2,12 @@ use Rattle.std.proofs.Common.{rules, refl, inl, inr}
 use Rattle.mvd_records.proofs.Others.{not_ours}
 use Rattle.mvd_records.proofs.records.Records.open.Goals as goal
 
-pub returns-then-is_foreign-clause-refused : goal.returns-then-is_foreign-clause-refused
-returns-then-is_foreign-clause-refused g c sound ours =
-    absurd (not_ours _ ((c.is_foreign.ensures sound.is_open).0 c.if-is_foreign.true).foreign ours)
-
-pub returns-then-is_foreign-clause-opens : goal.returns-then-is_foreign-clause-opens
-returns-then-is_foreign-clause-opens g c = (
+pub returns-then-is_foreign : goal.returns-then-is_foreign
+returns-then-is_foreign g c = (
   record {
     before = λ sound. sound;
     refusal = inr (inl refl);
-    told = returns-then-is_foreign-clause-refused g c;
+    told = λ sound ours. absurd (not_ours _ ((c.is_foreign.ensures sound.is_open).0 c.if-is_foreign.true).foreign ours);
     unchanged = λ _. refl;
     survives = search rules;
   },

@@ -27,32 +27,32 @@ returns-in-Ok-site_in g c = record {
           holds = holds_opened c.in-Ok-site_in.site c.args.config c.site.result _ c.in-Ok-site_in.ensures.config.0 c.site.ensures.site both.0 none both.1;
           states = same;
         });
-    own = c.in-Ok.ensures.opens.own;
+    own = c.in-Ok.ensures.own;
   };
-  foreign = λ foreign. absurd (c.in-Ok.ensures.opens.own foreign);
+  foreign = λ foreign. absurd (c.in-Ok.ensures.own foreign);
 }
 
 pub returns-in-Err : goal.returns-in-Err
 returns-in-Err g c = record {
   opens = record {
-    refusal = inl c.in-Err.ensures.refusal;
-    before = c.in-Err.ensures.before;
+    refusal = inl c.in-Err.ensures.0.refusal;
+    before = c.in-Err.ensures.0.before;
     refused = λ sound ours. (
         let was = (state g.S.Store c.args.conn).committed in
-        let told = c.in-Err.ensures.refused sound ours in
+        let told = c.in-Err.ensures.0.told sound ours in
         record {
-          states = same_unchanged _ _ (c.in-Err.ensures.unchanged sound);
+          states = same_unchanged _ _ (c.in-Err.ensures.0.unchanged sound);
           mismatch = λ is. told_as was c.args.config.site c.site.result c.in-Err.refused.0 SiteMismatch c.site.ensures.site is told;
           damaged = λ is. inl (told_as was c.args.config.site c.site.result c.in-Err.refused.0 Damaged c.site.ensures.site is told);
-          full = λ is. absurd (open_not_full _ c.in-Err.ensures.refusal is);
-          resumes = inl (c.in-Err.ensures.unchanged sound);
+          full = λ is. absurd (open_not_full _ c.in-Err.ensures.0.refusal is);
+          resumes = inl (c.in-Err.ensures.0.unchanged sound);
         });
     foreign = λ foreign. (
-        let same = c.in-Err.ensures.opens.1 foreign in
+        let same = c.in-Err.ensures.1 foreign in
         (ap (λ r. r.0) same, ap (λ r. (state g.S.Store r.1).committed) same));
-    untouched = λ sound is. c.in-Err.ensures.unchanged sound;
+    untouched = λ sound is. c.in-Err.ensures.0.unchanged sound;
   };
-  foreign = λ foreign. ap (λ r. Err r) (c.in-Err.ensures.opens.1 foreign);
+  foreign = λ foreign. ap (λ r. Err r) (c.in-Err.ensures.1 foreign);
 }
 
 pub returns-in-Err-site_in : goal.returns-in-Err-site_in
@@ -80,8 +80,8 @@ returns-in-Err-site_in g c = record {
             resumes_opened version c.args.config.site number _ _ _ c.site.ensures.site opened.states (c.in-Err-site_in.ensures.resumes number real opened.holds),
           );
         }));
-    foreign = λ foreign. absurd (c.in-Ok.ensures.opens.own foreign);
+    foreign = λ foreign. absurd (c.in-Ok.ensures.own foreign);
     untouched = λ sound is. absurd (read_no_mismatch _ c.in-Err-site_in.ensures.refusal is);
   };
-  foreign = λ foreign. absurd (c.in-Ok.ensures.opens.own foreign);
+  foreign = λ foreign. absurd (c.in-Ok.ensures.own foreign);
 }

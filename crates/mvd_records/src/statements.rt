@@ -1,4 +1,4 @@
-ghost use Rattle.std.specs.Prelude.{◌≡◌, ◌≢◌, ◌⊎◌, [], IsTrue, IfErr, IfOk, MatchBool, OnOk, OnErr};
+ghost use Rattle.std.specs.Prelude.{◌≡◌, ◌≢◌, ◌⊎◌, [], IsTrue, IfErr, IfOk, MatchBool, OnOk, OnErr, not};
 ghost use Rattle.sqlite.specs.Held.{state};
 ghost use Rattle.sqlite.specs.State.{HasCleanDisk, KeepsCommit, Shown, Survives, CommitsShowing};
 ghost use Rattle.sqlite.specs.Given.{IsPlain};
@@ -12,7 +12,8 @@ use sqlite::{Alter, Connection, params};
 
 /// No transaction is under way, so what the connection sees is what was committed.
 pub fn is_settled<S: Alter>(conn: &Connection<S>) -> bool
-    ensures { IsTrue result → IsSettled (state S.Store conn.now) }
+    ensures exact { result ≡ not (state S.Store conn.now).in_transaction }
+    ensures settled { IsTrue result → IsSettled (state S.Store conn.now) }
 {
     let _schema = conn.schema();
     conn.is_autocommit()

@@ -15,7 +15,7 @@ use Rattle.mvd_records.proofs.loading.read_half.Goals.{in-Old, in-New}
 
 module _ (g : Over) (c : goal.After-read_pairs g) where
   settled : IsSettled (state g.S.Store c.args.conn.now)
-  settled = c.is_settled.ensures c.if-not-is_settled.false
+  settled = c.is_settled.ensures.settled c.if-not-is_settled.false
 
   -- the text is that of the half
   text_is : c.match-half.sql.now ≡ load_text c.args.half

@@ -12,7 +12,7 @@ use Rattle.mvd_records.proofs.moving.move_key.Goals as goal
 pub returns-in-Err-clause-missing : goal.returns-in-Err-clause-missing
 returns-in-Err-clause-missing g c version site it holds is =
     let old = state g.S.Store c.args.conn.now in
-    let settled : IsSettled old = c.is_settled.ensures c.if-not-is_settled.false in
+    let settled : IsSettled old = c.is_settled.ensures.settled c.if-not-is_settled.false in
     let begun = c.transaction-tx.ensures.begun in
     let early : HasCleanDisk (state g.S.Store c.shift.new.tx.conn.now) = search rules in
     let was : IsTrue old.is_open = search rules in
@@ -24,7 +24,7 @@ returns-in-Err-clause-missing g c version site it holds is =
 pub returns-in-Ok-commit-clause-kept : goal.returns-in-Ok-commit-clause-kept
 returns-in-Ok-commit-clause-kept g c version site it holds =
     let old = state g.S.Store c.args.conn.now in
-    let settled : IsSettled old = c.is_settled.ensures c.if-not-is_settled.false in
+    let settled : IsSettled old = c.is_settled.ensures.settled c.if-not-is_settled.false in
     let mid = c.shift.new.tx.conn.now in
     let end = c.commit.new.self.0 in
     let begun = c.transaction-tx.ensures.begun in
@@ -40,7 +40,7 @@ returns-in-Ok-commit-clause-kept g c version site it holds =
 pub returns-in-Ok-commit-clause-moved : goal.returns-in-Ok-commit-clause-moved
 returns-in-Ok-commit-clause-moved g c version site it holds =
     let old = state g.S.Store c.args.conn.now in
-    let settled : IsSettled old = c.is_settled.ensures c.if-not-is_settled.false in
+    let settled : IsSettled old = c.is_settled.ensures.settled c.if-not-is_settled.false in
     let mid = c.shift.new.tx.conn.now in
     let end = c.commit.new.self.0 in
     let begun = c.transaction-tx.ensures.begun in
@@ -57,7 +57,7 @@ returns-in-Ok-commit-clause-moved g c version site it holds =
 pub returns-in-Ok-commit-clause-survives : goal.returns-in-Ok-commit-clause-survives
 returns-in-Ok-commit-clause-survives g c =
     let old = state g.S.Store c.args.conn.now in
-    let settled : IsSettled old = c.is_settled.ensures c.if-not-is_settled.false in
+    let settled : IsSettled old = c.is_settled.ensures.settled c.if-not-is_settled.false in
     let mid = c.shift.new.tx.conn.now in
     let end = c.commit.new.self.0 in
     let begun = c.transaction-tx.ensures.begun in
@@ -72,7 +72,7 @@ returns-in-Ok-commit-clause-survives g c =
 pub returns-in-Err-commit-clause-survives : goal.returns-in-Err-commit-clause-survives
 returns-in-Err-commit-clause-survives g c =
     let old = state g.S.Store c.args.conn.now in
-    let settled : IsSettled old = c.is_settled.ensures c.if-not-is_settled.false in
+    let settled : IsSettled old = c.is_settled.ensures.settled c.if-not-is_settled.false in
     let mid = c.shift.new.tx.conn.now in
     let end = c.commit.new.self.0 in
     let begun = c.transaction-tx.ensures.begun in

@@ -11,7 +11,7 @@ use Rattle.mvd_records.proofs.open.open.Goals as goal
 pub returns-in-Err-clause-refused : goal.returns-in-Err-clause-refused
 returns-in-Err-clause-refused g c it ours =
     let old = state g.S.Store c.args.conn.now in
-    let settled : IsSettled old = c.is_settled.ensures c.if-not-is_settled.false in
+    let settled : IsSettled old = c.is_settled.ensures.settled c.if-not-is_settled.false in
     let begun = c.transaction-tx.ensures.begun in
     let early : HasCleanDisk (state g.S.Store c.prepare.new.tx.conn.now) = search rules in
     let was : IsTrue old.is_open = search rules in
@@ -22,7 +22,7 @@ returns-in-Err-clause-refused g c it ours =
 pub returns-in-Ok-commit-clause-opened : goal.returns-in-Ok-commit-clause-opened
 returns-in-Ok-commit-clause-opened g c it ours =
     let old = state g.S.Store c.args.conn.now in
-    let settled : IsSettled old = c.is_settled.ensures c.if-not-is_settled.false in
+    let settled : IsSettled old = c.is_settled.ensures.settled c.if-not-is_settled.false in
     let mid = c.prepare.new.tx.conn.now in
     let end = c.commit.new.self.0 in
     let begun = c.transaction-tx.ensures.begun in
@@ -38,7 +38,7 @@ returns-in-Ok-commit-clause-opened g c it ours =
 pub returns-in-Ok-commit-clause-survives : goal.returns-in-Ok-commit-clause-survives
 returns-in-Ok-commit-clause-survives g c =
     let old = state g.S.Store c.args.conn.now in
-    let settled : IsSettled old = c.is_settled.ensures c.if-not-is_settled.false in
+    let settled : IsSettled old = c.is_settled.ensures.settled c.if-not-is_settled.false in
     let mid = c.prepare.new.tx.conn.now in
     let begun = c.transaction-tx.ensures.begun in
     let early = λ (clean : HasCleanDisk (state g.S.Store c.commit.new.self.0)). (let e : HasCleanDisk (state g.S.Store mid) = omega (arith, c.commit.ensures.survives.clean, clean) in e) in
@@ -52,7 +52,7 @@ returns-in-Ok-commit-clause-survives g c =
 pub returns-in-Err-commit-clause-survives : goal.returns-in-Err-commit-clause-survives
 returns-in-Err-commit-clause-survives g c =
     let old = state g.S.Store c.args.conn.now in
-    let settled : IsSettled old = c.is_settled.ensures c.if-not-is_settled.false in
+    let settled : IsSettled old = c.is_settled.ensures.settled c.if-not-is_settled.false in
     let mid = c.prepare.new.tx.conn.now in
     let begun = c.transaction-tx.ensures.begun in
     let early = λ (clean : HasCleanDisk (state g.S.Store c.commit.new.self.0)). (let e : HasCleanDisk (state g.S.Store mid) = omega (arith, c.commit.ensures.survives.clean, clean) in e) in

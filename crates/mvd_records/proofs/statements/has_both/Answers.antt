@@ -6,7 +6,7 @@ use Rattle.mvd_records.proofs.statements.has_both.Given.{Over}
 use Rattle.mvd_records.proofs.statements.has_both.Goals as goal
 
 settled : (g : Over) (c : goal.After-shows_any g) → IsSettled (state g.S.Store c.args.conn.now)
-settled g c = c.is_settled.ensures c.if-not-is_settled.false
+settled g c = c.is_settled.ensures.settled c.if-not-is_settled.false
 
 pub returns-clause-reads : goal.returns-clause-reads
 returns-clause-reads g c = only_reads any_both_text _ _ any_both_plain (settled g c) c.shows_any.ensures.before c.shows_any.ensures.kept c.shows_any.ensures.survives

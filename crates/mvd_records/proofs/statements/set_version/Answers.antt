@@ -11,7 +11,7 @@ use Rattle.mvd_records.proofs.statements.set_version.Goals as goal
 
 module _ (g : Over) (c : goal.In-Ok g) where
   settled : IsSettled (state g.S.Store c.args.conn.now)
-  settled = c.is_settled.ensures c.if-not-is_settled.false
+  settled = c.is_settled.ensures.settled c.if-not-is_settled.false
 
   ran : HasCleanDisk (state g.S.Store c.execute.new.self) → Executes finish_text [] (state g.S.Store c.args.conn.now) (state g.S.Store c.execute.new.self) (Ok c.in-Ok.field-0)
   ran clean = c.in-Ok.ensures.runs clean
@@ -41,7 +41,7 @@ returns-in-Err-clause-unchanged g c = same_commit _ _ (kept g c)
 
 pub returns-in-Err-clause-survives : goal.returns-in-Err-clause-survives
 returns-in-Err-clause-survives g c =
-    let settled : IsSettled (state g.S.Store c.args.conn.now) = c.is_settled.ensures c.if-not-is_settled.false in
+    let settled : IsSettled (state g.S.Store c.args.conn.now) = c.is_settled.ensures.settled c.if-not-is_settled.false in
     let may : Survives (state g.S.Store c.args.conn.now) (state g.S.Store c.execute.new.self) (CommitsBy finish_text [] (state g.S.Store c.args.conn.now))
     = c.in-Err.ensures.survives in
     survives_weaker _ _ _ _ (λ _ db h. finished_then _ db settled h) may

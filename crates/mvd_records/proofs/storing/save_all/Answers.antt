@@ -13,7 +13,7 @@ use Rattle.mvd_records.proofs.storing.save_all.Goals as goal
 pub returns-in-Ok-commit-clause-kept : goal.returns-in-Ok-commit-clause-kept
 returns-in-Ok-commit-clause-kept g c version site it holds =
     let old = state g.S.Store c.args.conn.now in
-    let settled : IsSettled old = c.is_settled.ensures c.if-not-is_settled.false in
+    let settled : IsSettled old = c.is_settled.ensures.settled c.if-not-is_settled.false in
     let mid = c.set_states.new.tx.conn.now in
     let end = c.commit.new.self.0 in
     let begun = c.transaction-tx.ensures.begun in
@@ -29,7 +29,7 @@ returns-in-Ok-commit-clause-kept g c version site it holds =
 pub returns-in-Ok-commit-clause-saved : goal.returns-in-Ok-commit-clause-saved
 returns-in-Ok-commit-clause-saved g c version site it holds =
     let old = state g.S.Store c.args.conn.now in
-    let settled : IsSettled old = c.is_settled.ensures c.if-not-is_settled.false in
+    let settled : IsSettled old = c.is_settled.ensures.settled c.if-not-is_settled.false in
     let mid = c.set_states.new.tx.conn.now in
     let end = c.commit.new.self.0 in
     let begun = c.transaction-tx.ensures.begun in
@@ -46,7 +46,7 @@ returns-in-Ok-commit-clause-saved g c version site it holds =
 pub returns-in-Ok-commit-clause-survives : goal.returns-in-Ok-commit-clause-survives
 returns-in-Ok-commit-clause-survives g c =
     let old = state g.S.Store c.args.conn.now in
-    let settled : IsSettled old = c.is_settled.ensures c.if-not-is_settled.false in
+    let settled : IsSettled old = c.is_settled.ensures.settled c.if-not-is_settled.false in
     let mid = c.set_states.new.tx.conn.now in
     let end = c.commit.new.self.0 in
     let begun = c.transaction-tx.ensures.begun in
@@ -61,7 +61,7 @@ returns-in-Ok-commit-clause-survives g c =
 pub returns-in-Err-commit-clause-survives : goal.returns-in-Err-commit-clause-survives
 returns-in-Err-commit-clause-survives g c =
     let old = state g.S.Store c.args.conn.now in
-    let settled : IsSettled old = c.is_settled.ensures c.if-not-is_settled.false in
+    let settled : IsSettled old = c.is_settled.ensures.settled c.if-not-is_settled.false in
     let mid = c.set_states.new.tx.conn.now in
     let end = c.commit.new.self.0 in
     let begun = c.transaction-tx.ensures.begun in

@@ -3,10 +3,10 @@ ghost use Rattle.mvd_site.specs.Config.{IsConfig};
 
 use mvd_docs::Document;
 use mvd_dots::{Context, Dot, Refusal};
-use mvd_kept::{Work, counted};
+use mvd_kept::Work;
 use mvd_keys::{Key, KeyState};
 use mvd_rows::Defs;
-use mvd_site::{Config, Prepared, Site};
+use mvd_site::{Config, Site};
 use mvd_start::Start;
 use mvd_wire::{Reply, Request};
 use std::alloc::Global;
@@ -34,30 +34,6 @@ pub fn answered(site: &mut Site, request: &Request) -> Reply {
 /// No work yet.
 pub fn no_work() -> Work {
     mvd_site::no_work(&Start::new())
-}
-
-/// What the request comes to, in the same way. Each look at a held state adds one to the count.
-fn prepared(site: &Site, request: &Request, work: &mut Work) -> Result<Prepared, Refusal> {
-    counted::prepare(site.kept(), request, work)
-}
-
-/// What a request comes to, in a word.
-fn kind(prepared: &Prepared) -> &'static str {
-    match prepared {
-        Prepared::Change(_) => "a change",
-        Prepared::Answer(Reply::Done) => "done",
-        Prepared::Answer(Reply::Digests(_)) => "digests",
-        Prepared::Answer(Reply::Keys(_, false)) => "keys",
-        Prepared::Answer(Reply::Rows(_, false)) => "rows",
-        Prepared::Answer(_) => "another answer",
-    }
-}
-
-/// Whether the request comes to this, with at most so many looks at held states.
-pub fn comes_to(site: &Site, request: Request, wanted: &str, most: u64) -> Result<bool, Refusal> {
-    let mut work = no_work();
-    let prepared = prepared(site, &request, &mut work)?;
-    Ok(work.looks.made(&Start::new()) <= most && kind(&prepared) == wanted)
 }
 
 /// The dot of the write that the reply tells.

@@ -1,4 +1,4 @@
-//! Tests of one site: calls that a script does not make, and the bytes of its answers.
+//! Tests of one site: calls that a script does not make, the bytes of its answers, and its hash tree.
 #![tactic(auto)]
 
 #[cfg(test)]
@@ -9,5 +9,7 @@ mod list_answers;
 mod opened_sites;
 #[cfg(test)]
 mod side_by_side;
+#[cfg(test)]
+mod trees;
 #[cfg(test)]
 mod two_steps;

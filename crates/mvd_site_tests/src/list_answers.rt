@@ -1,5 +1,5 @@
 //! The bytes of answers from an index and a view.
-use crate::asking_site::{answered, comes_to, write};
+use crate::asking_site::{answered, write};
 use mvd_docs::{Field, Term, ViewName};
 use mvd_dots::Refusal;
 use mvd_rows::Defs;
@@ -76,10 +76,6 @@ fn places(alloc: Global) -> Result<Request, Refusal> {
     Ok(Request::Find(field, oslo(alloc)?, None))
 }
 
-fn rows(alloc: Global) -> Result<Request, Refusal> {
-    Ok(Request::Rows(ViewName::read(alloc, "spend")?, None))
-}
-
 fn is_row(frame: &str) -> bool {
     frame
         == "0000002aa50000000000000003fffffffffffffffffffffffffffffffe01fffffffffffffff90000000000000005"
@@ -111,21 +107,5 @@ fn are_places_told(alloc: Global) -> Result<bool, Refusal> {
 #[test]
 fn places_have_their_bytes(rt: HostRuntime) -> Result<(), Fail> {
     assert!(rt; are_places_told(rt.alloc())?);
-    Ok(())
-}
-
-fn tells_rows(alloc: Global, site: &Site) -> Result<bool, Refusal> {
-    let request = rows(alloc)?;
-    comes_to(site, request, "rows", 0)
-}
-
-fn rows_cost_no_look(alloc: Global) -> Result<bool, Refusal> {
-    let site = spending(alloc)?;
-    tells_rows(alloc, &site)
-}
-
-#[test]
-fn questions_cost_no_look(rt: HostRuntime) -> Result<(), Fail> {
-    assert!(rt; rows_cost_no_look(rt.alloc())?);
     Ok(())
 }

@@ -1,11 +1,9 @@
 //! Changes that are prepared, and installed or not.
 
-use crate::asking_site::{
-    answered, comes_to, dot_of, has, holds, no_work, put, site, state_at, write, written,
-};
-use mvd_dots::{Context, Dot, Refusal};
-use mvd_kept::{Kept, Work, counted};
-use mvd_keys::{Key, KeyState};
+use crate::asking_site::{dot_of, has, holds, no_work, put, site};
+use mvd_dots::{Dot, Refusal};
+use mvd_kept::{Kept, counted};
+use mvd_keys::Key;
 use mvd_rows::Defs;
 use mvd_site::{Change, Config, Prepared, Site};
 use mvd_start::Start;
@@ -67,113 +65,13 @@ fn a_change_is_prepared_and_installed(rt: HostRuntime) -> Result<(), Fail> {
     Ok(())
 }
 
-/// A push of the state that the site holds at `a`.
-fn push_back(alloc: Global, site: &Site) -> Result<Request, Refusal> {
-    let state = state_at(alloc, site, "a")?;
-    Ok(Request::Push(Key::read(alloc, "a")?, state))
-}
-
-/// Whether the push changes nothing.
-fn ignores_its_own(alloc: Global, site: &Site) -> Result<bool, Refusal> {
-    let again = push_back(alloc, site)?;
-    comes_to(site, again, "done", 1)
-}
-
-fn is_push_ignored(alloc: Global) -> Result<bool, Refusal> {
-    let site = written(alloc, 1)?;
-    ignores_its_own(alloc, &site)
-}
-
-#[test]
-fn a_push_of_what_is_held_changes_nothing(rt: HostRuntime) -> Result<(), Fail> {
-    assert!(rt; is_push_ignored(rt.alloc())?);
-    Ok(())
-}
-
-/// Whether a site with no key takes this state at `a`, and shows its one sibling.
-fn takes(alloc: Global, state: &KeyState) -> Result<bool, Refusal> {
-    let mut site = site(alloc, 2, 1)?;
-    push_to(alloc, &mut site, state)?;
-    holds(alloc, &site, "a", "1:1", 1)
-}
-
-/// Pushes this state to `a`.
-fn push_to(alloc: Global, site: &mut Site, state: &KeyState) -> Result<(), Refusal> {
-    let key = Key::read(alloc, "a")?;
-    site.push(&key, state)
-}
-
-/// The state of another site.
-fn pushed(alloc: Global) -> Result<KeyState, Refusal> {
-    let site = written(alloc, 1)?;
-    state_at(alloc, &site, "a")
-}
-
-fn takes_from_another(alloc: Global) -> Result<bool, Refusal> {
-    let state = pushed(alloc)?;
-    takes(alloc, &state)
-}
-
-#[test]
-fn a_state_is_pushed_to_another_site(rt: HostRuntime) -> Result<(), Fail> {
-    assert!(rt; takes_from_another(rt.alloc())?);
-    Ok(())
-}
-
-/// Whether one look gives the state at `a`.
-fn gives_by_one_look(alloc: Global, site: &Site) -> Result<bool, Refusal> {
-    let key = Key::read(alloc, "a")?;
-    let mut work = no_work();
-    let state = got(site, &key, &mut work)?;
-    Ok(work.looks.made(&Start::new()) == 1 && has(&state, "1:1", 1)?)
-}
-
-/// The state of a key. Nothing is claimed of it, as with an answer.
-fn got(site: &Site, key: &Key, work: &mut Work) -> Result<KeyState, Refusal> {
-    counted::get(site.kept(), key, work)
-}
-
-fn is_given_by_one_look(alloc: Global) -> Result<bool, Refusal> {
-    let site = written(alloc, 1)?;
-    gives_by_one_look(alloc, &site)
-}
-
-#[test]
-fn a_state_costs_one_look(rt: HostRuntime) -> Result<(), Fail> {
-    assert!(rt; is_given_by_one_look(rt.alloc())?);
-    Ok(())
-}
-
-/// A delete that saw nothing.
-fn delete_unseen(alloc: Global, key: &str) -> Result<Request, Refusal> {
-    Ok(Request::Delete(Key::read(alloc, key)?, Context::new(alloc)))
-}
-
-/// Whether that delete changes nothing.
-fn ignores_unseen(alloc: Global, site: &Site) -> Result<bool, Refusal> {
-    let unseen = delete_unseen(alloc, "other")?;
-    comes_to(site, unseen, "done", 1)
-}
-
-fn is_delete_ignored(alloc: Global) -> Result<bool, Refusal> {
-    let site = written(alloc, 1)?;
-    ignores_unseen(alloc, &site)
-}
-
-#[test]
-fn a_delete_that_saw_nothing_changes_nothing(rt: HostRuntime) -> Result<(), Fail> {
-    assert!(rt; is_delete_ignored(rt.alloc())?);
-    Ok(())
-}
-
-/// Two puts at `a`, what is there, and a goodbye.
-fn talk(alloc: Global) -> Result<Vec<Request>, Refusal> {
-    let mut requests = Vec::new(alloc);
+/// Adds two puts at `a`, what is there, and a goodbye.
+fn add_talk(alloc: Global, requests: &mut Vec<Request>) -> Result<(), Refusal> {
     requests.push(put(alloc, "a", "-", "{\"n\":1}")?)?;
     requests.push(put(alloc, "a", "-", "{\"n\":2}")?)?;
     requests.push(Request::Get(Key::read(alloc, "a")?))?;
     requests.push(Request::Bye)?;
-    Ok(requests)
+    Ok(())
 }
 
 /// Whether the reply shows both siblings.
@@ -194,35 +92,20 @@ fn are_told(replies: &[Reply]) -> Result<bool, Refusal> {
     }
 }
 
-/// What a site replies to these.
-fn replies_to(alloc: Global, requests: &[Request]) -> Result<Vec<Reply>, Refusal> {
+fn is_run(alloc: Global, config: &Config, requests: &[Request]) -> Result<bool, Refusal> {
+    let done = Site::run(alloc, config, requests)?;
+    are_told(&done.1)
+}
+
+fn talks(alloc: Global) -> Result<bool, Refusal> {
+    let mut requests = Vec::new(alloc);
+    add_talk(alloc, &mut requests)?;
     let config = Config::new(3, 9, Defs::new(alloc));
-    let (_site, replies) = Site::run(alloc, &config, requests)?;
-    Ok(replies)
+    is_run(alloc, &config, &requests)
 }
 
 #[test]
 fn a_site_is_run(rt: HostRuntime) -> Result<(), Fail> {
-    let requests = talk(rt.alloc())?;
-    let replies = replies_to(rt.alloc(), &requests)?;
-    assert!(rt; are_told(&replies)?);
-    Ok(())
-}
-
-fn is_goodbye(site: &mut Site) -> bool {
-    let reply = answered(site, &Request::Bye);
-    matches!(&reply, Reply::Done)
-}
-
-/// Whether a put is told by its dot, and a goodbye is answered.
-fn talks(alloc: Global) -> Result<bool, Refusal> {
-    let mut site = site(alloc, 1, 1)?;
-    let dot = write(alloc, &mut site, "k", "{}")?;
-    Ok(dot == Dot::new(1, 1) && is_goodbye(&mut site))
-}
-
-#[test]
-fn a_site_answers(rt: HostRuntime) -> Result<(), Fail> {
     assert!(rt; talks(rt.alloc())?);
     Ok(())
 }
@@ -235,11 +118,10 @@ fn answer_takes(kept: &mut Kept, request: &Request, looks: u64, computations: u6
         && work.hashed.computations.made(&Start::new()) == computations
 }
 
-/// Whether a put takes two looks and six computations, and a get one look and none.
+/// Whether a put takes two looks and six computations.
 fn is_counted(alloc: Global, kept: &mut Kept) -> Result<bool, Refusal> {
-    let puts = answer_takes(kept, &put(alloc, "k", "-", "{\"a\":1}")?, 2, 6);
-    let get = Request::Get(Key::read(alloc, "k")?);
-    Ok(puts && answer_takes(kept, &get, 1, 0))
+    let request = put(alloc, "k", "-", "{\"a\":1}")?;
+    Ok(answer_takes(kept, &request, 2, 6))
 }
 
 fn counts_its_work(alloc: Global) -> Result<bool, Refusal> {

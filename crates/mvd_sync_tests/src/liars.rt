@@ -2,11 +2,12 @@
 ghost use Rattle.std.proofs.Common.{refl, None};
 ghost use Rattle.std.specs.FinMap.{empty};
 
+use crate::mistaken::meets_mistaken;
 use crate::peers::Counting;
-use crate::two_sites::{first_left, meet, meet_within};
+use crate::two_sites::{meet, meet_within};
 use mvd_dots::Refusal;
 use mvd_keys::{Key, KeyState, Path};
-use mvd_sync::{Page, Peer, Side, SyncFault};
+use mvd_sync::{Page, Peer, SyncFault};
 use mvd_wire::Digests;
 use std::alloc::Global;
 use std::test::Fail;
@@ -172,49 +173,89 @@ impl Peer for Liar {
     }
 }
 
-/// How a session ends that has a liar on the other side, and one that has it on the local side.
-fn with_liar(
+/// Whether a session with a liar on the other side ends so, and one that has it on the local side so.
+fn end(
     alloc: Global,
+    site: &mut Counting,
     lie: Lie,
-) -> Result<(Result<u64, SyncFault>, Result<u64, SyncFault>), Refusal> {
+    other: Result<u64, SyncFault>,
+    own: Result<u64, SyncFault>,
+) -> bool {
+    let mut liar = Liar::new(alloc, lie);
+    let is_so = meet(alloc, site, &mut liar) == other;
+    let mut liar = Liar::new(alloc, lie);
+    is_so && meet(alloc, &mut liar, site) == own
+}
+
+/// Whether a session with a liar of each of these kinds is refused so, wherever the liar is.
+fn are_refused(alloc: Global, site: &mut Counting, lies: &[Lie], refusal: Refusal) -> bool {
+    for lie in lies {
+        let other = Err(SyncFault::Peer(refusal));
+        if !end(alloc, site, *lie, other, Err(SyncFault::Local(refusal))) {
+            return false;
+        }
+    }
+    true
+}
+
+/// Pages and nodes out of form.
+const OUT_OF_FORM: [Lie; 4] = [
+    Lie::NoChildren,
+    Lie::Falling,
+    Lie::SamePage,
+    Lie::MoreWithoutKey,
+];
+
+/// What is tried of a site that holds no key.
+#[derive(Clone, Copy)]
+enum Trial {
+    OutOfForm,
+    Changes(Lie, u64),
+    Refusals,
+    Stops,
+    Mistaken,
+}
+
+/// Tries it of a site that is lent, since a function that owns one has a dear proof.
+fn holds_of(alloc: Global, site: &mut Counting, trial: Trial) -> Result<bool, Refusal> {
+    match trial {
+        Trial::OutOfForm => Ok(are_refused(alloc, site, &OUT_OF_FORM, Refusal::BadBody)),
+        Trial::Changes(lie, keys) => changes_nothing(alloc, site, lie, keys),
+        Trial::Refusals => Ok(refusals(alloc, site) == Some(277)),
+        Trial::Stops => Ok(stops_at_100(alloc, site) && stops_at_most(alloc, site)),
+        Trial::Mistaken => meets_mistaken(alloc, site),
+    }
+}
+
+fn holds(alloc: Global, trial: Trial) -> Result<bool, Refusal> {
     let mut site = Counting::new(alloc, 1, 10)?;
-    let mut liar = Liar::new(alloc, lie);
-    let other = meet(alloc, &mut site, &mut liar);
-    let mut liar = Liar::new(alloc, lie);
-    Ok((other, meet(alloc, &mut liar, &mut site)))
+    holds_of(alloc, &mut site, trial)
 }
 
 #[test]
 fn pages_and_nodes_out_of_form_are_33(rt: HostRuntime) -> Result<(), Fail> {
-    let alloc = rt.alloc();
-    let lies = [
-        Lie::NoChildren,
-        Lie::Falling,
-        Lie::SamePage,
-        Lie::MoreWithoutKey,
-    ];
-    for lie in lies {
-        let ended = with_liar(alloc, lie)?;
-        assert_eq!(rt; ended.0, Err(SyncFault::Peer(Refusal::BadBody)));
-        assert_eq!(rt; ended.1, Err(SyncFault::Local(Refusal::BadBody)));
-    }
+    assert!(rt; holds(rt.alloc(), Trial::OutOfForm)?);
     Ok(())
 }
 
 /// Whether a session of a site that has one key with a liar goes over so many keys, and leaves the site as it was.
-fn changes_nothing(alloc: Global, lie: Lie, keys: u64) -> Result<bool, Refusal> {
-    let mut site = Counting::new(alloc, 1, 10)?;
+fn changes_nothing(
+    alloc: Global,
+    site: &mut Counting,
+    lie: Lie,
+    keys: u64,
+) -> Result<bool, Refusal> {
     site.put("k", "-", "{}")?;
     let before = site.root()?;
     let mut liar = Liar::new(alloc, lie);
-    Ok(meet(alloc, &mut site, &mut liar) == Ok(keys) && site.root()? == before)
+    let met = meet(alloc, site, &mut liar);
+    Ok(met == Ok(keys) && site.root()? == before)
 }
 
 #[test]
 fn digests_alone_change_nothing(rt: HostRuntime) -> Result<(), Fail> {
-    let alloc = rt.alloc();
-    assert!(rt; changes_nothing(alloc, Lie::NoKeys, 1)?);
-    assert!(rt; changes_nothing(alloc, Lie::OneKey, 4_096)?);
+    assert!(rt; holds(rt.alloc(), Trial::Changes(Lie::NoKeys, 1))?);
+    assert!(rt; holds(rt.alloc(), Trial::Changes(Lie::OneKey, 4_096))?);
     Ok(())
 }
 
@@ -222,25 +263,23 @@ fn digests_alone_change_nothing(rt: HostRuntime) -> Result<(), Fail> {
 const WHOLE: u64 = 128;
 
 /// How many questions of a session may be refused: each ends it as that side's refusal; past the last it ends well.
-fn refusals(alloc: Global) -> Result<u64, Refusal> {
+fn refusals(alloc: Global, site: &mut Counting) -> Option<u64> {
     for n in 0..1_000u64 {
-        let ended = with_liar(alloc, Lie::RefusesAt(n.saturating_add(1)))?;
-        if ended.0 == Ok(WHOLE) && ended.1 == Ok(WHOLE) {
-            return Ok(n);
+        let lie = Lie::RefusesAt(n.saturating_add(1));
+        if end(alloc, site, lie, Ok(WHOLE), Ok(WHOLE)) {
+            return Some(n);
         }
-        if ended.0 != Err(SyncFault::Peer(Refusal::Store))
-            || ended.1 != Err(SyncFault::Local(Refusal::Store))
-        {
-            return Err(Refusal::Damaged);
+        if !are_refused(alloc, site, &[lie], Refusal::Store) {
+            return None;
         }
     }
-    Err(Refusal::TooManyRequests)
+    None
 }
 
 #[test]
 fn each_question_may_be_refused(rt: HostRuntime) -> Result<(), Fail> {
     // Of 21 nodes, and in 64 buckets of two pages with a state that is given for each.
-    assert_eq!(rt; refusals(rt.alloc())?, 277);
+    assert!(rt; holds(rt.alloc(), Trial::Refusals)?);
     Ok(())
 }
 
@@ -262,103 +301,14 @@ fn stops_at_most(alloc: Global, site: &mut Counting) -> bool {
         && peer.questions == 10_000_000
 }
 
-fn stops(alloc: Global) -> Result<bool, Refusal> {
-    let mut site = Counting::new(alloc, 1, 10)?;
-    Ok(stops_at_100(alloc, &mut site) && stops_at_most(alloc, &mut site))
-}
-
 #[test]
 fn pages_without_end_are_36(rt: HostRuntime) -> Result<(), Fail> {
-    assert!(rt; stops(rt.alloc())?);
+    assert!(rt; holds(rt.alloc(), Trial::Stops)?);
     Ok(())
-}
-
-/// A site that gives the state of one key for that of any key.
-#[derive(Drop)]
-struct Mistaken {
-    site: Counting,
-    given: Key,
-}
-
-impl Peer for Mistaken {
-    ghost states = { λ _. empty };
-
-    ghost is_faithful = { λ _. ⊥ };
-
-    ghost can_give = { λ _ _. Unit {0} };
-
-    ghost follows = { λ _ _ _. Unit {0} };
-
-    ghost can_refuse = { λ _ _. Unit {0} };
-
-    ghost can_answer = { λ _. Unit {0} };
-
-    ghost most_keys = { λ _. 0 };
-
-    ghost number = { λ _. None };
-
-    ghost in_form = { λ _ never. absurd never };
-
-    ghost follows_self = { λ _. tt };
-
-    ghost follows_on = { λ _ _ _ _ _ _ _. tt };
-
-    ghost most_stays = { λ _ _ _ _. refl };
-
-    fn alloc(&self) -> Global {
-        self.site.alloc
-    }
-
-    fn number(&self) -> Option<u32> {
-        None
-    }
-
-    fn node(&mut self, path: &Path) -> Result<Digests, Refusal> {
-        self.site.node(path)
-    }
-
-    fn bucket(&mut self, path: &Path, after: Option<&Key>) -> Result<Page, Refusal> {
-        self.site.bucket(path, after)
-    }
-
-    fn get(&mut self, key: &Key) -> Result<KeyState, Refusal> {
-        let _ = key;
-        self.site.get(&self.given)
-    }
-
-    fn push(&mut self, key: &Key, state: &KeyState) -> Result<(), Refusal> {
-        self.site.push(key, state)
-    }
-}
-
-/// Whether a session takes the state that it is given, and the next one leaves the key for which the peer refuses it.
-fn takes_what_is_given(
-    alloc: Global,
-    site: &mut Counting,
-    peer: &mut Mistaken,
-) -> Result<bool, Refusal> {
-    Ok(
-        peer.site.put("a", "-", "{\"x\":1}")?
-            && peer.site.put("b", "-", "{\"x\":2}")?
-            && site.put("b", "-", "{\"x\":3}")?
-            && first_left(alloc, site, peer, 2, 0)?.is_none()
-            && site.shows("b", "1:1,2:1", 2)?
-            && site.shows("a", "2:1", 1)?
-            && first_left(alloc, site, peer, 0, 1)? == Some((Side::Peer, Refusal::DotClash)),
-    )
-}
-
-fn with_mistaken(alloc: Global) -> Result<bool, Refusal> {
-    let mut site = Counting::new(alloc, 1, 10)?;
-    let mut peer = Mistaken {
-        site: Counting::new(alloc, 2, 10)?,
-        given: Key::read(alloc, "a")?,
-    };
-    takes_what_is_given(alloc, &mut site, &mut peer)
 }
 
 #[test]
 fn the_state_of_another_key_clashes(rt: HostRuntime) -> Result<(), Fail> {
-    assert!(rt; with_mistaken(rt.alloc())?);
+    assert!(rt; holds(rt.alloc(), Trial::Mistaken)?);
     Ok(())
 }

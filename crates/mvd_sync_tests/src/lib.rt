@@ -6,6 +6,8 @@ mod liars;
 #[cfg(test)]
 mod many_keys;
 #[cfg(test)]
+mod mistaken;
+#[cfg(test)]
 mod peers;
 #[cfg(test)]
 mod refused_growth;

@@ -1,26 +1,22 @@
 //! Sessions over many keys.
-use crate::peers::{Asked, Counting};
-use crate::two_sites::{alike, ended, pair};
+use crate::peers::{Asked, Counting, written};
+use crate::two_sites::{alike, ended};
 use mvd_dots::Refusal;
 use mvd_keys::{Key, KeyState};
-use std::alloc::Global;
-use std::test::Fail;
-
-/// The state of a key after one put on site 1.
-fn written(alloc: Global) -> Result<KeyState, Refusal> {
-    let mut site = Counting::new(alloc, 1, 1)?;
-    site.put("k", "-", "{}")?;
-    site.site.get(&Key::read(alloc, "k")?)
-}
 
 /// Gives a side this state at so many keys.
 fn fill(side: &mut Counting, keys: u64, state: &KeyState) -> Result<(), Refusal> {
-    let alloc = side.alloc;
     for n in 0..keys {
-        let key = format!(in alloc; "k{n}")?;
-        side.site.push(&Key::read(alloc, &key)?, state)?;
+        push_at(side, n, state)?;
     }
     Ok(())
+}
+
+/// Gives a side this state at the key of a number.
+fn push_at(side: &mut Counting, n: u64, state: &KeyState) -> Result<(), Refusal> {
+    let name = format!(in side.alloc; "k{n}")?;
+    let key = Key::read(side.alloc, &name)?;
+    side.site.push(&key, state)
 }
 
 /// How many of the keys differ.
@@ -44,26 +40,17 @@ fn is_few(asked: Asked) -> bool {
         && asked.pushes <= DIFFER
 }
 
-fn ask_few(alloc: Global, one: &mut Counting, two: &mut Counting) -> Result<bool, Refusal> {
-    let state = written(alloc)?;
-    fill(one, 20_000, &state)?;
-    fill(two, 20_000, &state)?;
-    write_few(two)?;
-    Ok(
-        ended(alloc, one, two, Ok(DIFFER))
-            && is_few(one.asked)
-            && is_few(two.asked)
-            && alike(one, two)?,
-    )
+/// Gives both sides so many keys, of which a few differ.
+fn fill_both(one: &mut Counting, two: &mut Counting, keys: u64) -> Result<(), Refusal> {
+    let state = written(one.alloc)?;
+    fill(one, keys, &state)?;
+    fill(two, keys, &state)?;
+    write_few(two)
 }
 
-fn two_ask_few(alloc: Global) -> Result<bool, Refusal> {
-    let (mut one, mut two) = pair(alloc, (1, 2), 20_000)?;
-    ask_few(alloc, &mut one, &mut two)
-}
-
-#[test]
-fn few_questions_for_few_keys(rt: HostRuntime) -> Result<(), Fail> {
-    assert!(rt; two_ask_few(rt.alloc())?);
-    Ok(())
+/// Whether a session of two sites with twenty thousand keys asks few questions.
+pub fn ask_few(one: &mut Counting, two: &mut Counting) -> Result<bool, Refusal> {
+    fill_both(one, two, 20_000)?;
+    let is_met = ended(one.alloc, one, two, Ok(DIFFER));
+    Ok(is_met && is_few(one.asked) && is_few(two.asked) && alike(one, two)?)
 }

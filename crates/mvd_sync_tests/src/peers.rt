@@ -50,25 +50,49 @@ impl Counting {
 
     /// Puts a document at a key, with this context.
     pub fn put(&mut self, key: &str, seen: &str, document: &str) -> Result<bool, Refusal> {
-        let request = Request::Put(
-            Key::read(self.alloc, key)?,
-            Context::read(self.alloc, seen)?,
-            Document::read(self.alloc, document)?,
-        );
-        Ok(matches!(&self.site.answer(&request), Reply::Written(_)))
+        let request = put_of(self.alloc, key, seen, document)?;
+        Ok(is_written(&mut self.site, &request))
     }
 
     /// The root's digest.
     pub fn root(&self) -> Result<[u8; 32], Refusal> {
-        let digests = self.site.node(&Path::new(self.alloc, &[])?)?;
+        let path = Path::new(self.alloc, &[])?;
+        let digests = self.site.node(&path)?;
         Ok(digests.own)
     }
 
     /// Whether a key has this context and so many siblings.
     pub fn shows(&self, key: &str, context: &str, siblings: usize) -> Result<bool, Refusal> {
-        let state = self.site.get(&Key::read(self.alloc, key)?)?;
+        let key = Key::read(self.alloc, key)?;
+        let state = self.site.get(&key)?;
         is_so(&state, context, siblings)
     }
+}
+
+fn put_of(alloc: Global, key: &str, seen: &str, document: &str) -> Result<Request, Refusal> {
+    Ok(Request::Put(
+        Key::read(alloc, key)?,
+        Context::read(alloc, seen)?,
+        Document::read(alloc, document)?,
+    ))
+}
+
+/// Whether the site answers that it wrote. Nothing else is claimed of the answer, so that no proof carries its meaning.
+fn is_written(site: &mut Site, request: &Request) -> bool {
+    let reply = site.answer(request);
+    matches!(&reply, Reply::Written(_))
+}
+
+/// The state of a key after one put on site 1.
+pub fn written(alloc: Global) -> Result<KeyState, Refusal> {
+    let mut site = Counting::new(alloc, 1, 1)?;
+    put_one(&mut site)
+}
+
+fn put_one(site: &mut Counting) -> Result<KeyState, Refusal> {
+    site.put("k", "-", "{}")?;
+    let key = Key::read(site.alloc, "k")?;
+    site.site.get(&key)
 }
 
 /// Whether a state has this context and so many siblings.

@@ -1,6 +1,6 @@
 //! A session in which one allocation is refused, whichever it is: `rt try --test --fail-alloc N` refuses the Nth.
 use crate::peers::Counting;
-use crate::two_sites::{ended, meet, pair};
+use crate::two_sites::{ended, meet};
 use mvd_dots::Refusal;
 use mvd_sync::{SyncFault, sync};
 use std::alloc::Global;
@@ -24,15 +24,6 @@ fn put_all(one: &mut Counting, two: &mut Counting) -> Result<bool, Refusal> {
             && one.put("c", "-", "{}")?
             && two.put("c", "-", "{}")?,
     )
-}
-
-fn begin(alloc: Global) -> Result<(Counting, Counting), Refusal> {
-    let (mut one, mut two) = pair(alloc, (1, 2), 10)?;
-    if put_all(&mut one, &mut two)? {
-        Ok((one, two))
-    } else {
-        Err(Refusal::Memory)
-    }
 }
 
 /// Whether a side shows one of these two at a key; unless it is broken, and then it tells that.
@@ -96,12 +87,37 @@ fn stands(alloc: Global, one: &mut Counting, two: &mut Counting) -> Result<bool,
     }
 }
 
+/// Whether a session of these two stands; none, where the keys could not be put.
+fn session_of(one: &mut Counting, two: &mut Counting) -> Result<Option<bool>, Refusal> {
+    if put_all(one, two) == Ok(true) {
+        Ok(Some(stands(one.alloc, one, two)?))
+    } else {
+        Ok(None)
+    }
+}
+
+/// The same with a second site, which may not be had either.
+fn session_with(alloc: Global, one: &mut Counting) -> Result<Option<bool>, Refusal> {
+    match Counting::new(alloc, 2, 10) {
+        Ok(mut two) => session_of(one, &mut two),
+        Err(_) => Ok(None),
+    }
+}
+
+/// The same with two sites.
+fn session(alloc: Global) -> Result<Option<bool>, Refusal> {
+    match Counting::new(alloc, 1, 10) {
+        Ok(mut one) => session_with(alloc, &mut one),
+        Err(_) => Ok(None),
+    }
+}
+
+/// Whether a session stands. One allocation alone is refused, so the sites can be had the second time.
 fn session_stands(alloc: Global) -> Result<bool, Refusal> {
-    let (mut one, mut two) = match begin(alloc) {
-        Ok(begun) => begun,
-        Err(_) => begin(alloc)?,
-    };
-    stands(alloc, &mut one, &mut two)
+    match session(alloc)? {
+        Some(is_so) => Ok(is_so),
+        None => Ok(session(alloc)? == Some(true)),
+    }
 }
 
 #[test]

@@ -1,9 +1,11 @@
 //! A remote site over bytes in memory.
-use crate::peers::Counting;
+use crate::peers::{Counting, written};
 use crate::served::Served;
 use crate::two_sites::meet;
 use mvd_dots::Refusal;
-use mvd_keys::{Key, KeyState, Path};
+use mvd_keys::{Key, KeyState};
+use mvd_rows::Defs;
+use mvd_site::{Config, Site};
 use mvd_sync::{Duplex, Remote, SyncFault};
 use mvd_wire::{Request, decode_request};
 use std::alloc::Global;
@@ -21,7 +23,22 @@ fn are_sent(remote: Link, bytes: usize) -> bool {
     written.len() == bytes && ASKED.starts_with(&written)
 }
 
-/// Whether a session of a site with no key over a link that gives these bytes ends so, and a Bye, with so much sent.
+/// Whether a session of this site over a link that gives these bytes ends so, and a Bye, with so much sent.
+fn ends_with(
+    local: &mut Counting,
+    replies: &[u8],
+    session: Result<u64, SyncFault>,
+    bye: Result<(), Refusal>,
+    bytes: usize,
+) -> bool {
+    let alloc = local.alloc;
+    let mut remote = Remote::new(alloc, replies, Vec::new(alloc));
+    let met = meet(alloc, local, &mut remote);
+    let said = remote.bye();
+    met == session && said == bye && are_sent(remote, bytes)
+}
+
+/// The same of a site with no key.
 fn ends(
     alloc: Global,
     replies: &[u8],
@@ -30,12 +47,7 @@ fn ends(
     bytes: usize,
 ) -> Result<bool, Refusal> {
     let mut local = Counting::new(alloc, 1, 10)?;
-    let mut remote = Remote::new(alloc, replies, Vec::new(alloc));
-    Ok(
-        meet(alloc, &mut local, &mut remote) == session
-            && remote.bye() == bye
-            && are_sent(remote, bytes),
-    )
+    Ok(ends_with(&mut local, replies, session, bye, bytes))
 }
 
 /// What a site with no key replies about its root, 32 zeros, sixteen children, and their zeros, and then to a Bye.
@@ -73,7 +85,8 @@ fn a_refusal_that_the_peer_tells(rt: HostRuntime) -> Result<(), Fail> {
 }
 
 fn shows_nothing(alloc: Global, remote: &mut Link) -> Result<bool, Refusal> {
-    let state = remote.get(&Key::read(alloc, "k")?)?;
+    let key = Key::read(alloc, "k")?;
+    let state = remote.get(&key)?;
     Ok(state.siblings().is_empty())
 }
 
@@ -138,30 +151,41 @@ fn takes(remote: &mut Link, asked: &Request) -> Result<(), Refusal> {
     }
 }
 
-/// Whether a request takes a reply of its kind, and is refused one of another kind for good.
+/// Whether a request takes a reply whose kind is its own, or else is refused it for good.
+fn is_taken(alloc: Global, asked: &Request, frame: &[u8], is_own: bool) -> bool {
+    let mut remote = Remote::new(alloc, frame, Vec::new(alloc));
+    let told = takes(&mut remote, asked);
+    if is_own {
+        return told == Ok(());
+    }
+    let refused = Err(Refusal::BadKind);
+    told == refused && remote.bye() == refused
+}
+
 fn takes_its_kind(
     alloc: Global,
     request: &(u8, &[u8], u8),
     reply: (u8, u8),
 ) -> Result<bool, Refusal> {
-    let frame = frame_of(reply);
     let asked = decode_request(alloc, request.0, request.1)?;
-    let mut remote = Remote::new(alloc, frame.as_slice(), Vec::new(alloc));
-    if request.2 == reply.0 {
-        return Ok(takes(&mut remote, &asked) == Ok(()));
+    Ok(is_taken(alloc, &asked, &frame_of(reply), request.2 == reply.0))
+}
+
+/// Whether it is so of each request and each reply.
+fn take_their_kinds(alloc: Global) -> Result<bool, Refusal> {
+    for request in &REQUESTS {
+        for reply in REPLIES {
+            if !takes_its_kind(alloc, request, reply)? {
+                return Ok(false);
+            }
+        }
     }
-    let refused = Err(Refusal::BadKind);
-    Ok(takes(&mut remote, &asked) == refused && remote.bye() == refused)
+    Ok(true)
 }
 
 #[test]
 fn a_reply_of_every_other_kind_is_32(rt: HostRuntime) -> Result<(), Fail> {
-    for request in &REQUESTS {
-        for reply in REPLIES {
-            let is_right = takes_its_kind(rt.alloc(), request, reply)?;
-            assert!(rt; is_right, "{} answered by {}", request.0, reply.0);
-        }
-    }
+    assert!(rt; take_their_kinds(rt.alloc())?);
     Ok(())
 }
 
@@ -180,16 +204,40 @@ fn a_session_with_replies_of_another_kind_is_32(rt: HostRuntime) -> Result<(), F
     Ok(())
 }
 
-/// A state of one put by site 1, and three keys.
-fn pushes(alloc: Global) -> Result<Vec<(Key, KeyState)>, Refusal> {
-    let mut site = Counting::new(alloc, 1, 10)?;
-    site.put("k", "-", "{}")?;
-    let mut pairs = Vec::new(alloc);
+/// What a window pushes.
+type Pushes = Vec<(Key, KeyState)>;
+
+fn add_push(
+    pushes: &mut Pushes,
+    alloc: Global,
+    key: &str,
+    state: &KeyState,
+) -> Result<(), Refusal> {
+    let key = Key::read(alloc, key)?;
+    pushes.push((key, state.copy(alloc)?))?;
+    Ok(())
+}
+
+fn add_pushes(pushes: &mut Pushes, alloc: Global) -> Result<(), Refusal> {
+    let state = written(alloc)?;
     for key in ["a", "b", "c"] {
-        let state = site.site.get(&Key::read(alloc, "k")?)?;
-        pairs.push((Key::read(alloc, key)?, state))?;
+        add_push(pushes, alloc, key, &state)?;
     }
-    Ok(pairs)
+    Ok(())
+}
+
+/// A state of one put by site 1, and three keys.
+fn pushes(alloc: Global) -> Result<Pushes, Refusal> {
+    let mut pushes = Vec::new(alloc);
+    add_pushes(&mut pushes, alloc)?;
+    Ok(pushes)
+}
+
+/// Whether each push of a window but the second is taken, and a Bye is answered.
+fn takes_all_but_one(remote: &mut Link, pushes: &[(Key, KeyState)]) -> Result<bool, Refusal> {
+    let told = remote.push_all(pushes)?;
+    let answers = [Ok(()), Err(Refusal::DotClash), Ok(())];
+    Ok(told.as_slice() == answers.as_slice() && remote.bye() == Ok(()))
 }
 
 /// Whether a window of three pushes is written whole, its three replies are read though one of them refuses, and a Bye is answered.
@@ -197,10 +245,9 @@ fn stays_in_step(alloc: Global) -> Result<bool, Refusal> {
     let replies = [
         0, 0, 0, 1, 0xA3, 0, 0, 0, 2, 0xEE, 0x0B, 0, 0, 0, 1, 0xA3, 0, 0, 0, 1, 0xA3,
     ];
+    let pushes = pushes(alloc)?;
     let mut remote = Remote::new(alloc, replies.as_slice(), Vec::new(alloc));
-    let told = remote.push_all(&pushes(alloc)?)?;
-    let answers = [Ok(()), Err(Refusal::DotClash), Ok(())];
-    Ok(told.as_slice() == answers.as_slice() && remote.bye() == Ok(()))
+    takes_all_but_one(&mut remote, &pushes)
 }
 
 #[test]
@@ -209,18 +256,19 @@ fn a_window_is_read_whole(rt: HostRuntime) -> Result<(), Fail> {
     Ok(())
 }
 
-/// How much a window writes where the input ends after its first reply, and what it tells.
+/// Whether a window is told that the input ended, for good.
+fn is_cut(remote: &mut Link, pushes: &[(Key, KeyState)]) -> bool {
+    let ended = remote.push_all(pushes).err();
+    ended == Some(Refusal::Truncated) && remote.bye() == Err(Refusal::Truncated)
+}
+
+/// Whether a window is written whole where the input ends after its first reply, and tells that.
 fn window_ends(alloc: Global) -> Result<bool, Refusal> {
-    let replies = [0, 0, 0, 1, 0xA3];
-    let mut remote = Remote::new(alloc, replies.as_slice(), Vec::new(alloc));
-    let ended = remote.push_all(&pushes(alloc)?).map(|told| told.len());
-    let again = remote.bye();
+    let pushes = pushes(alloc)?;
+    let mut remote = Remote::new(alloc, [0, 0, 0, 1, 0xA3].as_slice(), Vec::new(alloc));
+    let is_cut = is_cut(&mut remote, &pushes);
     let (_, written) = remote.into_parts();
-    Ok(
-        ended == Err(Refusal::Truncated)
-            && again == Err(Refusal::Truncated)
-            && written.len() == 3 * 47,
-    )
+    Ok(is_cut && written.len() == 3 * 47)
 }
 
 #[test]
@@ -229,17 +277,27 @@ fn a_window_is_written_whole(rt: HostRuntime) -> Result<(), Fail> {
     Ok(())
 }
 
-/// Whether a session with a site behind a line gives that a key, and its root.
+/// Whether a session gives that a key, after which the roots are equal, and a Bye is answered.
+fn meets_far(local: &mut Counting, remote: &mut Remote<Served>) -> bool {
+    let alloc = local.alloc;
+    let met = meet(alloc, local, remote);
+    let again = meet(alloc, local, remote);
+    met == Ok(1) && again == Ok(0) && remote.bye() == Ok(())
+}
+
+/// The same of a site behind a line.
+fn meets_site(local: &mut Counting, far: Site) -> bool {
+    let alloc = local.alloc;
+    let mut remote = Remote::over(alloc, Served::new(alloc, far));
+    meets_far(local, &mut remote)
+}
+
+/// The same of a site with one key, and one with none behind a line.
 fn meets_over_a_line(alloc: Global) -> Result<bool, Refusal> {
     let mut local = Counting::new(alloc, 1, 10)?;
     local.put("k", "-", "{}")?;
-    let far = Counting::new(alloc, 2, 10)?;
-    let mut remote = Remote::over(alloc, Served::new(alloc, far.site));
-    let met = meet(alloc, &mut local, &mut remote);
-    let said = remote.bye();
-    let site = remote.into_line().into_site();
-    let root = site.node(&Path::new(alloc, &[])?)?;
-    Ok(met == Ok(1) && said == Ok(()) && site.key_count() == 1 && root.own == local.root()?)
+    let far = Site::new(alloc, Config::new(2, 10, Defs::new(alloc)))?;
+    Ok(meets_site(&mut local, far))
 }
 
 #[test]

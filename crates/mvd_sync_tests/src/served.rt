@@ -38,14 +38,6 @@ impl Served {
         }
     }
 
-    /// The site.
-    pub fn into_site(self) -> Site
-        ensures { result ≡ self.site }
-    {
-        let Served { site, .. } = self;
-        site
-    }
-
     /// The reply of the site to a request.
     fn reply(&mut self, request: &Request) -> Reply
         ensures truth { TrueReply self.old.site.config.max_keys self.old.site.states request.now result self.new.site.states }

@@ -1,19 +1,44 @@
 //! Sessions of two sites, as no script tells them: how much is asked, and two sites of one number.
+use crate::many_keys::ask_few;
 use crate::peers::{Asked, Counting};
 use mvd_dots::Refusal;
 use mvd_sync::{Peer, Report, Side, SyncFault, sync, sync_within};
 use std::alloc::Global;
 use std::test::Fail;
 
-/// Two sites of these numbers.
-pub fn pair(
-    alloc: Global,
-    numbers: (u32, u32),
+/// What is tried of two sites that hold no key.
+#[derive(Clone, Copy)]
+enum Trial {
+    Asked,
+    Few,
+    Clash,
+    Old,
+}
+
+/// Tries it of sites that are lent, since a function that owns one has a dear proof.
+fn holds_of(one: &mut Counting, two: &mut Counting, trial: Trial) -> Result<bool, Refusal> {
+    match trial {
+        Trial::Asked => are_asked(one, two),
+        Trial::Few => ask_few(one, two),
+        Trial::Clash => clash(one, two),
+        Trial::Old => tells_old(one, two),
+    }
+}
+
+fn holds_with(
+    one: &mut Counting,
+    number: u32,
     max_keys: u32,
-) -> Result<(Counting, Counting), Refusal> {
-    let one = Counting::new(alloc, numbers.0, max_keys)?;
-    let two = Counting::new(alloc, numbers.1, max_keys)?;
-    Ok((one, two))
+    trial: Trial,
+) -> Result<bool, Refusal> {
+    let mut two = Counting::new(one.alloc, number, max_keys)?;
+    holds_of(one, &mut two, trial)
+}
+
+/// Tries it of site 1 and a site of this number.
+fn holds(alloc: Global, number: u32, max_keys: u32, trial: Trial) -> Result<bool, Refusal> {
+    let mut one = Counting::new(alloc, 1, max_keys)?;
+    holds_with(&mut one, number, max_keys, trial)
 }
 
 /// How many keys were exchanged, where none was refused and none was older than what the peer saw; else a number of no session.
@@ -95,23 +120,21 @@ const ASKED: (Asked, Asked) = (
     },
 );
 
-fn are_asked(alloc: Global, one: &mut Counting, two: &mut Counting) -> Result<bool, Refusal> {
-    Ok(
-        one.put("a", "-", "{}")?
-            && five_are_enough(alloc, one, two)
-            && (one.asked, two.asked) == ASKED
-            && two.shows("a", "1:1", 1)?,
-    )
-}
-
-fn two_are_asked(alloc: Global) -> Result<bool, Refusal> {
-    let (mut one, mut two) = pair(alloc, (1, 2), 10)?;
-    are_asked(alloc, &mut one, &mut two)
+fn are_asked(one: &mut Counting, two: &mut Counting) -> Result<bool, Refusal> {
+    let is_put = one.put("a", "-", "{}")?;
+    let are_enough = five_are_enough(one.alloc, one, two);
+    Ok(is_put && are_enough && (one.asked, two.asked) == ASKED && two.shows("a", "1:1", 1)?)
 }
 
 #[test]
 fn so_many_questions_and_no_more(rt: HostRuntime) -> Result<(), Fail> {
-    assert!(rt; two_are_asked(rt.alloc())?);
+    assert!(rt; holds(rt.alloc(), 2, 10, Trial::Asked)?);
+    Ok(())
+}
+
+#[test]
+fn few_questions_for_few_keys(rt: HostRuntime) -> Result<(), Fail> {
+    assert!(rt; holds(rt.alloc(), 2, 20_000, Trial::Few)?);
     Ok(())
 }
 
@@ -135,75 +158,60 @@ pub fn first_left<L: Peer, P: Peer>(
     }
 }
 
-/// Whether a key of which two sites wrote the same dot is left, and the others cross.
-fn clash(alloc: Global, one: &mut Counting, other: &mut Counting) -> Result<bool, Refusal> {
+/// Writes the same dot at `a`, and a key of its own on each side.
+fn write_same(one: &mut Counting, other: &mut Counting) -> Result<bool, Refusal> {
     Ok(
         one.put("a", "-", "{\"x\":1}")?
             && other.put("a", "-", "{\"x\":2}")?
             && one.put("b", "-", "{}")?
-            && other.put("c", "-", "{}")?
-            && first_left(alloc, one, other, 2, 1)? == Some((Side::Local, Refusal::DotClash))
+            && other.put("c", "-", "{}")?,
+    )
+}
+
+/// Whether a key of which two sites wrote the same dot is left, and the others cross.
+fn clash(one: &mut Counting, other: &mut Counting) -> Result<bool, Refusal> {
+    let are_put = write_same(one, other)?;
+    let left = first_left(one.alloc, one, other, 2, 1)?;
+    Ok(
+        are_put
+            && left == Some((Side::Local, Refusal::DotClash))
             && one.shows("a", "1:1", 1)?
             && one.shows("c", "1:1", 1)?
             && other.shows("b", "1:1", 1)?,
     )
 }
 
-fn two_clash(alloc: Global) -> Result<bool, Refusal> {
-    let (mut one, mut other) = pair(alloc, (1, 1), 10)?;
-    clash(alloc, &mut one, &mut other)
-}
-
 #[test]
 fn states_that_clash_are_left(rt: HostRuntime) -> Result<(), Fail> {
-    assert!(rt; two_clash(rt.alloc())?);
+    assert!(rt; holds(rt.alloc(), 1, 10, Trial::Clash)?);
     Ok(())
 }
 
-/// Whether a session of two sites that take two keys each goes past the keys that do not fit: of the places `2e7` of c, `3e2` of b
-/// and `ca9` of a, c crosses, b finds the first site full, and a the second.
-fn is_full(alloc: Global, one: &mut Counting, two: &mut Counting) -> Result<bool, Refusal> {
-    Ok(
-        one.put("a", "-", "{}")?
-            && one.put("c", "-", "{}")?
-            && two.put("b", "-", "{}")?
-            && first_left(alloc, one, two, 1, 2)? == Some((Side::Local, Refusal::Full))
-            && two.shows("c", "1:1", 1)?
-            && one.shows("b", "-", 0)?
-            && two.shows("a", "-", 0)?,
-    )
+/// How many keys a session exchanged, and of how many the peer saw more of the local site than the local site has.
+fn keys_and_old(one: &mut Counting, two: &mut Counting) -> Option<(u64, u64)> {
+    match sync(one.alloc, one, two) {
+        Ok(report) => Some((report.keys, report.old)),
+        Err(_) => None,
+    }
 }
 
-fn two_are_full(alloc: Global) -> Result<bool, Refusal> {
-    let (mut one, mut two) = pair(alloc, (1, 2), 2)?;
-    is_full(alloc, &mut one, &mut two)
+/// Whether a copy of site 1 that has one of its two keys is told so, and then has the other.
+fn copy_is_told(copy: &mut Counting, two: &mut Counting) -> Result<bool, Refusal> {
+    let are_put = copy.put("a", "-", "{}")? && two.put("c", "-", "{}")?;
+    let told = keys_and_old(copy, two);
+    Ok(are_put && told == Some((2, 1)) && copy.shows("b", "1:1", 1)?)
 }
 
-#[test]
-fn keys_that_find_no_room_are_left(rt: HostRuntime) -> Result<(), Fail> {
-    assert!(rt; two_are_full(rt.alloc())?);
-    Ok(())
-}
-
-/// Whether a session tells of how many keys the peer saw more of the local site than the local site has.
-fn tells_old(alloc: Global, one: &mut Counting, two: &mut Counting) -> Result<bool, Refusal> {
+/// Whether a session tells an old copy of the first site from that.
+fn tells_old(one: &mut Counting, two: &mut Counting) -> Result<bool, Refusal> {
     let written = one.put("a", "-", "{}")? && one.put("b", "-", "{}")?;
-    let met = meet(alloc, one, two) == Ok(2);
-    let mut copy = Counting::new(alloc, 1, 10)?;
-    let again = copy.put("a", "-", "{}")? && two.put("c", "-", "{}")?;
-    let Ok(report) = sync(alloc, &mut copy, two) else {
-        return Ok(false);
-    };
-    Ok(written && met && again && (report.keys, report.old) == (2, 1) && copy.shows("b", "1:1", 1)?)
-}
-
-fn two_tell_old(alloc: Global) -> Result<bool, Refusal> {
-    let (mut one, mut two) = pair(alloc, (1, 2), 10)?;
-    tells_old(alloc, &mut one, &mut two)
+    let met = meet(one.alloc, one, two) == Ok(2);
+    let mut copy = Counting::new(one.alloc, 1, 10)?;
+    Ok(written && met && copy_is_told(&mut copy, two)?)
 }
 
 #[test]
 fn an_old_copy_is_told(rt: HostRuntime) -> Result<(), Fail> {
-    assert!(rt; two_tell_old(rt.alloc())?);
+    assert!(rt; holds(rt.alloc(), 2, 10, Trial::Old)?);
     Ok(())
 }

@@ -1,6 +1,6 @@
 //! Requests.
 use mvd_dots::Refusal;
-use mvd_wire::{decode_request, encode_request, read_frame, write_frame};
+use mvd_wire::{Request, decode_request, encode_request, read_frame, write_frame};
 use std::alloc::Global;
 use std::test::Fail;
 
@@ -53,60 +53,50 @@ fn terms_are_refused(rt: HostRuntime) {
     assert_eq!(rt; fault(rt.alloc(), 0x25, b"\x00\x01v\x04\x00\x01\xFF"), 15);
 }
 
+/// Whether a request is written so.
+fn is_written(alloc: Global, request: &Request, bytes: &[u8]) -> Result<bool, Refusal> {
+    let frame = encode_request(alloc, request)?;
+    let mut out = Vec::new(alloc);
+    write_frame(&mut out, &frame)?;
+    Ok(out.as_slice() == bytes)
+}
+
+/// Whether the payload decodes to a request that is written so.
+fn is_decoded(alloc: Global, kind: u8, payload: &[u8], bytes: &[u8]) -> Result<bool, Refusal> {
+    let request = decode_request(alloc, kind, payload)?;
+    is_written(alloc, &request, bytes)
+}
+
 /// Whether these bytes are the frame of a request, which is written so again.
 fn comes_back(alloc: Global, bytes: &[u8]) -> Result<bool, Refusal> {
     let mut input = bytes;
     let Some(frame) = read_frame(alloc, &mut input)? else {
         return Ok(false);
     };
-    let request = decode_request(alloc, frame.kind, &frame.payload)?;
-    let mut out = Vec::new(alloc);
-    write_frame(&mut out, &encode_request(alloc, &request)?)?;
-    Ok(input.is_empty() && out.as_slice() == bytes)
+    Ok(input.is_empty() && is_decoded(alloc, frame.kind, frame.payload.as_slice(), bytes)?)
 }
 
-#[test]
-fn gets_and_writes_come_back(rt: HostRuntime) -> Result<(), Fail> {
-    let put = b"\0\0\0\x12\x22\x01k\0\0\0\0\0\0\0\x07{\"a\":1}";
-    assert!(rt; comes_back(rt.alloc(), b"\0\0\0\x03\x21\x01k")?);
-    assert!(rt; comes_back(rt.alloc(), put)?);
-    assert!(rt; comes_back(rt.alloc(), b"\0\0\0\x07\x23\x01k\0\0\0\0")?);
-    Ok(())
-}
+/// A get and two writes, a push and the end, finds, questions to views, and questions to the tree.
+const FRAMES: [&[u8]; 13] = [
+    b"\0\0\0\x03\x21\x01k",
+    b"\0\0\0\x12\x22\x01k\0\0\0\0\0\0\0\x07{\"a\":1}",
+    b"\0\0\0\x07\x23\x01k\0\0\0\0",
+    b"\0\0\0\x30\x29\x01k\0\0\0\x01\0\0\0\x01\0\0\0\0\0\0\0\x01\0\0\0\0\0\x01\0\0\0\x01\0\0\0\0\0\0\0\x01\0\0\0\x07{\"a\":2}",
+    b"\0\0\0\x01\x2F",
+    b"\0\0\0\x0F\x24\0\x04city\x04\0\x04Oslo\0",
+    b"\0\0\0\x14\x24\0\x01n\x02\x01\x01k\0\0\0\x01\0\0\0\0\0\0\0\x02",
+    b"\0\0\0\x0F\x2A\0\x01n\x00\x03\0\0\0\0\0\0\0\x0A\x00",
+    b"\0\0\0\x0F\x25\0\x05spend\x04\0\x04Oslo",
+    b"\0\0\0\x12\x26\0\x05spend\x01\x03\xFF\xFF\xFF\xFF\xFF\xFF\xFF\xFF",
+    b"\0\0\0\x02\x27\0",
+    b"\0\0\0\x05\x27\x03\0\x0F\x08",
+    b"\0\0\0\x06\x28\x01\x02\x01\x01k",
+];
 
 #[test]
-fn pushes_and_the_end_come_back(rt: HostRuntime) -> Result<(), Fail> {
-    let push =
-        b"\0\0\0\x30\x29\x01k\0\0\0\x01\0\0\0\x01\0\0\0\0\0\0\0\x01\0\0\0\0\0\x01\0\0\0\x01\0\0\0\0\0\0\0\x01\0\0\0\x07{\"a\":2}";
-    assert!(rt; comes_back(rt.alloc(), push)?);
-    assert!(rt; comes_back(rt.alloc(), b"\0\0\0\x01\x2F")?);
-    Ok(())
-}
-
-#[test]
-fn finds_come_back(rt: HostRuntime) -> Result<(), Fail> {
-    let first = b"\0\0\0\x0F\x24\0\x04city\x04\0\x04Oslo\0";
-    let next = b"\0\0\0\x14\x24\0\x01n\x02\x01\x01k\0\0\0\x01\0\0\0\0\0\0\0\x02";
-    let range = b"\0\0\0\x0F\x2A\0\x01n\x00\x03\0\0\0\0\0\0\0\x0A\x00";
-    assert!(rt; comes_back(rt.alloc(), first)?);
-    assert!(rt; comes_back(rt.alloc(), next)?);
-    assert!(rt; comes_back(rt.alloc(), range)?);
-    Ok(())
-}
-
-#[test]
-fn questions_to_views_come_back(rt: HostRuntime) -> Result<(), Fail> {
-    let row = b"\0\0\0\x0F\x25\0\x05spend\x04\0\x04Oslo";
-    let rows = b"\0\0\0\x12\x26\0\x05spend\x01\x03\xFF\xFF\xFF\xFF\xFF\xFF\xFF\xFF";
-    assert!(rt; comes_back(rt.alloc(), row)?);
-    assert!(rt; comes_back(rt.alloc(), rows)?);
-    Ok(())
-}
-
-#[test]
-fn questions_to_the_tree_come_back(rt: HostRuntime) -> Result<(), Fail> {
-    assert!(rt; comes_back(rt.alloc(), b"\0\0\0\x02\x27\0")?);
-    assert!(rt; comes_back(rt.alloc(), b"\0\0\0\x05\x27\x03\0\x0F\x08")?);
-    assert!(rt; comes_back(rt.alloc(), b"\0\0\0\x06\x28\x01\x02\x01\x01k")?);
+fn requests_come_back(rt: HostRuntime) -> Result<(), Fail> {
+    for frame in FRAMES {
+        assert!(rt; comes_back(rt.alloc(), frame)?);
+    }
     Ok(())
 }

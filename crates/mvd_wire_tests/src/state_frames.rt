@@ -21,11 +21,16 @@ const OLD_STATE: [u8; 39] = [
     0x7B, 0x22, 0x61, 0x22, 0x3A, 0x31, 0x7D,
 ];
 
-/// Whether the state that the bytes spell is spelled so, and has that length.
+/// Whether a state is spelled so, and has that length.
+fn is_spelled(alloc: Global, state: &KeyState, bytes: &[u8]) -> Result<bool, Refusal> {
+    let spelled = encode_state(alloc, state)?;
+    Ok(spelled.as_slice() == bytes && state_length(state) == bytes.len() as u64)
+}
+
+/// Whether the state that the bytes spell is spelled so again.
 fn comes_back(alloc: Global, bytes: &[u8]) -> Result<bool, Refusal> {
     let state = decode_state(alloc, bytes)?;
-    let spelled = encode_state(alloc, &state)?;
-    Ok(spelled.as_slice() == bytes && state_length(&state) == bytes.len() as u64)
+    is_spelled(alloc, &state, bytes)
 }
 
 #[test]
@@ -40,30 +45,37 @@ fn states_come_back(rt: HostRuntime) -> Result<(), Fail> {
 #[test]
 fn the_empty_state_has_six_bytes(rt: HostRuntime) -> Result<(), Fail> {
     let empty = KeyState::empty(rt.alloc());
-    assert_eq!(rt;
-        encode_state(rt.alloc(), &empty)?.as_slice(),
-        [0u8; 6].as_slice()
-    );
+    assert!(rt; is_spelled(rt.alloc(), &empty, &[0; 6])?);
     Ok(())
+}
+
+/// Whether a state of version 1 is spelled anew so.
+fn is_spelled_anew(alloc: Global, old: &[u8], bytes: &[u8]) -> Result<bool, Refusal> {
+    let state = decode_old_state(alloc, old)?;
+    is_spelled(alloc, &state, bytes)
 }
 
 #[test]
 fn old_states_are_spelled_anew(rt: HostRuntime) -> Result<(), Fail> {
-    let old = decode_old_state(rt.alloc(), &OLD_STATE)?;
-    assert_eq!(rt;
-        encode_state(rt.alloc(), &old)?.as_slice(),
-        STATE.as_slice()
-    );
+    assert!(rt; is_spelled_anew(rt.alloc(), &OLD_STATE, &STATE)?);
     Ok(())
+}
+
+/// Whether a reply's frame begins and ends so, and has 50 bytes.
+fn is_framed(alloc: Global, reply: &Reply, head: &[u8], tail: &[u8]) -> Result<bool, Refusal> {
+    let frame = encode_reply(alloc, reply)?;
+    let frame = frame.as_slice();
+    Ok(frame.len() == 50 && frame.starts_with(head) && frame.ends_with(tail))
+}
+
+fn is_state_framed(alloc: Global) -> Result<bool, Refusal> {
+    let reply = Reply::State(decode_state(alloc, &STATE)?);
+    is_framed(alloc, &reply, b"\0\0\0\x2E\xA1", &STATE)
 }
 
 #[test]
 fn states_are_framed(rt: HostRuntime) -> Result<(), Fail> {
-    let state = decode_state(rt.alloc(), &STATE)?;
-    let reply = encode_reply(rt.alloc(), &Reply::State(state))?;
-    assert!(rt; reply.as_slice().starts_with(b"\0\0\0\x2E\xA1"));
-    assert!(rt; reply.as_slice().ends_with(&STATE));
-    assert_eq!(rt; reply.len(), 50);
+    assert!(rt; is_state_framed(rt.alloc())?);
     Ok(())
 }
 
@@ -161,15 +173,24 @@ fn old_states_are_read_to_the_limit(rt: HostRuntime) -> Result<(), Fail> {
     Ok(())
 }
 
+/// The number with which the encoding of a state is refused, or 0.
+fn spelling_fault(alloc: Global, state: &KeyState) -> u8 {
+    match encode_state(alloc, state) {
+        Ok(_) => 0,
+        Err(refusal) => refusal.number(),
+    }
+}
+
+/// The same after one put more.
+fn fault_after_put(alloc: Global, before: &KeyState, document: Document) -> Result<u8, Refusal> {
+    let after = before.put(alloc, 1, &Context::new(alloc), document)?;
+    Ok(spelling_fault(alloc, &after.0))
+}
+
 /// The number with which the encoding of these and one put more is refused, or 0.
 fn fault_of_one_more(alloc: Global, bytes: &[u8], text: &str) -> Result<u8, Refusal> {
-    let document = Document::read(alloc, text)?;
     let before = decode_state(alloc, bytes)?;
-    let (after, _dot) = before.put(alloc, 1, &Context::new(alloc), document)?;
-    match encode_state(alloc, &after) {
-        Ok(_) => Ok(0),
-        Err(refusal) => Ok(refusal.number()),
-    }
+    fault_after_put(alloc, &before, Document::read(alloc, text)?)
 }
 
 #[test]

@@ -1,5 +1,0 @@
-//! Tests of the hash tree.
-#![tactic(auto)]
-
-#[cfg(test)]
-mod trees;

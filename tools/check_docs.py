@@ -74,7 +74,7 @@ def unknown_words(text, words):
 
 
 def strangers(text, sources):
-    """The names behind a crate's, as in `mvd_host_tests::clients`, that are no word of its code and no module of it."""
+    """The names behind a crate's, as in `mvd_faults_tests::clients`, that are no word of its code and no module of it."""
     return [f"{crate}::{name}" for crate, name in re.findall(r"\b(mvd\w*)::(\w+)", text) if crate in sources and name not in sources[crate]]
 
 

@@ -1,27 +1,29 @@
-//! Tests of a stored site: its connections, its records when they are opened again, and faults of its streams, its bytes, its
+//! Tests of a stored site: its connections, one by one and many at once, and faults of its streams, its bytes, its
 //! records, its store and its memory.
 #![tactic(auto)]
 
 #[cfg(test)]
 mod asked_sites;
 #[cfg(test)]
-mod batches;
-#[cfg(test)]
 mod bytes;
+#[cfg(test)]
+mod clients;
 #[cfg(test)]
 mod damaged;
 #[cfg(test)]
-mod memory;
+mod host_calls;
 #[cfg(test)]
-mod poisoned;
+mod memory;
 #[cfg(test)]
 mod random_frames;
 #[cfg(test)]
-mod reopened;
-#[cfg(test)]
 mod replica_calls;
 #[cfg(test)]
+mod round_memory;
+#[cfg(test)]
 mod scale;
+#[cfg(test)]
+mod session_windows;
 #[cfg(test)]
 mod stops;
 #[cfg(test)]

@@ -88,7 +88,8 @@ fn a_site_is_asked_again(rt: HostRuntime) -> Result<(), Fail> {
     Ok(())
 }
 
-fn made(alloc: Global, number: u32) -> Result<Replica<MemStore>, Refusal> {
+/// The replica in memory of a site with no key, which is made once more where memory was refused.
+pub fn made(alloc: Global, number: u32) -> Result<Replica<MemStore>, Refusal> {
     match new_replica(alloc, number) {
         Err(_) => new_replica(alloc, number),
         made => made,
@@ -110,7 +111,7 @@ fn open_again(
 }
 
 /// The same replica; one that is broken tells it once more, and is opened again.
-fn mended(
+pub fn mended(
     alloc: Global,
     mut replica: Replica<MemStore>,
     number: u32,
@@ -163,7 +164,7 @@ fn a_replica_is_asked_again(rt: HostRuntime) -> Result<(), Fail> {
 /// A put, a question that it bears on, and the replies to this with the put and without.
 type Pair = (&'static str, &'static str, &'static str, &'static str);
 
-const PAIRS: [Pair; 3] = [
+pub const PAIRS: [Pair; 3] = [
     (PUT, GET, STATE, EMPTY),
     (
         "0000001222016100000000000000077b2261223a327d",
@@ -189,13 +190,15 @@ fn first_frame(bytes: &[u8]) -> (&[u8], &[u8]) {
 }
 
 /// Whether a put and the question behind it may be answered so, where the put is there afterwards or not. The put that breaks the
-/// site is there, and nothing behind it.
-fn may_tell(put: Told, question: Told, is_there: bool, was_broken: bool) -> bool {
+/// site is there; of those behind it only such as share its commit may be. Where puts share a commit, a later one may break the site
+/// before the question is asked.
+fn may_tell(put: Told, question: Told, is_there: bool, was_broken: bool, shares: bool) -> bool {
     match (put, question) {
         (Told::Wanted, Told::Wanted | Told::Refused | Told::Nothing) => is_there,
+        (Told::Wanted, Told::Broken) => shares && is_there,
         (Told::Refused, Told::Wanted | Told::Nothing) => !is_there,
         (Told::Nothing, Told::Nothing) => !is_there,
-        (Told::Broken, Told::Broken) => is_there != was_broken,
+        (Told::Broken, Told::Broken) => is_there != was_broken || (shares && is_there),
         _ => false,
     }
 }
@@ -211,8 +214,13 @@ fn has_put(alloc: Global, replica: &mut Replica<MemStore>, pair: &Pair) -> Optio
     }
 }
 
-/// Whether the frames of a connection with the pairs tell what the replica has afterwards.
-fn pairs_tell(alloc: Global, replica: &mut Replica<MemStore>, mut output: &[u8]) -> bool {
+/// Whether the frames for the pairs tell what the replica has afterwards, where the puts may share a commit or not.
+pub fn pairs_tell(
+    alloc: Global,
+    replica: &mut Replica<MemStore>,
+    mut output: &[u8],
+    shares: bool,
+) -> bool {
     let mut was_broken = false;
     for pair in &PAIRS {
         let (put, rest) = first_frame(output);
@@ -222,7 +230,7 @@ fn pairs_tell(alloc: Global, replica: &mut Replica<MemStore>, mut output: &[u8])
         let wanted = if put == Told::Wanted { pair.2 } else { pair.3 };
         let question = tells(question, wanted);
         match has_put(alloc, replica, pair) {
-            Some(is_there) if may_tell(put, question, is_there, was_broken) => {}
+            Some(is_there) if may_tell(put, question, is_there, was_broken, shares) => {}
             _ => return false,
         }
         was_broken = was_broken || put == Told::Broken;
@@ -240,7 +248,7 @@ fn connection_tells(alloc: Global) -> Result<bool, Refusal> {
     let mut replica = made(alloc, 1)?;
     let (output, ended) = serves(alloc, &mut replica, &input);
     let mut replica = mended(alloc, replica, 1)?;
-    let is_told = pairs_tell(alloc, &mut replica, output.bytes());
+    let is_told = pairs_tell(alloc, &mut replica, output.bytes(), false);
     drop(replica);
     Ok(is_told && (ended == "end" || ended == "Memory"))
 }

@@ -9,13 +9,17 @@ use std::test::Fail;
 
 /// Numbers that a seed determines.
 #[derive(Clone, Copy)]
-struct Random {
+pub struct Random {
     state: u64,
 }
 
 impl Random {
+    pub fn new(seed: u64) -> Random {
+        Random { state: seed }
+    }
+
     /// The next number below a limit, or 0 where that is 0.
-    fn below(&mut self, limit: u64) -> u64 {
+    pub fn below(&mut self, limit: u64) -> u64 {
         let mut x = self.state | 1;
         x ^= x << 13;
         x ^= x >> 7;
@@ -38,7 +42,7 @@ impl Random {
 
 /// A payload that is made piece by piece.
 #[derive(Drop)]
-pub struct Maker {
+struct Maker {
     random: Random,
     bytes: Vec<u8>,
 }
@@ -91,17 +95,15 @@ const KINDS: &[(u8, &[Piece])] = &[
 ];
 
 impl Maker {
-    pub fn new(alloc: Global) -> Maker {
+    fn new(alloc: Global) -> Maker {
         Maker {
-            random: Random {
-                state: 0x9E37_79B9_7F4A_7C15,
-            },
+            random: Random::new(0x9E37_79B9_7F4A_7C15),
             bytes: Vec::new(alloc),
         }
     }
 
     /// The bytes of so many frames.
-    pub fn frames(&mut self, alloc: Global) -> Vec<u8> {
+    fn frames(&mut self, alloc: Global) -> Vec<u8> {
         let mut input = Vec::new(alloc);
         for _ in 0..FRAMES {
             self.frame(&mut input);
@@ -291,7 +293,7 @@ impl Maker {
     }
 }
 
-pub const FRAMES: u32 = 40;
+const FRAMES: u32 = 40;
 
 const CONNECTIONS: u32 = 250;
 

@@ -82,6 +82,15 @@ impl Bytes {
         self.len = start.saturating_add(digits.len() / 2);
     }
 
+    /// Puts these behind the others, as far as they have room.
+    pub fn put(&mut self, bytes: &[u8]) {
+        let start = self.len.min(ROOM);
+        for (place, byte) in self.room[start..].iter_mut().zip(bytes) {
+            *place = *byte;
+        }
+        self.len = start.saturating_add(bytes.len()).min(ROOM);
+    }
+
     pub fn bytes(&self) -> &[u8] {
         &self.room[..self.len.min(ROOM)]
     }
@@ -197,18 +206,6 @@ pub fn serves<S: Alter + Drop>(
     let left = writer.len();
     let len = ROOM.saturating_sub(left);
     (Bytes { room, len }, ended)
-}
-
-/// Whether a connection with these requests gives these replies and ends so.
-pub fn gives<S: Alter + Drop>(
-    alloc: Global,
-    replica: &mut Replica<S>,
-    input: &[&str],
-    wanted: &[&str],
-    end: &str,
-) -> bool {
-    let (output, ended) = serves(alloc, replica, &Bytes::of(input));
-    output.bytes() == Bytes::of(wanted).bytes() && ended == end
 }
 
 /// What a reply tells, beside the one that is wanted.

@@ -1,5 +1,6 @@
 //! Files that stop before some call, and are opened again.
 use super::damaged::{OLD, ONE};
+use super::host_calls::put_in_rounds;
 use super::memory::request_of;
 use super::replica_calls::{
     Bytes, Root, conn_of, new_replica, opened, or_refusal, root_of, run, serves,
@@ -83,6 +84,8 @@ enum Run {
     Puts,
     /// They are answered at once, in three commits of two.
     Batch,
+    /// Three clients of a host send two each, one in each of two rounds.
+    Rounds,
     /// Three keys of version 1 are moved, which is done when the files are opened.
     Move,
     /// A session, as its local side, and as the peer.
@@ -111,16 +114,21 @@ const THEIRS: [&str; 2] = [
     "0000001222016200000000000000077b2261223a347d",
 ];
 
-/// Serves puts, and tells how many were answered by a dot.
-fn put_all<S: Alter + Drop>(alloc: Global, replica: &mut Replica<S>, puts: &[&str]) -> usize {
-    let (output, _) = serves(alloc, replica, &Bytes::of(puts));
+/// How many of these replies are a dot.
+pub fn written(replies: &[u8]) -> usize {
     let mut written = 0usize;
-    for frame in output.bytes().chunks(17) {
+    for frame in replies.chunks(17) {
         if frame.len() == 17 && frame[4] == 0xA2 {
             written = written.saturating_add(1);
         }
     }
     written
+}
+
+/// Serves puts, and tells how many were answered by a dot.
+fn put_all<S: Alter + Drop>(alloc: Global, replica: &mut Replica<S>, puts: &[&str]) -> usize {
+    let (output, _) = serves(alloc, replica, &Bytes::of(puts));
+    written(output.bytes())
 }
 
 /// Answers puts at once, and tells how many were answered by a dot.
@@ -163,15 +171,26 @@ fn does<S: Alter + Drop>(
     match run {
         Run::Puts => put_all(alloc, replica, &PUTS[..most.min(6)]),
         Run::Batch => put_at_once(alloc, replica, &PUTS[..most.min(6)]).unwrap_or(0),
+        Run::Rounds => put_in_rounds(alloc, replica, &PUTS[..most.min(6)]).unwrap_or(0),
         Run::Move => 1,
         Run::Local => usize::from(meets(alloc, replica, other, most)),
         Run::Peer => usize::from(meets(alloc, other, replica, most)),
     }
 }
 
+/// After how many puts of a run a commit ends; of a run without puts none. In rounds, a put at a key of its round begins another.
+fn commits(run: Run) -> &'static [usize] {
+    match run {
+        Run::Puts => &[0, 1, 2, 3, 4, 5, 6],
+        Run::Batch => &[0, 2, 4, 6],
+        Run::Rounds => &[0, 2, 3, 6],
+        _ => &[],
+    }
+}
+
 /// Whether a run is of puts.
 fn puts(run: Run) -> bool {
-    run == Run::Puts || run == Run::Batch
+    !commits(run).is_empty()
 }
 
 /// How much is done when all of a run is.
@@ -205,7 +224,7 @@ fn with_mine(alloc: Global) -> Result<Files<Memory>, Refusal> {
 /// The files before a run.
 fn files_before(alloc: Global, run: Run) -> Result<Files<Memory>, Refusal> {
     match run {
-        Run::Puts | Run::Batch => Ok(no_files(alloc)),
+        Run::Puts | Run::Batch | Run::Rounds => Ok(no_files(alloc)),
         Run::Move => three_old(alloc),
         Run::Local | Run::Peer => with_mine(alloc),
     }
@@ -299,31 +318,31 @@ fn roots(alloc: Global, run: Run) -> Result<Vec<Root>, Refusal> {
     Ok(roots)
 }
 
-/// Whether what a run left is what it may: the states after the puts that were answered, or with those of the next commit; those that the session
-/// has on its way, or at its end where it ended well; and after one more session those at the end, on both sides.
-fn may_leave(run: Run, roots: &[Root], left: &Left) -> bool {
-    let Some(last) = roots.last() else {
-        return false;
-    };
-    let (from, count) = if run == Run::Puts {
-        (left.done, 2)
-    } else if run == Run::Batch {
-        (left.done, 3)
+/// Whether the machine came back with what it may: the states after the puts that were answered, or with those of the next commit;
+/// those that the session has on its way, or at its end where it ended well.
+fn may_keep(run: Run, roots: &[Root], left: &Left) -> bool {
+    if puts(run) {
+        commits(run)
+            .iter()
+            .skip_while(|count| **count < left.done)
+            .take(2)
+            .any(|count| roots.get(*count) == Some(&left.kept))
     } else if left.done == 0 {
-        (0, roots.len())
+        roots.contains(&left.kept)
     } else {
-        (roots.len().saturating_sub(1), 1)
-    };
-    let is_known = roots
-        .iter()
-        .skip(from)
-        .take(count)
-        .step_by(if run == Run::Batch { 2 } else { 1 })
-        .any(|root| *root == left.kept);
+        roots.last() == Some(&left.kept)
+    }
+}
+
+/// Whether what a run left is what it may; after one more session that is what is there at the end, on both sides.
+fn may_leave(run: Run, roots: &[Root], left: &Left) -> bool {
+    let is_known = may_keep(run, roots, left);
     match run {
-        Run::Puts | Run::Batch => is_known,
-        Run::Move => is_known && left.end == *last,
-        Run::Local | Run::Peer => is_known && left.end == *last && left.other == *last,
+        Run::Puts | Run::Batch | Run::Rounds => is_known,
+        Run::Move => is_known && roots.last() == Some(&left.end),
+        Run::Local | Run::Peer => {
+            is_known && roots.last() == Some(&left.end) && roots.last() == Some(&left.other)
+        }
     }
 }
 
@@ -342,9 +361,10 @@ fn until_done(alloc: Global, run: Run, of_log: bool) -> Result<u64, Fail> {
     Err("no run ended")?
 }
 
-const RUNS: [(&str, Run); 5] = [
+const RUNS: [(&str, Run); 6] = [
     ("six puts", Run::Puts),
     ("six puts at once", Run::Batch),
+    ("six puts of three clients", Run::Rounds),
     ("three old keys", Run::Move),
     ("a session's local side", Run::Local),
     ("a session's peer", Run::Peer),

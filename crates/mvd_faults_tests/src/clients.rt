@@ -1,80 +1,16 @@
 //! Many clients at once: their bytes come and leave in pieces and orders that a seed determines, and what they are told is what one
 //! replica answers to one sequence of requests.
-ghost use Rattle.std.specs.Prelude.{◌≤◌, length};
-ghost use Rattle.mvd_host.specs.Hosts.{IfClient, client_of};
-
-use super::round_calls::{Bytes, CLASH, GET, PUT, ROOM, WIDE, new_replica, push, replies, root_of};
+use super::host_calls::{admit, feed, round, take};
+use super::random_frames::Random;
+use super::replica_calls::{
+    Bytes, CLASH, GET, PUT, ROOM, WIDE, new_replica, push, replies, root_of,
+};
 use mvd_dots::Refusal;
-use mvd_host::{Host, Tally};
+use mvd_host::Host;
 use mvd_replica::Replica;
-use sqlite::{Alter, MemStore};
+use sqlite::MemStore;
 use std::alloc::Global;
 use std::test::Fail;
-
-/// Numbers that a seed determines.
-#[derive(Clone, Copy)]
-struct Random {
-    state: u64,
-}
-
-impl Random {
-    /// The next number below a limit, or 0 where that is 0.
-    fn below(&mut self, limit: u64) -> u64 {
-        let mut x = self.state | 1;
-        x ^= x << 13;
-        x ^= x >> 7;
-        x ^= x << 17;
-        self.state = x;
-        (x >> 11).checked_rem(limit).unwrap_or(0)
-    }
-}
-
-// Each call of a host stands in a helper with no clause, so that no proof carries the clauses of two.
-
-/// The number of a client that is admitted.
-pub fn admit(host: &mut Host) -> Result<u64, Refusal> {
-    match host.admit()? {
-        Some(number) => Ok(number),
-        None => Err(Refusal::Full),
-    }
-}
-
-/// Hands on what came of a client, where more is wanted. How many bytes were taken.
-#[tactic(auto, using(crate::proofs::Wanted::wanted_if))]
-pub fn feed(host: &mut Host, client: u64, bytes: &[u8]) -> usize {
-    if bytes.len() > 65_536 || !host.wants_input(client) {
-        return 0;
-    }
-    match host.feed(client, bytes) {
-        Ok(()) => bytes.len(),
-        Err(_) => 0,
-    }
-}
-
-/// How many bytes wait to leave to a client.
-fn waits(host: &Host, client: u64) -> usize
-    ensures { IfClient (client_of host.now client) (λ h. result ≤ length h.waits) }
-{
-    match host.waiting(client) {
-        Some(bytes) => bytes.len(),
-        None => 0,
-    }
-}
-
-/// Takes bytes that wait to leave to a client: at most so many, and as many as have room.
-pub fn take(host: &mut Host, client: u64, most: usize) -> Bytes {
-    let mut bytes = Bytes::of(&[]);
-    let count = waits(host, client).min(most).min(ROOM);
-    if let Some(waiting) = host.waiting(client) {
-        bytes.put(waiting.get(..count).unwrap_or(&[]));
-    }
-    host.sent(client, count);
-    bytes
-}
-
-pub fn round<S: Alter>(host: &mut Host, replica: &mut Replica<S>, ready: &[u64]) {
-    host.round(replica, ready, &mut Tally::new());
-}
 
 const CLIENTS: u64 = 8;
 
@@ -253,9 +189,7 @@ fn are_told(alloc: Global, sides: &mut Sides, clients: &[Client]) -> Option<usiz
 
 /// How many bytes the clients are told in the order of a seed; `None` where they are others than one sequence gives.
 fn told_in_order(alloc: Global, seed: u64) -> Result<Option<usize>, Refusal> {
-    let mut random = Random {
-        state: seed.wrapping_mul(0x9E37_79B9_7F4A_7C15),
-    };
+    let mut random = Random::new(seed.wrapping_mul(0x9E37_79B9_7F4A_7C15));
     let mut sides = Sides {
         host: Host::new(alloc),
         replica: new_replica(alloc, 1)?,

@@ -117,6 +117,7 @@ impl<S: Alter> Records<S> {
         }
     }
 
+    /// The connection that the records stand in.
     pub fn into_connection(self) -> Connection<S>
         ensures { result ≡ self.conn }
     {

@@ -71,9 +71,9 @@ AllAnswered f site known image (run ∷ runs) = (events : List Event) → TellsT
     × ((added : List Write) → AddAll run.config (known ++ known_after events) (lost_requests it.lost) added
     → AllAnswered f site ((known ++ known_after events) ++ added) run.left runs))
 
--- A stop in the middle of a call, or before the next one: whatever turns came before, if the store was sound when the call began, the
--- files hold the states that all of them left, or these with the change of the request in hand, and nothing else. `key_count` tells that
--- the states are held ones.
+-- A stop in the middle of a call of `answer`, or before the next one: whatever turns came before, if the store was sound when the call
+-- began, the files hold the states that all of them left, or these with the change of the request in hand, and nothing else.
+-- `key_count` tells that the states are held ones.
 abbrev pub LeavesWholeTurns : {S : Type 0} → Ghosts S → Type 0
 LeavesWholeTurns {S} g =
     (turns : List Turn) (old mid new : Replica S g) (request : Request) (reply : Reply) →

@@ -44,8 +44,9 @@ pub fn a_site_answers_across_restarts<S: Alter>()
         TurnsFollow it.turns old new (state S.Store before) (state S.Store after) }
 {}
 
-/// A stop at any moment of a connection, or of rounds of many: what it leaves in the files are the
-/// states after all turns before the request in hand, or these with what that request changes.
+/// A stop while `answer` has a request in hand, after any turns of connections or of rounds of many:
+/// what it leaves in the files are the states after all those turns, or these with what the request
+/// changes. Of a stop in the middle of `answer_all` it says nothing.
 pub fn a_stop_leaves_whole_turns<S: Alter>()
     ensures { LeavesWholeTurns S.Store }
 {}

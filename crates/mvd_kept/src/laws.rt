@@ -19,25 +19,37 @@ ghost use Rattle.mvd_kept.specs.Sites.{SiteValue, has_no_room};
 /// Where states stand for a set of writes, the answer from the states is that from the writes, and the states afterwards
 /// stand for the writes with what the request added.
 pub fn answers_from_states()
-    ensures answer { (config : ConfigValue) (states : States) (known : List Write) (request : Request) → Stands states known → answer_from config states request ≡ answer config known request }
-    ensures after { (config : ConfigValue) (states : States) (known : List Write) (request : Request) (added : List Write) → Stands states known → Adds request (answer config known request) added → Stands (after_from config states request) (known ++ added) }
+    ensures answer { (config : ConfigValue) (states : States) (known : List Write) (request : Request) →
+        Stands states known → answer_from config states request ≡ answer config known request }
+    ensures after { (config : ConfigValue) (states : States) (known : List Write) (request : Request)
+        (added : List Write) → Stands states known → Adds request (answer config known request) added →
+        Stands (after_from config states request) (known ++ added) }
     // A clash is the answer to a push alone, of a state that clashes with the key's.
-    ensures clash { (config : ConfigValue) (states : States) (request : Request) → answer_from config states request ≡ Refused DotClash → IsClash states request }
+    ensures clash { (config : ConfigValue) (states : States) (request : Request) →
+        answer_from config states request ≡ Refused DotClash → IsClash states request }
     // Two sets of writes with the same states have the same answers.
-    ensures alike { (config : ConfigValue) (states : States) (V W : List Write) (request : Request) → Stands states V → Stands states W → answer config V request ≡ answer config W request }
+    ensures alike { (config : ConfigValue) (states : States) (V W : List Write) (request : Request) →
+        Stands states V → Stands states W → answer config V request ≡ answer config W request }
 {}
 
 /// Sites that know the same writes give equal answers: to a question, of the configuration only the definitions of indexes
 /// and views count, whatever a site's number is and however many keys it may hold.
 pub fn questions_are_answered_alike()
-    ensures writes { (a b : ConfigValue) (known : List Write) (request : Request) → a.defs ≡ b.defs → is_question request ≡ true → answer a known request ≡ answer b known request }
-    ensures states { (a b : ConfigValue) (states : States) (request : Request) → a.defs ≡ b.defs → is_question request ≡ true → answer_from a states request ≡ answer_from b states request }
+    ensures writes { (a b : ConfigValue) (known : List Write) (request : Request) → a.defs ≡ b.defs →
+        is_question request ≡ true → answer a known request ≡ answer b known request }
+    ensures states { (a b : ConfigValue) (states : States) (request : Request) → a.defs ≡ b.defs →
+        is_question request ≡ true → answer_from a states request ≡ answer_from b states request }
     // Two maps of states that stand for the same writes.
-    ensures standing { (a b : ConfigValue) (m n : States) (known : List Write) (request : Request) → a.defs ≡ b.defs → is_question request ≡ true → Stands m known → Stands n known → answer_from a m request ≡ answer_from b n request }
+    ensures standing { (a b : ConfigValue) (m n : States) (known : List Write) (request : Request) →
+        a.defs ≡ b.defs → is_question request ≡ true → Stands m known → Stands n known →
+        answer_from a m request ≡ answer_from b n request }
     // Two sets of writes with the same states.
-    ensures known { (a b : ConfigValue) (states : States) (V W : List Write) (request : Request) → a.defs ≡ b.defs → is_question request ≡ true → Stands states V → Stands states W → answer a V request ≡ answer b W request }
+    ensures known { (a b : ConfigValue) (states : States) (V W : List Write) (request : Request) →
+        a.defs ≡ b.defs → is_question request ≡ true → Stands states V → Stands states W →
+        answer a V request ≡ answer b W request }
     // A question changes nothing.
-    ensures still { (config : ConfigValue) (states : States) (request : Request) → is_question request ≡ true → after_from config states request ≡ states }
+    ensures still { (config : ConfigValue) (states : States) (request : Request) → is_question request ≡ true →
+        after_from config states request ≡ states }
 {}
 
 /// An answer is a function of the set of writes: where they agree, order and repeats do not matter, to a question or to a change.
@@ -54,7 +66,11 @@ pub fn changes_stand_side_by_side()
     ensures { (site : SiteValue) (first second : ChangeValue)
         → IsChangeNow site first → IsChangeNow site second → first.key ≢ second.key
         → has_no_room site.config (insert site.states first.key first.state) second.key ≡ false
-        → IsChangeNow (record { config = site.config; states = insert site.states first.key first.state; broken = false }) second }
+        → IsChangeNow (record {
+          config = site.config;
+          states = insert site.states first.key first.state;
+          broken = false;
+        }) second }
 {}
 
 /// A map of states that a site may hold stands for a set of writes.
@@ -70,5 +86,6 @@ pub fn each_has_one_text()
 /// Where SHA-256 tells the texts that are hashed for two sites apart, nodes of one path with one digest hold the same
 /// keys in the same states.
 pub fn equal_nodes_hold_equal_states()
-    ensures { (a b : States) → AreHeld a → AreHeld b → HashesTellApart spelled a b → (path : List ℕ) → length path ≤ 3 → node_digest (digests a) path ≡ node_digest (digests b) path → SameUnder path a b }
+    ensures { (a b : States) → AreHeld a → AreHeld b → HashesTellApart spelled a b → (path : List ℕ) →
+        length path ≤ 3 → node_digest (digests a) path ≡ node_digest (digests b) path → SameUnder path a b }
 {}

@@ -47,20 +47,30 @@ pub fn one_spelling()
     ensures states { IsPrefixFree (state layout2) }
     ensures old_states { IsPrefixFree (state layout1) }
     // No frame begins another, nor does that of a request or a reply.
-    ensures frames_apart { (f g : FrameValue) (a b : List ℕ) → length f.payload + 1 ≤ frame_limit → length g.payload + 1 ≤ frame_limit → spell_frame f ++ a ≡ spell_frame g ++ b → (f ≡ g) × (a ≡ b) }
-    ensures requests { (r s : Request) (a b : List ℕ) → IsRequest r → IsRequest s → length (request_payload r) + 1 ≤ frame_limit → length (request_payload s) + 1 ≤ frame_limit → request_bytes r ++ a ≡ request_bytes s ++ b → (r ≡ s) × (a ≡ b) }
-    ensures replies { (r s : Reply) (a b : List ℕ) → IsReply r → IsReply s → length (reply_payload r) + 1 ≤ frame_limit → length (reply_payload s) + 1 ≤ frame_limit → reply_bytes r ++ a ≡ reply_bytes s ++ b → (r ≡ s) × (a ≡ b) }
+    ensures frames_apart { (f g : FrameValue) (a b : List ℕ) → length f.payload + 1 ≤ frame_limit →
+        length g.payload + 1 ≤ frame_limit → spell_frame f ++ a ≡ spell_frame g ++ b → (f ≡ g) × (a ≡ b) }
+    ensures requests { (r s : Request) (a b : List ℕ) → IsRequest r → IsRequest s →
+        length (request_payload r) + 1 ≤ frame_limit → length (request_payload s) + 1 ≤ frame_limit →
+        request_bytes r ++ a ≡ request_bytes s ++ b → (r ≡ s) × (a ≡ b) }
+    ensures replies { (r s : Reply) (a b : List ℕ) → IsReply r → IsReply s →
+        length (reply_payload r) + 1 ≤ frame_limit → length (reply_payload s) + 1 ≤ frame_limit →
+        reply_bytes r ++ a ≡ reply_bytes s ++ b → (r ≡ s) × (a ≡ b) }
     // A frame is read again, and what follows it is left.
-    ensures frames { (f : FrameValue) (rest : List ℕ) → length f.payload + 1 ≤ frame_limit → frame_at (spell_frame f ++ rest) ≡ Ok (Some f, rest) }
+    ensures frames { (f : FrameValue) (rest : List ℕ) → length f.payload + 1 ≤ frame_limit →
+        frame_at (spell_frame f ++ rest) ≡ Ok (Some f, rest) }
     // Where bytes are read as a frame, they begin with its spelling.
-    ensures frames_read { (bytes : List ℕ) (f : FrameValue) (rest : List ℕ) → All (λ b. b < 256) bytes → frame_at bytes ≡ Ok (Some f, rest) → (bytes ≡ spell_frame f ++ rest) × (length f.payload + 1 ≤ frame_limit) }
+    ensures frames_read { (bytes : List ℕ) (f : FrameValue) (rest : List ℕ) → All (λ b. b < 256) bytes →
+        frame_at bytes ≡ Ok (Some f, rest) → (bytes ≡ spell_frame f ++ rest) ×
+        (length f.payload + 1 ≤ frame_limit) }
     // Where no frame is read, there is no byte.
-    ensures no_frame { (bytes : List ℕ) (rest : List ℕ) → frame_at bytes ≡ Ok (None, rest) → (bytes ≡ []) × (rest ≡ []) }
+    ensures no_frame { (bytes : List ℕ) (rest : List ℕ) → frame_at bytes ≡ Ok (None, rest) → (bytes ≡ []) ×
+        (rest ≡ []) }
 {}
 
 /// A key and then a state, as both are hashed for the tree: equal texts are one key in one state.
 pub fn one_text()
-    ensures { (k l : Text) (s t : State) → is_key k ≡ true → is_key l ≡ true → (state layout2).Fits s → (state layout2).Fits t → key.spell k ++ spell_state s ≡ key.spell l ++ spell_state t → (k ≡ l) × (s ≡ t) }
+    ensures { (k l : Text) (s t : State) → is_key k ≡ true → is_key l ≡ true → (state layout2).Fits s →
+        (state layout2).Fits t → key.spell k ++ spell_state s ≡ key.spell l ++ spell_state t → (k ≡ l) × (s ≡ t) }
 {}
 
 /// Which states have a spelling, so also what a decoded state is.
@@ -84,8 +94,10 @@ pub fn decoded_again()
 pub fn can_be_sent()
     ensures gets { (k : Text) → is_key k ≡ true → request_frame (asked.Get k) ≡ Ok (request_bytes (asked.Get k)) }
     ensures nodes { (p : List ℕ) → is_path p ≡ true → request_frame (asked.Node p) ≡ Ok (request_bytes (asked.Node p)) }
-    ensures buckets { (p : List ℕ) (after : Option Text) → IsRequest (asked.Bucket p after) → request_frame (asked.Bucket p after) ≡ Ok (request_bytes (asked.Bucket p after)) }
-    ensures pushes { (k : Text) (s : State) → is_key k ≡ true → length (spell_state s) ≤ state_limit → request_frame (asked.Push k s) ≡ Ok (request_bytes (asked.Push k s)) }
+    ensures buckets { (p : List ℕ) (after : Option Text) → IsRequest (asked.Bucket p after) →
+        request_frame (asked.Bucket p after) ≡ Ok (request_bytes (asked.Bucket p after)) }
+    ensures pushes { (k : Text) (s : State) → is_key k ≡ true → length (spell_state s) ≤ state_limit →
+        request_frame (asked.Push k s) ≡ Ok (request_bytes (asked.Push k s)) }
     ensures short { (r : Reply) → is_short r ≡ true → CanBeSent r }
     ensures states { (s : State) → length (spell_state s) ≤ state_limit → CanBeSent (answered.State s) }
 {}

@@ -1,6 +1,8 @@
 -- A command with one more option, or with one more command below it.
 use Rattle.std.proofs.Common.{◌≡◌, ◌∙◌, ap, ap₂, refl, true, false, not, Bool, is_some}
 use Rattle.std.proofs.lemmas.Bool.{and_parts}
+use Rattle.std.proofs.lemmas.Result.{IfOk-at_ok}
+use Rattle.std.specs.Prelude.{IfOk, Ok, Result}
 use Rattle.clap.specs.Words.{App, Rule, app_of, rule_of, with_rule, with_subcommand, AddsArg, AddsSubcommand}
 use Rattle.clap.specs.Walk.{is_empty, is_simple_arg}
 use Rattle.clap.specs.Simple.{has_plain_fields}
@@ -41,3 +43,7 @@ adds old a new s r h e f simple =
 pub adds_below : (old sub new : Command) (s below : App) → AddsSubcommand old sub new → app_of old ≡ s → app_of sub ≡ below → below.top.is_plain ≡ true → app_of new ≡ with_subcommand s below.top
 adds_below old sub new s below h e f simple =
     h.shape (plain sub (ap (λ (x : App). x.top.is_plain) f ∙ simple)) ∙ ap₂ with_subcommand e (ap (λ (x : App). x.top) f)
+
+-- the same, where the command below may not have been made
+pub adds_made : {E : Type 0} (old new : Command) (s below : App) (made : Result Command E) → (b : Command) × (made ≡ Ok b) × AddsSubcommand old b new → app_of old ≡ s → IfOk made (λ b. app_of b ≡ below) → below.top.is_plain ≡ true → app_of new ≡ with_subcommand s below.top
+adds_made old new s below made (b, is, h) e f simple = adds_below old b new s below h e (IfOk-at_ok (λ (b : Command). app_of b ≡ below) is f) simple

@@ -1,7 +1,9 @@
 -- What lines define, one after the other.
-use Rattle.std.proofs.Common.{◌≡◌, ◌<◌, ◌+◌, ◌++◌, ◌∙◌, ℕ, List, [], ◌∷◌, Option, Some, Ok, Err, Bor, IfSome, inl, inr, length, refl, sym, subst, codes}
+use Rattle.std.proofs.Common.{◌≡◌, ◌<◌, ◌+◌, ◌++◌, ◌∙◌, ℕ, Bool, true, false, List, [], ◌∷◌, Option, Some, Ok, Err, Bor, IfSome, inl, inr, length, refl, sym, subst, codes}
 use Rattle.std.specs.Option.{option_copied}
+use Rattle.std.specs.Prelude.{Result, if◌then◌else◌}
 use Rattle.mvd_dots.specs.declared.refusals.Refusal.{Refusal}
+use Rattle.mvd_dots.specs.declared.refusals.Refusal.TheVariants.{BadDefs}
 use Rattle.mvd_rows.specs.Defs.{Definitions, no_definitions}
 use Rattle.mvd_input.specs.declared.command.Line.TheVariants as line
 use Rattle.mvd_input.specs.declared.command.View.{View}
@@ -11,6 +13,16 @@ use Rattle.mvd_input.specs.Lines.{IsLine, IsView, said, spaced}
 use Rattle.mvd_input.proofs.Lines.{Taking, takes_next, takes_none, takes_on}
 use Rattle.mvd_input.proofs.Parting.{one_parting}
 use Rattle.mvd_input.proofs.Refused.{other_word}
+
+-- ---- names that are read
+
+abbrev pub read_if : Bool → List ℕ → Result (List ℕ) Refusal
+read_if test text = if test then Ok text else Err BadDefs
+
+-- a name that is read passed its test, and is its text
+pub read_so : (test : Bool) (text name : List ℕ) → read_if test text ≡ Ok name → (test ≡ true) × (text ≡ name)
+read_so true text name is = (refl, cc is)
+read_so false text name is = absurd (cc is)
 
 -- one text spells one view
 same_view : (view other : View) (text : List ℕ) → IsView view text → IsView other text → (old : Definitions) → view_added old view ≡ view_added old other

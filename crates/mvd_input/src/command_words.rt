@@ -1,6 +1,7 @@
 //! The words that a command line may hold, and the help that it gives.
-ghost use Rattle.std.specs.Prelude.{◌≡◌, IfOk};
-ghost use Rattle.clap.specs.Words.{app_of, new_app, rule_of};
+ghost use Rattle.std.specs.Prelude.{◌≡◌, IfOk, Ok};
+ghost use Rattle.clap.specs.Words.{AddsSubcommand, app_of, new_app, rule_of};
+ghost use Rattle.clap.specs.declared.builder.command.Command.{Command};
 ghost use Rattle.mvd_input.specs.Words as spec;
 
 use clap::{Arg, ArgAction, Command, value_parser};
@@ -55,17 +56,27 @@ pub fn command<'a>(alloc: Global) -> Result<Command<'a>, AllocError>
         SIM,
         "Example: mvd sim < examples/siblings.mvd",
     );
-    Command::new(alloc, "mvd")
+    let command = Command::new(alloc, "mvd")
         .about("A multi-value JSON document map with causal contexts.")
         .after_help(FIRST)
         .version(VERSION)
         .subcommand_required(true)
         .arg_required_else_help(true)
-        .subcommand(sim)?
-        .subcommand(loop_command(alloc)?)?
-        .subcommand(serve_command(alloc)?)?
-        .subcommand(shell_command(alloc)?)?
-        .subcommand(sync_command(alloc)?)
+        .subcommand(sim)?;
+    let command = with_below(command, loop_command(alloc))?;
+    let command = with_below(command, serve_command(alloc))?;
+    let command = with_below(command, shell_command(alloc))?;
+    with_below(command, sync_command(alloc))
+}
+
+/// A command with one more below it, if that was made.
+fn with_below<'a>(
+    command: Command<'a>,
+    below: Result<Command<'a>, AllocError>,
+) -> Result<Command<'a>, AllocError>
+    ensures { IfOk result (λ r. (b : Command) × (below.entry ≡ Ok b) × AddsSubcommand command.entry b r) }
+{
+    command.subcommand(below?)
 }
 
 /// The command of a name, or the program's.

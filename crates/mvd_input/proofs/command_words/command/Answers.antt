@@ -2,7 +2,7 @@ use Rattle.std.proofs.Common.{◌∙◌, ap, refl, true}
 use Rattle.std.proofs.lemmas.Result.{IfOk-weaker}
 use Rattle.clap.specs.Simple.{app_of_fields, on_top}
 use Rattle.mvd_input.specs.Words as spec
-use Rattle.mvd_input.proofs.Commands.{adds_below}
+use Rattle.mvd_input.proofs.Commands.{adds_below, adds_made}
 use Rattle.mvd_input.proofs.command_words.command.Goals as goal
 
 pub returns : goal.returns
@@ -12,8 +12,8 @@ returns c =
     (ap app_of_fields c.subcommand_required.ensures ∙ ap (on_top (λ s. record s { subcommand_required = true }))
     (ap app_of_fields c.version.ensures ∙ ap (on_top (λ s. record s { has_version = true }))
     (ap app_of_fields c.after_help.ensures ∙ (ap app_of_fields c.about.ensures ∙ c.new.ensures.app)))) in
-    let one = adds_below _ _ _ _ _ c.in_ok-subcommand.ensures base c.named-sim.ensures refl in
-    let two = adds_below _ _ _ _ _ c.in_ok-subcommand-2.ensures one c.in_ok-loop_command.ensures refl in
-    let three = adds_below _ _ _ _ _ c.in_ok-subcommand-3.ensures two c.in_ok-serve_command.ensures refl in
-    let four = adds_below _ _ _ _ _ c.in_ok-subcommand-4.ensures three c.in_ok-shell_command.ensures refl in
-    IfOk-weaker c.subcommand-5.result _ _ (λ r h. adds_below _ _ r _ _ h four c.in_ok-sync_command.ensures refl) c.subcommand-5.ensures
+    let one = adds_below _ _ _ _ _ c.in_ok-command.ensures base c.named-sim.ensures refl in
+    let two = adds_made _ _ _ _ _ c.in_ok-command-2.ensures one c.loop_command.ensures refl in
+    let three = adds_made _ _ _ _ _ c.in_ok-command-3.ensures two c.serve_command.ensures refl in
+    let four = adds_made _ _ _ _ _ c.in_ok-command-4.ensures three c.shell_command.ensures refl in
+    IfOk-weaker c.with_below-4.result _ _ (λ r h. adds_made _ r _ _ _ h four c.sync_command.ensures refl) c.with_below-4.ensures

@@ -1,15 +1,18 @@
-//! Tests of one site: calls that a script does not make, the bytes of its answers, and its hash tree.
+//! Tests of one site: the bytes of requests, replies and states, calls that a script does not make, and each row of the
+//! interface over HTTP.
 #![tactic(auto)]
 
 #[cfg(test)]
-mod asking_site;
+mod asked_over_http;
 #[cfg(test)]
-mod list_answers;
+mod key_requests;
 #[cfg(test)]
-mod opened_sites;
+mod list_requests;
 #[cfg(test)]
-mod side_by_side;
+mod reply_frames;
 #[cfg(test)]
-mod trees;
+mod request_frames;
 #[cfg(test)]
-mod two_steps;
+mod site_calls;
+#[cfg(test)]
+mod state_frames;

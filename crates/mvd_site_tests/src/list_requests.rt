@@ -1,5 +1,5 @@
 //! Indexes, views, and the hash tree.
-use crate::asked_site::{get, put, told_well};
+use crate::asked_over_http::{get, put, told_well};
 use mvd_http::is_own;
 use std::test::Fail;
 

@@ -1,5 +1,5 @@
 //! Keys: what is read, written and removed.
-use crate::asked_site::{Row, get, put, told_well};
+use crate::asked_over_http::{Row, get, put, told_well};
 use std::test::Fail;
 
 #[test]

@@ -1,0 +1,95 @@
+//! Requests.
+use mvd_dots::Refusal;
+use mvd_wire::{decode_request, encode_request, read_frame};
+use std::alloc::Global;
+use std::test::Fail;
+
+/// Whether the payload decodes to a request whose frame is spelled so.
+fn is_decoded(alloc: Global, kind: u8, payload: &[u8], bytes: &[u8]) -> Result<bool, Refusal> {
+    let request = decode_request(alloc, kind, payload)?;
+    let frame = encode_request(alloc, &request);
+    drop(request);
+    Ok(frame?.as_slice() == bytes)
+}
+
+/// Whether these bytes are the frame of a request, which is spelled so again.
+fn comes_back(alloc: Global, bytes: &[u8]) -> Result<bool, Refusal> {
+    let mut input = bytes;
+    let Some(frame) = read_frame(alloc, &mut input)? else {
+        return Ok(false);
+    };
+    Ok(input.is_empty() && is_decoded(alloc, frame.kind, frame.payload.as_slice(), bytes)?)
+}
+
+/// A get and two writes, a push and the end, finds, questions to views, and questions to the tree.
+const FRAMES: [&[u8]; 15] = [
+    b"\0\0\0\x03\x21\x01k",
+    b"\0\0\0\x12\x22\x01k\0\0\0\0\0\0\0\x07{\"a\":1}",
+    b"\0\0\0\x07\x23\x01k\0\0\0\0",
+    b"\0\0\0\x17\x23\x01k\0\0\0\x01\0\0\0\x01\0\0\0\0\0\0\0\x01\0\0\0\0",
+    b"\0\0\0\x1F\x23\x01k\0\0\0\x01\0\0\0\x02\0\0\0\0\0\0\0\0\0\0\0\x01\0\0\0\0\0\0\0\x03",
+    b"\0\0\0\x30\x29\x01k\0\0\0\x01\0\0\0\x01\0\0\0\0\0\0\0\x01\0\0\0\0\0\x01\0\0\0\x01\0\0\0\0\0\0\0\x01\0\0\0\x07{\"a\":2}",
+    b"\0\0\0\x01\x2F",
+    b"\0\0\0\x0F\x24\0\x04city\x04\0\x04Oslo\0",
+    b"\0\0\0\x14\x24\0\x01n\x02\x01\x01k\0\0\0\x01\0\0\0\0\0\0\0\x02",
+    b"\0\0\0\x0F\x2A\0\x01n\x00\x03\0\0\0\0\0\0\0\x0A\x00",
+    b"\0\0\0\x0F\x25\0\x05spend\x04\0\x04Oslo",
+    b"\0\0\0\x12\x26\0\x05spend\x01\x03\xFF\xFF\xFF\xFF\xFF\xFF\xFF\xFF",
+    b"\0\0\0\x02\x27\0",
+    b"\0\0\0\x05\x27\x03\0\x0F\x08",
+    b"\0\0\0\x06\x28\x01\x02\x01\x01k",
+];
+
+#[test]
+fn requests_come_back(rt: HostRuntime) -> Result<(), Fail> {
+    for frame in FRAMES {
+        assert!(rt; comes_back(rt.alloc(), frame)?);
+    }
+    Ok(())
+}
+
+/// A kind and a payload, and the number with which they are refused.
+const REFUSED: [(u8, &[u8], u8); 15] = [
+    (
+        0x22,
+        b"\x01k\0\0\0\x01\0\0\0\x01\0\0\0\0\0\0\0\x01\0\0\0\x01\0\0\0\0\0\0\0\x02\0\0\0\x07{\"a\":1}",
+        2,
+    ),
+    (
+        0x22,
+        b"\x01k\0\0\0\x01\0\0\0\x01\0\0\0\0\0\0\0\0\xFF\xFF\xFF\xFF",
+        33,
+    ),
+    (
+        0x22,
+        b"\x01k\0\0\0\x01\0\0\0\x01\0\0\0\0\0\0\0\0\0\0\0\0",
+        2,
+    ),
+    (0x29, b"\x01k\0\0\0\0\xFF\xFF", 33),
+    (0x21, b"\0", 1),
+    (0x21, b"\x02k", 33),
+    (0x01, b"\x01k", 32),
+    (0x70, b"", 32),
+    (0x2F, b"\0", 33),
+    (0x27, b"\x04", 14),
+    (0x27, b"\x01\x10", 14),
+    (0x24, b"\x00\x02a.\x00\x00", 33),
+    (0x25, b"\x00\x01v\x05", 15),
+    (0x25, b"\x00\x01v\x04\x02\x01", 15),
+    (0x25, b"\x00\x01v\x04\x00\x01\xFF", 15),
+];
+
+/// The number with which a request is refused, or 0.
+fn fault(alloc: Global, kind: u8, payload: &[u8]) -> u8 {
+    match decode_request(alloc, kind, payload) {
+        Ok(_) => 0,
+        Err(refusal) => refusal.number(),
+    }
+}
+
+#[test]
+fn other_requests_are_refused(rt: HostRuntime) {
+    for (kind, payload, number) in REFUSED {
+        assert!(rt; fault(rt.alloc(), kind, payload) == number);
+    }
+}

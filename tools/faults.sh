@@ -80,7 +80,7 @@ sweep_all() { # STEP: that of all tests but the cheapest
     done
     sweep mvd_faults_tests round_memory::a_round_tells_what_is_there "$1"
     sweep mvd_faults_tests world_steps::a_world_is_asked_again
-    sweep mvd_tests script_memory::a_script_tells_what_it_did "$1"
+    sweep mvd_app_tests script_memory::a_script_tells_what_it_did "$1"
     sweep mvd_sync_tests refused_growth::a_refused_allocation_leaves_old_states_or_joins "$1"
 }
 

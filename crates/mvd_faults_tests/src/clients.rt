@@ -68,17 +68,17 @@ fn new_client(alloc: Global, random: &mut Random) -> Client {
     }
 }
 
-fn new_clients(
+fn add_clients(
+    clients: &mut Vec<Client>,
     alloc: Global,
     random: &mut Random,
     host: &mut Host,
-) -> Result<Vec<Client>, Refusal> {
-    let mut clients = Vec::new(alloc);
+) -> Result<(), Refusal> {
     for _ in 0..CLIENTS {
         admit(host)?;
         clients.push(new_client(alloc, random))?;
     }
-    Ok(clients)
+    Ok(())
 }
 
 /// At most so many of the next bytes of a client come.
@@ -187,20 +187,41 @@ fn are_told(alloc: Global, sides: &mut Sides, clients: &[Client]) -> Option<usiz
     }
 }
 
+fn new_sides(alloc: Global) -> Result<Sides, Refusal> {
+    let replica = new_replica(alloc, 1)?;
+    match new_replica(alloc, 1) {
+        Ok(single) => Ok(Sides {
+            host: Host::new(alloc),
+            replica,
+            single,
+        }),
+        Err(refusal) => {
+            drop(replica);
+            Err(refusal)
+        }
+    }
+}
+
+/// How many bytes new clients of these sides are told.
+fn told(alloc: Global, random: &mut Random, sides: &mut Sides) -> Result<Option<usize>, Refusal> {
+    let mut clients = Vec::new(alloc);
+    add_clients(&mut clients, alloc, random, &mut sides.host)?;
+    for _ in 0..150u32 {
+        step(alloc, random, sides, clients.as_mut_slice());
+    }
+    finish(alloc, sides, clients.as_mut_slice());
+    let told = are_told(alloc, sides, clients.as_slice());
+    drop(clients);
+    Ok(told)
+}
+
 /// How many bytes the clients are told in the order of a seed; `None` where they are others than one sequence gives.
 fn told_in_order(alloc: Global, seed: u64) -> Result<Option<usize>, Refusal> {
     let mut random = Random::new(seed.wrapping_mul(0x9E37_79B9_7F4A_7C15));
-    let mut sides = Sides {
-        host: Host::new(alloc),
-        replica: new_replica(alloc, 1)?,
-        single: new_replica(alloc, 1)?,
-    };
-    let mut clients = new_clients(alloc, &mut random, &mut sides.host)?;
-    for _ in 0..150u32 {
-        step(alloc, &mut random, &mut sides, clients.as_mut_slice());
-    }
-    finish(alloc, &mut sides, clients.as_mut_slice());
-    Ok(are_told(alloc, &mut sides, clients.as_slice()))
+    let mut sides = new_sides(alloc)?;
+    let told = told(alloc, &mut random, &mut sides);
+    drop(sides);
+    told
 }
 
 #[test]

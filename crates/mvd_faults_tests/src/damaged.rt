@@ -1,9 +1,11 @@
 //! Records that are damaged, and files that are.
-use super::replica_calls::{Root, conn_of, or_refusal, push, replies, root_of, run};
-use super::stops::{connected, in_files, no_files};
+use super::replica_calls::{Root, conn_of, memory_after, or_refusal, push, replies, root_of};
+use super::stops::{OLD_ROWS, connected_after, in_files, no_files};
 use mvd_dots::Refusal;
+use mvd_keys::Key;
+use mvd_records::Records;
 use mvd_replica::Replica;
-use sqlite::{Alter, Connection, FileStore, Files};
+use sqlite::{Alter, Connection, FileStore, Files, MemStore};
 use sqlite_disk::{Disk, Memory};
 use std::alloc::Global;
 use std::test::Fail;
@@ -33,6 +35,10 @@ const DAMAGED: &[(&str, &str)] = &[
     ("", "INSERT INTO meta VALUES ('format', 2)"),
     ("", "INSERT INTO meta VALUES ('format', 2), ('place', 1)"),
     ("", "INSERT INTO meta VALUES ('format', 2), ('site', 0)"),
+    (
+        "",
+        "INSERT INTO meta VALUES ('format', 2), ('site', 4294967296)",
+    ),
     (
         "",
         "INSERT INTO meta VALUES ('format', 2), ('site', 4294967297)",
@@ -93,15 +99,9 @@ fn closed(alloc: Global, conn: Connection<FileStore<Memory>>) -> Vec<u8> {
     bytes
 }
 
-/// A database file with all three tables and these rows.
-fn database(alloc: Global, rows: &(&str, &str)) -> Result<Vec<u8>, Refusal> {
-    let Ok(mut conn) = connected(alloc, no_files(alloc)) else {
-        return Err(Refusal::Store);
-    };
-    for sql in [OLD, NEW, rows.0, rows.1] {
-        run(&mut conn, sql)?;
-    }
-    Ok(closed(alloc, conn))
+/// A database file after these statements.
+fn database(alloc: Global, statements: &[&str]) -> Result<Vec<u8>, Refusal> {
+    Ok(closed(alloc, connected_after(alloc, statements)?))
 }
 
 /// Files of which the database has these bytes.
@@ -136,7 +136,7 @@ fn is_damaged(alloc: Global, bytes: &[u8]) -> Result<bool, Refusal> {
 }
 
 fn is_case_damaged(alloc: Global, rows: &(&str, &str)) -> Result<bool, Refusal> {
-    let bytes = database(alloc, rows)?;
+    let bytes = database(alloc, &[OLD, NEW, rows.0, rows.1])?;
     let found = is_damaged(alloc, bytes.as_slice());
     drop(bytes);
     found
@@ -150,6 +150,32 @@ fn damaged_records_are_refused_and_stay(rt: HostRuntime) -> Result<(), Fail> {
     Ok(())
 }
 
+/// The records of site 1 in memory, with three keys of version 1. Nothing is claimed of them.
+fn old_records(alloc: Global) -> Result<Records<MemStore>, Refusal> {
+    let conn = memory_after(alloc, &[OLD, ONE, OLD_ROWS])?;
+    or_refusal(Records::open(alloc, conn, 1))
+}
+
+/// Whether a key that is no old one is refused to be moved, and so is an end of the moves while old keys are left.
+fn keeps_old_keys(alloc: Global, records: &mut Records<MemStore>) -> Result<bool, Refusal> {
+    let other = Key::read(alloc, "c")?;
+    let damaged = Err(Refusal::Damaged);
+    Ok(records.move_key(&other, &[1]) == damaged && records.finish() == damaged)
+}
+
+fn old_keys_are_kept(alloc: Global) -> Result<bool, Refusal> {
+    let mut records = old_records(alloc)?;
+    let are_kept = keeps_old_keys(alloc, &mut records);
+    drop(records);
+    are_kept
+}
+
+#[test]
+fn a_move_out_of_turn_is_refused(rt: HostRuntime) -> Result<(), Fail> {
+    assert!(rt; old_keys_are_kept(rt.alloc())?);
+    Ok(())
+}
+
 /// Databases of other programs, some with a table of one of our names.
 const FOREIGN: [&str; 4] = [
     "CREATE TABLE note (id INTEGER PRIMARY KEY, title TEXT NOT NULL); INSERT INTO note (title) VALUES ('a');",
@@ -157,15 +183,6 @@ const FOREIGN: [&str; 4] = [
     "CREATE TABLE meta (key TEXT, value TEXT); CREATE TABLE urls (url TEXT); INSERT INTO meta VALUES ('version', '9');",
     "CREATE TABLE states (id INTEGER PRIMARY KEY, state TEXT); CREATE TABLE events (id INTEGER PRIMARY KEY);",
 ];
-
-/// A file of these tables.
-fn file_of(alloc: Global, tables: &str) -> Result<Vec<u8>, Refusal> {
-    let Ok(mut conn) = connected(alloc, no_files(alloc)) else {
-        return Err(Refusal::Store);
-    };
-    run(&mut conn, tables)?;
-    Ok(closed(alloc, conn))
-}
 
 /// The same file, whose journal is of this mode: 1 is a rollback journal, and 2 a log.
 fn with_mode(alloc: Global, bytes: &[u8], mode: u8) -> Vec<u8> {
@@ -187,7 +204,7 @@ fn is_foreign_refused(alloc: Global, bytes: &[u8], mode: u8) -> Result<bool, Ref
 #[test]
 fn another_programs_database_is_refused_and_stays(rt: HostRuntime) -> Result<(), Fail> {
     for tables in FOREIGN {
-        let bytes = file_of(rt.alloc(), tables)?;
+        let bytes = database(rt.alloc(), &[tables])?;
         for mode in [1, 2] {
             assert!(rt;
                 is_foreign_refused(rt.alloc(), bytes.as_slice(), mode)?,
@@ -212,10 +229,11 @@ fn long_put(alloc: Global, key: u8, letters: u32) -> Vec<u8> {
     frame
 }
 
-/// Puts documents of many lengths at ten keys.
-fn put_ten<S: Alter + Drop>(alloc: Global, replica: &mut Replica<S>) {
-    for number in 0..10u8 {
-        let put = long_put(alloc, b'a' + number, u32::from(number) * 1_000);
+/// Puts documents at so many keys, each of so many letters more than the one before.
+pub fn put_keys<S: Alter + Drop>(alloc: Global, replica: &mut Replica<S>, keys: u8, letters: u32) {
+    for number in 0..keys {
+        let letters = letters.saturating_mul(u32::from(number));
+        let put = long_put(alloc, b'0'.saturating_add(number), letters);
         let _replies = replies(alloc, replica, put.as_slice());
     }
 }
@@ -223,7 +241,7 @@ fn put_ten<S: Alter + Drop>(alloc: Global, replica: &mut Replica<S>) {
 /// The bytes of a file of records with ten keys, and its root.
 fn ten_keys(alloc: Global) -> Result<(Vec<u8>, Root), Refusal> {
     let mut replica = or_refusal(in_files(alloc, no_files(alloc)))?;
-    put_ten(alloc, &mut replica);
+    put_keys(alloc, &mut replica, 10, 1_000);
     let root = root_of(alloc, &mut replica);
     Ok((closed(alloc, conn_of(replica)), root))
 }

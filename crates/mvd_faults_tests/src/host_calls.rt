@@ -57,23 +57,34 @@ pub fn round<S: Alter>(host: &mut Host, replica: &mut Replica<S>, ready: &[u64])
     host.round(replica, ready, &mut Tally::new());
 }
 
-/// Puts of three clients, one of each in a round, and how many were answered by a dot.
-pub fn put_in_rounds<S: Alter + Drop>(
+/// Puts of three new clients, one of each in a round, and how many were answered by a dot.
+fn put_by_three<S: Alter>(
+    host: &mut Host,
+    replica: &mut Replica<S>,
+    puts: &[&str],
+) -> Result<usize, Refusal> {
+    let clients = [admit(host)?, admit(host)?, admit(host)?];
+    for each in puts.chunks(3) {
+        for (client, put) in clients.iter().zip(each) {
+            feed(host, *client, Bytes::of(&[put]).bytes());
+        }
+        round(host, replica, &clients);
+    }
+    let mut count = 0usize;
+    for client in clients {
+        count = count.saturating_add(written(take(host, client, 34).bytes()));
+    }
+    Ok(count)
+}
+
+/// The same with a host of their own.
+pub fn put_in_rounds<S: Alter>(
     alloc: Global,
     replica: &mut Replica<S>,
     puts: &[&str],
 ) -> Result<usize, Refusal> {
     let mut host = Host::new(alloc);
-    let clients = [admit(&mut host)?, admit(&mut host)?, admit(&mut host)?];
-    for each in puts.chunks(3) {
-        for (client, put) in clients.iter().zip(each) {
-            feed(&mut host, *client, Bytes::of(&[put]).bytes());
-        }
-        round(&mut host, replica, &clients);
-    }
-    let mut count = 0usize;
-    for client in clients {
-        count = count.saturating_add(written(take(&mut host, client, 34).bytes()));
-    }
-    Ok(count)
+    let count = put_by_three(&mut host, replica, puts);
+    drop(host);
+    count
 }

@@ -28,5 +28,3 @@ mod session_windows;
 mod stops;
 #[cfg(test)]
 mod streams;
-#[cfg(test)]
-mod world_steps;

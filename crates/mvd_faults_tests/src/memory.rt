@@ -2,91 +2,15 @@
 use super::asked_sites::{ASKED, Asked};
 use super::damaged::{OLD, ONE};
 use super::replica_calls::{
-    Bytes, EMPTY, GET, PUT, STATE, Told, WRITTEN, asks, asks_again, config, conn_of, memory,
-    new_replica, opened, or_refusal, run, serves, tells,
+    Bytes, EMPTY, GET, PUT, STATE, Told, WRITTEN, asks, asks_again, conn_of, memory_after,
+    new_replica, opened, or_refusal, serves, tells,
 };
 use super::stops::OLD_ROWS;
 use mvd_dots::Refusal;
 use mvd_replica::Replica;
-use mvd_site::Site;
-use mvd_wire::{Reply, Request, decode_request, encode_reply, short_reply};
 use sqlite::{Connection, MemStore};
 use std::alloc::Global;
 use std::test::Fail;
-
-/// What a reply tells.
-pub fn told_by(alloc: Global, reply: &Reply, wanted: &str) -> Result<Told, Refusal> {
-    match short_reply(reply) {
-        Some(short) => Ok(tells(short.bytes(), wanted)),
-        None => Ok(tells(encode_reply(alloc, reply)?.as_slice(), wanted)),
-    }
-}
-
-/// The request that a frame is.
-pub fn request_of(alloc: Global, digits: &str) -> Result<Request, Refusal> {
-    let frame = Bytes::of(&[digits]);
-    decode_request(alloc, frame.room[4], frame.bytes().get(5..).unwrap_or(&[]))
-}
-
-/// What a site answers to a request.
-fn ask_site(alloc: Global, site: &mut Site, request: &str, wanted: &str) -> Result<Told, Refusal> {
-    let request = request_of(alloc, request)?;
-    let reply = site.answer(&request);
-    let told = told_by(alloc, &reply, wanted);
-    drop(reply);
-    drop(request);
-    told
-}
-
-/// What it answers, and once more where memory was refused.
-fn ask_site_again(
-    alloc: Global,
-    site: &mut Site,
-    request: &str,
-    wanted: &str,
-) -> Result<Told, Refusal> {
-    match ask_site(alloc, site, request, wanted) {
-        Ok(Told::Refused) | Err(_) => ask_site(alloc, site, request, wanted),
-        told => told,
-    }
-}
-
-fn new_site(alloc: Global, number: u32) -> Result<Site, Refusal> {
-    Site::new(alloc, config(alloc, number, 100)?)
-}
-
-/// Whether a site answers as it should, or from some request on that it is broken.
-fn answers_all(alloc: Global, site: &mut Site, asked: &[(&str, &str)]) -> Result<bool, Refusal> {
-    let mut should = Told::Wanted;
-    for (request, wanted) in asked {
-        let told = ask_site_again(alloc, site, request, wanted)?;
-        if told == Told::Broken {
-            should = Told::Broken;
-        }
-        if told != should {
-            return Ok(false);
-        }
-    }
-    Ok(true)
-}
-
-fn site_answers(alloc: Global, asked: &Asked) -> Result<bool, Refusal> {
-    let mut site = match new_site(alloc, asked.0) {
-        Ok(site) => site,
-        Err(_) => new_site(alloc, asked.0)?,
-    };
-    let answered = answers_all(alloc, &mut site, asked.1);
-    drop(site);
-    answered
-}
-
-#[test]
-fn a_site_is_asked_again(rt: HostRuntime) -> Result<(), Fail> {
-    for (at, asked) in ASKED.iter().enumerate() {
-        assert!(rt; site_answers(rt.alloc(), asked)?, "at {at}");
-    }
-    Ok(())
-}
 
 /// The replica in memory of a site with no key, which is made once more where memory was refused.
 pub fn made(alloc: Global, number: u32) -> Result<Replica<MemStore>, Refusal> {
@@ -259,22 +183,17 @@ fn a_connection_tells_what_is_there(rt: HostRuntime) -> Result<(), Fail> {
     Ok(())
 }
 
-/// A database in memory, after these statements.
-fn database(alloc: Global, statements: &[&str]) -> Result<Connection<MemStore>, Refusal> {
-    let mut conn = memory(alloc)?;
-    for sql in statements {
-        run(&mut conn, sql)?;
+/// A database in memory, which is made once more where memory was refused.
+fn memory_again(alloc: Global, statements: &[&str]) -> Result<Connection<MemStore>, Refusal> {
+    match memory_after(alloc, statements) {
+        Err(_) => memory_after(alloc, statements),
+        made => made,
     }
-    Ok(conn)
 }
 
 /// Whether a replica is opened on these records, and answers these questions.
 fn opens(alloc: Global, statements: &[&str], asked: &[(&str, &str)]) -> Result<bool, Refusal> {
-    let conn = match database(alloc, statements) {
-        Err(_) => database(alloc, statements)?,
-        Ok(conn) => conn,
-    };
-    let mut replica = open_again(alloc, conn, 1)?;
+    let mut replica = open_again(alloc, memory_again(alloc, statements)?, 1)?;
     let count = answered(alloc, &mut replica, asked);
     drop(replica);
     Ok(count == asked.len())

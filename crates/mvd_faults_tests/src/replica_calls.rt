@@ -97,17 +97,36 @@ impl Bytes {
 }
 
 // These have no clause, so that the proof of a test does not carry the state of each call.
-pub fn run<S: Alter>(conn: &mut Connection<S>, sql: &str) -> Result<(), Refusal> {
+fn run<S: Alter>(conn: &mut Connection<S>, sql: &str) -> Result<(), Refusal> {
     match conn.execute_batch(sql) {
         Ok(()) => Ok(()),
         Err(_) => Err(Refusal::Store),
     }
 }
 
-pub fn memory(alloc: Global) -> Result<Connection<MemStore>, Refusal> {
+pub fn run_all<S: Alter>(conn: &mut Connection<S>, statements: &[&str]) -> Result<(), Refusal> {
+    for sql in statements {
+        run(conn, sql)?;
+    }
+    Ok(())
+}
+
+fn memory(alloc: Global) -> Result<Connection<MemStore>, Refusal> {
     match Connection::open_in_memory(alloc) {
         Ok(conn) => Ok(conn),
         Err(_) => Err(Refusal::Store),
+    }
+}
+
+/// A database in memory, after these statements.
+pub fn memory_after(alloc: Global, statements: &[&str]) -> Result<Connection<MemStore>, Refusal> {
+    let mut conn = memory(alloc)?;
+    match run_all(&mut conn, statements) {
+        Ok(()) => Ok(conn),
+        Err(refusal) => {
+            drop(conn);
+            Err(refusal)
+        }
     }
 }
 

@@ -1,14 +1,12 @@
 //! Files that stop before some call, and are opened again.
 use super::damaged::{OLD, ONE};
 use super::host_calls::put_in_rounds;
-use super::memory::request_of;
 use super::replica_calls::{
-    Bytes, Root, conn_of, new_replica, opened, or_refusal, root_of, run, serves,
+    Bytes, Root, conn_of, new_replica, opened, or_refusal, root_of, run_all, serves,
 };
 use mvd_dots::Refusal;
 use mvd_replica::Replica;
 use mvd_sync::sync_within;
-use mvd_wire::Reply;
 use sqlite::{Alter, Connection, FileStore, Files, MemStore, Options};
 use sqlite_disk::{Crash, Disk, Fuse, Memory};
 use std::alloc::Global;
@@ -25,7 +23,7 @@ pub fn no_files(alloc: Global) -> Files<Memory> {
 }
 
 // Each call of the kit stands in a helper with no clause, so that no proof carries the clauses of two.
-pub fn connected<D: Disk + Drop>(
+fn connected<D: Disk + Drop>(
     alloc: Global,
     files: Files<D>,
 ) -> Result<Connection<FileStore<D>>, Files<D>> {
@@ -38,7 +36,24 @@ pub fn connected<D: Disk + Drop>(
     }
 }
 
-pub fn files_of<D: Disk + Drop>(conn: Connection<FileStore<D>>) -> Files<D> {
+/// A database in two new files, after these statements.
+pub fn connected_after(
+    alloc: Global,
+    statements: &[&str],
+) -> Result<Connection<FileStore<Memory>>, Refusal> {
+    let Ok(mut conn) = connected(alloc, no_files(alloc)) else {
+        return Err(Refusal::Store);
+    };
+    match run_all(&mut conn, statements) {
+        Ok(()) => Ok(conn),
+        Err(refusal) => {
+            drop(conn);
+            Err(refusal)
+        }
+    }
+}
+
+fn files_of<D: Disk + Drop>(conn: Connection<FileStore<D>>) -> Files<D> {
     conn.into_store().close()
 }
 
@@ -82,9 +97,7 @@ fn revived(mut files: Files<Stopping>) -> Files<Stopping> {
 enum Run {
     /// Six puts are served.
     Puts,
-    /// They are answered at once, in three commits of two.
-    Batch,
-    /// Three clients of a host send two each, one in each of two rounds.
+    /// Three clients of a host send two each, one in each of two rounds, which are answered at once.
     Rounds,
     /// Three keys of version 1 are moved, which is done when the files are opened.
     Move,
@@ -131,27 +144,8 @@ fn put_all<S: Alter + Drop>(alloc: Global, replica: &mut Replica<S>, puts: &[&st
     written(output.bytes())
 }
 
-/// Answers puts at once, and tells how many were answered by a dot.
-fn put_at_once<S: Alter + Drop>(
-    alloc: Global,
-    replica: &mut Replica<S>,
-    puts: &[&str],
-) -> Result<usize, Refusal> {
-    let mut requests = Vec::new(alloc);
-    for put in puts {
-        requests.push(request_of(alloc, put)?)?;
-    }
-    let mut written = 0usize;
-    for reply in &replica.answer_all(requests.as_slice())? {
-        if let Reply::Written(_) = reply {
-            written = written.saturating_add(1);
-        }
-    }
-    Ok(written)
-}
-
 /// Whether a session with so many questions to each side at most ends well.
-fn meets<S: Alter + Drop, T: Alter + Drop>(
+pub fn meets<S: Alter + Drop, T: Alter + Drop>(
     alloc: Global,
     local: &mut Replica<S>,
     peer: &mut Replica<T>,
@@ -170,7 +164,6 @@ fn does<S: Alter + Drop>(
 ) -> usize {
     match run {
         Run::Puts => put_all(alloc, replica, &PUTS[..most.min(6)]),
-        Run::Batch => put_at_once(alloc, replica, &PUTS[..most.min(6)]).unwrap_or(0),
         Run::Rounds => put_in_rounds(alloc, replica, &PUTS[..most.min(6)]).unwrap_or(0),
         Run::Move => 1,
         Run::Local => usize::from(meets(alloc, replica, other, most)),
@@ -182,7 +175,6 @@ fn does<S: Alter + Drop>(
 fn commits(run: Run) -> &'static [usize] {
     match run {
         Run::Puts => &[0, 1, 2, 3, 4, 5, 6],
-        Run::Batch => &[0, 2, 4, 6],
         Run::Rounds => &[0, 2, 3, 6],
         _ => &[],
     }
@@ -205,13 +197,7 @@ pub const OLD_ROWS: &str = "INSERT INTO states VALUES
 
 /// Records of version 1 with three keys.
 fn three_old(alloc: Global) -> Result<Files<Memory>, Refusal> {
-    let Ok(mut conn) = connected(alloc, no_files(alloc)) else {
-        return Err(Refusal::Store);
-    };
-    for sql in [OLD, ONE, OLD_ROWS] {
-        run(&mut conn, sql)?;
-    }
-    Ok(files_of(conn))
+    Ok(files_of(connected_after(alloc, &[OLD, ONE, OLD_ROWS])?))
 }
 
 /// Records with the two puts of the side whose files stop.
@@ -224,7 +210,7 @@ fn with_mine(alloc: Global) -> Result<Files<Memory>, Refusal> {
 /// The files before a run.
 fn files_before(alloc: Global, run: Run) -> Result<Files<Memory>, Refusal> {
     match run {
-        Run::Puts | Run::Batch | Run::Rounds => Ok(no_files(alloc)),
+        Run::Puts | Run::Rounds => Ok(no_files(alloc)),
         Run::Move => three_old(alloc),
         Run::Local | Run::Peer => with_mine(alloc),
     }
@@ -338,7 +324,7 @@ fn may_keep(run: Run, roots: &[Root], left: &Left) -> bool {
 fn may_leave(run: Run, roots: &[Root], left: &Left) -> bool {
     let is_known = may_keep(run, roots, left);
     match run {
-        Run::Puts | Run::Batch | Run::Rounds => is_known,
+        Run::Puts | Run::Rounds => is_known,
         Run::Move => is_known && roots.last() == Some(&left.end),
         Run::Local | Run::Peer => {
             is_known && roots.last() == Some(&left.end) && roots.last() == Some(&left.other)
@@ -361,9 +347,8 @@ fn until_done(alloc: Global, run: Run, of_log: bool) -> Result<u64, Fail> {
     Err("no run ended")?
 }
 
-const RUNS: [(&str, Run); 6] = [
+const RUNS: [(&str, Run); 5] = [
     ("six puts", Run::Puts),
-    ("six puts at once", Run::Batch),
     ("six puts of three clients", Run::Rounds),
     ("three old keys", Run::Move),
     ("a session's local side", Run::Local),

@@ -13,8 +13,7 @@ mod peers;
 mod refused_growth;
 #[cfg(test)]
 mod remotes;
-pub mod served;
+#[cfg(test)]
+mod served;
 #[cfg(test)]
 mod two_sites;
-
-pub use served::Served;

@@ -20,12 +20,14 @@ pub struct Asked {
     pub pushes: u64,
 }
 
-/// A site, and how often it was asked. Nothing is claimed of it.
+/// A site, how often it was asked, and the key whose state it gives for that of any key, if it is mistaken. Nothing is
+/// claimed of it.
 #[derive(Drop)]
 pub struct Counting {
     pub alloc: Global,
     pub site: Site,
     pub asked: Asked,
+    pub given: Option<Key>,
 }
 
 impl Counting {
@@ -45,6 +47,7 @@ impl Counting {
                 gets: 0,
                 pushes: 0,
             },
+            given: None,
         })
     }
 
@@ -145,7 +148,10 @@ impl Peer for Counting {
 
     fn get(&mut self, key: &Key) -> Result<KeyState, Refusal> {
         self.asked.gets = self.asked.gets.saturating_add(1);
-        self.site.get(key)
+        match &self.given {
+            Some(given) => self.site.get(given),
+            None => self.site.get(key),
+        }
     }
 
     fn push(&mut self, key: &Key, state: &KeyState) -> Result<(), Refusal> {

@@ -7,33 +7,15 @@ use mvd_site::{Config, Site};
 use mvd_wire::{Reply, Request};
 use std::alloc::Global;
 
-/// A request, and what it is told: the status and the body, parted by a space.
-#[derive(Drop)]
-pub struct Row<'a> {
-    pub asks: (&'a str, &'a str),
-    pub context: Option<&'a str>,
-    pub body: &'a [u8],
-    pub told: &'a str,
-}
-
-pub fn get<'a>(target: &'a str, told: &'a str) -> Row<'a> {
-    Row {
-        asks: ("GET", target),
-        context: None,
-        body: b"",
-        told,
-    }
-}
-
-/// A put with no context.
-pub fn put<'a>(target: &'a str, body: &'a [u8], told: &'a str) -> Row<'a> {
-    Row {
-        asks: ("PUT", target),
-        context: None,
-        body,
-        told,
-    }
-}
+/// A request: its method, its target, its context and its body; and what it is told: the status and the body, parted by
+/// a space.
+pub type Row = (
+    &'static str,
+    &'static str,
+    Option<&'static str>,
+    &'static [u8],
+    &'static str,
+);
 
 /// An index on `city`, and a view by it.
 fn by_city(alloc: Global) -> Result<Defs, Refusal> {
@@ -80,37 +62,37 @@ fn told(
 }
 
 /// What is asked. Nothing is claimed of it, as of the answer.
-fn question(alloc: Global, row: &Row<'_>) -> Result<Question, Refusal> {
-    let context = match row.context {
+fn question(alloc: Global, row: &Row) -> Result<Question, Refusal> {
+    let context = match row.2 {
         Some(text) => Some(text.as_bytes()),
         None => None,
     };
-    let (method, target) = row.asks;
-    question_of(
-        alloc,
-        method.as_bytes(),
-        target.as_bytes(),
-        context,
-        row.body,
-    )
+    question_of(alloc, row.0.as_bytes(), row.1.as_bytes(), context, row.3)
 }
 
 /// Whether a request is told just that.
-fn is_told(alloc: Global, site: &mut Site, row: &Row<'_>) -> Result<bool, Refusal> {
+fn is_told(alloc: Global, site: &mut Site, row: &Row) -> Result<bool, Refusal> {
     let mut out = String::new(alloc);
     let asked = question(alloc, row);
     let status = told(alloc, site, asked, &mut out)?;
     let text = format!(in alloc; "{status} {out}")?;
-    Ok(text.as_str() == row.told)
+    Ok(text.as_str() == row.4)
 }
 
-/// How many requests, from the first on, a new site tells what they are to be told.
-pub fn told_well(alloc: Global, rows: &[Row<'_>]) -> Result<usize, Refusal> {
-    let mut site = site(alloc)?;
-    for place in 0..rows.len() {
-        if !is_told(alloc, &mut site, &rows[place])? {
+/// How many requests, from the first on, a site tells what they are to be told.
+fn told_by(alloc: Global, site: &mut Site, rows: &[Row]) -> Result<usize, Refusal> {
+    for (place, row) in rows.iter().enumerate() {
+        if !is_told(alloc, site, row)? {
             return Ok(place);
         }
     }
     Ok(rows.len())
+}
+
+/// The same of a new site.
+pub fn told_well(alloc: Global, rows: &[Row]) -> Result<usize, Refusal> {
+    let mut site = site(alloc)?;
+    let told = told_by(alloc, &mut site, rows);
+    drop(site);
+    told
 }

@@ -45,9 +45,9 @@ fn replies_come_back(rt: HostRuntime) -> Result<(), Fail> {
 
 /// The number with which a reply is refused, or 0.
 fn fault(alloc: Global, kind: u8, payload: &[u8]) -> u8 {
-    match decode_reply(alloc, kind, payload) {
-        Ok(_) => 0,
-        Err(refusal) => refusal.number(),
+    match decode_reply(alloc, kind, payload).err() {
+        Some(refusal) => refusal.number(),
+        None => 0,
     }
 }
 

@@ -81,9 +81,9 @@ const REFUSED: [(u8, &[u8], u8); 15] = [
 
 /// The number with which a request is refused, or 0.
 fn fault(alloc: Global, kind: u8, payload: &[u8]) -> u8 {
-    match decode_request(alloc, kind, payload) {
-        Ok(_) => 0,
-        Err(refusal) => refusal.number(),
+    match decode_request(alloc, kind, payload).err() {
+        Some(refusal) => refusal.number(),
+        None => 0,
     }
 }
 

@@ -1,74 +1,63 @@
 //! Calls of a site that no script makes, and the paths of keys.
-use mvd_docs::Document;
-use mvd_dots::{Context, Dot, Refusal};
+use mvd_dots::Refusal;
 use mvd_kept::{Kept, Work, counted};
-use mvd_keys::{Key, KeyState};
+use mvd_keys::Key;
 use mvd_rows::Defs;
 use mvd_site::{Config, Site, no_work};
 use mvd_start::Start;
 use mvd_tree::key_path;
-use mvd_wire::{Reply, Request};
+use mvd_wire::{Reply, Request, decode_request, encode_reply};
 use std::alloc::Global;
 use std::test::Fail;
 
-/// A put by a client that has seen nothing.
-fn put(alloc: Global, key: &str, document: &str) -> Result<Request, Refusal> {
-    Ok(Request::Put(
-        Key::read(alloc, key)?,
-        Context::new(alloc),
-        Document::read(alloc, document)?,
-    ))
-}
+/// A request's kind and payload, and the frame of its reply.
+type Asked = (u8, &'static [u8], &'static [u8]);
 
-/// The dot of the write that the reply tells.
-fn dot_of(reply: &Reply) -> Option<Dot> {
-    match reply {
-        Reply::Written(dot) => Some(*dot),
-        _ => None,
-    }
-}
+/// Two puts at `a` by a client that has seen nothing, what is there then, and a goodbye.
+const TALK: [Asked; 4] = [
+    (
+        0x22,
+        b"\x01a\0\0\0\0\0\0\0\x07{\"n\":1}",
+        b"\0\0\0\x0D\xA2\0\0\0\x03\0\0\0\0\0\0\0\x01",
+    ),
+    (
+        0x22,
+        b"\x01a\0\0\0\0\0\0\0\x07{\"n\":2}",
+        b"\0\0\0\x0D\xA2\0\0\0\x03\0\0\0\0\0\0\0\x02",
+    ),
+    (
+        0x21,
+        b"\x01a",
+        b"\0\0\0\x45\xA1\0\0\0\x01\0\0\0\x03\0\0\0\0\0\0\0\x02\0\0\0\0\0\x02\0\0\0\x03\0\0\0\0\0\0\0\x01\0\0\0\x07{\"n\":1}\0\0\0\x03\0\0\0\0\0\0\0\x02\0\0\0\x07{\"n\":2}",
+    ),
+    (0x2F, b"", b"\0\0\0\x01\xA3"),
+];
 
-/// Whether the state has this context and so many siblings.
-fn has(state: &KeyState, context: &str, siblings: usize) -> Result<bool, Refusal> {
-    let text = state.context().print()?;
-    Ok(text.as_str() == context && state.siblings().len() == siblings)
-}
-
-/// No work yet.
-fn nothing() -> Work {
-    no_work(&Start::new())
-}
-
-/// Adds two puts at `a`, what is there, and a goodbye.
 fn add_talk(alloc: Global, requests: &mut Vec<Request>) -> Result<(), Refusal> {
-    requests.push(put(alloc, "a", "{\"n\":1}")?)?;
-    requests.push(put(alloc, "a", "{\"n\":2}")?)?;
-    requests.push(Request::Get(Key::read(alloc, "a")?))?;
-    requests.push(Request::Bye)?;
+    for (kind, payload, _) in TALK {
+        requests.push(decode_request(alloc, kind, payload)?)?;
+    }
     Ok(())
 }
 
-/// Whether the reply shows both siblings.
-fn shows_both(reply: &Reply) -> Result<bool, Refusal> {
-    match reply {
-        Reply::State(state) => has(state, "3:2", 2),
-        _ => Ok(false),
-    }
+fn is_spelled(alloc: Global, reply: &Reply, bytes: &[u8]) -> Result<bool, Refusal> {
+    let frame = encode_reply(alloc, reply)?;
+    Ok(frame.as_slice() == bytes)
 }
 
 /// Whether these are the replies to that.
-fn are_told(replies: &[Reply]) -> Result<bool, Refusal> {
-    match replies {
-        [_, second, third, Reply::Done] => {
-            Ok(dot_of(second) == Dot::new(3, 2) && shows_both(third)?)
+fn are_told(alloc: Global, replies: &[Reply]) -> Result<bool, Refusal> {
+    for (reply, (_, _, frame)) in replies.iter().zip(TALK) {
+        if !is_spelled(alloc, reply, frame)? {
+            return Ok(false);
         }
-        _ => Ok(false),
     }
+    Ok(replies.len() == TALK.len())
 }
 
 fn is_run(alloc: Global, config: &Config, requests: &[Request]) -> Result<bool, Refusal> {
     let done = Site::run(alloc, config, requests)?;
-    are_told(&done.1)
+    are_told(alloc, &done.1)
 }
 
 fn talks(alloc: Global) -> Result<bool, Refusal> {
@@ -84,6 +73,11 @@ fn a_site_is_run(rt: HostRuntime) -> Result<(), Fail> {
     Ok(())
 }
 
+/// No work yet.
+fn nothing() -> Work {
+    no_work(&Start::new())
+}
+
 /// Whether an answer took so many looks at held states, and so many SHA-256 computations. Nothing is claimed of the
 /// answer.
 fn answer_takes(kept: &mut Kept, request: &Request, looks: u64, computations: u64) -> bool {
@@ -95,7 +89,7 @@ fn answer_takes(kept: &mut Kept, request: &Request, looks: u64, computations: u6
 
 /// Whether a put takes two looks and six computations.
 fn is_counted(alloc: Global, kept: &mut Kept) -> Result<bool, Refusal> {
-    let request = put(alloc, "k", "{\"a\":1}")?;
+    let request = decode_request(alloc, TALK[0].0, TALK[0].1)?;
     Ok(answer_takes(kept, &request, 2, 6))
 }
 

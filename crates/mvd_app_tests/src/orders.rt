@@ -143,11 +143,11 @@ fn a_shell_is_on_a_database_or_a_server(rt: HostRuntime) -> Result<(), Fail> {
         idle: 60,
     };
     assert!(rt; asks(alloc, "mvd shell --port 7", server)?);
-    assert!(rt; is_no_order(alloc, "mvd shell --db f --site 1 --idle 1")?);
     assert!(rt; is_out_of_range(alloc, "mvd shell --db f --site 0")?);
-    assert!(rt; is_no_order(alloc, "mvd shell")?);
-    assert!(rt; is_no_order(alloc, "mvd shell --db f")?);
     let lines = [
+        "mvd shell",
+        "mvd shell --db f",
+        "mvd shell --db f --site 1 --idle 1",
         "mvd shell --db f --site 1 --port 7",
         "mvd shell --db f --site 1 --address 127.0.0.1",
         "mvd shell --db f --port 7",
@@ -162,44 +162,34 @@ fn a_shell_is_on_a_database_or_a_server(rt: HostRuntime) -> Result<(), Fail> {
     Ok(())
 }
 
+const BAD_ADDRESS: &str = "mvd serve --db f --site 1 --port 1 --address here";
+
+const SHELL: &str =
+    "Usage: mvd shell --db <FILE> --site <N> [--defs <FILE>] [--max-keys <N>]\n       mvd shell --port <P>";
+
+/// Lines that are refused, and a part of what is said then.
+const SAID: [(&str, &str); 9] = [
+    (BAD_ADDRESS, "'--address <IP>': it is no IP address"),
+    (BAD_ADDRESS, "Usage: mvd serve "),
+    ("mvd loop --site +1", "Usage: mvd loop "),
+    ("mvd sync --db f --site 01 --port 1", "Usage: mvd sync "),
+    ("mvd shell", SHELL),
+    (
+        "mvd shell",
+        "'--db <FILE>' with '--site <N>', or '--port <P>', is missing",
+    ),
+    ("mvd shell --db f", "the option '--site <N>' is missing"),
+    (
+        "mvd shell --db f --port 7",
+        "a shell has '--db <FILE>' with its options, or '--port <P>'",
+    ),
+    ("mvd shell --port 7 --address here", SHELL),
+];
+
 #[test]
 fn a_refusal_shows_the_usage_of_its_command(rt: HostRuntime) -> Result<(), Fail> {
-    let alloc = rt.alloc();
-    let address = "mvd serve --db f --site 1 --port 1 --address here";
-    assert!(rt; says(alloc, address, "'--address <IP>': it is no IP address")?);
-    assert!(rt; says(alloc, address, "Usage: mvd serve ")?);
-    assert!(rt; says(alloc, "mvd loop --site +1", "Usage: mvd loop ")?);
-    assert!(rt;
-        says(
-            alloc,
-            "mvd sync --db f --site 01 --port 1",
-            "Usage: mvd sync "
-        )?
-    );
-    let shell =
-        "Usage: mvd shell --db <FILE> --site <N> [--defs <FILE>] [--max-keys <N>]\n       mvd shell --port <P>";
-    assert!(rt; says(alloc, "mvd shell", shell)?);
-    assert!(rt;
-        says(
-            alloc,
-            "mvd shell",
-            "'--db <FILE>' with '--site <N>', or '--port <P>', is missing"
-        )?
-    );
-    assert!(rt;
-        says(
-            alloc,
-            "mvd shell --db f",
-            "the option '--site <N>' is missing"
-        )?
-    );
-    assert!(rt;
-        says(
-            alloc,
-            "mvd shell --db f --port 7",
-            "a shell has '--db <FILE>' with its options, or '--port <P>'"
-        )?
-    );
-    assert!(rt; says(alloc, "mvd shell --port 7 --address here", shell)?);
+    for (line, part) in SAID {
+        assert!(rt; says(rt.alloc(), line, part)?, "{line}");
+    }
     Ok(())
 }

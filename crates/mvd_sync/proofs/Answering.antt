@@ -11,8 +11,9 @@ use Rattle.mvd_dots.specs.declared.refusals.Refusal.TheVariants.{BadPath, Memory
 use Rattle.std.proofs.lemmas.List.{length-take-le, take_all}
 use Rattle.mvd_sync.specs.Questions.{AllAnswered, ComesToEnd, ForEach, Keeps, Takes, AnswersEach}
 use Rattle.mvd_sync.specs.Session.{Each}
-use Rattle.mvd_sync.specs.Sides.{Blames, Side, of_memory, of_questions, of_side, is_of_question}
+use Rattle.mvd_sync.specs.Sides.{SideOf, of_memory, of_questions, of_side, is_of_question}
 use Rattle.mvd_sync.specs.Windows.{EachAnswer, EachRefusal, EachTold, Ends, RefusesPage}
+use Rattle.mvd_sync.proofs.Positions.{BlamesBy}
 
 -- ---- lists
 
@@ -107,12 +108,12 @@ IsListingOf page listing = (listing ≡ (page.0.items, page.1)) × IsPage None l
 
 -- ---- the end of some questions, of which as many were asked as were left
 
-module _ {S Q : Type 0} (s : Side S) (qs : List Q) (left left' taken : ℕ) (old new : S) (takes : Takes left left' (length qs) taken) where
+module _ {S Q : Type 0} (s : SideOf S) (qs : List Q) (left left' taken : ℕ) (old new : S) (takes : Takes left left' (length qs) taken) where
   asked_is : length (take taken qs) ≡ taken
   asked_is = let most = takes.most in length-take-le taken qs most
 
   -- so many were asked, and this is why no more are
-  pub ended_by : (T : Type 0) (refusal : Refusal) → s.follows (length (take taken qs)) old new → Blames s left taken 0 old new refusal → (s.is_faithful old → is_of_question refusal ≡ false) → (s.is_faithful old → T) → ComesToEnd s T (length qs) left old new refusal
+  pub ended_by : (T : Type 0) (refusal : Refusal) → s.follows (length (take taken qs)) old new → BlamesBy s left taken 0 old new refusal → (s.is_faithful old → is_of_question refusal ≡ false) → (s.is_faithful old → T) → ComesToEnd s T (length qs) left old new refusal
   ended_by T refusal follows why not_of_key then = record {
     asked = taken;
     wanted = 0;

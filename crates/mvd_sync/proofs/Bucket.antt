@@ -9,11 +9,11 @@ use Rattle.mvd_site.specs.Held.{States}
 use Rattle.mvd_tree.specs.HashTree.{is_under}
 use Rattle.mvd_tree.specs.Page.{is_after}
 use Rattle.mvd_sync.specs.Answers.{IsPageOf, TakesNext}
-use Rattle.mvd_sync.specs.Buckets.{AreElsewhere, ArePages, FillEnds, FillsBoth, Finds, Goes, GoesThrough, Settles, SettlesAll, held_in, waits_if}
-use Rattle.mvd_sync.specs.Exchanges.{AreNext, Counts, Done, Exchanges, Exchanging, GoesOn, SoFar, keys_done, keys_next}
+use Rattle.mvd_sync.specs.Buckets.{AreElsewhere, ArePages, FillEnds, FillsBoth, Goes, GoesThrough, Settles, held_in, waits_if}
+use Rattle.mvd_sync.specs.Exchanges.{AreNext, Counts, Done, Exchanges, Exchanging, keys_done, keys_next}
 use Rattle.mvd_sync.specs.Nodes.{has_below}
 use Rattle.mvd_sync.specs.Session.{Each}
-use Rattle.mvd_sync.specs.Sides.{Side}
+use Rattle.mvd_sync.specs.Sides.{SideOf}
 use Rattle.mvd_sync.specs.Walk.{Reads}
 use Rattle.mvd_sync.specs.declared.cursor.Entry.{Entry}
 use Rattle.mvd_sync.specs.declared.asking.Questions.{Questions}
@@ -24,10 +24,11 @@ use Rattle.mvd_sync.proofs.Gone.{Gone, IsPast, counted_fill, counted_more, gone_
 use Rattle.mvd_sync.proofs.Joined.{joins_some}
 use Rattle.mvd_sync.proofs.Keys.{Each-weaker, or_left}
 use Rattle.mvd_sync.proofs.Nexts.{goes_from, goes_further, goes_still, still_next, untouched}
+use Rattle.mvd_sync.proofs.Positions.{FindsBy, GoesOnBy, SettlesAllBy, SoFarBy}
 
 -- ---- a key is settled
 
-module _ {L P : Type 0} (l : Side L) (p : Side P) where
+module _ {L P : Type 0} (l : SideOf L) (p : SideOf P) where
   pub settles_by_exchange : (e : Entry) (left left' : Questions) (local local' : L) (peer peer' : P) (before after : Exchanging) (result : Result (Unit {0}) SyncFault) → e.differs ≡ true → length before.waiting < 1000
       → Exchanges l p (before.waiting ++ e ∷ []) left left' local local' peer peer' before after result → Settles l p e left left' local local' peer peer' before after result
   unfolding goes_of_exchange
@@ -36,7 +37,7 @@ module _ {L P : Type 0} (l : Side L) (p : Side P) where
       let n = length-append before.waiting (e ∷ []) in
       record {
         goes = goes_of_exchange l p (before.waiting ++ e ∷ []) left left' local local' peer peer' before after result (omega (arith, n)) x;
-        meets = λ t u a b done so counts next. subst (λ es. SettlesAll l p before.number a b done (before.waiting ++ es) (x.asked_local + x.wanted_local) (x.asked_peer + x.wanted_peer) local' peer' (l.most_keys local) (p.most_keys peer) after result) one (record {
+        meets = λ t u a b done so counts next. subst (λ es. SettlesAllBy l p before.number a b done (before.waiting ++ es) (x.asked_local + x.wanted_local) (x.asked_peer + x.wanted_peer) local' peer' (l.most_keys local) (p.most_keys peer) after result) one (record {
           few = x.few;
           fewer = x.fewer;
           ends = x.meets t u a b done so counts (subst (λ es. AreNext a b done (before.waiting ++ es)) (sym one) next);
@@ -50,10 +51,10 @@ module _ {L P : Type 0} (l : Side L) (p : Side P) where
       let n = length-append before.waiting [] in
       record {
         goes = goes_nowhere l p self self' (tt {0}) left local peer before;
-        meets = λ t u a b done so counts next. subst (λ es. SettlesAll l p before.number a b done (before.waiting ++ es) (0 + 0) (0 + 0) local peer (l.most_keys local) (p.most_keys peer) before (Ok (tt {0}))) none (record {
+        meets = λ t u a b done so counts next. subst (λ es. SettlesAllBy l p before.number a b done (before.waiting ++ es) (0 + 0) (0 + 0) local peer (l.most_keys local) (p.most_keys peer) before (Ok (tt {0}))) none (record {
           few = (omega arith, omega arith);
           fewer = (omega (arith, n), omega (arith, n));
-          ends = subst (λ es. GoesOn l p before.number a b done es local peer (l.most_keys local) (p.most_keys peer) before) (sym (append-nil before.waiting))
+          ends = subst (λ es. GoesOnBy l p before.number a b done es local peer (l.most_keys local) (p.most_keys peer) before) (sym (append-nil before.waiting))
               (goes_from l p before.number a b done (l.most_keys local) (p.most_keys peer) local peer before t u so counts (subst (AreNext a b done) (ap (λ es. before.waiting ++ es) (sym none) ∙ append-nil before.waiting) next));
         });
       }
@@ -61,19 +62,19 @@ module _ {L P : Type 0} (l : Side L) (p : Side P) where
 -- ---- how far a bucket is gone over
 
 -- between two true sides
-pub record AtKey {L P : Type 0} (l : Side L) (p : Side P) (number : Option ℕ) (a b : States) (done : List Done) (path : List ℕ) (mine theirs : List (Key × List ℕ) × Bool) (asked_l asked_p : ℕ) (local' : L) (peer' : P) (most_local most_peer : ℕ) (before after : Exchanging) : Type 0 where
+pub record AtKey {L P : Type 0} (l : SideOf L) (p : SideOf P) (number : Option ℕ) (a b : States) (done : List Done) (path : List ℕ) (mine theirs : List (Key × List ℕ) × Bool) (asked_l asked_p : ℕ) (local' : L) (peer' : P) (most_local most_peer : ℕ) (before after : Exchanging) : Type 0 where
   pub upto : Option (List ℕ)
   pub found : List Entry
   pub pages_local : ℕ
   pub pages_peer : ℕ
   pub gone : Gone a b done before.waiting path upto mine theirs found pages_local pages_peer
-  pub goes_on : GoesOn l p number a b done (before.waiting ++ found) local' peer' most_local most_peer after
+  pub goes_on : GoesOnBy l p number a b done (before.waiting ++ found) local' peer' most_local most_peer after
   pub fewer : (asked_l + 2 * length after.waiting ≤ pages_local + 2 * length (before.waiting ++ found)) × (asked_p + 2 * length after.waiting ≤ pages_peer + 2 * length (before.waiting ++ found))
 
 -- and of any two sides
-pub record OverBucket {L P : Type 0} (l : Side L) (p : Side P) (path : List ℕ) (first second mine theirs : List (Key × List ℕ) × Bool) (left left' : Questions) (local local' : L) (peer peer' : P) (before after : Exchanging) : Type 0 where
+pub record OverBucket {L P : Type 0} (l : SideOf L) (p : SideOf P) (path : List ℕ) (first second mine theirs : List (Key × List ℕ) × Bool) (left left' : Questions) (local local' : L) (peer peer' : P) (before after : Exchanging) : Type 0 where
   pub goes : Goes l p left left' local local' peer peer' before after (Ok (tt {0}))
-  pub meets : l.is_faithful local → p.is_faithful peer → (a b : States) (done : List Done) → SoFar (l.most_keys local) (p.most_keys peer) before.number a b (l.states local) (p.states peer) done → Counts done before
+  pub meets : l.is_faithful local → p.is_faithful peer → (a b : States) (done : List Done) → SoFarBy (l.most_keys local) (p.most_keys peer) before.number a b (l.states local) (p.states peer) done → Counts done before
       → AreNext a b done before.waiting → AreElsewhere (path ∷ []) (keys_done done ++ keys_next before.waiting) → IsPageOf (digests a) path None first.0 first.1 → IsPageOf (digests b) path None second.0 second.1
       → AtKey l p before.number a b done path mine theirs goes.asked_local goes.asked_peer local' peer' (l.most_keys local) (p.most_keys peer) before after
 
@@ -90,15 +91,15 @@ one_held : (a : States) (path : List ℕ) (n : ℕ) → n ≤ held_at a path →
 one_held a path n h = omega (arith, h)
 
 -- the filled listings, and what was exchanged before them
-pub record Filled {L P : Type 0} (l : Side L) (p : Side P) (number : Option ℕ) (a b : States) (done : List Done) (path : List ℕ) (mine theirs : List (Key × List ℕ) × Bool) (e : Entry) (asked_l asked_p : ℕ) (local' : L) (peer' : P) (most_local most_peer : ℕ) (before at : Exchanging) : Type 0 where
+pub record Filled {L P : Type 0} (l : SideOf L) (p : SideOf P) (number : Option ℕ) (a b : States) (done : List Done) (path : List ℕ) (mine theirs : List (Key × List ℕ) × Bool) (e : Entry) (asked_l asked_p : ℕ) (local' : L) (peer' : P) (most_local most_peer : ℕ) (before at : Exchanging) : Type 0 where
   pub found : List Entry
   pub pages_local : ℕ
   pub pages_peer : ℕ
   pub gone : Gone a b done before.waiting path (Some e.key) mine theirs (found ++ waits_if e) pages_local pages_peer
-  pub goes_on : GoesOn l p number a b done (before.waiting ++ found) local' peer' most_local most_peer at
+  pub goes_on : GoesOnBy l p number a b done (before.waiting ++ found) local' peer' most_local most_peer at
   pub fewer : (asked_l + 2 * length at.waiting ≤ pages_local + 2 * length (before.waiting ++ found)) × (asked_p + 2 * length at.waiting ≤ pages_peer + 2 * length (before.waiting ++ found))
 
-module _ {L P : Type 0} (l : Side L) (p : Side P) (number : Option ℕ) (a b : States) (done : List Done) (path : List ℕ) (mine theirs mine1 theirs1 mine2 theirs2 : List (Key × List ℕ) × Bool) (asked_l asked_p : ℕ) (local1 local2 : L) (peer1 peer2 : P) (most_local most_peer : ℕ) (before at : Exchanging)
+module _ {L P : Type 0} (l : SideOf L) (p : SideOf P) (number : Option ℕ) (a b : States) (done : List Done) (path : List ℕ) (mine theirs mine1 theirs1 mine2 theirs2 : List (Key × List ℕ) × Bool) (asked_l asked_p : ℕ) (local1 local2 : L) (peer1 peer2 : P) (most_local most_peer : ℕ) (before at : Exchanging)
     (here : AtKey l p number a b done path mine theirs asked_l asked_p local1 peer1 most_local most_peer before at)
     (mine_more : mine.0 ≡ [] → mine.1 ≡ false) (theirs_more : theirs.0 ≡ [] → theirs.1 ≡ false)
     (elsewhere : AreElsewhere (path ∷ []) (keys_done done ++ keys_next before.waiting))
@@ -136,7 +137,7 @@ module _ {L P : Type 0} (l : Side L) (p : Side P) (number : Option ℕ) (a b : S
 
   -- one of the listings was not filled
   pub unfilled : {A : Type 0} (left : Questions) (fault : SyncFault) → (f : FillEnds l p mine1 theirs1 left local1 local2 peer1 peer2 fault)
-      → Finds {A = A} l p number a b done (path ∷ []) 0 (held_in a (path ∷ [])) (held_in b (path ∷ [])) ((asked_l + f.ends.asked_local) + f.ends.wanted_local) ((asked_p + f.ends.asked_peer) + f.ends.wanted_peer) local2 peer2 most_local most_peer before at (Err fault)
+      → FindsBy {A = A} l p number a b done (path ∷ []) 0 (held_in a (path ∷ [])) (held_in b (path ∷ [])) ((asked_l + f.ends.asked_local) + f.ends.wanted_local) ((asked_p + f.ends.asked_peer) + f.ends.wanted_peer) local2 peer2 most_local most_peer before at (Err fault)
   unfilled left fault f =
       let t = here.goes_on.still in
       let k = f.ends.kept_local t.0 in
@@ -158,7 +159,7 @@ module _ {L P : Type 0} (l : Side L) (p : Side P) (number : Option ℕ) (a b : S
 
 -- ---- the key is settled
 
-module _ {L P : Type 0} (l : Side L) (p : Side P)
+module _ {L P : Type 0} (l : SideOf L) (p : SideOf P)
     (stays : (n : ℕ) (old new : L) → l.follows n old new → l.most_keys new ≡ l.most_keys old)
     (stays' : (n : ℕ) (old new : P) → p.follows n old new → p.most_keys new ≡ p.most_keys old)
     (a b : States) (done : List Done) (path : List ℕ) (mine theirs : List (Key × List ℕ) × Bool) (e : Entry) (asked_l asked_p : ℕ) (local local2 local3 : L) (peer peer2 peer3 : P) (n m : ℕ) (before at after : Exchanging)
@@ -171,19 +172,19 @@ module _ {L P : Type 0} (l : Side L) (p : Side P)
   same_peer : p.most_keys peer2 ≡ p.most_keys peer
   same_peer = stays' m peer peer2 follows.1
 
-  pub settled : SettlesAll l p before.number a b (done ++ f.goes_on.now) (at.waiting ++ waits_if e) (s.goes.asked_local + s.goes.wanted_local) (s.goes.asked_peer + s.goes.wanted_peer) local3 peer3 (l.most_keys local) (p.most_keys peer) after result
+  pub settled : SettlesAllBy l p before.number a b (done ++ f.goes_on.now) (at.waiting ++ waits_if e) (s.goes.asked_local + s.goes.wanted_local) (s.goes.asked_peer + s.goes.wanted_peer) local3 peer3 (l.most_keys local) (p.most_keys peer) after result
   settled =
       let g = f.goes_on in
       let t = g.still in
       let next : AreNext a b done ((before.waiting ++ f.found) ++ waits_if e) = subst (AreNext a b done) (sym (append_assoc before.waiting f.found (waits_if e))) f.gone.next in
-      let so : SoFar (l.most_keys local2) (p.most_keys peer2) at.number a b (l.states local2) (p.states peer2) (done ++ g.now) =
-      subst (λ o. SoFar (l.most_keys local2) (p.most_keys peer2) o a b (l.states local2) (p.states peer2) (done ++ g.now)) (sym same)
-      (subst (λ i. SoFar i (p.most_keys peer2) before.number a b (l.states local2) (p.states peer2) (done ++ g.now)) (sym same_local)
-      (subst (λ j. SoFar (l.most_keys local) j before.number a b (l.states local2) (p.states peer2) (done ++ g.now)) (sym same_peer) g.so_far)) in
+      let so : SoFarBy (l.most_keys local2) (p.most_keys peer2) at.number a b (l.states local2) (p.states peer2) (done ++ g.now) =
+      subst (λ o. SoFarBy (l.most_keys local2) (p.most_keys peer2) o a b (l.states local2) (p.states peer2) (done ++ g.now)) (sym same)
+      (subst (λ i. SoFarBy i (p.most_keys peer2) before.number a b (l.states local2) (p.states peer2) (done ++ g.now)) (sym same_local)
+      (subst (λ j. SoFarBy (l.most_keys local) j before.number a b (l.states local2) (p.states peer2) (done ++ g.now)) (sym same_peer) g.so_far)) in
       let all = s.meets t.0 t.1 a b (done ++ g.now) so g.counts (still_next done g.now (before.waiting ++ f.found) at.waiting (waits_if e) g.is a b g.waits.each next) in
-      subst (λ o. SettlesAll l p o a b (done ++ g.now) (at.waiting ++ waits_if e) (s.goes.asked_local + s.goes.wanted_local) (s.goes.asked_peer + s.goes.wanted_peer) local3 peer3 (l.most_keys local) (p.most_keys peer) after result) same
-      (subst (λ i. SettlesAll l p at.number a b (done ++ g.now) (at.waiting ++ waits_if e) (s.goes.asked_local + s.goes.wanted_local) (s.goes.asked_peer + s.goes.wanted_peer) local3 peer3 i (p.most_keys peer) after result) same_local
-      (subst (λ j. SettlesAll l p at.number a b (done ++ g.now) (at.waiting ++ waits_if e) (s.goes.asked_local + s.goes.wanted_local) (s.goes.asked_peer + s.goes.wanted_peer) local3 peer3 (l.most_keys local2) j after result) same_peer all))
+      subst (λ o. SettlesAllBy l p o a b (done ++ g.now) (at.waiting ++ waits_if e) (s.goes.asked_local + s.goes.wanted_local) (s.goes.asked_peer + s.goes.wanted_peer) local3 peer3 (l.most_keys local) (p.most_keys peer) after result) same
+      (subst (λ i. SettlesAllBy l p at.number a b (done ++ g.now) (at.waiting ++ waits_if e) (s.goes.asked_local + s.goes.wanted_local) (s.goes.asked_peer + s.goes.wanted_peer) local3 peer3 i (p.most_keys peer) after result) same_local
+      (subst (λ j. SettlesAllBy l p at.number a b (done ++ g.now) (at.waiting ++ waits_if e) (s.goes.asked_local + s.goes.wanted_local) (s.goes.asked_peer + s.goes.wanted_peer) local3 peer3 (l.most_keys local2) j after result) same_peer all))
 
   lengths : (length (before.waiting ++ (f.found ++ waits_if e)) ≡ length (before.waiting ++ f.found) + length (waits_if e)) × (length (at.waiting ++ waits_if e) ≡ length at.waiting + length (waits_if e))
   lengths = (
@@ -198,7 +199,7 @@ module _ {L P : Type 0} (l : Side L) (p : Side P)
       let y = settled.few in
       (omega (arith, k.0, k.1, x.0, y.0), omega (arith, k.0, k.1, x.1, y.1))
 
-module _ {L P : Type 0} (l : Side L) (p : Side P)
+module _ {L P : Type 0} (l : SideOf L) (p : SideOf P)
     (stays : (n : ℕ) (old new : L) → l.follows n old new → l.most_keys new ≡ l.most_keys old)
     (stays' : (n : ℕ) (old new : P) → p.follows n old new → p.most_keys new ≡ p.most_keys old)
     (a b : States) (done : List Done) (path : List ℕ) (mine theirs : List (Key × List ℕ) × Bool) (e : Entry) (asked_l asked_p : ℕ) (local local2 local3 : L) (peer peer2 peer3 : P) (n m : ℕ) (before at after : Exchanging)
@@ -215,13 +216,13 @@ module _ {L P : Type 0} (l : Side L) (p : Side P)
         pages_local = f.pages_local;
         pages_peer = f.pages_peer;
         gone = f.gone;
-        goes_on = subst (λ es. GoesOn l p before.number a b done es local3 peer3 (l.most_keys local) (p.most_keys peer) after) (append_assoc before.waiting f.found (waits_if e))
+        goes_on = subst (λ es. GoesOnBy l p before.number a b done es local3 peer3 (l.most_keys local) (p.most_keys peer) after) (append_assoc before.waiting f.found (waits_if e))
             (goes_further l p before.number a b done (l.most_keys local) (p.most_keys peer) (before.waiting ++ f.found) (waits_if e) local2 local3 peer2 peer3 at after f.goes_on all.ends);
         fewer = let x = f.fewer in let y = all.fewer in (omega (arith, k.0, k.1, x.0, y.0), omega (arith, k.0, k.1, x.1, y.1));
       }
 
   pub settled_ends : (fault : SyncFault) → (s : Settles {A = Unit {0}} l p e left left' local2 local3 peer2 peer3 at after (Err fault))
-      → Finds {A = Unit {0}} l p before.number a b done (path ∷ []) 0 (held_in a (path ∷ [])) (held_in b (path ∷ [])) ((asked_l + s.goes.asked_local) + s.goes.wanted_local) ((asked_p + s.goes.asked_peer) + s.goes.wanted_peer) local3 peer3 (l.most_keys local) (p.most_keys peer) before after (Err fault)
+      → FindsBy {A = Unit {0}} l p before.number a b done (path ∷ []) 0 (held_in a (path ∷ [])) (held_in b (path ∷ [])) ((asked_l + s.goes.asked_local) + s.goes.wanted_local) ((asked_p + s.goes.asked_peer) + s.goes.wanted_peer) local3 peer3 (l.most_keys local) (p.most_keys peer) before after (Err fault)
   settled_ends fault s =
       let all = settled l p stays stays' a b done path mine theirs e asked_l asked_p local local2 local3 peer peer2 peer3 n m before at after follows same f left left' {A = Unit {0}} (Err fault) s in
       let few = few_settled l p stays stays' a b done path mine theirs e asked_l asked_p local local2 local3 peer peer2 peer3 n m before at after follows same f left left' {A = Unit {0}} (Err fault) s in
@@ -238,7 +239,7 @@ module _ {L P : Type 0} (l : Side L) (p : Side P)
 
 -- ---- the bucket
 
-module _ {L P : Type 0} (l : Side L) (p : Side P) (path : List ℕ) (first second : List (Key × List ℕ) × Bool) where
+module _ {L P : Type 0} (l : SideOf L) (p : SideOf P) (path : List ℕ) (first second : List (Key × List ℕ) × Bool) where
   pub over_begins : (self : (s : L) → l.follows 0 s s) (self' : (s : P) → p.follows 0 s s) (left : Questions) (local : L) (peer : P) (before : Exchanging) → OverBucket l p path first second first second left left local local peer peer before before
   unfolding goes_nowhere goes_of_reads
   over_begins self self' left local peer before = record {
@@ -249,7 +250,7 @@ module _ {L P : Type 0} (l : Side L) (p : Side P) (path : List ℕ) (first secon
       pages_local = 0;
       pages_peer = 0;
       gone = gone_begins a b done before.waiting path first second next mine theirs;
-      goes_on = subst (λ es. GoesOn l p before.number a b done es local peer (l.most_keys local) (p.most_keys peer) before) (sym (append-nil before.waiting)) (goes_from l p before.number a b done (l.most_keys local) (p.most_keys peer) local peer before t u so counts next);
+      goes_on = subst (λ es. GoesOnBy l p before.number a b done es local peer (l.most_keys local) (p.most_keys peer) before) (sym (append-nil before.waiting)) (goes_from l p before.number a b done (l.most_keys local) (p.most_keys peer) local peer before t u so counts next);
       fewer = let n = length-append before.waiting [] in (omega (arith, n), omega (arith, n));
     };
   }

@@ -5,22 +5,22 @@ use Rattle.mvd_dots.specs.declared.refusals.Refusal.{Refusal}
 use Rattle.mvd_dots.specs.declared.refusals.Refusal.TheVariants.{Memory}
 use Rattle.mvd_keys.specs.State.{State}
 use Rattle.mvd_sync.specs.Questions.{AllAnswered, ComesToEnd, IsOfKey, TakesFirst, TakesIn}
-use Rattle.mvd_sync.specs.Sides.{Side}
+use Rattle.mvd_sync.specs.Sides.{SideOf}
 use Rattle.mvd_sync.specs.Windows.{Pushes}
 use Rattle.mvd_sync.proofs.Compose.{ends_for_memory}
 use Rattle.mvd_sync.proofs.Counting.{take_all}
 
-pub nothing_taken : {S : Type 0} (s : Side S) (pairs : List (List ℕ × State)) (left : ℕ) (old : S) (refusal : Refusal) → s.follows 0 old old → refusal ≡ Memory → ComesToEnd s (TakesFirst s pairs old old refusal) (length pairs) left old old refusal
+pub nothing_taken : {S : Type 0} (s : SideOf S) (pairs : List (List ℕ × State)) (left : ℕ) (old : S) (refusal : Refusal) → s.follows 0 old old → refusal ≡ Memory → ComesToEnd s (TakesFirst s pairs old old refusal) (length pairs) left old old refusal
 nothing_taken s pairs left old refusal self is =
     ends_for_memory s (TakesFirst s pairs old old refusal) (length pairs) left left 0 old old refusal (omega arith) (omega arith) self
     (λ t. record { still = λ _. t; pushes = (0, [], s.states old, refl, λ _. refl) }) is
 
 -- and for what was told, of nothing
-pub nothing_told : {S A : Type 0} (s : Side S) (pairs : List (List ℕ × State)) (left : ℕ) (old : S) (r : Result A Refusal) → s.follows 0 old old → IfErr r (λ refusal. refusal ≡ Memory) → IfErr r (λ refusal. ComesToEnd s (TakesFirst s pairs old old refusal) (length pairs) left old old refusal)
+pub nothing_told : {S A : Type 0} (s : SideOf S) (pairs : List (List ℕ × State)) (left : ℕ) (old : S) (r : Result A Refusal) → s.follows 0 old old → IfErr r (λ refusal. refusal ≡ Memory) → IfErr r (λ refusal. ComesToEnd s (TakesFirst s pairs old old refusal) (length pairs) left old old refusal)
 nothing_told s pairs left old (Ok x) self is = tt
 nothing_told s pairs left old (Err refusal) self is = nothing_taken s pairs left old refusal self is
 
-module _ {S : Type 0} (s : Side S) (pairs : List (List ℕ × State)) (told : List (Result (Unit {0}) Refusal)) (left left' : ℕ) (old new : S) (all : AllAnswered s (λ _ told. IsOfKey told) (TakesIn s pairs told old new) pairs told left left' old new) where
+module _ {S : Type 0} (s : SideOf S) (pairs : List (List ℕ × State)) (told : List (Result (Unit {0}) Refusal)) (left left' : ℕ) (old new : S) (all : AllAnswered s (λ _ told. IsOfKey told) (TakesIn s pairs told old new) pairs told left left' old new) where
   takes_all : (refusal : Refusal) → TakesIn s pairs told old new → TakesFirst s pairs old new refusal
   takes_all refusal t = record {
     still = λ _. t.still;

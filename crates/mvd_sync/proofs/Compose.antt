@@ -3,9 +3,10 @@ use Rattle.std.proofs.Common.{◌≡◌, ℕ, ◌+◌, ◌≤◌, ◌∙◌, ari
 use Rattle.mvd_dots.specs.declared.refusals.Refusal.{Refusal}
 use Rattle.mvd_dots.specs.declared.refusals.Refusal.TheVariants.{Memory}
 use Rattle.mvd_sync.specs.Questions.{ComesToEnd, Keeps}
-use Rattle.mvd_sync.specs.Sides.{Blames, HasAnswered, HasRefused, Reaches, Side, of_answer, of_memory, of_questions, of_side, is_of_question}
+use Rattle.mvd_sync.specs.Sides.{HasAnswered, HasRefused, Reaches, SideOf, of_answer, of_memory, of_questions, of_side, is_of_question}
+use Rattle.mvd_sync.proofs.Positions.{BlamesBy}
 
-module _ {S : Type 0} (s : Side S) (on : (m n : ℕ) (old mid new : S) → s.follows m old mid → s.follows n mid new → s.follows (m + n) old new) where
+module _ {S : Type 0} (s : SideOf S) (on : (m n : ℕ) (old mid new : S) → s.follows m old mid → s.follows n mid new → s.follows (m + n) old new) where
   -- what was told after questions was told after more
   pub refused_later : (old mid new : S) (refusal : Refusal) → Reaches s.follows old mid → HasRefused s.follows s.can_refuse mid new refusal → HasRefused s.follows s.can_refuse old new refusal
   refused_later old mid new refusal r h = (h.0, (r.0 + h.1.0, on r.0 h.1.0 old mid h.0 r.1 h.1.1), h.2, h.3)
@@ -19,7 +20,7 @@ module _ {S : Type 0} (s : Side S) (on : (m n : ℕ) (old mid new : S) → s.fol
 
   module _ (left left' n : ℕ) (old mid new : S) (spent : left ≡ left' + n) (before : s.follows n old mid) (still : s.is_faithful old → s.is_faithful mid) where
     -- a cause after questions is one with them
-    pub blames_later : (asked wanted : ℕ) (refusal : Refusal) → Blames s left' asked wanted mid new refusal → Blames s left (n + asked) wanted old new refusal
+    pub blames_later : (asked wanted : ℕ) (refusal : Refusal) → BlamesBy s left' asked wanted mid new refusal → BlamesBy s left (n + asked) wanted old new refusal
     blames_later asked wanted refusal (of_side h apart) = of_side (refused_later old mid new refusal (n, before) h) (λ t. apart (still t))
     blames_later asked wanted refusal (of_answer e false_one) = of_answer e (λ t. false_one (still t))
     blames_later asked wanted refusal (of_questions e all one) = of_questions e (omega arith) one
@@ -39,7 +40,7 @@ module _ {S : Type 0} (s : Side S) (on : (m n : ℕ) (old mid new : S) → s.fol
     }
 
 -- memory was refused after some questions
-pub ends_for_memory : {S : Type 0} (s : Side S) (T : Type 0) (questions left left' n : ℕ) (old new : S) (refusal : Refusal) → left ≡ left' + n → n ≤ questions → s.follows n old new → (s.is_faithful old → T) → refusal ≡ Memory → ComesToEnd s T questions left old new refusal
+pub ends_for_memory : {S : Type 0} (s : SideOf S) (T : Type 0) (questions left left' n : ℕ) (old new : S) (refusal : Refusal) → left ≡ left' + n → n ≤ questions → s.follows n old new → (s.is_faithful old → T) → refusal ≡ Memory → ComesToEnd s T questions left old new refusal
 ends_for_memory s T questions left left' n old new refusal spent few follows then is = record {
   asked = n;
   wanted = 0;
@@ -51,5 +52,5 @@ ends_for_memory s T questions left left' n old new refusal spent few follows the
   right = then;
 }
 
-pub keeps_on : {S : Type 0} (s : Side S) (old mid new : S) → Keeps s old mid → Keeps s mid new → Keeps s old new
+pub keeps_on : {S : Type 0} (s : SideOf S) (old mid new : S) → Keeps s old mid → Keeps s mid new → Keeps s old new
 keeps_on s old mid new p q = record { still = q.still; states = q.states ∙ p.states }

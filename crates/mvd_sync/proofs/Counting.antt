@@ -3,11 +3,11 @@ use Rattle.std.proofs.Common.{◌≡◌, ℕ, zero, suc, ◌+◌, ◌≤◌, ◌
 use Rattle.std.specs.Prelude.{is_some}
 use Rattle.std.proofs.lemmas.List.{append-nil, map-append}
 use Rattle.std.specs.List.{cons_option}
-use Rattle.mvd_sync.specs.Session.{Left}
+use Rattle.mvd_sync.specs.declared.report.Left.{Left}
 use Rattle.std.proofs.lemmas.List.Elements.{filter-append, filter_map-append}
 use Rattle.mvd_dots.specs.declared.refusals.Refusal.{Refusal}
 use Rattle.mvd_sync.specs.declared.report.Side.{Side}
-use Rattle.mvd_sync.specs.Exchanges.{Adds, Counts, Done, Exchanging, given_keys, is_given, keys_done, left_keys, left_of}
+use Rattle.mvd_sync.specs.Exchanges.{Adds, Counts, Done, Exchanging, given_keys, is_given, keys_done, left_keys, left_of, left_as}
 
 pub take_all : {X : Type 0} (n : ℕ) (xs : List X) → length xs ≤ n → take n xs ≡ xs
 take_all zero [] h = refl
@@ -72,7 +72,7 @@ old_one d = elim d.is_old as (λ b. length (cond b (d ∷ []) []) ≡ count_if b
 -- a key that was given to both sides
 pub adds_given : (d : Done) (e f : Exchanging) → d.refused ≡ None → f.number ≡ e.number → f.waiting ≡ e.waiting → f.keys ≡ e.keys + 1 → f.refused ≡ e.refused → f.first_refused ≡ e.first_refused → f.older ≡ e.older + count_if d.is_old → Adds (d ∷ []) e f
 adds_given d e f none number waiting keys refused first old =
-    let lefts : left_keys (d ∷ []) ≡ [] = ap (λ o. cons_option (option_map (λ r. (d.key, r)) o) []) none in
+    let lefts : left_keys (d ∷ []) ≡ [] = ap (λ o. cons_option (option_map (left_as d.key) o) []) none in
     let given : is_given d.refused ≡ true = ap is_given none in
     record {
       number = number;
@@ -84,9 +84,9 @@ adds_given d e f none number waiting keys refused first old =
     }
 
 -- a key that was refused
-pub adds_left : (d : Done) (r : Side × Refusal) (e f : Exchanging) → d.refused ≡ Some r → f.number ≡ e.number → f.waiting ≡ e.waiting → f.keys ≡ e.keys → f.refused ≡ e.refused + 1 → (length e.first_refused < 100 → f.first_refused ≡ e.first_refused ++ (d.key, r) ∷ []) → (100 ≤ length e.first_refused → f.first_refused ≡ e.first_refused) → f.older ≡ e.older + count_if d.is_old → Adds (d ∷ []) e f
+pub adds_left : (d : Done) (r : Side × Refusal) (e f : Exchanging) → d.refused ≡ Some r → f.number ≡ e.number → f.waiting ≡ e.waiting → f.keys ≡ e.keys → f.refused ≡ e.refused + 1 → (length e.first_refused < 100 → f.first_refused ≡ e.first_refused ++ left_as d.key r ∷ []) → (100 ≤ length e.first_refused → f.first_refused ≡ e.first_refused) → f.older ≡ e.older + count_if d.is_old → Adds (d ∷ []) e f
 adds_left d r e f some number waiting keys refused named full old =
-    let lefts : left_keys (d ∷ []) ≡ (d.key, r) ∷ [] = ap (λ o. cons_option (option_map (λ r. (d.key, r)) o) []) some in
+    let lefts : left_keys (d ∷ []) ≡ left_as d.key r ∷ [] = ap (λ o. cons_option (option_map (left_as d.key) o) []) some in
     let given : is_given d.refused ≡ false = ap is_given some in
     record {
       number = number;
@@ -94,7 +94,7 @@ adds_left d r e f some number waiting keys refused named full old =
       keys = let n = given_one d ∙ ap count_if given in omega (arith, n, keys);
       refused = let n = ap length lefts in omega (arith, n, refused);
       first_refused = λ short. elim (Rattle.std.proofs.lemmas.Bool.cases_lt (length e.first_refused) 100) [
-        | inl less ↦ named less ∙ sym (take_all 100 (e.first_refused ++ (d.key, r) ∷ []) (let n = length-append e.first_refused ((d.key, r) ∷ []) in omega (arith, n))) ∙ ap (λ v. take 100 (e.first_refused ++ v)) (sym lefts)
+        | inl less ↦ named less ∙ sym (take_all 100 (e.first_refused ++ left_as d.key r ∷ []) (let n = length-append e.first_refused (left_as d.key r ∷ []) in omega (arith, n))) ∙ ap (λ v. take 100 (e.first_refused ++ v)) (sym lefts)
         | inr more ↦ full more ∙ sym (take_all 100 e.first_refused short) ∙ sym (take_front 100 e.first_refused (left_keys (d ∷ [])) more)
       ];
       older = let n = old_one d in omega (arith, n, old);
@@ -102,7 +102,7 @@ adds_left d r e f some number waiting keys refused named full old =
 
 pub left_one : (d : Done) → length (left_keys (d ∷ [])) ≡ count_if (is_some d.refused)
 left_one d =
-    let named : Side × Refusal → Left = λ r. (d.key, r) in
+    let named : Side × Refusal → Left = left_as d.key in
     elim d.refused as (λ o. length (cons_option (option_map named o) []) ≡ count_if (is_some o)) [ None ↦ refl | Some r ↦ refl ]
 
 pub one_of_two : (b : Bool) → count_if (not b) + count_if b ≡ 1

@@ -9,9 +9,10 @@ use Rattle.mvd_dots.specs.declared.refusals.Refusal.{Refusal}
 use Rattle.mvd_keys.specs.State.{State, join}
 use Rattle.mvd_tree.proofs.Under.{keys_same}
 use Rattle.mvd_site.specs.Held.{States, state_at}
-use Rattle.mvd_sync.specs.Session.{AreDistinct, CanMeet, Each, HasJoined, IsIn, Joins, is_member}
+use Rattle.mvd_sync.specs.Session.{AreDistinct, CanMeet, Each, HasJoined, IsIn, is_member}
 use Rattle.mvd_sync.proofs.Keys.{is_member-append, or_left, or_right}
 use Rattle.mvd_sync.proofs.Taking.{Ask, EachTook, ask_keys, pairs_of, same_state}
+use Rattle.mvd_sync.proofs.Positions.{JoinsBy}
 
 abbrev Told : Type 0
 Told = Result (Unit {0}) Refusal
@@ -194,7 +195,7 @@ module _ (a b : States) where
       (λ out'. put_false (is_member ks k || is_member js k) J N (either_no (is_member ks k) (is_member js k) out out')
       (at_false (is_member js k) M K out' (met k) ∙ at_false (is_member ks k) (state_at x k ≡ join (state_at a k) (state_at b k)) (get x k ≡ get old k) out (was k)))))
 
-  module _ (x y x' y' : States) (joined given more_joined more_given : List (List ℕ)) (was : (T U : Type 0) → Joins T U a b x y joined given)
+  module _ (x y x' y' : States) (joined given more_joined more_given : List (List ℕ)) (was : (T U : Type 0) → JoinsBy T U a b x y joined given)
       (local_met : (k : List ℕ) → IsMet a b x x' more_joined k) (peer_met : (k : List ℕ) → IsMet a b y y' more_given k)
       (part : (k : List ℕ) → is_member more_given k ≡ true → is_member more_joined k ≡ true) (apart : (k : List ℕ) → is_member joined k ≡ true → is_member more_joined k ≡ false) where
     apart_given : (k : List ℕ) → is_member given k ≡ true → is_member more_given k ≡ false
@@ -202,7 +203,7 @@ module _ (a b : States) where
         by_bool (is_member more_given k) (is_member more_given k ≡ false)
         (λ yes. absurd (true≢false (sym (part k yes) ∙ apart k ((was (Unit {0}) (Unit {0})).part k h)))) (λ out. out)
 
-    pub joins_more : (T U : Type 0) → Joins T U a b x' y' (joined ++ more_joined) (given ++ more_given)
+    pub joins_more : (T U : Type 0) → JoinsBy T U a b x' y' (joined ++ more_joined) (given ++ more_given)
     joins_more T U =
         let old = was (Unit {0}) (Unit {0}) in
         record {
@@ -216,7 +217,7 @@ module _ (a b : States) where
         }
 
 -- a side that said that it is broken need not be true any more
-pub joins_if : (T U : Type 0) (a b x y x' y' : States) (joined given : List (List ℕ)) → (T → x' ≡ x) → (U → y' ≡ y) → Joins T U a b x y joined given → Joins T U a b x' y' joined given
+pub joins_if : (T U : Type 0) (a b x y x' y' : States) (joined given : List (List ℕ)) → (T → x' ≡ x) → (U → y' ≡ y) → JoinsBy T U a b x y joined given → JoinsBy T U a b x' y' joined given
 joins_if T U a b x y x' y' joined given e f j = record {
   part = j.part;
   met = j.met;

@@ -9,10 +9,10 @@ use Rattle.mvd_keys.specs.State.{IsValid, State, empty_state, join}
 use Rattle.mvd_keys.proofs.Joins.{join_commutes}
 use Rattle.mvd_site.specs.Answer.{is_too_large}
 use Rattle.mvd_site.specs.Held.{AreHeld, States, state_at}
-use Rattle.mvd_sync.specs.Exchanges.{AreNext, Done, SoFar, given_keys, is_given, joined_keys, keys_done, keys_next}
+use Rattle.mvd_sync.specs.Exchanges.{AreNext, Done, given_keys, is_given, joined_keys, keys_done, keys_next}
 use Rattle.mvd_sync.specs.Meetings.{ArePlans, done_of, held_keys, noted, pair_of, taken_from, wanted}
 use Rattle.mvd_sync.specs.Questions.{ForEach, IsOfKey}
-use Rattle.mvd_sync.specs.Session.{AreDistinct, CanMeet, Each, Joins, is_member}
+use Rattle.mvd_sync.specs.Session.{AreDistinct, CanMeet, Each, is_member}
 use Rattle.mvd_sync.specs.Windows.{Pushes}
 use Rattle.mvd_sync.specs.declared.cursor.Entry.{Entry}
 use Rattle.mvd_sync.specs.declared.meetings.Meeting.{Meeting}
@@ -25,6 +25,7 @@ use Rattle.mvd_sync.proofs.Pushes.{tied}
 use Rattle.mvd_sync.proofs.Taking.{Ask, Phase, ask_keys, phase, same_state}
 use Rattle.mvd_sync.proofs.Window.{ArePlanned, IsPlanned, IsState, Pulled, Wants, Wants_peer, asked_keys, asks_of, included, it_has, left, mine as asks_mine, not_asked, nothing, pairs_same, theirs as asks_theirs, took, wants_local, wants_peer}
 use Rattle.mvd_sync.proofs.Windowed.{all_planned, distinct_keys, each_both, each_noted, facts, from_so_far, here, keys_noted, keys_of_done, local_phase, meeting_keys, not_after, pulled, same_x}
+use Rattle.mvd_sync.proofs.Positions.{JoinsBy, SoFarBy}
 
 Told : Type 0
 Told = Result (Unit {0}) Refusal
@@ -113,7 +114,7 @@ met_local most a b x x' m differ same (took r h is g) =
     subst (λ o. MatchBool (is_given o) (CanMeet a b m.key × (state_at x' m.key ≡ join (state_at a m.key) (state_at b m.key))) (get x' m.key ≡ get x m.key)) (sym r) (record { differ = differ; apart = h }, is)
 
 module _ (ml mp : ℕ) (number : Option ℕ) (a b x y x' y' : States) (done : List Done) (es : List Entry) (mine theirs : List State) (ms : List Meeting) (told told' : List (Result (Unit {0}) Refusal))
-    (so : SoFar ml mp number a b x y done) (next : AreNext a b done es) (held_a : AreHeld x) (held_b : AreHeld y) (none : is_too_large empty_state ≡ false)
+    (so : SoFarBy ml mp number a b x y done) (next : AreNext a b done es) (held_a : AreHeld x) (held_b : AreHeld y) (none : is_too_large empty_state ≡ false)
     (p : ForEach (IsState x) (held_keys AtLocal es) mine) (q : ForEach (IsState y) (held_keys AtPeer es) theirs) (plans : ArePlans number es mine theirs ms) where
   plan_of_all : ArePlanned number a b es ms
   plan_of_all = all_planned ml mp number a b x y x' y' done es mine theirs ms told told' so next held_a held_b none p q plans
@@ -133,7 +134,7 @@ module _ (ml mp : ℕ) (number : Option ℕ) (a b x y x' y' : States) (done : Li
   all_plans : Each (IsPlanned number a b) ms
   all_plans = plan_of_all.each
 
-  done_joins : (T U : Type 0) → Joins T U a b x y (joined_keys done) (given_keys done)
+  done_joins : (T U : Type 0) → JoinsBy T U a b x y (joined_keys done) (given_keys done)
   done_joins T U = joins_of ml mp a b x y number T U done so
 
   -- the local side took the first of them
@@ -159,7 +160,7 @@ module _ (ml mp : ℕ) (number : Option ℕ) (a b x y x' y' : States) (done : Li
     apart_local : (k : List ℕ) → is_member (joined_keys done) k ≡ true → is_member (took_keys local_asks ts) k ≡ false
     apart_local k h = no_part (took_keys local_asks ts) (keys_next es) k (λ yes. ap (λ ks. is_member ks k) (sym (local_keys ∙ keys_are)) ∙ took_asked k local_asks ts yes) (not_in (λ d. Rattle.mvd_sync.specs.Exchanges.is_joined d.refused) done (keys_next es) k next.distinct h)
 
-    pub cut_local : (T U : Type 0) → Joins T U a b mid y (joined_keys done ++ took_keys local_asks ts) (given_keys done ++ [])
+    pub cut_local : (T U : Type 0) → JoinsBy T U a b mid y (joined_keys done ++ took_keys local_asks ts) (given_keys done ++ [])
     cut_local = joins_more a b x y mid y (joined_keys done) (given_keys done) (took_keys local_asks ts) [] done_joins
         (λ k. took_at (Rattle.mvd_sync.specs.Session.AreTooMany ml a b) a b x mid local_asks ts (subst AreDistinct (sym local_keys) distinct) local_good local_cut.took k (λ out. local_cut.rest k out))
         (λ k. refl) (λ k h. absurd (true≢false (sym h))) apart_local
@@ -235,7 +236,7 @@ module _ (ml mp : ℕ) (number : Option ℕ) (a b x y x' y' : States) (done : Li
         (Each-weaker Both (λ (m : Meeting). MatchBool (is_given m.refused) (JoinedAt m.key) (get x' m.key ≡ get x m.key)) (λ m h. met_local ml a b x x' m h.0.0.0 h.0.1 h.1) after both))
         (λ out. (local_phase ml mp number a b x y x' y' done es mine theirs ms told told' so next held_a held_b none p q plans first one).rest k (ap (λ ks. is_member ks k) (asked_keys AtLocal ms ∙ keys_are ∙ sym now_keys) ∙ out))
 
-    pub cut_peer : (T U : Type 0) → Joins T U a b x' mid (joined_keys done ++ given_keys now) (given_keys done ++ took_keys peer_asks ts)
+    pub cut_peer : (T U : Type 0) → JoinsBy T U a b x' mid (joined_keys done ++ given_keys now) (given_keys done ++ took_keys peer_asks ts)
     cut_peer = joins_more a b x y x' mid (joined_keys done) (given_keys done) (given_keys now) (took_keys peer_asks ts) done_joins all_met
         (λ k. took_at (Rattle.mvd_sync.specs.Session.AreTooMany mp a b) a b y mid peer_asks ts (subst AreDistinct (sym peer_keys) distinct) peer_good peer_cut.took k (λ out. peer_cut.rest k out))
         (λ k h. member_has Has (took_keys peer_asks ts) were_given k h)

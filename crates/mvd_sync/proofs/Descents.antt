@@ -9,7 +9,7 @@ use Rattle.mvd_tree.specs.HashTree.{KeyDigests}
 use Rattle.mvd_sync.specs.Nodes.{differing_children}
 use Rattle.mvd_sync.specs.Questions.{AllAnswered, ComesToEnd, ForEach, IsInner, Keeps, AnswersEach}
 use Rattle.mvd_sync.specs.Session.{Each}
-use Rattle.mvd_sync.specs.Sides.{Blames, HasAnswered, IsFaultOf, Side, of_memory}
+use Rattle.mvd_sync.specs.Sides.{HasAnswered, IsFaultOf, SideOf, of_memory}
 use Rattle.mvd_sync.specs.Walk.{Descends, HaveAnswered, Reads, ReadsEnd, told, told_all}
 use Rattle.mvd_sync.specs.declared.asking.Node.{Node}
 use Rattle.mvd_sync.specs.declared.asking.Questions.{Questions}
@@ -21,6 +21,7 @@ use Rattle.std.proofs.Common.{slice_index_or}
 use Rattle.mvd_tree.specs.HashTree.{digits}
 use Rattle.mvd_sync.proofs.Compose.{answered_later, answered_still, blames_later, keeps_on}
 use Rattle.mvd_sync.proofs.Nodes.{AreLong, Each-append, differing_children-append, told-is}
+use Rattle.mvd_sync.proofs.Positions.{BlamesBy}
 
 -- ---- lists
 
@@ -112,24 +113,24 @@ some_answered T (q ∷ qs) (t ∷ ts) e h = e.0
 -- ---- questions after questions
 
 -- questions of one side, and then more
-pub reads_on : {S : Type 0} (s : Side S) (on : (m n : ℕ) (old mid new : S) → s.follows m old mid → s.follows n mid new → s.follows (m + n) old new) (m n left mid left' : ℕ) (old at new : S) → Reads s m left mid old at → Reads s n mid left' at new → Reads s (m + n) left left' old new
+pub reads_on : {S : Type 0} (s : SideOf S) (on : (m n : ℕ) (old mid new : S) → s.follows m old mid → s.follows n mid new → s.follows (m + n) old new) (m n left mid left' : ℕ) (old at new : S) → Reads s m left mid old at → Reads s n mid left' at new → Reads s (m + n) left left' old new
 reads_on s on m n left mid left' old at new p q = record {
   spent = let e = p.spent in let f = q.spent in omega (arith, e, f);
   follows = on m n old at new p.follows q.follows;
   kept = λ t. let k = p.kept t in keeps_on s old at new k (q.kept k.still);
 }
 
-pub reads_of : {S Q A : Type 0} (s : Side S) (May Right : Q → A → Type 0) (qs : List Q) (ts : List A) (left left' : ℕ) (old new : S) → AllAnswered s May (AnswersEach s Right qs ts old new) qs ts left left' old new → Reads s (length qs) left left' old new
+pub reads_of : {S Q A : Type 0} (s : SideOf S) (May Right : Q → A → Type 0) (qs : List Q) (ts : List A) (left left' : ℕ) (old new : S) → AllAnswered s May (AnswersEach s Right qs ts old new) qs ts left left' old new → Reads s (length qs) left left' old new
 reads_of s May Right qs ts left left' old new a = record { spent = a.spent; follows = a.follows; kept = λ t. (a.right t).kept }
 
-module _ {L P : Type 0} (l : Side L) (p : Side P)
+module _ {L P : Type 0} (l : SideOf L) (p : SideOf P)
     (on : (m n : ℕ) (old mid new : L) → l.follows m old mid → l.follows n mid new → l.follows (m + n) old new)
     (on' : (m n : ℕ) (old mid new : P) → p.follows m old mid → p.follows n mid new → p.follows (m + n) old new) where
   sums : (a b c : ℕ) → a + (b + c) ≡ (a + b) + c
   sums a b c = omega arith
 
   fault_later : (left mid : Questions) (n m : ℕ) (local local1 local2 : L) (peer peer1 peer2 : P) → Reads l n left.local mid.local local local1 → Reads p m left.peer mid.peer peer peer1 → (i j v w : ℕ) (fault : SyncFault)
-      → IsFaultOf (Blames l mid.local i v local1 local2) (Blames p mid.peer j w peer1 peer2) fault → IsFaultOf (Blames l left.local (n + i) v local local2) (Blames p left.peer (m + j) w peer peer2) fault
+      → IsFaultOf (BlamesBy l mid.local i v local1 local2) (BlamesBy p mid.peer j w peer1 peer2) fault → IsFaultOf (BlamesBy l left.local (n + i) v local local2) (BlamesBy p left.peer (m + j) w peer peer2) fault
   fault_later left mid n m local local1 local2 peer peer1 peer2 r q i j v w (Local refusal) h = blames_later l on left.local mid.local n local local1 local2 r.spent r.follows (λ t. (r.kept t).still) i v refusal h
   fault_later left mid n m local local1 local2 peer peer1 peer2 r q i j v w (Peer refusal) h = blames_later p on' left.peer mid.peer m peer peer1 peer2 q.spent q.follows (λ t. (q.kept t).still) j w refusal h
 

@@ -9,11 +9,11 @@ use Rattle.mvd_wire.proofs.Spellings.{length_empty}
 use Rattle.mvd_site.specs.Answer.{is_too_large}
 use Rattle.mvd_site.specs.Held.{AreHeld, States}
 use Rattle.mvd_sync.specs.Carries.{Carried, ExchangesAll, PlanEnds, Planned}
-use Rattle.mvd_sync.specs.Exchanges.{Done, IsHeldByEither, SoFar, keys_next}
+use Rattle.mvd_sync.specs.Exchanges.{Done, IsHeldByEither, keys_next}
 use Rattle.mvd_sync.specs.Meetings.{done_of, held_keys, noted, pair_of, taken_from}
 use Rattle.mvd_sync.specs.Questions.{ComesToEnd, ForEach, IsOfKey, Keeps, TakesFirst, TakesIn}
 use Rattle.mvd_sync.specs.Session.{ComesByPushes, Each}
-use Rattle.mvd_sync.specs.Sides.{IsSilent, Side as SideOf}
+use Rattle.mvd_sync.specs.Sides.{IsSilent, SideOf}
 use Rattle.mvd_sync.specs.Windows.{Pushes}
 use Rattle.mvd_sync.specs.declared.cursor.Entry.{Entry}
 use Rattle.mvd_sync.specs.declared.meetings.Meeting.{Meeting}
@@ -29,14 +29,15 @@ use Rattle.mvd_sync.proofs.Joined.{joins_some}
 use Rattle.mvd_sync.proofs.Planning.{held_short}
 use Rattle.mvd_sync.proofs.Stages.{changes_by, changes_first, comes_all, comes_first, gives, held_by_one, none_of, pairs_short, plan_keys, pulls, pushed_none, same_length, silent_gives}
 use Rattle.mvd_sync.proofs.Windowed.{keys_noted, keys_of_done, meeting_keys, so_far_on}
+use Rattle.mvd_sync.proofs.Positions.{SoFarBy}
 
 -- the state of a key that nobody has written is short
 pub short_empty : is_too_large empty_state ≡ false
 short_empty = le-ltb state_limit (length (spell_state empty_state)) (omega (arith, length_empty))
 
 -- the states are the same
-so_kept : (ml mp : ℕ) (number : Option ℕ) (a b x y x' y' : States) (done : List Done) → x' ≡ x → y' ≡ y → SoFar ml mp number a b x y done → SoFar ml mp number a b x' y' done
-so_kept ml mp number a b x y x' y' done e f so = subst (λ m. SoFar ml mp number a b m y' done) (sym e) (subst (λ m. SoFar ml mp number a b x m done) (sym f) so)
+so_kept : (ml mp : ℕ) (number : Option ℕ) (a b x y x' y' : States) (done : List Done) → x' ≡ x → y' ≡ y → SoFarBy ml mp number a b x y done → SoFarBy ml mp number a b x' y' done
+so_kept ml mp number a b x y x' y' done e f so = subst (λ m. SoFarBy ml mp number a b m y' done) (sym e) (subst (λ m. SoFarBy ml mp number a b x m done) (sym f) so)
 
 -- each answer of a key alone
 all_of_key : (pairs : List (List ℕ × State)) (told : List (Result (Unit {0}) Refusal)) → ForEach (λ _ t. IsOfKey t) pairs told → Each IsOfKey told
@@ -272,5 +273,5 @@ module _ {L P : Type 0} (l : SideOf L) (p : SideOf P) (number : Option ℕ) (ent
                 let second = subst (λ m. Pushes (p.most_keys peer) m pairs_p d.told (p.states peer2)) (keep_p u).states second in
                 let so_on = so_far_on (l.most_keys local) (p.most_keys peer) number a b (l.states local) (p.states peer) (l.states local2) (p.states peer2) done entries plan.mine plan.theirs ms c.told d.told so next
                 (form_l local t) (form_p peer u) short_empty (plan.from_local.right t).right (plan.from_peer.right u).right plan.plans (pushes_l t) one_l second (all_of_key pairs_p d.told d.answered.may) in
-                (subst (λ m. SoFar (l.most_keys local) (p.most_keys peer) number a b (l.states local2) (p.states peer2) (done ++ map done_of m)) (sym d.is) so_on, (took_l t).still, (took_p u).still);
+                (subst (λ m. SoFarBy (l.most_keys local) (p.most_keys peer) number a b (l.states local2) (p.states peer2) (done ++ map done_of m)) (sym d.is) so_on, (took_l t).still, (took_p u).still);
           }

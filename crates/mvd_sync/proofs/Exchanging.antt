@@ -7,10 +7,10 @@ use Rattle.mvd_dots.specs.declared.refusals.Refusal.TheVariants.{Broken, Memory}
 use Rattle.mvd_keys.specs.State.{State}
 use Rattle.mvd_site.specs.Held.{States}
 use Rattle.mvd_sync.specs.Carries.{ExchangesAll}
-use Rattle.mvd_sync.specs.Exchanges.{Adds, AreNext, Counts, Done, Exchanges, Exchanging, GoesOn, JoinsSome, SoFar, given_keys, keys_done, keys_next, left_keys}
+use Rattle.mvd_sync.specs.Exchanges.{Adds, AreNext, Counts, Done, Exchanges, Exchanging, given_keys, keys_done, keys_next, left_keys}
 use Rattle.mvd_sync.specs.Meetings.{done_of}
 use Rattle.mvd_sync.specs.Session.{AreDistinct, Changes}
-use Rattle.mvd_sync.specs.Sides.{Side as SideOf, of_memory}
+use Rattle.mvd_sync.specs.Sides.{SideOf, of_memory}
 use Rattle.mvd_sync.specs.declared.cursor.Entry.{Entry}
 use Rattle.mvd_sync.specs.declared.meetings.Meeting.{Meeting}
 use Rattle.mvd_sync.specs.declared.asking.Questions.{Questions}
@@ -19,6 +19,7 @@ use Rattle.mvd_sync.specs.declared.report.SyncFault.TheVariants.{Local, Peer}
 use Rattle.mvd_sync.proofs.Counting.{counts_on, given_one, left_one, one_of_two}
 use Rattle.mvd_sync.proofs.Going.{changes_none}
 use Rattle.mvd_sync.proofs.Joined.{joins_some}
+use Rattle.mvd_sync.proofs.Positions.{SoFarBy}
 
 -- a window of what waited
 pub window_at : {L P A : Type 0} (l : SideOf L) (p : SideOf P) (n m : Option ℕ) (es fs : List Entry) (left left' : Questions) (local local' : L) (peer peer' : P) (result : Result (Vec Meeting A) SyncFault) → n ≡ m → es ≡ fs
@@ -232,7 +233,7 @@ module _ {L P : Type 0} (l : SideOf L) (p : SideOf P) {B : Type 0} (self : (s : 
             record {
               now = [];
               is = ap keys_next (sym wait);
-              so_far = subst (SoFar (l.most_keys local) (p.most_keys peer) before.number a b (l.states local) (p.states peer)) (sym nil) so;
+              so_far = subst (SoFarBy (l.most_keys local) (p.most_keys peer) before.number a b (l.states local) (p.states peer)) (sym nil) so;
               counts = subst (λ ds. Counts ds after) (sym nil) (subst (Counts done) (sym is) (record { keys = counts.keys; refused = counts.refused; first_refused = counts.first_refused; older = counts.older }));
               waits = subst (λ ds. AreNext a b ds after.waiting) (sym nil) (subst (AreNext a b done) (sym wait) more);
               still = (t, u);

@@ -4,13 +4,13 @@ use Rattle.std.proofs.lemmas.List.{length-drop, length-take, take-append-drop, t
 use Rattle.mvd_dots.specs.declared.refusals.Refusal.{Refusal}
 use Rattle.mvd_dots.specs.declared.refusals.Refusal.TheVariants.{Memory}
 use Rattle.mvd_sync.specs.Questions.{ComesToEnd, Keeps}
-use Rattle.mvd_sync.specs.Sides.{Side, of_memory}
+use Rattle.mvd_sync.specs.Sides.{SideOf, of_memory}
 use Rattle.mvd_sync.specs.Walk.{Reads, ReadsEnd}
 use Rattle.mvd_sync.specs.declared.asking.Questions.{Questions}
 use Rattle.mvd_sync.specs.declared.report.SyncFault.TheVariants.{Local, Peer}
 use Rattle.mvd_sync.proofs.Compose.{blames_later, keeps_on}
 
-module _ {L P : Type 0} (l : Side L) (p : Side P) (most n m left_l left_p : ℕ) (left : Questions) (local local1 : L) (peer peer1 : P)
+module _ {L P : Type 0} (l : SideOf L) (p : SideOf P) (most n m left_l left_p : ℕ) (left : Questions) (local local1 : L) (peer peer1 : P)
     (first : Reads l n left.local left_l local local1) (second : Reads p m left.peer left_p peer peer1) (few_l : n ≤ most) (few_p : m ≤ most) (refusal : Refusal) where
   pub local_fails : (on : (m n : ℕ) (old mid new : L) → l.follows m old mid → l.follows n mid new → l.follows (m + n) old new) (k : ℕ) (local2 : L) → n + k ≤ most → ComesToEnd l (Keeps l local1 local2) k left_l local1 local2 refusal
       → ReadsEnd l p (λ asked. asked ≤ most) left local local2 peer peer1 (Local refusal)

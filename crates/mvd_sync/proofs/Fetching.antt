@@ -10,14 +10,14 @@ use Rattle.mvd_sync.specs.Answers.{Entry, IsPage, IsPageOf}
 use Rattle.mvd_sync.specs.Buckets.{ArePages, FillEnds, IsSpent}
 use Rattle.mvd_sync.specs.Questions.{AllAnswered, ComesToEnd, Fills, ForEach, Keeps, AnswersEach}
 use Rattle.mvd_sync.specs.Session.{Each}
-use Rattle.mvd_sync.specs.Sides.{Side, of_answer, of_side, is_of_question}
+use Rattle.mvd_sync.specs.Sides.{SideOf, of_answer, of_side, is_of_question}
 use Rattle.mvd_sync.specs.Walk.{Reads}
 use Rattle.mvd_sync.specs.declared.asking.Questions.{Questions}
 use Rattle.mvd_sync.specs.declared.report.SyncFault.TheVariants.{Local, Peer}
 use Rattle.mvd_sync.proofs.Descents.{Each-at, answers_long}
 
 -- a page that no true side tells
-pub page_refused : {S X : Type 0} (s : Side S) (IsTold : Type 0) (result : Result X Refusal) (left left' : ℕ) (old new : S) → left ≡ left' + 1 → s.follows 1 old new → (s.is_faithful old → Keeps s old new) → (s.is_faithful old → IsTold)
+pub page_refused : {S X : Type 0} (s : SideOf S) (IsTold : Type 0) (result : Result X Refusal) (left left' : ℕ) (old new : S) → left ≡ left' + 1 → s.follows 1 old new → (s.is_faithful old → Keeps s old new) → (s.is_faithful old → IsTold)
     → IfErr result (λ refusal. (refusal ≡ BadBody) × (IsTold → ⊥)) → IfErr result (ComesToEnd s (Keeps s old new) 1 left old new)
 page_refused s IsTold (Ok page) left left' old new spent follows kept told bad = tt
 page_refused s IsTold (Err refusal) left left' old new spent follows kept told bad = record {
@@ -32,7 +32,7 @@ page_refused s IsTold (Err refusal) left left' old new spent follows kept told b
 }
 
 -- it was refused
-pub one_refused : {S : Type 0} (s : Side S) (left left' : ℕ) (old new : S) (refusal : Refusal) → left ≡ left' + 1 → s.follows 1 old new → s.follows 0 new new → s.can_refuse new refusal → (s.is_faithful old → is_of_question refusal ≡ false) → (s.is_faithful old → Keeps s old new)
+pub one_refused : {S : Type 0} (s : SideOf S) (left left' : ℕ) (old new : S) (refusal : Refusal) → left ≡ left' + 1 → s.follows 1 old new → s.follows 0 new new → s.can_refuse new refusal → (s.is_faithful old → is_of_question refusal ≡ false) → (s.is_faithful old → Keeps s old new)
     → ComesToEnd s (Keeps s old new) 1 left old new refusal
 one_refused s left left' old new refusal spent follows self told not_of_key kept = record {
   asked = 1;
@@ -45,7 +45,7 @@ one_refused s left left' old new refusal spent follows self told not_of_key kept
   right = kept;
 }
 
-module _ {L P : Type 0} (l : Side L) (p : Side P) (path : List ℕ) (after : Option (List ℕ)) (mine theirs : List Entry × Bool) (left : Questions) (local : L) (peer : P) where
+module _ {L P : Type 0} (l : SideOf L) (p : SideOf P) (path : List ℕ) (after : Option (List ℕ)) (mine theirs : List Entry × Bool) (left : Questions) (local : L) (peer : P) where
   -- the local listing was not filled
   pub local_unfilled : (self : (s : P) → p.follows 0 s s) (local' : L) (refusal : Refusal) → ComesToEnd l (Keeps l local local') 1 left.local local local' refusal → IsSpent mine → FillEnds l p mine theirs left local local' peer peer (Local refusal)
   local_unfilled self local' refusal e spent = record {
@@ -113,7 +113,7 @@ pages_deep paths asked deep is = subst (Each (λ (q : List ℕ × Option (List �
 abbrev pub IsGoodPage : List Entry × Bool → Type 0
 IsGoodPage page = (page.0 ≡ [] → page.1 ≡ false) × (length page.0 < 2 ^ 64)
 
-module _ {S : Type 0} (s : Side S) (held : KeyDigests) (T : Type 0) where
+module _ {S : Type 0} (s : SideOf S) (held : KeyDigests) (T : Type 0) where
   good_pages : (paths : List (List ℕ)) (pages : List (List Entry × Bool)) → ForEach {Q = List ℕ × Option (List ℕ)} (λ q page. IsPage None page.0 page.1 × (length page.0 < 2 ^ 64) × T) (map (λ path. (path, None)) paths) pages → Each IsGoodPage pages
   good_pages [] [] h = tt
   good_pages [] (x ∷ pages) h = absurd h
@@ -126,7 +126,7 @@ module _ {S : Type 0} (s : Side S) (held : KeyDigests) (T : Type 0) where
   first_told (q ∷ paths) [] h = absurd h
   first_told (q ∷ paths) (x ∷ pages) h = (h.0, first_told paths pages h.1)
 
-module _ {S : Type 0} (s : Side S) (T : Type 0) (paths : List (List ℕ)) (asked : List (List ℕ × Option (List ℕ))) (pages : List (List Entry × Bool)) (left left' : ℕ) (old new : S) (is : asked ≡ map (λ path. (path, None)) paths)
+module _ {S : Type 0} (s : SideOf S) (T : Type 0) (paths : List (List ℕ)) (asked : List (List ℕ × Option (List ℕ))) (pages : List (List Entry × Bool)) (left left' : ℕ) (old new : S) (is : asked ≡ map (λ path. (path, None)) paths)
     (h : AllAnswered s (λ q page. IsPage None page.0 page.1 × (length page.0 < 2 ^ 64) × T) (AnswersEach s (λ q page. IsPageOf (digests (s.states old)) q.0 q.1 page.0 page.1) asked pages old new) asked pages left left' old new) where
   as_long : length asked ≡ length paths
   as_long = ap length is ∙ length-map paths (λ path. (path, None))

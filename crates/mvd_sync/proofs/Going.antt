@@ -7,7 +7,7 @@ use Rattle.mvd_site.specs.Held.{States}
 use Rattle.mvd_sync.specs.Buckets.{Goes}
 use Rattle.mvd_sync.specs.Exchanges.{Exchanges, Exchanging}
 use Rattle.mvd_sync.specs.Session.{Changes}
-use Rattle.mvd_sync.specs.Sides.{Blames, IsFaultOf, IsSilent, Side}
+use Rattle.mvd_sync.specs.Sides.{IsFaultOf, IsSilent, SideOf}
 use Rattle.mvd_sync.specs.Walk.{Reads, ReadsEnd}
 use Rattle.mvd_sync.specs.declared.cursor.Entry.{Entry}
 use Rattle.mvd_sync.specs.declared.asking.Questions.{Questions}
@@ -15,6 +15,7 @@ use Rattle.mvd_sync.specs.declared.report.SyncFault.{SyncFault}
 use Rattle.mvd_sync.specs.declared.report.SyncFault.TheVariants.{Local, Peer}
 use Rattle.mvd_sync.proofs.Compose.{blames_later}
 use Rattle.mvd_sync.proofs.Pushes.{more_pushes, no_pushes}
+use Rattle.mvd_sync.proofs.Positions.{BlamesBy}
 
 -- ---- results
 
@@ -44,7 +45,7 @@ changes_on T U broken can_give old mid new x result first then =
 
 -- ---- two sides
 
-module _ {L P : Type 0} (l : Side L) (p : Side P) where
+module _ {L P : Type 0} (l : SideOf L) (p : SideOf P) where
   unfoldable pub goes_of_exchange : {A : Type 0} (next : List Entry) (left left' : Questions) (local local' : L) (peer peer' : P) (before after : Exchanging) (result : Result A SyncFault) → length next ≤ length before.waiting + 1 → Exchanges l p next left left' local local' peer peer' before after result
       → Goes l p left left' local local' peer peer' before after result
   goes_of_exchange next left left' local local' peer peer' before after result one e = record {
@@ -122,8 +123,8 @@ module _ {L P : Type 0} (l : Side L) (p : Side P) where
       (on' : (m n : ℕ) (old mid new : P) → p.follows m old mid → p.follows n mid new → p.follows (m + n) old new)
       {A B : Type 0} (left mid left' : Questions) (local local1 local2 : L) (peer peer1 peer2 : P) (before at after : Exchanging) (x : A) (result : Result B SyncFault)
       (first : Goes l p left mid local local1 peer peer1 before at (Ok x)) (second : Goes l p mid left' local1 local2 peer1 peer2 at after result) where
-    pub fault_on : (fault : SyncFault) → IsFaultOf (Blames l mid.local second.asked_local second.wanted_local local1 local2) (Blames p mid.peer second.asked_peer second.wanted_peer peer1 peer2) fault
-        → IsFaultOf (Blames l left.local (first.asked_local + second.asked_local) second.wanted_local local local2) (Blames p left.peer (first.asked_peer + second.asked_peer) second.wanted_peer peer peer2) fault
+    pub fault_on : (fault : SyncFault) → IsFaultOf (BlamesBy l mid.local second.asked_local second.wanted_local local1 local2) (BlamesBy p mid.peer second.asked_peer second.wanted_peer peer1 peer2) fault
+        → IsFaultOf (BlamesBy l left.local (first.asked_local + second.asked_local) second.wanted_local local local2) (BlamesBy p left.peer (first.asked_peer + second.asked_peer) second.wanted_peer peer peer2) fault
     fault_on (Local refusal) h = blames_later l on left.local mid.local first.asked_local local local1 local2 first.spent.0 first.follows.0 (λ t. (first.local_side t).after_ok) second.asked_local second.wanted_local refusal h
     fault_on (Peer refusal) h = blames_later p on' left.peer mid.peer first.asked_peer peer peer1 peer2 first.spent.1 first.follows.1 (λ t. (first.peer_side t).after_ok) second.asked_peer second.wanted_peer refusal h
 

@@ -9,11 +9,12 @@ use Rattle.mvd_dots.specs.declared.refusals.Refusal.{Refusal}
 use Rattle.mvd_keys.specs.State.{join}
 use Rattle.mvd_tree.proofs.Under.{keys_same}
 use Rattle.mvd_site.specs.Held.{States, state_at}
-use Rattle.mvd_sync.specs.Exchanges.{CameTo, Done, IsDone, JoinsSome, SoFar, given_keys, is_given, is_joined, joined_keys, keys_done}
-use Rattle.mvd_sync.specs.Session.{AreDistinct, CanMeet, Each, Joins, is_member}
+use Rattle.mvd_sync.specs.Exchanges.{Done, given_keys, is_given, is_joined, joined_keys, keys_done}
+use Rattle.mvd_sync.specs.Session.{AreDistinct, CanMeet, Each, is_member}
 use Rattle.mvd_sync.specs.declared.report.Side.{Side}
 use Rattle.mvd_sync.specs.declared.report.Side.TheVariants.{Local as AtLocal, Peer as AtPeer}
 use Rattle.mvd_sync.proofs.Keys.{Each-weaker, or_cases, or_left, or_right}
+use Rattle.mvd_sync.proofs.Positions.{CameToBy, IsDoneBy, JoinsBy, JoinsSomeBy, SoFarBy}
 
 -- ---- a part of the keys
 
@@ -66,27 +67,27 @@ some_part k d (AtPeer, refusal) ds h = or_later (eq_by_cmp (slice_cmp nat_cmp) k
 -- ---- both sides
 
 module _ (most_local most_peer : ℕ) (a b a' b' : States) where
-  came_local : (key : List ℕ) (refused : Option (Side × Refusal)) → CameTo most_local most_peer a b a' b' key refused → MatchBool (is_joined refused) (state_at a' key ≡ join (state_at a key) (state_at b key)) (get a' key ≡ get a key)
-  came_local key None h = h.1
-  came_local key (Some (AtLocal, refusal)) h = h.1
-  came_local key (Some (AtPeer, refusal)) h = h.1
+  came_local : (number : Option ℕ) (key : List ℕ) (refused : Option (Side × Refusal)) → CameToBy most_local most_peer number a b a' b' key refused → MatchBool (is_joined refused) (state_at a' key ≡ join (state_at a key) (state_at b key)) (get a' key ≡ get a key)
+  came_local number key None h = h.1
+  came_local number key (Some (AtLocal, refusal)) h = h.1
+  came_local number key (Some (AtPeer, refusal)) h = h.1
 
-  came_peer : (key : List ℕ) (refused : Option (Side × Refusal)) → CameTo most_local most_peer a b a' b' key refused → MatchBool (is_given refused) (state_at b' key ≡ join (state_at a key) (state_at b key)) (get b' key ≡ get b key)
-  came_peer key None h = h.2
-  came_peer key (Some (AtLocal, refusal)) h = h.2
-  came_peer key (Some (AtPeer, refusal)) h = h.2
+  came_peer : (number : Option ℕ) (key : List ℕ) (refused : Option (Side × Refusal)) → CameToBy most_local most_peer number a b a' b' key refused → MatchBool (is_given refused) (state_at b' key ≡ join (state_at a key) (state_at b key)) (get b' key ≡ get b key)
+  came_peer number key None h = h.2
+  came_peer number key (Some (AtLocal, refusal)) h = h.2
+  came_peer number key (Some (AtPeer, refusal)) h = h.2
 
-  came_met : (key : List ℕ) (refused : Option (Side × Refusal)) → CameTo most_local most_peer a b a' b' key refused → MatchBool (is_joined refused) (CanMeet a b key) (Unit {0})
-  came_met key None h = h.0
-  came_met key (Some (AtLocal, refusal)) h = tt
-  came_met key (Some (AtPeer, refusal)) h = h.0
+  came_met : (number : Option ℕ) (key : List ℕ) (refused : Option (Side × Refusal)) → CameToBy most_local most_peer number a b a' b' key refused → MatchBool (is_joined refused) (CanMeet a b key) (Unit {0})
+  came_met number key None h = h.0
+  came_met number key (Some (AtLocal, refusal)) h = tt
+  came_met number key (Some (AtPeer, refusal)) h = h.0
 
   given_joined : (refused : Option (Side × Refusal)) (P : Type 0) → P → MatchBool (is_given refused) P (Unit {0})
   given_joined None P h = h
   given_joined (Some r) P h = tt
 
-  each_of : (number : Option ℕ) (P : Done → Type 0) → ((d : Done) → CameTo most_local most_peer a b a' b' d.key d.refused → P d) → (ds : List Done) → Each (IsDone most_local most_peer number a b a' b') ds → Each P ds
-  each_of number P f ds each = Each-weaker (IsDone most_local most_peer number a b a' b') P (λ d h. f d h.came) ds each
+  each_of : (number : Option ℕ) (P : Done → Type 0) → ((d : Done) → CameToBy most_local most_peer number a b a' b' d.key d.refused → P d) → (ds : List Done) → Each (IsDoneBy most_local most_peer number a b a' b') ds → Each P ds
+  each_of number P f ds each = Each-weaker (IsDoneBy most_local most_peer number a b a' b') P (λ d h. f d h.came) ds each
 
   -- what was given to both was joined
   given_part : (k : List ℕ) (ds : List Done) → is_member (given_keys ds) k ≡ true → is_member (joined_keys ds) k ≡ true
@@ -100,18 +101,18 @@ module _ (most_local most_peer : ℕ) (a b a' b' : States) where
         | Some r ↦ λ h. some_part k d r ds (given_part k ds h)
       ] h
 
-  pub joins_of : (number : Option ℕ) (T U : Type 0) (done : List Done) → SoFar most_local most_peer number a b a' b' done → Joins T U a b a' b' (joined_keys done) (given_keys done)
+  pub joins_of : (number : Option ℕ) (T U : Type 0) (done : List Done) → SoFarBy most_local most_peer number a b a' b' done → JoinsBy T U a b a' b' (joined_keys done) (given_keys done)
   joins_of number T U done so = record {
     part = λ k h. given_part k done h;
     met = λ k h. if_true (is_member (joined_keys done) k) (CanMeet a b k) (Unit {0})
         (member_at (λ d. is_joined d.refused) (CanMeet a b) (λ _. Unit {0}) k done so.distinct
-        (each_of number (λ d. MatchBool (is_joined d.refused) (CanMeet a b d.key) (Unit {0})) (λ d h. came_met d.key d.refused h) done so.each) (λ _. tt)) h;
+        (each_of number (λ d. MatchBool (is_joined d.refused) (CanMeet a b d.key) (Unit {0})) (λ d h. came_met number d.key d.refused h) done so.each) (λ _. tt)) h;
     local_side = λ _ k. member_at (λ d. is_joined d.refused) (λ k. state_at a' k ≡ join (state_at a k) (state_at b k)) (λ k. get a' k ≡ get a k) k done so.distinct
-        (each_of number (λ d. MatchBool (is_joined d.refused) (state_at a' d.key ≡ join (state_at a d.key) (state_at b d.key)) (get a' d.key ≡ get a d.key)) (λ d h. came_local d.key d.refused h) done so.each) (λ no. (so.rest k no).0);
+        (each_of number (λ d. MatchBool (is_joined d.refused) (state_at a' d.key ≡ join (state_at a d.key) (state_at b d.key)) (get a' d.key ≡ get a d.key)) (λ d h. came_local number d.key d.refused h) done so.each) (λ no. (so.rest k no).0);
     peer_side = λ _ k. member_at (λ d. is_given d.refused) (λ k. state_at b' k ≡ join (state_at a k) (state_at b k)) (λ k. get b' k ≡ get b k) k done so.distinct
-        (each_of number (λ d. MatchBool (is_given d.refused) (state_at b' d.key ≡ join (state_at a d.key) (state_at b d.key)) (get b' d.key ≡ get b d.key)) (λ d h. came_peer d.key d.refused h) done so.each) (λ no. (so.rest k no).1);
+        (each_of number (λ d. MatchBool (is_given d.refused) (state_at b' d.key ≡ join (state_at a d.key) (state_at b d.key)) (get b' d.key ≡ get b d.key)) (λ d h. came_peer number d.key d.refused h) done so.each) (λ no. (so.rest k no).1);
   }
 
   -- a fault that changes nothing
-  pub joins_some : (number : Option ℕ) (T U : Type 0) (done : List Done) → SoFar most_local most_peer number a b a' b' done → JoinsSome T U a b a' b'
+  pub joins_some : (number : Option ℕ) (T U : Type 0) (done : List Done) → SoFarBy most_local most_peer number a b a' b' done → JoinsSomeBy T U a b a' b'
   joins_some number T U done so = record { joined = joined_keys done; given = given_keys done; joins = joins_of number T U done so }

@@ -1,3 +1,4 @@
+pub mod Positions
 pub mod JoinLaws
 pub mod Pushes
 pub mod Keys

@@ -5,13 +5,14 @@ use Rattle.std.specs.FinMap.{get}
 use Rattle.std.proofs.lemmas.List.{map-append}
 use Rattle.mvd_keys.specs.Writes.{Key}
 use Rattle.mvd_site.specs.Held.{States}
-use Rattle.mvd_sync.specs.Exchanges.{AreNext, Counts, Done, Exchanging, GoesOn, IsNext, SoFar, keys_done, keys_next}
+use Rattle.mvd_sync.specs.Exchanges.{AreNext, Counts, Done, Exchanging, IsNext, keys_done, keys_next}
 use Rattle.mvd_sync.specs.Session.{AreDistinct, Each}
-use Rattle.mvd_sync.specs.Sides.{Side}
+use Rattle.mvd_sync.specs.Sides.{SideOf}
 use Rattle.mvd_sync.specs.declared.cursor.Entry.{Entry}
 use Rattle.mvd_sync.proofs.Descents.{Each-left, Each-right}
 use Rattle.mvd_sync.proofs.Keys.{no_member}
 use Rattle.mvd_sync.proofs.Nodes.{Each-append}
+use Rattle.mvd_sync.proofs.Positions.{GoesOnBy, SoFarBy}
 
 pub keys_done-append : (xs ys : List Done) → keys_done (xs ++ ys) ≡ keys_done xs ++ keys_done ys
 keys_done-append xs ys = map-append (λ d. d.key) xs ys
@@ -48,15 +49,15 @@ module _ (done now : List Done) (next waiting more : List Entry) (is : keys_next
 
 -- ---- between two true sides
 
-module _ {L P : Type 0} (l : Side L) (p : Side P) (number : Option ℕ) (a b : States) (done : List Done) (most_local most_peer : ℕ) where
+module _ {L P : Type 0} (l : SideOf L) (p : SideOf P) (number : Option ℕ) (a b : States) (done : List Done) (most_local most_peer : ℕ) where
   -- at the beginning all of them wait
-  pub goes_from : (local : L) (peer : P) (e : Exchanging) → l.is_faithful local → p.is_faithful peer → SoFar most_local most_peer number a b (l.states local) (p.states peer) done → Counts done e → AreNext a b done e.waiting → GoesOn l p number a b done e.waiting local peer most_local most_peer e
+  pub goes_from : (local : L) (peer : P) (e : Exchanging) → l.is_faithful local → p.is_faithful peer → SoFarBy most_local most_peer number a b (l.states local) (p.states peer) done → Counts done e → AreNext a b done e.waiting → GoesOnBy l p number a b done e.waiting local peer most_local most_peer e
   goes_from local peer e t u so counts next =
       let none : done ++ [] ≡ done = append-none done in
       record {
         now = [];
         is = refl;
-        so_far = subst (SoFar most_local most_peer number a b (l.states local) (p.states peer)) (sym none) so;
+        so_far = subst (SoFarBy most_local most_peer number a b (l.states local) (p.states peer)) (sym none) so;
         counts = subst (λ ds. Counts ds e) (sym none) counts;
         waits = subst (λ ds. AreNext a b ds e.waiting) (sym none) next;
         still = (t, u);
@@ -67,8 +68,8 @@ module _ {L P : Type 0} (l : Side L) (p : Side P) (number : Option ℕ) (a b : S
       append-none (x ∷ xs) = ap (λ ys. x ∷ ys) (append-none xs)
 
   -- after more keys
-  pub goes_further : (next more : List Entry) (local1 local2 : L) (peer1 peer2 : P) (at after : Exchanging) → (g : GoesOn l p number a b done next local1 peer1 most_local most_peer at)
-      → GoesOn l p number a b (done ++ g.now) (at.waiting ++ more) local2 peer2 most_local most_peer after → GoesOn l p number a b done (next ++ more) local2 peer2 most_local most_peer after
+  pub goes_further : (next more : List Entry) (local1 local2 : L) (peer1 peer2 : P) (at after : Exchanging) → (g : GoesOnBy l p number a b done next local1 peer1 most_local most_peer at)
+      → GoesOnBy l p number a b (done ++ g.now) (at.waiting ++ more) local2 peer2 most_local most_peer after → GoesOnBy l p number a b done (next ++ more) local2 peer2 most_local most_peer after
   goes_further next more local1 local2 peer1 peer2 at after g h =
       let both : (done ++ g.now) ++ h.now ≡ done ++ (g.now ++ h.now) = append_assoc done g.now h.now in
       record {
@@ -76,7 +77,7 @@ module _ {L P : Type 0} (l : Side L) (p : Side P) (number : Option ℕ) (a b : S
         is =
             next_is_more done g.now next at.waiting more g.is ∙ ap (λ ks. keys_done g.now ++ ks) h.is
             ∙ sym (append_assoc (keys_done g.now) (keys_done h.now) (keys_next after.waiting)) ∙ ap (λ ks. ks ++ keys_next after.waiting) (sym (keys_done-append g.now h.now));
-        so_far = subst (SoFar most_local most_peer number a b (l.states local2) (p.states peer2)) both h.so_far;
+        so_far = subst (SoFarBy most_local most_peer number a b (l.states local2) (p.states peer2)) both h.so_far;
         counts = subst (λ ds. Counts ds after) both h.counts;
         waits = subst (λ ds. AreNext a b ds after.waiting) both h.waits;
         still = h.still;
@@ -84,18 +85,18 @@ module _ {L P : Type 0} (l : Side L) (p : Side P) (number : Option ℕ) (a b : S
 
   -- after questions that change nothing
   pub goes_still : (next : List Entry) (local1 local2 : L) (peer1 peer2 : P) (at : Exchanging) → l.is_faithful local2 → l.states local2 ≡ l.states local1 → p.is_faithful peer2 → p.states peer2 ≡ p.states peer1
-      → GoesOn l p number a b done next local1 peer1 most_local most_peer at → GoesOn l p number a b done next local2 peer2 most_local most_peer at
+      → GoesOnBy l p number a b done next local1 peer1 most_local most_peer at → GoesOnBy l p number a b done next local2 peer2 most_local most_peer at
   goes_still next local1 local2 peer1 peer2 at t same u same' g = record {
     now = g.now;
     is = g.is;
-    so_far = subst (λ m. SoFar most_local most_peer number a b m (p.states peer2) (done ++ g.now)) (sym same) (subst (λ n. SoFar most_local most_peer number a b (l.states local1) n (done ++ g.now)) (sym same') g.so_far);
+    so_far = subst (λ m. SoFarBy most_local most_peer number a b m (p.states peer2) (done ++ g.now)) (sym same) (subst (λ n. SoFarBy most_local most_peer number a b (l.states local1) n (done ++ g.now)) (sym same') g.so_far);
     counts = g.counts;
     waits = g.waits;
     still = (t, u);
   }
 
   -- what is none of these keys is as it was
-  pub untouched : (next : List Entry) (local' : L) (peer' : P) (at : Exchanging) (Apart : Key → Type 0) → GoesOn l p number a b done next local' peer' most_local most_peer at → Each Apart (keys_done done ++ keys_next next) → (q : Key) → (Apart q → ⊥) → (get (l.states local') q ≡ get a q) × (get (p.states peer') q ≡ get b q)
+  pub untouched : (next : List Entry) (local' : L) (peer' : P) (at : Exchanging) (Apart : Key → Type 0) → GoesOnBy l p number a b done next local' peer' most_local most_peer at → Each Apart (keys_done done ++ keys_next next) → (q : Key) → (Apart q → ⊥) → (get (l.states local') q ≡ get a q) × (get (p.states peer') q ≡ get b q)
   untouched next local' peer' at Apart g each q never =
       let these : Each Apart (keys_done done) = Each-left Apart (keys_done done) (keys_next next) each in
       let those : Each Apart (keys_done g.now ++ keys_next at.waiting) = subst (Each Apart) g.is (Each-right Apart (keys_done done) (keys_next next) each) in

@@ -7,7 +7,7 @@ use Rattle.mvd_keys.specs.State.{State}
 use Rattle.mvd_sync.specs.Carries.{Gives, PlanEnds}
 use Rattle.mvd_sync.specs.Meetings.{held_keys, is_held}
 use Rattle.mvd_sync.specs.Questions.{ComesToEnd, Keeps}
-use Rattle.mvd_sync.specs.Sides.{Side as SideOf, of_memory}
+use Rattle.mvd_sync.specs.Sides.{SideOf, of_memory}
 use Rattle.mvd_sync.specs.declared.cursor.Entry.{Entry}
 use Rattle.mvd_sync.specs.declared.asking.Questions.{Questions}
 use Rattle.mvd_sync.specs.declared.report.Side.{Side}

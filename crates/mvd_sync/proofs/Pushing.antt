@@ -8,11 +8,12 @@ use Rattle.mvd_dots.specs.declared.refusals.Refusal.TheVariants.{Broken, Memory,
 use Rattle.mvd_keys.specs.State.{State}
 use Rattle.mvd_keys.specs.Writes.{Key}
 use Rattle.mvd_sync.specs.Questions.{AllAnswered, ComesToEnd, ForEach, IsOfKey, TakesFirst, TakesIn}
-use Rattle.mvd_sync.specs.Sides.{Blames, HasAnswered, HasRefused, Side, is_of_key, is_of_question, of_memory, of_questions, of_side}
+use Rattle.mvd_sync.specs.Sides.{HasAnswered, HasRefused, SideOf, is_of_key, is_of_question, of_memory, of_questions, of_side}
 use Rattle.mvd_sync.specs.Windows.{Asked, EachAnswer, EachTold, Ends, Pushes, PushesFirst}
 use Rattle.mvd_sync.proofs.Answering.{told_at}
 use Rattle.mvd_sync.proofs.Compose.{ends_for_memory, refused_later}
 use Rattle.mvd_sync.proofs.ManyPushes.{first_later, pushes-append, pushes_apart}
+use Rattle.mvd_sync.proofs.Positions.{BlamesBy}
 
 abbrev Told : Type 0
 Told = Result (Unit {0}) Refusal
@@ -52,7 +53,7 @@ told_in P T ts refusal h in_it = (told_at P T ts in_it.0 (Err refusal) h in_it.1
 -- ---- pushes so far
 
 -- the first pairs were pushed, and the rest were not
-pub record FrontPushed {S : Type 0} (s : Side S) (pairs rest : List Pair) (told : List Told) (left left' : ℕ) (old new : S) : Type 0 where
+pub record FrontPushed {S : Type 0} (s : SideOf S) (pairs rest : List Pair) (told : List Told) (left left' : ℕ) (old new : S) : Type 0 where
   pub done : List Pair
   pub whole : pairs ≡ done ++ rest
   pub spent : left ≡ left' + length done
@@ -61,7 +62,7 @@ pub record FrontPushed {S : Type 0} (s : Side S) (pairs rest : List Pair) (told 
   pub took : s.is_faithful old → s.is_faithful new × Pushes (s.most_keys old) (s.states old) done told (s.states new)
 
 -- the rest, as a slice has it
-pub front_rest : {S : Type 0} (s : Side S) (pairs rest : List Pair) (told us : List Told) (left left' : ℕ) (old new : S) (taken count n : ℕ) → taken ≤ count → count ≤ taken → n ≡ length rest - count → us ≡ told → FrontPushed s pairs (drop taken rest) told left left' old new → FrontPushed s pairs (take n (drop count rest)) us left left' old new
+pub front_rest : {S : Type 0} (s : SideOf S) (pairs rest : List Pair) (told us : List Told) (left left' : ℕ) (old new : S) (taken count n : ℕ) → taken ≤ count → count ≤ taken → n ≡ length rest - count → us ≡ told → FrontPushed s pairs (drop taken rest) told left left' old new → FrontPushed s pairs (take n (drop count rest)) us left left' old new
 front_rest s pairs rest told us left left' old new taken count n low high is same f =
     let at : taken ≡ count = omega arith in
     let long : length (drop count rest) ≤ n = let e = length-drop count rest in omega arith in
@@ -72,7 +73,7 @@ pub no_pairs : (xs : List Pair) → length xs ≡ 0 → xs ≡ []
 no_pairs [] e = refl
 no_pairs (x ∷ xs) e = absurd (omega arith)
 
-module _ {S : Type 0} (s : Side S) (pairs : List Pair) (left : ℕ) (old : S) where
+module _ {S : Type 0} (s : SideOf S) (pairs : List Pair) (left : ℕ) (old : S) where
   pub none_pushed : s.follows 0 old old → FrontPushed s pairs pairs [] left left old old
   none_pushed self = record { done = []; whole = refl; spent = omega arith; follows = self; many = refl; took = λ t. (t, refl) }
 
@@ -95,7 +96,7 @@ module _ {S : Type 0} (s : Side S) (pairs : List Pair) (left : ℕ) (old : S) wh
       }
 
   -- and the last answer, or what was made of it, ended them
-  pub ended_after : (rest : List Pair) (told : List Told) (left' : ℕ) (new : S) (refusal : Refusal) (f : FrontPushed s pairs rest told left left' old new) → Blames s left (length f.done) 0 old new refusal → (s.is_faithful old → is_of_question refusal ≡ false) → ComesToEnd s (TakesFirst s pairs old new refusal) (length pairs) left old new refusal
+  pub ended_after : (rest : List Pair) (told : List Told) (left' : ℕ) (new : S) (refusal : Refusal) (f : FrontPushed s pairs rest told left left' old new) → BlamesBy s left (length f.done) 0 old new refusal → (s.is_faithful old → is_of_question refusal ≡ false) → ComesToEnd s (TakesFirst s pairs old new refusal) (length pairs) left old new refusal
   ended_after rest told left' new refusal f why not_of_key =
       let longer : length pairs ≡ length f.done + length rest = ap length f.whole ∙ length-append f.done rest in
       record {
@@ -142,7 +143,7 @@ module _ {S : Type 0} (s : Side S) (pairs : List Pair) (left : ℕ) (old : S) wh
 
 -- ---- one window more
 
-module _ {S : Type 0} (s : Side S) (on : (m n : ℕ) (old mid new : S) → s.follows m old mid → s.follows n mid new → s.follows (m + n) old new) (stays : (n : ℕ) (old new : S) → s.follows n old new → s.most_keys new ≡ s.most_keys old) where
+module _ {S : Type 0} (s : SideOf S) (on : (m n : ℕ) (old mid new : S) → s.follows m old mid → s.follows n mid new → s.follows (m + n) old new) (stays : (n : ℕ) (old new : S) → s.follows n old new → s.most_keys new ≡ s.most_keys old) where
   module _ (pairs rest : List Pair) (told answers : List Told) (left left' left'' taken : ℕ) (old mid new : S) (before : FrontPushed s pairs rest told left left' old mid) (spent : left' ≡ left'' + taken) (low : taken ≤ length rest) where
     many : length (take taken rest) ≡ taken
     many = length-take-le taken rest low

@@ -8,10 +8,10 @@ use Rattle.std.specs.Cmp.Lexicographic.{slice_cmp}
 use Rattle.std.specs.FinMap.{get, len}
 use Rattle.mvd_tree.proofs.Under.{keys_same}
 use Rattle.mvd_site.specs.Held.{AreHeld, States}
-use Rattle.mvd_sync.specs.Buckets.{Finds, FindsAll, Goes, GoesOver, held_in}
-use Rattle.mvd_sync.specs.Exchanges.{AreNext, Done, Exchanges, Exchanging, GoesOn, IsNext, JoinsSome, SoFar, given_keys, joined_keys, keys_done, keys_next}
-use Rattle.mvd_sync.specs.Session.{AreDistinct, AreFew, Each, HasAllThatDiffer, Meets, Session, is_member}
-use Rattle.mvd_sync.specs.Sides.{HasAnswered, Side as SideOf}
+use Rattle.mvd_sync.specs.Buckets.{Goes, GoesOver, held_in}
+use Rattle.mvd_sync.specs.Exchanges.{AreNext, Done, Exchanges, Exchanging, IsNext, given_keys, joined_keys, keys_done, keys_next}
+use Rattle.mvd_sync.specs.Session.{AreDistinct, AreFew, Each, HasAllThatDiffer, Session, is_member}
+use Rattle.mvd_sync.specs.Sides.{HasAnswered, SideOf}
 use Rattle.mvd_sync.specs.Walk.{FindsBuckets, ReadsEnd, AreFewFor}
 use Rattle.mvd_sync.specs.declared.cursor.Entry.{Entry}
 use Rattle.mvd_sync.specs.declared.asking.Questions.{Questions}
@@ -23,6 +23,7 @@ use Rattle.mvd_sync.proofs.Joined.{joins_of, joins_some}
 use Rattle.mvd_sync.proofs.Keys.{Each-weaker, member_has}
 use Rattle.mvd_sync.proofs.Telling.{tells_of}
 use Rattle.mvd_sync.proofs.Walks.{digests_differ}
+use Rattle.mvd_sync.proofs.Positions.{FindsAllBy, FindsBy, GoesOnBy, JoinsSomeBy, MeetsBy, SoFarBy}
 
 abbrev tie : List ℕ → List ℕ → Bool
 tie k q = eq_by_cmp (slice_cmp nat_cmp) k q
@@ -87,7 +88,7 @@ module _ {L P : Type 0} (l : SideOf L) (p : SideOf P) (most : ℕ) (local local'
   all_left = record { local = most; peer = most }
 
   pub session_ends : {A : Type 0} (fault : SyncFault) (g : Goes {A = A} l p all_left left' local local' peer peer' before after (Err fault))
-      → (l.is_faithful local → p.is_faithful peer → JoinsSome (l.is_faithful local') (p.is_faithful peer') (l.states local) (p.states peer) (l.states local') (p.states peer'))
+      → (l.is_faithful local → p.is_faithful peer → JoinsSomeBy (l.is_faithful local') (p.is_faithful peer') (l.states local) (p.states peer) (l.states local') (p.states peer'))
       → (l.is_faithful local → p.is_faithful peer → (differing : List (List ℕ)) → HasAllThatDiffer (l.states local) (p.states peer) differing → AreFew (g.asked_local + g.wanted_local) (l.states local) differing × AreFew (g.asked_peer + g.wanted_peer) (p.states peer) differing)
       → Session l p most local local' peer peer' (Err fault)
   session_ends fault g joins few = record {
@@ -109,7 +110,7 @@ module _ {L P : Type 0} (l : SideOf L) (p : SideOf P) (most : ℕ) (local local'
 
   pub session_done : {A : Type 0} (x : A) (report : Report) (g : Goes {A = A} l p all_left left' local local' peer peer' before after (Ok x))
       → HasAnswered l.follows l.can_answer local local' × HasAnswered p.follows p.can_answer peer peer'
-      → (l.is_faithful local → p.is_faithful peer → Meets (l.is_faithful local') (p.is_faithful peer') (l.most_keys local) (p.most_keys peer) (l.number local) (l.states local) (p.states peer) (l.states local') (p.states peer') (Ok report))
+      → (l.is_faithful local → p.is_faithful peer → MeetsBy (l.is_faithful local') (p.is_faithful peer') (l.most_keys local) (p.most_keys peer) (l.number local) (l.states local) (p.states peer) (l.states local') (p.states peer') (Ok report))
       → (l.is_faithful local → p.is_faithful peer → (differing : List (List ℕ)) → HasAllThatDiffer (l.states local) (p.states peer) differing → AreFew (g.asked_local + g.wanted_local) (l.states local) differing × AreFew (g.asked_peer + g.wanted_peer) (p.states peer) differing)
       → Session l p most local local' peer peer' (Ok report)
   session_done x report g answers meets few = record {
@@ -130,7 +131,7 @@ module _ {L P : Type 0} (l : SideOf L) (p : SideOf P) (most : ℕ) (local local'
   }
 
 -- nothing was done so far
-so_none : (ml mp : ℕ) (number : Option ℕ) (a b x y : States) → x ≡ a → y ≡ b → SoFar ml mp number a b x y []
+so_none : (ml mp : ℕ) (number : Option ℕ) (a b x y : States) → x ≡ a → y ≡ b → SoFarBy ml mp number a b x y []
 so_none ml mp number a b x y e f = record { distinct = tt; each = tt; rest = λ k _. (ap (λ m. get m k) e, ap (λ m. get m k) f) }
 
 abbrev pub begins_with : Option ℕ → Exchanging
@@ -173,7 +174,7 @@ module _ {L P : Type 0} (l : SideOf L) (p : SideOf P)
     gone = goes_on l p on on' total mid left2 local local1 local2 peer peer1 peer2 start start e2 (tt {0}) r2 walked second.goes
 
     abbrev Found : ℕ → ℕ → Type 0
-    Found x y = Finds l p (l.number local) (l.states local) (p.states peer) [] paths (length paths) (held_in (l.states local) paths) (held_in (p.states peer) paths) (second.goes.asked_local + second.goes.wanted_local) (second.goes.asked_peer + second.goes.wanted_peer) local2 peer2 x y start e2 r2
+    Found x y = FindsBy l p (l.number local) (l.states local) (p.states peer) [] paths (length paths) (held_in (l.states local) paths) (held_in (p.states peer) paths) (second.goes.asked_local + second.goes.wanted_local) (second.goes.asked_peer + second.goes.wanted_peer) local2 peer2 x y start e2 r2
 
     pub found_there : l.is_faithful local → p.is_faithful peer → Found (l.most_keys local) (p.most_keys peer)
     found_there t u =
@@ -222,12 +223,12 @@ module _ {L P : Type 0} (l : SideOf L) (p : SideOf P)
     most_p2 = most_p second.goes.asked_peer peer1 peer2 second.goes.follows.1 ∙ most_p w.asked peer peer1 w.peer_side.follows
 
     abbrev Ends : List Done → ℕ → ℕ → Option ℕ → Type 0
-    Ends done x y o = MatchResult r3 (λ _. GoesOn l p o (l.states local) (p.states peer) done e2.waiting local3 peer3 x y e3) (λ _. JoinsSome (l.is_faithful local3) (p.is_faithful peer3) (l.states local) (p.states peer) (l.states local3) (p.states peer3))
+    Ends done x y o = MatchResult r3 (λ _. GoesOnBy l p o (l.states local) (p.states peer) done e2.waiting local3 peer3 x y e3) (λ _. JoinsSomeBy (l.is_faithful local3) (p.is_faithful peer3) (l.states local) (p.states peer) (l.states local3) (p.states peer3))
 
     abbrev Steps : List Done → ℕ → ℕ → Option ℕ → Type 0
-    Steps done x y o = SoFar x y o (l.states local) (p.states peer) (l.states local2) (p.states peer2) done → Ends done x y o
+    Steps done x y o = SoFarBy x y o (l.states local) (p.states peer) (l.states local2) (p.states peer2) done → Ends done x y o
 
-    all_found : (t : l.is_faithful local) (u : p.is_faithful peer) → FindsAll l p (l.number local) (l.states local) (p.states peer) [] paths (found_there (Ok x2) second t u).found (found_there (Ok x2) second t u).found (length paths + (found_there (Ok x2) second t u).pages_local) (length paths + (found_there (Ok x2) second t u).pages_peer) (second.goes.asked_local + second.goes.wanted_local) (second.goes.asked_peer + second.goes.wanted_peer) local2 peer2 (l.most_keys local) (p.most_keys peer) e2
+    all_found : (t : l.is_faithful local) (u : p.is_faithful peer) → FindsAllBy l p (l.number local) (l.states local) (p.states peer) [] paths (found_there (Ok x2) second t u).found (found_there (Ok x2) second t u).found (length paths + (found_there (Ok x2) second t u).pages_local) (length paths + (found_there (Ok x2) second t u).pages_peer) (second.goes.asked_local + second.goes.wanted_local) (second.goes.asked_peer + second.goes.wanted_peer) local2 peer2 (l.most_keys local) (p.most_keys peer) e2
     all_found t u = (found_there (Ok x2) second t u).ends
 
     ended : (t : l.is_faithful local) (u : p.is_faithful peer) → Ends (all_found t u).goes_on.now (l.most_keys local) (p.most_keys peer) (l.number local)

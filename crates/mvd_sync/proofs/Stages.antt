@@ -12,7 +12,7 @@ use Rattle.mvd_sync.specs.Exchanges.{IsHeldByEither, keys_next}
 use Rattle.mvd_sync.specs.Meetings.{ArePlans, held_keys, is_held, noted, pair_of, rest_if, taken_from}
 use Rattle.mvd_sync.specs.Questions.{ForEach, TakesFirst, TakesIn}
 use Rattle.mvd_sync.specs.Session.{Changes, ComesByPushes, Each, pushed_all}
-use Rattle.mvd_sync.specs.Sides.{HasAnswered, IsSilent, Side as SideOf}
+use Rattle.mvd_sync.specs.Sides.{HasAnswered, IsSilent, SideOf}
 use Rattle.mvd_sync.specs.declared.cursor.Entry.{Entry}
 use Rattle.mvd_sync.specs.declared.meetings.Meeting.{Meeting}
 use Rattle.mvd_sync.specs.declared.asking.Questions.{Questions}

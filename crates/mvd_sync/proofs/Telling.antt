@@ -12,16 +12,18 @@ use Rattle.mvd_tree.proofs.Under.{keys_same}
 use Rattle.mvd_tree.specs.Hashed.{HashesTellApart}
 use Rattle.mvd_site.specs.Answer.{spelled}
 use Rattle.mvd_site.specs.Held.{States}
-use Rattle.mvd_sync.specs.Exchanges.{CameTo, Counts, Done, Exchanging, IsDone, SoFar, given_keys, is_given, is_joined, joined_keys, keys_done, left_keys}
-use Rattle.mvd_sync.specs.Session.{AreDistinct, CannotMeet, Each, IsIn, IsLeft, IsOld, Left, ReportsDone, is_member, most_of, own_of}
+use Rattle.mvd_sync.specs.Exchanges.{Counts, Done, Exchanging, given_keys, is_given, is_joined, joined_keys, keys_done, left_keys, left_as}
+use Rattle.mvd_sync.specs.Session.{AreDistinct, CannotMeet, Each, IsIn, IsLeft, IsOld, is_member}
 use Rattle.mvd_sync.specs.declared.report.Report.{Report}
+use Rattle.mvd_sync.specs.declared.report.Left.{Left}
 use Rattle.mvd_sync.specs.declared.report.Side.{Side}
 use Rattle.mvd_sync.specs.declared.report.Side.TheVariants.{Local as AtLocal, Peer as AtPeer}
 use Rattle.mvd_sync.proofs.Joined.{filtered, member_at}
 use Rattle.mvd_sync.proofs.Keys.{Each-weaker, is_member-append, or_left, or_right}
+use Rattle.mvd_sync.proofs.Positions.{CameToBy, IsDoneBy, ReportsDoneBy, SoFarBy, before_by}
 
 abbrev names : List Left → List (List ℕ)
-names ls = map (λ l. l.0) ls
+names ls = map (λ l. l.key) ls
 
 by_bool : (b : Bool) (R : Type 0) → (b ≡ true → R) → (b ≡ false → R) → R
 by_bool true R f g = f refl
@@ -52,7 +54,7 @@ in_parts [] k = refl
 in_parts (d ∷ ds) k =
     let rest = in_parts ds k in
     let key = d.key in
-    elim d.refused as (λ o. (is_member (keys_done (cond (is_given o) (d ∷ filter (λ (d : Done). is_given d.refused) ds) (filter (λ (d : Done). is_given d.refused) ds))) k || is_member (names (cons_option (option_map (λ (r : Side × Refusal). (key, r)) o) (left_keys ds))) k) ≡ (tie k key || is_member (keys_done ds) k)) [
+    elim d.refused as (λ o. (is_member (keys_done (cond (is_given o) (d ∷ filter (λ (d : Done). is_given d.refused) ds) (filter (λ (d : Done). is_given d.refused) ds))) k || is_member (names (cons_option (option_map (left_as key) o) (left_keys ds))) k) ≡ (tie k key || is_member (keys_done ds) k)) [
       | None ↦ shift (tie k key) (is_member (given_keys ds) k) (is_member (names (left_keys ds)) k) ∙ ap (λ b. tie k key || b) rest
       | Some r ↦ swap_in (is_member (given_keys ds) k) (is_member (names (left_keys ds)) k) (tie k key) ∙ ap (λ b. tie k key || b) rest
     ]
@@ -77,7 +79,7 @@ parts_distinct (d ∷ ds) h =
     let rest = parts_distinct ds h.1 in
     let key = d.key in
     let none = parts_are ds key ∙ h.0 in
-    elim d.refused as (λ o. AreDistinct (keys_done (cond (is_given o) (d ∷ filter (λ (d : Done). is_given d.refused) ds) (filter (λ (d : Done). is_given d.refused) ds)) ++ names (cons_option (option_map (λ (r : Side × Refusal). (key, r)) o) (left_keys ds)))) [
+    elim d.refused as (λ o. AreDistinct (keys_done (cond (is_given o) (d ∷ filter (λ (d : Done). is_given d.refused) ds) (filter (λ (d : Done). is_given d.refused) ds)) ++ names (cons_option (option_map (left_as key) o) (left_keys ds)))) [
       | None ↦ (none, rest)
       | Some r ↦ insert_later key (given_keys ds) (names (left_keys ds)) none rest
     ]
@@ -85,11 +87,11 @@ parts_distinct (d ∷ ds) h =
 -- ---- the keys that were refused
 
 -- this of each
-left_each : (Q : Done → Type 0) (R : Left → Type 0) → ((d : Done) (r : Side × Refusal) → Q d → d.refused ≡ Some r → R (d.key, r)) → (ds : List Done) → Each Q ds → Each R (left_keys ds)
+left_each : (Q : Done → Type 0) (R : Left → Type 0) → ((d : Done) (r : Side × Refusal) → Q d → d.refused ≡ Some r → R (left_as d.key r)) → (ds : List Done) → Each Q ds → Each R (left_keys ds)
 left_each Q R f [] h = tt
 left_each Q R f (d ∷ ds) h =
     let key = d.key in
-    elim d.refused as (λ o. d.refused ≡ o → Each R (cons_option (option_map (λ (r : Side × Refusal). (key, r)) o) (left_keys ds))) [
+    elim d.refused as (λ o. d.refused ≡ o → Each R (cons_option (option_map (left_as key) o) (left_keys ds))) [
       | None ↦ λ e. left_each Q R f ds h.1
       | Some r ↦ λ e. (f d r h.0 e, left_each Q R f ds h.1)
     ] refl
@@ -120,7 +122,7 @@ joined_is (d ∷ ds) h =
       others d ds h (keys_done ds) ds (λ k yes. yes) (joined_is ds h.1),
     )
 
-left_side : (joined : List (List ℕ)) (key : List ℕ) (r : Side × Refusal) → is_member joined key ≡ is_joined (Some r) → IsLeft joined (key, r)
+left_side : (joined : List (List ℕ)) (key : List ℕ) (r : Side × Refusal) → is_member joined key ≡ is_joined (Some r) → IsLeft joined (left_as key r)
 left_side joined key (AtLocal, refusal) h = h
 left_side joined key (AtPeer, refusal) h = h
 
@@ -137,9 +139,9 @@ or_else true X Y Z h = h
 or_else false X Y Z h = inl h
 
 module _ (ml mp : ℕ) (number : Option ℕ) (a b a' b' : States) where
-  left_cause : (key : List ℕ) (refused : Option (Side × Refusal)) (r : Side × Refusal) → refused ≡ Some r → CameTo ml mp a b a' b' key refused → CannotMeet (most_of ml mp r.0) (own_of a b r.0) a b key r.1 × (get a key ≢ get b key)
-  left_cause key refused (AtLocal, refusal) e h = let c = subst (CameTo ml mp a b a' b' key) e h in (c.3, c.0)
-  left_cause key refused (AtPeer, refusal) e h = let c = subst (CameTo ml mp a b a' b' key) e h in (c.3, c.0.differ)
+  left_cause : (key : List ℕ) (refused : Option (Side × Refusal)) (r : Side × Refusal) → refused ≡ Some r → CameToBy ml mp number a b a' b' key refused → CannotMeet (before_by ml mp number a b) r.0 key r.1 × (get a key ≢ get b key)
+  left_cause key refused (AtLocal, refusal) e h = let c = subst (CameToBy ml mp number a b a' b' key) e h in (c.3, c.0)
+  left_cause key refused (AtPeer, refusal) e h = let c = subst (CameToBy ml mp number a b a' b' key) e h in (c.3, c.0.differ)
 
   -- ---- the keys of which the local state was older
 
@@ -161,11 +163,11 @@ module _ (ml mp : ℕ) (number : Option ℕ) (a b a' b' : States) where
         | false ↦ λ h o. true≢false (sym (h.1 o))
       ] h
 
-  are_olds : (ds : List Done) → SoFar ml mp number a b a' b' ds → (key : List ℕ) → IsIn (olds ds) key ↔ (IsIn (given_keys ds ++ names (left_keys ds)) key × IsOld number a b key)
+  are_olds : (ds : List Done) → SoFarBy ml mp number a b a' b' ds → (key : List ℕ) → IsIn (olds ds) key ↔ (IsIn (given_keys ds ++ names (left_keys ds)) key × IsOld number a b key)
   are_olds ds so key =
       let at : MatchBool (is_member (olds ds) key) (IsOld number a b key) ((IsOld number a b key → ⊥) ⊎ (is_member (keys_done ds) key ≡ false))
       = member_at (λ (d : Done). d.is_old) (IsOld number a b) (λ k. (IsOld number a b k → ⊥) ⊎ (is_member (keys_done ds) k ≡ false)) key ds so.distinct
-      (Each-weaker (IsDone ml mp number a b a' b') (λ (d : Done). MatchBool d.is_old (IsOld number a b d.key) ((IsOld number a b d.key → ⊥) ⊎ (is_member (keys_done ds) d.key ≡ false)))
+      (Each-weaker (IsDoneBy ml mp number a b a' b') (λ (d : Done). MatchBool d.is_old (IsOld number a b d.key) ((IsOld number a b d.key → ⊥) ⊎ (is_member (keys_done ds) d.key ≡ false)))
       (λ d h. or_else d.is_old (IsOld number a b d.key) (IsOld number a b d.key → ⊥) (is_member (keys_done ds) d.key ≡ false) (old_at d h.old)) ds so.each) (λ out. inr out) in (
         λ h. (
           by_bool (is_member (given_keys ds ++ names (left_keys ds)) key) (IsIn (given_keys ds ++ names (left_keys ds)) key) (λ yes. yes)
@@ -181,8 +183,8 @@ module _ (ml mp : ℕ) (number : Option ℕ) (a b a' b' : States) where
 
   -- ---- the report
 
-  pub tells_of : (done : List Done) (e : Exchanging) (report : Report) → SoFar ml mp number a b a' b' done → Counts done e → report.keys ≡ e.keys → report.refused ≡ e.refused → report.old ≡ e.older → report.first_refused ≡ e.first_refused
-      → (HashesTellApart spelled a b → (key : List ℕ) → get a key ≢ get b key → is_member (keys_done done) key ≡ true) → ReportsDone ml mp number a b (joined_keys done) (given_keys done) report
+  pub tells_of : (done : List Done) (e : Exchanging) (report : Report) → SoFarBy ml mp number a b a' b' done → Counts done e → report.keys ≡ e.keys → report.refused ≡ e.refused → report.old ≡ e.older → report.first_refused ≡ e.first_refused
+      → (HashesTellApart spelled a b → (key : List ℕ) → get a key ≢ get b key → is_member (keys_done done) key ≡ true) → ReportsDoneBy ml mp number a b (joined_keys done) (given_keys done) report
   tells_of done e report so counts keys refused old first all = record {
     left = left_keys done;
     old_keys = olds done;
@@ -191,8 +193,8 @@ module _ (ml mp : ℕ) (number : Option ℕ) (a b a' b' : States) where
         (λ out. absurd (true≢false (sym h ∙ filtered (λ (d : Done). is_joined d.refused) key done (sym (parts_are done key) ∙ out))));
     sides = left_each (λ (d : Done). is_member (joined_keys done) d.key ≡ is_joined d.refused) (IsLeft (joined_keys done))
         (λ d r h e. left_side (joined_keys done) d.key r (h ∙ ap is_joined e)) done (joined_is done so.distinct);
-    causes = left_each (IsDone ml mp number a b a' b') (λ l. CannotMeet (most_of ml mp l.1.0) (own_of a b l.1.0) a b l.0 l.1.1) (λ d r h e. (left_cause d.key d.refused r e h.came).0) done so.each;
-    differed = left_each (IsDone ml mp number a b a' b') (λ l. get a l.0 ≢ get b l.0) (λ d r h e. (left_cause d.key d.refused r e h.came).1) done so.each;
+    causes = left_each (IsDoneBy ml mp number a b a' b') (λ l. CannotMeet (before_by ml mp number a b) l.side l.key l.refusal) (λ d r h e. (left_cause d.key d.refused r e h.came).0) done so.each;
+    differed = left_each (IsDoneBy ml mp number a b a' b') (λ l. get a l.key ≢ get b l.key) (λ d r h e. (left_cause d.key d.refused r e h.came).1) done so.each;
     all = λ apart key differ. parts_are done key ∙ all apart key differ;
     counted = (keys ∙ counts.keys, refused ∙ counts.refused, first ∙ counts.first_refused);
     older = (olds_distinct done so.distinct, old ∙ counts.older ∙ sym (length-map (filter (λ (d : Done). d.is_old) done) (λ (d : Done). d.key)));

@@ -11,11 +11,11 @@ use Rattle.mvd_site.specs.Answer.{digests}
 use Rattle.mvd_site.specs.Held.{States}
 use Rattle.mvd_tree.specs.HashTree.{KeyDigests, is_under, path_of_key}
 use Rattle.mvd_sync.specs.Answers.{IsPageOf}
-use Rattle.mvd_sync.specs.Buckets.{AreElsewhere, ArePages, Finds, FindsAll, GoesOver, GoesThrough, held_in}
-use Rattle.mvd_sync.specs.Exchanges.{AreNext, Done, Exchanging, GoesOn, JoinsSome, SoFar, keys_done, keys_next}
+use Rattle.mvd_sync.specs.Buckets.{AreElsewhere, ArePages, GoesOver, GoesThrough, held_in}
+use Rattle.mvd_sync.specs.Exchanges.{AreNext, Done, Exchanging, keys_done, keys_next}
 use Rattle.mvd_sync.specs.Nodes.{has_below}
 use Rattle.mvd_sync.specs.Session.{AreDistinct, Each, IsIn, is_member}
-use Rattle.mvd_sync.specs.Sides.{Side}
+use Rattle.mvd_sync.specs.Sides.{SideOf}
 use Rattle.mvd_sync.specs.Walk.{Reads, ReadsEnd}
 use Rattle.mvd_sync.specs.declared.cursor.Entry.{Entry}
 use Rattle.mvd_sync.specs.declared.asking.Questions.{Questions}
@@ -28,6 +28,7 @@ use Rattle.mvd_sync.proofs.Keys.{Each-weaker, is_member-append, no_member, or_ca
 use Rattle.mvd_sync.proofs.Nexts.{goes_from, goes_further, keys_done-append, keys_next-append, were_next}
 use Rattle.mvd_sync.proofs.Nodes.{AreLong, Each-append, begins-one, or_first, or_second}
 use Rattle.mvd_sync.proofs.Pushes.{tied}
+use Rattle.mvd_sync.proofs.Positions.{FindsAllBy, FindsBy, GoesOnBy, JoinsSomeBy, SoFarBy}
 
 -- ---- lists of buckets
 
@@ -93,10 +94,10 @@ elsewhere_second ps qs done now waiting found at d l is elsewhere below =
 
 -- ---- what was found in the first buckets and in the others
 
-module _ {L P A : Type 0} (l : Side L) (p : Side P) (number : Option ℕ) (a b : States) (done : List Done) (ps qs : List (List ℕ)) (most_local most_peer firsts1 firsts2 asked_l1 asked_p1 asked_l2 asked_p2 : ℕ) (local1 local2 : L) (peer1 peer2 : P) (before at after : Exchanging)
-    (first : Finds {A = Unit {0}} l p number a b done ps firsts1 (held_in a ps) (held_in b ps) asked_l1 asked_p1 local1 peer1 most_local most_peer before at (Ok (tt {0})))
+module _ {L P A : Type 0} (l : SideOf L) (p : SideOf P) (number : Option ℕ) (a b : States) (done : List Done) (ps qs : List (List ℕ)) (most_local most_peer firsts1 firsts2 asked_l1 asked_p1 asked_l2 asked_p2 : ℕ) (local1 local2 : L) (peer1 peer2 : P) (before at after : Exchanging)
+    (first : FindsBy {A = Unit {0}} l p number a b done ps firsts1 (held_in a ps) (held_in b ps) asked_l1 asked_p1 local1 peer1 most_local most_peer before at (Ok (tt {0})))
     (result : Result A SyncFault)
-    (second : Finds l p number a b (done ++ first.ends.goes_on.now) qs firsts2 (held_in a qs) (held_in b qs) asked_l2 asked_p2 local2 peer2 most_local most_peer at after result) where
+    (second : FindsBy l p number a b (done ++ first.ends.goes_on.now) qs firsts2 (held_in a qs) (held_in b qs) asked_l2 asked_p2 local2 peer2 most_local most_peer at after result) where
   found_both : List Entry
   found_both = first.found ++ second.found
 
@@ -115,14 +116,14 @@ module _ {L P A : Type 0} (l : Side L) (p : Side P) (number : Option ℕ) (a b :
       ]
 
   ends_both : (r : Result A SyncFault)
-      → MatchResult r (λ _. FindsAll l p number a b (done ++ first.ends.goes_on.now) qs second.found (at.waiting ++ second.found) (firsts2 + second.pages_local) (firsts2 + second.pages_peer) asked_l2 asked_p2 local2 peer2 most_local most_peer after)
-      (λ _. JoinsSome (l.is_faithful local2) (p.is_faithful peer2) a b (l.states local2) (p.states peer2))
-      → MatchResult r (λ _. FindsAll l p number a b done (ps ++ qs) (first.found ++ second.found) (before.waiting ++ (first.found ++ second.found)) ((firsts1 + firsts2) + (first.pages_local + second.pages_local)) ((firsts1 + firsts2) + (first.pages_peer + second.pages_peer)) (asked_l1 + asked_l2) (asked_p1 + asked_p2) local2 peer2 most_local most_peer after)
-      (λ _. JoinsSome (l.is_faithful local2) (p.is_faithful peer2) a b (l.states local2) (p.states peer2))
+      → MatchResult r (λ _. FindsAllBy l p number a b (done ++ first.ends.goes_on.now) qs second.found (at.waiting ++ second.found) (firsts2 + second.pages_local) (firsts2 + second.pages_peer) asked_l2 asked_p2 local2 peer2 most_local most_peer after)
+      (λ _. JoinsSomeBy (l.is_faithful local2) (p.is_faithful peer2) a b (l.states local2) (p.states peer2))
+      → MatchResult r (λ _. FindsAllBy l p number a b done (ps ++ qs) (first.found ++ second.found) (before.waiting ++ (first.found ++ second.found)) ((firsts1 + firsts2) + (first.pages_local + second.pages_local)) ((firsts1 + firsts2) + (first.pages_peer + second.pages_peer)) (asked_l1 + asked_l2) (asked_p1 + asked_p2) local2 peer2 most_local most_peer after)
+      (λ _. JoinsSomeBy (l.is_faithful local2) (p.is_faithful peer2) a b (l.states local2) (p.states peer2))
   ends_both (Err fault) h = h
   ends_both (Ok done_) h = record {
     all = all_both h.all;
-    goes_on = subst (λ es. GoesOn l p number a b done es local2 peer2 most_local most_peer after) (append_assoc before.waiting first.found second.found)
+    goes_on = subst (λ es. GoesOnBy l p number a b done es local2 peer2 most_local most_peer after) (append_assoc before.waiting first.found second.found)
         (goes_further l p number a b done most_local most_peer (before.waiting ++ first.found) second.found local1 local2 peer1 peer2 at after first.ends.goes_on h.goes_on);
     fewer =
         let k = keys_both in
@@ -131,7 +132,7 @@ module _ {L P A : Type 0} (l : Side L) (p : Side P) (number : Option ℕ) (a b :
         (omega (arith, k.0, k.1, x.0, y.0), omega (arith, k.0, k.1, x.1, y.1));
   }
 
-  pub finds_both : Finds l p number a b done (ps ++ qs) (firsts1 + firsts2) (held_in a (ps ++ qs)) (held_in b (ps ++ qs)) (asked_l1 + asked_l2) (asked_p1 + asked_p2) local2 peer2 most_local most_peer before after result
+  pub finds_both : FindsBy l p number a b done (ps ++ qs) (firsts1 + firsts2) (held_in a (ps ++ qs)) (held_in b (ps ++ qs)) (asked_l1 + asked_l2) (asked_p1 + asked_p2) local2 peer2 most_local most_peer before after result
   finds_both =
       let k = keys_both in
       let x = first.ends.fewer in
@@ -155,11 +156,11 @@ module _ {L P A : Type 0} (l : Side L) (p : Side P) (number : Option ℕ) (a b :
       }
 
 -- by so many questions, however they are counted
-found_at : {L P A : Type 0} (l : Side L) (p : Side P) (number : Option ℕ) (a b : States) (done : List Done) (paths : List (List ℕ)) (firsts held_local held_peer i j i' j' : ℕ) (local' : L) (peer' : P) (most_local most_peer : ℕ) (before after : Exchanging) (result : Result A SyncFault) → i ≡ i' → j ≡ j'
-    → Finds l p number a b done paths firsts held_local held_peer i j local' peer' most_local most_peer before after result → Finds l p number a b done paths firsts held_local held_peer i' j' local' peer' most_local most_peer before after result
+found_at : {L P A : Type 0} (l : SideOf L) (p : SideOf P) (number : Option ℕ) (a b : States) (done : List Done) (paths : List (List ℕ)) (firsts held_local held_peer i j i' j' : ℕ) (local' : L) (peer' : P) (most_local most_peer : ℕ) (before after : Exchanging) (result : Result A SyncFault) → i ≡ i' → j ≡ j'
+    → FindsBy l p number a b done paths firsts held_local held_peer i j local' peer' most_local most_peer before after result → FindsBy l p number a b done paths firsts held_local held_peer i' j' local' peer' most_local most_peer before after result
 found_at l p number a b done paths firsts held_local held_peer i j i' j' local' peer' most_local most_peer before after result e e' h =
-    subst (λ n. Finds l p number a b done paths firsts held_local held_peer n j' local' peer' most_local most_peer before after result) e
-    (subst (λ m. Finds l p number a b done paths firsts held_local held_peer i m local' peer' most_local most_peer before after result) e' h)
+    subst (λ n. FindsBy l p number a b done paths firsts held_local held_peer n j' local' peer' most_local most_peer before after result) e
+    (subst (λ m. FindsBy l p number a b done paths firsts held_local held_peer i m local' peer' most_local most_peer before after result) e' h)
 
 later_sum : (a v b w : ℕ) → v ≡ 0 → (a + v) + (b + w) ≡ (a + b) + w
 later_sum a v b w none = omega (arith, none)
@@ -170,7 +171,7 @@ sums n a w = omega arith
 -- ---- buckets that are gone over, and then others
 
 -- nothing was gone over
-module _ {L P : Type 0} (l : Side L) (p : Side P) (Told : States → States → Type 0) (self : (s : L) → l.follows 0 s s) (self' : (s : P) → p.follows 0 s s) (left : Questions) (local : L) (peer : P) (before : Exchanging) where
+module _ {L P : Type 0} (l : SideOf L) (p : SideOf P) (Told : States → States → Type 0) (self : (s : L) → l.follows 0 s s) (self' : (s : P) → p.follows 0 s s) (left : Questions) (local : L) (peer : P) (before : Exchanging) where
   pub through_none : GoesThrough l p Told [] 0 left left local local peer peer before before (Ok (tt {0}))
   unfolding goes_nowhere goes_of_reads
   through_none = record {
@@ -188,14 +189,14 @@ module _ {L P : Type 0} (l : Side L) (p : Side P) (Told : States → States → 
           few = (omega arith, omega arith);
           ends = record {
             all = λ key h differ. absurd (cc);
-            goes_on = subst (λ es. GoesOn l p before.number a b done es local peer (l.most_keys local) (p.most_keys peer) before) (sym none) (goes_from l p before.number a b done (l.most_keys local) (p.most_keys peer) local peer before t u so counts next);
+            goes_on = subst (λ es. GoesOnBy l p before.number a b done es local peer (l.most_keys local) (p.most_keys peer) before) (sym none) (goes_from l p before.number a b done (l.most_keys local) (p.most_keys peer) local peer before t u so counts next);
             fewer = (omega (arith, n), omega (arith, n));
           };
         };
   }
 
 -- what was said of the sides as they are is so of them as they were
-module _ {L P : Type 0} (l : Side L) (p : Side P)
+module _ {L P : Type 0} (l : SideOf L) (p : SideOf P)
     (stays : (n : ℕ) (old new : L) → l.follows n old new → l.most_keys new ≡ l.most_keys old)
     (stays' : (n : ℕ) (old new : P) → p.follows n old new → p.most_keys new ≡ p.most_keys old)
     (local local1 : L) (peer peer1 : P) (n m : ℕ) (before at : Exchanging) (follows : l.follows n local local1 × p.follows m peer peer1) (same : at.number ≡ before.number) where
@@ -211,7 +212,7 @@ module _ {L P : Type 0} (l : Side L) (p : Side P)
       (subst (λ j. F (l.most_keys local1) j before.number) (stays' m peer peer1 follows.1)
       (subst (F (l.most_keys local1) (p.most_keys peer1)) same h))
 
-module _ {L P : Type 0} (l : Side L) (p : Side P)
+module _ {L P : Type 0} (l : SideOf L) (p : SideOf P)
     (on : (m n : ℕ) (old mid new : L) → l.follows m old mid → l.follows n mid new → l.follows (m + n) old new)
     (on' : (m n : ℕ) (old mid new : P) → p.follows m old mid → p.follows n mid new → p.follows (m + n) old new)
     (stays : (n : ℕ) (old new : L) → l.follows n old new → l.most_keys new ≡ l.most_keys old)
@@ -228,7 +229,7 @@ module _ {L P : Type 0} (l : Side L) (p : Side P)
         let g = one.ends.goes_on in
         let i = first.goes.asked_local in
         let j = first.goes.asked_peer in
-        let now = as_now l p stays stays' local local1 peer peer1 i j before at first.goes.follows first.goes.same (λ x y o. SoFar x y o a b (l.states local1) (p.states peer1) (done ++ g.now)) g.so_far in
+        let now = as_now l p stays stays' local local1 peer peer1 i j before at first.goes.follows first.goes.same (λ x y o. SoFarBy x y o a b (l.states local1) (p.states peer1) (done ++ g.now)) g.so_far in
         let two = second.meets g.still.0 g.still.1 (distinct_second ps qs distinct) (Each-right (λ path. length path ≡ 3) ps qs long) a b (done ++ g.now) now g.counts g.waits
         (elsewhere_second ps qs done g.now before.waiting one.found at.waiting distinct long g.is elsewhere one.below) (then a b told) in
         let w = first.goes.calm in
@@ -236,7 +237,7 @@ module _ {L P : Type 0} (l : Side L) (p : Side P)
         let sp = second.goes.asked_peer + second.goes.wanted_peer in
         found_at l p before.number a b done (ps ++ qs) (firsts1 + firsts2) (held_in a (ps ++ qs)) (held_in b (ps ++ qs)) _ _ _ _ local2 peer2 (l.most_keys local) (p.most_keys peer) before after result (later_sum first.goes.asked_local first.goes.wanted_local second.goes.asked_local second.goes.wanted_local w.0) (later_sum first.goes.asked_peer first.goes.wanted_peer second.goes.asked_peer second.goes.wanted_peer w.1)
         (finds_both l p before.number a b done ps qs (l.most_keys local) (p.most_keys peer) firsts1 firsts2 (first.goes.asked_local + first.goes.wanted_local) (first.goes.asked_peer + first.goes.wanted_peer) sl sp local1 local2 peer1 peer2 before at after one result
-        (as_then l p stays stays' local local1 peer peer1 i j before at first.goes.follows first.goes.same (λ x y o. Finds l p o a b (done ++ g.now) qs firsts2 (held_in a qs) (held_in b qs) sl sp local2 peer2 x y at after result) two));
+        (as_then l p stays stays' local local1 peer peer1 i j before at first.goes.follows first.goes.same (λ x y o. FindsBy l p o a b (done ++ g.now) qs firsts2 (held_in a qs) (held_in b qs) sl sp local2 peer2 x y at after result) two));
   }
 
   -- ---- a window
@@ -251,7 +252,7 @@ module _ {L P : Type 0} (l : Side L) (p : Side P)
   )
 
   -- the keys of these buckets are as they were
-  kept_below : (number : Option ℕ) (i j : ℕ) (a b a' b' : States) (done : List Done) (waiting : List Key) (paths : List (List ℕ)) → SoFar i j number a b a' b' done → AreElsewhere paths (keys_done done ++ waiting) → (q : Key) → IsTrue (has_below paths q) → (get a' q ≡ get a q) × (get b' q ≡ get b q)
+  kept_below : (number : Option ℕ) (i j : ℕ) (a b a' b' : States) (done : List Done) (waiting : List Key) (paths : List (List ℕ)) → SoFarBy i j number a b a' b' done → AreElsewhere paths (keys_done done ++ waiting) → (q : Key) → IsTrue (has_below paths q) → (get a' q ≡ get a q) × (get b' q ≡ get b q)
   kept_below number i j a b a' b' done waiting paths so elsewhere q h =
       let Other : Key → Type 0 = λ key. has_below paths key ≡ false in
       so.rest q (no_member Other (keys_done done) (Each-left Other (keys_done done) waiting elsewhere) q (λ none. true≢false (sym h ∙ none)))
@@ -269,10 +270,10 @@ module _ {L P : Type 0} (l : Side L) (p : Side P)
         let k = r.kept t in
         let j = q.kept u in
         let kept = kept_below before.number (l.most_keys local) (p.most_keys peer) a b (l.states local) (p.states peer) done (keys_next before.waiting) paths so elsewhere in
-        let here : SoFar (l.most_keys local) (p.most_keys peer) before.number a b (l.states local1) (p.states peer1) done =
-        subst (λ m. SoFar (l.most_keys local) (p.most_keys peer) before.number a b m (p.states peer1) done) (sym k.states)
-        (subst (λ m. SoFar (l.most_keys local) (p.most_keys peer) before.number a b (l.states local) m done) (sym j.states) so) in
-        let now = as_now l p stays stays' local local1 peer peer1 n n before before (r.follows, q.follows) refl (λ x y o. SoFar x y o a b (l.states local1) (p.states peer1) done) here in
+        let here : SoFarBy (l.most_keys local) (p.most_keys peer) before.number a b (l.states local1) (p.states peer1) done =
+        subst (λ m. SoFarBy (l.most_keys local) (p.most_keys peer) before.number a b m (p.states peer1) done) (sym k.states)
+        (subst (λ m. SoFarBy (l.most_keys local) (p.most_keys peer) before.number a b (l.states local) m done) (sym j.states) so) in
+        let now = as_now l p stays stays' local local1 peer peer1 n n before before (r.follows, q.follows) refl (λ x y o. SoFarBy x y o a b (l.states local1) (p.states peer1) done) here in
         let told : ArePages (digests a) paths mine × ArePages (digests b) paths theirs = (
           pages_then a (l.states local) paths mine (λ x h. (kept x h).0) (told_l t),
           pages_then b (p.states peer) paths theirs (λ x h. (kept x h).1) (told_p u),
@@ -280,19 +281,19 @@ module _ {L P : Type 0} (l : Side L) (p : Side P)
         let f = second.meets k.still j.still distinct long a b done now counts next elsewhere told in
         let sl = second.goes.asked_local + second.goes.wanted_local in
         let sp = second.goes.asked_peer + second.goes.wanted_peer in
-        let g = as_then l p stays stays' local local1 peer peer1 n n before before (r.follows, q.follows) refl (λ x y o. Finds l p o a b done paths 0 (held_in a paths) (held_in b paths) sl sp local2 peer2 x y before after result) f in
+        let g = as_then l p stays stays' local local1 peer peer1 n n before before (r.follows, q.follows) refl (λ x y o. FindsBy l p o a b done paths 0 (held_in a paths) (held_in b paths) sl sp local2 peer2 x y before after result) f in
         found_at l p before.number a b done paths n (held_in a paths) (held_in b paths) _ _ _ _ local2 peer2 (l.most_keys local) (p.most_keys peer) before after result (sums n second.goes.asked_local second.goes.wanted_local) (sums n second.goes.asked_peer second.goes.wanted_peer)
         (later before.number a b done paths n (held_in a paths) (held_in b paths) sl sp local2 peer2 (l.most_keys local) (p.most_keys peer) before after result g);
   }
     where
       ends_later : {B : Type 0} (number : Option ℕ) (a b : States) (done : List Done) (paths : List (List ℕ)) (found next : List Entry) (n i j asked_l asked_p : ℕ) (local' : L) (peer' : P) (most_local most_peer : ℕ) (after : Exchanging) (r : Result B SyncFault)
-          → MatchResult r (λ _. FindsAll l p number a b done paths found next (0 + i) (0 + j) asked_l asked_p local' peer' most_local most_peer after) (λ _. JoinsSome (l.is_faithful local') (p.is_faithful peer') a b (l.states local') (p.states peer'))
-          → MatchResult r (λ _. FindsAll l p number a b done paths found next (n + i) (n + j) (n + asked_l) (n + asked_p) local' peer' most_local most_peer after) (λ _. JoinsSome (l.is_faithful local') (p.is_faithful peer') a b (l.states local') (p.states peer'))
+          → MatchResult r (λ _. FindsAllBy l p number a b done paths found next (0 + i) (0 + j) asked_l asked_p local' peer' most_local most_peer after) (λ _. JoinsSomeBy (l.is_faithful local') (p.is_faithful peer') a b (l.states local') (p.states peer'))
+          → MatchResult r (λ _. FindsAllBy l p number a b done paths found next (n + i) (n + j) (n + asked_l) (n + asked_p) local' peer' most_local most_peer after) (λ _. JoinsSomeBy (l.is_faithful local') (p.is_faithful peer') a b (l.states local') (p.states peer'))
       ends_later number a b done paths found next n i j asked_l asked_p local' peer' most_local most_peer after (Err fault) h = h
       ends_later number a b done paths found next n i j asked_l asked_p local' peer' most_local most_peer after (Ok x) h = record { all = h.all; goes_on = h.goes_on; fewer = let k = h.fewer in (omega (arith, k.0), omega (arith, k.1)) }
 
       later : {B : Type 0} (number : Option ℕ) (a b : States) (done : List Done) (paths : List (List ℕ)) (n held_local held_peer asked_l asked_p : ℕ) (local' : L) (peer' : P) (most_local most_peer : ℕ) (before after : Exchanging) (r : Result B SyncFault)
-          → Finds l p number a b done paths 0 held_local held_peer asked_l asked_p local' peer' most_local most_peer before after r → Finds l p number a b done paths n held_local held_peer (n + asked_l) (n + asked_p) local' peer' most_local most_peer before after r
+          → FindsBy l p number a b done paths 0 held_local held_peer asked_l asked_p local' peer' most_local most_peer before after r → FindsBy l p number a b done paths n held_local held_peer (n + asked_l) (n + asked_p) local' peer' most_local most_peer before after r
       later number a b done paths n held_local held_peer asked_l asked_p local' peer' most_local most_peer before after r f = record {
         found = f.found;
         below = f.below;
@@ -312,9 +313,9 @@ module _ {L P : Type 0} (l : Side L) (p : Side P)
     meets = λ t u distinct long a b done so counts next elsewhere _.
         let k = r.kept_local t in
         let j = r.kept_peer u in
-        let here : SoFar (l.most_keys local) (p.most_keys peer) before.number a b (l.states local') (p.states peer') done =
-        subst (λ m. SoFar (l.most_keys local) (p.most_keys peer) before.number a b m (p.states peer') done) (sym k.states)
-        (subst (λ m. SoFar (l.most_keys local) (p.most_keys peer) before.number a b (l.states local) m done) (sym j.states) so) in
+        let here : SoFarBy (l.most_keys local) (p.most_keys peer) before.number a b (l.states local') (p.states peer') done =
+        subst (λ m. SoFarBy (l.most_keys local) (p.most_keys peer) before.number a b m (p.states peer') done) (sym k.states)
+        (subst (λ m. SoFarBy (l.most_keys local) (p.most_keys peer) before.number a b (l.states local) m done) (sym j.states) so) in
         record {
           found = [];
           below = tt;
@@ -338,7 +339,7 @@ page_at held (q ∷ paths) (x ∷ pages) (suc i) path page h low e f = page_at h
 -- ---- cut off by a fault
 
 -- what was found in the first buckets was found in all
-pub through_cut : {L P A : Type 0} (l : Side L) (p : Side P) (Told : States → States → Type 0) (ps qs : List (List ℕ)) (firsts more : ℕ) (left left' : Questions) (local local' : L) (peer peer' : P) (before after : Exchanging) (fault : SyncFault)
+pub through_cut : {L P A : Type 0} (l : SideOf L) (p : SideOf P) (Told : States → States → Type 0) (ps qs : List (List ℕ)) (firsts more : ℕ) (left left' : Questions) (local local' : L) (peer peer' : P) (before after : Exchanging) (fault : SyncFault)
     → GoesThrough {A = A} l p Told ps firsts left left' local local' peer peer' before after (Err fault) → GoesThrough {A = A} l p Told (ps ++ qs) (firsts + more) left left' local local' peer peer' before after (Err fault)
 through_cut l p Told ps qs firsts more left left' local local' peer peer' before after fault g = record {
   goes = g.goes;

@@ -11,7 +11,7 @@ use Rattle.mvd_tree.specs.HashTree.{is_under}
 use Rattle.mvd_tree.specs.Hashed.{HashesTellApart}
 use Rattle.mvd_sync.specs.Nodes.{children_of, differing_children, differs_at, has_below}
 use Rattle.mvd_sync.specs.Session.{AreDistinct, Each, HasAllThatDiffer}
-use Rattle.mvd_sync.specs.Sides.{Side}
+use Rattle.mvd_sync.specs.Sides.{SideOf}
 use Rattle.mvd_sync.specs.Walk.{AreFewFor, Descends, FindsBuckets, HaveAnswered, Reads, ReadsEnd}
 use Rattle.mvd_sync.specs.declared.asking.Questions.{Questions}
 use Rattle.mvd_sync.specs.declared.report.SyncFault.{SyncFault}
@@ -72,7 +72,7 @@ few_end (suc (suc (suc n))) asked paths more most low a b = absurd (omega (arith
 -- ---- the walk so far
 
 -- it has come so many levels down
-pub record Walks {L P : Type 0} (l : Side L) (p : Side P) (n : ℕ) (left left' : Questions) (local local' : L) (peer peer' : P) (paths : List (List ℕ)) : Type 0 where
+pub record Walks {L P : Type 0} (l : SideOf L) (p : SideOf P) (n : ℕ) (left left' : Questions) (local local' : L) (peer peer' : P) (paths : List (List ℕ)) : Type 0 where
   pub asked : ℕ
   pub local_side : Reads l asked left.local left'.local local local'
   pub peer_side : Reads p asked left.peer left'.peer peer peer'
@@ -82,7 +82,7 @@ pub record Walks {L P : Type 0} (l : Side L) (p : Side P) (n : ℕ) (left left' 
   pub right : l.is_faithful local → p.is_faithful peer → AreNodes (l.states local) (p.states peer) n paths
   pub few : AreFewFor l p local peer (λ most. asked + length paths ≤ 1 + n * most)
 
-module _ {L P : Type 0} (l : Side L) (p : Side P) where
+module _ {L P : Type 0} (l : SideOf L) (p : SideOf P) where
   pub walk_begins : (self : (s : L) → l.follows 0 s s) (self' : (s : P) → p.follows 0 s s) (left : Questions) (local : L) (peer : P) (paths : List (List ℕ)) → paths ≡ [] ∷ [] → Walks l p 0 left left local local peer peer paths
   walk_begins self self' left local peer paths root = record {
     asked = 0;

@@ -9,7 +9,7 @@ use Rattle.mvd_keys.specs.State.{IsValid, State, clashes, join}
 use Rattle.mvd_keys.proofs.Joins.{clashes_turned, join_commutes, join_empty_left, join_empty_right}
 use Rattle.mvd_site.specs.Answer.{is_too_large}
 use Rattle.mvd_site.specs.Held.{States, state_at}
-use Rattle.mvd_sync.specs.Exchanges.{CameTo, IsNext, keys_next}
+use Rattle.mvd_sync.specs.Exchanges.{IsNext, keys_next}
 use Rattle.mvd_sync.specs.Meetings.{ArePlans, Meets, clash, first_if, has, held_keys, is_held, meet, noted, or_empty, pair_of, refusal_of, rest_if, taken_from, wanted}
 use Rattle.mvd_sync.specs.Olds.{HasUnseen}
 use Rattle.mvd_sync.specs.Questions.{ForEach, IsOfKey}
@@ -20,6 +20,7 @@ use Rattle.mvd_sync.specs.declared.meetings.Meeting.{Meeting}
 use Rattle.mvd_sync.specs.declared.report.Side.{Side}
 use Rattle.mvd_sync.specs.declared.report.Side.TheVariants.{Local as AtLocal, Peer as AtPeer}
 use Rattle.mvd_sync.proofs.Taking.{Ask, Cannot, EachTook, ask_keys, pairs_of, same_state, with_pair}
+use Rattle.mvd_sync.proofs.Positions.{CameToBy, before_by}
 
 -- ---- what each side gave
 
@@ -126,8 +127,18 @@ asked_keys side (m ∷ ms) = ap (λ (ks : List (List ℕ)). m.key ∷ ks) (asked
 
 -- ---- after the local side
 
+-- why the local side refuses a key, whatever the peer takes
+abbrev CannotLocally : ℕ → (a b : States) → List ℕ → Refusal → Type 0
+CannotLocally most a b key refusal = CannotMeet (before_by most 0 None a b) AtLocal key refusal
+
+cannot_locally : (most most_peer : ℕ) (number : Option ℕ) (a b : States) (key : List ℕ) (refusal : Refusal) → CannotLocally most a b key refusal → CannotMeet (before_by most most_peer number a b) AtLocal key refusal
+cannot_locally most most_peer number a b key StateTooLarge h = h
+cannot_locally most most_peer number a b key Full h = h
+cannot_locally most most_peer number a b key DotClash h = h
+cannot_locally most most_peer number a b key refusal h = absurd h
+
 pub data Pulled (most : ℕ) (a b new : States) (key : List ℕ) (give : Option State) (refused : Option (Side × Refusal)) : Type 0 where
-  left : (refusal : Refusal) → refused ≡ Some (AtLocal, refusal) → get new key ≡ get a key → CannotMeet most a a b key refusal → Pulled most a b new key give refused
+  left : (refusal : Refusal) → refused ≡ Some (AtLocal, refusal) → get new key ≡ get a key → CannotLocally most a b key refusal → Pulled most a b new key give refused
   took : refused ≡ None → clashes (state_at a key) (state_at b key) ≡ false → state_at new key ≡ join (state_at a key) (state_at b key) → IsGive (state_at a key) (state_at b key) give → Pulled most a b new key give refused
 
 -- what the local side was to take
@@ -144,7 +155,7 @@ wants_local s t m (meeting r h (inr p) g) = included (ap (λ o. cond (is_some o)
 some_same : (s t : State) → Some s ≡ Some t → s ≡ t
 some_same s t e = cc
 
-why_local : (most : ℕ) (a b x : States) (key : List ℕ) (p : State) (refusal : Refusal) → is_of_key refusal ≡ true → get x key ≡ get a key → p ≡ state_at b key → is_too_large (state_at b key) ≡ false → Cannot (AreTooMany most a b) x key p refusal → CannotMeet most a a b key refusal
+why_local : (most : ℕ) (a b x : States) (key : List ℕ) (p : State) (refusal : Refusal) → is_of_key refusal ≡ true → get x key ≡ get a key → p ≡ state_at b key → is_too_large (state_at b key) ≡ false → Cannot (AreTooMany most a b) x key p refusal → CannotLocally most a b key refusal
 why_local most a b x key p StateTooLarge one same is short (inl h) = absurd (true≢false (sym h ∙ ap is_too_large is ∙ short))
 why_local most a b x key p StateTooLarge one same is short (inr h) = (λ i. is_too_large (join (same_state a x key (sym same) i) (sym is i))) ∙ h
 why_local most a b x key p Full one same is short h = (sym same ∙ h.0, h.1)
@@ -181,7 +192,7 @@ module _ (most : ℕ) (a b x new : States) where
 -- ---- after the peer
 
 pub data Wants_peer (most : ℕ) (a b a' : States) (key : List ℕ) (w : Option State) (refused : Option (Side × Refusal)) : Type 0 where
-  not_asked : (refusal : Refusal) → w ≡ None → refused ≡ Some (AtLocal, refusal) → get a' key ≡ get a key → CannotMeet most a a b key refusal → Wants_peer most a b a' key w refused
+  not_asked : (refusal : Refusal) → w ≡ None → refused ≡ Some (AtLocal, refusal) → get a' key ≡ get a key → CannotLocally most a b key refusal → Wants_peer most a b a' key w refused
   it_has : w ≡ None → refused ≡ None → clashes (state_at a key) (state_at b key) ≡ false → state_at a' key ≡ join (state_at a key) (state_at b key) → join (state_at a key) (state_at b key) ≡ state_at b key → Wants_peer most a b a' key w refused
   mine : w ≡ Some (state_at a key) → refused ≡ None → clashes (state_at a key) (state_at b key) ≡ false → state_at a' key ≡ join (state_at a key) (state_at b key) → Wants_peer most a b a' key w refused
 
@@ -190,22 +201,22 @@ wants_peer most a b a' m (left refusal r same why) = not_asked refusal (ap (λ o
 wants_peer most a b a' m (took r h is (inl g)) = mine (ap (λ o. cond (is_some o) None m.give) r ∙ g) r h is
 wants_peer most a b a' m (took r h is (inr g)) = it_has (ap (λ o. cond (is_some o) None m.give) r ∙ g.0) r h is g.1
 
-module _ (most_local most : ℕ) (a b a' y new : States) where
-  why_peer : (key : List ℕ) (p : State) (refusal : Refusal) → is_of_key refusal ≡ true → get y key ≡ get b key → p ≡ state_at a key → is_too_large (state_at a key) ≡ false → join (state_at a key) (state_at b key) ≡ join (state_at b key) (state_at a key) → Cannot (AreTooMany most a b) y key p refusal → CannotMeet most b a b key refusal
+module _ (most_local most : ℕ) (number : Option ℕ) (a b a' y new : States) where
+  why_peer : (key : List ℕ) (p : State) (refusal : Refusal) → is_of_key refusal ≡ true → get y key ≡ get b key → p ≡ state_at a key → is_too_large (state_at a key) ≡ false → join (state_at a key) (state_at b key) ≡ join (state_at b key) (state_at a key) → Cannot (AreTooMany most a b) y key p refusal → CannotMeet (before_by most_local most number a b) AtPeer key refusal
   why_peer key p StateTooLarge one same is short turned (inl h) = absurd (true≢false (sym h ∙ ap is_too_large is ∙ short))
   why_peer key p StateTooLarge one same is short turned (inr h) = ap is_too_large turned ∙ (λ i. is_too_large (join (same_state b y key (sym same) i) (sym is i))) ∙ h
   why_peer key p Full one same is short turned h = (sym same ∙ h.0, h.1)
   why_peer key p DotClash one same is short turned h = clashes_turned (state_at a key) (state_at b key) ∙ (λ i. clashes (same_state b y key (sym same) i) (sym is i)) ∙ h
   why_peer key p refusal one same is short turned h = absurd (true≢false (sym one))
 
-  came_at : (key : List ℕ) (refused now : Option (Side × Refusal)) → now ≡ refused → CameTo most_local most a b a' new key refused → CameTo most_local most a b a' new key now
-  came_at key refused now e h = subst (CameTo most_local most a b a' new key) (sym e) h
+  came_at : (key : List ℕ) (refused now : Option (Side × Refusal)) → now ≡ refused → CameToBy most_local most number a b a' new key refused → CameToBy most_local most number a b a' new key now
+  came_at key refused now e h = subst (CameToBy most_local most number a b a' new key) (sym e) h
 
   peer_head : (key : List ℕ) (refused : Option (Side × Refusal)) (w : Option State) (qs : List Ask) (ts : List (Result (Unit {0}) Refusal)) → get a key ≢ get b key → get y key ≡ get b key → is_too_large (state_at a key) ≡ false → IsValid (state_at a key) → IsValid (state_at b key) → Each IsOfKey ts
       → Wants_peer most_local a b a' key w refused → EachTook (AreTooMany most a b) y new ((key, w) ∷ qs) ts
-      → CameTo most_local most a b a' new key (refusal_of AtPeer refused (first_if (is_some w) ts)) × EachTook (AreTooMany most a b) y new qs (rest_if (is_some w) ts) × Each IsOfKey (rest_if (is_some w) ts)
+      → CameToBy most_local most number a b a' new key (refusal_of AtPeer refused (first_if (is_some w) ts)) × EachTook (AreTooMany most a b) y new qs (rest_if (is_some w) ts) × Each IsOfKey (rest_if (is_some w) ts)
   peer_head key refused None qs ts differ same short v u one (not_asked refusal e r still why) took_it =
-      (came_at key (Some (AtLocal, refusal)) refused r (differ, still, took_it.0 ∙ same, why), took_it.1, one)
+      (came_at key (Some (AtLocal, refusal)) refused r (differ, still, took_it.0 ∙ same, cannot_locally most_local most number a b key refusal why), took_it.1, one)
   peer_head key refused None qs ts differ same short v u one (it_has e r h is j) took_it =
       (came_at key None refused r (record { differ = differ; apart = h }, is, same_state new b key (took_it.0 ∙ same) ∙ sym j), took_it.1, one)
   peer_head key refused None qs ts differ same short v u one (mine e r h is) took_it = absurd (cc)
@@ -225,7 +236,7 @@ module _ (most_local most : ℕ) (a b a' y new : States) where
     pub other : IsValid (state_at b m.key)
 
   pub peer_after : (ms : List Meeting) (ts : List (Result (Unit {0}) Refusal)) → Each MayTake ms → Each IsOfKey ts
-      → Each (λ (m : Meeting). Pulled most_local a b a' m.key m.give m.refused) ms → EachTook (AreTooMany most a b) y new (asks_of AtPeer ms) ts → Each (λ (m : Meeting). CameTo most_local most a b a' new m.key m.refused) (noted AtPeer (map (taken_from AtPeer) ms) ts)
+      → Each (λ (m : Meeting). Pulled most_local a b a' m.key m.give m.refused) ms → EachTook (AreTooMany most a b) y new (asks_of AtPeer ms) ts → Each (λ (m : Meeting). CameToBy most_local most number a b a' new m.key m.refused) (noted AtPeer (map (taken_from AtPeer) ms) ts)
   peer_after [] ts may one pulled took_all = tt
   peer_after (m ∷ ms) ts may one pulled took_all =
       let head = peer_head m.key m.refused (wanted AtPeer m) (asks_of AtPeer ms) ts may.0.differ may.0.same may.0.short may.0.own may.0.other one (wants_peer most_local a b a' m pulled.0) took_all in

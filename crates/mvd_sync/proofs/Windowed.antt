@@ -9,7 +9,7 @@ use Rattle.mvd_dots.specs.declared.refusals.Refusal.{Refusal}
 use Rattle.mvd_keys.specs.State.{IsValid, State, empty_state}
 use Rattle.mvd_site.specs.Answer.{is_too_large}
 use Rattle.mvd_site.specs.Held.{AreHeld, States, state_at}
-use Rattle.mvd_sync.specs.Exchanges.{AreNext, CameTo, Done, IsDone, SoFar, keys_done, keys_next}
+use Rattle.mvd_sync.specs.Exchanges.{AreNext, Done, keys_done, keys_next}
 use Rattle.mvd_sync.specs.Meetings.{ArePlans, done_of, held_keys, noted, pair_of, rest_if, taken_from, wanted}
 use Rattle.mvd_sync.specs.Olds.{HasUnseen}
 use Rattle.mvd_sync.specs.Questions.{ForEach, IsOfKey}
@@ -24,6 +24,7 @@ use Rattle.mvd_sync.proofs.Keys.{Each-weaker, is_member-append, member_has, or_l
 use Rattle.mvd_sync.proofs.Pushes.{Each-append, tied}
 use Rattle.mvd_sync.proofs.Taking.{Ask, ComesFrom, Phase, apart_of, phase, same_state}
 use Rattle.mvd_sync.proofs.Window.{ArePlanned, IsPlanned, IsState, IsStill, MayTake, Plan, Pulled, asked_keys, asks_of, local_after, pairs_same, peer_after, planned}
+use Rattle.mvd_sync.proofs.Positions.{CameToBy, IsDoneBy, SoFarBy}
 
 abbrev pub meeting_keys : List Meeting → List (List ℕ)
 meeting_keys ms = map (λ (m : Meeting). m.key) ms
@@ -104,35 +105,35 @@ short_at m held none key =
       | Some s ↦ λ e. (held.held key s e).short
     ] refl
 
-came_differ : (ml mp : ℕ) (a b x y : States) (key : List ℕ) (refused : Option (Side × Refusal)) → CameTo ml mp a b x y key refused → get a key ≢ get b key
-came_differ ml mp a b x y key None h = h.0.differ
-came_differ ml mp a b x y key (Some (AtLocal, refusal)) h = h.0
-came_differ ml mp a b x y key (Some (AtPeer, refusal)) h = h.0.differ
+came_differ : (ml mp : ℕ) (number : Option ℕ) (a b x y : States) (key : List ℕ) (refused : Option (Side × Refusal)) → CameToBy ml mp number a b x y key refused → get a key ≢ get b key
+came_differ ml mp number a b x y key None h = h.0.differ
+came_differ ml mp number a b x y key (Some (AtLocal, refusal)) h = h.0
+came_differ ml mp number a b x y key (Some (AtPeer, refusal)) h = h.0.differ
 
-came_still : (ml mp : ℕ) (a b x y x' y' : States) (key : List ℕ) (refused : Option (Side × Refusal)) → get x' key ≡ get x key → get y' key ≡ get y key → CameTo ml mp a b x y key refused → CameTo ml mp a b x' y' key refused
-came_still ml mp a b x y x' y' key None e f h = (h.0, same_state x' x key e ∙ h.1, same_state y' y key f ∙ h.2)
-came_still ml mp a b x y x' y' key (Some (AtLocal, refusal)) e f h = (h.0, e ∙ h.1, f ∙ h.2, h.3)
-came_still ml mp a b x y x' y' key (Some (AtPeer, refusal)) e f h = (h.0, same_state x' x key e ∙ h.1, f ∙ h.2, h.3)
+came_still : (ml mp : ℕ) (number : Option ℕ) (a b x y x' y' : States) (key : List ℕ) (refused : Option (Side × Refusal)) → get x' key ≡ get x key → get y' key ≡ get y key → CameToBy ml mp number a b x y key refused → CameToBy ml mp number a b x' y' key refused
+came_still ml mp number a b x y x' y' key None e f h = (h.0, same_state x' x key e ∙ h.1, same_state y' y key f ∙ h.2)
+came_still ml mp number a b x y x' y' key (Some (AtLocal, refusal)) e f h = (h.0, e ∙ h.1, f ∙ h.2, h.3)
+came_still ml mp number a b x y x' y' key (Some (AtPeer, refusal)) e f h = (h.0, same_state x' x key e ∙ h.1, f ∙ h.2, h.3)
 
-keys_differ : (ml mp : ℕ) (number : Option ℕ) (a b x y : States) (ds : List Done) → Each (IsDone ml mp number a b x y) ds → Each (λ k. get a k ≢ get b k) (keys_done ds)
+keys_differ : (ml mp : ℕ) (number : Option ℕ) (a b x y : States) (ds : List Done) → Each (IsDoneBy ml mp number a b x y) ds → Each (λ k. get a k ≢ get b k) (keys_done ds)
 keys_differ ml mp number a b x y [] h = tt
-keys_differ ml mp number a b x y (d ∷ ds) h = (came_differ ml mp a b x y d.key d.refused h.0.came, keys_differ ml mp number a b x y ds h.1)
+keys_differ ml mp number a b x y (d ∷ ds) h = (came_differ ml mp number a b x y d.key d.refused h.0.came, keys_differ ml mp number a b x y ds h.1)
 
 -- each key that a side holds now was held by one of the two
-pub from_so_far : (ml mp : ℕ) (number : Option ℕ) (a b x y : States) (ds : List Done) → SoFar ml mp number a b x y ds → ComesFrom a b x × ComesFrom a b y
+pub from_so_far : (ml mp : ℕ) (number : Option ℕ) (a b x y : States) (ds : List Done) → SoFarBy ml mp number a b x y ds → ComesFrom a b x × ComesFrom a b y
 from_so_far ml mp number a b x y ds so =
     let done : (k : List ℕ) → is_member (keys_done ds) k ≡ true → (get a k ≢ None) ⊎ (get b k ≢ None) = λ k h. one_held a b k (member_has (λ k. get a k ≢ get b k) (keys_done ds) (keys_differ ml mp number a b x y ds so.each) k h) in (
       λ k some. elim (is_member (keys_done ds) k) as (λ t. is_member (keys_done ds) k ≡ t → (get a k ≢ None) ⊎ (get b k ≢ None)) [ true ↦ λ h. done k h | false ↦ λ no. inl (λ e. some ((so.rest k no).0 ∙ e)) ] refl,
       λ k some. elim (is_member (keys_done ds) k) as (λ t. is_member (keys_done ds) k ≡ t → (get a k ≢ None) ⊎ (get b k ≢ None)) [ true ↦ λ h. done k h | false ↦ λ no. inr (λ e. some ((so.rest k no).1 ∙ e)) ] refl,
     )
 
-each_done : (ml mp : ℕ) (number : Option ℕ) (a b x y : States) (ms : List Meeting) → Each (λ (m : Meeting). CameTo ml mp a b x y m.key m.refused) ms → Each (λ (m : Meeting). (m.is_old ≡ true) ↔ HasUnseen number (state_at a m.key) (state_at b m.key)) ms → Each (IsDone ml mp number a b x y) (map done_of ms)
+each_done : (ml mp : ℕ) (number : Option ℕ) (a b x y : States) (ms : List Meeting) → Each (λ (m : Meeting). CameToBy ml mp number a b x y m.key m.refused) ms → Each (λ (m : Meeting). (m.is_old ≡ true) ↔ HasUnseen number (state_at a m.key) (state_at b m.key)) ms → Each (IsDoneBy ml mp number a b x y) (map done_of ms)
 each_done ml mp number a b x y [] h o = tt
 each_done ml mp number a b x y (m ∷ ms) h o = (record { came = h.0; old = o.0 }, each_done ml mp number a b x y ms h.1 o.1)
 
-still_done : (ml mp : ℕ) (number : Option ℕ) (a b x y x' y' : States) (ds : List Done) → Each (λ k. (get x' k ≡ get x k) × (get y' k ≡ get y k)) (keys_done ds) → Each (IsDone ml mp number a b x y) ds → Each (IsDone ml mp number a b x' y') ds
+still_done : (ml mp : ℕ) (number : Option ℕ) (a b x y x' y' : States) (ds : List Done) → Each (λ k. (get x' k ≡ get x k) × (get y' k ≡ get y k)) (keys_done ds) → Each (IsDoneBy ml mp number a b x y) ds → Each (IsDoneBy ml mp number a b x' y') ds
 still_done ml mp number a b x y x' y' [] same h = tt
-still_done ml mp number a b x y x' y' (d ∷ ds) same h = (record { came = came_still ml mp a b x y x' y' d.key d.refused same.0.0 same.0.1 h.0.came; old = h.0.old }, still_done ml mp number a b x y x' y' ds same.1 h.1)
+still_done ml mp number a b x y x' y' (d ∷ ds) same h = (record { came = came_still ml mp number a b x y x' y' d.key d.refused same.0.0 same.0.1 h.0.came; old = h.0.old }, still_done ml mp number a b x y x' y' ds same.1 h.1)
 
 -- what is in the first is not in the second
 pub not_after : (ks js : List (List ℕ)) (k : List ℕ) → AreDistinct (ks ++ js) → is_member ks k ≡ true → is_member js k ≡ false
@@ -144,7 +145,7 @@ not_after ks js k d h =
 
 -- A WINDOW between two true sides
 module _ (ml mp : ℕ) (number : Option ℕ) (a b x y x' y' : States) (done : List Done) (es : List Entry) (mine theirs : List State) (ms : List Meeting) (told told' : List (Result (Unit {0}) Refusal))
-    (so : SoFar ml mp number a b x y done) (next : AreNext a b done es) (held_a : AreHeld x) (held_b : AreHeld y) (none : is_too_large empty_state ≡ false)
+    (so : SoFarBy ml mp number a b x y done) (next : AreNext a b done es) (held_a : AreHeld x) (held_b : AreHeld y) (none : is_too_large empty_state ≡ false)
     (p : ForEach (IsState x) (held_keys AtLocal es) mine) (q : ForEach (IsState y) (held_keys AtPeer es) theirs) (plans : ArePlans number es mine theirs ms) where
   fresh : Each (λ k. is_member (keys_done done) k ≡ false) (keys_next es)
   fresh = each_in (λ k. is_member (keys_done done) k ≡ false) (keys_next es) (λ k h. not_before (keys_done done) (keys_next es) k next.distinct h)
@@ -199,14 +200,14 @@ module _ (ml mp : ℕ) (number : Option ℕ) (a b x y x' y' : States) (done : Li
           (each_ask (λ k. (get a k ≢ None) ⊎ (get b k ≢ None)) AtPeer after (each_noted (λ k _. (get a k ≢ None) ⊎ (get b k ≢ None)) AtLocal ms told here))
           (from_so_far ml mp number a b x y done so).1 (subst (λ ps. Pushes mp y ps told' y') (pairs_same AtPeer after) second)
 
-      may_take : Each (MayTake ml mp a b x' y y') (noted AtLocal (map (taken_from AtLocal) ms) told)
+      may_take : Each (MayTake ml mp number a b x' y y') (noted AtLocal (map (taken_from AtLocal) ms) told)
       may_take =
           let P : List ℕ → Bool → Type 0 = λ k _. (get a k ≢ get b k) × (get y k ≡ get b k) × (is_too_large (state_at a k) ≡ false) × IsValid (state_at a k) × IsValid (state_at b k) in
-          Each-weaker (λ (m : Meeting). (get a m.key ≢ get b m.key) × (get y m.key ≡ get b m.key) × (is_too_large (state_at a m.key) ≡ false) × IsValid (state_at a m.key) × IsValid (state_at b m.key)) (MayTake ml mp a b x' y y')
+          Each-weaker (λ (m : Meeting). (get a m.key ≢ get b m.key) × (get y m.key ≡ get b m.key) × (is_too_large (state_at a m.key) ≡ false) × IsValid (state_at a m.key) × IsValid (state_at b m.key)) (MayTake ml mp number a b x' y y')
           (λ m h. record { differ = h.0; same = h.1; short = h.2; own = h.3; other = h.4 }) (noted AtLocal (map (taken_from AtLocal) ms) told) (each_noted P AtLocal ms told facts)
 
-      pub came : Each (λ (m : Meeting). CameTo ml mp a b x' y' m.key m.refused) (noted AtPeer (map (taken_from AtPeer) (noted AtLocal (map (taken_from AtLocal) ms) told)) told')
-      came = peer_after ml mp a b x' y y' (noted AtLocal (map (taken_from AtLocal) ms) told) told' may_take also_one pulled peer_phase.took
+      pub came : Each (λ (m : Meeting). CameToBy ml mp number a b x' y' m.key m.refused) (noted AtPeer (map (taken_from AtPeer) (noted AtLocal (map (taken_from AtLocal) ms) told)) told')
+      came = peer_after ml mp number a b x' y y' (noted AtLocal (map (taken_from AtLocal) ms) told) told' may_take also_one pulled peer_phase.took
 
       pub keys_now : keys_done (map done_of (noted AtPeer (map (taken_from AtPeer) (noted AtLocal (map (taken_from AtLocal) ms) told)) told')) ≡ keys_next es
       keys_now =
@@ -227,13 +228,13 @@ module _ (ml mp : ℕ) (number : Option ℕ) (a b x y x' y' : States) (done : Li
       )
 
       -- the window's keys are done
-      pub so_far_on : SoFar ml mp number a b x' y' (done ++ map done_of (noted AtPeer (map (taken_from AtPeer) (noted AtLocal (map (taken_from AtLocal) ms) told)) told'))
+      pub so_far_on : SoFarBy ml mp number a b x' y' (done ++ map done_of (noted AtPeer (map (taken_from AtPeer) (noted AtLocal (map (taken_from AtLocal) ms) told)) told'))
       so_far_on =
           let now = map done_of (noted AtPeer (map (taken_from AtPeer) (noted AtLocal (map (taken_from AtLocal) ms) told)) told') in
           let keys : keys_done (done ++ now) ≡ keys_done done ++ keys_next es = map-append (λ (d : Done). d.key) done now ∙ ap (λ ks. keys_done done ++ ks) keys_now in
           record {
             distinct = subst AreDistinct (sym keys) next.distinct;
-            each = Each-append (IsDone ml mp number a b x' y') done now
+            each = Each-append (IsDoneBy ml mp number a b x' y') done now
                 (still_done ml mp number a b x y x' y' done (each_in (λ k. (get x' k ≡ get x k) × (get y' k ≡ get y k)) (keys_done done) (λ k h. kept k (not_after (keys_done done) (keys_next es) k next.distinct h))) so.each)
                 (each_done ml mp number a b x' y' (noted AtPeer (map (taken_from AtPeer) (noted AtLocal (map (taken_from AtLocal) ms) told)) told') came old_now);
             rest = λ k no.

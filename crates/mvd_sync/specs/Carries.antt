@@ -4,11 +4,11 @@ use Rattle.mvd_dots.specs.declared.refusals.Refusal.{Refusal}
 use Rattle.mvd_dots.specs.declared.refusals.Refusal.TheVariants.{Broken}
 use Rattle.mvd_keys.specs.State.{State}
 use Rattle.mvd_site.specs.Held.{States, state_at}
-use Rattle.mvd_sync.specs.Exchanges.{AreNext, Done, JoinsSome, SoFar, keys_done, keys_next}
+use Rattle.mvd_sync.specs.Exchanges.{AreNext, Done, JoinsSome, SoFar, began, keys_done, keys_next}
 use Rattle.mvd_sync.specs.Meetings.{ArePlans, done_of, held_keys, noted, pair_of, taken_from}
 use Rattle.mvd_sync.specs.Questions.{AllAnswered, IsOfKey, Keeps, TakesIn, AnswersEach}
-use Rattle.mvd_sync.specs.Session.{Changes}
-use Rattle.mvd_sync.specs.Sides.{Blames, HasAnswered, IsFaultOf, IsSilent, Side as SideOf}
+use Rattle.mvd_sync.specs.Session.{Changes, after_of, both_of}
+use Rattle.mvd_sync.specs.Sides.{Blames, HasAnswered, IsFaultOf, IsSilent, SideOf}
 use Rattle.mvd_sync.specs.declared.cursor.Entry.{Entry}
 use Rattle.mvd_sync.specs.declared.meetings.Meeting.{Meeting}
 use Rattle.mvd_sync.specs.declared.asking.Questions.{Questions}
@@ -41,7 +41,9 @@ pub record PlanEnds {L P : Type 0} (l : SideOf L) (p : SideOf P) (count : ℕ) (
   pub few : (asked_local + wanted_local ≤ count) × (asked_peer + wanted_peer ≤ count)
   pub within : (asked_local ≤ left.local) × (asked_peer ≤ left.peer)
   pub follows : l.follows asked_local local local' × p.follows asked_peer peer peer'
-  pub cause : IsFaultOf (Blames l left.local asked_local wanted_local local local') (Blames p left.peer asked_peer wanted_peer peer peer') fault
+  pub cause : IsFaultOf
+      (Blames l (record { most = left.local; asked = asked_local; wanted = wanted_local; old = local; new = local' }))
+      (Blames p (record { most = left.peer; asked = asked_peer; wanted = wanted_peer; old = peer; new = peer' })) fault
   pub local_side : l.is_faithful local → Keeps l local local'
   pub peer_side : p.is_faithful peer → Keeps p peer peer'
 
@@ -62,12 +64,18 @@ pub record ExchangesAll {L P A : Type 0} (l : SideOf L) (p : SideOf P) (number :
   pub few : (asked_local + wanted_local ≤ 2 * length entries) × (asked_peer + wanted_peer ≤ 2 * length entries)
   pub least : OnOk result (length entries ≤ asked_local + asked_peer)
   pub follows : l.follows asked_local local local' × p.follows asked_peer peer peer'
-  pub cause : IfErr result (IsFaultOf (Blames l left.local asked_local wanted_local local local') (Blames p left.peer asked_peer wanted_peer peer peer'))
+  pub cause : IfErr result (IsFaultOf
+      (Blames l (record { most = left.local; asked = asked_local; wanted = wanted_local; old = local; new = local' }))
+      (Blames p (record { most = left.peer; asked = asked_peer; wanted = wanted_peer; old = peer; new = peer' })))
   pub local_side : l.is_faithful local → Changes (l.is_faithful local') (Local Broken) p.can_give (l.states local) (l.states local') result
   pub peer_side : p.is_faithful peer → Changes (p.is_faithful peer') (Peer Broken) l.can_give (p.states peer) (p.states peer') result
   pub beside_local : IsSilent l.follows l.can_answer local → p.is_faithful peer → p.is_faithful peer' × (p.states peer' ≡ p.states peer)
   pub beside_peer : IsSilent p.follows p.can_answer peer → l.is_faithful local → l.is_faithful local' × (l.states local' ≡ l.states local)
   pub same : MatchResult result (λ meetings. keys_done (map done_of meetings.items) ≡ keys_next entries) (λ _. Unit {0})
-  pub meets : l.is_faithful local → p.is_faithful peer → (a b : States) (done : List Done) → SoFar (l.most_keys local) (p.most_keys peer) number a b (l.states local) (p.states peer) done → AreNext a b done entries →
-      MatchResult result (λ meetings. SoFar (l.most_keys local) (p.most_keys peer) number a b (l.states local') (p.states peer') (done ++ map done_of meetings.items) × l.is_faithful local' × p.is_faithful peer')
-      (λ _. JoinsSome (l.is_faithful local') (p.is_faithful peer') a b (l.states local') (p.states peer'))
+  pub meets : l.is_faithful local → p.is_faithful peer → (a b : States) (done : List Done) →
+      SoFar (began l p number a b local peer) (both_of l p local peer) done → AreNext a b done entries →
+      MatchResult result
+      (λ meetings.
+      SoFar (began l p number a b local peer) (both_of l p local' peer') (done ++ map done_of meetings.items)
+      × l.is_faithful local' × p.is_faithful peer')
+      (λ _. JoinsSome (record { local = a; peer = b }) (after_of l p local' peer'))

@@ -6,10 +6,11 @@ use Rattle.mvd_dots.specs.declared.refusals.Refusal.TheVariants.{Broken}
 use Rattle.mvd_keys.specs.State.{join}
 use Rattle.mvd_keys.specs.Writes.{Key}
 use Rattle.mvd_site.specs.Held.{States, state_at}
-use Rattle.mvd_sync.specs.Session.{AreDistinct, CanMeet, CannotMeet, Changes, Each, IsOld, Joins, Left, is_member}
-use Rattle.mvd_sync.specs.Sides.{Blames, IsFaultOf, IsSilent, Side as SideOf}
+use Rattle.mvd_sync.specs.Session.{After, AreDistinct, Before, Both, CanMeet, CannotMeet, Changes, Differ, Each, IsOld, Joins, after_of, both_of, is_member}
+use Rattle.mvd_sync.specs.Sides.{Blames, IsFaultOf, IsSilent, SideOf}
 use Rattle.mvd_sync.specs.declared.cursor.Entry.{Entry}
 use Rattle.mvd_sync.specs.declared.asking.Questions.{Questions}
+use Rattle.mvd_sync.specs.declared.report.Left.{Left}
 use Rattle.mvd_sync.specs.declared.report.Side.{Side}
 use Rattle.mvd_sync.specs.declared.report.Side.TheVariants.{Local as AtLocal, Peer as AtPeer}
 use Rattle.mvd_sync.specs.declared.report.SyncFault.{SyncFault}
@@ -56,8 +57,11 @@ abbrev pub joined_keys : List Done → List Key
 joined_keys ds = keys_done (filter (λ d. is_joined d.refused) ds)
 
 -- those that were refused
+abbrev pub left_as : Key → Side × Refusal → Left
+left_as key refused = record { key = key; side = refused.0; refusal = refused.1 }
+
 abbrev pub left_of : Done → Option Left
-left_of d = option_map (λ r. (d.key, r)) d.refused
+left_of d = option_map (left_as d.key) d.refused
 
 abbrev pub left_keys : List Done → List Left
 left_keys ds = filter_map left_of ds
@@ -65,23 +69,29 @@ left_keys ds = filter_map left_of ds
 -- ---- between two true sides
 
 -- what became of the states of a key
-abbrev pub CameTo : (most_local most_peer : ℕ) (a b a' b' : States) → Key → Option (Side × Refusal) → Type 0
-CameTo most_local most_peer a b a' b' key None =
-    CanMeet a b key × (state_at a' key ≡ join (state_at a key) (state_at b key)) × (state_at b' key ≡ join (state_at a key) (state_at b key))
-CameTo most_local most_peer a b a' b' key (Some (AtLocal, refusal)) =
-    (get a key ≢ get b key) × (get a' key ≡ get a key) × (get b' key ≡ get b key) × CannotMeet most_local a a b key refusal
-CameTo most_local most_peer a b a' b' key (Some (AtPeer, refusal)) =
-    CanMeet a b key × (state_at a' key ≡ join (state_at a key) (state_at b key)) × (get b' key ≡ get b key) × CannotMeet most_peer b a b key refusal
+abbrev pub CameTo : (before : Before) (now : Both) → Key → Option (Side × Refusal) → Type 0
+CameTo before now key None = CanMeet before.held.local before.held.peer key
+    × (state_at now.local key ≡ join (state_at before.held.local key) (state_at before.held.peer key))
+    × (state_at now.peer key ≡ join (state_at before.held.local key) (state_at before.held.peer key))
+CameTo before now key (Some (AtLocal, refusal)) = Differ before.held key
+    × (get now.local key ≡ get before.held.local key)
+    × (get now.peer key ≡ get before.held.peer key)
+    × CannotMeet before AtLocal key refusal
+CameTo before now key (Some (AtPeer, refusal)) = CanMeet before.held.local before.held.peer key
+    × (state_at now.local key ≡ join (state_at before.held.local key) (state_at before.held.peer key))
+    × (get now.peer key ≡ get before.held.peer key)
+    × CannotMeet before AtPeer key refusal
 
-pub record IsDone (most_local most_peer : ℕ) (number : Option ℕ) (a b a' b' : States) (d : Done) : Type 0 where
-  pub came : CameTo most_local most_peer a b a' b' d.key d.refused
-  pub old : (d.is_old ≡ true) ↔ IsOld number a b d.key
+pub record IsDone (before : Before) (now : Both) (d : Done) : Type 0 where
+  pub came : CameTo before now d.key d.refused
+  pub old : (d.is_old ≡ true) ↔ IsOld before.number before.held.local before.held.peer d.key
 
--- These keys are done, of two sides that held `a` and `b` and now hold `a'` and `b'`, and no other key has changed
-pub record SoFar (most_local most_peer : ℕ) (number : Option ℕ) (a b a' b' : States) (done : List Done) : Type 0 where
+-- These keys are done, of two sides that began so and now hold this, and no other key has changed
+pub record SoFar (before : Before) (now : Both) (done : List Done) : Type 0 where
   pub distinct : AreDistinct (keys_done done)
-  pub each : Each (IsDone most_local most_peer number a b a' b') done
-  pub rest : (key : Key) → is_member (keys_done done) key ≡ false → (get a' key ≡ get a key) × (get b' key ≡ get b key)
+  pub each : Each (IsDone before now) done
+  pub rest : (key : Key) → is_member (keys_done done) key ≡ false →
+      (get now.local key ≡ get before.held.local key) × (get now.peer key ≡ get before.held.peer key)
 
 -- and so they are counted
 pub record Counts (done : List Done) (e : Exchanging) : Type 0 where
@@ -111,19 +121,29 @@ pub record AreNext (a b : States) (done : List Done) (next : List Entry) : Type 
   pub each : Each (IsNext a b) next
 
 -- the exchange was cut off by a fault: some keys were joined
-pub record JoinsSome (local_true peer_true : Type 0) (a b a' b' : States) : Type 0 where
+pub record JoinsSome (old : Both) (after : After) : Type 0 where
   pub joined : List Key
   pub given : List Key
-  pub joins : Joins local_true peer_true a b a' b' joined given
+  pub joins : Joins old after joined given
 
 -- `next` were to be exchanged: the first of them are done, and the others wait
-pub record GoesOn {L P : Type 0} (l : SideOf L) (p : SideOf P) (number : Option ℕ) (a b : States) (done : List Done) (next : List Entry) (local' : L) (peer' : P) (most_local most_peer : ℕ) (after : Exchanging) : Type 0 where
+pub record GoesOn (before : Before) (after : After) (done : List Done) (next : List Entry)
+    (e : Exchanging) : Type 0 where
   pub now : List Done
-  pub is : keys_next next ≡ keys_done now ++ keys_next after.waiting
-  pub so_far : SoFar most_local most_peer number a b (l.states local') (p.states peer') (done ++ now)
-  pub counts : Counts (done ++ now) after
-  pub waits : AreNext a b (done ++ now) after.waiting
-  pub still : l.is_faithful local' × p.is_faithful peer'
+  pub is : keys_next next ≡ keys_done now ++ keys_next e.waiting
+  pub so_far : SoFar before after.held (done ++ now)
+  pub counts : Counts (done ++ now) e
+  pub waits : AreNext before.held.local before.held.peer (done ++ now) e.waiting
+  pub still : after.local_true × after.peer_true
+
+-- two sides that held `a` and `b` as the session began
+abbrev pub began : {L P : Type 0} → SideOf L → SideOf P → Option ℕ → (a b : States) → L → P → Before
+began l p number a b local peer = record {
+  held = record { local = a; peer = b };
+  most_local = l.most_keys local;
+  most_peer = p.most_keys peer;
+  number = number;
+}
 
 -- ---- a step
 
@@ -148,7 +168,9 @@ pub record Exchanges {L P A : Type 0} (l : SideOf L) (p : SideOf P) (next : List
   pub room : OnOk result (after.keys + after.refused + left'.local + left'.peer ≤ before.keys + before.refused + left.local + left.peer)
   pub short : length next ≤ 1000 → OnOk result (length after.waiting < 1000)
   pub follows : l.follows asked_local local local' × p.follows asked_peer peer peer'
-  pub cause : IfErr result (IsFaultOf (Blames l left.local asked_local wanted_local local local') (Blames p left.peer asked_peer wanted_peer peer peer'))
+  pub cause : IfErr result (IsFaultOf
+      (Blames l (record { most = left.local; asked = asked_local; wanted = wanted_local; old = local; new = local' }))
+      (Blames p (record { most = left.peer; asked = asked_peer; wanted = wanted_peer; old = peer; new = peer' })))
   -- whatever the other side is
   pub local_side : l.is_faithful local → Changes (l.is_faithful local') (Local Broken) p.can_give (l.states local) (l.states local') result
   pub peer_side : p.is_faithful peer → Changes (p.is_faithful peer') (Peer Broken) l.can_give (p.states peer) (p.states peer') result
@@ -156,6 +178,8 @@ pub record Exchanges {L P A : Type 0} (l : SideOf L) (p : SideOf P) (next : List
   pub beside_peer : IsSilent p.follows p.can_answer peer → l.is_faithful local → l.is_faithful local' × (l.states local' ≡ l.states local)
   -- between two true sides
   pub same : after.number ≡ before.number
-  pub meets : l.is_faithful local → p.is_faithful peer → (a b : States) (done : List Done) → SoFar (l.most_keys local) (p.most_keys peer) before.number a b (l.states local) (p.states peer) done → Counts done before → AreNext a b done next →
-      MatchResult result (λ _. GoesOn l p before.number a b done next local' peer' (l.most_keys local) (p.most_keys peer) after)
-      (λ _. JoinsSome (l.is_faithful local') (p.is_faithful peer') a b (l.states local') (p.states peer'))
+  pub meets : l.is_faithful local → p.is_faithful peer → (a b : States) (done : List Done) →
+      SoFar (began l p before.number a b local peer) (both_of l p local peer) done → Counts done before →
+      AreNext a b done next → MatchResult result
+      (λ _. GoesOn (began l p before.number a b local peer) (after_of l p local' peer') done next after)
+      (λ _. JoinsSome (record { local = a; peer = b }) (after_of l p local' peer'))

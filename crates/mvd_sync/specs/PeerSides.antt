@@ -1,7 +1,7 @@
 -- A side of a session, as the clauses of calls name it.
 use Rattle.mvd_sync.specs.declared.peer.Peer.{Ghosts}
-use Rattle.mvd_sync.specs.Sides.{Side, side}
+use Rattle.mvd_sync.specs.Sides.{SideOf, side}
 
 -- what a type of sides says of itself (`Peer`), as one value
-abbrev pub side_of : {P : Type 0} → Ghosts P → Side P
+abbrev pub side_of : {P : Type 0} → Ghosts P → SideOf P
 side_of g = side g.states g.is_faithful g.can_give g.follows g.can_refuse g.can_answer g.most_keys g.number

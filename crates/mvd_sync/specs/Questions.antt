@@ -9,7 +9,7 @@ use Rattle.mvd_tree.specs.Page.{children_digests}
 use Rattle.mvd_wire.specs.Codecs.{spell_state}
 use Rattle.mvd_site.specs.Answer.{digests}
 use Rattle.mvd_sync.specs.Answers.{Entry, IsPage, IsPageOf}
-use Rattle.mvd_sync.specs.Sides.{Blames, Side, is_of_key, is_of_question}
+use Rattle.mvd_sync.specs.Sides.{Blames, SideOf, is_of_key, is_of_question}
 use Rattle.mvd_sync.specs.Windows.{Pushes, PushesFirst}
 use Rattle.mvd_sync.specs.declared.asking.Node.{Node}
 
@@ -31,7 +31,7 @@ ForEach P qs ts = ⊥
 
 -- ALL WERE ANSWERED, each by what a side may answer, true or not, and taken from those that were left; and of a side that was true
 -- this is so
-pub record AllAnswered {S Q A : Type 0} (s : Side S) (May : Q → A → Type 0) (True : Type 0) (questions : List Q) (answers : List A) (left left' : ℕ) (old new : S) : Type 0 where
+pub record AllAnswered {S Q A : Type 0} (s : SideOf S) (May : Q → A → Type 0) (True : Type 0) (questions : List Q) (answers : List A) (left left' : ℕ) (old new : S) : Type 0 where
   pub spent : left ≡ left' + length questions
   pub follows : s.follows (length questions) old new
   pub may : ForEach May questions answers
@@ -39,42 +39,42 @@ pub record AllAnswered {S Q A : Type 0} (s : Side S) (May : Q → A → Type 0) 
 
 -- THEY CAME TO AN END: so many were made, and wanted, no more than there are, nor than were left, and this is why; and of a side that was true
 -- this is so
-pub record ComesToEnd {S : Type 0} (s : Side S) (True : Type 0) (questions left : ℕ) (old new : S) (refusal : Refusal) : Type 0 where
+pub record ComesToEnd {S : Type 0} (s : SideOf S) (True : Type 0) (questions left : ℕ) (old new : S) (refusal : Refusal) : Type 0 where
   pub asked : ℕ
   pub wanted : ℕ
   pub few : asked + wanted ≤ questions
   pub within : asked ≤ left
   pub follows : s.follows asked old new
-  pub cause : Blames s left asked wanted old new refusal
+  pub cause : Blames s (record { most = left; asked = asked; wanted = wanted; old = old; new = new }) refusal
   pub not_of_key : s.is_faithful old → is_of_question refusal ≡ false
   pub right : s.is_faithful old → True
 
 -- ---- what is so of a side that was true
 
 -- after questions that change nothing
-pub record Keeps {S : Type 0} (s : Side S) (old new : S) : Type 0 where
+pub record Keeps {S : Type 0} (s : SideOf S) (old new : S) : Type 0 where
   pub still : s.is_faithful new
   pub states : s.states new ≡ s.states old
 
 -- and all of them were answered rightly
-pub record AnswersEach {S Q A : Type 0} (s : Side S) (Right : Q → A → Type 0) (questions : List Q) (answers : List A) (old new : S) : Type 0 where
+pub record AnswersEach {S Q A : Type 0} (s : SideOf S) (Right : Q → A → Type 0) (questions : List Q) (answers : List A) (old new : S) : Type 0 where
   pub kept : Keeps s old new
   pub right : ForEach Right questions answers
 
 -- after pushes, each taken or refused for its cause
-pub record TakesIn {S : Type 0} (s : Side S) (pairs : List (Key × State)) (told : List (Result (Unit {0}) Refusal)) (old new : S) : Type 0 where
+pub record TakesIn {S : Type 0} (s : SideOf S) (pairs : List (Key × State)) (told : List (Result (Unit {0}) Refusal)) (old new : S) : Type 0 where
   pub still : s.is_faithful new
   pub pushes : Pushes (s.most_keys old) (s.states old) pairs told (s.states new)
 
 -- after pushes that came to an end, of which the first were made
-pub record TakesFirst {S : Type 0} (s : Side S) (pairs : List (Key × State)) (old new : S) (refusal : Refusal) : Type 0 where
+pub record TakesFirst {S : Type 0} (s : SideOf S) (pairs : List (Key × State)) (old new : S) (refusal : Refusal) : Type 0 where
   pub still : refusal ≢ Broken → s.is_faithful new
   pub pushes : PushesFirst (s.is_faithful new) (s.most_keys old) (s.states old) pairs (s.states new)
 
 -- ---- a listing
 
 -- A page of a bucket after a key was asked for
-pub record Fetches {S : Type 0} (s : Side S) (path : List ℕ) (after : Option (List ℕ)) (listing : List Entry × Bool) (left left' : ℕ) (old new : S) : Type 0 where
+pub record Fetches {S : Type 0} (s : SideOf S) (path : List ℕ) (after : Option (List ℕ)) (listing : List Entry × Bool) (left left' : ℕ) (old new : S) : Type 0 where
   pub spent : left ≡ left' + 1
   pub follows : s.follows 1 old new
   pub page : IsPage after listing.0 listing.1
@@ -83,7 +83,7 @@ pub record Fetches {S : Type 0} (s : Side S) (path : List ℕ) (after : Option (
   pub right : s.is_faithful old → IsPageOf (digests (s.states old)) path after listing.0 listing.1
 
 -- A listing of the keys of a bucket after a key was filled, by a question more where it had come to its end and there are more
-pub record Fills {S : Type 0} (s : Side S) (path : List ℕ) (after : Option (List ℕ)) (listing listing' : List Entry × Bool) (left left' : ℕ) (old new : S) : Type 0 where
+pub record Fills {S : Type 0} (s : SideOf S) (path : List ℕ) (after : Option (List ℕ)) (listing listing' : List Entry × Bool) (left left' : ℕ) (old new : S) : Type 0 where
   pub asked : ℕ
   pub one : asked ≤ 1
   pub needed : 1 ≤ asked → (listing.0 ≡ []) × (listing.1 ≡ true)

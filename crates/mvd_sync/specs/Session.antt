@@ -11,7 +11,8 @@ use Rattle.mvd_tree.specs.Hashed.{HashesTellApart}
 use Rattle.mvd_site.specs.Answer.{is_too_large, spelled}
 use Rattle.mvd_site.specs.Held.{States, state_at}
 use Rattle.mvd_sync.specs.Olds.{HasUnseen}
-use Rattle.mvd_sync.specs.Sides.{Blames, HasAnswered, IsFaultOf, IsSilent, Side as SideOf}
+use Rattle.mvd_sync.specs.Sides.{Blames, HasAnswered, IsFaultOf, IsSilent, SideOf}
+use Rattle.mvd_sync.specs.declared.report.Left.{Left}
 use Rattle.mvd_sync.specs.declared.report.Report.{Report}
 use Rattle.mvd_sync.specs.declared.report.Side.{Side}
 use Rattle.mvd_sync.specs.declared.report.Side.TheVariants.{Local as AtLocal, Peer as AtPeer}
@@ -72,6 +73,25 @@ AreDistinct (k ∷ ks) = (is_member ks k ≡ false) × AreDistinct ks
 
 -- ---- two sides
 
+-- what the two sides hold
+pub record Both : Type 0 where
+  pub local : States
+  pub peer : States
+
+-- two sides as a session begins: what they hold, the most keys that each takes, and the number of
+-- the local one, where it is known
+pub record Before : Type 0 where
+  pub held : Both
+  pub most_local : ℕ
+  pub most_peer : ℕ
+  pub number : Option ℕ
+
+-- two sides afterwards: what they hold, and whether each is still true
+pub record After : Type 1 where
+  pub held : Both
+  pub local_true : Type 0
+  pub peer_true : Type 0
+
 -- the states of a key differ, and do not clash
 pub record CanMeet (a b : States) (key : Key) : Type 0 where
   pub differ : get a key ≢ get b key
@@ -82,11 +102,11 @@ abbrev pub HasJoined : List Key → States → States → States → States → 
 HasJoined keys a b old new = (key : Key) → MatchBool (is_member keys key) (state_at new key ≡ join (state_at a key) (state_at b key)) (get new key ≡ get old key)
 
 -- the states of `joined` were joined on the local side, and those of `given`, which are some of these, on the peer
-pub record Joins (local_true peer_true : Type 0) (a b a' b' : States) (joined given : List Key) : Type 0 where
+pub record Joins (old : Both) (after : After) (joined given : List Key) : Type 0 where
   pub part : (key : Key) → IsIn given key → IsIn joined key
-  pub met : (key : Key) → IsIn joined key → CanMeet a b key
-  pub local_side : local_true → HasJoined joined a b a a'
-  pub peer_side : peer_true → HasJoined given a b b b'
+  pub met : (key : Key) → IsIn joined key → CanMeet old.local old.peer key
+  pub local_side : after.local_true → HasJoined joined old.local old.peer old.local after.held.local
+  pub peer_side : after.peer_true → HasJoined given old.local old.peer old.peer after.held.peer
 
 -- more keys than a side takes are held by one of the two
 pub record AreTooMany (most : ℕ) (a b : States) : Type 0 where
@@ -95,30 +115,38 @@ pub record AreTooMany (most : ℕ) (a b : States) : Type 0 where
   pub by_either : Each (λ key. (get a key ≢ None) ⊎ (get b key ≢ None)) held
   pub many : most < length held
 
--- why a key is refused by a side that takes so many keys and held these: the join of its states is too long (9), the side did
--- not hold the key, and both sides' keys together are too many (10), or its states clash (11)
-abbrev pub CannotMeet : ℕ → (own a b : States) → Key → Refusal → Type 0
-CannotMeet most own a b key StateTooLarge = is_too_large (join (state_at a key) (state_at b key)) ≡ true
-CannotMeet most own a b key Full = (get own key ≡ None) × AreTooMany most a b
-CannotMeet most own a b key DotClash = clashes (state_at a key) (state_at b key) ≡ true
-CannotMeet most own a b key refusal = ⊥
+-- the most keys that a side takes
+abbrev pub most_of : Before → Side → ℕ
+most_of before AtLocal = before.most_local
+most_of before AtPeer = before.most_peer
 
--- a key that was refused, by which side, and how
-abbrev pub Left : Type 0
-Left = Key × (Side × Refusal)
+-- what a side holds
+abbrev pub own_of : Both → Side → States
+own_of held AtLocal = held.local
+own_of held AtPeer = held.peer
 
-abbrev pub most_of : ℕ → ℕ → Side → ℕ
-most_of local peer AtLocal = local
-most_of local peer AtPeer = peer
+-- why a side refuses a key: the join of its states is too long (9), the side did not hold the key,
+-- and both sides' keys together are more than it takes (10), or its states clash (11)
+abbrev pub CannotMeet : Before → Side → Key → Refusal → Type 0
+CannotMeet before side key StateTooLarge =
+    is_too_large (join (state_at before.held.local key) (state_at before.held.peer key)) ≡ true
+CannotMeet before side key Full =
+    (get (own_of before.held side) key ≡ None) × AreTooMany (most_of before side) before.held.local before.held.peer
+CannotMeet before side key DotClash = clashes (state_at before.held.local key) (state_at before.held.peer key) ≡ true
+CannotMeet before side key refusal = ⊥
 
-abbrev pub own_of : States → States → Side → States
-own_of a b AtLocal = a
-own_of a b AtPeer = b
+-- where the local side refused a key its states were not joined; where the peer did they were, on
+-- the local side alone
+abbrev pub was_joined : Side → Bool
+was_joined AtLocal = false
+was_joined AtPeer = true
 
--- at the local side the key's states were not joined; at the peer they were, on the local side alone
 abbrev pub IsLeft : List Key → Left → Type 0
-IsLeft joined (key, (AtLocal, refusal)) = is_member joined key ≡ false
-IsLeft joined (key, (AtPeer, refusal)) = is_member joined key ≡ true
+IsLeft joined left = is_member joined left.key ≡ was_joined left.side
+
+-- the states of a key differ
+abbrev pub Differ : Both → Key → Type 0
+Differ held key = get held.local key ≢ get held.peer key
 
 -- the peer's state of a key has seen a dot of this site that the local state has not
 abbrev pub IsOld : Option ℕ → States → States → Key → Type 0
@@ -127,25 +155,27 @@ IsOld number a b key = HasUnseen number (state_at a key) (state_at b key)
 -- What a session with no fault tells: the keys that were exchanged (`given`) and those that were refused (`left`), each for its
 -- cause; each of them differed, and where SHA-256 tells the texts of both sides apart they are all that did (`all`); and of how
 -- many the local state was older than what the peer saw of it
-pub record ReportsDone (most_local most_peer : ℕ) (number : Option ℕ) (a b : States) (joined given : List Key) (report : Report) : Type 0 where
+pub record ReportsDone (before : Before) (joined given : List Key) (report : Report) : Type 0 where
   pub left : List Left
   pub old_keys : List Key
-  pub distinct : AreDistinct (given ++ map (λ l. l.0) left)
-  pub whole : (key : Key) → IsIn joined key → IsIn (given ++ map (λ l. l.0) left) key
+  pub distinct : AreDistinct (given ++ map (λ l. l.key) left)
+  pub whole : (key : Key) → IsIn joined key → IsIn (given ++ map (λ l. l.key) left) key
   pub sides : Each (IsLeft joined) left
-  pub causes : Each (λ l. CannotMeet (most_of most_local most_peer l.1.0) (own_of a b l.1.0) a b l.0 l.1.1) left
-  pub differed : Each (λ l. get a l.0 ≢ get b l.0) left
-  pub all : HashesTellApart spelled a b → (key : Key) → get a key ≢ get b key → IsIn (given ++ map (λ l. l.0) left) key
+  pub causes : Each (λ l. CannotMeet before l.side l.key l.refusal) left
+  pub differed : Each (λ l. Differ before.held l.key) left
+  pub all : HashesTellApart spelled before.held.local before.held.peer →
+      (key : Key) → Differ before.held key → IsIn (given ++ map (λ l. l.key) left) key
   pub counted : (report.keys ≡ length given) × (report.refused ≡ length left) × (report.first_refused ≡ take 100 left)
   pub older : AreDistinct old_keys × (report.old ≡ length old_keys)
-  pub are_old : (key : Key) → IsIn old_keys key ↔ (IsIn (given ++ map (λ l. l.0) left) key × IsOld number a b key)
+  pub are_old : (key : Key) → IsIn old_keys key ↔
+      (IsIn (given ++ map (λ l. l.key) left) key × IsOld before.number before.held.local before.held.peer key)
 
 -- between two sides that were true, at any end
-pub record Meets (local_true peer_true : Type 0) (most_local most_peer : ℕ) (number : Option ℕ) (a b a' b' : States) (result : Result Report SyncFault) : Type 0 where
+pub record Meets (before : Before) (after : After) (result : Result Report SyncFault) : Type 0 where
   pub joined : List Key
   pub given : List Key
-  pub joins : Joins local_true peer_true a b a' b' joined given
-  pub tells : IfOk result (ReportsDone most_local most_peer number a b joined given)
+  pub joins : Joins before.held after joined given
+  pub tells : IfOk result (ReportsDone before joined given)
 
 -- so few questions, where all keys that differ are among these
 abbrev pub AreFew : ℕ → States → List Key → Type 0
@@ -154,6 +184,27 @@ AreFew asked states differing = asked ≤ 1 + 5 * length differing + len states 
 -- all keys that differ are among these
 abbrev pub HasAllThatDiffer : States → States → List Key → Type 0
 HasAllThatDiffer a b keys = (key : Key) → get a key ≢ get b key → IsIn keys key
+
+-- what two sides hold
+abbrev pub both_of : {L P : Type 0} → SideOf L → SideOf P → L → P → Both
+both_of l p local peer = record { local = l.states local; peer = p.states peer }
+
+-- two sides as a session begins
+abbrev pub before_of : {L P : Type 0} → SideOf L → SideOf P → L → P → Before
+before_of l p local peer = record {
+  held = both_of l p local peer;
+  most_local = l.most_keys local;
+  most_peer = p.most_keys peer;
+  number = l.number local;
+}
+
+-- and afterwards
+abbrev pub after_of : {L P : Type 0} → SideOf L → SideOf P → L → P → After
+after_of l p local' peer' = record {
+  held = both_of l p local' peer';
+  local_true = l.is_faithful local';
+  peer_true = p.is_faithful peer';
+}
 
 -- A SESSION of two sides, each asked at most so many questions
 pub record Session {L P : Type 0} (l : SideOf L) (p : SideOf P) (most : ℕ) (local local' : L) (peer peer' : P) (result : Result Report SyncFault) : Type 0 where
@@ -166,7 +217,9 @@ pub record Session {L P : Type 0} (l : SideOf L) (p : SideOf P) (most : ℕ) (lo
   pub within : (asked_local ≤ most) × (asked_peer ≤ most)
   pub follows : l.follows asked_local local local' × p.follows asked_peer peer peer'
   -- a fault has a cause; with no fault both sides have answered
-  pub cause : IfErr result (IsFaultOf (Blames l most asked_local wanted_local local local') (Blames p most asked_peer wanted_peer peer peer'))
+  pub cause : IfErr result (IsFaultOf
+      (Blames l (record { most = most; asked = asked_local; wanted = wanted_local; old = local; new = local' }))
+      (Blames p (record { most = most; asked = asked_peer; wanted = wanted_peer; old = peer; new = peer' })))
   pub answers : OnOk result (HasAnswered l.follows l.can_answer local local' × HasAnswered p.follows p.can_answer peer peer')
   -- whatever the other is, a true side changes by pushes of states that the other may give, and by nothing else
   pub local_side : l.is_faithful local → Changes (l.is_faithful local') (Local Broken) p.can_give (l.states local) (l.states local') result
@@ -177,7 +230,7 @@ pub record Session {L P : Type 0} (l : SideOf L) (p : SideOf P) (most : ℕ) (lo
   -- between two true sides states are joined, at a fault, too; with no fault all that differ, but those refused for a cause, where
   -- SHA-256 tells the texts of both sides apart
   pub meets : l.is_faithful local → p.is_faithful peer →
-      Meets (l.is_faithful local') (p.is_faithful peer') (l.most_keys local) (p.most_keys peer) (l.number local) (l.states local) (p.states peer) (l.states local') (p.states peer') result
+      Meets (before_of l p local peer) (after_of l p local' peer') result
   -- and few questions were made or wanted
   pub few : l.is_faithful local → p.is_faithful peer → (differing : List Key) → HasAllThatDiffer (l.states local) (p.states peer) differing →
       AreFew (asked_local + wanted_local) (l.states local) differing × AreFew (asked_peer + wanted_peer) (p.states peer) differing

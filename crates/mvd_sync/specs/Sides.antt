@@ -11,7 +11,7 @@ use Rattle.mvd_sync.specs.declared.report.SyncFault.{SyncFault}
 use Rattle.mvd_sync.specs.declared.report.SyncFault.TheVariants.{Local, Peer}
 
 -- the meaning of a type of sides, as the trait `Peer` has it
-pub record Side (S : Type 0) : Type 1 where
+pub record SideOf (S : Type 0) : Type 1 where
   pub states : S → States
   pub is_faithful : S → Type 0
   pub can_give : Key → State → Type 0
@@ -22,7 +22,7 @@ pub record Side (S : Type 0) : Type 1 where
   pub most_keys : S → ℕ
   pub number : S → Option ℕ
 
-abbrev pub side : {S : Type 0} → (S → States) → (S → Type 0) → (Key → State → Type 0) → (ℕ → S → S → Type 0) → (S → Refusal → Type 0) → (S → Type 0) → (S → ℕ) → (S → Option ℕ) → Side S
+abbrev pub side : {S : Type 0} → (S → States) → (S → Type 0) → (Key → State → Type 0) → (ℕ → S → S → Type 0) → (S → Refusal → Type 0) → (S → Type 0) → (S → ℕ) → (S → Option ℕ) → SideOf S
 side states is_faithful can_give follows can_refuse can_answer most_keys number = record {
   states = states;
   is_faithful = is_faithful;
@@ -70,13 +70,23 @@ is_of_question refusal = is_of_key refusal
 
 -- ---- why a session ends by a side
 
+-- a side before and after it was asked: so many questions it might be asked at most, so many it was,
+-- and so many more were wanted
+pub record Asked (S : Type 0) : Type 0 where
+  pub most : ℕ
+  pub asked : ℕ
+  pub wanted : ℕ
+  pub old : S
+  pub new : S
+
 -- it refused so, and if it was true that is no refusal of one question alone (9, 10, 11, 14); or it gave what no true side
 -- gives (33); or all questions were made that it might be asked, and one more was wanted (36); or memory was refused
-pub data Blames {S : Type 0} (s : Side S) (most asked wanted : ℕ) (old new : S) (refusal : Refusal) : Type 0 where
-  of_side : HasRefused s.follows s.can_refuse old new refusal → (s.is_faithful old → is_of_question refusal ≡ false) → Blames s most asked wanted old new refusal
-  of_answer : refusal ≡ BadBody → (s.is_faithful old → ⊥) → Blames s most asked wanted old new refusal
-  of_questions : refusal ≡ TooManyRequests → asked ≡ most → wanted ≡ 1 → Blames s most asked wanted old new refusal
-  of_memory : refusal ≡ Memory → Blames s most asked wanted old new refusal
+pub data Blames {S : Type 0} (s : SideOf S) (a : Asked S) (refusal : Refusal) : Type 0 where
+  of_side : HasRefused s.follows s.can_refuse a.old a.new refusal → (s.is_faithful a.old → is_of_question refusal ≡ false) →
+      Blames s a refusal
+  of_answer : refusal ≡ BadBody → (s.is_faithful a.old → ⊥) → Blames s a refusal
+  of_questions : refusal ≡ TooManyRequests → a.asked ≡ a.most → a.wanted ≡ 1 → Blames s a refusal
+  of_memory : refusal ≡ Memory → Blames s a refusal
 
 -- the fault is of the side that it names
 abbrev pub IsFaultOf : (Refusal → Type 0) → (Refusal → Type 0) → SyncFault → Type 0

@@ -9,7 +9,7 @@ use Rattle.mvd_site.specs.Held.{States}
 use Rattle.mvd_sync.specs.Nodes.{differing_children, differs_at, has_below, told_children}
 use Rattle.mvd_sync.specs.Questions.{Keeps}
 use Rattle.mvd_sync.specs.Session.{AreDistinct, Each, HasAllThatDiffer}
-use Rattle.mvd_sync.specs.Sides.{Blames, HasAnswered, IsFaultOf, Side}
+use Rattle.mvd_sync.specs.Sides.{Blames, HasAnswered, IsFaultOf, SideOf}
 use Rattle.mvd_sync.specs.declared.asking.Node.{Node}
 use Rattle.mvd_sync.specs.declared.asking.Questions.{Questions}
 use Rattle.mvd_sync.specs.declared.report.SyncFault.{SyncFault}
@@ -26,13 +26,13 @@ IsBelow path key = IsTrue (is_under path key)
 -- ---- questions that change nothing
 
 -- So many questions were made to a side, and taken from those that were left
-pub record Reads {S : Type 0} (s : Side S) (asked left left' : ℕ) (old new : S) : Type 0 where
+pub record Reads {S : Type 0} (s : SideOf S) (asked left left' : ℕ) (old new : S) : Type 0 where
   pub spent : left ≡ left' + asked
   pub follows : s.follows asked old new
   pub kept : s.is_faithful old → Keeps s old new
 
 -- They came to an end by a fault that has a cause: no more were made than were left, and so few
-pub record ReadsEnd {L P : Type 0} (l : Side L) (p : Side P) (AreFew : ℕ → Type 0) (left : Questions) (local local' : L) (peer peer' : P) (fault : SyncFault) : Type 0 where
+pub record ReadsEnd {L P : Type 0} (l : SideOf L) (p : SideOf P) (AreFew : ℕ → Type 0) (left : Questions) (local local' : L) (peer peer' : P) (fault : SyncFault) : Type 0 where
   pub asked_local : ℕ
   pub asked_peer : ℕ
   pub wanted_local : ℕ
@@ -40,12 +40,14 @@ pub record ReadsEnd {L P : Type 0} (l : Side L) (p : Side P) (AreFew : ℕ → T
   pub within : (asked_local ≤ left.local) × (asked_peer ≤ left.peer)
   pub few : AreFew (asked_local + wanted_local) × AreFew (asked_peer + wanted_peer)
   pub follows : l.follows asked_local local local' × p.follows asked_peer peer peer'
-  pub cause : IsFaultOf (Blames l left.local asked_local wanted_local local local') (Blames p left.peer asked_peer wanted_peer peer peer') fault
+  pub cause : IsFaultOf
+      (Blames l (record { most = left.local; asked = asked_local; wanted = wanted_local; old = local; new = local' }))
+      (Blames p (record { most = left.peer; asked = asked_peer; wanted = wanted_peer; old = peer; new = peer' })) fault
   pub kept_local : l.is_faithful local → Keeps l local local'
   pub kept_peer : p.is_faithful peer → Keeps p peer peer'
 
 -- both sides have answered on the way
-abbrev pub HaveAnswered : {L P : Type 0} → Side L → Side P → (local local' : L) (peer peer' : P) → Type 0
+abbrev pub HaveAnswered : {L P : Type 0} → SideOf L → SideOf P → (local local' : L) (peer peer' : P) → Type 0
 HaveAnswered l p local local' peer peer' = HasAnswered l.follows l.can_answer local local' × HasAnswered p.follows p.can_answer peer peer'
 
 -- ---- one level
@@ -61,7 +63,7 @@ told_all paths mine theirs = []
 
 -- ONE LEVEL: both sides were asked about these nodes, one question each, and told of their children; of two true sides these are
 -- the children that differ
-pub record Descends {L P : Type 0} (l : Side L) (p : Side P) (paths : List (List ℕ)) (left left' : Questions) (local local' : L) (peer peer' : P) (below : List (List ℕ)) : Type 0 where
+pub record Descends {L P : Type 0} (l : SideOf L) (p : SideOf P) (paths : List (List ℕ)) (left left' : Questions) (local local' : L) (peer peer' : P) (below : List (List ℕ)) : Type 0 where
   pub local_side : Reads l (length paths) left.local left'.local local local'
   pub peer_side : Reads p (length paths) left.peer left'.peer peer peer'
   pub answers : paths ≢ [] → HaveAnswered l p local local' peer peer'
@@ -77,12 +79,12 @@ pub record AreBuckets (a b : States) (buckets : List (List ℕ)) : Type 0 where
   pub whole : HashesTellApart spelled a b → (key : Key) → get a key ≢ get b key → IsTrue (has_below buckets key)
 
 -- so few questions, where so many keys differ at most
-abbrev pub AreFewFor : {L P : Type 0} → Side L → Side P → L → P → (ℕ → Type 0) → Type 0
+abbrev pub AreFewFor : {L P : Type 0} → SideOf L → SideOf P → L → P → (ℕ → Type 0) → Type 0
 AreFewFor l p local peer Few = l.is_faithful local → p.is_faithful peer → (differing : List Key) → HasAllThatDiffer (l.states local) (p.states peer) differing → Few (length differing)
 
 -- THE WALK from the root: both sides were asked equally many questions, and these are the buckets that differ. The questions, and
 -- one for each bucket, are at most one for the root and three for each key that differs
-pub record FindsBuckets {L P : Type 0} (l : Side L) (p : Side P) (left left' : Questions) (local local' : L) (peer peer' : P) (buckets : List (List ℕ)) : Type 0 where
+pub record FindsBuckets {L P : Type 0} (l : SideOf L) (p : SideOf P) (left left' : Questions) (local local' : L) (peer peer' : P) (buckets : List (List ℕ)) : Type 0 where
   pub asked : ℕ
   pub local_side : Reads l asked left.local left'.local local local'
   pub peer_side : Reads p asked left.peer left'.peer peer peer'

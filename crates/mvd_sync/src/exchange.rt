@@ -306,8 +306,8 @@ impl Exchange {
                 self.count_old(is_old);
                 Ok(())
             }
-            Some(refused) => {
-                self.leave(key, refused)?;
+            Some((side, refusal)) => {
+                self.leave(Left { key, side, refusal })?;
                 self.count_old(is_old);
                 Ok(())
             }
@@ -315,7 +315,7 @@ impl Exchange {
     }
 
     /// Counts a key that was refused, and names it if it is among the first.
-    fn leave(&mut self, key: Key, refused: (Side, Refusal)) -> Result<(), Refusal>
+    fn leave(&mut self, left: Left) -> Result<(), Refusal>
         requires room { self.old.keys + self.old.refused + 1 < 2 ^ 64 }
         ensures number { self.new.number ≡ self.old.number }
         ensures waiting { OnOk result (self.new.waiting ≡ self.old.waiting) }
@@ -324,14 +324,14 @@ impl Exchange {
         ensures older { OnOk result (self.new.older ≡ self.old.older) }
         ensures counted { OnOk result (self.new.older < self.new.keys + self.new.refused) }
         ensures named { OnOk result (length self.old.first_refused < 100
-            → self.new.first_refused ≡ self.old.first_refused ++ (key, refused) ∷ []) }
+            → self.new.first_refused ≡ self.old.first_refused ++ left ∷ []) }
         ensures full { OnOk result (100 ≤ length self.old.first_refused
             → self.new.first_refused ≡ self.old.first_refused) }
         ensures memory { IfErr result (λ refusal. refusal ≡ Refusal.Memory) }
     {
         self.refused += 1;
         if self.first_refused.len() < NAMED {
-            self.first_refused.push((key, refused))?;
+            self.first_refused.push(left)?;
         }
         Ok(())
     }

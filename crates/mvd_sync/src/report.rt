@@ -23,7 +23,12 @@ pub enum SyncFault {
 }
 
 /// A key that was refused, by which side, and how.
-pub type Left = (Key, (Side, Refusal));
+#[derive(Drop)]
+pub struct Left {
+    pub key: Key,
+    pub side: Side,
+    pub refusal: Refusal,
+}
 
 /// What a session did.
 #[derive(Drop)]

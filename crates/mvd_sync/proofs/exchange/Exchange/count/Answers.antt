@@ -19,7 +19,7 @@ pub returns-in_ok-leave-in-Some-clause-adds : goal.returns-in_ok-leave-in-Some-c
 returns-in_ok-leave-in-Some-clause-adds c =
     let at = c.count_old-in-Some.ensures in
     let left = c.in_ok-leave-in-Some.ensures in
-    adds_left (record { key = c.args.key; is_old = c.args.is_old; refused = c.args.refused }) c.in-Some.refused c.args.self.now c.count_old-in-Some.new.self c.in-Some.is
+    adds_left (record { key = c.args.key; is_old = c.args.is_old; refused = c.args.refused }) (c.in-Some.side, c.in-Some.refusal) c.args.self.now c.count_old-in-Some.new.self c.in-Some.is
     (ap (λ (v : Exchanging). v.number) at ∙ left.number)
     (ap (λ (v : Exchanging). v.waiting) at ∙ left.waiting)
     (ap (λ (v : Exchanging). v.keys) at ∙ left.keys)

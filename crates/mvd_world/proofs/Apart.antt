@@ -18,8 +18,9 @@ use Rattle.mvd_site.proofs.Answered.{answered}
 use Rattle.mvd_site.proofs.Clashes.{clash_alone}
 use Rattle.mvd_site.proofs.OfTheSet.{states_of-stands}
 use Rattle.mvd_site.proofs.Steps.{state_at-stands}
-use Rattle.mvd_sync.specs.Session.{CannotMeet, Each, Left, most_of, own_of}
+use Rattle.mvd_sync.specs.Session.{Before, CannotMeet, Each}
 use Rattle.mvd_sync.specs.Sides.{IsFaultOf}
+use Rattle.mvd_sync.specs.declared.report.Left.{Left}
 use Rattle.mvd_sync.specs.declared.report.Report.{Report}
 use Rattle.mvd_sync.proofs.Answering.{each-take}
 use Rattle.mvd_sync.proofs.Keys.{Each-weaker}
@@ -28,7 +29,7 @@ use Rattle.mvd_world.specs.declared.steps.Step.{Step}
 use Rattle.mvd_world.specs.declared.steps.Step.TheVariants.{Write as Write_at, Ask, Send, Receive, Session}
 use Rattle.mvd_world.specs.declared.steps.Outcome.{Outcome}
 use Rattle.mvd_world.specs.declared.steps.Outcome.TheVariants.{Replied, Sent as Sent_as, Met, Failed, NoSuch}
-use Rattle.mvd_world.specs.Machine.{Answers, IsClash, IsNoClash, IsOwn, IsSound, Knowledge, MayFail, MayStep, Receives, Setting, Takes, all_asked, is_site, it_refused, may_be}
+use Rattle.mvd_world.specs.Machine.{Answers, IsClash, IsNoClash, IsOwn, IsSound, Knowledge, MayFail, MayStep, Receives, Setting, Takes, all_asked, is_site, it_refused, may_be, two_sites}
 use Rattle.mvd_world.proofs.Sound.{asked_step, found, own_step}
 
 -- ---- what was made agrees
@@ -93,10 +94,10 @@ no_states_clash before local peer sound key =
     ∙ apart_within before V W key sound (sound.known local) (sound.known peer)
 
 -- no key is refused for a clash
-left_apart : (a b : States) (m n : ℕ) → ((key : Key) → clashes (state_at a key) (state_at b key) ≡ false) → (l : Left) → CannotMeet (most_of m n l.1.0) (own_of a b l.1.0) a b l.0 l.1.1 → l.1.1 ≢ DotClash
-left_apart a b m n apart l cannot is =
-    let clash : clashes (state_at a l.0) (state_at b l.0) ≡ true = subst (CannotMeet (most_of m n l.1.0) (own_of a b l.1.0) a b l.0) is cannot in
-    true≢false (sym clash ∙ apart l.0)
+left_apart : (before : Before) → ((key : Key) → clashes (state_at before.held.local key) (state_at before.held.peer key) ≡ false) → (l : Left) → CannotMeet before l.side l.key l.refusal → l.refusal ≢ DotClash
+left_apart before apart l cannot is =
+    let clash : clashes (state_at before.held.local l.key) (state_at before.held.peer l.key) ≡ true = subst (CannotMeet before l.side l.key) is cannot in
+    true≢false (sym clash ∙ apart l.key)
 
 -- nor is a session
 is_none : (a b held : States) (broken : Bool) → MayFail a b held broken DotClash → ⊥
@@ -128,10 +129,10 @@ takes_apart setting before (Session local peer) (Met report) after sound may tol
   keys = λ other e.
       let tells = told.tells in
       let apart = no_states_clash before local peer sound in
-      subst (λ (r : Report). Each (λ l. l.1.1 ≢ DotClash) r.first_refused) (met_is report other e)
-      (subst (Each (λ l. l.1.1 ≢ DotClash)) (sym tells.counted.2) (each-take (λ l. l.1.1 ≢ DotClash) tells.left 100
-      (Each-weaker (λ l. CannotMeet (most_of told.mine.max_keys told.theirs.max_keys l.1.0) (own_of (states_of (before.known local)) (states_of (before.known peer)) l.1.0) (states_of (before.known local)) (states_of (before.known peer)) l.0 l.1.1) (λ l. l.1.1 ≢ DotClash)
-      (left_apart (states_of (before.known local)) (states_of (before.known peer)) told.mine.max_keys told.theirs.max_keys apart) tells.left tells.causes)));
+      let meeting = two_sites told.mine told.theirs local (before.known local) (before.known peer) in
+      subst (λ (r : Report). Each (λ l. l.refusal ≢ DotClash) r.first_refused) (met_is report other e)
+      (subst (Each (λ l. l.refusal ≢ DotClash)) (sym tells.counted.2) (each-take (λ l. l.refusal ≢ DotClash) tells.left 100
+      (Each-weaker (λ l. CannotMeet meeting l.side l.key l.refusal) (λ l. l.refusal ≢ DotClash) (left_apart meeting apart) tells.left tells.causes)));
 }
 takes_apart setting before (Session local peer) (Failed fault) after sound may told = record {
   reply = λ e. cc;

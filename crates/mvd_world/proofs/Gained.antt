@@ -22,12 +22,13 @@ use Rattle.mvd_site.specs.Held.{AreHeld, States, state_at}
 use Rattle.mvd_site.specs.Sites.{SiteStands, SiteValue}
 use Rattle.mvd_site.proofs.OfTheSet.{states_of-stands}
 use Rattle.mvd_site.proofs.Steps.{state_at-stands}
-use Rattle.mvd_sync.specs.Session.{AreFew, CanMeet, HasAllThatDiffer, HasJoined, IsIn, ReportsDone, Session, is_member}
-use Rattle.mvd_sync.specs.Sides.{Blames, IsBroken, IsFaultOf, Side, SiteFollows, SiteRefuses, Stays, is_of_question, is_site_refusal, of_answer, of_memory, of_questions, of_side, side, tells_broken}
+use Rattle.mvd_sync.specs.Session.{AreFew, CanMeet, HasAllThatDiffer, HasJoined, IsIn, Session, is_member}
+use Rattle.mvd_sync.specs.Sides.{IsBroken, IsFaultOf, SideOf, SiteFollows, SiteRefuses, Stays, is_of_question, is_site_refusal, of_answer, of_memory, of_questions, of_side, side, tells_broken}
 use Rattle.mvd_sync.specs.declared.report.Report.{Report}
 use Rattle.mvd_sync.specs.declared.report.SyncFault.{SyncFault}
 use Rattle.mvd_sync.specs.declared.report.SyncFault.TheVariants.{Local, Peer}
 use Rattle.mvd_sync.proofs.JoinLaws.{join_absorbs, valid_at}
+use Rattle.mvd_sync.proofs.Positions.{BlamesBy, ReportsDoneBy}
 use Rattle.mvd_sync.proofs.SiteSides.{is_broken}
 use Rattle.mvd_world.specs.Machine.{BreaksBy, FailsFor, MayFail, ToldAtOnce, all_asked, it_refused, writes_in}
 use Rattle.mvd_world.specs.Worlds.{Exchange}
@@ -96,7 +97,7 @@ stands_from m W form same = record {
 -- ---- the two sides
 
 -- a site as a side of a session
-abbrev pub site_side : Side SiteValue
+abbrev pub site_side : SideOf SiteValue
 site_side = side (λ (s : SiteValue). s.states) (λ s. (s.broken ≡ false) × AreHeld s.states) (λ _ _. Unit {0}) (λ _. SiteFollows) SiteRefuses (λ s. s.broken ≡ false) (λ s. s.config.max_keys) (λ s. Some s.config.site)
 
 -- the state of a key that was joined, or is as it was
@@ -165,7 +166,7 @@ broken_after mid site' refusal told stays whole = ⊎_elim
     (is_broken refusal)
 
 module _ (a b held : States) (site site' : SiteValue) (asked wanted : ℕ) (first : IsTrue_side site) where
-  may_fail : (refusal : Refusal) → (refusal ≢ Broken → site'.broken ≡ false) → ((differing : List Key) → HasAllThatDiffer a b differing → AreFew (asked + wanted) held differing) → Blames site_side 10000000 asked wanted site site' refusal → MayFail a b held site'.broken refusal
+  may_fail : (refusal : Refusal) → (refusal ≢ Broken → site'.broken ≡ false) → ((differing : List Key) → HasAllThatDiffer a b differing → AreFew (asked + wanted) held differing) → BlamesBy site_side 10000000 asked wanted site site' refusal → MayFail a b held site'.broken refusal
   may_fail refusal whole few (of_side h apart) = it_refused h.2.0 (apart first) (broken_after h.0 site' refusal h.2.1 h.3.1.1 whole)
   may_fail refusal whole few (of_answer e untrue) = absurd (untrue first)
   may_fail refusal whole few (of_questions e all one) = all_asked e (λ differing every. let n = few differing every in omega (arith, n, all, one))
@@ -175,7 +176,7 @@ fails_for : (a b : States) (local peer local' peer' : SiteValue) (i j v w : ℕ)
     MatchResult result (λ _. local'.broken ≡ false) (λ fault. fault ≢ Local Broken → local'.broken ≡ false) →
     MatchResult result (λ _. peer'.broken ≡ false) (λ fault. fault ≢ Peer Broken → peer'.broken ≡ false) →
     ((differing : List Key) → HasAllThatDiffer a b differing → AreFew (i + v) a differing × AreFew (j + w) b differing) →
-    IfErr result (IsFaultOf (Blames site_side 10000000 i v local local') (Blames site_side 10000000 j w peer peer')) → FailsFor a b local'.broken peer'.broken result
+    IfErr result (IsFaultOf (BlamesBy site_side 10000000 i v local local') (BlamesBy site_side 10000000 j w peer peer')) → FailsFor a b local'.broken peer'.broken result
 fails_for a b local peer local' peer' i j v w (Ok report) first second mine theirs few cause = tt
 fails_for a b local peer local' peer' i j v w (Err (Local refusal)) first second mine theirs few cause =
     may_fail a b a local local' i v first refusal (λ other. mine (λ e. other (let is : refusal ≡ Broken = cc in is))) (λ differing every. (few differing every).0) cause
@@ -198,7 +199,7 @@ sites_meet local peer local' peer' result first second held held' session V W st
       given = m.given;
       part = m.joins.part;
       meet = λ key h. subst₂ (λ a b. CanMeet a b key) a_is b_is (m.joins.met key h);
-      tells = subst₂ (λ a b. IfOk result (ReportsDone local.config.max_keys peer.config.max_keys (Some local.config.site) a b m.joined m.given)) a_is b_is m.tells;
+      tells = subst₂ (λ a b. IfOk result (ReportsDoneBy local.config.max_keys peer.config.max_keys (Some local.config.site) a b m.joined m.given)) a_is b_is m.tells;
       local_breaks = breaks_by (Local Broken) is_local_broken local.broken local'.broken result first.0 here;
       peer_breaks = breaks_by (Peer Broken) is_peer_broken peer.broken peer'.broken result second.0 there;
       at_once = subst₂ (λ a b. ToldAtOnce a b m.joined result) (sym first.0) (sym second.0) tt;

@@ -17,7 +17,7 @@ use Rattle.mvd_wire.specs.declared.reply.Reply.{Reply}
 use Rattle.mvd_wire.specs.declared.reply.Reply.TheVariants.{Done, Refused}
 use Rattle.std.proofs.Common.{IfOk}
 use Rattle.mvd_rows.specs.Defs.{Definitions}
-use Rattle.mvd_site.specs.Answer.{answer, change_of, states_of}
+use Rattle.mvd_site.specs.Answer.{answer, change_of}
 use Rattle.mvd_site.specs.Config.{ConfigValue}
 use Rattle.mvd_site.specs.FromStates.{Answered, AnswersFrom, after_from, answer_from, change_from, unless_broken, with_change}
 use Rattle.mvd_site.specs.Held.{States, state_at}
@@ -33,7 +33,7 @@ use Rattle.mvd_sync.specs.declared.report.SyncFault.{SyncFault}
 use Rattle.mvd_sync.specs.declared.report.SyncFault.TheVariants.{Local, Peer}
 use Rattle.mvd_world.specs.declared.worlds.Message.{Message}
 use Rattle.mvd_world.specs.declared.worlds.World.{World}
-use Rattle.mvd_world.specs.Machine.{Answers, BreaksBy, IsOwn, IsSound, Knowledge, Meets, Receives, Sending, Sends, SendsNot, Setting, ToldAtOnce, becomes, config_of, config_where, is_numbered, learns, nothing_yet, received, setting_of, writes_in}
+use Rattle.mvd_world.specs.Machine.{Answers, BreaksBy, IsOwn, IsSound, Knowledge, Meets, Receives, Sending, Sends, SendsNot, Setting, ToldAtOnce, becomes, config_of, config_where, is_numbered, learns, nothing_yet, received, setting_of, writes_in, two_sites}
 use Rattle.mvd_world.specs.Worlds.{AreAll, AreSites, IsSiteOf, IsWorld, Leads, TwoMeet, message_of}
 use Rattle.mvd_world.proofs.Changed.{get_push, learns_here, learns_other, set_other, sites_changed}
 use Rattle.mvd_world.proofs.Sound.{found as found_in, sound_answers, sound_meets, sound_receives, sound_sends}
@@ -254,7 +254,7 @@ meets_lead old new local peer i j result at at' two both same_messages setting b
       given = does.given;
       part = does.part;
       meet = does.meet;
-      tells = subst (λ n. IfOk result (ReportsDone both.first.config.max_keys both.second.config.max_keys (Some n) (states_of V) (states_of W) does.joined does.given))
+      tells = subst (λ n. IfOk result (ReportsDone (two_sites both.first.config both.second.config n V W) does.joined does.given))
           (sym (setting.numbers local both.first.config mine.config)) does.tells;
       local_broken = both.first'.broken;
       peer_broken = both.second'.broken;

@@ -18,7 +18,7 @@ use Rattle.mvd_site.specs.Config.{ConfigValue}
 use Rattle.mvd_site.specs.FromStates.{unless_broken}
 use Rattle.mvd_site.specs.Held.{States}
 use Rattle.mvd_site.specs.Known.{Adds, Changes, MayReply}
-use Rattle.mvd_sync.specs.Session.{AreFew, CanMeet, Each, HasAllThatDiffer, IsIn, ReportsDone, is_member}
+use Rattle.mvd_sync.specs.Session.{AreFew, Before, CanMeet, Each, HasAllThatDiffer, IsIn, ReportsDone, is_member}
 use Rattle.mvd_sync.specs.Sides.{IsFaultOf, is_of_question, is_site_refusal, tells_broken}
 use Rattle.mvd_sync.specs.declared.report.Report.{Report}
 use Rattle.mvd_sync.specs.declared.report.SyncFault.{SyncFault}
@@ -194,6 +194,15 @@ pub data MayFail (a b held : States) (broken : Bool) (refusal : Refusal) : Type 
 abbrev pub FailsFor : States → States → Bool → Bool → Result Report SyncFault → Type 0
 FailsFor a b local_broken peer_broken result = IfErr result (IsFaultOf (MayFail a b a local_broken) (MayFail a b b peer_broken))
 
+-- two sites that know these writes, as a session begins; the local one has this number
+abbrev pub two_sites : (mine theirs : ConfigValue) → ℕ → (V W : List Write) → Before
+two_sites mine theirs number V W = record {
+  held = record { local = states_of V; peer = states_of W };
+  most_local = mine.max_keys;
+  most_peer = theirs.max_keys;
+  number = Some number;
+}
+
 -- A session of two sites: the states of some keys, which differ and do not clash, are joined on the local site, and those of
 -- a part of them on the peer. With no fault these and the refused keys are all that differ, each refused for its cause
 pub record Meets (setting : Setting) (before : Knowledge) (local peer : ℕ) (result : Result Report SyncFault) (after : Knowledge) : Type 0 where
@@ -205,7 +214,8 @@ pub record Meets (setting : Setting) (before : Knowledge) (local peer : ℕ) (re
   pub given : List Key
   pub part : (key : Key) → IsIn given key → IsIn joined key
   pub meet : (key : Key) → IsIn joined key → CanMeet (states_of (before.known local)) (states_of (before.known peer)) key
-  pub tells : IfOk result (ReportsDone mine.max_keys theirs.max_keys (Some local) (states_of (before.known local)) (states_of (before.known peer)) joined given)
+  pub tells : IfOk result
+      (ReportsDone (two_sites mine theirs local (before.known local) (before.known peer)) joined given)
   pub local_broken : Bool
   pub peer_broken : Bool
   pub local_breaks : BreaksBy (before.broken local) local_broken (Local Broken) result
@@ -329,4 +339,4 @@ IsClash fault = (fault ≡ Local DotClash) ⊎ (fault ≡ Peer DotClash)
 pub record IsNoClash (outcome : Outcome) : Type 0 where
   pub reply : outcome ≡ Replied (Refused DotClash) → ⊥
   pub fault : (fault : SyncFault) → outcome ≡ Failed fault → IsClash fault → ⊥
-  pub keys : (report : Report) → outcome ≡ Met report → Each (λ l. l.1.1 ≢ DotClash) report.first_refused
+  pub keys : (report : Report) → outcome ≡ Met report → Each (λ l. l.refusal ≢ DotClash) report.first_refused

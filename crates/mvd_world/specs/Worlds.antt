@@ -20,7 +20,7 @@ use Rattle.mvd_world.specs.declared.steps.Outcome.{Outcome}
 use Rattle.mvd_world.specs.declared.steps.Outcome.TheVariants.{Replied}
 use Rattle.mvd_world.specs.declared.worlds.Message.{Message}
 use Rattle.mvd_world.specs.declared.worlds.World.{World}
-use Rattle.mvd_world.specs.Machine.{BreaksBy, FailsFor, IsSound, Knowledge, MayStep, Runs, Sending, Setting, ToldAtOnce, is_numbered, is_site, may_be, nothing_yet, writes_in}
+use Rattle.mvd_world.specs.Machine.{BreaksBy, FailsFor, IsSound, Knowledge, MayStep, Runs, Sending, Setting, ToldAtOnce, is_numbered, is_site, may_be, nothing_yet, two_sites, writes_in}
 
 -- the site of this number, with what it was set up with, and the writes that its states stand for unless it is broken
 pub record IsSiteOf (setting : Setting) (knowledge : Knowledge) (number : ℕ) (site : SiteValue) : Type 0 where
@@ -97,7 +97,7 @@ pub record SitesMeet (V W : List Write) (local peer local' peer' : SiteValue) (r
   pub given : List Key
   pub part : (key : Key) → IsIn given key → IsIn joined key
   pub meet : (key : Key) → IsIn joined key → CanMeet (states_of V) (states_of W) key
-  pub tells : IfOk result (ReportsDone local.config.max_keys peer.config.max_keys (Some local.config.site) (states_of V) (states_of W) joined given)
+  pub tells : IfOk result (ReportsDone (two_sites local.config peer.config local.config.site V W) joined given)
   pub local_breaks : BreaksBy local.broken local'.broken (Local Broken) result
   pub peer_breaks : BreaksBy peer.broken peer'.broken (Peer Broken) result
   pub at_once : ToldAtOnce local.broken peer.broken joined result

@@ -8,12 +8,12 @@ use Rattle.sqlite.specs.State.{State, Survives}
 use Rattle.sqlite.proofs.StateLemmas.{survives_weaker}
 use Rattle.mvd_dots.specs.declared.refusals.Refusal.{Refusal}
 use Rattle.mvd_dots.specs.declared.refusals.Refusal.TheVariants.{Damaged, Memory, Store}
-use Rattle.mvd_records.specs.declared.loading.Half.{Half}
-use Rattle.mvd_records.specs.declared.loading.Half.TheVariants.{Old, New}
+use Rattle.mvd_records.specs.declared.loading.StateTable.{StateTable}
+use Rattle.mvd_records.specs.declared.loading.StateTable.TheVariants.{Version1, Version2}
 use Rattle.mvd_records.specs.States.{States}
 use Rattle.mvd_records.specs.Pairs.{Pair, entries_of, rises}
 use Rattle.mvd_records.specs.Records.{EndsMove, HasNone, HoldsRecords, IsSound, IsWhole, Leaves, MovesState, OnlyReads, SavesState, SavesStates, new_states, old_states, states_at, with_pairs}
-use Rattle.mvd_records.specs.Contents.{Contents, EndsMoves, Holds, MovesKey, SetsStates, half_of}
+use Rattle.mvd_records.specs.Contents.{Contents, EndsMoves, Holds, MovesKey, SetsStates, map_of}
 use Rattle.mvd_records.specs.Calls.{Commits, LeavesChange, Loads}
 use Rattle.mvd_records.proofs.Checked.{if_ok}
 use Rattle.mvd_records.proofs.PairLemmas.{pairs_sorted}
@@ -99,27 +99,27 @@ lacking result P db was holds it = subst (λ (m : States). IfErr result (λ e. e
 
 -- ---- loads
 
-at_half : (half : Half) (db : Database) (it : Contents) → Holds db it → states_at half db ≡ half_of half it
-at_half Old db it holds = holds.old_is
-at_half New db it holds = holds.new_is
+at_table : (table : StateTable) (db : Database) (it : Contents) → Holds db it → states_at table db ≡ map_of table it
+at_table Version1 db it holds = holds.old_is
+at_table Version2 db it holds = holds.new_is
 
-of_maps : (half : Half) (P : States → States → States → Type 0) (db : Database) (it : Contents) → Holds db it → P (states_at half db) (old_states db) (new_states db) → P (half_of half it) it.old_map it.new_map
-of_maps half P db it holds p = subst (λ (m : States). P m it.old_map it.new_map) (at_half half db it holds) (subst₂ (λ (o n : States). P (states_at half db) o n) holds.old_is holds.new_is p)
+of_maps : (table : StateTable) (P : States → States → States → Type 0) (db : Database) (it : Contents) → Holds db it → P (states_at table db) (old_states db) (new_states db) → P (map_of table it) it.old_map it.new_map
+of_maps table P db it holds p = subst (λ (m : States). P m it.old_map it.new_map) (at_table table db it holds) (subst₂ (λ (o n : States). P (states_at table db) o n) holds.old_is holds.new_is p)
 
-pub loads : (half : Half) (version : ℕ) (old new : State) (result : Result (Vec Pair Global) Refusal) → OnlyReads old new
-    → ((marked site : ℕ) → IsSound new → HoldsRecords marked site old.committed → IfOk result (λ pairs. entries_of pairs.items ≡ entries (states_at half old.committed)))
+pub loads : (table : StateTable) (version : ℕ) (old new : State) (result : Result (Vec Pair Global) Refusal) → OnlyReads old new
+    → ((marked site : ℕ) → IsSound new → HoldsRecords marked site old.committed → IfOk result (λ pairs. entries_of pairs.items ≡ entries (states_at table old.committed)))
     → IfOk result (λ pairs. rises (entries_of pairs.items))
-    → ((marked site : ℕ) → IsSound new → HoldsRecords marked site old.committed → OnOk result (IsWhole version (states_at half old.committed) (old_states old.committed) (new_states old.committed)))
-    → ((marked site : ℕ) → IsSound new → HoldsRecords marked site old.committed → IfErr result (λ e. e ≡ Damaged → ¬ IsWhole version (states_at half old.committed) (old_states old.committed) (new_states old.committed)))
+    → ((marked site : ℕ) → IsSound new → HoldsRecords marked site old.committed → OnOk result (IsWhole version (states_at table old.committed) (old_states old.committed) (new_states old.committed)))
+    → ((marked site : ℕ) → IsSound new → HoldsRecords marked site old.committed → IfErr result (λ e. e ≡ Damaged → ¬ IsWhole version (states_at table old.committed) (old_states old.committed) (new_states old.committed)))
     → IfErr result (λ e. (e ≡ Damaged) ⊎ ((e ≡ Memory) ⊎ (e ≡ Store)))
-    → Loads half (record { version = version; store = old }) result (record { version = version; store = new })
-loads half version old new result reads loaded rising whole damaged refusal = record {
+    → Loads table (record { version = version; store = old }) result (record { version = version; store = new })
+loads table version old new result reads loaded rising whole damaged refusal = record {
   before = reads.before;
-  loaded = λ was sound holds. of_maps half (λ m _ _. IfOk result (λ pairs. entries_of pairs.items ≡ entries m)) old.committed was holds (loaded was.version was.site sound holds.records);
+  loaded = λ was sound holds. of_maps table (λ m _ _. IfOk result (λ pairs. entries_of pairs.items ≡ entries m)) old.committed was holds (loaded was.version was.site sound holds.records);
   rising = rising;
   sorted = if_ok result _ _ (λ pairs up. pairs_sorted pairs.items up) rising;
-  whole = λ was sound holds. of_maps half (λ m o n. OnOk result (IsWhole version m o n)) old.committed was holds (whole was.version was.site sound holds.records);
-  damaged = λ was sound holds. of_maps half (λ m o n. IfErr result (λ e. e ≡ Damaged → ¬ IsWhole version m o n)) old.committed was holds (damaged was.version was.site sound holds.records);
+  whole = λ was sound holds. of_maps table (λ m o n. OnOk result (IsWhole version m o n)) old.committed was holds (whole was.version was.site sound holds.records);
+  damaged = λ was sound holds. of_maps table (λ m o n. IfErr result (λ e. e ≡ Damaged → ¬ IsWhole version m o n)) old.committed was holds (damaged was.version was.site sound holds.records);
   refusal = refusal;
   unchanged = λ was sound holds. reads.unchanged was.version was.site sound holds.records;
   survives = survives_weaker _ _ _ _ (λ _ trees leaves. left (λ _ _ _ _. ⊥) (λ _ _. ⊥) old trees (λ _ _ _ _ none. absurd none) leaves) reads.survives;

@@ -7,13 +7,13 @@ use Rattle.sqlite.specs.State.{State, Survives}
 use Rattle.sqlite.proofs.StateLemmas.{survives_weaker}
 use Rattle.mvd_dots.specs.declared.refusals.Refusal.{Refusal}
 use Rattle.mvd_dots.specs.declared.refusals.Refusal.TheVariants.{Damaged}
-use Rattle.mvd_records.specs.declared.loading.Half.{Half}
-use Rattle.mvd_records.specs.declared.loading.Half.TheVariants.{Old, New}
+use Rattle.mvd_records.specs.declared.loading.StateTable.{StateTable}
+use Rattle.mvd_records.specs.declared.loading.StateTable.TheVariants.{Version1, Version2}
 use Rattle.mvd_records.specs.States.{States}
 use Rattle.mvd_records.specs.Pairs.{Pair, entries_of}
 use Rattle.mvd_records.specs.Records.{EndsMove, HasNone, HoldsRecords, IsSound, IsWhole, LacksKey, Leaves, MovesState}
 use Rattle.mvd_records.specs.Records.{OnlyReads, SavesState, SavesStates, new_states, old_states, states_at}
-use Rattle.mvd_records.specs.Contents.{Contents, EndsMoves, Holds, MovesKey, SetsStates, half_of}
+use Rattle.mvd_records.specs.Contents.{Contents, EndsMoves, Holds, MovesKey, SetsStates, map_of}
 use Rattle.mvd_records.specs.Seen.{Seen}
 use Rattle.mvd_records.specs.Calls.{Commits, Finishes, SameCommit, Loads, Moves, Saves, SavesAll}
 use Rattle.mvd_records.proofs.Contracts.{Change}
@@ -156,11 +156,11 @@ module _ {A : Type 0} (old new : Seen) (result : Result A Refusal) (it : Finishe
 
 -- ---- load_all and load_old
 
-of_half : (half : Half) (P : States → Type 0) (version site : ℕ) (db : Database) → P (half_of half (contents_of version site db)) → P (states_at half db)
-of_half Old P version site db it = it
-of_half New P version site db it = it
+of_table : (table : StateTable) (P : States → Type 0) (version site : ℕ) (db : Database) → P (map_of table (contents_of version site db)) → P (states_at table db)
+of_table Version1 P version site db it = it
+of_table Version2 P version site db it = it
 
-module _ (half : Half) (old new : Seen) (result : Result (Vec Pair Global) Refusal) (it : Loads half old result new) where
+module _ (table : StateTable) (old new : Seen) (result : Result (Vec Pair Global) Refusal) (it : Loads table old result new) where
   pub loads_reads : OnlyReads old.store new.store
   loads_reads = record {
     before = it.before;
@@ -170,20 +170,20 @@ module _ (half : Half) (old new : Seen) (result : Result (Vec Pair Global) Refus
   }
 
   pub loads_entries : (version site : ℕ) → IsSound new.store → HoldsRecords version site old.store.committed →
-      IfOk result (λ pairs. entries_of pairs.items ≡ entries (states_at half old.store.committed))
+      IfOk result (λ pairs. entries_of pairs.items ≡ entries (states_at table old.store.committed))
   loads_entries version site sound holds =
-      of_half half (λ m. IfOk result (λ pairs. entries_of pairs.items ≡ entries m)) version site old.store.committed
+      of_table table (λ m. IfOk result (λ pairs. entries_of pairs.items ≡ entries m)) version site old.store.committed
       (it.loaded (contents_of version site old.store.committed) sound (holds_all version site old.store.committed holds))
 
   pub loads_whole : (version site : ℕ) → IsSound new.store → HoldsRecords version site old.store.committed → OnOk result
-      (IsWhole old.version (states_at half old.store.committed) (old_states old.store.committed) (new_states old.store.committed))
+      (IsWhole old.version (states_at table old.store.committed) (old_states old.store.committed) (new_states old.store.committed))
   loads_whole version site sound holds =
-      of_half half (λ m. OnOk result (IsWhole old.version m (old_states old.store.committed) (new_states old.store.committed)))
+      of_table table (λ m. OnOk result (IsWhole old.version m (old_states old.store.committed) (new_states old.store.committed)))
       version site old.store.committed (it.whole (contents_of version site old.store.committed) sound (holds_all version site old.store.committed holds))
 
   pub loads_damaged : (version site : ℕ) → IsSound new.store → HoldsRecords version site old.store.committed →
-      IfErr result (λ e. e ≡ Damaged → ¬ IsWhole old.version (states_at half old.store.committed)
+      IfErr result (λ e. e ≡ Damaged → ¬ IsWhole old.version (states_at table old.store.committed)
       (old_states old.store.committed) (new_states old.store.committed))
-  loads_damaged version site sound holds = of_half half (λ m. IfErr result (λ e. e ≡ Damaged →
+  loads_damaged version site sound holds = of_table table (λ m. IfErr result (λ e. e ≡ Damaged →
       ¬ IsWhole old.version m (old_states old.store.committed) (new_states old.store.committed)))
       version site old.store.committed (it.damaged (contents_of version site old.store.committed) sound (holds_all version site old.store.committed holds))

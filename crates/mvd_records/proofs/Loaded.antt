@@ -16,8 +16,8 @@ use Rattle.mvd_records.specs.Tables.{all_tables}
 use Rattle.mvd_records.specs.States.{states_in, shown, shown_entry}
 use Rattle.mvd_records.specs.Pairs.{ArePairs, rises}
 use Rattle.mvd_records.specs.Records.{IsSettled, HoldsRecords, AreKeys, states_at}
-use Rattle.mvd_records.specs.declared.loading.Half.{Half}
-use Rattle.mvd_records.specs.declared.loading.Half.TheVariants.{Old, New}
+use Rattle.mvd_records.specs.declared.loading.StateTable.{StateTable}
+use Rattle.mvd_records.specs.declared.loading.StateTable.TheVariants.{Version1, Version2}
 use Rattle.mvd_records.proofs.Rows.{key_of, order}
 use Rattle.mvd_records.proofs.Rules.{AreStates, apart_in}
 use Rattle.mvd_records.proofs.Calls.{shown_open}
@@ -85,36 +85,36 @@ front_pairs rows tail are = record {
 keys_of_rows : (rows : List Row) → AreStates rows → AreKeys (states_in rows) → (x : Row) → Has rows x → is_key (key_of x) ≡ true
 keys_of_rows rows are keys x there = keys (key_of x) _ (has_get rows x there (apart_in rows are))
 
-module _ (half : Half) (version site : ℕ) (old : State) (settled : IsSettled old) (holds : HoldsRecords version site old.committed) where
+module _ (table : StateTable) (version site : ℕ) (old : State) (settled : IsSettled old) (holds : HoldsRecords version site old.committed) where
   -- the rows of the table, and the map that they are
-  are : IsTrue old.is_open → AreStates (old.now.trees (tree_of half))
-  are was = choose half
+  are : IsTrue old.is_open → AreStates (old.now.trees (tree_of table))
+  are was = choose table
     where
-      choose : (half : Half) → AreStates (old.now.trees (tree_of half))
-      choose Old = (states_of version site old settled was holds).0
-      choose New = (states_of version site old settled was holds).1
+      choose : (table : StateTable) → AreStates (old.now.trees (tree_of table))
+      choose Version1 = (states_of version site old settled was holds).0
+      choose Version2 = (states_of version site old settled was holds).1
 
-  map_is : IsTrue old.is_open → states_at half old.committed ≡ states_in (old.now.trees (tree_of half))
-  map_is was = choose half
+  map_is : IsTrue old.is_open → states_at table old.committed ≡ states_in (old.now.trees (tree_of table))
+  map_is was = choose table
     where
-      choose : (half : Half) → states_at half old.committed ≡ states_in (old.now.trees (tree_of half))
-      choose Old = (maps_of version site old settled was holds).0
-      choose New = (maps_of version site old settled was holds).1
+      choose : (table : StateTable) → states_at table old.committed ≡ states_in (old.now.trees (tree_of table))
+      choose Version1 = (maps_of version site old settled was holds).0
+      choose Version2 = (maps_of version site old settled was holds).1
 
-  pub loaded_half : (new : State) (rows : List Row) → Shown (load_text half) [] old new rows → rises (map shown_entry rows) → entries (states_at half old.committed) ≡ map shown_entry rows
-  loaded_half new rows h up =
-      let was = shown_open (load_text half) [] old new rows h in
-      ap entries (map_is was) ∙ loaded _ _ (listed half old new rows (met_schema version site old settled was holds) h) up
+  pub loaded_table : (new : State) (rows : List Row) → Shown (load_text table) [] old new rows → rises (map shown_entry rows) → entries (states_at table old.committed) ≡ map shown_entry rows
+  loaded_table new rows h up =
+      let was = shown_open (load_text table) [] old new rows h in
+      ap entries (map_is was) ∙ loaded _ _ (listed table old new rows (met_schema version site old settled was holds) h) up
 
-  pub keys_half : (new : State) (rows : List Row) → Shown (load_text half) [] old new rows → AllByRecursion (λ (e : Entry). is_key e.0 ≡ true) (map shown_entry rows) → AreKeys (states_at half old.committed)
-  keys_half new rows h form =
-      let was = shown_open (load_text half) [] old new rows h in
-      subst AreKeys (sym (map_is was)) (keys_in _ _ (listed half old new rows (met_schema version site old settled was holds) h) form)
+  pub keys_table : (new : State) (rows : List Row) → Shown (load_text table) [] old new rows → AllByRecursion (λ (e : Entry). is_key e.0 ≡ true) (map shown_entry rows) → AreKeys (states_at table old.committed)
+  keys_table new rows h form =
+      let was = shown_open (load_text table) [] old new rows h in
+      subst AreKeys (sym (map_is was)) (keys_in _ _ (listed table old new rows (met_schema version site old settled was holds) h) form)
 
   -- rows that are no pairs are of a key out of form
-  pub bad_half : (rows : List Row) → IsTrue old.is_open → Begins (load_text half) [] old rows → ¬ ArePairs rows → ¬ AreKeys (states_at half old.committed)
-  bad_half rows was h bad keys =
-      let read = (begins_as (load_text half) [] old old all_tables (met_schema version site old settled was holds) _ (load_is half).0 (load_plain half) (load_is half).1 rows h).1 in
-      let a : IsAnswer (load_query (tree_of half)) (overlay old.now.trees []) [] (rows ++ read.0) = read.1 Null in
-      let kept = kept_all (tree_of half) old.now.trees (rows ++ read.0) a ∙ ap (map output_of) (table_read half old.now.trees) in
-      bad (front_pairs rows read.0 (shown_pairs (old.now.trees (tree_of half)) (rows ++ read.0) a.ordered (are was) (keys_of_rows _ (are was) (subst AreKeys (map_is was) keys)) (subst (λ k. IsPermutation k a.ordered) kept a.same) a.sorted a.shown))
+  pub bad_table : (rows : List Row) → IsTrue old.is_open → Begins (load_text table) [] old rows → ¬ ArePairs rows → ¬ AreKeys (states_at table old.committed)
+  bad_table rows was h bad keys =
+      let read = (begins_as (load_text table) [] old old all_tables (met_schema version site old settled was holds) _ (load_is table).0 (load_plain table) (load_is table).1 rows h).1 in
+      let a : IsAnswer (load_query (tree_of table)) (overlay old.now.trees []) [] (rows ++ read.0) = read.1 Null in
+      let kept = kept_all (tree_of table) old.now.trees (rows ++ read.0) a ∙ ap (map output_of) (table_read table old.now.trees) in
+      bad (front_pairs rows read.0 (shown_pairs (old.now.trees (tree_of table)) (rows ++ read.0) a.ordered (are was) (keys_of_rows _ (are was) (subst AreKeys (map_is was) keys)) (subst (λ k. IsPermutation k a.ordered) kept a.same) a.sorted a.shown))

@@ -12,12 +12,12 @@ use Rattle.sqlite_trees.specs.declared.store.Store.{Ghosts}
 use Rattle.mvd_dots.specs.declared.refusals.Refusal.{Refusal}
 use Rattle.mvd_dots.specs.declared.refusals.Refusal.TheVariants.{Damaged, Memory, Store}
 use Rattle.mvd_keys.specs.Key.{key_cmp}
-use Rattle.mvd_records.specs.declared.loading.Half.{Half}
+use Rattle.mvd_records.specs.declared.loading.StateTable.{StateTable}
 use Rattle.mvd_records.specs.Records.{HasNone, IsOpenRefusal, IsOurs, IsSound, LacksKey, LeavesOpened, LeavesRefused}
 use Rattle.mvd_records.specs.Records.{OpensRecords, TellsVersion, marks_of}
 use Rattle.mvd_records.specs.Foreign.{HoldsForeign}
 use Rattle.mvd_records.specs.Pairs.{Pair, entries_of, rises}
-use Rattle.mvd_records.specs.Contents.{CanLoad, Contents, EndsMoves, Holds, MovesKey, SetsStates, half_of}
+use Rattle.mvd_records.specs.Contents.{CanLoad, Contents, EndsMoves, Holds, MovesKey, SetsStates, map_of}
 use Rattle.mvd_records.specs.Seen.{RecordsValue, Seen, seen}
 
 -- Of what the last commit held, where that was records of ours, and where the store is sound after the call: nobody
@@ -80,16 +80,17 @@ pub record Finishes {A : Type 0} (old : Seen) (result : Result A Refusal) (new :
 
 -- ---- load_all, which reads the new map, and load_old, which reads the old one
 
-pub record Loads (half : Half) (old : Seen) (result : Result (Vec Pair Global) Refusal) (new : Seen) : Type 0 where
+pub record Loads (table : StateTable) (old : Seen) (result : Result (Vec Pair Global) Refusal) (new : Seen)
+    : Type 0 where
   pub before : IsSound new.store → IsSound old.store
-  pub loaded : OfHeld old.store new.store (λ was. IfOk result (λ pairs. entries_of pairs.items ≡ entries
-      (half_of half was)))
+  pub loaded : OfHeld old.store new.store (λ was. IfOk result (λ pairs. entries_of pairs.items ≡
+      entries (map_of table was)))
   -- the keys rise, whatever the store returned: by their bytes, and in the order in which a site takes its states
   pub rising : IfOk result (λ pairs. rises (entries_of pairs.items))
   pub sorted : IfOk result (λ pairs. IsTrue (is_sorted key_cmp pairs.items))
   -- Ok only where the map can be loaded, 17 only where it cannot; 20 and 21 tell nothing of it
-  pub whole : OfHeld old.store new.store (λ was. OnOk result (CanLoad old.version half was))
-  pub damaged : OfHeld old.store new.store (λ was. IfErr result (λ e. e ≡ Damaged → ¬ CanLoad old.version half was))
+  pub whole : OfHeld old.store new.store (λ was. OnOk result (CanLoad old.version table was))
+  pub damaged : OfHeld old.store new.store (λ was. IfErr result (λ e. e ≡ Damaged → ¬ CanLoad old.version table was))
   pub refusal : IfErr result (λ e. (e ≡ Damaged) ⊎ ((e ≡ Memory) ⊎ (e ≡ Store)))
   -- nothing is changed
   pub unchanged : OfHeld old.store new.store (λ _. SameCommit old.store new.store)

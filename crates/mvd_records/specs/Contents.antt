@@ -4,8 +4,8 @@
 use Rattle.std.specs.Prelude.{◌≡◌, ℕ, List, Some}
 use Rattle.std.specs.FinMap.{get, insert, remove}
 use Rattle.sqlite.specs.Effect.{Database}
-use Rattle.mvd_records.specs.declared.loading.Half.{Half}
-use Rattle.mvd_records.specs.declared.loading.Half.TheVariants.{Old, New}
+use Rattle.mvd_records.specs.declared.loading.StateTable.{StateTable}
+use Rattle.mvd_records.specs.declared.loading.StateTable.TheVariants.{Version1, Version2}
 use Rattle.mvd_records.specs.States.{States}
 use Rattle.mvd_records.specs.Records.{HoldsRecords, HasNone, IsWhole, old_states, new_states, with_pairs}
 
@@ -41,12 +41,12 @@ pub record EndsMoves (was now : Contents) : Type 0 where
 
 -- ---- what a load asks
 
--- the map that is loaded
-abbrev pub half_of : Half → Contents → States
-half_of Old it = it.old_map
-half_of New it = it.new_map
+-- the map in a table of states
+abbrev pub map_of : StateTable → Contents → States
+map_of Version1 it = it.old_map
+map_of Version2 it = it.new_map
 
 -- Of records that were opened in this version, which a later call may have raised: the keys of the map that is loaded
 -- are in form, no key is in both maps, and in version 2 no old key is left
-abbrev pub CanLoad : ℕ → Half → Contents → Type 0
-CanLoad version half it = IsWhole version (half_of half it) it.old_map it.new_map
+abbrev pub CanLoad : ℕ → StateTable → Contents → Type 0
+CanLoad version table it = IsWhole version (map_of table it) it.old_map it.new_map

@@ -19,11 +19,13 @@ use mvd_keys::Key;
 use sqlite::{Alter, Connection};
 use std::alloc::Global;
 
-/// The map of version 1, or that of version 2.
+/// The two tables of states, each by the version of the format that it came with.
 #[derive(Clone, Copy)]
-pub enum Half {
-    Old,
-    New,
+pub enum StateTable {
+    /// `states`: the map of version 1, whose keys are not moved yet.
+    Version1,
+    /// `states2`: the map of version 2.
+    Version2,
 }
 
 /// The keys and states that a query shows.
@@ -72,53 +74,53 @@ fn read_pairs<S: Alter>(
     Err(Refusal::Memory)
 }
 
-fn read_half<S: Alter>(
+fn read_table<S: Alter>(
     alloc: Global,
     conn: &mut Connection<S>,
-    half: Half,
+    table: StateTable,
 ) -> Result<Vec<(Key, Vec<u8>)>, Refusal>
     ensures reads { OnlyReads (state S.Store conn.old) (state S.Store conn.new) }
     ensures entries { (version site : _) → IsSound (state S.Store conn.new) →
         HoldsRecords version site (state S.Store conn.old).committed →
-        IfOk result (λ pairs. entries_of pairs.items ≡ entries (states_at half (state S.Store conn.old).committed)) }
+        IfOk result (λ pairs. entries_of pairs.items ≡ entries (states_at table (state S.Store conn.old).committed)) }
     ensures keys { (version site : _) → IsSound (state S.Store conn.new) →
         HoldsRecords version site (state S.Store conn.old).committed →
-        OnOk result (AreKeys (states_at half (state S.Store conn.old).committed)) }
+        OnOk result (AreKeys (states_at table (state S.Store conn.old).committed)) }
     ensures rising { IfOk result (λ pairs. rises (entries_of pairs.items)) }
     ensures damaged { (version site : _) → IsSound (state S.Store conn.new) →
         HoldsRecords version site (state S.Store conn.old).committed → IfErr result (λ e. e ≡ Refusal.Damaged →
-        ¬ AreKeys (states_at half (state S.Store conn.old).committed)) }
+        ¬ AreKeys (states_at table (state S.Store conn.old).committed)) }
     ensures refusal { IfErr result (λ e. (e ≡ Refusal.Damaged) ⊎ ((e ≡ Refusal.Memory) ⊎ (e ≡ Refusal.Store))) }
 {
     if !is_settled(conn) {
         return Err(Refusal::Store);
     }
-    let sql = match half {
-        Half::Old => "SELECT key, state FROM states ORDER BY key",
-        Half::New => "SELECT key, state FROM states2 ORDER BY key",
+    let sql = match table {
+        StateTable::Version1 => "SELECT key, state FROM states ORDER BY key",
+        StateTable::Version2 => "SELECT key, state FROM states2 ORDER BY key",
     };
     read_pairs(alloc, conn, sql)
 }
 
-/// One of the two maps, by rising key.
+/// The map in one of the two tables, by rising key.
 pub fn load<S: Alter>(
     alloc: Global,
     conn: &mut Connection<S>,
     version: u32,
-    half: Half,
+    table: StateTable,
 ) -> Result<Vec<(Key, Vec<u8>)>, Refusal>
     ensures reads { OnlyReads (state S.Store conn.old) (state S.Store conn.new) }
     ensures entries { (marked site : _) → IsSound (state S.Store conn.new) →
         HoldsRecords marked site (state S.Store conn.old).committed →
-        IfOk result (λ pairs. entries_of pairs.items ≡ entries (states_at half (state S.Store conn.old).committed)) }
+        IfOk result (λ pairs. entries_of pairs.items ≡ entries (states_at table (state S.Store conn.old).committed)) }
     ensures rising { IfOk result (λ pairs. rises (entries_of pairs.items)) }
     ensures whole { (marked site : _) → IsSound (state S.Store conn.new) →
         HoldsRecords marked site (state S.Store conn.old).committed →
-        OnOk result (IsWhole version (states_at half (state S.Store conn.old).committed) (old_states
+        OnOk result (IsWhole version (states_at table (state S.Store conn.old).committed) (old_states
         (state S.Store conn.old).committed) (new_states (state S.Store conn.old).committed)) }
     ensures damaged { (marked site : _) → IsSound (state S.Store conn.new) →
         HoldsRecords marked site (state S.Store conn.old).committed → IfErr result (λ e. e ≡ Refusal.Damaged →
-        ¬ IsWhole version (states_at half (state S.Store conn.old).committed) (old_states
+        ¬ IsWhole version (states_at table (state S.Store conn.old).committed) (old_states
         (state S.Store conn.old).committed) (new_states (state S.Store conn.old).committed)) }
     ensures refusal { IfErr result (λ e. (e ≡ Refusal.Damaged) ⊎ ((e ≡ Refusal.Memory) ⊎ (e ≡ Refusal.Store))) }
 {
@@ -126,5 +128,5 @@ pub fn load<S: Alter>(
         Ok(()) => {}
         Err(refusal) => return Err(refusal),
     }
-    read_half(alloc, conn, half)
+    read_table(alloc, conn, table)
 }

@@ -2,7 +2,7 @@
 ghost use Rattle.std.specs.Prelude.{◌≡◌, ◌≤◌};
 ghost use Rattle.mvd_records.specs.Pairs.{entries_of};
 
-use crate::loading::Half;
+use crate::loading::StateTable;
 use crate::{foreign, loading, moving, open, statements, storing};
 use mvd_dots::Refusal;
 use mvd_keys::Key;
@@ -31,7 +31,7 @@ impl<S: Alter> Model for Records<S> {
 impl<S: Alter> Records<S> {
     ghost use Rattle.mvd_records.specs.Calls.{Finishes, Loads, Moves, Opens, Saves, SavesAll};
     ghost use Rattle.mvd_records.specs.Seen.{seen};
-    ghost use Rattle.mvd_records.specs.declared.loading.Half.TheVariants.{Old, New};
+    ghost use Rattle.mvd_records.specs.declared.loading.StateTable.TheVariants.{Version1, Version2};
 
     /// Opens the records of a site, and makes in one transaction what is missing. A refusal gives
     /// the connection back: 21, or 17 where the marks are none of ours, or 16 where they are
@@ -84,17 +84,27 @@ impl<S: Alter> Records<S> {
     /// The map of version 2, by rising key. 17 where a key is out of form or in both maps, or an
     /// old key is left in version 2.
     pub fn load_all(&mut self) -> Result<Vec<(Key, Vec<u8>)>, Refusal>
-        ensures { Loads New (seen S.Store self.old) result (seen S.Store self.new) }
+        ensures { Loads Version2 (seen S.Store self.old) result (seen S.Store self.new) }
     {
-        loading::load(self.alloc, &mut self.conn, self.version, Half::New)
+        loading::load(
+            self.alloc,
+            &mut self.conn,
+            self.version,
+            StateTable::Version2,
+        )
     }
 
     /// The map of version 1, whose keys are not moved yet, by rising key. 17 where a key is out of
     /// form or in both maps, or an old key is left in version 2.
     pub fn load_old(&mut self) -> Result<Vec<(Key, Vec<u8>)>, Refusal>
-        ensures { Loads Old (seen S.Store self.old) result (seen S.Store self.new) }
+        ensures { Loads Version1 (seen S.Store self.old) result (seen S.Store self.new) }
     {
-        loading::load(self.alloc, &mut self.conn, self.version, Half::Old)
+        loading::load(
+            self.alloc,
+            &mut self.conn,
+            self.version,
+            StateTable::Version1,
+        )
     }
 
     /// Moves a key of version 1, whose state is spelled anew, in one transaction. 17 where the key is no old one.

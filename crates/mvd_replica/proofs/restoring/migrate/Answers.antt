@@ -6,7 +6,7 @@ use Rattle.mvd_records.specs.Pairs.{entries_of}
 use Rattle.mvd_replica.specs.Stored.{IsOldStored}
 use Rattle.mvd_replica.proofs.Ordered.{migrated, moved_more, moved_none, not_stored, not_yet, order_ended, order_moved, order_same, order_then, still_there, whole_old}
 use Rattle.mvd_records.specs.Records.{HoldsRecords}
-use Rattle.mvd_records.specs.declared.loading.Half.TheVariants.{Old}
+use Rattle.mvd_records.specs.declared.loading.StateTable.TheVariants.{Version1}
 use Rattle.mvd_records.proofs.Follows.{finishes_damaged, finishes_finished, finishes_unchanged, loads_damaged, loads_entries, loads_reads, loads_whole}
 use Rattle.mvd_records.proofs.Follows.{moves_damaged, moves_kept, moves_moved}
 use Rattle.mvd_replica.proofs.Loading.{moved_by}
@@ -15,16 +15,16 @@ use Rattle.mvd_replica.proofs.restoring.migrate.Goals as goal
 
 pub returns-in-Err-clause-moved : goal.returns-in-Err-clause-moved
 returns-in-Err-clause-moved g c number sound holds =
-    let version = c.args.records.now.version in subst (HoldsRecords version number) (sym ((loads_reads Old _ _ (Err c.in-Err.refusal) c.in-Err.ensures).unchanged version number sound holds)) holds
+    let version = c.args.records.now.version in subst (HoldsRecords version number) (sym ((loads_reads Version1 _ _ (Err c.in-Err.refusal) c.in-Err.ensures).unchanged version number sound holds)) holds
 
 pub loop-key-init : goal.loop-key-init
 loop-key-init g c = record {
   before = c.in-Ok.ensures.before;
-  kept = λ version number sound holds. subst (HoldsRecords version number) (sym ((loads_reads Old _ _ (Ok c.in-Ok.pairs) c.in-Ok.ensures).unchanged version number sound holds)) holds;
+  kept = λ version number sound holds. subst (HoldsRecords version number) (sym ((loads_reads Version1 _ _ (Ok c.in-Ok.pairs) c.in-Ok.ensures).unchanged version number sound holds)) holds;
   since = λ sound. sound;
   moving = λ number sound holds.
-      moving_none _ _ ((loads_reads Old _ _ (Ok c.in-Ok.pairs) c.in-Ok.ensures).unchanged c.args.records.now.version number sound holds) (loads_whole Old _ _ (Ok c.in-Ok.pairs) c.in-Ok.ensures c.args.records.now.version number sound holds).tables.apart;
-  moved = λ number sound holds. moved_none _ _ ((loads_reads Old _ _ (Ok c.in-Ok.pairs) c.in-Ok.ensures).unchanged c.args.records.now.version number sound holds);
+      moving_none _ _ ((loads_reads Version1 _ _ (Ok c.in-Ok.pairs) c.in-Ok.ensures).unchanged c.args.records.now.version number sound holds) (loads_whole Version1 _ _ (Ok c.in-Ok.pairs) c.in-Ok.ensures c.args.records.now.version number sound holds).tables.apart;
+  moved = λ number sound holds. moved_none _ _ ((loads_reads Version1 _ _ (Ok c.in-Ok.pairs) c.in-Ok.ensures).unchanged c.args.records.now.version number sound holds);
   version = c.in-Ok.ensures.version;
 }
 
@@ -49,16 +49,16 @@ loop-key-preserved g c =
           let now = c.loop-key.invariant.kept version number before holds in
           moving_more _ _ _ c.in-Some.key c.in-Some.bytes.items c.deref.result.now c.in-Ok-respelled.spelled.items c.deref-in-loop-key.result.now
           (c.loop-key.invariant.moving number before holds) (moves_moved {A = Unit {0}} _ _ _ _ (Ok (tt {0})) c.in-Ok-move_key.ensures version number sound now)
-          (found_at _ c.in-Ok.pairs.items (length c.loop-key.yielded) (c.in-Some.key, c.in-Some.bytes) (loads_entries Old _ _ (Ok c.in-Ok.pairs) c.in-Ok.ensures version number (c.loop-key.invariant.since before) holds) turn.0 turn.1)
+          (found_at _ c.in-Ok.pairs.items (length c.loop-key.yielded) (c.in-Some.key, c.in-Some.bytes) (loads_entries Version1 _ _ (Ok c.in-Ok.pairs) c.in-Ok.ensures version number (c.loop-key.invariant.since before) holds) turn.0 turn.1)
           c.in-Ok-respelled.ensures.spelled c.deref-in-loop-key.ensures.value c.deref.ensures.value;
       moved = λ number sound holds.
           let version = c.args.records.now.version in
           let before = c.in-Ok-move_key.ensures.commits.before sound in
           let now = c.loop-key.invariant.kept version number before holds in
           let first = c.loop-key.invariant.since before in
-          let same = loads_entries Old _ _ (Ok c.in-Ok.pairs) c.in-Ok.ensures version number first holds in
+          let same = loads_entries Version1 _ _ (Ok c.in-Ok.pairs) c.in-Ok.ensures version number first holds in
           moved_more _ _ _ c.loop-key.yielded (c.in-Some.key, c.in-Some.bytes) c.deref.result.now c.in-Ok-respelled.spelled.items c.deref-in-loop-key.result.now
-          (c.loop-key.invariant.moved number before holds) (loads_whole Old _ _ (Ok c.in-Ok.pairs) c.in-Ok.ensures version number first holds).tables.apart (moves_moved {A = Unit {0}} _ _ _ _ (Ok (tt {0})) c.in-Ok-move_key.ensures version number sound now)
+          (c.loop-key.invariant.moved number before holds) (loads_whole Version1 _ _ (Ok c.in-Ok.pairs) c.in-Ok.ensures version number first holds).tables.apart (moves_moved {A = Unit {0}} _ _ _ _ (Ok (tt {0})) c.in-Ok-move_key.ensures version number sound now)
           (found_at _ c.in-Ok.pairs.items (length c.loop-key.yielded) (c.in-Some.key, c.in-Some.bytes) same turn.0 turn.1)
           (not_yet _ c.in-Ok.pairs.items c.loop-key.yielded (c.in-Some.key, c.in-Some.bytes) same so_far turn.0 turn.1)
           c.in-Ok-respelled.ensures.spelled c.deref-in-loop-key.ensures.value c.deref.ensures.value;
@@ -72,7 +72,7 @@ returns-clause-moved g c number sound holds =
     moved_by c.finish.result _ _ version number (finishes_finished _ _ c.finish.result c.finish.ensures version number sound now) (finishes_unchanged _ _ c.finish.result c.finish.ensures version number sound now) now
 
 pub returns-in-Err-clause-states : goal.returns-in-Err-clause-states
-returns-in-Err-clause-states g c number sound holds = same_unchanged _ _ ((loads_reads Old _ _ (Err c.in-Err.refusal) c.in-Err.ensures).unchanged c.args.records.now.version number sound holds)
+returns-in-Err-clause-states g c number sound holds = same_unchanged _ _ ((loads_reads Version1 _ _ (Err c.in-Err.refusal) c.in-Err.ensures).unchanged c.args.records.now.version number sound holds)
 
 pub returns-in-Err-respelled-clause-states : goal.returns-in-Err-respelled-clause-states
 returns-in-Err-respelled-clause-states g c number sound holds = (c.loop-key.invariant.moving number sound holds).same
@@ -90,14 +90,14 @@ returns-clause-states g c number sound holds =
     ended_same c.finish.result _ _ _ number (c.loop-key.invariant.moving number before holds).same (finishes_finished _ _ c.finish.result c.finish.ensures version number sound now) (finishes_unchanged _ _ c.finish.result c.finish.ensures version number sound now)
 
 pub returns-in-Err-clause-order : goal.returns-in-Err-clause-order
-returns-in-Err-clause-order g c number sound holds damaged order = loads_damaged Old _ _ (Err c.in-Err.refusal) c.in-Err.ensures c.args.records.now.version number sound holds damaged (whole_old _ _ _ order)
+returns-in-Err-clause-order g c number sound holds damaged order = loads_damaged Version1 _ _ (Err c.in-Err.refusal) c.in-Err.ensures c.args.records.now.version number sound holds damaged (whole_old _ _ _ order)
 
 pub returns-in-Err-respelled-clause-order : goal.returns-in-Err-respelled-clause-order
 returns-in-Err-respelled-clause-order g c number sound holds damaged order =
     let road = YieldsList-from_vec {s = c.into_iter-key-iterator.result} c.in-Ok.pairs.items (search rules) (search rules) in
     let turn = YieldsList-turn road c.loop-key.yielded c.loop-key.key-iterator c.loop-key.yielded_by c.next.result c.next.new.self (c.in-Some.key, c.in-Some.bytes) c.in-Some.is c.next.ensures.steps in
     not_stored IsOldStored _ c.in-Ok.pairs.items (length c.loop-key.yielded) (c.in-Some.key, c.in-Some.bytes) c.deref.result.now
-    (loads_entries Old _ _ (Ok c.in-Ok.pairs) c.in-Ok.ensures c.args.records.now.version number (c.loop-key.invariant.since sound) holds) turn.0 turn.1 c.deref.ensures.value (c.in-Err-respelled.ensures.damaged damaged) order.old_stored
+    (loads_entries Version1 _ _ (Ok c.in-Ok.pairs) c.in-Ok.ensures c.args.records.now.version number (c.loop-key.invariant.since sound) holds) turn.0 turn.1 c.deref.ensures.value (c.in-Err-respelled.ensures.damaged damaged) order.old_stored
 
 pub returns-in-Err-move_key-clause-order : goal.returns-in-Err-move_key-clause-order
 returns-in-Err-move_key-clause-order g c number sound holds damaged order =
@@ -106,7 +106,7 @@ returns-in-Err-move_key-clause-order g c number sound holds damaged order =
     let turn = YieldsList-turn road c.loop-key.yielded c.loop-key.key-iterator c.loop-key.yielded_by c.next.result c.next.new.self (c.in-Some.key, c.in-Some.bytes) c.in-Some.is c.next.ensures.steps in
     let version = c.args.records.now.version in
     let before = c.in-Err-move_key.ensures.commits.before sound in
-    let same = loads_entries Old _ _ (Ok c.in-Ok.pairs) c.in-Ok.ensures version number (c.loop-key.invariant.since before) holds in
+    let same = loads_entries Version1 _ _ (Ok c.in-Ok.pairs) c.in-Ok.ensures version number (c.loop-key.invariant.since before) holds in
     still_there _ _ (entries_of c.loop-key.yielded) c.in-Some.key c.in-Some.bytes.items (c.loop-key.invariant.moved number before holds)
     (found_at _ c.in-Ok.pairs.items (length c.loop-key.yielded) (c.in-Some.key, c.in-Some.bytes) same turn.0 turn.1)
     (not_yet _ c.in-Ok.pairs.items c.loop-key.yielded (c.in-Some.key, c.in-Some.bytes) same so_far turn.0 turn.1)
@@ -121,22 +121,22 @@ returns-clause-order g c number sound holds =
     let first = c.loop-key.invariant.since before in
     let now = c.loop-key.invariant.kept version number before holds in
     migrated c.finish.result _ _ _ version number (entries_of c.loop-key.yielded) (c.loop-key.invariant.moved number before holds)
-    (ap entries_of (sym (map-id c.loop-key.yielded) ∙ end.0) ∙ loads_entries Old _ _ (Ok c.in-Ok.pairs) c.in-Ok.ensures version number first holds) (loads_whole Old _ _ (Ok c.in-Ok.pairs) c.in-Ok.ensures version number first holds)
+    (ap entries_of (sym (map-id c.loop-key.yielded) ∙ end.0) ∙ loads_entries Version1 _ _ (Ok c.in-Ok.pairs) c.in-Ok.ensures version number first holds) (loads_whole Version1 _ _ (Ok c.in-Ok.pairs) c.in-Ok.ensures version number first holds)
     (finishes_finished _ _ c.finish.result c.finish.ensures version number sound now) (finishes_damaged _ _ c.finish.result c.finish.ensures version number sound now)
 
 pub returns-in-Err-clause-alike : goal.returns-in-Err-clause-alike
-returns-in-Err-clause-alike g c number sound holds = order_same _ _ _ ((loads_reads Old _ _ (Err c.in-Err.refusal) c.in-Err.ensures).unchanged c.args.records.now.version number sound holds)
+returns-in-Err-clause-alike g c number sound holds = order_same _ _ _ ((loads_reads Version1 _ _ (Err c.in-Err.refusal) c.in-Err.ensures).unchanged c.args.records.now.version number sound holds)
 
 pub returns-in-Err-respelled-clause-alike : goal.returns-in-Err-respelled-clause-alike
 returns-in-Err-respelled-clause-alike g c number sound holds =
     let version = c.args.records.now.version in
-    order_moved version _ _ _ (c.loop-key.invariant.moved number sound holds) (c.loop-key.invariant.moving number sound holds) (loads_whole Old _ _ (Ok c.in-Ok.pairs) c.in-Ok.ensures version number (c.loop-key.invariant.since sound) holds)
+    order_moved version _ _ _ (c.loop-key.invariant.moved number sound holds) (c.loop-key.invariant.moving number sound holds) (loads_whole Version1 _ _ (Ok c.in-Ok.pairs) c.in-Ok.ensures version number (c.loop-key.invariant.since sound) holds)
 
 pub returns-in-Err-move_key-clause-alike : goal.returns-in-Err-move_key-clause-alike
 returns-in-Err-move_key-clause-alike g c number sound holds =
     let version = c.args.records.now.version in
     let before = c.in-Err-move_key.ensures.commits.before sound in
-    order_then version _ _ _ (c.loop-key.invariant.moved number before holds) (c.loop-key.invariant.moving number before holds) (loads_whole Old _ _ (Ok c.in-Ok.pairs) c.in-Ok.ensures version number (c.loop-key.invariant.since before) holds) _
+    order_then version _ _ _ (c.loop-key.invariant.moved number before holds) (c.loop-key.invariant.moving number before holds) (loads_whole Version1 _ _ (Ok c.in-Ok.pairs) c.in-Ok.ensures version number (c.loop-key.invariant.since before) holds) _
     (c.in-Err-move_key.ensures.unchanged sound)
 
 pub returns-clause-alike : goal.returns-clause-alike
@@ -144,5 +144,5 @@ returns-clause-alike g c number sound holds =
     let version = c.args.records.now.version in
     let before = c.finish.ensures.commits.before sound in
     let now = c.loop-key.invariant.kept version number before holds in
-    order_ended version _ _ _ (c.loop-key.invariant.moved number before holds) (c.loop-key.invariant.moving number before holds) (loads_whole Old _ _ (Ok c.in-Ok.pairs) c.in-Ok.ensures version number (c.loop-key.invariant.since before) holds) c.finish.result _
+    order_ended version _ _ _ (c.loop-key.invariant.moved number before holds) (c.loop-key.invariant.moving number before holds) (loads_whole Version1 _ _ (Ok c.in-Ok.pairs) c.in-Ok.ensures version number (c.loop-key.invariant.since before) holds) c.finish.result _
     (finishes_unchanged _ _ c.finish.result c.finish.ensures version number sound now)

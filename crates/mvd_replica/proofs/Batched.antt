@@ -18,10 +18,11 @@ use Rattle.mvd_site.specs.Sites.{SiteValue}
 use Rattle.mvd_site.proofs.Outcomes.{refused_fits}
 use Rattle.mvd_site.proofs.Pushes.{refusal_is}
 use Rattle.mvd_sync.specs.Sides.{SiteFollows, site_follows_on, site_follows_self}
-use Rattle.mvd_replica.specs.Batch.{AnswersAll, AnswersFront, AnswersOneFrom, AreAmong, HoldsLost, Loses, TakesTurns, TurnsFollow}
+use Rattle.mvd_replica.specs.Batch.{AnswersOneFrom, AreAmong, HoldsLost, Loses}
 use Rattle.mvd_replica.specs.Kept.{HoldsSite, HoldsStates}
-use Rattle.mvd_replica.specs.Sides.{AnswersFromStored, HoldsBroken, ReplicaFollows}
+use Rattle.mvd_replica.specs.Sides.{AnswersFromStored, HoldsBroken}
 use Rattle.mvd_replica.specs.Turns.{IsFirstBroken, IsToldElse, RepliesOne, Turn}
+use Rattle.mvd_replica.proofs.Positions.{AnswersAll, AnswersFront, ReplicaFollows, TakesTurns, TurnsFollow}
 use Rattle.mvd_replica.proofs.Breaking.{else_both, first_kept, first_later}
 use Rattle.mvd_replica.proofs.Sides.{follows_by}
 use Rattle.mvd_replica.proofs.Replying.{AddsAt-Refused, AddsAt-Refused-none, HasChoice-append, MayTell-memory, Replies-append, Replies-one, StandsOn-append, StandsOn-one}

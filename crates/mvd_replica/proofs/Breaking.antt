@@ -9,9 +9,10 @@ use Rattle.mvd_wire.specs.declared.reply.Reply.TheVariants.{Refused}
 use Rattle.mvd_wire.specs.Replies.{is_short}
 use Rattle.mvd_site.specs.Sites.{SiteValue}
 use Rattle.mvd_sync.specs.Sides.{SiteFollows}
-use Rattle.mvd_replica.specs.Sides.{ReplicaFollows, replica_follows_on}
+use Rattle.mvd_replica.specs.Sides.{replica_follows_on}
 use Rattle.mvd_replica.specs.Steps.{IsSent, RepliesTo}
 use Rattle.mvd_replica.specs.Turns.{IsFirstBroken, IsToldElse, Turn}
+use Rattle.mvd_replica.proofs.Positions.{ReplicaFollows}
 use Rattle.mvd_replica.proofs.Sides.{follows_where, follows_wider}
 use Rattle.sqlite.specs.State.{State}
 
@@ -66,7 +67,7 @@ module _ (first second : List Turn) (old mid new : SiteValue) (before between af
     (none : mid.broken ≡ false → AllByRecursion IsToldElse first) where
   pub follows_both : ReplicaFollows (IsFirstBroken (first ++ second)) old new before after
   follows_both =
-      replica_follows_on (IsFirstBroken (first ++ second)) old mid new before between after
+      replica_follows_on (IsFirstBroken (first ++ second)) _ _ _
       (follows_wider (IsFirstBroken first) (IsFirstBroken (first ++ second)) old mid before between (first_kept first second) p)
       (follows_where (IsFirstBroken second) (IsFirstBroken (first ++ second)) mid new between after (λ whole _ request found. first_later first second request (none whole) found) q)
 

@@ -15,10 +15,11 @@ use Rattle.mvd_wire.specs.Replies.{reply_bytes}
 use Rattle.mvd_wire.proofs.FramesRead.{no_frame_taken}
 use Rattle.mvd_replica.specs.declared.serving.Ended.{Ended}
 use Rattle.mvd_replica.specs.declared.serving.Ended.TheVariants as ended
-use Rattle.mvd_replica.specs.Sides.{ReplicaFollows, replica_follows_self}
+use Rattle.mvd_replica.specs.Sides.{replica_follows_self}
 use Rattle.mvd_replica.specs.Turns.{AreFrames, IsFirstBroken, Replies, StandsOn, Turn}
-use Rattle.mvd_replica.specs.Served.{AtBye, AtEnd, AtRefusal, AtWriter, Stops, GoesOut, Went}
+use Rattle.mvd_replica.specs.Served.{AtBye, AtEnd, AtRefusal, AtWriter, Stops, Went}
 use Rattle.mvd_replica.specs.Steps.{Ends, IsSent, RepliesTo}
+use Rattle.mvd_replica.proofs.Positions.{GoesOut, ReplicaFollows, conversation_at}
 use Rattle.std.proofs.KnownBytes.{Appends-nil}
 use Rattle.mvd_replica.proofs.Whole.{GoesOut-err}
 use Rattle.mvd_replica.proofs.Breaking.{follows_bye, follows_sent, told_sent}
@@ -28,7 +29,7 @@ use Rattle.mvd_replica.proofs.Replying.{Replies-none, Replies-one, RepliesOne-se
 -- ---- the ends
 
 pub at_end : (site : SiteValue) (store : State) (before after output : Option (List ℕ)) → Reads (option_map frame_value) before after (Ok None) frame_at →
-    Ends (record { site = site; store = store; input = before; output = output }) (record { site = site; store = store; input = after; output = output }) (Ok ended.End)
+    Ends (conversation_at site store before output) (conversation_at site store after output) (Ok ended.End)
 at_end site store before after output came = record {
   turns = [];
   ending = AtEnd;
@@ -38,7 +39,7 @@ at_end site store before after output came = record {
     choice = HasChoice-none;
     goes_on = tt;
     told = λ _. tt;
-    follows = replica_follows_self site store;
+    follows = replica_follows_self _;
   };
   count = refl;
   read = λ bytes known.
@@ -62,7 +63,7 @@ few e (inr (inr (inr is))) h = cc
 
 pub at_refusal : (site : SiteValue) (store : State) (before after output out : Option (List ℕ)) (e : Refusal) (fault : Refusal) → Reads (option_map frame_value) before after (Err e) frame_at → EndsReading e →
     GoesOut output out (reply_bytes (Refused e)) WriteFailed fault e →
-    Ends (record { site = site; store = store; input = before; output = output }) (record { site = site; store = store; input = after; output = out }) (Err fault)
+    Ends (conversation_at site store before output) (conversation_at site store after out) (Err fault)
 at_refusal site store before after output out e fault came which wrote = record {
   turns = [];
   ending = AtRefusal e;
@@ -72,7 +73,7 @@ at_refusal site store before after output out e fault came which wrote = record 
     choice = HasChoice-none;
     goes_on = tt;
     told = λ _. tt;
-    follows = replica_follows_self site store;
+    follows = replica_follows_self _;
   };
   count = (refl, few e which);
   read = λ bytes known. (bytes, refl, told e bytes after which (came bytes known));
@@ -88,7 +89,7 @@ bye_stops before after frame came asked bytes known =
 at_bye : (old site : SiteValue) (was store : State) (before after output out : Option (List ℕ)) (frame : Frame) (result : Result Ended Refusal) → Reads (option_map frame_value) before after (Ok (Some frame)) frame_at →
     request_of frame.kind frame.payload.items ≡ Ok Bye → site ≡ old → ReplicaFollows (IsFirstBroken []) old site was store →
     GoesOut output out (reply_bytes (if site.broken then Refused Broken else Done)) (Err WriteFailed) result (Ok ended.Bye) →
-    Ends (record { site = old; store = was; input = before; output = output }) (record { site = site; store = store; input = after; output = out }) result
+    Ends (conversation_at old was before output) (conversation_at site store after out) result
 at_bye old site was store before after output out frame result came asked same follows wrote = record {
   turns = [];
   ending = AtBye;
@@ -108,7 +109,7 @@ at_bye old site was store before after output out frame result came asked same f
 goes_on : (old new : SiteValue) (was store : State) (before after output out : Option (List ℕ)) (frame : Frame) (reply sent : Reply) → Reads (option_map frame_value) before after (Ok (Some frame)) frame_at →
     RepliesTo (request_of frame.kind frame.payload.items) old new reply → ReplicaFollows (λ request. request_of frame.kind frame.payload.items ≡ Ok request) old new was store → IsSent reply sent →
     Appends output out (reply_bytes sent) →
-    (turn : Turn) × Went (turn ∷ []) (record { site = old; store = was; input = before; output = output }) (record { site = new; store = store; input = after; output = out })
+    (turn : Turn) × Went (turn ∷ []) (conversation_at old was before output) (conversation_at new store after out)
 goes_on old new was store before after output out frame reply sent came replied follows is wrote =
     let asked = request_of frame.kind frame.payload.items in
     let turn : Turn = record { asked = asked; reply = sent } in (
@@ -133,7 +134,7 @@ goes_on old new was store before after output out frame reply sent came replied 
 at_writer : (old new : SiteValue) (was store : State) (before after output out : Option (List ℕ)) (frame : Frame) (reply sent : Reply) → Reads (option_map frame_value) before after (Ok (Some frame)) frame_at →
     RepliesTo (request_of frame.kind frame.payload.items) old new reply → ReplicaFollows (λ request. request_of frame.kind frame.payload.items ≡ Ok request) old new was store → IsSent reply sent →
     AppendsFront output out (reply_bytes sent) →
-    Ends (record { site = old; store = was; input = before; output = output }) (record { site = new; store = store; input = after; output = out }) (Err WriteFailed)
+    Ends (conversation_at old was before output) (conversation_at new store after out) (Err WriteFailed)
 at_writer old new was store before after output out frame reply sent came replied follows is wrote =
     let asked = request_of frame.kind frame.payload.items in
     let turn : Turn = record { asked = asked; reply = sent } in
@@ -166,14 +167,14 @@ last_is site broken bytes same is = is ∙ ap (λ b. reply_bytes (if b then Refu
 pub at_bye_ok : (old site : SiteValue) (was store : State) (before after output out : Option (List ℕ)) (frame : Frame) (broken : Bool) (bytes : List ℕ) → Reads (option_map frame_value) before after (Ok (Some frame)) frame_at →
     request_of frame.kind frame.payload.items ≡ Ok Bye → site ≡ old → ReplicaFollows (λ request. request_of frame.kind frame.payload.items ≡ Ok request) old site was store →
     broken ≡ site.broken → bytes ≡ reply_bytes (if broken then Refused Broken else Done) → Appends output out bytes →
-    Ends (record { site = old; store = was; input = before; output = output }) (record { site = site; store = store; input = after; output = out }) (Ok ended.Bye)
+    Ends (conversation_at old was before output) (conversation_at site store after out) (Ok ended.Bye)
 at_bye_ok old site was store before after output out frame broken bytes came asked same follows is last wrote =
     at_bye old site was store before after output out frame (Ok ended.Bye) came asked same (follows_bye _ old site was store same follows) (inl (refl, subst (Appends output out) (last_is site broken bytes is last) wrote))
 
 pub at_bye_failed : (old site : SiteValue) (was store : State) (before after output out : Option (List ℕ)) (frame : Frame) (broken : Bool) (bytes : List ℕ) (failed : Refusal) → Reads (option_map frame_value) before after (Ok (Some frame)) frame_at →
     request_of frame.kind frame.payload.items ≡ Ok Bye → site ≡ old → ReplicaFollows (λ request. request_of frame.kind frame.payload.items ≡ Ok request) old site was store →
     broken ≡ site.broken → bytes ≡ reply_bytes (if broken then Refused Broken else Done) → failed ≡ WriteFailed → AppendsFront output out bytes →
-    Ends (record { site = old; store = was; input = before; output = output }) (record { site = site; store = store; input = after; output = out }) (Err failed)
+    Ends (conversation_at old was before output) (conversation_at site store after out) (Err failed)
 at_bye_failed old site was store before after output out frame broken bytes failed came asked same follows is last why wrote =
     at_bye old site was store before after output out frame (Err failed) came asked same (follows_bye _ old site was store same follows) (inr (ap (λ (r : Refusal). Err r) why, subst (AppendsFront output out) (last_is site broken bytes is last) wrote))
 
@@ -188,17 +189,17 @@ fronted output out bytes failed (inr h) = let is : ◌≡◌ {A = Result (Unit {
 pub goes_on_sent : (old new : SiteValue) (was store : State) (before after output out : Option (List ℕ)) (frame : Frame) (reply : Reply) → Reads (option_map frame_value) before after (Ok (Some frame)) frame_at →
     RepliesTo (request_of frame.kind frame.payload.items) old new reply → ReplicaFollows (λ request. request_of frame.kind frame.payload.items ≡ Ok request) old new was store →
     ((sent : Reply) × IsSent reply sent × GoesOut {X = Result (Unit {0}) Refusal} output out (reply_bytes sent) (Err WriteFailed) (Ok tt) (Ok tt)) →
-    (turn : Turn) × Went (turn ∷ []) (record { site = old; store = was; input = before; output = output }) (record { site = new; store = store; input = after; output = out })
+    (turn : Turn) × Went (turn ∷ []) (conversation_at old was before output) (conversation_at new store after out)
 goes_on_sent old new was store before after output out frame reply came replied follows sent =
     goes_on old new was store before after output out frame reply sent.0 came replied follows sent.1 (appended output out (reply_bytes sent.0) sent.2)
 
 pub at_writer_sent : (old new : SiteValue) (was store : State) (before after output out : Option (List ℕ)) (frame : Frame) (reply : Reply) (failed : Refusal) → Reads (option_map frame_value) before after (Ok (Some frame)) frame_at →
     RepliesTo (request_of frame.kind frame.payload.items) old new reply → ReplicaFollows (λ request. request_of frame.kind frame.payload.items ≡ Ok request) old new was store →
     ((sent : Reply) × IsSent reply sent × GoesOut {X = Result (Unit {0}) Refusal} output out (reply_bytes sent) (Err WriteFailed) (Err failed) (Ok tt)) →
-    Ends (record { site = old; store = was; input = before; output = output }) (record { site = new; store = store; input = after; output = out }) (Err failed)
+    Ends (conversation_at old was before output) (conversation_at new store after out) (Err failed)
 at_writer_sent old new was store before after output out frame reply failed came replied follows sent =
     let why : (failed ≡ WriteFailed) × AppendsFront output out (reply_bytes sent.0) = fronted output out (reply_bytes sent.0) failed sent.2 in
-    subst (λ (r : Refusal). Ends (record { site = old; store = was; input = before; output = output }) (record { site = new; store = store; input = after; output = out }) (Err r)) (sym why.0)
+    subst (λ (r : Refusal). Ends (conversation_at old was before output) (conversation_at new store after out) (Err r)) (sym why.0)
     (at_writer old new was store before after output out frame reply sent.0 came replied follows sent.1 why.1)
 
 -- a frame that was written, or a front of it

@@ -1,5 +1,5 @@
 -- A file is read as the one database that it holds.
-use Rattle.std.proofs.Common.{◌≡◌, ◌⊎◌, IsTrue, Option, None, Some, refl, sym, subst, ap₂}
+use Rattle.std.proofs.Common.{◌≡◌, ◌⊎◌, ℕ, IsTrue, Option, None, Some, refl, sym, subst, ap₂}
 use Rattle.std.proofs.Math.Logic.{∥∥₁_elim}
 use Rattle.sqlite_catalog.proofs.ReadLemmas.{lists_once}
 use Rattle.sqlite_disk.specs.declared.Disk.{Ghosts}
@@ -7,7 +7,7 @@ use Rattle.sqlite_disk.specs.declared.Files.{Files}
 use Rattle.sqlite.specs.Closing.{IsCopied}
 use Rattle.sqlite.specs.Effect.{Database, IsDatabase}
 use Rattle.std.specs.Prelude.{IfSome}
-use Rattle.sqlite.specs.Files.{FailsToOpenFiles, IsCleanLeft, LeavesFiles, file_state, image_of}
+use Rattle.sqlite.specs.Files.{FailsToClose, FailsToOpenFiles, IsCleanLeft, IsClosed, LeavesFiles, file_state, image_of}
 use Rattle.sqlite.specs.Opening.{is_open_error}
 use Rattle.sqlite.specs.declared.error.Error.{Error}
 use Rattle.sqlite.specs.declared.error.Error.TheVariants.{SqliteFailure}
@@ -19,17 +19,22 @@ use Rattle.sqlite.specs.Held.{Held}
 use Rattle.sqlite.specs.Recovery.{Image}
 use Rattle.sqlite.specs.Schema.{Schema}
 use Rattle.sqlite.specs.Start.{FindsIn}
-use Rattle.sqlite.specs.State.{State}
+use Rattle.sqlite.specs.State.{State, store_error}
 use Rattle.sqlite.specs.Tree.{Trees}
 use Rattle.sqlite_catalog.specs.Listing.{IsSound}
 use Rattle.sqlite_store.specs.declared.store.FileStore.{FileStore}
+use Rattle.sqlite_store.specs.FileStore.{recovers, view}
+use Rattle.sqlite_trees.specs.declared.error.StoreError.{StoreError}
+use Rattle.sqlite_trees.specs.View.{IsClean}
 use Rattle.sqlite_trees.specs.Props.{Trees-set}
 use Rattle.mvd_site.specs.Config.{ConfigValue}
+use Rattle.mvd_site.specs.Held.{States}
 use Rattle.mvd_site.specs.Sites.{SiteValue}
 use Rattle.mvd_records.specs.Records.{IsOurs}
 use Rattle.mvd_replica.specs.File.{ClosesFile, HoldsFile, IsFoundIn}
 use Rattle.mvd_replica.specs.Kept.{HoldsStates}
 use Rattle.mvd_replica.specs.Opened.{OpensSite}
+use Rattle.mvd_replica.specs.Stops.{LeavesStates}
 use Rattle.mvd_replica.proofs.Follows.{just_these, ours_held}
 
 -- sound trees list one schema
@@ -70,3 +75,23 @@ module _ {D : Type 0} {g : Ghosts D} (image : Image) (config : ConfigValue) (e :
       FailsFile {g = g} image config (fault.File e left)
   fails_opening None unopened cause = (named, unopened refl)
   fails_opening (Some left) unopened cause = (named, cause)
+
+-- why the files of a connection were not given back, and what a crash leaves of the store
+pub record FailsToGive {D : Type 0} {g : Ghosts D} (c : Held (FileStore D g)) (failed : Error × FileStore D g) : Type 0 where
+  pub named : (cause : StoreError) × (failed.0 ≡ store_error cause)
+  pub cause : IsClean (view failed.1) → FailsToClose {g = g} c failed.1 failed.0
+  pub crash : (trees : Trees) → recovers failed.1 trees → (file_state {g = g} c).may_leave trees
+  pub left : IsTrue (file_state {g = g} c).is_open → (site : ℕ) (states : States) → HoldsStates site states (file_state {g = g} c).committed →
+      (trees : Trees) → recovers failed.1 trees → LeavesStates site states trees
+
+-- A store that is open leaves just its last commit
+pub fails_closing : {D : Type 0} {g : Ghosts D} (c : Held (FileStore D g)) (failed : Error × FileStore D g) →
+    ((trees : Trees) → IsTrue (file_state {g = g} c).is_open → (file_state {g = g} c).may_leave trees → trees ≡ (file_state {g = g} c).committed.trees) →
+    ((cause : StoreError) × (failed.0 ≡ store_error cause)) → IsClosed {g = g} c failed.1 → (IsClean (view failed.1) → FailsToClose {g = g} c failed.1 failed.0) →
+    FailsToGive {g = g} c failed
+fails_closing {g} c failed settled named closed cause = record {
+  named = named;
+  cause = cause;
+  crash = closed.quiet.outcomes;
+  left = λ was site states holds trees may. ((file_state {g = g} c).committed, holds, settled trees was (closed.quiet.outcomes trees may));
+}

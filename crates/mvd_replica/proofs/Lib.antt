@@ -1,3 +1,4 @@
+pub mod Positions
 pub mod Storing
 pub mod Answering
 pub mod Replying

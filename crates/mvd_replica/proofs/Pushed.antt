@@ -30,10 +30,11 @@ use Rattle.mvd_sync.proofs.JoinLaws.{nothing_empty}
 use Rattle.mvd_sync.proofs.ManyPushes.{one_push, pushes-append}
 use Rattle.mvd_sync.proofs.Pushes.{more_pushes, no_pushes}
 use Rattle.mvd_sync.proofs.SiteSides.{is_broken, push_cause}
-use Rattle.mvd_replica.specs.Batch.{AnswersAll, AnswersOneFrom, AreAmong, HoldsLost, TakesAllFrom, TakesFrom, TurnsFollow}
+use Rattle.mvd_replica.specs.Batch.{AnswersOneFrom, AreAmong, HoldsLost, TakesAllFrom, TakesFrom}
 use Rattle.mvd_replica.specs.Pushes.{push_of, told_of}
-use Rattle.mvd_replica.specs.Sides.{AnswersFromStored, HoldsBroken, HoldsPushed, IsPush, ReplicaFollows, ReplicaRefuses, SideFollows}
+use Rattle.mvd_replica.specs.Sides.{AnswersFromStored, HoldsBroken, HoldsPushed, IsPush, ReplicaRefuses}
 use Rattle.mvd_replica.specs.Turns.{Turn}
+use Rattle.mvd_replica.proofs.Positions.{AnswersAll, ReplicaFollows, SideFollows, TurnsFollow}
 use Rattle.mvd_replica.proofs.Batching.{whole_all}
 use Rattle.mvd_replica.proofs.Sides.{push_refuses, pushed_reply, stored_facts}
 use Rattle.sqlite.specs.Effect.{Database}

@@ -12,10 +12,11 @@ use Rattle.mvd_site.specs.Held.{States}
 use Rattle.mvd_kept.specs.declared.prepared.Prepared.{Prepared}
 use Rattle.mvd_kept.specs.declared.prepared.Prepared.TheVariants.{Answer, Change}
 use Rattle.mvd_site.specs.Sites.{SiteValue}
-use Rattle.mvd_replica.specs.Batch.{AnswersAll, HoldsLost}
+use Rattle.mvd_replica.specs.Batch.{HoldsLost}
 use Rattle.mvd_site.specs.Installs.{PutsAll, with_group}
 use Rattle.mvd_replica.specs.Groups.{AllComeTo, AreSendable, ComeInOrder, pairs_in, reply_unstored}
 use Rattle.mvd_replica.specs.Kept.{AreSpelled, HoldsSite, HoldsStates, SpellStates}
+use Rattle.mvd_replica.proofs.Positions.{AnswersAll}
 use Rattle.mvd_replica.proofs.Storing.{spelled_insert, spelled_with}
 use Rattle.sqlite.specs.State.{HasCleanDisk, State}
 use Rattle.mvd_replica.proofs.Batching.{config_all, takes}

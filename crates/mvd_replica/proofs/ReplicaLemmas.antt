@@ -21,8 +21,9 @@ use Rattle.mvd_replica.specs.declared.replica.Replica.{Replica}
 use Rattle.mvd_replica.specs.Batch.{AnswersOneFrom}
 use Rattle.mvd_replica.specs.Kept.{PutsIn}
 use Rattle.mvd_replica.specs.ReplicaCalls.{Answers, PushesState}
-use Rattle.mvd_replica.specs.Replicas.{KeepsCommit, committed_of, site_of, store_of}
-use Rattle.mvd_replica.specs.Sides.{AnswersFromStored, ReplicaFollows, replica_follows_self}
+use Rattle.mvd_replica.specs.Replicas.{KeepsCommit, committed_of, site_of, store_of, stored_of}
+use Rattle.mvd_replica.specs.Sides.{AnswersFromStored, replica_follows_self}
+use Rattle.mvd_replica.proofs.Positions.{ReplicaFollows}
 use Rattle.mvd_replica.proofs.Sides.{follows_by, pushed_reply, stored_facts}
 use Rattle.mvd_replica.proofs.Stops.{survives_self}
 
@@ -136,7 +137,7 @@ module _ {S : Type 0} {g : Ghosts S} where
     told = λ _. broken_is (site_of old) broken;
     stays = λ _. (refl, refl);
     valid = tt;
-    follows = replica_follows_self (site_of old) (store_of old);
+    follows = replica_follows_self (stored_of old);
     stored = λ sound holds whole is. absurd (true≢false (sym broken ∙ whole));
     survives = survives_self _ _;
   }
@@ -156,7 +157,7 @@ module _ {S : Type 0} {g : Ghosts S} where
     told = λ is. absurd (let bad : Broken ≡ Memory = sym is ∙ memory in cc);
     stays = λ broken. absurd (true≢false (sym broken ∙ whole));
     valid = tt;
-    follows = replica_follows_self (site_of old) (store_of old);
+    follows = replica_follows_self (stored_of old);
     stored = λ sound holds unbroken is. absurd (let bad : ◌≡◌ {A = Result (Unit {0}) Refusal} (Err Memory) (Err Broken) = ap (λ (r : Refusal). Err r) (sym memory) ∙ is in cc);
     survives = survives_self _ _;
   }

@@ -9,12 +9,13 @@ use Rattle.mvd_site.specs.Config.{ConfigValue}
 use Rattle.mvd_site.specs.FromStates.{after_from}
 use Rattle.mvd_site.specs.Held.{States}
 use Rattle.mvd_site.specs.Sites.{SiteValue}
-use Rattle.mvd_replica.specs.Batch.{HoldsLost, TurnsFollow, lost_requests}
+use Rattle.mvd_replica.specs.Batch.{HoldsLost, lost_requests}
 use Rattle.mvd_replica.specs.File.{HoldsFile}
 use Rattle.mvd_replica.specs.Kept.{HoldsSite, HoldsStates}
 use Rattle.mvd_replica.specs.Restarts.{AddAll, AllAnswered, AreRuns, IsRun, Run}
-use Rattle.mvd_replica.specs.Sides.{HoldsBroken, ReplicaFollows, after_all}
+use Rattle.mvd_replica.specs.Sides.{HoldsBroken, after_all}
 use Rattle.mvd_replica.specs.Turns.{AllTold, Event, IsFirstBroken, IsToldBroken, IsToldElse, TellsTurns, Turn, known_after}
+use Rattle.mvd_replica.proofs.Positions.{ReplicaFollows, TurnsFollow}
 use Rattle.mvd_replica.proofs.Follows.{ours_held}
 use Rattle.mvd_replica.proofs.Storing.{holds_states}
 use Rattle.sqlite.specs.Effect.{Database}

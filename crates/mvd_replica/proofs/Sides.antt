@@ -29,7 +29,8 @@ use Rattle.sqlite.specs.State.{HasCleanDisk, State as Shown, Survives}
 use Rattle.mvd_site.specs.Installs.{broken_site}
 use Rattle.mvd_replica.specs.Kept.{HoldsSite, HoldsStates, PutsIn}
 use Rattle.mvd_replica.specs.Stops.{LeavesAnswered}
-use Rattle.mvd_replica.specs.Sides.{AnswersFromStored, HoldsBroken, ReplicaFollows, ReplicaRefuses, StoreRefusedFrom}
+use Rattle.mvd_replica.specs.Sides.{AnswersFromStored, HoldsBroken, ReplicaRefuses, StoreRefusedFrom}
+use Rattle.mvd_replica.proofs.Positions.{ReplicaFollows}
 
 -- ---- one request, from the states
 

@@ -10,33 +10,35 @@ use Rattle.mvd_wire.specs.declared.reply.Reply.TheVariants.{Refused}
 use Rattle.mvd_wire.specs.Replies.{reply_bytes}
 use Rattle.mvd_replica.specs.declared.serving.Ended.{Ended}
 use Rattle.mvd_replica.specs.declared.serving.TheConstants.{FRAMES_MAX}
+use Rattle.mvd_replica.specs.Replicas.{StoredSite}
 use Rattle.mvd_replica.specs.Sides.{replica_follows_self}
 use Rattle.mvd_replica.specs.Turns.{AreFrames, Turn}
-use Rattle.mvd_replica.specs.Served.{Side, Ending, AtBye, AtEnd, AtRefusal, AtWriter, Stops, GoesOut, GoesOutAfter, IsCount, IsCutCount, Served, Takes, Went, frames_most, replies_bytes, last_bytes, result_of}
+use Rattle.mvd_replica.specs.Served.{Conversation, Ending, AtBye, AtEnd, AtRefusal, AtWriter, Stops, IsCount, IsCutCount, Served, Takes, Went, frames_most, replies_bytes, last_bytes, result_of}
 use Rattle.mvd_replica.specs.Steps.{Ends, IsLastCount, TakesTurn}
+use Rattle.mvd_replica.proofs.Positions.{GoesOut, GoesOutAfter}
 use Rattle.mvd_replica.proofs.Breaking.{follows_both, told_both}
 use Rattle.mvd_replica.proofs.Replying.{Replies-append, Replies-none, StandsOn-append, StandsOn-none, AreFrames-append, GoesOn-append, HasChoice-none, HasChoice-append}
 
-replies_bytes-append : (first second : List Turn) → replies_bytes (first ++ second) ≡ replies_bytes first ++ replies_bytes second
+pub replies_bytes-append : (first second : List Turn) → replies_bytes (first ++ second) ≡ replies_bytes first ++ replies_bytes second
 replies_bytes-append first second = flat_map-append (λ (t : Turn). reply_bytes t.reply) first second
 
 -- no turn at all
-pub Went-none : (side : Side) → Went [] side side
-Went-none side = record {
+pub Went-none : (conversation : Conversation) → Went [] conversation conversation
+Went-none conversation = record {
   takes = record {
-    replies = Replies-none side.site;
-    stands = StandsOn-none side.site;
+    replies = Replies-none conversation.stored.site;
+    stands = StandsOn-none conversation.stored.site;
     choice = HasChoice-none;
     goes_on = tt;
     told = λ _. tt;
-    follows = replica_follows_self side.site side.store;
+    follows = replica_follows_self conversation.stored;
   };
   config = refl;
   read = λ bytes known. (bytes, known, refl);
-  wrote = Appends-nil side.output;
+  wrote = Appends-nil conversation.output;
 }
 
-Takes-append : (first second : List Turn) (a b c : Side) → b.site.config ≡ a.site.config → Takes first a b → Takes second b c → Takes (first ++ second) a c
+Takes-append : (first second : List Turn) (a b c : StoredSite) → b.site.config ≡ a.site.config → Takes first a b → Takes second b c → Takes (first ++ second) a c
 Takes-append first second a b c config one other = record {
   replies = Replies-append a.site b.site c.site first second config one.replies other.replies;
   stands = StandsOn-append a.site b.site c.site first second one.stands other.stands;
@@ -46,9 +48,9 @@ Takes-append first second a b c config one other = record {
   follows = follows_both first second a.site b.site c.site a.store b.store c.store one.follows other.follows one.told;
 }
 
-pub Went-append : (first second : List Turn) (a b c : Side) → Went first a b → Went second b c → Went (first ++ second) a c
+pub Went-append : (first second : List Turn) (a b c : Conversation) → Went first a b → Went second b c → Went (first ++ second) a c
 Went-append first second a b c one other = record {
-  takes = Takes-append first second a b c one.config one.takes other.takes;
+  takes = Takes-append first second a.stored b.stored c.stored one.config one.takes other.takes;
   config = other.config ∙ one.config;
   read = λ bytes known.
       let p : (rest : List ℕ) × (b.input ≡ Some rest) × AreFrames first bytes rest = one.read bytes known in
@@ -56,16 +58,6 @@ Went-append first second a b c one other = record {
       (q.0, q.1, AreFrames-append first second bytes p.0 q.0 p.2 q.2);
   wrote = subst (Appends a.output c.output) (sym (replies_bytes-append first second)) (Appends-trans _ _ _ _ _ one.wrote other.wrote);
 }
-
-take-past : (front bytes : List ℕ) (n : ℕ) → (m : ℕ) × (front ++ take n bytes ≡ take m (front ++ bytes))
-take-past [] bytes n = (n, refl)
-take-past (x ∷ front) bytes n = let later : (m : ℕ) × (front ++ take n bytes ≡ take m (front ++ bytes)) = take-past front bytes n in (suc later.0, ap (λ (l : List ℕ). x ∷ l) later.1)
-
-GoesOut-after : {X : Type 0} (a b c : Option (List ℕ)) (front bytes : List ℕ) (failed result wanted : X) → Appends a b front → GoesOut b c bytes failed result wanted → GoesOut a c (front ++ bytes) failed result wanted
-GoesOut-after a b c front bytes failed result wanted one (inl other) = inl (other.0, Appends-trans _ _ _ _ _ one other.1)
-GoesOut-after a b c front bytes failed result wanted one (inr other) =
-    let m : (m : ℕ) × (front ++ take other.1.0 bytes ≡ take m (front ++ bytes)) = take-past front bytes other.1.0 in
-    inr (other.0, (m.0, subst (Appends a c) m.1 (Appends-trans _ _ _ _ _ one other.1.1)))
 
 -- as many frames as the code counts
 most : FRAMES_MAX ≡ frames_most
@@ -87,25 +79,22 @@ counted n count AtEnd room last = omega arith
 counted n count (AtRefusal refusal) room last = inl (omega (arith, last.0), last.1)
 counted n count AtWriter room last = omega arith
 
-pub Served-after : (turns : List Turn) (a b c : Side) (result : Result Ended Refusal) → Went turns a b → length turns < FRAMES_MAX → Ends b c result → Served a c result
+pub Served-after : (turns : List Turn) (a b c : Conversation) (result : Result Ended Refusal) → Went turns a b → length turns < FRAMES_MAX → Ends b c result → Served a c result
 Served-after turns a b c result one room last = record {
   turns = turns ++ last.turns;
   ending = last.ending;
-  takes = Takes-append turns last.turns a b c one.config one.takes last.takes;
+  takes = Takes-append turns last.turns a.stored b.stored c.stored one.config one.takes last.takes;
   count = subst (λ n. IsCount n last.ending) (sym (length-append turns last.turns)) (counted (length turns) (length last.turns) last.ending (subst (λ m. length turns < m) most room) last.count);
   read = λ bytes known.
       let p : (rest : List ℕ) × (b.input ≡ Some rest) × AreFrames turns bytes rest = one.read bytes known in
       let q : (rest : List ℕ) × AreFrames last.turns p.0 rest × Stops rest c.input last.ending = last.read p.0 p.1 in
       (q.0, AreFrames-append turns last.turns bytes p.0 q.0 p.2 q.1, q.2);
-  wrote = subst (λ l. GoesOut a.output c.output l (Err WriteFailed) result (result_of last.ending))
-      (sym (append_assoc (replies_bytes turns) (replies_bytes last.turns) (last_bytes c.site.broken last.ending)) ∙ ap (λ l. l ++ last_bytes c.site.broken last.ending) (sym (replies_bytes-append turns last.turns)))
-      (GoesOut-after a.output b.output c.output (replies_bytes turns) (replies_bytes last.turns ++ last_bytes c.site.broken last.ending) (Err WriteFailed) result (result_of last.ending) one.wrote last.wrote);
   went_out = record {
     whole = turns;
     cut = last.turns;
     all = refl;
     count = cut_count (length last.turns) last.ending last.count;
-    wrote = GoesOutAfter-first a.output b.output c.output (replies_bytes turns) (replies_bytes last.turns ++ last_bytes c.site.broken last.ending) (Err WriteFailed) result (result_of last.ending) one.wrote last.wrote;
+    wrote = GoesOutAfter-first a.output b.output c.output (replies_bytes turns) (replies_bytes last.turns ++ last_bytes c.stored.site.broken last.ending) (Err WriteFailed) result (result_of last.ending) one.wrote last.wrote;
   };
 }
 
@@ -114,9 +103,9 @@ GoesOut-err a b bytes failed fault wanted (inl h) = inl (ap (λ (f : Refusal). E
 GoesOut-err a b bytes failed fault wanted (inr h) = inr (ap (λ (f : Refusal). Err f) h.0, h.1)
 
 -- as many turns as there may be
-pub Served-full : (turns : List Turn) (a b : Side) (output : Option (List ℕ)) (fault : Refusal) → Went turns a b → length turns ≡ FRAMES_MAX →
+pub Served-full : (turns : List Turn) (a b : Conversation) (output : Option (List ℕ)) (fault : Refusal) → Went turns a b → length turns ≡ FRAMES_MAX →
     GoesOut b.output output (reply_bytes (Refused TooManyRequests)) WriteFailed fault TooManyRequests →
-    Served a (record { site = b.site; store = b.store; input = b.input; output = output }) (Err fault)
+    Served a (record b { output = output }) (Err fault)
 Served-full turns a b output fault one full told = record {
   turns = turns;
   ending = AtRefusal TooManyRequests;
@@ -132,8 +121,6 @@ Served-full turns a b output fault one full told = record {
   read = λ bytes known.
       let p : (rest : List ℕ) × (b.input ≡ Some rest) × AreFrames turns bytes rest = one.read bytes known in
       (p.0, p.2, inr (inr (inl (refl, p.1))));
-  wrote = GoesOut-after a.output b.output output (replies_bytes turns) (reply_bytes (Refused TooManyRequests)) (Err WriteFailed) (Err fault) (Err TooManyRequests) one.wrote
-      (GoesOut-err b.output output (reply_bytes (Refused TooManyRequests)) WriteFailed fault TooManyRequests told);
   went_out = record {
     whole = turns;
     cut = [];
@@ -146,11 +133,11 @@ Served-full turns a b output fault one full told = record {
 
 -- ---- as the code has them
 
-pub Served-some : (turns : List Turn) (a b c : Side) (found : Option Ended) (ended : Ended) → Went turns a b → length turns < FRAMES_MAX → found ≡ Some ended → TakesTurn b c (Ok found) → Served a c (Ok ended)
+pub Served-some : (turns : List Turn) (a b c : Conversation) (found : Option Ended) (ended : Ended) → Went turns a b → length turns < FRAMES_MAX → found ≡ Some ended → TakesTurn b c (Ok found) → Served a c (Ok ended)
 Served-some turns a b c found ended one room same taken =
     Served-after turns a b c (Ok ended) one room (subst (λ o. TakesTurn b c (Ok o)) same taken)
 
-pub Went-more : (turns : List Turn) (a b c : Side) (found : Option Ended) (n : ℕ) → length turns ≡ n → Went turns a b → found ≡ None → TakesTurn b c (Ok found) →
+pub Went-more : (turns : List Turn) (a b c : Conversation) (found : Option Ended) (n : ℕ) → length turns ≡ n → Went turns a b → found ≡ None → TakesTurn b c (Ok found) →
     (all : List Turn) × (length all ≡ n + 1) × Went all a c
 Went-more turns a b c found n count one same taken =
     let next : (turn : Turn) × Went (turn ∷ []) b c = subst (λ o. TakesTurn b c (Ok o)) same taken in

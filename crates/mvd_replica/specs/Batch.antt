@@ -14,10 +14,11 @@ use Rattle.mvd_site.specs.Known.{Adds}
 use Rattle.mvd_site.specs.Sites.{SiteValue}
 use Rattle.mvd_sync.specs.Sides.{SiteFollows}
 use Rattle.mvd_replica.specs.Kept.{HoldsSite, HoldsStates}
+use Rattle.mvd_replica.specs.Replicas.{StoredSite}
 use Rattle.mvd_replica.specs.Sides.{AnswersFromStored, after_all}
 use Rattle.mvd_replica.specs.Turns.{Event, IsFirstBroken, IsToldBroken, IsToldElse, Replies, StandsOn, TellsTurns, Turn}
 use Rattle.sqlite.specs.Effect.{Database}
-use Rattle.sqlite.specs.State.{HasCleanDisk, State}
+use Rattle.sqlite.specs.State.{HasCleanDisk}
 
 -- ---- the site, turn by turn
 
@@ -74,43 +75,44 @@ pub record HoldsLost (turns : List Turn) (site : SiteValue) (db : Database) : Ty
 -- What turns do to a replica. It keeps its configuration, and once broken all of its site. If the store is sound now it was, and
 -- if it held the site it does; once the site is broken the store stays as it is, and if that came by these turns it holds what the
 -- commit in hand was to change as well. A store that was shut takes no change.
-pub record TurnsFollow (turns : List Turn) (old new : SiteValue) (before after : State) : Type 0 where
-  pub site : SiteFollows old new
-  pub sound : IsSound after → IsSound before
-  pub holds : IsSound after → HoldsSite old before.committed → HoldsSite new after.committed
-  pub stays : old.broken ≡ true → after.committed ≡ before.committed
-  pub stored : IsSound after → HoldsSite old before.committed → old.broken ≡ false → new.broken ≡ true → HoldsLost turns new after.committed
-  pub clean : HasCleanDisk after → HasCleanDisk before
-  pub shut : HasCleanDisk after → before.is_open ≡ false → new ≡ old
+pub record TurnsFollow (turns : List Turn) (old new : StoredSite) : Type 0 where
+  pub site : SiteFollows old.site new.site
+  pub sound : IsSound new.store → IsSound old.store
+  pub holds : IsSound new.store → HoldsSite old.site old.store.committed → HoldsSite new.site new.store.committed
+  pub stays : old.site.broken ≡ true → new.store.committed ≡ old.store.committed
+  pub stored : IsSound new.store → HoldsSite old.site old.store.committed → old.site.broken ≡ false →
+      new.site.broken ≡ true → HoldsLost turns new.site new.store.committed
+  pub clean : HasCleanDisk new.store → HasCleanDisk old.store
+  pub shut : HasCleanDisk new.store → old.store.is_open ≡ false → new.site ≡ old.site
 
 -- ---- both
 
 -- Turns of a replica: each reply is one that may be given from the writes known then, and can be sent; and the records follow
-pub record TakesTurns (turns : List Turn) (old new : SiteValue) (before after : State) : Type 0 where
-  pub replies : Replies old new turns
-  pub stands : StandsOn old new turns
-  pub config : new.config ≡ old.config
+pub record TakesTurns (turns : List Turn) (old new : StoredSite) : Type 0 where
+  pub replies : Replies old.site new.site turns
+  pub stands : StandsOn old.site new.site turns
+  pub config : new.site.config ≡ old.site.config
   pub choice : (events : List Event) × TellsTurns events turns
   pub fits : AllByRecursion (λ turn. CanBeSent turn.reply) turns
   -- a request is told 22 where the site is broken, and one that breaks it is
-  pub told : new.broken ≡ false → AllByRecursion IsToldElse turns
-  pub breaks : old.broken ≡ false → new.broken ≡ true → (request : Request) × IsFirstBroken turns request
-  pub follows : TurnsFollow turns old new before after
+  pub told : new.site.broken ≡ false → AllByRecursion IsToldElse turns
+  pub breaks : old.site.broken ≡ false → new.site.broken ≡ true → (request : Request) × IsFirstBroken turns request
+  pub follows : TurnsFollow turns old new
 
 -- Requests that are answered at once: one turn for each, in order, with its reply, which is also given from the states that the
 -- turn before left
-pub record AnswersAll (requests : List Request) (replies : List Reply) (old new : SiteValue) (before after : State) : Type 0 where
+pub record AnswersAll (requests : List Request) (replies : List Reply) (old new : StoredSite) : Type 0 where
   pub turns : List Turn
   pub asked : map (λ turn. turn.asked) turns ≡ map (λ request. Ok request) requests
   pub told : map (λ turn. turn.reply) turns ≡ replies
-  pub states : TakesAllFrom old new turns
-  pub takes : TakesTurns turns old new before after
+  pub states : TakesAllFrom old.site new.site turns
+  pub takes : TakesTurns turns old new
 
 -- some of the requests were answered, from the first on, and their replies stand behind those before
-pub record AnswersFront (requests : List Request) (told given : List Reply) (old new : SiteValue) (before after : State) : Type 0 where
+pub record AnswersFront (requests : List Request) (told given : List Reply) (old new : StoredSite) : Type 0 where
   pub count : ℕ
   pub some : 0 < count
   pub within : count ≤ length requests
   pub replies : List Reply
   pub appended : given ≡ told ++ replies
-  pub answers : AnswersAll (take count requests) replies old new before after
+  pub answers : AnswersAll (take count requests) replies old new

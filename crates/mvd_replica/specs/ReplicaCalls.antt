@@ -31,7 +31,7 @@ use Rattle.mvd_replica.specs.declared.replica.Replica.{Replica}
 use Rattle.mvd_replica.specs.Batch.{AnswersAll, AnswersFront}
 use Rattle.mvd_replica.specs.Kept.{HoldsSite, HoldsStates, Stores}
 use Rattle.mvd_replica.specs.Opened.{IsOpened, IsRefused}
-use Rattle.mvd_replica.specs.Replicas.{KeepsCommit, RecordsFollow, TakesIfOpen, WasClean, WasSound, committed_of, conn_of, site_of, store_of}
+use Rattle.mvd_replica.specs.Replicas.{KeepsCommit, RecordsFollow, TakesIfOpen, WasClean, WasSound, committed_of, conn_of, site_of, store_of, stored_of}
 use Rattle.mvd_replica.specs.Sides.{AnswersFromStored, ReplicaFollows}
 use Rattle.mvd_replica.specs.Stops.{LeavesAnswered, LeavesChange}
 use Rattle.mvd_replica.specs.Turns.{AnswersStored}
@@ -187,7 +187,7 @@ module _ {S : Type 0} {g : Ghosts S} where
     -- a state that was joined is that of some set of writes
     pub valid : OnOk result (IsValid pushed)
     -- the records follow the states
-    pub follows : ReplicaFollows (λ asked. asked ≡ Push key pushed) (site_of old) (site_of new) (store_of old) (store_of new)
+    pub follows : ReplicaFollows (λ asked. asked ≡ Push key pushed) (stored_of old) (stored_of new)
     -- where the push breaks the site, they hold the states with the push in
     pub stored : StoresThoughBroken old (Push key pushed) (result ≡ Err Broken) new
     -- a crash leaves what it left before the call, or the states with the push
@@ -196,17 +196,18 @@ module _ {S : Type 0} {g : Ghosts S} where
   -- ---- answer_all
 
   -- requests one after the other, with as few commits as they allow
-  pub record AnswersMany (old : Replica S g) (requests : List Request) (result : Result (Vec Reply Global) Refusal) (new : Replica S g) : Type 0 where
+  pub record AnswersMany (old : Replica S g) (requests : List Request) (result : Result (Vec Reply Global) Refusal)
+      (new : Replica S g) : Type 0 where
     -- each request has its reply, as one turn after the other
-    pub answers : IfOk result (λ replies. AnswersAll requests replies.items (site_of old) (site_of new) (store_of old) (store_of new))
+    pub answers : IfOk result (λ replies. AnswersAll requests replies.items (stored_of old) (stored_of new))
     -- the call itself is refused for want of memory alone, and then nothing was done
     pub memory : IfErr result (λ refusal. (refusal ≡ Memory) × (new ≡ old))
 
   -- some of the requests, from the first on, whose replies stand behind those before
   abbrev pub AnswersSome : Replica S g → List Request → List Reply → List Reply → Replica S g → Type 0
-  AnswersSome old requests before after new = AnswersFront requests before after (site_of old) (site_of new) (store_of old) (store_of new)
+  AnswersSome old requests before after new = AnswersFront requests before after (stored_of old) (stored_of new)
 
   -- all of them
   abbrev pub AnswersEach : Replica S g → List Request → List Reply → List Reply → Replica S g → Type 0
   AnswersEach old requests before after new =
-      (told : List Reply) × (after ≡ before ++ told) × AnswersAll requests told (site_of old) (site_of new) (store_of old) (store_of new)
+      (told : List Reply) × (after ≡ before ++ told) × AnswersAll requests told (stored_of old) (stored_of new)

@@ -1,4 +1,4 @@
--- A replica as its callers see it: three views, and what a call may keep of them. Clauses speak of a replica by these words alone.
+-- A replica as its callers see it: its views, and what a call may keep of them. Clauses speak of a replica by these words alone.
 use Rattle.std.specs.Prelude.{◌≡◌, ◌⊎◌, IsTrue}
 use Rattle.mvd_records.specs.Records.{IsSound}
 use Rattle.mvd_site.specs.Sites.{SiteValue}
@@ -8,6 +8,15 @@ use Rattle.sqlite.specs.State.{HasCleanDisk, State}
 use Rattle.sqlite_trees.specs.declared.store.Store.{Ghosts}
 use Rattle.mvd_replica.specs.declared.replica.Replica.{Replica}
 use Rattle.mvd_replica.specs.Kept.{HoldsSite}
+
+-- a site, and what the connection of its records shows
+pub record StoredSite : Type 1 where
+  pub site : SiteValue
+  pub store : State
+
+-- a site with a connection to its store
+abbrev pub stored_by : {S : Type 0} → Ghosts S → SiteValue → Held S → StoredSite
+stored_by g site conn = record { site = site; store = state g conn }
 
 module _ {S : Type 0} {g : Ghosts S} where
   -- ---- the views
@@ -27,6 +36,10 @@ module _ {S : Type 0} {g : Ghosts S} where
   -- the database as it was committed last
   abbrev pub committed_of : Replica S g → Database
   committed_of replica = (state g replica.records.conn).committed
+
+  -- its site with its store
+  abbrev pub stored_of : Replica S g → StoredSite
+  stored_of replica = stored_by g (site_of replica) (conn_of replica)
 
   -- ---- what a call keeps
 

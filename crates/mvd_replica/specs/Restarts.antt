@@ -15,7 +15,7 @@ use Rattle.mvd_replica.specs.File.{HoldsFile, OpensFile}
 use Rattle.mvd_replica.specs.declared.replica.Replica.{Replica}
 use Rattle.mvd_replica.specs.Kept.{HoldsSite, HoldsStates}
 use Rattle.mvd_replica.specs.ReplicaCalls.{Answers}
-use Rattle.mvd_replica.specs.Replicas.{committed_of, site_of, store_of}
+use Rattle.mvd_replica.specs.Replicas.{StoredSite, committed_of, site_of, store_of, stored_of}
 use Rattle.mvd_replica.specs.Stops.{StopsBetween}
 use Rattle.mvd_replica.specs.Turns.{AllTold, Event, Replies, StandsOn, TellsTurns, Turn, known_after}
 use Rattle.sqlite.specs.Recovery.{Image}
@@ -34,6 +34,13 @@ pub record Run (C : Type 0) : Type 0 where
   pub after : C
   pub left : Image
 
+-- the site with its store, as the run opened it and as it left it
+abbrev pub opened_in : {C : Type 0} → (C → State) → Run C → StoredSite
+opened_in f run = record { site = run.old; store = f run.before }
+
+abbrev pub left_in : {C : Type 0} → (C → State) → Run C → StoredSite
+left_in f run = record { site = run.new; store = f run.after }
+
 -- What the calls of a run promise. `open_file` opened the file. `serve`, or a host of many clients in its rounds, took the turns.
 -- `key_count` tells that the states are held ones. `close` left the file. And the store is sound: nobody else has written the file,
 -- its disk has returned what was written, and no failure has shut it.
@@ -43,7 +50,7 @@ pub record IsRun {C : Type 0} (f : C → State) (run : Run C) : Type 0 where
   pub opens : IsSound (f run.before) → OpensFile run.image run.config run.old (f run.before).committed
   pub replies : Replies run.old run.new run.turns
   pub stands : StandsOn run.old run.new run.turns
-  pub follows : TurnsFollow run.turns run.old run.new (f run.before) (f run.after)
+  pub follows : TurnsFollow run.turns (opened_in f run) (left_in f run)
   pub held : AreHeld run.new.states
   pub closes : (site : ℕ) (states : States) → HoldsStates site states (f run.after).committed → HoldsFile run.left site states
   pub sound : IsSound (f run.after)
@@ -77,7 +84,7 @@ AllAnswered f site known image (run ∷ runs) = (events : List Event) → TellsT
 abbrev pub LeavesWholeTurns : {S : Type 0} → Ghosts S → Type 0
 LeavesWholeTurns {S} g =
     (turns : List Turn) (old mid new : Replica S g) (request : Request) (reply : Reply) →
-    TurnsFollow turns (site_of old) (site_of mid) (store_of old) (store_of mid) → Answers mid request reply new →
+    TurnsFollow turns (stored_of old) (stored_of mid) → Answers mid request reply new →
     HoldsSite (site_of old) (committed_of old) → IsSound (store_of mid) → HasCleanDisk (store_of new) →
     (site_of mid).broken ≡ false → AreHeld (site_of mid).states →
     StopsBetween (site_of mid).config.site (site_of mid).states (after_from (site_of mid).config (site_of mid).states request)

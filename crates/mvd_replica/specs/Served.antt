@@ -6,29 +6,27 @@ use Rattle.mvd_dots.specs.declared.refusals.Refusal.{Refusal}
 use Rattle.mvd_dots.specs.declared.refusals.Refusal.TheVariants.{Memory, Broken, ReadFailed, WriteFailed, TooManyRequests}
 use Rattle.mvd_wire.specs.declared.request.Request.TheVariants.{Bye}
 use Rattle.mvd_wire.specs.declared.reply.Reply.TheVariants.{Done, Refused}
-use Rattle.mvd_wire.specs.Frames.{AppendsFront, FrameValue, frame_at}
+use Rattle.mvd_wire.specs.Frames.{FrameValue, frame_at}
 use Rattle.mvd_wire.specs.Requests.{request_of}
 use Rattle.mvd_wire.specs.Replies.{reply_bytes}
-use Rattle.mvd_site.specs.Sites.{SiteValue}
 use Rattle.mvd_replica.specs.declared.replica.Replica.{Replica}
 use Rattle.mvd_replica.specs.declared.serving.Ended.{Ended}
 use Rattle.mvd_replica.specs.declared.serving.Ended.TheVariants as ended
-use Rattle.mvd_replica.specs.Replicas.{site_of, store_of}
+use Rattle.mvd_replica.specs.Replicas.{StoredSite, stored_of}
 use Rattle.mvd_replica.specs.Sides.{ReplicaFollows}
 use Rattle.mvd_replica.specs.Turns.{AreFrames, Event, GoesOn, IsFirstBroken, IsToldElse, Replies, StandsOn, TellsTurns, Turn}
-use Rattle.sqlite.specs.State.{State}
 use Rattle.sqlite_trees.specs.declared.store.Store.{Ghosts}
 
--- a site with its store, between a reader and a writer, whose bytes may not be known
-pub record Side : Type 1 where
-  pub site : SiteValue
-  pub store : State
+-- a site with its store, between a reader and a writer: what is left to read, and what was written, where that is known
+pub record Conversation : Type 1 where
+  pub stored : StoredSite
   pub input : Option (List ℕ)
   pub output : Option (List ℕ)
 
 -- a replica between a reader and a writer, by what is left of the one and what the other has taken
-abbrev pub side_of : {S : Type 0} {g : Ghosts S} → Replica S g → Option (List ℕ) → Option (List ℕ) → Side
-side_of replica input output = record { site = site_of replica; store = store_of replica; input = input; output = output }
+abbrev pub conversation_of : {S : Type 0} {g : Ghosts S} →
+    Replica S g → Option (List ℕ) → Option (List ℕ) → Conversation
+conversation_of replica input output = record { stored = stored_of replica; input = input; output = output }
 
 -- what ends a connection once the turns are over: a Bye, the end of the input, a refusal that is told in one frame more, or the
 -- writer
@@ -81,26 +79,37 @@ IsCutCount count AtWriter = count ≡ 1
 abbrev pub replies_bytes : List Turn → List ℕ
 replies_bytes turns = flat_map (λ turn. reply_bytes turn.reply) turns
 
--- the bytes went out, or the writer failed and a front of them did
-abbrev pub GoesOut : {X : Type 0} → Option (List ℕ) → Option (List ℕ) → List ℕ → X → X → X → Type 0
-GoesOut old new bytes failed result wanted = ((result ≡ wanted) × Appends old new bytes) ⊎ ((result ≡ failed) × AppendsFront old new bytes)
+-- what is to go out: bytes that do so whole, and others behind them, of which a front may; and the result that is wanted,
+-- and the one where the writer failed
+pub record Sending (X : Type 0) : Type 0 where
+  pub whole : List ℕ
+  pub rest : List ℕ
+  pub wanted : X
+  pub failed : X
 
--- the first bytes went out, and then the others, or the writer failed and a front of the others did
-abbrev pub GoesOutAfter : {X : Type 0} → Option (List ℕ) → Option (List ℕ) → List ℕ → List ℕ → X → X → X → Type 0
-GoesOutAfter old new first bytes failed result wanted =
-    ((result ≡ wanted) × Appends old new (first ++ bytes)) ⊎ ((result ≡ failed) × ((n : ℕ) × Appends old new (first ++ take n bytes)))
+-- all of it went out, or the writer failed, behind a front of the rest
+abbrev pub GoesOut : {X : Type 0} → Option (List ℕ) → Sending X → X → Option (List ℕ) → Type 0
+GoesOut old sending result new =
+    ((result ≡ sending.wanted) × Appends old new (sending.whole ++ sending.rest))
+    ⊎ ((result ≡ sending.failed) × ((n : ℕ) × Appends old new (sending.whole ++ take n sending.rest)))
 
 -- all replies but the one at which the writer failed went out whole, and then what ends the connection
-pub record WentOut (old new : Option (List ℕ)) (turns : List Turn) (ending : Ending) (broken : Bool) (result : Result Ended Refusal) : Type 0 where
+pub record WentOut (turns : List Turn) (ending : Ending) (old new : Conversation) (result : Result Ended Refusal)
+    : Type 0 where
   pub whole : List Turn
   pub cut : List Turn
   pub all : turns ≡ whole ++ cut
   pub count : IsCutCount (length cut) ending
-  pub wrote : GoesOutAfter old new (replies_bytes whole) (replies_bytes cut ++ last_bytes broken ending) (Err WriteFailed) result (result_of ending)
+  pub wrote : GoesOut old.output (record {
+    whole = replies_bytes whole;
+    rest = replies_bytes cut ++ last_bytes new.stored.site.broken ending;
+    wanted = result_of ending;
+    failed = Err WriteFailed;
+  }) result new.output
 
--- What turns of a connection do to a side. The records follow the states; where the site broke, no request had been told 22 before,
--- and they hold the change of the first that was
-pub record Takes (turns : List Turn) (old new : Side) : Type 0 where
+-- What turns of a connection do to a stored site. The records follow the states; where the site broke, no request had
+-- been told 22 before, and they hold the change of the first that was
+pub record Takes (turns : List Turn) (old new : StoredSite) : Type 0 where
   -- each reply is one that may be given from the writes known then
   pub replies : Replies old.site new.site turns
   -- the states stand for all that is known, also where the site broke
@@ -112,28 +121,29 @@ pub record Takes (turns : List Turn) (old new : Side) : Type 0 where
   -- none is told 22, unless the site is broken
   pub told : new.site.broken ≡ false → AllByRecursion IsToldElse turns
   -- the records follow
-  pub follows : ReplicaFollows (IsFirstBroken turns) old.site new.site old.store new.store
+  pub follows : ReplicaFollows (IsFirstBroken turns) old new
 
 -- A connection, from its first frame to its end. A Bye, and what could not be read as a frame, are no turns. Of a crash on the way
 -- nothing is said here, but of each request (`Answers.survives`)
-pub record Served (old new : Side) (result : Result Ended Refusal) : Type 0 where
+pub record Served (old new : Conversation) (result : Result Ended Refusal) : Type 0 where
   -- what was asked, each with its reply, in order; and why it ended
   pub turns : List Turn
   pub ending : Ending
   -- each reply may be given from the writes known then, and the records follow
-  pub takes : Takes turns old new
+  pub takes : Takes turns old.stored new.stored
   -- at most 1,000,000 turns
   pub count : IsCount (length turns) ending
   -- the bytes that came spell the turns' frames, and then a rest at which it ended so
-  pub read : (bytes : List ℕ) → old.input ≡ Some bytes → (rest : List ℕ) × AreFrames turns bytes rest × Stops rest new.input ending
-  -- all replies and the last frame were written, or the writer failed after a front of them
-  pub wrote : GoesOut old.output new.output (replies_bytes turns ++ last_bytes new.site.broken ending) (Err WriteFailed) result (result_of ending)
-  -- each reply but the one that was being written went out whole
-  pub went_out : WentOut old.output new.output turns ending new.site.broken result
+  pub read : (bytes : List ℕ) → old.input ≡ Some bytes →
+      (rest : List ℕ) × AreFrames turns bytes rest × Stops rest new.input ending
+  -- all replies and the last frame were written, or the writer failed: then each reply but the one that was being
+  -- written went out whole
+  pub went_out : WentOut turns ending old new result
 
 -- turns that were taken, after which the connection goes on
-pub record Went (turns : List Turn) (old new : Side) : Type 0 where
-  pub takes : Takes turns old new
-  pub config : new.site.config ≡ old.site.config
-  pub read : (bytes : List ℕ) → old.input ≡ Some bytes → (rest : List ℕ) × (new.input ≡ Some rest) × AreFrames turns bytes rest
+pub record Went (turns : List Turn) (old new : Conversation) : Type 0 where
+  pub takes : Takes turns old.stored new.stored
+  pub config : new.stored.site.config ≡ old.stored.site.config
+  pub read : (bytes : List ℕ) → old.input ≡ Some bytes →
+      (rest : List ℕ) × (new.input ≡ Some rest) × AreFrames turns bytes rest
   pub wrote : Appends old.output new.output (replies_bytes turns)

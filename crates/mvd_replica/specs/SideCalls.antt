@@ -11,13 +11,13 @@ use Rattle.mvd_sync.specs.Windows.{Asked, CannotTake, Ends, Pushes, PushesFirst}
 use Rattle.sqlite_trees.specs.declared.store.Store.{Ghosts}
 use Rattle.mvd_replica.specs.declared.replica.Replica.{Replica}
 use Rattle.mvd_replica.specs.ReplicaCalls.{PushesState}
-use Rattle.mvd_replica.specs.Replicas.{site_of, store_of}
+use Rattle.mvd_replica.specs.Replicas.{site_of, stored_of}
 use Rattle.mvd_replica.specs.Sides.{IsTrueSite, ReplicaRefuses, SideFollows}
 
 module _ {S : Type 0} {g : Ghosts S} where
   -- what no call of a session changes of a replica
   abbrev pub KeepsSide : Replica S g → Replica S g → Type 0
-  KeepsSide old new = SideFollows (site_of old) (site_of new) (store_of old) (store_of new)
+  KeepsSide old new = SideFollows (stored_of old) (stored_of new)
 
   -- one push, with what it came to; the site was true to its states where it is said
   pub record PushesOnSide (old : Replica S g) (key : Key) (given : State) (result : Result (Unit {0}) Refusal) (new : Replica S g) : Type 0 where

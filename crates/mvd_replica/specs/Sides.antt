@@ -19,8 +19,9 @@ use Rattle.mvd_sync.specs.Session.{ComesByPushes}
 use Rattle.mvd_sync.proofs.Pushes.{more_pushes, no_pushes}
 use Rattle.mvd_sync.specs.Sides.{SiteFollows, SiteRefuses, site_follows_on, site_follows_self}
 use Rattle.mvd_replica.specs.Kept.{HoldsSite, HoldsStates}
+use Rattle.mvd_replica.specs.Replicas.{StoredSite}
 use Rattle.sqlite.specs.Effect.{Database}
-use Rattle.sqlite.specs.State.{HasCleanDisk, State}
+use Rattle.sqlite.specs.State.{HasCleanDisk}
 
 -- the request would change the states, the store refused it, and the site is as it was
 pub record StoreRefusedFrom (old new : SiteValue) (request : Request) (reply : Reply) : Type 0 where
@@ -60,25 +61,27 @@ pub record HoldsPushed (site : SiteValue) (db : Database) : Type 0 where
 
 -- What calls do to the store. If it is sound now it was, and if it held the site it does; once the site is broken it stays as it
 -- is, and if that came by these calls it holds what was to be changed as well. A store that was shut takes no change.
-pub record StoreFollows (HoldsMore : SiteValue → Database → Type 0) (old new : SiteValue) (before after : State) : Type 0 where
-  pub sound : IsSound after → IsSound before
-  pub holds : IsSound after → HoldsSite old before.committed → HoldsSite new after.committed
-  pub stays : old.broken ≡ true → after.committed ≡ before.committed
-  pub stored : IsSound after → HoldsSite old before.committed → old.broken ≡ false → new.broken ≡ true → HoldsMore new after.committed
-  pub clean : HasCleanDisk after → HasCleanDisk before
-  pub shut : HasCleanDisk after → before.is_open ≡ false → new ≡ old
+pub record StoreFollows (HoldsMore : SiteValue → Database → Type 0) (old new : StoredSite) : Type 0 where
+  pub sound : IsSound new.store → IsSound old.store
+  pub holds : IsSound new.store → HoldsSite old.site old.store.committed → HoldsSite new.site new.store.committed
+  pub stays : old.site.broken ≡ true → new.store.committed ≡ old.store.committed
+  pub stored : IsSound new.store → HoldsSite old.site old.store.committed → old.site.broken ≡ false →
+      new.site.broken ≡ true → HoldsMore new.site new.store.committed
+  pub clean : HasCleanDisk new.store → HasCleanDisk old.store
+  pub shut : HasCleanDisk new.store → old.store.is_open ≡ false → new.site ≡ old.site
 
 -- a replica keeps its configuration, once broken all of its site, and its records follow the states
-pub record ReplicaFollows (asks : Request → Type 0) (old new : SiteValue) (before after : State) : Type 0 where
-  pub site : SiteFollows old new
-  pub store : StoreFollows (HoldsBroken asks) old new before after
+pub record ReplicaFollows (asks : Request → Type 0) (old new : StoredSite) : Type 0 where
+  pub site : SiteFollows old.site new.site
+  pub store : StoreFollows (HoldsBroken asks) old new
 
 -- a site is true to its states as long as it is not broken; they are in form
 abbrev pub IsTrueSite : SiteValue → Type 0
 IsTrueSite site = (site.broken ≡ false) × AreHeld site.states
 
-pub store_follows_self : {HoldsMore : SiteValue → Database → Type 0} (site : SiteValue) (s : State) → StoreFollows HoldsMore site site s s
-store_follows_self site s = record {
+pub store_follows_self : {HoldsMore : SiteValue → Database → Type 0} (stored : StoredSite) →
+    StoreFollows HoldsMore stored stored
+store_follows_self stored = record {
   sound = λ sound. sound;
   holds = λ _ holds. holds;
   stays = λ _. refl;
@@ -87,52 +90,60 @@ store_follows_self site s = record {
   shut = λ _ _. refl;
 }
 
-pub replica_follows_self : {asks : Request → Type 0} (site : SiteValue) (s : State) → ReplicaFollows asks site site s s
-replica_follows_self site s = record { site = site_follows_self site; store = store_follows_self site s }
+pub replica_follows_self : {asks : Request → Type 0} (stored : StoredSite) → ReplicaFollows asks stored stored
+replica_follows_self stored = record { site = site_follows_self stored.site; store = store_follows_self stored }
 
-module _ (HoldsMore : SiteValue → Database → Type 0) (old mid new : SiteValue) (before between after : State) (stays : mid.broken ≡ true → new ≡ mid) (p : StoreFollows HoldsMore old mid before between) (q : StoreFollows HoldsMore mid new between after) where
-  stored_on : (is : Bool) → mid.broken ≡ is → IsSound after → HoldsSite old before.committed → old.broken ≡ false → new.broken ≡ true → HoldsMore new after.committed
+module _ (HoldsMore : SiteValue → Database → Type 0) (old mid new : StoredSite)
+    (stays : mid.site.broken ≡ true → new.site ≡ mid.site) (p : StoreFollows HoldsMore old mid) (q : StoreFollows HoldsMore mid new) where
+  stored_on : (is : Bool) → mid.site.broken ≡ is → IsSound new.store → HoldsSite old.site old.store.committed →
+      old.site.broken ≡ false → new.site.broken ≡ true → HoldsMore new.site new.store.committed
   stored_on true is sound holds whole broken =
-      subst (λ s. HoldsMore s after.committed) (sym (stays is))
-      (subst (HoldsMore mid) (sym (q.stays is)) (p.stored (q.sound sound) holds whole is))
+      subst (λ s. HoldsMore s new.store.committed) (sym (stays is))
+      (subst (HoldsMore mid.site) (sym (q.stays is)) (p.stored (q.sound sound) holds whole is))
   stored_on false is sound holds whole broken = q.stored sound (p.holds (q.sound sound) holds) is broken
 
-  shut_on : (is : Bool) → between.is_open ≡ is → HasCleanDisk after → before.is_open ≡ false → new ≡ old
+  shut_on : (is : Bool) → mid.store.is_open ≡ is → HasCleanDisk new.store → old.store.is_open ≡ false →
+      new.site ≡ old.site
   shut_on true is clean shut =
-      let sound : IsSound between = record { clean = q.clean clean; is_open = is } in
+      let sound : IsSound mid.store = record { clean = q.clean clean; is_open = is } in
       absurd (true≢false (sym (p.sound sound).is_open ∙ shut))
   shut_on false is clean shut = q.shut clean is ∙ p.shut (q.clean clean) shut
 
-  pub store_follows_on : (old.broken ≡ true → mid ≡ old) → StoreFollows HoldsMore old new before after
+  pub store_follows_on : (old.site.broken ≡ true → mid.site ≡ old.site) → StoreFollows HoldsMore old new
   store_follows_on still = record {
     sound = λ sound. p.sound (q.sound sound);
     holds = λ sound holds. q.holds sound (p.holds (q.sound sound) holds);
     stays = λ broken. q.stays (subst (λ (s : SiteValue). s.broken ≡ true) (sym (still broken)) broken) ∙ p.stays broken;
-    stored = stored_on mid.broken refl;
+    stored = stored_on mid.site.broken refl;
     clean = λ clean. p.clean (q.clean clean);
-    shut = shut_on between.is_open refl;
+    shut = shut_on mid.store.is_open refl;
   }
 
-pub replica_follows_on : (asks : Request → Type 0) (old mid new : SiteValue) (before between after : State) → ReplicaFollows asks old mid before between → ReplicaFollows asks mid new between after → ReplicaFollows asks old new before after
-replica_follows_on asks old mid new before between after p q = record {
-  site = site_follows_on old mid new p.site q.site;
-  store = store_follows_on (HoldsBroken asks) old mid new before between after q.site.1 p.store q.store p.site.1;
+pub replica_follows_on : (asks : Request → Type 0) (old mid new : StoredSite) →
+    ReplicaFollows asks old mid → ReplicaFollows asks mid new → ReplicaFollows asks old new
+replica_follows_on asks old mid new p q = record {
+  site = site_follows_on old.site mid.site new.site p.site q.site;
+  store = store_follows_on (HoldsBroken asks) old mid new q.site.1 p.store q.store p.site.1;
 }
 
 -- What of a replica no call of a session changes; and its states, also once it is broken, are those that it had, after pushes of
 -- states in form
-pub record SideFollows (old new : SiteValue) (before after : State) : Type 0 where
-  pub site : SiteFollows old new
-  pub store : StoreFollows HoldsPushed old new before after
-  pub comes : ComesByPushes (λ _ _. Unit {0}) old.states new.states
+pub record SideFollows (old new : StoredSite) : Type 0 where
+  pub site : SiteFollows old.site new.site
+  pub store : StoreFollows HoldsPushed old new
+  pub comes : ComesByPushes (λ _ _. Unit {0}) old.site.states new.site.states
 
-pub side_follows_self : (site : SiteValue) (s : State) → SideFollows site site s s
-side_follows_self site s = record { site = site_follows_self site; store = store_follows_self site s; comes = no_pushes _ _ _ refl }
+pub side_follows_self : (stored : StoredSite) → SideFollows stored stored
+side_follows_self stored = record {
+  site = site_follows_self stored.site;
+  store = store_follows_self stored;
+  comes = no_pushes _ _ _ refl;
+}
 
-pub side_follows_on : (old mid new : SiteValue) (before between after : State) → SideFollows old mid before between → SideFollows mid new between after → SideFollows old new before after
-side_follows_on old mid new before between after p q = record {
-  site = site_follows_on old mid new p.site q.site;
-  store = store_follows_on HoldsPushed old mid new before between after q.site.1 p.store q.store p.site.1;
+pub side_follows_on : (old mid new : StoredSite) → SideFollows old mid → SideFollows mid new → SideFollows old new
+side_follows_on old mid new p q = record {
+  site = site_follows_on old.site mid.site new.site p.site q.site;
+  store = store_follows_on HoldsPushed old mid new q.site.1 p.store q.store p.site.1;
   comes = more_pushes _ _ _ _ p.comes q.comes;
 }
 

@@ -13,10 +13,10 @@ use Rattle.mvd_wire.specs.Requests.{request_of}
 use Rattle.mvd_site.specs.Sites.{SiteValue}
 use Rattle.mvd_replica.specs.declared.replica.Replica.{Replica}
 use Rattle.mvd_replica.specs.declared.serving.Ended.{Ended}
-use Rattle.mvd_replica.specs.Replicas.{site_of, store_of}
+use Rattle.mvd_replica.specs.Replicas.{site_of, stored_of}
 use Rattle.mvd_replica.specs.Sides.{ReplicaFollows}
 use Rattle.mvd_replica.specs.Turns.{AddsAt, AreFrames, IsToldElse, RepliesOne, Turn}
-use Rattle.mvd_replica.specs.Served.{AtBye, AtEnd, AtRefusal, AtWriter, Ending, GoesOut, Side, Stops, Takes, Went, last_bytes, replies_bytes, result_of}
+use Rattle.mvd_replica.specs.Served.{AtBye, AtEnd, AtRefusal, AtWriter, Ending, GoesOut, Stops, Takes, Conversation, Went, last_bytes, replies_bytes, result_of}
 use Rattle.sqlite_trees.specs.declared.store.Store.{Ghosts}
 
 -- the reply that goes out: want of memory may stand in place of one that needs memory
@@ -26,11 +26,17 @@ IsSent reply sent = (sent ≡ reply) ⊎ ((is_short reply ≡ false) × (sent �
 -- it went out, or want of memory in its place, or the writer failed
 abbrev pub SendsReply : Option (List ℕ) → Reply → Result (Unit {0}) Refusal → Option (List ℕ) → Type 0
 SendsReply old reply result new =
-    (sent : Reply) × IsSent reply sent × GoesOut old new (reply_bytes sent) (Err WriteFailed) result (Ok tt)
+    (sent : Reply) × IsSent reply sent
+    × GoesOut old (record { whole = []; rest = reply_bytes sent; wanted = Ok tt; failed = Err WriteFailed }) result new
 
 -- a refusal was told in a last frame and is the result, or the writer failed, and 35 is
 abbrev pub StopsWith : Option (List ℕ) → Refusal → Refusal → Option (List ℕ) → Type 0
-StopsWith old refusal result new = GoesOut old new (reply_bytes (Refused refusal)) WriteFailed result refusal
+StopsWith old refusal result new = GoesOut old (record {
+  whole = [];
+  rest = reply_bytes (Refused refusal);
+  wanted = refusal;
+  failed = WriteFailed;
+}) result new
 
 -- the request that a frame is, or its fault
 abbrev pub asked_in : Frame → Result Request Refusal
@@ -61,16 +67,22 @@ IsLastCount count (AtRefusal refusal) = (count ≡ 0) × (refusal ≢ TooManyReq
 IsLastCount count AtWriter = count ≡ 1
 
 -- the connection ends here
-pub record Ends (old new : Side) (result : Result Ended Refusal) : Type 0 where
+pub record Ends (old new : Conversation) (result : Result Ended Refusal) : Type 0 where
   pub turns : List Turn
   pub ending : Ending
-  pub takes : Takes turns old new
+  pub takes : Takes turns old.stored new.stored
   pub count : IsLastCount (length turns) ending
-  pub read : (bytes : List ℕ) → old.input ≡ Some bytes → (rest : List ℕ) × AreFrames turns bytes rest × Stops rest new.input ending
-  pub wrote : GoesOut old.output new.output (replies_bytes turns ++ last_bytes new.site.broken ending) (Err WriteFailed) result (result_of ending)
+  pub read : (bytes : List ℕ) → old.input ≡ Some bytes →
+      (rest : List ℕ) × AreFrames turns bytes rest × Stops rest new.input ending
+  pub wrote : GoesOut old.output (record {
+    whole = [];
+    rest = replies_bytes turns ++ last_bytes new.stored.site.broken ending;
+    wanted = result_of ending;
+    failed = Err WriteFailed;
+  }) result new.output
 
 -- one turn was taken, or the connection ended
-abbrev pub TakesTurn : Side → Side → Result (Option Ended) Refusal → Type 0
+abbrev pub TakesTurn : Conversation → Conversation → Result (Option Ended) Refusal → Type 0
 TakesTurn old new (Ok None) = (turn : Turn) × Went (turn ∷ []) old new
 TakesTurn old new (Ok (Some ended)) = Ends old new (Ok ended)
 TakesTurn old new (Err fault) = Ends old new (Err fault)
@@ -82,5 +94,4 @@ module _ {S : Type 0} {g : Ghosts S} where
 
   -- and its records follow
   abbrev pub FollowsFrame : Replica S g → Frame → Replica S g → Type 0
-  FollowsFrame old frame new =
-      ReplicaFollows (λ request. asked_in frame ≡ Ok request) (site_of old) (site_of new) (store_of old) (store_of new)
+  FollowsFrame old frame new = ReplicaFollows (λ request. asked_in frame ≡ Ok request) (stored_of old) (stored_of new)

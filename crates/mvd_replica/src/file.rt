@@ -1,6 +1,5 @@
 //! A site in a file: opened from what the file and its log hold, and closed into them.
-ghost use Rattle.std.specs.Prelude.{IfOk};
-ghost use Rattle.mvd_replica.specs.FileCalls.{ClosesInto, OpensAsSite};
+ghost use Rattle.mvd_replica.specs.FileCalls.{Closes, OpensAsSite};
 ghost use Rattle.sqlite.specs.WalFiles.{image_at};
 
 use crate::replica::Replica;
@@ -41,9 +40,10 @@ pub fn open_file<S: Start>(
 
 impl<D: Disk + Drop> Replica<FileStore<D>> {
     /// Copies what the log holds into the file, and gives both back: the states are in them, as they
-    /// read now and after a crash.
+    /// read now and after a crash. An error gives the store back: what a crash leaves of it holds the
+    /// states, as before the call.
     pub fn close(self) -> Result<Files<D>, (Error, FileStore<D>)>
-        ensures closed { IfOk result (ClosesInto self) }
+        ensures { Closes self result }
     {
         let conn = self.into_connection();
         // Here it is known that the database obeys its schema.

@@ -13,6 +13,7 @@ ghost use Rattle.mvd_replica.specs.Batch.{TurnsFollow};
 ghost use Rattle.mvd_replica.specs.declared.serving.Ended.{Ended};
 ghost use Rattle.mvd_replica.specs.File.{HoldsFile};
 ghost use Rattle.mvd_replica.specs.Groups.{IsElsewhere};
+ghost use Rattle.mvd_replica.specs.Replicas.{stored_by};
 ghost use Rattle.mvd_replica.specs.Restarts.{AllAnswered, AreRuns, LeavesWholeTurns, Run};
 ghost use Rattle.mvd_replica.specs.Served.{Served};
 ghost use Rattle.mvd_site.specs.Sites.{SiteValue};
@@ -39,9 +40,9 @@ pub fn a_site_answers_across_restarts<S: Alter>()
     // says so itself.
     ensures connection { (old new : SiteValue) (before after : Held S)
         (input input' output output' : Option (List ℕ)) (result : Result Ended Refusal) →
-        (it : Served (record { site = old; store = state S.Store before; input = input; output = output })
-        (record { site = new; store = state S.Store after; input = input'; output = output' }) result) →
-        TurnsFollow it.turns old new (state S.Store before) (state S.Store after) }
+        (it : Served (record { stored = stored_by S.Store old before; input = input; output = output })
+        (record { stored = stored_by S.Store new after; input = input'; output = output' }) result) →
+        TurnsFollow it.turns (stored_by S.Store old before) (stored_by S.Store new after) }
 {}
 
 /// A stop while `answer` has a request in hand, after any turns of connections or of rounds of many:

@@ -1,5 +1,5 @@
 //! The answering of one connection.
-ghost use Rattle.mvd_replica.specs.Served.{Served, side_of};
+ghost use Rattle.mvd_replica.specs.Served.{Served, conversation_of};
 
 use crate::replica::Replica;
 use crate::turns::{stop, take_turn};
@@ -31,8 +31,8 @@ pub fn serve<R: Read, W: Write, S: Alter>(
     replica: &mut Replica<S>,
 ) -> Result<Ended, Refusal>
     ensures { Served
-        (side_of replica.old (R.remaining reader.old) (W.contents writer.old))
-        (side_of replica.new (R.remaining reader.new) (W.contents writer.new)) result }
+        (conversation_of replica.old (R.remaining reader.old) (W.contents writer.old))
+        (conversation_of replica.new (R.remaining reader.new) (W.contents writer.new)) result }
 {
     for _frame in 0..FRAMES_MAX {
         match take_turn(alloc, reader, writer, replica) {

@@ -19,7 +19,7 @@ use std::alloc::Global;
 /// A replica is true to the states of its keys as long as it is not broken. What `follows` says of its
 /// records holds after any calls of a session. Many pushes share a commit.
 impl<S: Alter> Peer for Replica<S> {
-    ghost use Rattle.mvd_replica.specs.Replicas.{site_of, store_of};
+    ghost use Rattle.mvd_replica.specs.Replicas.{site_of, stored_of};
     ghost use Rattle.mvd_replica.specs.Sides.{IsTrueSite, ReplicaRefuses, SideFollows};
     ghost use Rattle.mvd_replica.specs.Sides.{side_follows_on, side_follows_self};
 
@@ -29,7 +29,7 @@ impl<S: Alter> Peer for Replica<S> {
 
     ghost can_give = { λ _ _. Unit {0} };
 
-    ghost follows = { λ _ old new. SideFollows (site_of old) (site_of new) (store_of old) (store_of new) };
+    ghost follows = { λ _ old new. SideFollows (stored_of old) (stored_of new) };
 
     ghost can_refuse = { λ replica refusal. ReplicaRefuses (site_of replica) refusal };
 
@@ -41,9 +41,9 @@ impl<S: Alter> Peer for Replica<S> {
 
     ghost in_form = { λ _ whole. whole.1 };
 
-    ghost follows_self = { λ replica. side_follows_self _ _ };
+    ghost follows_self = { λ replica. side_follows_self _ };
 
-    ghost follows_on = { λ _ _ old mid new p q. side_follows_on _ _ _ _ _ _ p q };
+    ghost follows_on = { λ _ _ old mid new p q. side_follows_on _ _ _ p q };
 
     ghost most_stays = { λ _ old new follows. ap (λ c. c.max_keys) follows.site.0 };
 

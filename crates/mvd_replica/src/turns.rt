@@ -4,7 +4,7 @@ ghost use Rattle.mvd_dots.specs.declared.refusals.Refusal.TheVariants.{Broken};
 ghost use Rattle.mvd_wire.specs.declared.request.Request.TheVariants.{Bye};
 ghost use Rattle.mvd_wire.specs.declared.reply.Reply.TheVariants.{Done, Refused};
 ghost use Rattle.mvd_wire.specs.Replies.{CanBeSent, reply_bytes};
-ghost use Rattle.mvd_replica.specs.Served.{side_of};
+ghost use Rattle.mvd_replica.specs.Served.{conversation_of};
 ghost use Rattle.mvd_replica.specs.Steps.{AnswersFrame, FollowsFrame, SendsReply, StopsWith, TakesTurn};
 
 use crate::replica::Replica;
@@ -86,8 +86,8 @@ pub fn take_turn<R: Read, W: Write, S: Alter>(
     replica: &mut Replica<S>,
 ) -> Result<Option<Ended>, Refusal>
     ensures { TakesTurn
-        (side_of replica.old (R.remaining reader.old) (W.contents writer.old))
-        (side_of replica.new (R.remaining reader.new) (W.contents writer.new)) result }
+        (conversation_of replica.old (R.remaining reader.old) (W.contents writer.old))
+        (conversation_of replica.new (R.remaining reader.new) (W.contents writer.new)) result }
 {
     let frame = match read_frame(alloc, reader) {
         Ok(Some(frame)) => frame,

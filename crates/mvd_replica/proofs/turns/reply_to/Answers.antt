@@ -19,10 +19,10 @@ returns-clause-told g c =
     (λ broken. ap (λ r. r.site) (c.answer.ensures.stays broken))
 
 pub returns-in-Err-clause-follows : goal.returns-in-Err-clause-follows
-returns-in-Err-clause-follows g c = replica_follows_self _ _
+returns-in-Err-clause-follows g c = replica_follows_self _
 
 pub returns-then-is_bye-clause-follows : goal.returns-then-is_bye-clause-follows
-returns-then-is_bye-clause-follows g c = replica_follows_self _ _
+returns-then-is_bye-clause-follows g c = replica_follows_self _
 
 pub returns-clause-follows : goal.returns-clause-follows
 returns-clause-follows g c =

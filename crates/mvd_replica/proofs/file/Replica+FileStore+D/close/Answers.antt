@@ -1,7 +1,8 @@
 use Rattle.std.proofs.Common.{subst}
 use Rattle.sqlite.specs.Files.{file_state}
+use Rattle.sqlite_store.specs.Laws.{settled_at}
 use Rattle.mvd_replica.specs.File.{ClosesFile}
-use Rattle.mvd_replica.proofs.Files.{closes}
+use Rattle.mvd_replica.proofs.Files.{FailsToGive, closes, fails_closing}
 use Rattle.mvd_replica.proofs.file.Replica+FileStore+D.close.Goals as goal
 
 pub returns-in-Ok : goal.returns-in-Ok
@@ -10,4 +11,17 @@ returns-in-Ok g c = record {
       let copied = c.in-Ok.ensures.copied clean in
       subst (λ k. ClosesFile g.D.Disk (file_state {g = g.D.Disk} k).committed c.in-Ok.files) c.into_connection-conn.ensures.same
       (closes c.into_connection-conn.result c.in-Ok.files copied (c.schema-schema.ensures.live copied.was_open).1));
+  failed = tt;
 }
+
+pub returns-in-Err : goal.returns-in-Err
+returns-in-Err g c =
+    let conn = c.into_connection-conn.result in
+    let it : FailsToGive {g = g.D.Disk} conn c.in-Err.failed = fails_closing {g = g.D.Disk} conn c.in-Err.failed
+    (λ trees was may. settled_at conn.store g.met.D.Disk.seen_may_stay trees was may)
+    c.in-Err.ensures.kind c.in-Err.ensures.err.0 c.in-Err.ensures.err.1 in
+    let same = subst (λ k. FailsToGive {g = g.D.Disk} k c.in-Err.failed) c.into_connection-conn.ensures.same it in
+    record {
+      closed = tt;
+      failed = record { named = same.named; cause = same.cause; crash = same.crash; left = same.left };
+    }

@@ -1,7 +1,7 @@
 use Rattle.std.proofs.Common.{ap, length, take, sym, subst, arith}
 use Rattle.std.proofs.lemmas.List.{take_all}
 use Rattle.sqlite.specs.Held.{state}
-use Rattle.mvd_replica.specs.Batch.{AnswersAll}
+use Rattle.mvd_replica.proofs.Positions.{AnswersAll}
 use Rattle.mvd_replica.proofs.Batched.{AnswersAll-none, front_answers, front_grows, front_of, front_within}
 use Rattle.mvd_replica.proofs.replica.Replica.answer_all.Goals as goal
 

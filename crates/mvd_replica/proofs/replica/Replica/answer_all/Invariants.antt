@@ -1,6 +1,6 @@
 use Rattle.std.proofs.Common.{◌-◌, ◌≤◌, length, take, vec_capacity}
 use Rattle.sqlite.specs.Held.{state}
-use Rattle.mvd_replica.specs.Batch.{AnswersAll}
+use Rattle.mvd_replica.proofs.Positions.{AnswersAll}
 use Rattle.mvd_replica.proofs.replica.Replica.answer_all.Given as goal
 
 abbrev pub decreases-groups : goal.decreases-groups

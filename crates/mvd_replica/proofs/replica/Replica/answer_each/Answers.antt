@@ -1,7 +1,7 @@
 use Rattle.std.proofs.Common.{◌∙◌, ◌++◌, ◌∷◌, [], take, refl, sym, ap, subst, append-nil, append_assoc, arith, length-append}
 use Rattle.std.proofs.lemmas.List.{take_all, take_more}
 use Rattle.sqlite.specs.Held.{state}
-use Rattle.mvd_replica.specs.Batch.{AnswersAll}
+use Rattle.mvd_replica.proofs.Positions.{AnswersAll}
 use Rattle.mvd_replica.proofs.Batched.{AnswersAll-answered, AnswersAll-append, AnswersAll-none}
 use Rattle.mvd_replica.proofs.replica.Replica.answer_each.Goals as goal
 

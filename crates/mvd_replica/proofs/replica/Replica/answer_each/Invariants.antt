@@ -1,7 +1,7 @@
 use Rattle.std.proofs.Common.{◌≡◌, ◌+◌, ◌++◌, List, length, take, vec_capacity}
 use Rattle.sqlite.specs.Held.{state}
 use Rattle.mvd_wire.specs.declared.reply.Reply.{Reply}
-use Rattle.mvd_replica.specs.Batch.{AnswersAll}
+use Rattle.mvd_replica.proofs.Positions.{AnswersAll}
 use Rattle.mvd_replica.proofs.replica.Replica.answer_each.Given as goal
 
 -- those so far are answered

@@ -26,7 +26,7 @@ returns-then-is_broken-clause-ended g c =
     (c.deref.ensures.value ∙ c.in_ok-requests.ensures.pushes) c.in_ok-replies.ensures.answers c.key_count-held_before.ensures.held c.in_ok-requests.ensures.valid in
     record {
       count = (0, omega arith, follows);
-      cause = inl (c.answer_all.new.self, (0, follows), inl (refl, sym c.is_broken.ensures ∙ c.if-is_broken.true), (0, side_follows_self _ _));
+      cause = inl (c.answer_all.new.self, (0, follows), inl (refl, sym c.is_broken.ensures ∙ c.if-is_broken.true), (0, side_follows_self _));
     }
 
 pub returns-then-is_broken-clause-first : goal.returns-then-is_broken-clause-first
@@ -49,7 +49,7 @@ returns-clause-told g c =
       count = follows;
       may = subst (EachAnswer (λ _ _. Unit {0}) c.args.pairs.now) (sym items) each;
       right = λ never. absurd never;
-      told = told_still (Unit {0}) _ (ReplicaRefuses new) _ c.add_told.new.told.items (λ _. (c.answer_all.new.self, (0, follows), whole, (0, side_follows_self _ _))) (λ r refuses. (c.answer_all.new.self, (0, follows), refuses, (0, side_follows_self _ _)))
+      told = told_still (Unit {0}) _ (ReplicaRefuses new) _ c.add_told.new.told.items (λ _. (c.answer_all.new.self, (0, follows), whole, (0, side_follows_self _))) (λ r refuses. (c.answer_all.new.self, (0, follows), refuses, (0, side_follows_self _)))
           (subst (EachTold (Unit {0}) (ReplicaRefuses new)) (sym items) told.1);
       not_of_key = λ never. absurd never;
     }

@@ -1,3 +1,4 @@
+pub mod Positions
 pub mod Hosts
 pub mod Frames
 pub mod Holding

@@ -16,11 +16,12 @@ use Rattle.mvd_host.specs.Course.{AreQueued, Both, IsOut, asked_by, own}
 use Rattle.mvd_host.specs.Taking.{AreFaults, TakesAll, TakesOn, TakesOnly}
 use Rattle.mvd_host.specs.Queueing.{AreDue, Queues, QueuesOn, refused_all, refused_faults}
 use Rattle.mvd_site.specs.Sites.{SiteValue}
-use Rattle.mvd_replica.specs.Batch.{AnswersAll}
+use Rattle.mvd_replica.proofs.Positions.{AnswersAll}
 use Rattle.sqlite.specs.State.{State}
-use Rattle.mvd_host.specs.Round.{Course, Round, Serves, Spares, turns_of}
+use Rattle.mvd_host.specs.Round.{Course, Round, Spares, turns_of}
 use Rattle.mvd_host.specs.declared.taking.Taken.{Taken}
 use Rattle.mvd_host.proofs.Own.{both_on, own-append}
+use Rattle.mvd_host.proofs.Positions.{Serves}
 use Rattle.mvd_host.proofs.Serving.{IsStill, serves_none, serves_on, serves_still, serves_turns}
 use Rattle.mvd_host.proofs.ToldLemmas.{on, queued_length, queues_none, untouched}
 

@@ -9,10 +9,11 @@ use Rattle.mvd_conn.specs.History.{History, new_history}
 use Rattle.mvd_replica.specs.Turns.{Turn}
 use Rattle.mvd_host.specs.Hosts.{AdmitsOne, HostValue, Leaves, altered, altered_if, client_in, client_of, new_host, with_client}
 use Rattle.mvd_host.specs.Course.{AreQueued, Both, asked_by, own}
-use Rattle.mvd_host.specs.Round.{Course, Round, Serves, turns_of}
+use Rattle.mvd_host.specs.Round.{Course, Round, turns_of}
 use Rattle.mvd_host.specs.Runs.{Call, Calls, Closes, Comes, Cuts, Feeds, Goes, Happening, May, Moment, OneList, Releases, Rounds, Runs, Sends, TellsOwn, after_call, after_one, after_run, side_of, turns_at, turns_in}
 use Rattle.mvd_host.proofs.Hosts.{at_is}
 use Rattle.mvd_host.proofs.Own.{own-append}
+use Rattle.mvd_host.proofs.Positions.{Serves}
 use Rattle.mvd_host.proofs.RoundLemmas.{was}
 use Rattle.mvd_host.proofs.Serving.{serves_none, serves_on}
 use Rattle.mvd_host.proofs.ToldLemmas.{queued_on}

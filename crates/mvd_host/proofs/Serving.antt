@@ -13,11 +13,11 @@ use Rattle.mvd_site.proofs.Outcomes.{memory_or_not}
 use Rattle.mvd_site.proofs.Pushes.{refusal_is}
 use Rattle.mvd_site.proofs.Steps.{Stands-nothing}
 use Rattle.mvd_replica.specs.Turns.{Event, IsToldElse, MayTell, RepliesOne, Turn}
-use Rattle.mvd_replica.specs.Batch.{TakesTurns, TurnsFollow}
+use Rattle.mvd_replica.proofs.Positions.{TakesTurns, TurnsFollow}
 use Rattle.mvd_replica.proofs.Batched.{TakesTurns-none, TurnsFollow-append}
 use Rattle.mvd_replica.proofs.Breaking.{else_both}
 use Rattle.mvd_replica.proofs.Replying.{AddsAt-Refused, AddsAt-Refused-none, HasChoice-append, HasChoice-none, MayTell-memory, Replies-append, Replies-none, Replies-one, StandsOn-append, StandsOn-none, StandsOn-one}
-use Rattle.mvd_host.specs.Round.{Serves}
+use Rattle.mvd_host.proofs.Positions.{Serves}
 use Rattle.sqlite.specs.State.{State}
 
 pub serves_turns : (turns : List Turn) (old new : SiteValue) (before after : State) → TakesTurns turns old new before after → Serves turns old new before after

@@ -6,7 +6,7 @@ use Rattle.mvd_conn.specs.History.{History}
 use Rattle.mvd_site.specs.Sites.{SiteValue}
 use Rattle.mvd_replica.specs.Turns.{Event, IsToldElse, Replies, StandsOn, TellsTurns, Turn}
 use Rattle.mvd_replica.specs.Batch.{TurnsFollow}
-use Rattle.mvd_replica.specs.Replicas.{site_of, store_of}
+use Rattle.mvd_replica.specs.Replicas.{StoredSite, site_of, store_of}
 use Rattle.mvd_replica.specs.declared.replica.Replica.{Replica}
 use Rattle.mvd_host.specs.Hosts.{HostValue, client_of}
 use Rattle.mvd_host.specs.Course.{AreQueued, Both, IsOut, NoneMoved, asked_by, own}
@@ -22,19 +22,23 @@ pub record Side : Type 1 where
 abbrev pub side_of : {S : Type 0} {g : Ghosts S} → HostValue → Replica S g → Side
 side_of host replica = record { host = host; site = site_of replica; store = store_of replica }
 
+-- its replica
+abbrev pub stored_in : Side → StoredSite
+stored_in side = record { site = side.site; store = side.store }
+
 -- the turns of all clients
 abbrev pub turns_of : List (ℕ × Turn) → List Turn
 turns_of = map (λ t. t.1)
 
 -- What turns do to a replica: each reply is one that may be given from the writes known before it, the states stand for the writes
 -- known and those that the turns added, and the records follow
-pub record Serves (turns : List Turn) (old new : SiteValue) (before after : State) : Type 0 where
-  pub replies : Replies old new turns
-  pub stands : StandsOn old new turns
-  pub config : new.config ≡ old.config
+pub record Serves (turns : List Turn) (old new : StoredSite) : Type 0 where
+  pub replies : Replies old.site new.site turns
+  pub stands : StandsOn old.site new.site turns
+  pub config : new.site.config ≡ old.site.config
   pub choice : (events : List Event) × TellsTurns events turns
-  pub told : new.broken ≡ false → AllByRecursion IsToldElse turns
-  pub follows : TurnsFollow turns old new before after
+  pub told : new.site.broken ≡ false → AllByRecursion IsToldElse turns
+  pub follows : TurnsFollow turns old new
 
 -- The frames that were taken of a connection are those of these turns, in order, and the replies that were queued on it are theirs,
 -- in order
@@ -56,7 +60,7 @@ pub record Spares (ready : List ℕ) (turns : List (ℕ × Turn)) (old new : Hos
 -- The turns of the list are those of one replica, and each client's own turns are the course of its connection. Only ready clients
 -- have turns
 pub record Round (ready : List ℕ) (turns : List (ℕ × Turn)) (old new : Side) : Type 0 where
-  pub serves : Serves (turns_of turns) old.site new.site old.store new.store
+  pub serves : Serves (turns_of turns) (stored_in old) (stored_in new)
   pub clients : (n : ℕ) → Both (client_of old.host n) (client_of new.host n) (Course (own n turns))
   pub spares : Spares ready turns old.host new.host
   pub admitted : new.host.admitted ≡ old.host.admitted

@@ -6,7 +6,7 @@ use Rattle.mvd_site.specs.Sites.{SiteValue}
 use Rattle.mvd_replica.specs.Turns.{Turn}
 use Rattle.mvd_host.specs.Hosts.{AdmitsOne, HostValue, Leaves, altered, client_of}
 use Rattle.mvd_host.specs.Course.{AreQueued, asked_by, own}
-use Rattle.mvd_host.specs.Round.{Round, Serves, Side, turns_of}
+use Rattle.mvd_host.specs.Round.{Round, Serves, Side, stored_in, turns_of}
 use Rattle.sqlite.specs.State.{State}
 
 -- a host, and the replica that answers its clients, with its connection
@@ -84,5 +84,5 @@ pub record TellsOwn (turns : List Turn) (h : History) : Type 0 where
 
 -- The turns of the list are those of one replica, and what each client asked and was told are its own turns
 pub record OneList (turns : List (ℕ × Turn)) (old new : Side) : Type 0 where
-  pub serves : Serves (turns_of turns) old.site new.site old.store new.store
+  pub serves : Serves (turns_of turns) (stored_in old) (stored_in new)
   pub clients : (n : ℕ) (h : History) → client_of new.host n ≡ Some h → TellsOwn (own n turns) h

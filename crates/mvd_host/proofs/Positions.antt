@@ -1,0 +1,10 @@
+-- The relation of turns of a replica, with its parts one after the other, as proofs hand them on.
+use Rattle.std.specs.Prelude.{List}
+use Rattle.mvd_site.specs.Sites.{SiteValue}
+use Rattle.mvd_replica.specs.Turns.{Turn}
+use Rattle.mvd_replica.proofs.Positions.{stored_site}
+use Rattle.mvd_host.specs.Round as round
+use Rattle.sqlite.specs.State.{State}
+
+abbrev pub Serves : List Turn → SiteValue → SiteValue → State → State → Type 0
+Serves turns old new before after = round.Serves turns (stored_site old before) (stored_site new after)

@@ -6,9 +6,10 @@ use Rattle.mvd_wire.specs.declared.request.Request.TheVariants.{Bye}
 use Rattle.mvd_wire.specs.declared.reply.Reply.TheVariants.{Done}
 use Rattle.mvd_site.specs.Held.{States}
 use Rattle.mvd_sync.specs.Lines.{AnswersTruly}
-use Rattle.mvd_sync.specs.Session.{HasJoined, Meets, ReportsDone}
+use Rattle.mvd_sync.specs.Session.{HasJoined}
 use Rattle.mvd_sync.specs.declared.report.Report.{Report}
 use Rattle.mvd_sync.specs.declared.report.SyncFault.{SyncFault}
+use Rattle.mvd_sync.proofs.Positions.{MeetsBy, ReportsDoneBy}
 
 -- a Bye changes nothing at the other end
 pub bye_keeps : (most : ℕ) (old new : States) (result : Result (Unit {0}) Refusal) → AnswersTruly (λ _. Done) most old Bye result new → new ≡ old
@@ -19,7 +20,7 @@ bye_keeps most old new (Err refusal) (inr (inr (e, inl same))) = same
 bye_keeps most old new (Err refusal) (inr (inr (e, inr h))) = h.1
 
 -- what two sides came to have, they have after it
-pub after_bye : (local_true peer_true later_true : Type 0) (most_local most_peer : ℕ) (number : Option ℕ) (a b a' b' b'' : States) (result told : Result Report SyncFault) (m : Meets local_true peer_true most_local most_peer number a b a' b' result) → peer_true → b'' ≡ b' → IfOk told (ReportsDone most_local most_peer number a b m.joined m.given) → Meets local_true later_true most_local most_peer number a b a' b'' told
+pub after_bye : (local_true peer_true later_true : Type 0) (most_local most_peer : ℕ) (number : Option ℕ) (a b a' b' b'' : States) (result told : Result Report SyncFault) (m : MeetsBy local_true peer_true most_local most_peer number a b a' b' result) → peer_true → b'' ≡ b' → IfOk told (ReportsDoneBy most_local most_peer number a b m.joined m.given) → MeetsBy local_true later_true most_local most_peer number a b a' b'' told
 after_bye local_true peer_true later_true most_local most_peer number a b a' b' b'' result told m t same tells = record {
   joined = m.joined;
   given = m.given;

@@ -12,4 +12,13 @@ use Rattle.mvd_sync.specs.declared.report.SyncFault.{SyncFault}
 -- refused for a cause
 abbrev pub MeetsFar : {L : Type 0} → (L → Type 0) → (L → Far) → SiteValue → SiteValue → Remote L → Remote L → Result Report SyncFault → Type 0
 MeetsFar is_true far old new before after result =
-    Meets (IsTrueSite new) (IsTrueRemote is_true far after) old.config.max_keys (far_of far before).most (Some old.config.site) old.states (far_of far before).states new.states (far_of far after).states result
+    Meets (record {
+      held = record { local = old.states; peer = (far_of far before).states };
+      most_local = old.config.max_keys;
+      most_peer = (far_of far before).most;
+      number = Some old.config.site;
+    }) (record {
+      held = record { local = new.states; peer = (far_of far after).states };
+      local_true = IsTrueSite new;
+      peer_true = IsTrueRemote is_true far after;
+    }) result

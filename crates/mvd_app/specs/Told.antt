@@ -5,7 +5,7 @@ use Rattle.mvd_dots.specs.declared.refusals.Refusal.{Refusal}
 use Rattle.mvd_input.specs.declared.command.Ask.{Ask}
 use Rattle.mvd_input.specs.declared.command.Ask.TheVariants.{Put, Delete, Get, Row, Node, Find, Range, Rows}
 use Rattle.mvd_print.specs.Text.{keys_text, left_text, message_text, more_left_text, none_such_text, reply_text, short_text}
-use Rattle.mvd_sync.specs.Session.{Left}
+use Rattle.mvd_sync.specs.declared.report.Left.{Left}
 use Rattle.mvd_sync.specs.declared.report.Report.{Report}
 use Rattle.mvd_sync.specs.declared.report.SyncFault.TheVariants.{Local, Peer}
 use Rattle.mvd_wire.specs.declared.reply.Reply.{Reply}
@@ -14,7 +14,7 @@ use Rattle.mvd_world.specs.declared.steps.Outcome.TheVariants.{Replied, Sent, Me
 
 -- a key that a session left
 abbrev pub key_left_text : Left → List ℕ
-key_left_text left = left_text left.0 left.1.1
+key_left_text left = left_text left.key left.refusal
 
 -- how many more it left than it names, where there are more
 abbrev pub more_text : ℕ → ℕ → List ℕ

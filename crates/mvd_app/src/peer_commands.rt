@@ -158,7 +158,7 @@ pub fn tell_report<'a, S: Alter + Drop, W: Write, E: Write>(
         let _ = writeln!(errors, "mvd: {}", Older(report.old));
     }
     match report.first_refused.as_slice().first() {
-        Some((_, (_, refusal))) => Err(Stop::left(*refusal)),
+        Some(left) => Err(Stop::left(left.refusal)),
         None => Ok(()),
     }
 }
@@ -191,12 +191,16 @@ fn print_refused(count: u64, lines: &mut String) -> Result<(), Refusal>
 
 /// Tells which key was refused, by which side, and how. A line that cannot be written is left out.
 fn tell_left<E: Write>(left: &Left, errors: &mut E) {
-    let (key, (side, refusal)) = left;
-    let place = match side {
+    let place = match left.side {
         Side::Local => "this side",
         Side::Peer => "the server",
     };
-    let _ = writeln!(errors, "mvd: key {}: {refusal} at {place}", key.text());
+    let _ = writeln!(
+        errors,
+        "mvd: key {}: {} at {place}",
+        left.key.text(),
+        left.refusal
+    );
 }
 
 /// Adds a line with the root digest.

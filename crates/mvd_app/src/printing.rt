@@ -45,7 +45,7 @@ fn print_all_left(named: &[Left], out: &mut String) -> Result<(), AllocError>
     ensures kept { Extends (string_bytes out.old) (string_bytes out.new) }
 {
     for left in named {
-        print_left(left.0.text(), left.1.1, out)?;
+        print_left(left.key.text(), left.refusal, out)?;
     }
     Ok(())
 }

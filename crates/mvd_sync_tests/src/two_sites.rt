@@ -153,7 +153,7 @@ pub fn first_left<L: Peer, P: Peer>(
         return Err(Refusal::Damaged);
     }
     match report.first_refused.as_slice().first() {
-        Some(left) => Ok(Some(left.1)),
+        Some(left) => Ok(Some((left.side, left.refusal))),
         None => Ok(None),
     }
 }

@@ -1,7 +1,7 @@
 use Rattle.std.proofs.Common.{◌≡◌, ◌++◌, List, OnOk, length, string_bytes, subst}
 use Rattle.std.specs.List.{flat_map}
 use Rattle.mvd_print.specs.Text.{keys_text}
-use Rattle.mvd_sync.specs.Session.{Left}
+use Rattle.mvd_sync.specs.declared.report.Left.{Left}
 use Rattle.mvd_app.specs.Told.{key_left_text, more_text}
 use Rattle.mvd_app.proofs.Reporting.{added_thrice}
 use Rattle.mvd_app.proofs.printing.print_report.Goals as goal

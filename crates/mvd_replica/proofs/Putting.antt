@@ -1,6 +1,5 @@
 -- Replies of requests of one commit, as their changes are put in.
-use Rattle.std.proofs.Common.{◌≡◌, ◌≢◌, ◌∙◌, Bool, true, false, List, [], ◌∷◌, ◌++◌, map, Ok, refl, sym, ap, subst, inl, inr, true≢false}
-use Rattle.std.specs.List.{AllByRecursion}
+use Rattle.std.proofs.Common.{◌≡◌, ◌∙◌, Bool, true, false, List, [], ◌∷◌, map, Ok, refl, sym, ap, subst, inl, inr, true≢false}
 use Rattle.std.specs.FinMap.{insert}
 use Rattle.mvd_dots.specs.declared.refusals.Refusal.{Refusal}
 use Rattle.mvd_dots.specs.declared.refusals.Refusal.TheVariants.{Broken, Store}
@@ -11,7 +10,7 @@ use Rattle.mvd_wire.specs.declared.reply.Reply.TheVariants.{Refused}
 use Rattle.mvd_wire.specs.Replies.{CanBeSent}
 use Rattle.mvd_site.specs.Change.{ChangeValue, reply_of}
 use Rattle.mvd_site.specs.Config.{ConfigValue}
-use Rattle.mvd_site.specs.FromStates.{AnswersFrom, after_from}
+use Rattle.mvd_site.specs.FromStates.{AnswersFrom}
 use Rattle.mvd_site.specs.Held.{States}
 use Rattle.mvd_site.specs.Known.{Adds}
 use Rattle.mvd_site.specs.Prepared.{PreparesChangeFrom}
@@ -26,7 +25,7 @@ use Rattle.mvd_replica.specs.Batch.{AnswersOneFrom, AreAmong, Loses, TakesAllFro
 use Rattle.mvd_site.specs.Installs.{PutsAll, PutsIfWhole, PutsOne, broken_site, with_group, with_one, with_prepared}
 use Rattle.mvd_replica.specs.Groups.{AllComeTo, AreSendable, ComeInOrder, ComesTo, IsReply, IsSendable, pairs_in, reply_unstored}
 use Rattle.mvd_replica.specs.Sides.{AnswersFromStored, after_all}
-use Rattle.mvd_replica.specs.Turns.{IsToldBroken, IsToldElse, Turn}
+use Rattle.mvd_replica.specs.Turns.{IsToldElse, Turn}
 use Rattle.mvd_replica.proofs.Replying.{AddsAt-Refused-none}
 use Rattle.mvd_replica.proofs.Batching.{told_turn}
 use Rattle.mvd_replica.proofs.Batched.{loses_later}

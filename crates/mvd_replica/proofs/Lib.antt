@@ -18,6 +18,8 @@ pub mod Grouped
 pub mod OpenRefusals
 pub mod Follows
 pub mod Files
+pub mod Keeping
+pub mod Programs
 pub mod Stops
 pub mod Asking
 pub mod ReplicaLemmas

@@ -1,5 +1,5 @@
 -- What opening a file as a site does, and what closing it does.
-use Rattle.std.specs.Prelude.{◌≡◌, ℕ, Result, IfErr, IfOk, IsTrue}
+use Rattle.std.specs.Prelude.{◌≡◌, false, ℕ, Result, IfErr, IfOk, IsTrue}
 use Rattle.mvd_records.specs.Records.{IsSound}
 use Rattle.mvd_site.specs.Config.{ConfigValue}
 use Rattle.mvd_site.specs.Held.{States}
@@ -20,7 +20,7 @@ use Rattle.sqlite.specs.WalReads.{AreClean}
 use Rattle.mvd_replica.specs.declared.file.FileFault.{FileFault}
 use Rattle.mvd_replica.specs.declared.replica.Replica.{Replica}
 use Rattle.mvd_replica.specs.File.{ClosesFile, OpensFile}
-use Rattle.mvd_replica.specs.Kept.{HoldsStates}
+use Rattle.mvd_replica.specs.Kept.{HoldsSite, HoldsStates}
 use Rattle.mvd_replica.specs.Refused.{FailsFile}
 use Rattle.mvd_replica.specs.Replicas.{conn_of, site_of}
 use Rattle.mvd_replica.specs.Restored.{HasWrites, IsFresh}
@@ -48,9 +48,17 @@ module _ {D : Type 0} {g : Ghosts D} {f : store.Ghosts (FileStore D g)} where
     -- a refusal has its cause in what the file and its log hold, in the disk, or in want of memory
     pub refused : IfErr result (FailsFile image config)
 
-  -- what the database held of a site the files hold, as they read now and after a crash
+  -- What a close leaves. The store was sound to its end; what the database held of a site, the files hold, as they read now and
+  -- after a crash; and where the records held the site, its states are what the database held
+  pub record IsClosed (replica : Replica (FileStore D g) f) (files : Files D) : Type 0 where
+    pub sound : IsSound (file_of replica)
+    pub file : ClosesFile g (file_database replica) files
+    pub holds : (site_of replica).broken ≡ false → HoldsSite (site_of replica) (file_database replica) →
+        HoldsStates (site_of replica).config.site (site_of replica).states (file_database replica)
+
+  -- if nobody else has written the files, and their disk has returned what was written
   abbrev pub ClosesInto : Replica (FileStore D g) f → Files D → Type 0
-  ClosesInto replica files = AreClean g files.log files.db → ClosesFile g (file_database replica) files
+  ClosesInto replica files = AreClean g files.log files.db → IsClosed replica files
 
   -- why a replica was not closed, and what a crash leaves of the store that comes back
   pub record FailsClosing (replica : Replica (FileStore D g) f) (failed : Error × FileStore D g) : Type 0 where

@@ -5,6 +5,7 @@ pub mod Pushes
 pub mod File
 pub mod Refused
 pub mod FileCalls
+pub mod Programs
 pub mod Stops
 pub mod Turns
 pub mod Served

@@ -60,14 +60,14 @@ not_held m key held none =
       | Some s ↦ λ e n. absurd (true≢false (sym n ∙ (held.held key s e).seen))
     ] refl none
 
-removed_same : (m : States) (key : List ℕ) → get m key ≡ None → m ≡ remove m key
+pub removed_same : (m : States) (key : List ℕ) → get m key ≡ None → m ≡ remove m key
 removed_same m key none = same_map nat_list_cmp_total keys_same _ _ (λ q. sym (get-remove nat_list_cmp_total m key q
     ∙ elim (eq_by_cmp (slice_cmp nat_cmp) q key) as (λ b. eq_by_cmp (slice_cmp nat_cmp) q key ≡ b → cond b None (get m q) ≡ get m q) [
       | true ↦ λ tie. sym (ap (get m) (keys_same q key ((Equal-is _).0 tie)) ∙ none)
       | false ↦ λ _. refl
     ] refl))
 
-not_nothing : (s : State) → is_empty s.context ≡ false → is_nothing s ≡ false
+pub not_nothing : (s : State) → is_empty s.context ≡ false → is_nothing s ≡ false
 not_nothing s e = ap (λ b. (len s.siblings == 0) && b) e ∙ elim (len s.siblings == 0) as (λ b. (b && false) ≡ false) [ true ↦ refl | false ↦ refl ]
 
 -- what a site puts in is what was pushed

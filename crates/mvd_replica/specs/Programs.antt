@@ -1,0 +1,41 @@
+-- A program on a file: it opens the site that the file holds, works on it, and closes it.
+use Rattle.std.specs.Prelude.{◌≡◌, ℕ, List, ◌++◌}
+use Rattle.mvd_keys.specs.Writes.{Stands, Write}
+use Rattle.mvd_records.specs.Records.{IsSound}
+use Rattle.mvd_site.specs.Held.{States}
+use Rattle.mvd_site.specs.Sites.{SiteStands, SiteValue}
+use Rattle.sqlite_disk.specs.declared.Disk.{Ghosts}
+use Rattle.sqlite_disk.specs.declared.Files.{Files}
+use Rattle.sqlite.specs.Files.{image_of}
+use Rattle.sqlite.specs.Recovery.{Image}
+use Rattle.sqlite.specs.WalFiles.{outcomes}
+use Rattle.sqlite.specs.WalReads.{AreClean}
+use Rattle.mvd_replica.specs.File.{HoldsFile}
+use Rattle.mvd_replica.specs.Kept.{HoldsSite}
+use Rattle.mvd_replica.specs.Replicas.{StoredSite}
+
+-- whatever writes the site stood for, it stands for these and for what was added, unless it is broken
+abbrev pub KeepsWrites : SiteValue → SiteValue → Type 0
+KeepsWrites old new = (known : List Write) → SiteStands old known → (added : List Write) × SiteStands new (known ++ added)
+
+-- What is done with a stored site between its open and its close: the site keeps its configuration and the writes known, and the
+-- records follow its states
+pub record WorksOn (old new : StoredSite) : Type 0 where
+  pub config : new.site.config ≡ old.site.config
+  pub keeps : KeepsWrites old.site new.site
+  pub sound : IsSound new.store → IsSound old.store
+  pub holds : IsSound new.store → HoldsSite old.site old.store.committed → HoldsSite new.site new.store.committed
+
+-- the files hold states of the site that stand for these writes and for what was added, as they read now and after a crash
+pub record HoldsMore {D : Type 0} (g : Ghosts D) (site : ℕ) (known : List Write) (files : Files D) : Type 0 where
+  pub states : States
+  pub added : List Write
+  pub stands : Stands states (known ++ added)
+  pub seen : HoldsFile (image_of g files) site states
+  pub left : (image : Image) → outcomes g files.log files.db image → HoldsFile image site states
+
+-- A PROGRAM'S RUN on a file loses no write: where what it found was a site's states, it leaves such states that stand for all that
+-- these stood for, and for what was added, if nobody else has written the files and their disk has returned what was written
+abbrev pub LeavesFile : {D : Type 0} → Ghosts D → Image → ℕ → Files D → Type 0
+LeavesFile g image site files = AreClean g files.log files.db → (states : States) (known : List Write) →
+    HoldsFile image site states → Stands states known → HoldsMore g site known files

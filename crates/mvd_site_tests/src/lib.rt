@@ -16,3 +16,5 @@ mod request_frames;
 mod site_calls;
 #[cfg(test)]
 mod state_frames;
+#[cfg(test)]
+mod state_limits;

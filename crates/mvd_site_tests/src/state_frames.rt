@@ -24,7 +24,7 @@ fn is_spelled(alloc: Global, state: &KeyState, bytes: &[u8]) -> Result<bool, Ref
 }
 
 /// Whether the state that the bytes spell is spelled so again.
-fn comes_back(alloc: Global, bytes: &[u8]) -> Result<bool, Refusal> {
+pub fn comes_back(alloc: Global, bytes: &[u8]) -> Result<bool, Refusal> {
     let state = decode_state(alloc, bytes)?;
     is_spelled(alloc, &state, bytes)
 }

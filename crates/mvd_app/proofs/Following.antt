@@ -4,37 +4,35 @@ use Rattle.std.proofs.lemmas.List.{append-nil, map-append}
 use Rattle.std.specs.List.{flat_map}
 use Rattle.mvd_host.proofs.Serving.{serves_none, serves_on}
 use Rattle.mvd_host.specs.Hosts.{HostValue}
-use Rattle.mvd_host.specs.Round.{Round, Serves, turns_of}
+use Rattle.mvd_host.specs.Round.{Round, Serves, side_of, turns_of}
 use Rattle.mvd_replica.proofs.Sides.{follows_wider}
+use Rattle.mvd_replica.specs.Replicas.{conn_of, site_of, store_of, stored_of}
 use Rattle.mvd_replica.specs.Turns.{Turn}
-use Rattle.mvd_replica.specs.Sides.{ReplicaFollows, SideFollows, replica_follows_on, replica_follows_self, side_follows_self}
+use Rattle.mvd_replica.specs.Sides.{replica_follows_on, replica_follows_self, side_follows_self}
 use Rattle.mvd_site.specs.Sites.{SiteValue}
-use Rattle.mvd_wire.specs.declared.reply.Reply.{Reply}
-use Rattle.mvd_wire.specs.declared.request.Request.{Request}
-use Rattle.sqlite.specs.State.{State}
+use Rattle.mvd_replica.specs.declared.replica.Replica.{Replica}
+use Rattle.sqlite.specs.Held.{Held, state}
+use Rattle.sqlite_trees.specs.declared.store.Store.{Ghosts}
 use Rattle.mvd_app.specs.Asked.{Exchange}
-use Rattle.mvd_app.specs.Stored.{AreRounds, HasRound, IsRound, IsServed, ReplicaAnswers}
+use Rattle.mvd_app.specs.Stored.{AreRounds, FollowsAsked, FollowsPushed, HasRound, IsRound, IsServed, ReplicaAnswers}
 use Rattle.mvd_app.specs.Talk.{Answered, Asks}
 
-module _ {A : Type 0} (site : A → SiteValue) (store : A → State) where
-  abbrev Replies : A → A → Request → Reply → Type 0
-  Replies old new request reply = ReplicaAnswers (site old) (site new) (store old) (store new) request reply
-
-  all_follow : (exchanges : List Exchange) (old new : A) → Answered Replies exchanges old new → ReplicaFollows (λ _. Unit {0}) (site old) (site new) (store old) (store new)
+module _ {S : Type 0} {g : Ghosts S} where
+  all_follow : (exchanges : List Exchange) (old new : Replica S g) → Answered ReplicaAnswers exchanges old new → FollowsAsked old new
   unfolding Answered
-  all_follow [] old new same = subst (λ (a : A). ReplicaFollows (λ _. Unit {0}) (site old) (site a) (store old) (store a)) (sym same) (replica_follows_self (site old) (store old))
+  all_follow [] old new same = subst (λ (r : Replica S g). FollowsAsked old r) (sym same) (replica_follows_self (stored_of old))
   all_follow (exchange ∷ exchanges) old new (between, one, others) =
-      replica_follows_on (λ _. Unit {0}) (site old) (site between) (site new) (store old) (store between) (store new)
-      (follows_wider (λ asked. asked ≡ exchange.request) (λ _. Unit {0}) (site old) (site between) (store old) (store between) (λ _ _. tt) one.follows)
+      replica_follows_on (λ _. Unit {0}) (stored_of old) (stored_of between) (stored_of new)
+      (follows_wider (λ asked. asked ≡ exchange.request) (λ _. Unit {0}) (site_of old) (site_of between) (store_of old) (store_of between) (λ _ _. tt) one.follows)
       (all_follow exchanges between new others)
 
-  pub follows : (old new : A) → Asks Replies old new → ReplicaFollows (λ _. Unit {0}) (site old) (site new) (store old) (store new)
+  pub follows : (old new : Replica S g) → Asks ReplicaAnswers old new → FollowsAsked old new
   follows old new asks = all_follow asks.exchanges old new asks.answered
 
 -- ---- a session
 
-pub pushed_none : (site : SiteValue) (s : State) → SideFollows site site s s
-pushed_none site s = side_follows_self site s
+pub pushed_none : {S : Type 0} {g : Ghosts S} (replica : Replica S g) → FollowsPushed replica replica
+pushed_none replica = side_follows_self (stored_of replica)
 
 -- ---- a server
 
@@ -49,35 +47,33 @@ turns_on (first ∷ rounds) turns =
     ∙ sym (append_assoc (turns_of first) (turns_of (all_turns rounds)) (turns_of turns))
     ∙ ap (λ (ts : List Turn). ts ++ turns_of turns) (sym (map-append (λ (t : ℕ × Turn). t.1) first (all_turns rounds)))
 
-module _ {C : Type 0} (store : C → State) where
-  abbrev InRound : List ℕ → List (ℕ × Turn) → HostValue → HostValue → SiteValue → SiteValue → C → C → Type 0
-  InRound ready turns host host' old new before after =
-      Round ready turns (record { host = host; site = old; store = store before }) (record { host = host'; site = new; store = store after })
+module _ {S : Type 0} {g : Ghosts S} where
+  pub has_round : (ready : List ℕ) (host host' : HostValue) (old new : Replica S g) → (turns : List (ℕ × Turn)) × Round ready turns (side_of host old) (side_of host' new) → HasRound old new
+  has_round ready host host' old new (turns, round) = (turns, (ready, host, host', round))
 
-  pub has_round : (ready : List ℕ) (host host' : HostValue) (old new : SiteValue) (before after : C) → (turns : List (ℕ × Turn)) × InRound ready turns host host' old new before after → HasRound store old new before after
-  has_round ready host host' old new before after (turns, round) = (turns, (ready, host, host', round))
-
-  pub served_none : (site : SiteValue) (conn : C) → IsServed store site site conn conn
+  pub served_none : (replica : Replica S g) → IsServed replica replica
   unfolding AreRounds
-  served_none site conn = record { rounds = []; are_rounds = (refl, refl); serves = serves_none site (store conn) }
+  served_none replica = record { rounds = []; are_rounds = (refl, refl); serves = serves_none (site_of replica) (store_of replica) }
 
-  rounds_on : (rounds : List (List (ℕ × Turn))) (turns : List (ℕ × Turn)) (old mid new : SiteValue) (before between after : C) → AreRounds store rounds old mid before between → IsRound store turns mid new between after
-      → AreRounds store (rounds ++ turns ∷ []) old new before after
-  unfolding AreRounds
-  rounds_on [] turns old mid new before between after (same, still) round = (
-    new,
-    after,
-    subst (λ (c : C). IsRound store turns old new c after) still (subst (λ (v : SiteValue). IsRound store turns v new between after) same round),
-    (refl, refl),
+  from_same : (turns : List (ℕ × Turn)) (old mid new : Replica S g) → site_of mid ≡ site_of old → conn_of mid ≡ conn_of old → IsRound turns mid new → IsRound turns old new
+  from_same turns old mid new same still (ready, host, host', round) = (
+    ready,
+    host,
+    host',
+    subst (λ (c : Held S). Round ready turns (record { host = host; site = site_of old; store = state g c }) (side_of host' new)) still
+        (subst (λ (v : SiteValue). Round ready turns (record { host = host; site = v; store = store_of mid }) (side_of host' new)) same round),
   )
-  rounds_on (first ∷ rounds) turns old mid new before between after (then, there, round', others) round =
-      (then, there, round', rounds_on rounds turns then mid new there between after others round)
+
+  rounds_on : (rounds : List (List (ℕ × Turn))) (turns : List (ℕ × Turn)) (old mid new : Replica S g) → AreRounds rounds old mid → IsRound turns mid new → AreRounds (rounds ++ turns ∷ []) old new
+  unfolding AreRounds
+  rounds_on [] turns old mid new (same, still) round = (new, from_same turns old mid new same still round, (refl, refl))
+  rounds_on (first ∷ rounds) turns old mid new (then, round', others) round = (then, round', rounds_on rounds turns then mid new others round)
 
   -- one round more
-  pub served_on : (old mid new : SiteValue) (before between after : C) → IsServed store old mid before between → HasRound store mid new between after → IsServed store old new before after
-  served_on old mid new before between after p (turns, round) = record {
+  pub served_on : (old mid new : Replica S g) → IsServed old mid → HasRound mid new → IsServed old new
+  served_on old mid new p (turns, round) = record {
     rounds = p.rounds ++ turns ∷ [];
-    are_rounds = rounds_on p.rounds turns old mid new before between after p.are_rounds round;
-    serves = subst (λ (ts : List Turn). Serves ts old new (store before) (store after)) (sym (turns_on p.rounds turns))
-        (serves_on (turns_of (all_turns p.rounds)) (turns_of turns) old mid new (store before) (store between) (store after) p.serves round.3.serves);
+    are_rounds = rounds_on p.rounds turns old mid new p.are_rounds round;
+    serves = subst (λ (ts : List Turn). Serves ts (stored_of old) (stored_of new)) (sym (turns_on p.rounds turns))
+        (serves_on (turns_of (all_turns p.rounds)) (turns_of turns) (site_of old) (site_of mid) (site_of new) (store_of old) (store_of mid) (store_of new) p.serves round.3.serves);
   }

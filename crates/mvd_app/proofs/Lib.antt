@@ -7,5 +7,6 @@ pub mod Typing
 pub mod Following
 pub mod Clients
 pub mod Watching
+pub mod Working
 pub mod Reporting
 pub mod Syncing

@@ -1,7 +1,11 @@
 //! What a command line asks for, done: with standard input and output, files and sockets.
+ghost use Rattle.std.specs.Prelude.{◌≡◌, IfOk};
+ghost use Rattle.mvd_app.specs.Stored.{FollowsAsked, ReplicaAnswers};
+ghost use Rattle.mvd_app.specs.Talk.{Asks};
 ghost use Rattle.mvd_input.specs.Orders.{IsInRange, IsSetUp};
-ghost use Rattle.mvd_replica.specs.Sides.{ReplicaFollows};
-ghost use Rattle.sqlite.specs.Held.{state as store};
+ghost use Rattle.mvd_replica.specs.Programs.{LeavesFile, WorksOn};
+ghost use Rattle.mvd_replica.specs.Replicas.{stored_of};
+ghost use Rattle.sqlite.specs.WalFiles.{image_at};
 
 use crate::hint::{Hint, Stop};
 use crate::looping::loop_run;
@@ -15,7 +19,8 @@ use mvd_input::{DEFS_MAX, Fault, Order, Setup, read_defs, read_input};
 use mvd_replica::{FileFault, Replica, open_file};
 use mvd_rows::Defs;
 use mvd_site::Config;
-use sqlite::{Alter, Start};
+use sqlite::{Alter, FileFrom, Files, Start};
+use sqlite_disk::Disk;
 use std::fs;
 use std::io::{self, BufReader};
 use std::net::SocketAddr;
@@ -42,14 +47,15 @@ pub fn run<'a, S: Start>(rt: &HostRuntime, order: Order<'a>, start: S) -> Result
             conns,
             idle,
             http,
-        } => run_stored(
-            rt,
-            db,
-            setup,
-            Work::Serve(address, Terms { http, conns, idle }),
-            start,
-        ),
-        Order::Shell { db, setup } => run_stored(rt, db, setup, Work::Shell, start),
+        } => {
+            let work = Work::Serve(address, Terms { http, conns, idle });
+            run_stored(rt, db, setup, work, start)?;
+            Ok(())
+        }
+        Order::Shell { db, setup } => {
+            run_stored(rt, db, setup, Work::Shell, start)?;
+            Ok(())
+        }
         Order::RemoteShell { address, idle } => run_remote_shell(rt, address, idle),
         Order::Sync {
             db,
@@ -57,7 +63,11 @@ pub fn run<'a, S: Start>(rt: &HostRuntime, order: Order<'a>, start: S) -> Result
             address,
             idle,
             verbose,
-        } => run_stored(rt, db, setup, Work::Sync(address, idle, verbose), start),
+        } => {
+            let work = Work::Sync(address, idle, verbose);
+            run_stored(rt, db, setup, work, start)?;
+            Ok(())
+        }
     }
 }
 
@@ -83,15 +93,18 @@ fn run_loop<'a>(rt: &HostRuntime, setup: Setup<'a>) -> Result<(), Stop<'a>>
 }
 
 /// Opens the site that a file holds, which is made where it is missing, works on it, and closes it: what the log holds is copied
-/// into the file. It is proved for whatever stands in the file; `start` names that, and no code reads it.
+/// into the file, and both are given back. It is proved for whatever stands in the file; `start` names that, and no code reads
+/// it. Where the site broke on the way it is stopped with `Broken`: what was stored stands in the log.
 fn run_stored<'a, S: Start>(
     rt: &HostRuntime,
     db: &'a str,
     setup: Setup<'a>,
     work: Work,
     start: S,
-) -> Result<(), Stop<'a>>
+) -> Result<Files<FileFrom<S>>, Stop<'a>>
     requires { IsSetUp setup }
+    // No write is lost that the file held.
+    ensures kept { IfOk result (LeavesFile ⟦<FileFrom<S> as Disk>⟧ (image_at S.Start) setup.entry.site) }
 {
     let config = config_in(rt, setup)?;
     let mut replica = match open_file(rt, db, start, config) {
@@ -100,8 +113,11 @@ fn run_stored<'a, S: Start>(
         Err(FileFault::Records(refusal, conn)) => return Err(refused_in(db, refusal, conn)),
     };
     work_on(rt, &mut replica, work)?;
+    if replica.is_broken() {
+        return Err(Stop::from(Refusal::Broken));
+    }
     match replica.close() {
-        Ok(_) => Ok(()),
+        Ok(files) => Ok(files),
         Err((error, conn)) => {
             drop(conn);
             Err(Stop::in_file(db, error))
@@ -109,11 +125,15 @@ fn run_stored<'a, S: Start>(
     }
 }
 
+/// Does what is to be done with a stored site.
 fn work_on<'a, S: Alter + Drop>(
     rt: &HostRuntime,
     replica: &mut Replica<S>,
     work: Work,
-) -> Result<(), Stop<'a>> {
+) -> Result<(), Stop<'a>>
+    // The site keeps the writes known, and its records follow, however it ends.
+    ensures works { WorksOn (stored_of replica.old) (stored_of replica.new) }
+{
     let mut writer = Output::new(io::writer(rt));
     match work {
         Work::Serve(address, terms) => {
@@ -131,9 +151,9 @@ fn work_on<'a, S: Alter + Drop>(
 
 /// Answers the lines of standard input on a replica.
 fn typed<'a, S: Alter + Drop>(rt: &HostRuntime, replica: &mut Replica<S>) -> Result<(), Stop<'a>>
-    // The records follow, however it ends.
-    ensures { ReplicaFollows (λ _. Unit {0}) replica.old.site replica.new.site
-        (store S.Store replica.old.records.conn) (store S.Store replica.new.records.conn) }
+    // However it ends, only requests were asked, and the records follow.
+    ensures asked { Asks ReplicaAnswers replica.old replica.new }
+    ensures follows { FollowsAsked replica.old replica.new }
 {
     let mut reader = input(rt)?;
     let mut writer = Output::new(io::writer(rt));
@@ -166,6 +186,7 @@ fn input(rt: &HostRuntime) -> Result<BufReader<<HostRuntime as Input>::Reader>, 
 /// What a site is set up with.
 fn config_in<'a>(rt: &HostRuntime, setup: Setup<'a>) -> Result<Config, Stop<'a>>
     requires { IsSetUp setup }
+    ensures { IfOk result (λ config. config.site ≡ setup.entry.site) }
 {
     let defs = defs_in(rt, setup.defs)?;
     Ok(Config::new(setup.site, setup.max_keys, defs))

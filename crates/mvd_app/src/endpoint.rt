@@ -3,7 +3,6 @@ ghost use Rattle.std.specs.Prelude.{◌≡◌};
 ghost use Rattle.mvd_app.specs.Script.{asked_step, reply_in};
 ghost use Rattle.mvd_app.specs.Staged.{MemberReplies};
 ghost use Rattle.mvd_app.specs.Stored.{ReplicaAnswers};
-ghost use Rattle.sqlite.specs.Held.{state as store};
 ghost use Rattle.mvd_wire.specs.declared.reply.Reply.{Reply};
 ghost use Rattle.mvd_wire.specs.declared.request.Request.{Request};
 
@@ -60,14 +59,15 @@ fn reply_of(outcome: Outcome) -> Reply
 {
     match outcome {
         Outcome::Replied(reply) => reply,
-        _ => Reply::Refused(Refusal::BadKind),
+        other => {
+            drop(other);
+            Reply::Refused(Refusal::BadKind)
+        }
     }
 }
 
 impl<S: Alter> Endpoint for Replica<S> {
-    ghost answers = { λ old new request reply.
-        ReplicaAnswers old.site new.site
-        (store S.Store old.records.conn) (store S.Store new.records.conn) request reply };
+    ghost answers = { ReplicaAnswers };
 
     fn ask(&mut self, request: Request) -> Reply {
         let reply = self.answer(&request);

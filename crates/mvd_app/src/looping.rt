@@ -27,11 +27,26 @@ pub fn loop_run<N: Net, R: Read, W: Write>(
     writer: &mut W,
     config: Config,
 ) -> Result<(), Fault> {
-    let lines = read_input(alloc, reader, HEX_MAX)?;
-    let requests = hex_bytes(alloc, &lines)?;
+    let requests = requests_in(alloc, reader)?;
     let (replies, ended) = exchanged(rt, alloc, &requests, config)?;
+    tell(alloc, &replies, ended, writer)
+}
+
+/// The bytes that the reader's lines spell.
+fn requests_in<R: Read>(alloc: Global, reader: &mut R) -> Result<Vec<u8>, Fault> {
+    let lines = read_input(alloc, reader, HEX_MAX)?;
+    hex_bytes(alloc, &lines)
+}
+
+/// Writes the replies as lines, and how the connection ended.
+fn tell<W: Write>(
+    alloc: Global,
+    replies: &[u8],
+    ended: Result<Ended, Refusal>,
+    writer: &mut W,
+) -> Result<(), Fault> {
     let mut out = String::new(alloc);
-    print_frames(alloc, &replies, &mut out)?;
+    print_frames(alloc, replies, &mut out)?;
     writeln!(out, "ended {}", How(ended))?;
     write_out(writer, out.as_str())
 }

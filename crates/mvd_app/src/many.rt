@@ -1,6 +1,5 @@
 //! A server of many clients at once, from one thread.
 ghost use Rattle.mvd_app.specs.Stored.{IsServed};
-ghost use Rattle.sqlite.specs.Held.{state as store};
 
 mod client;
 mod crowd;
@@ -69,8 +68,7 @@ pub fn serve_run<'a, N: Net + Clock + RandomSource, S: Alter + Drop, W: Write>(
     writer: &mut W,
 ) -> Result<(), Stop<'a>>
     // However it ends, the site changed by turns alone, and its records follow.
-    ensures served { IsServed (store S.Store) replica.old.site replica.new.site
-        replica.old.records.conn replica.new.records.conn }
+    ensures served { IsServed replica.old replica.new }
 {
     let mut server = match Server::new(rt, alloc, address, terms) {
         Ok(server) => server,
@@ -91,9 +89,10 @@ impl Server {
         address: SocketAddr,
         terms: Terms,
     ) -> io::Result<Server> {
+        let start = Instant::now(rt)?;
+        let keys = RandomState::new(rt)?;
         let poll = Poll::new(rt)?;
         let frames = Door::new(rt, poll.registry(), address, Kind::Frames)?;
-        let keys = RandomState::new(rt)?;
         Ok(Server {
             poll,
             events: Events::with_capacity(alloc, CLIENTS_MAX + 2)?,
@@ -102,7 +101,7 @@ impl Server {
             crowd: Crowd::new(alloc, keys, terms.conns, terms.idle)?,
             ready: Vec::with_capacity(alloc, 2 * CLIENTS_MAX)?,
             next: Vec::with_capacity(alloc, 2 * CLIENTS_MAX)?,
-            start: Instant::now(rt)?,
+            start,
         })
     }
 
@@ -124,8 +123,7 @@ impl Server {
         terms: Terms,
         writer: &mut W,
     ) -> Result<(), Fault>
-        ensures served { IsServed (store S.Store) replica.old.site replica.new.site
-            replica.old.records.conn replica.new.records.conn }
+        ensures served { IsServed replica.old replica.new }
     {
         let mut line = String::new(alloc);
         writeln!(line, "listening {address}")?;
@@ -145,8 +143,7 @@ impl Server {
         replica: &mut Replica<S>,
         writer: &mut W,
     ) -> Result<(), Fault>
-        ensures served { IsServed (store S.Store) replica.old.site replica.new.site
-            replica.old.records.conn replica.new.records.conn }
+        ensures served { IsServed replica.old replica.new }
     {
         for _round in 0..u64::MAX {
             if self.crowd.is_shut() && self.crowd.is_empty() {

@@ -3,12 +3,13 @@ ghost use Rattle.std.specs.Prelude.{◌≡◌, ◌≢◌, ◌++◌, [], IfErr, I
 ghost use Rattle.std.specs.Io.KnownBytes.{Appends};
 ghost use Rattle.mvd_dots.specs.declared.refusals.Refusal.TheVariants.{WriteFailed};
 ghost use Rattle.mvd_app.specs.Reported.{Reports, refused_text, root_text, session_text};
+ghost use Rattle.mvd_app.specs.Stored.{FollowsPushed};
 ghost use Rattle.mvd_app.specs.Synced.{MeetsFar};
 ghost use Rattle.mvd_input.specs.declared.fault.Fault.TheVariants.{Stopped};
 ghost use Rattle.mvd_input.specs.Ends.{EndsEarly};
-ghost use Rattle.mvd_replica.specs.Sides.{IsTrueSite, SideFollows};
+ghost use Rattle.mvd_replica.specs.Replicas.{site_of};
+ghost use Rattle.mvd_replica.specs.Sides.{IsTrueSite};
 ghost use Rattle.mvd_sync.specs.Lines.{IsTrueRemote};
-ghost use Rattle.sqlite.specs.Held.{state as store};
 
 use crate::hint::{Older, Stop};
 use crate::link::Link;
@@ -80,8 +81,7 @@ pub fn sync_run<'a, N: Net, S: Alter + Drop, E: Write>(
     told: Option<&mut E>,
 ) -> Result<Report, Stop<'a>>
     // However it ends, the site changed by pushes alone, and its records follow.
-    ensures pushed { SideFollows replica.old.site replica.new.site
-        (store S.Store replica.old.records.conn) (store S.Store replica.new.records.conn) }
+    ensures pushed { FollowsPushed replica.old replica.new }
 {
     let stream = match connected(rt, address, idle) {
         Ok(stream) => stream,
@@ -102,8 +102,7 @@ fn sync_stream<T: Read + Write + Drop, S: Alter + Drop, E: Write>(
     replica: &mut Replica<S>,
     told: Option<&mut E>,
 ) -> Result<Report, SyncFault>
-    ensures pushed { SideFollows replica.old.site replica.new.site
-        (store S.Store replica.old.records.conn) (store S.Store replica.new.records.conn) }
+    ensures pushed { FollowsPushed replica.old replica.new }
 {
     let link = Link::new(alloc, stream).map_err(SyncFault::Local)?;
     let incoming = link.incoming(alloc).map_err(SyncFault::Local)?;
@@ -122,11 +121,10 @@ pub fn sync_over<L: Line, S: Alter + Drop, E: Write>(
     replica: &mut Replica<S>,
     watched: &mut Watched<'_, Remote<L>, E>,
 ) -> Result<Report, SyncFault>
-    ensures meets { IsTrueSite replica.old.site → IsTrueRemote L.is_true L.far watched.old.side →
-        MeetsFar L.is_true L.far replica.old.site replica.new.site watched.old.side watched.new.side result }
+    ensures meets { IsTrueSite (site_of replica.old) → IsTrueRemote L.is_true L.far watched.old.side →
+        MeetsFar L.is_true L.far replica.old replica.new watched.old.side watched.new.side result }
     // Whatever is at the other end.
-    ensures pushed { SideFollows replica.old.site replica.new.site
-        (store S.Store replica.old.records.conn) (store S.Store replica.new.records.conn) }
+    ensures pushed { FollowsPushed replica.old replica.new }
 {
     let report = match sync(alloc, replica, watched) {
         Ok(report) => report,
@@ -147,7 +145,7 @@ pub fn tell_report<'a, S: Alter + Drop, W: Write, E: Write>(
     writer: &mut W,
     errors: &mut E,
 ) -> Result<(), Stop<'a>>
-    ensures told { Reports report.now replica.now.site.states (W.contents writer.old) (W.contents writer.new) result }
+    ensures told { Reports report.now (site_of replica.now).states (W.contents writer.old) (W.contents writer.new) result }
     ensures left { report.now.first_refused ≢ [] → IsErr result }
 {
     tell_counts(alloc, replica, report, writer)?;
@@ -170,7 +168,7 @@ fn tell_counts<S: Alter + Drop, W: Write>(
     writer: &mut W,
 ) -> Result<(), Fault>
     ensures told { OnOk result (Appends (W.contents writer.old) (W.contents writer.new)
-        (session_text report.now replica.now.site.states)) }
+        (session_text report.now (site_of replica.now).states)) }
 {
     let mut lines = String::new(alloc);
     print_keys(report.keys, &mut lines)?;
@@ -209,7 +207,7 @@ pub fn print_root<S: Alter + Drop>(
     replica: &Replica<S>,
     line: &mut String,
 ) -> Result<(), Refusal>
-    ensures { OnOk result (string_bytes line.new ≡ string_bytes line.old ++ root_text replica.now.site.states) }
+    ensures { OnOk result (string_bytes line.new ≡ string_bytes line.old ++ root_text (site_of replica.now).states) }
 {
     let path = Path::new(alloc, &[])?;
     let digests = replica.node(&path)?;

@@ -244,19 +244,35 @@ fn run_script<W: Write>(alloc: Global, text: &[u8], writer: &mut W) -> Result<()
     let mut script = Script::new(alloc);
     let mut said = String::new(alloc);
     let mut out = String::new(alloc);
+    run_lines(&mut script, text, &mut said, &mut out, writer)
+}
+
+/// The same, from a blank script on. `said` has room for what a line says, and `out` for what is to be written.
+fn run_lines<W: Write>(
+    script: &mut Script,
+    text: &[u8],
+    said: &mut String,
+    out: &mut String,
+    writer: &mut W,
+) -> Result<(), Fault>
+    requires blank { IsStage script.old Blank }
+    requires empty { string_bytes out.old ≡ [] }
+    ensures played { RunsScript (lines_of text.now) (W.contents writer.old) (W.contents writer.new) result }
+    ensures ends { IfErr result EndsEarly }
+{
     let mut number: u64 = 0;
     let mut rest = Some(text);
     while let Some(lines) = rest {
         let (line, after) = first_line(lines);
         number += 1;
-        match run_line(&mut script, number, line, &mut said, &mut out) {
+        match run_line(script, number, line, said, out) {
             Ok(()) => rest = after,
             Err(fault) => {
                 write_out(writer, out.as_str())?;
                 return Err(fault);
             }
         }
-        write_piece(writer, &mut out)?;
+        write_piece(writer, out)?;
     }
     write_out(writer, out.as_str())
 }

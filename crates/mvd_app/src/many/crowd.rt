@@ -1,6 +1,5 @@
 //! The clients: their sockets, and their connections.
 ghost use Rattle.mvd_app.specs.Stored.{HasRound};
-ghost use Rattle.sqlite.specs.Held.{state as store};
 
 use super::CLIENTS_MAX;
 use super::client::{Client, Moved, PIECE, Piece, Stage};
@@ -81,8 +80,7 @@ impl Crowd {
 
     /// Answers what came of some clients, together.
     pub fn round<S: Alter + Drop>(&mut self, replica: &mut Replica<S>, ready: &[u64])
-        ensures round { HasRound (store S.Store) replica.old.site replica.new.site
-            replica.old.records.conn replica.new.records.conn }
+        ensures round { HasRound replica.old replica.new }
     {
         self.talks.round(replica, ready, &mut self.counts);
     }

@@ -189,9 +189,15 @@ pub(crate) fn answer(
         _ => return,
     };
     sent(host, number, count);
+    tell_reply(alloc, web, &reply, counts);
+    drop(reply);
+}
+
+/// Queues the response to the request that waits, which is answered by this reply.
+fn tell_reply(alloc: Global, web: &mut WebConnection, reply: &Reply, counts: &mut Counts) {
     let mut body = String::new(alloc);
     let status = match web.asked() {
-        Some(asked) => put_body(alloc, asked, &reply, &mut body),
+        Some(asked) => put_body(alloc, asked, reply, &mut body),
         None => return,
     };
     match status {

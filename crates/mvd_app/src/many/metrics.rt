@@ -55,31 +55,33 @@ impl Counts {
 
     /// Prints each count on a line.
     pub fn print(&self, now: Now, out: &mut String) -> Result<(), Refusal> {
-        writeln!(out, "# TYPE mvd_keys gauge\nmvd_keys {}", now.keys)?;
-        writeln!(
-            out,
-            "# TYPE mvd_connections gauge\nmvd_connections {}",
-            now.open
-        )?;
-        writeln!(out, "# TYPE mvd_connections_total counter")?;
-        writeln!(
-            out,
-            "mvd_connections_total{{kind=\"frames\"}} {}",
-            self.frames
-        )?;
-        writeln!(out, "mvd_connections_total{{kind=\"http\"}} {}", self.https)?;
-        writeln!(
-            out,
-            "# TYPE mvd_rounds_total counter\nmvd_rounds_total {}",
-            self.rounds
-        )?;
-        writeln!(
-            out,
-            "# TYPE mvd_commits_total counter\nmvd_commits_total {}",
-            now.commits
-        )?;
+        print_one(out, "mvd_keys", "gauge", u64::from(now.keys))?;
+        print_one(out, "mvd_connections", "gauge", now.open as u64)?;
+        self.print_connections(out)?;
+        print_one(out, "mvd_rounds_total", "counter", self.rounds)?;
+        print_one(out, "mvd_commits_total", "counter", now.commits)?;
         self.print_requests(out)?;
-        writeln!(out, "# TYPE mvd_http_responses_total counter")?;
+        self.print_responses(out)
+    }
+
+    fn print_connections(&self, out: &mut String) -> Result<(), Refusal> {
+        out.push_str("# TYPE mvd_connections_total counter\n")?;
+        print_came(out, "frames", self.frames)?;
+        print_came(out, "http", self.https)
+    }
+
+    fn print_requests(&self, out: &mut String) -> Result<(), Refusal> {
+        out.push_str("# TYPE mvd_requests_total counter\n")?;
+        for place in 0..KINDS {
+            let kind = NAMES[place];
+            print_ended(out, kind, "done", self.tally.done[place])?;
+            print_ended(out, kind, "refused", self.tally.refused[place])?;
+        }
+        Ok(())
+    }
+
+    fn print_responses(&self, out: &mut String) -> Result<(), Refusal> {
+        out.push_str("# TYPE mvd_http_responses_total counter\n")?;
         for (status, count) in &self.statuses {
             writeln!(
                 out,
@@ -88,24 +90,25 @@ impl Counts {
         }
         Ok(())
     }
+}
 
-    fn print_requests(&self, out: &mut String) -> Result<(), Refusal> {
-        writeln!(out, "# TYPE mvd_requests_total counter")?;
-        for place in 0..KINDS {
-            let (kind, done, refused) = (
-                NAMES[place],
-                self.tally.done[place],
-                self.tally.refused[place],
-            );
-            writeln!(
-                out,
-                "mvd_requests_total{{kind=\"{kind}\",outcome=\"done\"}} {done}"
-            )?;
-            writeln!(
-                out,
-                "mvd_requests_total{{kind=\"{kind}\",outcome=\"refused\"}} {refused}"
-            )?;
-        }
-        Ok(())
-    }
+/// Prints what kind of count this is, and then the count.
+fn print_one(out: &mut String, name: &str, kind: &str, count: u64) -> Result<(), Refusal> {
+    writeln!(out, "# TYPE {name} {kind}\n{name} {count}")?;
+    Ok(())
+}
+
+/// Prints a count of connections.
+fn print_came(out: &mut String, kind: &str, count: u64) -> Result<(), Refusal> {
+    writeln!(out, "mvd_connections_total{{kind=\"{kind}\"}} {count}")?;
+    Ok(())
+}
+
+/// Prints how many requests of a kind ended so.
+fn print_ended(out: &mut String, kind: &str, outcome: &str, count: u64) -> Result<(), Refusal> {
+    writeln!(
+        out,
+        "mvd_requests_total{{kind=\"{kind}\",outcome=\"{outcome}\"}} {count}"
+    )?;
+    Ok(())
 }

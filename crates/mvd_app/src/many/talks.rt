@@ -2,7 +2,6 @@
 ghost use Rattle.std.specs.Prelude.{◌≤◌, length};
 ghost use Rattle.mvd_app.specs.Stored.{HasRound};
 ghost use Rattle.mvd_host.specs.Hosts.{IfClient, client_of};
-ghost use Rattle.sqlite.specs.Held.{state as store};
 
 use super::gate::{answer, ask};
 use super::metrics::Counts;
@@ -77,8 +76,7 @@ impl Talks {
         counts: &mut Counts,
     )
         // Nothing but the host's round changes the replica.
-        ensures round { HasRound (store S.Store) replica.old.site replica.new.site
-            replica.old.records.conn replica.new.records.conn }
+        ensures round { HasRound replica.old replica.new }
     {
         for number in ready {
             // A request is taken only where the host takes its frame.

@@ -8,5 +8,6 @@ returns g c =
     let said = c.answer-reply.ensures in
     record {
       replies = said.answer;
+      choice = said.choice;
       follows = follows_by _ _ c.args.request c.answer-reply.result _ _ said.config (λ broken. ap (λ r. r.site) (said.stays broken)) (λ broken. search (rules, said.stays broken)) said.before said.records said.clean said.taken said.broken said.states said.stored;
     }

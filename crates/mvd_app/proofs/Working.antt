@@ -1,0 +1,55 @@
+-- Whatever a command does with a stored site keeps the writes known, and its records follow.
+use Rattle.std.proofs.Common.{◌≡◌, ℕ, List, [], ◌∷◌, subst, sym}
+use Rattle.mvd_keys.specs.Writes.{Write}
+use Rattle.mvd_replica.proofs.Keeping.{keeps_on, keeps_self, pushes_keep, turns_keep}
+use Rattle.mvd_replica.specs.Programs.{HoldsMore, KeepsWrites, WorksOn}
+use Rattle.mvd_replica.specs.Replicas.{site_of, stored_of}
+use Rattle.mvd_replica.specs.declared.replica.Replica.{Replica}
+use Rattle.sqlite_disk.specs.declared.Disk as disk
+use Rattle.sqlite_disk.specs.declared.Files.{Files}
+use Rattle.sqlite_trees.specs.declared.store.Store.{Ghosts}
+use Rattle.mvd_app.specs.Asked.{Exchange}
+use Rattle.mvd_app.specs.Stored.{FollowsPushed, IsServed, ReplicaAnswers}
+use Rattle.mvd_app.specs.Talk.{Answered, Asks}
+use Rattle.mvd_app.proofs.Following.{follows}
+
+module _ {S : Type 0} {g : Ghosts S} where
+  -- a shell
+  all_keep : (exchanges : List Exchange) (old new : Replica S g) → Answered ReplicaAnswers exchanges old new → KeepsWrites (site_of old) (site_of new)
+  unfolding Answered
+  all_keep [] old new same = subst (λ (r : Replica S g). KeepsWrites (site_of old) (site_of r)) (sym same) (keeps_self (site_of old))
+  all_keep (exchange ∷ exchanges) old new (between, one, others) =
+      keeps_on (site_of old) (site_of between) (site_of new) (λ known stands. (one.choice.0, one.replies.stands known one.choice.0 stands one.choice.1))
+      (all_keep exchanges between new others)
+
+  pub asks_work : (old new : Replica S g) → Asks ReplicaAnswers old new → WorksOn (stored_of old) (stored_of new)
+  asks_work old new asks =
+      let it = follows old new asks in
+      record {
+        config = it.site.0;
+        keeps = all_keep asks.exchanges old new asks.answered;
+        sound = it.store.sound;
+        holds = it.store.holds;
+      }
+
+  -- a server
+  pub served_works : (old new : Replica S g) → IsServed old new → WorksOn (stored_of old) (stored_of new)
+  served_works old new it = record {
+    config = it.serves.config;
+    keeps = turns_keep _ (site_of old) (site_of new) it.serves.replies it.serves.choice;
+    sound = it.serves.follows.sound;
+    holds = it.serves.follows.holds;
+  }
+
+  -- a session
+  pub pushed_works : (old new : Replica S g) → FollowsPushed old new → WorksOn (stored_of old) (stored_of new)
+  pushed_works old new it = record {
+    config = it.site.0;
+    keeps = pushes_keep (site_of old) (site_of new) it.site it.comes;
+    sound = it.store.sound;
+    holds = it.store.holds;
+  }
+
+-- the site that a configuration names
+pub of_number : {D : Type 0} {g : disk.Ghosts D} (number site : ℕ) (known : List Write) (files : Files D) → number ≡ site → HoldsMore g number known files → HoldsMore g site known files
+of_number {g = g} number site known files same it = subst (λ n. HoldsMore g n known files) same it

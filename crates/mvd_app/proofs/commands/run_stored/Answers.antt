@@ -1,0 +1,16 @@
+use Rattle.std.proofs.Common.{◌∙◌, subst, sym}
+use Rattle.mvd_replica.proofs.Programs.{leaves_file}
+use Rattle.mvd_replica.specs.File.{HoldsFile}
+use Rattle.sqlite.specs.WalFiles.{image_at}
+use Rattle.mvd_app.proofs.Working.{of_number}
+use Rattle.mvd_app.proofs.commands.run_stored.Goals as goal
+
+pub returns-in-Ok-close : goal.returns-in-Ok-close
+returns-in-Ok-close g c = record {
+  kept = λ clean states known holds stands. (
+      let same = c.in_ok-config.ensures in
+      of_number c.in_ok-config.config.site c.args.setup.site known c.in-Ok-close.files same
+      (leaves_file (image_at g.S.Start) c.in_ok-config.config c.in-Ok.replica c.work_on.new.replica c.in-Ok-close.files
+      c.in-Ok.ensures.site c.in-Ok.ensures.opens c.work_on.ensures.works (sym c.is_broken.ensures ∙ c.if-is_broken.false)
+      (c.in-Ok-close.ensures.closed clean) states known (subst (λ n. HoldsFile (image_at g.S.Start) n states) (sym same) holds) stands));
+}

@@ -19,7 +19,7 @@ returns-in-Ok g c = record {
         holds = λ whole holds. (
             let site = c.args.self.site in
             subst (λ k. HoldsStates site.config.site site.states (file_state {g = g.D.Disk} k).committed) same
-                (c.into_connection-conn.ensures.holds whole holds));
+            (c.into_connection-conn.ensures.holds whole holds));
       });
   failed = tt;
 }

@@ -3,8 +3,9 @@ use Rattle.std.proofs.Common.{◌≡◌, ◌⊎◌, ℕ, List, Result, Ok, Err, 
 use Rattle.std.specs.Result.{IfErr, IfOk}
 use Rattle.mvd_dots.specs.declared.refusals.Refusal.{Refusal}
 use Rattle.mvd_sync.specs.Sides.{HasAnswered, HasRefused}
-use Rattle.mvd_sync.specs.Windows.{Asked, Ends}
+use Rattle.mvd_sync.specs.Windows.{Ends}
 use Rattle.mvd_sync.proofs.OneByOne.{told_still}
+use Rattle.mvd_sync.proofs.Positions.{AskedBy}
 
 pub ok_as : {A : Type 0} {P Q : A → Type 0} (r : Result A Refusal) → IfOk r P → ((x : A) → P x → Q x) → IfOk r Q
 ok_as (Ok x) p f = f x p
@@ -33,9 +34,9 @@ module _ {S T : Type 0} (inner : T → S) (outer : S → T) (is : (s : S) → in
   )
 
   pub asked_within : {Q A : Type 0} (May Right : Q → A → Type 0) {Apart : Q → Refusal → Type 0} (was_true : Type 0) (qs : List Q) (ts : List (Result A Refusal)) (old new : T) (mid : S) → inner new ≡ mid
-      → Asked follows can_refuse can_answer May Right Apart was_true qs ts (inner old) mid → Asked (λ n a b. follows n (inner a) (inner b)) (λ t. can_refuse (inner t)) (λ t. can_answer (inner t)) May Right Apart was_true qs ts old new
+      → AskedBy follows can_refuse can_answer May Right Apart was_true qs ts (inner old) mid → AskedBy (λ n a b. follows n (inner a) (inner b)) (λ t. can_refuse (inner t)) (λ t. can_answer (inner t)) May Right Apart was_true qs ts old new
   asked_within May Right {Apart} was_true qs ts old new mid same came =
-      let it : Asked follows can_refuse can_answer May Right Apart was_true qs ts (inner old) (inner new) = subst (λ s. Asked follows can_refuse can_answer May Right Apart was_true qs ts (inner old) s) (sym same) came in
+      let it : AskedBy follows can_refuse can_answer May Right Apart was_true qs ts (inner old) (inner new) = subst (λ s. AskedBy follows can_refuse can_answer May Right Apart was_true qs ts (inner old) s) (sym same) came in
       record {
         count = it.count;
         may = it.may;

@@ -7,7 +7,7 @@ use Rattle.mvd_keys.specs.State.{State, clashes}
 use Rattle.mvd_keys.specs.Writes.{Key}
 use Rattle.mvd_site.specs.Held.{state_at}
 use Rattle.mvd_sync.specs.Session.{pushed}
-use Rattle.mvd_sync.specs.Windows.{Asked, CannotTake, Ends, Pushes, PushesFirst}
+use Rattle.mvd_sync.specs.Windows.{Asked, CannotTake, Ends, Pushes, PushesFirst, for_pushes, manner}
 use Rattle.sqlite_trees.specs.declared.store.Store.{Ghosts}
 use Rattle.mvd_replica.specs.declared.replica.Replica.{Replica}
 use Rattle.mvd_replica.specs.ReplicaCalls.{PushesState}
@@ -57,7 +57,7 @@ module _ {S : Type 0} {g : Ghosts S} where
   -- each push is told what it may be told alone
   abbrev pub TellsWindow : Replica S g → List (Key × State) → Replica S g → Vec (Result (Unit {0}) Refusal) Global → Type 0
   TellsWindow old pairs new told =
-      Asked FollowsSide RefusesSide AnswersSide (λ _ _. Unit {0}) (λ _ _. Unit {0}) (λ _ _. Unit {0}) ⊥ pairs told.items old new
+      Asked (manner FollowsSide RefusesSide AnswersSide) for_pushes pairs told.items old new
 
   -- the states are joined one after the other, each taken, or refused for its cause, and the site is true still
   abbrev pub PushesWindow : Replica S g → List (Key × State) → Replica S g → Vec (Result (Unit {0}) Refusal) Global → Type 0

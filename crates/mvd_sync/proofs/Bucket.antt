@@ -9,8 +9,8 @@ use Rattle.mvd_site.specs.Held.{States}
 use Rattle.mvd_tree.specs.HashTree.{is_under}
 use Rattle.mvd_tree.specs.Page.{is_after}
 use Rattle.mvd_sync.specs.Answers.{IsPageOf, TakesNext}
-use Rattle.mvd_sync.specs.Buckets.{AreElsewhere, ArePages, FillEnds, FillsBoth, Goes, GoesThrough, Settles, held_in, waits_if}
-use Rattle.mvd_sync.specs.Exchanges.{AreNext, Counts, Done, Exchanges, Exchanging, keys_done, keys_next}
+use Rattle.mvd_sync.specs.Buckets.{AreElsewhere, ArePages, held_in, waits_if}
+use Rattle.mvd_sync.specs.Exchanges.{AreNext, Counts, Done, Exchanging, keys_done, keys_next}
 use Rattle.mvd_sync.specs.Nodes.{has_below}
 use Rattle.mvd_sync.specs.Session.{Each}
 use Rattle.mvd_sync.specs.Sides.{SideOf}
@@ -24,27 +24,27 @@ use Rattle.mvd_sync.proofs.Gone.{Gone, IsPast, counted_fill, counted_more, gone_
 use Rattle.mvd_sync.proofs.Joined.{joins_some}
 use Rattle.mvd_sync.proofs.Keys.{Each-weaker, or_left}
 use Rattle.mvd_sync.proofs.Nexts.{goes_from, goes_further, goes_still, still_next, untouched}
-use Rattle.mvd_sync.proofs.Positions.{FindsBy, GoesOnBy, SettlesAllBy, SoFarBy}
+use Rattle.mvd_sync.proofs.Positions.{ExchangesBy, FillEndsBy, FillsBothBy, FindsBy, GoesBy, GoesOnBy, GoesThroughBy, SettlesAllBy, SettlesBy, SoFarBy}
 
 -- ---- a key is settled
 
 module _ {L P : Type 0} (l : SideOf L) (p : SideOf P) where
   pub settles_by_exchange : (e : Entry) (left left' : Questions) (local local' : L) (peer peer' : P) (before after : Exchanging) (result : Result (Unit {0}) SyncFault) → e.differs ≡ true → length before.waiting < 1000
-      → Exchanges l p (before.waiting ++ e ∷ []) left left' local local' peer peer' before after result → Settles l p e left left' local local' peer peer' before after result
+      → ExchangesBy l p (before.waiting ++ e ∷ []) left left' local local' peer peer' before after result → SettlesBy l p e left left' local local' peer peer' before after result
   unfolding goes_of_exchange
   settles_by_exchange e left left' local local' peer peer' before after result sure low x =
       let one : e ∷ [] ≡ waits_if e = sym (ap (λ b. cond b (e ∷ []) []) sure) in
       let n = length-append before.waiting (e ∷ []) in
       record {
         goes = goes_of_exchange l p (before.waiting ++ e ∷ []) left left' local local' peer peer' before after result (omega (arith, n)) x;
-        meets = λ t u a b done so counts next. subst (λ es. SettlesAllBy l p before.number a b done (before.waiting ++ es) (x.asked_local + x.wanted_local) (x.asked_peer + x.wanted_peer) local' peer' (l.most_keys local) (p.most_keys peer) after result) one (record {
+        meets = λ t u a b done so counts next. subst (λ es. SettlesAllBy l p before.number a b done (before.waiting ++ es) (x.course.asked_local + x.course.wanted_local) (x.course.asked_peer + x.course.wanted_peer) local' peer' (l.most_keys local) (p.most_keys peer) after result) one (record {
           few = x.few;
           fewer = x.fewer;
           ends = x.meets t u a b done so counts (subst (λ es. AreNext a b done (before.waiting ++ es)) (sym one) next);
         });
       }
 
-  pub settles_nothing : (self : (s : L) → l.follows 0 s s) (self' : (s : P) → p.follows 0 s s) (e : Entry) (left : Questions) (local : L) (peer : P) (before : Exchanging) → e.differs ≡ false → Settles l p e left left local local peer peer before before (Ok (tt {0}))
+  pub settles_nothing : (self : (s : L) → l.follows 0 s s) (self' : (s : P) → p.follows 0 s s) (e : Entry) (left : Questions) (local : L) (peer : P) (before : Exchanging) → e.differs ≡ false → SettlesBy l p e left left local local peer peer before before (Ok (tt {0}))
   unfolding goes_nowhere goes_of_reads
   settles_nothing self self' e left local peer before never =
       let none : [] ≡ waits_if e = sym (ap (λ b. cond b (e ∷ []) []) never) in
@@ -73,10 +73,10 @@ pub record AtKey {L P : Type 0} (l : SideOf L) (p : SideOf P) (number : Option �
 
 -- and of any two sides
 pub record OverBucket {L P : Type 0} (l : SideOf L) (p : SideOf P) (path : List ℕ) (first second mine theirs : List (Key × List ℕ) × Bool) (left left' : Questions) (local local' : L) (peer peer' : P) (before after : Exchanging) : Type 0 where
-  pub goes : Goes l p left left' local local' peer peer' before after (Ok (tt {0}))
+  pub goes : GoesBy l p left left' local local' peer peer' before after (Ok (tt {0}))
   pub meets : l.is_faithful local → p.is_faithful peer → (a b : States) (done : List Done) → SoFarBy (l.most_keys local) (p.most_keys peer) before.number a b (l.states local) (p.states peer) done → Counts done before
       → AreNext a b done before.waiting → AreElsewhere (path ∷ []) (keys_done done ++ keys_next before.waiting) → IsPageOf (digests a) path None first.0 first.1 → IsPageOf (digests b) path None second.0 second.1
-      → AtKey l p before.number a b done path mine theirs goes.asked_local goes.asked_peer local' peer' (l.most_keys local) (p.most_keys peer) before after
+      → AtKey l p before.number a b done path mine theirs goes.course.asked_local goes.course.asked_peer local' peer' (l.most_keys local) (p.most_keys peer) before after
 
 not_under : (path : List ℕ) (keys : List Key) → AreElsewhere (path ∷ []) keys → Each (λ key. is_under path key ≡ false) keys
 not_under path keys h = Each-weaker (λ key. has_below (path ∷ []) key ≡ false) (λ key. is_under path key ≡ false) (λ key none. or_left (is_under path key) false none) keys h
@@ -115,7 +115,7 @@ module _ {L P : Type 0} (l : SideOf L) (p : SideOf P) (number : Option ℕ) (a b
       (past_all done before.waiting here.found path (Some e.key) (not_under path (keys_done done ++ keys_next before.waiting) elsewhere) (Each-left Past here.found (waits_if e) taken.below))
       q (λ past. past u h)
 
-  pub filled : (left left' : Questions) → (f : FillsBoth l p path (Some e.key) mine1 mine2 theirs1 theirs2 left left' local1 local2 peer1 peer2) → Filled l p number a b done path mine2 theirs2 e (asked_l + f.local_side.asked) (asked_p + f.peer_side.asked) local2 peer2 most_local most_peer before at
+  pub filled : (left left' : Questions) → (f : FillsBothBy l p path (Some e.key) mine1 mine2 theirs1 theirs2 left left' local1 local2 peer1 peer2) → Filled l p number a b done path mine2 theirs2 e (asked_l + f.local_side.asked) (asked_p + f.peer_side.asked) local2 peer2 most_local most_peer before at
   filled left left' f =
       let t = here.goes_on.still in
       let k = f.local_side.kept t.0 in
@@ -136,8 +136,8 @@ module _ {L P : Type 0} (l : SideOf L) (p : SideOf P) (number : Option ℕ) (a b
       }
 
   -- one of the listings was not filled
-  pub unfilled : {A : Type 0} (left : Questions) (fault : SyncFault) → (f : FillEnds l p mine1 theirs1 left local1 local2 peer1 peer2 fault)
-      → FindsBy {A = A} l p number a b done (path ∷ []) 0 (held_in a (path ∷ [])) (held_in b (path ∷ [])) ((asked_l + f.ends.asked_local) + f.ends.wanted_local) ((asked_p + f.ends.asked_peer) + f.ends.wanted_peer) local2 peer2 most_local most_peer before at (Err fault)
+  pub unfilled : {A : Type 0} (left : Questions) (fault : SyncFault) → (f : FillEndsBy l p mine1 theirs1 left local1 local2 peer1 peer2 fault)
+      → FindsBy {A = A} l p number a b done (path ∷ []) 0 ((asked_l + f.ends.asked_local) + f.ends.wanted_local) ((asked_p + f.ends.asked_peer) + f.ends.wanted_peer) local2 peer2 most_local most_peer before at (Err fault)
   unfilled left fault f =
       let t = here.goes_on.still in
       let k = f.ends.kept_local t.0 in
@@ -146,6 +146,7 @@ module _ {L P : Type 0} (l : SideOf L) (p : SideOf P) (number : Option ℕ) (a b
       record {
         found = here.found;
         below = below_one path here.upto here.found here.gone.below;
+        all = tt;
         next = here.gone.next;
         pages_local = here.pages_local + (f.ends.asked_local + f.ends.wanted_local);
         pages_peer = here.pages_peer + (f.ends.asked_peer + f.ends.wanted_peer);
@@ -165,14 +166,14 @@ module _ {L P : Type 0} (l : SideOf L) (p : SideOf P)
     (a b : States) (done : List Done) (path : List ℕ) (mine theirs : List (Key × List ℕ) × Bool) (e : Entry) (asked_l asked_p : ℕ) (local local2 local3 : L) (peer peer2 peer3 : P) (n m : ℕ) (before at after : Exchanging)
     (follows : l.follows n local local2 × p.follows m peer peer2) (same : at.number ≡ before.number)
     (f : Filled l p before.number a b done path mine theirs e asked_l asked_p local2 peer2 (l.most_keys local) (p.most_keys peer) before at)
-    (left left' : Questions) {A : Type 0} (result : Result A SyncFault) (s : Settles l p e left left' local2 local3 peer2 peer3 at after result) where
+    (left left' : Questions) {A : Type 0} (result : Result A SyncFault) (s : SettlesBy l p e left left' local2 local3 peer2 peer3 at after result) where
   same_local : l.most_keys local2 ≡ l.most_keys local
   same_local = stays n local local2 follows.0
 
   same_peer : p.most_keys peer2 ≡ p.most_keys peer
   same_peer = stays' m peer peer2 follows.1
 
-  pub settled : SettlesAllBy l p before.number a b (done ++ f.goes_on.now) (at.waiting ++ waits_if e) (s.goes.asked_local + s.goes.wanted_local) (s.goes.asked_peer + s.goes.wanted_peer) local3 peer3 (l.most_keys local) (p.most_keys peer) after result
+  pub settled : SettlesAllBy l p before.number a b (done ++ f.goes_on.now) (at.waiting ++ waits_if e) (s.goes.course.asked_local + s.goes.course.wanted_local) (s.goes.course.asked_peer + s.goes.course.wanted_peer) local3 peer3 (l.most_keys local) (p.most_keys peer) after result
   settled =
       let g = f.goes_on in
       let t = g.still in
@@ -182,9 +183,9 @@ module _ {L P : Type 0} (l : SideOf L) (p : SideOf P)
       (subst (λ i. SoFarBy i (p.most_keys peer2) before.number a b (l.states local2) (p.states peer2) (done ++ g.now)) (sym same_local)
       (subst (λ j. SoFarBy (l.most_keys local) j before.number a b (l.states local2) (p.states peer2) (done ++ g.now)) (sym same_peer) g.so_far)) in
       let all = s.meets t.0 t.1 a b (done ++ g.now) so g.counts (still_next done g.now (before.waiting ++ f.found) at.waiting (waits_if e) g.is a b g.waits.each next) in
-      subst (λ o. SettlesAllBy l p o a b (done ++ g.now) (at.waiting ++ waits_if e) (s.goes.asked_local + s.goes.wanted_local) (s.goes.asked_peer + s.goes.wanted_peer) local3 peer3 (l.most_keys local) (p.most_keys peer) after result) same
-      (subst (λ i. SettlesAllBy l p at.number a b (done ++ g.now) (at.waiting ++ waits_if e) (s.goes.asked_local + s.goes.wanted_local) (s.goes.asked_peer + s.goes.wanted_peer) local3 peer3 i (p.most_keys peer) after result) same_local
-      (subst (λ j. SettlesAllBy l p at.number a b (done ++ g.now) (at.waiting ++ waits_if e) (s.goes.asked_local + s.goes.wanted_local) (s.goes.asked_peer + s.goes.wanted_peer) local3 peer3 (l.most_keys local2) j after result) same_peer all))
+      subst (λ o. SettlesAllBy l p o a b (done ++ g.now) (at.waiting ++ waits_if e) (s.goes.course.asked_local + s.goes.course.wanted_local) (s.goes.course.asked_peer + s.goes.course.wanted_peer) local3 peer3 (l.most_keys local) (p.most_keys peer) after result) same
+      (subst (λ i. SettlesAllBy l p at.number a b (done ++ g.now) (at.waiting ++ waits_if e) (s.goes.course.asked_local + s.goes.course.wanted_local) (s.goes.course.asked_peer + s.goes.course.wanted_peer) local3 peer3 i (p.most_keys peer) after result) same_local
+      (subst (λ j. SettlesAllBy l p at.number a b (done ++ g.now) (at.waiting ++ waits_if e) (s.goes.course.asked_local + s.goes.course.wanted_local) (s.goes.course.asked_peer + s.goes.course.wanted_peer) local3 peer3 (l.most_keys local2) j after result) same_peer all))
 
   lengths : (length (before.waiting ++ (f.found ++ waits_if e)) ≡ length (before.waiting ++ f.found) + length (waits_if e)) × (length (at.waiting ++ waits_if e) ≡ length at.waiting + length (waits_if e))
   lengths = (
@@ -192,7 +193,7 @@ module _ {L P : Type 0} (l : SideOf L) (p : SideOf P)
     length-append at.waiting (waits_if e),
   )
 
-  few_settled : ((asked_l + s.goes.asked_local) + s.goes.wanted_local ≤ f.pages_local + 2 * length (before.waiting ++ (f.found ++ waits_if e))) × ((asked_p + s.goes.asked_peer) + s.goes.wanted_peer ≤ f.pages_peer + 2 * length (before.waiting ++ (f.found ++ waits_if e)))
+  few_settled : ((asked_l + s.goes.course.asked_local) + s.goes.course.wanted_local ≤ f.pages_local + 2 * length (before.waiting ++ (f.found ++ waits_if e))) × ((asked_p + s.goes.course.asked_peer) + s.goes.course.wanted_peer ≤ f.pages_peer + 2 * length (before.waiting ++ (f.found ++ waits_if e)))
   few_settled =
       let k = lengths in
       let x = f.fewer in
@@ -206,7 +207,7 @@ module _ {L P : Type 0} (l : SideOf L) (p : SideOf P)
     (follows : l.follows n local local2 × p.follows m peer peer2) (same : at.number ≡ before.number)
     (f : Filled l p before.number a b done path mine theirs e asked_l asked_p local2 peer2 (l.most_keys local) (p.most_keys peer) before at)
     (left left' : Questions) where
-  pub settled_on : (s : Settles l p e left left' local2 local3 peer2 peer3 at after (Ok (tt {0}))) → AtKey l p before.number a b done path mine theirs (asked_l + s.goes.asked_local) (asked_p + s.goes.asked_peer) local3 peer3 (l.most_keys local) (p.most_keys peer) before after
+  pub settled_on : (s : SettlesBy l p e left left' local2 local3 peer2 peer3 at after (Ok (tt {0}))) → AtKey l p before.number a b done path mine theirs (asked_l + s.goes.course.asked_local) (asked_p + s.goes.course.asked_peer) local3 peer3 (l.most_keys local) (p.most_keys peer) before after
   settled_on s =
       let all = settled l p stays stays' a b done path mine theirs e asked_l asked_p local local2 local3 peer peer2 peer3 n m before at after follows same f left left' (Ok (tt {0})) s in
       let k = lengths l p stays stays' a b done path mine theirs e asked_l asked_p local local2 local3 peer peer2 peer3 n m before at after follows same f left left' (Ok (tt {0})) s in
@@ -221,14 +222,15 @@ module _ {L P : Type 0} (l : SideOf L) (p : SideOf P)
         fewer = let x = f.fewer in let y = all.fewer in (omega (arith, k.0, k.1, x.0, y.0), omega (arith, k.0, k.1, x.1, y.1));
       }
 
-  pub settled_ends : (fault : SyncFault) → (s : Settles {A = Unit {0}} l p e left left' local2 local3 peer2 peer3 at after (Err fault))
-      → FindsBy {A = Unit {0}} l p before.number a b done (path ∷ []) 0 (held_in a (path ∷ [])) (held_in b (path ∷ [])) ((asked_l + s.goes.asked_local) + s.goes.wanted_local) ((asked_p + s.goes.asked_peer) + s.goes.wanted_peer) local3 peer3 (l.most_keys local) (p.most_keys peer) before after (Err fault)
+  pub settled_ends : (fault : SyncFault) → (s : SettlesBy {A = Unit {0}} l p e left left' local2 local3 peer2 peer3 at after (Err fault))
+      → FindsBy {A = Unit {0}} l p before.number a b done (path ∷ []) 0 ((asked_l + s.goes.course.asked_local) + s.goes.course.wanted_local) ((asked_p + s.goes.course.asked_peer) + s.goes.course.wanted_peer) local3 peer3 (l.most_keys local) (p.most_keys peer) before after (Err fault)
   settled_ends fault s =
       let all = settled l p stays stays' a b done path mine theirs e asked_l asked_p local local2 local3 peer peer2 peer3 n m before at after follows same f left left' {A = Unit {0}} (Err fault) s in
       let few = few_settled l p stays stays' a b done path mine theirs e asked_l asked_p local local2 local3 peer peer2 peer3 n m before at after follows same f left left' {A = Unit {0}} (Err fault) s in
       record {
         found = f.found ++ waits_if e;
         below = below_one path (Some e.key) (f.found ++ waits_if e) f.gone.below;
+        all = tt;
         next = f.gone.next;
         pages_local = f.pages_local;
         pages_peer = f.pages_peer;
@@ -261,7 +263,7 @@ module _ {L P : Type 0} (l : SideOf L) (p : SideOf P) (path : List ℕ) (first s
       (over : OverBucket l p path first second mine theirs left left1 local local1 peer peer1 before at)
       (mine_more : mine.0 ≡ [] → mine.1 ≡ false) (theirs_more : theirs.0 ≡ [] → theirs.1 ≡ false) where
     -- no key is left
-    pub over_ends : mine.0 ≡ [] → theirs.0 ≡ [] → GoesThrough l p (λ a b. ArePages (digests a) (path ∷ []) (first ∷ []) × ArePages (digests b) (path ∷ []) (second ∷ [])) (path ∷ []) 0 left left1 local local1 peer peer1 before at (Ok (tt {0}))
+    pub over_ends : mine.0 ≡ [] → theirs.0 ≡ [] → GoesThroughBy l p (λ a b. ArePages (digests a) (path ∷ []) (first ∷ []) × ArePages (digests b) (path ∷ []) (second ∷ [])) (path ∷ []) 0 left left1 local local1 peer peer1 before at (Ok (tt {0}))
     over_ends none none' = record {
       goes = over.goes;
       meets = λ t u distinct long a b done so counts next elsewhere told.
@@ -270,13 +272,13 @@ module _ {L P : Type 0} (l : SideOf L) (p : SideOf P) (path : List ℕ) (first s
           record {
             found = here.found;
             below = below_one path here.upto here.found here.gone.below;
+            all = λ key u differ. gone_ends a b done before.waiting path here.upto mine theirs here.found here.pages_local here.pages_peer here.gone mine_more theirs_more none none' key (under_one path key u) differ;
             next = here.gone.next;
             pages_local = here.pages_local;
             pages_peer = here.pages_peer;
             pages = (one_held a path (1000 * here.pages_local) here.gone.first.many, one_held b path (1000 * here.pages_peer) here.gone.second.many);
             few = let n = here.fewer in (omega (arith, n.0, calm.0), omega (arith, n.1, calm.1));
             ends = record {
-              all = λ key u differ. gone_ends a b done before.waiting path here.upto mine theirs here.found here.pages_local here.pages_peer here.gone mine_more theirs_more none none' key (under_one path key u) differ;
               goes_on = here.goes_on;
               fewer = let n = here.fewer in (omega (arith, n.0, calm.0), omega (arith, n.1, calm.1));
             };
@@ -284,20 +286,20 @@ module _ {L P : Type 0} (l : SideOf L) (p : SideOf P) (path : List ℕ) (first s
     }
 
     module _ (e : Entry) (mine1 theirs1 : List (Key × List ℕ) × Bool) (takes : TakesNext mine.0 theirs.0 e.key e.mine e.theirs e.differs mine1.0 theirs1.0) (same_more : (mine1.1 ≡ mine.1) × (theirs1.1 ≡ theirs.1)) where
-      pub over_unfilled : (left2 : Questions) (local2 : L) (peer2 : P) (fault : SyncFault) → FillEnds l p mine1 theirs1 left1 local1 local2 peer1 peer2 fault
-          → GoesThrough {A = Unit {0}} l p (λ a b. ArePages (digests a) (path ∷ []) (first ∷ []) × ArePages (digests b) (path ∷ []) (second ∷ [])) (path ∷ []) 0 left left2 local local2 peer peer2 before at (Err fault)
+      pub over_unfilled : (left2 : Questions) (local2 : L) (peer2 : P) (fault : SyncFault) → FillEndsBy l p mine1 theirs1 left1 local1 local2 peer1 peer2 fault
+          → GoesThroughBy {A = Unit {0}} l p (λ a b. ArePages (digests a) (path ∷ []) (first ∷ []) × ArePages (digests b) (path ∷ []) (second ∷ [])) (path ∷ []) 0 left left2 local local2 peer peer2 before at (Err fault)
       unfolding goes_on goes_of_end
       over_unfilled left2 local2 peer2 fault f = record {
         goes = goes_on l p on on' left left1 left2 local local1 local2 peer peer1 peer2 before at at (tt {0}) (Err fault) over.goes (goes_of_end l p (λ asked. asked ≤ 1) left1 left2 local1 local2 peer1 peer2 at fault f.ends);
         meets = λ t u distinct long a b done so counts next elsewhere told.
             let here = over.meets t u a b done so counts next elsewhere told.0.0 told.1.0 in
-            unfilled l p before.number a b done path mine theirs mine1 theirs1 mine1 theirs1 over.goes.asked_local over.goes.asked_peer local1 local2 peer1 peer2 (l.most_keys local) (p.most_keys peer) before at here mine_more theirs_more elsewhere e takes same_more left1 fault f;
+            unfilled l p before.number a b done path mine theirs mine1 theirs1 mine1 theirs1 over.goes.course.asked_local over.goes.course.asked_peer local1 local2 peer1 peer2 (l.most_keys local) (p.most_keys peer) before at here mine_more theirs_more elsewhere e takes same_more left1 fault f;
       }
 
       module _ (stays : (n : ℕ) (old new : L) → l.follows n old new → l.most_keys new ≡ l.most_keys old)
           (stays' : (n : ℕ) (old new : P) → p.follows n old new → p.most_keys new ≡ p.most_keys old)
           (mine2 theirs2 : List (Key × List ℕ) × Bool) (left2 left3 : Questions) (local2 local3 : L) (peer2 peer3 : P) (after : Exchanging)
-          (f : FillsBoth l p path (Some e.key) mine1 mine2 theirs1 theirs2 left1 left2 local1 local2 peer1 peer2) where
+          (f : FillsBothBy l p path (Some e.key) mine1 mine2 theirs1 theirs2 left1 left2 local1 local2 peer1 peer2) where
         reads_local : Reads l f.local_side.asked left1.local left2.local local1 local2
         reads_local = record { spent = f.local_side.spent; follows = f.local_side.follows; kept = f.local_side.kept }
 
@@ -305,29 +307,29 @@ module _ {L P : Type 0} (l : SideOf L) (p : SideOf P) (path : List ℕ) (first s
         reads_peer = record { spent = f.peer_side.spent; follows = f.peer_side.follows; kept = f.peer_side.kept }
 
         -- with the questions that filled them
-        unfoldable pub goes_filled : Goes l p left left2 local local2 peer peer2 before at (Ok (tt {0}))
+        unfoldable pub goes_filled : GoesBy l p left left2 local local2 peer peer2 before at (Ok (tt {0}))
         unfolding reads_local reads_peer
         goes_filled = goes_on l p on on' left left1 left2 local local1 local2 peer peer1 peer2 before at at (tt {0}) (Ok (tt {0})) over.goes (goes_of_reads l p (tt {0}) f.local_side.asked f.peer_side.asked left1 left2 local1 local2 peer1 peer2 at reads_local reads_peer)
 
-        pub over_settles : Settles l p e left2 left3 local2 local3 peer2 peer3 at after (Ok (tt {0})) → OverBucket l p path first second mine2 theirs2 left left3 local local3 peer peer3 before after
+        pub over_settles : SettlesBy l p e left2 left3 local2 local3 peer2 peer3 at after (Ok (tt {0})) → OverBucket l p path first second mine2 theirs2 left left3 local local3 peer peer3 before after
         unfolding goes_on goes_of_reads goes_filled
         over_settles s = record {
           goes = goes_on l p on on' left left2 left3 local local2 local3 peer peer2 peer3 before at after (tt {0}) (Ok (tt {0})) goes_filled s.goes;
           meets = λ t u a b done so counts next elsewhere mine_told theirs_told.
               let here = over.meets t u a b done so counts next elsewhere mine_told theirs_told in
               let g = goes_filled in
-              settled_on l p stays stays' a b done path mine2 theirs2 e (over.goes.asked_local + f.local_side.asked) (over.goes.asked_peer + f.peer_side.asked) local local2 local3 peer peer2 peer3 g.asked_local g.asked_peer before at after g.follows g.same
-              (filled l p before.number a b done path mine theirs mine1 theirs1 mine2 theirs2 over.goes.asked_local over.goes.asked_peer local1 local2 peer1 peer2 (l.most_keys local) (p.most_keys peer) before at here mine_more theirs_more elsewhere e takes same_more left1 left2 f) left2 left3 s;
+              settled_on l p stays stays' a b done path mine2 theirs2 e (over.goes.course.asked_local + f.local_side.asked) (over.goes.course.asked_peer + f.peer_side.asked) local local2 local3 peer peer2 peer3 g.course.asked_local g.course.asked_peer before at after g.course.follows g.same
+              (filled l p before.number a b done path mine theirs mine1 theirs1 mine2 theirs2 over.goes.course.asked_local over.goes.course.asked_peer local1 local2 peer1 peer2 (l.most_keys local) (p.most_keys peer) before at here mine_more theirs_more elsewhere e takes same_more left1 left2 f) left2 left3 s;
         }
 
-        pub over_unsettled : (fault : SyncFault) → Settles {A = Unit {0}} l p e left2 left3 local2 local3 peer2 peer3 at after (Err fault)
-            → GoesThrough {A = Unit {0}} l p (λ a b. ArePages (digests a) (path ∷ []) (first ∷ []) × ArePages (digests b) (path ∷ []) (second ∷ [])) (path ∷ []) 0 left left3 local local3 peer peer3 before after (Err fault)
+        pub over_unsettled : (fault : SyncFault) → SettlesBy {A = Unit {0}} l p e left2 left3 local2 local3 peer2 peer3 at after (Err fault)
+            → GoesThroughBy {A = Unit {0}} l p (λ a b. ArePages (digests a) (path ∷ []) (first ∷ []) × ArePages (digests b) (path ∷ []) (second ∷ [])) (path ∷ []) 0 left left3 local local3 peer peer3 before after (Err fault)
         unfolding goes_on goes_of_reads goes_filled
         over_unsettled fault s = record {
           goes = goes_on l p on on' left left2 left3 local local2 local3 peer peer2 peer3 before at after (tt {0}) (Err fault) goes_filled s.goes;
           meets = λ t u distinct long a b done so counts next elsewhere told.
               let here = over.meets t u a b done so counts next elsewhere told.0.0 told.1.0 in
               let g = goes_filled in
-              settled_ends l p stays stays' a b done path mine2 theirs2 e (over.goes.asked_local + f.local_side.asked) (over.goes.asked_peer + f.peer_side.asked) local local2 local3 peer peer2 peer3 g.asked_local g.asked_peer before at after g.follows g.same
-              (filled l p before.number a b done path mine theirs mine1 theirs1 mine2 theirs2 over.goes.asked_local over.goes.asked_peer local1 local2 peer1 peer2 (l.most_keys local) (p.most_keys peer) before at here mine_more theirs_more elsewhere e takes same_more left1 left2 f) left2 left3 fault s;
+              settled_ends l p stays stays' a b done path mine2 theirs2 e (over.goes.course.asked_local + f.local_side.asked) (over.goes.course.asked_peer + f.peer_side.asked) local local2 local3 peer peer2 peer3 g.course.asked_local g.course.asked_peer before at after g.course.follows g.same
+              (filled l p before.number a b done path mine theirs mine1 theirs1 mine2 theirs2 over.goes.course.asked_local over.goes.course.asked_peer local1 local2 peer1 peer2 (l.most_keys local) (p.most_keys peer) before at here mine_more theirs_more elsewhere e takes same_more left1 left2 f) left2 left3 fault s;
         }

@@ -10,7 +10,7 @@ use Rattle.mvd_sync.specs.Nodes.{differing_children}
 use Rattle.mvd_sync.specs.Questions.{AllAnswered, ComesToEnd, ForEach, IsInner, Keeps, AnswersEach}
 use Rattle.mvd_sync.specs.Session.{Each}
 use Rattle.mvd_sync.specs.Sides.{HasAnswered, IsFaultOf, SideOf, of_memory}
-use Rattle.mvd_sync.specs.Walk.{Descends, HaveAnswered, Reads, ReadsEnd, told, told_all}
+use Rattle.mvd_sync.specs.Walk.{Reads, told, told_all}
 use Rattle.mvd_sync.specs.declared.asking.Node.{Node}
 use Rattle.mvd_sync.specs.declared.asking.Questions.{Questions}
 use Rattle.mvd_sync.specs.declared.report.SyncFault.{SyncFault}
@@ -21,7 +21,7 @@ use Rattle.std.proofs.Common.{slice_index_or}
 use Rattle.mvd_tree.specs.HashTree.{digits}
 use Rattle.mvd_sync.proofs.Compose.{answered_later, answered_still, blames_later, keeps_on}
 use Rattle.mvd_sync.proofs.Nodes.{AreLong, Each-append, differing_children-append, told-is}
-use Rattle.mvd_sync.proofs.Positions.{BlamesBy}
+use Rattle.mvd_sync.proofs.Positions.{BlamesBy, DescendsBy, HaveAnsweredBy, ReadsEndBy}
 
 -- ---- lists
 
@@ -136,7 +136,7 @@ module _ {L P : Type 0} (l : SideOf L) (p : SideOf P)
 
   -- a walk that came to an end after questions
   pub end_later : (Few Most : ℕ → Type 0) (left mid : Questions) (n m : ℕ) (local local1 local2 : L) (peer peer1 peer2 : P) (fault : SyncFault) → Reads l n left.local mid.local local local1 → Reads p m left.peer mid.peer peer peer1 → ((i : ℕ) → Few i → Most (n + i)) → ((i : ℕ) → Few i → Most (m + i))
-      → ReadsEnd l p Few mid local1 local2 peer1 peer2 fault → ReadsEnd l p Most left local local2 peer peer2 fault
+      → ReadsEndBy l p Few mid local1 local2 peer1 peer2 fault → ReadsEndBy l p Most left local local2 peer peer2 fault
   end_later Few Most left mid n m local local1 local2 peer peer1 peer2 fault r q f f' e = record {
     asked_local = n + e.asked_local;
     asked_peer = m + e.asked_peer;
@@ -151,7 +151,7 @@ module _ {L P : Type 0} (l : SideOf L) (p : SideOf P)
   }
 
   -- the local side came to an end, or the peer
-  pub local_ends : (questions : ℕ) (self : (s : P) → p.follows 0 s s) (left : Questions) (local local' : L) (peer : P) (refusal : Refusal) → ComesToEnd l (Keeps l local local') questions left.local local local' refusal → ReadsEnd l p (λ asked. asked ≤ questions) left local local' peer peer (Local refusal)
+  pub local_ends : (questions : ℕ) (self : (s : P) → p.follows 0 s s) (left : Questions) (local local' : L) (peer : P) (refusal : Refusal) → ComesToEnd l (Keeps l local local') questions left.local local local' refusal → ReadsEndBy l p (λ asked. asked ≤ questions) left local local' peer peer (Local refusal)
   local_ends questions self left local local' peer refusal e = record {
     asked_local = e.asked;
     asked_peer = 0;
@@ -165,7 +165,7 @@ module _ {L P : Type 0} (l : SideOf L) (p : SideOf P)
     kept_peer = λ t. record { still = t; states = refl };
   }
 
-  pub peer_ends : (questions : ℕ) (self : (s : L) → l.follows 0 s s) (left : Questions) (local : L) (peer peer' : P) (refusal : Refusal) → ComesToEnd p (Keeps p peer peer') questions left.peer peer peer' refusal → ReadsEnd l p (λ asked. asked ≤ questions) left local local peer peer' (Peer refusal)
+  pub peer_ends : (questions : ℕ) (self : (s : L) → l.follows 0 s s) (left : Questions) (local : L) (peer peer' : P) (refusal : Refusal) → ComesToEnd p (Keeps p peer peer') questions left.peer peer peer' refusal → ReadsEndBy l p (λ asked. asked ≤ questions) left local local peer peer' (Peer refusal)
   peer_ends questions self left local peer peer' refusal e = record {
     asked_local = 0;
     asked_peer = e.asked;
@@ -179,7 +179,7 @@ module _ {L P : Type 0} (l : SideOf L) (p : SideOf P)
     kept_peer = e.right;
   }
 
-  pub memory_ends : (self : (s : L) → l.follows 0 s s) (self' : (s : P) → p.follows 0 s s) (left : Questions) (local : L) (peer : P) (refusal : Refusal) → refusal ≡ Memory → ReadsEnd l p (λ asked. asked ≤ 0) left local local peer peer (Local refusal)
+  pub memory_ends : (self : (s : L) → l.follows 0 s s) (self' : (s : P) → p.follows 0 s s) (left : Questions) (local : L) (peer : P) (refusal : Refusal) → refusal ≡ Memory → ReadsEndBy l p (λ asked. asked ≤ 0) left local local peer peer (Local refusal)
   memory_ends self self' left local peer refusal is = record {
     asked_local = 0;
     asked_peer = 0;
@@ -195,7 +195,7 @@ module _ {L P : Type 0} (l : SideOf L) (p : SideOf P)
 
   -- ---- a window more
 
-  pub nothing_asked : (self : (s : L) → l.follows 0 s s) (self' : (s : P) → p.follows 0 s s) (left : Questions) (local : L) (peer : P) (below : List (List ℕ)) → below ≡ [] → Descends l p [] left left local local peer peer below
+  pub nothing_asked : (self : (s : L) → l.follows 0 s s) (self' : (s : P) → p.follows 0 s s) (left : Questions) (local : L) (peer : P) (below : List (List ℕ)) → below ≡ [] → DescendsBy l p [] left left local local peer peer below
   nothing_asked self self' left local peer below none = record {
     local_side = record { spent = omega arith; follows = self local; kept = λ t. record { still = t; states = refl } };
     peer_side = record { spent = omega arith; follows = self' peer; kept = λ t. record { still = t; states = refl } };
@@ -205,10 +205,10 @@ module _ {L P : Type 0} (l : SideOf L) (p : SideOf P)
   }
 
   module _ (done window : List (List ℕ)) (left mid left' : Questions) (local local1 local2 : L) (peer peer1 peer2 : P) (below : List (List ℕ)) (mine theirs : List Node)
-      (before : Descends l p done left mid local local1 peer peer1 below)
+      (before : DescendsBy l p done left mid local local1 peer peer1 below)
       (first : AllAnswered l (λ _ _. HasAnswered l.follows l.can_answer local1 local2) (AnswersEach l (IsInner (digests (l.states local1))) window mine local1 local2) window mine mid.local left'.local local1 local2)
       (second : AllAnswered p (λ _ _. HasAnswered p.follows p.can_answer peer1 peer2) (AnswersEach p (IsInner (digests (p.states peer1))) window theirs peer1 peer2) window theirs mid.peer left'.peer peer1 peer2) where
-    answers_more : (ds : List (List ℕ)) → ds ≡ done → ds ++ window ≢ [] → HaveAnswered l p local local2 peer peer2
+    answers_more : (ds : List (List ℕ)) → ds ≡ done → ds ++ window ≢ [] → HaveAnsweredBy l p local local2 peer peer2
     answers_more [] e some = (
       answered_later l on local local1 local2 (length done, before.local_side.follows) (some_answered (HasAnswered l.follows l.can_answer local1 local2) window mine first.may some),
       answered_later p on' peer peer1 peer2 (length done, before.peer_side.follows) (some_answered (HasAnswered p.follows p.can_answer peer1 peer2) window theirs second.may some),
@@ -219,7 +219,7 @@ module _ {L P : Type 0} (l : SideOf L) (p : SideOf P)
           answered_still p on' peer peer1 peer2 (length window, second.follows) old.1,
         )
 
-    pub descends_more : Descends l p (done ++ window) left left' local local2 peer peer2 (below ++ told_all window mine theirs)
+    pub descends_more : DescendsBy l p (done ++ window) left left' local local2 peer peer2 (below ++ told_all window mine theirs)
     descends_more =
         let long = length-append done window in
         let both_l = reads_on l on (length done) (length window) left.local mid.local left'.local local local1 local2 before.local_side (reads_of l (λ _ _. HasAnswered l.follows l.can_answer local1 local2) (IsInner (digests (l.states local1))) window mine mid.local left'.local local1 local2 first) in
@@ -239,5 +239,5 @@ module _ {L P : Type 0} (l : SideOf L) (p : SideOf P)
               (λ i. before.is u v i ++ told_all-is a b window mine theirs own other i) ∙ sym (differing_children-append a b done window);
         }
 
-    pub descends_on : (all : List (List ℕ)) → all ≡ below ++ told_all window mine theirs → Descends l p (done ++ window) left left' local local2 peer peer2 all
-    descends_on all e = subst (Descends l p (done ++ window) left left' local local2 peer peer2) (sym e) descends_more
+    pub descends_on : (all : List (List ℕ)) → all ≡ below ++ told_all window mine theirs → DescendsBy l p (done ++ window) left left' local local2 peer peer2 all
+    descends_on all e = subst (DescendsBy l p (done ++ window) left left' local local2 peer peer2) (sym e) descends_more

@@ -8,7 +8,7 @@ use Rattle.mvd_wire.specs.Codecs.{spell_state, state_limit}
 use Rattle.mvd_wire.proofs.Spellings.{length_empty}
 use Rattle.mvd_site.specs.Answer.{is_too_large}
 use Rattle.mvd_site.specs.Held.{AreHeld, States}
-use Rattle.mvd_sync.specs.Carries.{Carried, ExchangesAll, PlanEnds, Planned}
+use Rattle.mvd_sync.specs.Carries.{Carried}
 use Rattle.mvd_sync.specs.Exchanges.{Done, IsHeldByEither, keys_next}
 use Rattle.mvd_sync.specs.Meetings.{done_of, held_keys, noted, pair_of, taken_from}
 use Rattle.mvd_sync.specs.Questions.{ComesToEnd, ForEach, IsOfKey, Keeps, TakesFirst, TakesIn}
@@ -24,12 +24,12 @@ use Rattle.mvd_sync.specs.declared.report.SyncFault.TheVariants.{Local, Peer}
 use Rattle.mvd_sync.proofs.Compose.{blames_later}
 use Rattle.mvd_sync.proofs.Cut.{joins_if}
 use Rattle.mvd_sync.proofs.CutOff.{cut_local, cut_peer}
-use Rattle.mvd_sync.proofs.Going.{changes_none}
+use Rattle.mvd_sync.proofs.Going.{changes_none, course_of_end}
 use Rattle.mvd_sync.proofs.Joined.{joins_some}
 use Rattle.mvd_sync.proofs.Planning.{held_short}
 use Rattle.mvd_sync.proofs.Stages.{changes_by, changes_first, comes_all, comes_first, gives, held_by_one, none_of, pairs_short, plan_keys, pulls, pushed_none, same_length, silent_gives}
 use Rattle.mvd_sync.proofs.Windowed.{keys_noted, keys_of_done, meeting_keys, so_far_on}
-use Rattle.mvd_sync.proofs.Positions.{SoFarBy}
+use Rattle.mvd_sync.proofs.Positions.{ExchangesAllBy, ReadsEndBy, PlannedBy, SoFarBy}
 
 -- the state of a key that nobody has written is short
 pub short_empty : is_too_large empty_state ≡ false
@@ -48,34 +48,24 @@ all_of_key (p ∷ ps) (t ∷ ts) h = (h.0, all_of_key ps ts h.1)
 
 module _ {L P : Type 0} (l : SideOf L) (p : SideOf P) (number : Option ℕ) (entries : List Entry) where
   -- the questions about the keys came to an end
-  pub ends_at_plans : {A : Type 0} (left left' : Questions) (local local' : L) (peer peer' : P) (fault : SyncFault) → PlanEnds l p (length entries) left local local' peer peer' fault
-      → ExchangesAll {A = A} l p number entries left left' local local' peer peer' (Err fault)
+  pub ends_at_plans : {A : Type 0} (left left' : Questions) (local local' : L) (peer peer' : P) (fault : SyncFault) → ReadsEndBy l p (λ asked. asked ≤ length entries) left local local' peer peer' fault
+      → ExchangesAllBy {A = A} l p number entries left left' local local' peer peer' (Err fault)
   ends_at_plans {A} left left' local local' peer peer' fault e = record {
-    asked_local = e.asked_local;
-    asked_peer = e.asked_peer;
-    wanted_local = e.wanted_local;
-    wanted_peer = e.wanted_peer;
-    within = e.within;
+    course = course_of_end l p (λ asked. asked ≤ length entries) left local local' peer peer' fault e;
     spent = tt;
     few = (let few = e.few.0 in omega (arith, few), let few = e.few.1 in omega (arith, few));
     least = tt;
-    follows = e.follows;
-    cause = e.cause;
-    local_side = λ t. let k = e.local_side t in changes_none {A = Vec Meeting A} (l.is_faithful local') (Local Broken) p.can_give (l.states local) (l.states local') (Err fault) k.still k.states;
-    peer_side = λ t. let k = e.peer_side t in changes_none {A = Vec Meeting A} (p.is_faithful peer') (Peer Broken) l.can_give (p.states peer) (p.states peer') (Err fault) k.still k.states;
-    beside_local = λ _ t. let k = e.peer_side t in (k.still, k.states);
-    beside_peer = λ _ t. let k = e.local_side t in (k.still, k.states);
     same = tt;
     meets = λ t u a b done so next.
         joins_some (l.most_keys local) (p.most_keys peer) a b (l.states local') (p.states peer') number (l.is_faithful local') (p.is_faithful peer') done
-        (so_kept (l.most_keys local) (p.most_keys peer) number a b (l.states local) (p.states peer) (l.states local') (p.states peer') done (e.local_side t).states (e.peer_side u).states so);
+        (so_kept (l.most_keys local) (p.most_keys peer) number a b (l.states local) (p.states peer) (l.states local') (p.states peer') done (e.kept_local t).states (e.kept_peer u).states so);
   }
 
   module _ (on : (m n : ℕ) (old mid new : L) → l.follows m old mid → l.follows n mid new → l.follows (m + n) old new)
       (on' : (m n : ℕ) (old mid new : P) → p.follows m old mid → p.follows n mid new → p.follows (m + n) old new)
       (most_l : (n : ℕ) (old new : L) → l.follows n old new → l.most_keys new ≡ l.most_keys old) (most_p : (n : ℕ) (old new : P) → p.follows n old new → p.most_keys new ≡ p.most_keys old)
       (form_l : (s : L) → l.is_faithful s → AreHeld (l.states s)) (form_p : (s : P) → p.is_faithful s → AreHeld (p.states s))
-      (left left1 : Questions) (local local1 : L) (peer peer1 : P) (ms : List Meeting) (plan : Planned l p number entries left left1 local local1 peer peer1 ms) where
+      (left left1 : Questions) (local local1 : L) (peer peer1 : P) (ms : List Meeting) (plan : PlannedBy l p number entries left left1 local local1 peer peer1 ms) where
     abbrev n_l : ℕ
     n_l = length (held_keys AtLocal entries)
 
@@ -105,29 +95,31 @@ module _ {L P : Type 0} (l : SideOf L) (p : SideOf P) (number : Option ℕ) (ent
 
     -- the local side came to an end
     pub ends_at_local : {A : Type 0} → (left' : Questions) (local2 : L) (refusal : Refusal) → ComesToEnd l (TakesFirst l pairs_l local1 local2 refusal) (length pairs_l) left1.local local1 local2 refusal → (pairs_l ≡ [] → local2 ≡ local1)
-        → ExchangesAll {A = A} l p number entries left left' local local2 peer peer1 (Err (Local refusal))
+        → ExchangesAllBy {A = A} l p number entries left left' local local2 peer peer1 (Err (Local refusal))
     ends_at_local {A} left' local2 refusal e alone = record {
-      asked_local = n_l + e.asked;
-      asked_peer = n_p;
-      wanted_local = e.wanted;
-      wanted_peer = 0;
-      within = (let a = plan.from_local.spent in let b = e.within in omega (arith, a, b), let a = plan.from_peer.spent in omega (arith, a));
+      course = record {
+        asked_local = n_l + e.asked;
+        asked_peer = n_p;
+        wanted_local = e.wanted;
+        wanted_peer = 0;
+        within = (let a = plan.from_local.spent in let b = e.within in omega (arith, a, b), let a = plan.from_peer.spent in omega (arith, a));
+        follows = (on n_l e.asked local local1 local2 plan.from_local.follows e.follows, plan.from_peer.follows);
+        cause = blames_later l on left.local left1.local n_l local local1 local2 plan.from_local.spent plan.from_local.follows (λ t. (keep_l t).still) e.asked e.wanted refusal e.cause;
+        local_side = λ t.
+            let k = keep_l t in
+            let took = e.right k.still in
+            changes_first {A = Vec Meeting A} (l.is_faithful local2) Local p.can_give (l.states local) (l.states local2) refusal took.still
+            (λ u. subst (λ m. ComesByPushes p.can_give m (l.states local2)) k.states (comes_first l p.can_give pairs_l from_p local1 local2 refusal took u));
+        peer_side = λ t. let k = keep_p t in changes_none {A = Vec Meeting A} (p.is_faithful peer1) (Peer Broken) l.can_give (p.states peer) (p.states peer1) (Err (Local refusal)) k.still k.states;
+        beside_local = λ _ t. let k = keep_p t in (k.still, k.states);
+        beside_peer = λ silent t.
+            let k = keep_l t in
+            let same = alone (none_of (λ q. ⊥ × Rattle.mvd_keys.specs.State.IsValid q.1) (λ _ h. h.0) pairs_l (no_pulls silent)) in
+            (subst l.is_faithful (sym same) k.still, ap l.states same ∙ k.states);
+      };
       spent = tt;
       few = (let a = held_short AtLocal entries in let b = e.few in omega (arith, a, b, short_l), let a = held_short AtPeer entries in omega (arith, a));
       least = tt;
-      follows = (on n_l e.asked local local1 local2 plan.from_local.follows e.follows, plan.from_peer.follows);
-      cause = blames_later l on left.local left1.local n_l local local1 local2 plan.from_local.spent plan.from_local.follows (λ t. (keep_l t).still) e.asked e.wanted refusal e.cause;
-      local_side = λ t.
-          let k = keep_l t in
-          let took = e.right k.still in
-          changes_first {A = Vec Meeting A} (l.is_faithful local2) Local p.can_give (l.states local) (l.states local2) refusal took.still
-          (λ u. subst (λ m. ComesByPushes p.can_give m (l.states local2)) k.states (comes_first l p.can_give pairs_l from_p local1 local2 refusal took u));
-      peer_side = λ t. let k = keep_p t in changes_none {A = Vec Meeting A} (p.is_faithful peer1) (Peer Broken) l.can_give (p.states peer) (p.states peer1) (Err (Local refusal)) k.still k.states;
-      beside_local = λ _ t. let k = keep_p t in (k.still, k.states);
-      beside_peer = λ silent t.
-          let k = keep_l t in
-          let same = alone (none_of (λ q. ⊥ × Rattle.mvd_keys.specs.State.IsValid q.1) (λ _ h. h.0) pairs_l (no_pulls silent)) in
-          (subst l.is_faithful (sym same) k.still, ap l.states same ∙ k.states);
       same = tt;
       meets = λ t u a b done so next.
           let k = keep_l t in
@@ -199,31 +191,33 @@ module _ {L P : Type 0} (l : SideOf L) (p : SideOf P) (number : Option ℕ) (ent
 
       -- the peer came to an end
       pub ends_at_peer : {A : Type 0} → (left' : Questions) (peer2 : P) (refusal : Refusal) → ComesToEnd p (TakesFirst p (filter_map (pair_of AtPeer) ms1) peer1 peer2 refusal) (length (filter_map (pair_of AtPeer) ms1)) left1.peer peer1 peer2 refusal
-          → (filter_map (pair_of AtPeer) ms1 ≡ [] → peer2 ≡ peer1) → ExchangesAll {A = A} l p number entries left left' local local2 peer peer2 (Err (Peer refusal))
+          → (filter_map (pair_of AtPeer) ms1 ≡ [] → peer2 ≡ peer1) → ExchangesAllBy {A = A} l p number entries left left' local local2 peer peer2 (Err (Peer refusal))
       ends_at_peer {A} left' peer2 refusal e' alone =
           let e : ComesToEnd p (TakesFirst p pairs_p peer1 peer2 refusal) (length pairs_p) left1.peer peer1 peer2 refusal = subst (λ qs. ComesToEnd p (TakesFirst p qs peer1 peer2 refusal) (length qs) left1.peer peer1 peer2 refusal) same_pairs e' in
           record {
-            asked_local = asked_l;
-            asked_peer = n_p + e.asked;
-            wanted_local = 0;
-            wanted_peer = e.wanted;
-            within = (let a = spent_l in omega (arith, a), let a = plan.from_peer.spent in let b = e.within in omega (arith, a, b));
+            course = record {
+              asked_local = asked_l;
+              asked_peer = n_p + e.asked;
+              wanted_local = 0;
+              wanted_peer = e.wanted;
+              within = (let a = spent_l in omega (arith, a), let a = plan.from_peer.spent in let b = e.within in omega (arith, a, b));
+              follows = (follows_l, on' n_p e.asked peer peer1 peer2 plan.from_peer.follows e.follows);
+              cause = blames_later p on' left.peer left1.peer n_p peer peer1 peer2 plan.from_peer.spent plan.from_peer.follows (λ t. (keep_p t).still) e.asked e.wanted refusal e.cause;
+              local_side = λ t. changes_by {A = Vec Meeting A} (l.is_faithful local2) (Local Broken) p.can_give (l.states local) (l.states local2) (Err (Peer refusal)) (took_l t).still (comes_l p.can_give from_p t);
+              peer_side = λ t.
+                  let k = keep_p t in
+                  let took = e.right k.still in
+                  changes_first {A = Vec Meeting A} (p.is_faithful peer2) Peer l.can_give (p.states peer) (p.states peer2) refusal took.still
+                  (λ u. subst (λ m. ComesByPushes l.can_give m (p.states peer2)) k.states (comes_first p l.can_give pairs_p from_l peer1 peer2 refusal took u));
+              beside_local = λ silent t.
+                  let k = keep_p t in
+                  let same = alone (same_pairs ∙ none_of (λ q. ⊥ × Rattle.mvd_keys.specs.State.IsValid q.1) (λ _ h. h.0) pairs_p (no_gives silent)) in
+                  (subst p.is_faithful (sym same) k.still, ap p.states same ∙ k.states);
+              beside_peer = λ silent t. beside_l t silent;
+            };
             spent = tt;
             few = (let few = few_l in omega (arith, few), let a = held_short AtPeer entries in let b = e.few in omega (arith, a, b, short_p));
             least = tt;
-            follows = (follows_l, on' n_p e.asked peer peer1 peer2 plan.from_peer.follows e.follows);
-            cause = blames_later p on' left.peer left1.peer n_p peer peer1 peer2 plan.from_peer.spent plan.from_peer.follows (λ t. (keep_p t).still) e.asked e.wanted refusal e.cause;
-            local_side = λ t. changes_by {A = Vec Meeting A} (l.is_faithful local2) (Local Broken) p.can_give (l.states local) (l.states local2) (Err (Peer refusal)) (took_l t).still (comes_l p.can_give from_p t);
-            peer_side = λ t.
-                let k = keep_p t in
-                let took = e.right k.still in
-                changes_first {A = Vec Meeting A} (p.is_faithful peer2) Peer l.can_give (p.states peer) (p.states peer2) refusal took.still
-                (λ u. subst (λ m. ComesByPushes l.can_give m (p.states peer2)) k.states (comes_first p l.can_give pairs_p from_l peer1 peer2 refusal took u));
-            beside_local = λ silent t.
-                let k = keep_p t in
-                let same = alone (same_pairs ∙ none_of (λ q. ⊥ × Rattle.mvd_keys.specs.State.IsValid q.1) (λ _ h. h.0) pairs_p (no_gives silent)) in
-                (subst p.is_faithful (sym same) k.still, ap p.states same ∙ k.states);
-            beside_peer = λ silent t. beside_l t silent;
             same = tt;
             meets = λ t u a b done so next.
                 let j = keep_p u in
@@ -242,7 +236,7 @@ module _ {L P : Type 0} (l : SideOf L) (p : SideOf P) (number : Option ℕ) (ent
 
       -- the peer took what it was to take, too
       pub all_done : {A : Type 0} → Each IsHeldByEither entries → (left' : Questions) (peer2 : P) (made : Vec Meeting A) → left'.local ≡ left2 → Carried p AtPeer ms1 made.items left1.peer left'.peer peer1 peer2
-          → ExchangesAll {A = A} l p number entries left left' local local2 peer peer2 (Ok made)
+          → ExchangesAllBy {A = A} l p number entries left left' local local2 peer peer2 (Ok made)
       all_done {A} held left' peer2 made same_left d' =
           let d : Carried p AtPeer after made.items left1.peer left'.peer peer1 peer2 = subst (λ m. Carried p AtPeer m made.items left1.peer left'.peer peer1 peer2) c.is d' in
           let took_p : p.is_faithful peer → TakesIn p pairs_p d.told peer1 peer2 = λ t. d.answered.right (keep_p t).still in
@@ -253,20 +247,22 @@ module _ {L P : Type 0} (l : SideOf L) (p : SideOf P) (number : Option ℕ) (ent
           let spent : left.local ≡ left'.local + asked_l = let a = spent_l in omega (arith, a, same_left) in
           let keys : meeting_keys made.items ≡ keys_next entries = ap meeting_keys d.is ∙ keys_noted AtPeer after d.told ∙ keys_noted AtLocal ms c.told ∙ plan_keys number entries plan.mine plan.theirs ms plan.plans in
           record {
-            asked_local = asked_l;
-            asked_peer = n_p + length pairs_p;
-            wanted_local = 0;
-            wanted_peer = 0;
-            within = (omega (arith, spent), omega (arith, spent_p, spent_p'));
+            course = record {
+              asked_local = asked_l;
+              asked_peer = n_p + length pairs_p;
+              wanted_local = 0;
+              wanted_peer = 0;
+              within = (omega (arith, spent), omega (arith, spent_p, spent_p'));
+              follows = (follows_l, on' n_p (length pairs_p) peer peer1 peer2 plan.from_peer.follows d.answered.follows);
+              cause = tt;
+              local_side = λ t. changes_by (l.is_faithful local2) (Local Broken) p.can_give (l.states local) (l.states local2) (Ok made) (took_l t).still (comes_l p.can_give from_p t);
+              peer_side = λ t. changes_by (p.is_faithful peer2) (Peer Broken) l.can_give (p.states peer) (p.states peer2) (Ok made) (took_p t).still (comes_p l.can_give from_l t);
+              beside_local = λ silent t. ((took_p t).still, pushed_none (p.states peer) (p.states peer2) (comes_p (λ _ _. ⊥) (no_gives silent) t));
+              beside_peer = λ silent t. beside_l t silent;
+            };
             spent = (spent, omega (arith, spent_p, spent_p'));
             few = (let few = few_l in omega (arith, few), let a = held_short AtPeer entries in omega (arith, a, short_p));
             least = let a = held_by_one entries held in omega (arith, a);
-            follows = (follows_l, on' n_p (length pairs_p) peer peer1 peer2 plan.from_peer.follows d.answered.follows);
-            cause = tt;
-            local_side = λ t. changes_by (l.is_faithful local2) (Local Broken) p.can_give (l.states local) (l.states local2) (Ok made) (took_l t).still (comes_l p.can_give from_p t);
-            peer_side = λ t. changes_by (p.is_faithful peer2) (Peer Broken) l.can_give (p.states peer) (p.states peer2) (Ok made) (took_p t).still (comes_p l.can_give from_l t);
-            beside_local = λ silent t. ((took_p t).still, pushed_none (p.states peer) (p.states peer2) (comes_p (λ _ _. ⊥) (no_gives silent) t));
-            beside_peer = λ silent t. beside_l t silent;
             same = keys_of_done made.items ∙ keys;
             meets = λ t u a b done so next.
                 let second = subst (λ m. Pushes m (p.states peer1) pairs_p d.told (p.states peer2)) (most_p n_p peer peer1 plan.from_peer.follows) (took_p u).pushes in

@@ -6,8 +6,7 @@ use Rattle.mvd_dots.specs.declared.refusals.Refusal.{Refusal}
 use Rattle.mvd_dots.specs.declared.refusals.Refusal.TheVariants.{Broken, Memory}
 use Rattle.mvd_keys.specs.State.{State}
 use Rattle.mvd_site.specs.Held.{States}
-use Rattle.mvd_sync.specs.Carries.{ExchangesAll}
-use Rattle.mvd_sync.specs.Exchanges.{Adds, AreNext, Counts, Done, Exchanges, Exchanging, given_keys, keys_done, keys_next, left_keys}
+use Rattle.mvd_sync.specs.Exchanges.{Adds, AreNext, Counts, Done, Exchanging, given_keys, keys_done, keys_next, left_keys}
 use Rattle.mvd_sync.specs.Meetings.{done_of}
 use Rattle.mvd_sync.specs.Session.{AreDistinct, Changes}
 use Rattle.mvd_sync.specs.Sides.{SideOf, of_memory}
@@ -17,15 +16,15 @@ use Rattle.mvd_sync.specs.declared.asking.Questions.{Questions}
 use Rattle.mvd_sync.specs.declared.report.SyncFault.{SyncFault}
 use Rattle.mvd_sync.specs.declared.report.SyncFault.TheVariants.{Local, Peer}
 use Rattle.mvd_sync.proofs.Counting.{counts_on, given_one, left_one, one_of_two}
-use Rattle.mvd_sync.proofs.Going.{changes_none}
+use Rattle.mvd_sync.proofs.Going.{changes_none, course_ends}
 use Rattle.mvd_sync.proofs.Joined.{joins_some}
-use Rattle.mvd_sync.proofs.Positions.{SoFarBy}
+use Rattle.mvd_sync.proofs.Positions.{ExchangesAllBy, ExchangesBy, SoFarBy}
 
 -- a window of what waited
 pub window_at : {L P A : Type 0} (l : SideOf L) (p : SideOf P) (n m : Option ℕ) (es fs : List Entry) (left left' : Questions) (local local' : L) (peer peer' : P) (result : Result (Vec Meeting A) SyncFault) → n ≡ m → es ≡ fs
-    → ExchangesAll l p n es left left' local local' peer peer' result → ExchangesAll l p m fs left left' local local' peer peer' result
+    → ExchangesAllBy l p n es left left' local local' peer peer' result → ExchangesAllBy l p m fs left left' local local' peer peer' result
 window_at l p n m es fs left left' local local' peer peer' result e f h =
-    subst (λ o. ExchangesAll l p o fs left left' local local' peer peer' result) e (subst (λ es. ExchangesAll l p n es left left' local local' peer peer' result) f h)
+    subst (λ o. ExchangesAllBy l p o fs left left' local local' peer peer' result) e (subst (λ es. ExchangesAllBy l p n es left left' local local' peer peer' result) f h)
 
 -- and then none waits
 pub none_waits : (inside before : Exchanging) (waiting : List Entry) → inside ≡ before → waiting ≡ [] → record inside { waiting = waiting } ≡ record before { waiting = [] }
@@ -58,57 +57,49 @@ changes_still T broken C old new x fault c = record { after_ok = tt; after_fault
 
 module _ {L P : Type 0} (l : SideOf L) (p : SideOf P) {A B : Type 0} (next : List Entry) (left left' : Questions) (local local' : L) (peer peer' : P) (before after : Exchanging) where
   -- the window came to an end
-  pub exchanges_end : (fault : SyncFault) → after.number ≡ before.number → ExchangesAll {A = A} l p before.number next left left' local local' peer peer' (Err fault) → Exchanges {A = B} l p next left left' local local' peer peer' before after (Err fault)
+  pub exchanges_end : (fault : SyncFault) → after.number ≡ before.number → ExchangesAllBy {A = A} l p before.number next left left' local local' peer peer' (Err fault) → ExchangesBy {A = B} l p next left left' local local' peer peer' before after (Err fault)
   exchanges_end fault number e = record {
-    asked_local = e.asked_local;
-    asked_peer = e.asked_peer;
-    wanted_local = e.wanted_local;
-    wanted_peer = e.wanted_peer;
-    within = e.within;
+    course = course_ends l p left local local' peer peer' fault e.course;
     spent = tt;
     few = e.few;
     fewer = tt;
     calm = tt;
     room = tt;
     short = λ _. tt;
-    follows = e.follows;
-    cause = e.cause;
-    local_side = λ t. let c = e.local_side t in record { after_ok = tt; after_fault = c.after_fault; pushes = c.pushes };
-    peer_side = λ t. let c = e.peer_side t in record { after_ok = tt; after_fault = c.after_fault; pushes = c.pushes };
-    beside_local = e.beside_local;
-    beside_peer = e.beside_peer;
     same = number;
     meets = λ t u a b done so counts more. e.meets t u a b done so more;
   }
 
-  module _ (made : Vec Meeting A) (e : ExchangesAll {A = A} l p before.number next left left' local local' peer peer' (Ok made)) where
+  module _ (made : Vec Meeting A) (e : ExchangesAllBy {A = A} l p before.number next left left' local local' peer peer' (Ok made)) where
     -- memory was refused for the names of the keys
-    pub exchanges_memory : (refusal : Refusal) → refusal ≡ Memory → after.number ≡ before.number → Exchanges {A = B} l p next left left' local local' peer peer' before after (Err (Local refusal))
+    pub exchanges_memory : (refusal : Refusal) → refusal ≡ Memory → after.number ≡ before.number → ExchangesBy {A = B} l p next left left' local local' peer peer' before after (Err (Local refusal))
     exchanges_memory refusal is number = record {
-      asked_local = e.asked_local;
-      asked_peer = e.asked_peer;
-      wanted_local = e.wanted_local;
-      wanted_peer = e.wanted_peer;
-      within = e.within;
+      course = record {
+        asked_local = e.course.asked_local;
+        asked_peer = e.course.asked_peer;
+        wanted_local = e.course.wanted_local;
+        wanted_peer = e.course.wanted_peer;
+        within = e.course.within;
+        follows = e.course.follows;
+        cause = of_memory is;
+        local_side = λ t. changes_still {B = B} (l.is_faithful local') (Local Broken) p.can_give (l.states local) (l.states local') made (Local refusal) (e.course.local_side t);
+        peer_side = λ t. changes_still {B = B} (p.is_faithful peer') (Peer Broken) l.can_give (p.states peer) (p.states peer') made (Local refusal) (e.course.peer_side t);
+        beside_local = e.course.beside_local;
+        beside_peer = e.course.beside_peer;
+      };
       spent = tt;
       few = e.few;
       fewer = tt;
       calm = tt;
       room = tt;
       short = λ _. tt;
-      follows = e.follows;
-      cause = of_memory is;
-      local_side = λ t. changes_still {B = B} (l.is_faithful local') (Local Broken) p.can_give (l.states local) (l.states local') made (Local refusal) (e.local_side t);
-      peer_side = λ t. changes_still {B = B} (p.is_faithful peer') (Peer Broken) l.can_give (p.states peer) (p.states peer') made (Local refusal) (e.peer_side t);
-      beside_local = e.beside_local;
-      beside_peer = e.beside_peer;
       same = number;
       meets = λ t u a b done so counts more.
           joins_some (l.most_keys local) (p.most_keys peer) a b (l.states local') (p.states peer') before.number (l.is_faithful local') (p.is_faithful peer') (done ++ map done_of made.items) (e.meets t u a b done so more).0;
     }
 
     -- all are exchanged, and counted
-    pub exchanges_all : (x : B) → Adds (map done_of made.items) (record before { waiting = [] }) after → Exchanges {A = B} l p next left left' local local' peer peer' before after (Ok x)
+    pub exchanges_all : (x : B) → Adds (map done_of made.items) (record before { waiting = [] }) after → ExchangesBy {A = B} l p next left left' local local' peer peer' before after (Ok x)
     exchanges_all x adds =
         let now = map done_of made.items in
         let count = all_count now in
@@ -119,23 +110,25 @@ module _ {L P : Type 0} (l : SideOf L) (p : SideOf P) {A B : Type 0} (next : Lis
         let spent = e.spent in
         let few = e.few in
         record {
-          asked_local = e.asked_local;
-          asked_peer = e.asked_peer;
-          wanted_local = 0;
-          wanted_peer = 0;
-          within = e.within;
+          course = record {
+            asked_local = e.course.asked_local;
+            asked_peer = e.course.asked_peer;
+            wanted_local = 0;
+            wanted_peer = 0;
+            within = e.course.within;
+            follows = e.course.follows;
+            cause = tt;
+            local_side = λ t. let c = e.course.local_side t in record { after_ok = c.after_ok; after_fault = tt; pushes = c.pushes };
+            peer_side = λ t. let c = e.course.peer_side t in record { after_ok = c.after_ok; after_fault = tt; pushes = c.pushes };
+            beside_local = e.course.beside_local;
+            beside_peer = e.course.beside_peer;
+          };
           spent = e.spent;
           few = (omega (arith, few.0), omega (arith, few.1));
           fewer = (omega (arith, few.0, none), omega (arith, few.1, none));
           calm = (refl, refl);
           room = omega (arith, count, long, many, least, spent.0, spent.1, adds.keys, adds.refused);
           short = λ _. omega (arith, none);
-          follows = e.follows;
-          cause = tt;
-          local_side = λ t. let c = e.local_side t in record { after_ok = c.after_ok; after_fault = tt; pushes = c.pushes };
-          peer_side = λ t. let c = e.peer_side t in record { after_ok = c.after_ok; after_fault = tt; pushes = c.pushes };
-          beside_local = e.beside_local;
-          beside_peer = e.beside_peer;
           same = adds.number;
           meets = λ t u a b done so counts more.
               let met = e.meets t u a b done so more in
@@ -151,82 +144,76 @@ module _ {L P : Type 0} (l : SideOf L) (p : SideOf P) {A B : Type 0} (next : Lis
 
 module _ {L P : Type 0} (l : SideOf L) (p : SideOf P) {B : Type 0} (next : List Entry) (left left' : Questions) (local local' : L) (peer peer' : P) (before after : Exchanging) where
   -- from keys that waited before
-  pub exchanges_from : (mid : Exchanging) (result : Result B SyncFault) → mid ≡ record before { waiting = next } → Exchanges {A = B} l p mid.waiting left left' local local' peer peer' mid after result → Exchanges {A = B} l p next left left' local local' peer peer' before after result
+  pub exchanges_from : (mid : Exchanging) (result : Result B SyncFault) → mid ≡ record before { waiting = next } → ExchangesBy {A = B} l p mid.waiting left left' local local' peer peer' mid after result → ExchangesBy {A = B} l p next left left' local local' peer peer' before after result
   exchanges_from mid result is h =
-      let e : Exchanges {A = B} l p next left left' local local' peer peer' (record before { waiting = next }) after result
-      = subst (λ (m : Exchanging). Exchanges {A = B} l p m.waiting left left' local local' peer peer' m after result) is h in
+      let e : ExchangesBy {A = B} l p next left left' local local' peer peer' (record before { waiting = next }) after result
+      = subst (λ (m : Exchanging). ExchangesBy {A = B} l p m.waiting left left' local local' peer peer' m after result) is h in
       record {
-        asked_local = e.asked_local;
-        asked_peer = e.asked_peer;
-        wanted_local = e.wanted_local;
-        wanted_peer = e.wanted_peer;
-        within = e.within;
+        course = e.course;
         spent = e.spent;
         few = e.few;
         fewer = e.fewer;
         calm = e.calm;
         room = e.room;
         short = e.short;
-        follows = e.follows;
-        cause = e.cause;
-        local_side = e.local_side;
-        peer_side = e.peer_side;
-        beside_local = e.beside_local;
-        beside_peer = e.beside_peer;
         same = e.same;
         meets = λ t u a b done so counts more. e.meets t u a b done so (record { keys = counts.keys; refused = counts.refused; first_refused = counts.first_refused; older = counts.older }) more;
       }
 
 module _ {L P : Type 0} (l : SideOf L) (p : SideOf P) {B : Type 0} (self : (s : L) → l.follows 0 s s) (self' : (s : P) → p.follows 0 s s) (next : List Entry) (left : Questions) (local : L) (peer : P) (before after : Exchanging) where
   -- memory was refused for one more
-  pub exchanges_none : (refusal : Refusal) → refusal ≡ Memory → after.number ≡ before.number → Exchanges {A = B} l p next left left local local peer peer before after (Err (Local refusal))
+  pub exchanges_none : (refusal : Refusal) → refusal ≡ Memory → after.number ≡ before.number → ExchangesBy {A = B} l p next left left local local peer peer before after (Err (Local refusal))
   exchanges_none refusal is number = record {
-    asked_local = 0;
-    asked_peer = 0;
-    wanted_local = 0;
-    wanted_peer = 0;
-    within = (omega arith, omega arith);
+    course = record {
+      asked_local = 0;
+      asked_peer = 0;
+      wanted_local = 0;
+      wanted_peer = 0;
+      within = (omega arith, omega arith);
+      follows = (self local, self' peer);
+      cause = of_memory is;
+      local_side = λ t. changes_none {A = B} (l.is_faithful local) (Local Broken) p.can_give (l.states local) (l.states local) (Err (Local refusal)) t refl;
+      peer_side = λ t. changes_none {A = B} (p.is_faithful peer) (Peer Broken) l.can_give (p.states peer) (p.states peer) (Err (Local refusal)) t refl;
+      beside_local = λ _ t. (t, refl);
+      beside_peer = λ _ t. (t, refl);
+    };
     spent = tt;
     few = (omega arith, omega arith);
     fewer = tt;
     calm = tt;
     room = tt;
     short = λ _. tt;
-    follows = (self local, self' peer);
-    cause = of_memory is;
-    local_side = λ t. changes_none {A = B} (l.is_faithful local) (Local Broken) p.can_give (l.states local) (l.states local) (Err (Local refusal)) t refl;
-    peer_side = λ t. changes_none {A = B} (p.is_faithful peer) (Peer Broken) l.can_give (p.states peer) (p.states peer) (Err (Local refusal)) t refl;
-    beside_local = λ _ t. (t, refl);
-    beside_peer = λ _ t. (t, refl);
     same = number;
     meets = λ t u a b done so counts more. joins_some (l.most_keys local) (p.most_keys peer) a b (l.states local) (p.states peer) before.number (l.is_faithful local) (p.is_faithful peer) done so;
   }
 
   -- one more waits
-  pub exchanges_later : (x : B) → after ≡ record before { waiting = next } → length next < 1000 → Exchanges {A = B} l p next left left local local peer peer before after (Ok x)
+  pub exchanges_later : (x : B) → after ≡ record before { waiting = next } → length next < 1000 → ExchangesBy {A = B} l p next left left local local peer peer before after (Ok x)
   exchanges_later x is low =
       let wait : after.waiting ≡ next = ap (λ (v : Exchanging). v.waiting) is in
       let many = ap length wait in
       let keys : after.keys ≡ before.keys = ap (λ (v : Exchanging). v.keys) is in
       let refused : after.refused ≡ before.refused = ap (λ (v : Exchanging). v.refused) is in
       record {
-        asked_local = 0;
-        asked_peer = 0;
-        wanted_local = 0;
-        wanted_peer = 0;
-        within = (omega arith, omega arith);
+        course = record {
+          asked_local = 0;
+          asked_peer = 0;
+          wanted_local = 0;
+          wanted_peer = 0;
+          within = (omega arith, omega arith);
+          follows = (self local, self' peer);
+          cause = tt;
+          local_side = λ t. changes_none (l.is_faithful local) (Local Broken) p.can_give (l.states local) (l.states local) (Ok x) t refl;
+          peer_side = λ t. changes_none (p.is_faithful peer) (Peer Broken) l.can_give (p.states peer) (p.states peer) (Ok x) t refl;
+          beside_local = λ _ t. (t, refl);
+          beside_peer = λ _ t. (t, refl);
+        };
         spent = (omega arith, omega arith);
         few = (omega arith, omega arith);
         fewer = (omega (arith, many), omega (arith, many));
         calm = (refl, refl);
         room = omega (arith, keys, refused);
         short = λ _. omega (arith, many, low);
-        follows = (self local, self' peer);
-        cause = tt;
-        local_side = λ t. changes_none (l.is_faithful local) (Local Broken) p.can_give (l.states local) (l.states local) (Ok x) t refl;
-        peer_side = λ t. changes_none (p.is_faithful peer) (Peer Broken) l.can_give (p.states peer) (p.states peer) (Ok x) t refl;
-        beside_local = λ _ t. (t, refl);
-        beside_peer = λ _ t. (t, refl);
         same = ap (λ (v : Exchanging). v.number) is;
         meets = λ t u a b done so counts more.
             let nil : done ++ [] ≡ done = append-nil done in

@@ -5,15 +5,16 @@ use Rattle.mvd_dots.specs.declared.refusals.Refusal.{Refusal}
 use Rattle.mvd_dots.specs.declared.refusals.Refusal.TheVariants.{Memory}
 use Rattle.mvd_sync.specs.Questions.{ComesToEnd, Keeps}
 use Rattle.mvd_sync.specs.Sides.{SideOf, of_memory}
-use Rattle.mvd_sync.specs.Walk.{Reads, ReadsEnd}
+use Rattle.mvd_sync.specs.Walk.{Reads}
 use Rattle.mvd_sync.specs.declared.asking.Questions.{Questions}
 use Rattle.mvd_sync.specs.declared.report.SyncFault.TheVariants.{Local, Peer}
 use Rattle.mvd_sync.proofs.Compose.{blames_later, keeps_on}
+use Rattle.mvd_sync.proofs.Positions.{ReadsEndBy}
 
 module _ {L P : Type 0} (l : SideOf L) (p : SideOf P) (most n m left_l left_p : ℕ) (left : Questions) (local local1 : L) (peer peer1 : P)
     (first : Reads l n left.local left_l local local1) (second : Reads p m left.peer left_p peer peer1) (few_l : n ≤ most) (few_p : m ≤ most) (refusal : Refusal) where
   pub local_fails : (on : (m n : ℕ) (old mid new : L) → l.follows m old mid → l.follows n mid new → l.follows (m + n) old new) (k : ℕ) (local2 : L) → n + k ≤ most → ComesToEnd l (Keeps l local1 local2) k left_l local1 local2 refusal
-      → ReadsEnd l p (λ asked. asked ≤ most) left local local2 peer peer1 (Local refusal)
+      → ReadsEndBy l p (λ asked. asked ≤ most) left local local2 peer peer1 (Local refusal)
   local_fails on k local2 small e = record {
     asked_local = n + e.asked;
     asked_peer = m;
@@ -28,7 +29,7 @@ module _ {L P : Type 0} (l : SideOf L) (p : SideOf P) (most n m left_l left_p : 
   }
 
   pub peer_fails : (on : (m n : ℕ) (old mid new : P) → p.follows m old mid → p.follows n mid new → p.follows (m + n) old new) (k : ℕ) (peer2 : P) → m + k ≤ most → ComesToEnd p (Keeps p peer1 peer2) k left_p peer1 peer2 refusal
-      → ReadsEnd l p (λ asked. asked ≤ most) left local local1 peer peer2 (Peer refusal)
+      → ReadsEndBy l p (λ asked. asked ≤ most) left local local1 peer peer2 (Peer refusal)
   peer_fails on k peer2 small e = record {
     asked_local = n;
     asked_peer = m + e.asked;
@@ -42,7 +43,7 @@ module _ {L P : Type 0} (l : SideOf L) (p : SideOf P) (most n m left_l left_p : 
     kept_peer = λ t. let k = second.kept t in keeps_on p peer peer1 peer2 k (e.right k.still);
   }
 
-  pub memory_fails : refusal ≡ Memory → ReadsEnd l p (λ asked. asked ≤ most) left local local1 peer peer1 (Local refusal)
+  pub memory_fails : refusal ≡ Memory → ReadsEndBy l p (λ asked. asked ≤ most) left local local1 peer peer1 (Local refusal)
   memory_fails is = record {
     asked_local = n;
     asked_peer = m;

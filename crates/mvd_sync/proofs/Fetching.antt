@@ -7,7 +7,7 @@ use Rattle.mvd_dots.specs.declared.refusals.Refusal.TheVariants.{BadBody}
 use Rattle.mvd_site.specs.Answer.{digests}
 use Rattle.mvd_tree.specs.HashTree.{KeyDigests}
 use Rattle.mvd_sync.specs.Answers.{Entry, IsPage, IsPageOf}
-use Rattle.mvd_sync.specs.Buckets.{ArePages, FillEnds, IsSpent}
+use Rattle.mvd_sync.specs.Buckets.{ArePages, IsSpent}
 use Rattle.mvd_sync.specs.Questions.{AllAnswered, ComesToEnd, Fills, ForEach, Keeps, AnswersEach}
 use Rattle.mvd_sync.specs.Session.{Each}
 use Rattle.mvd_sync.specs.Sides.{SideOf, of_answer, of_side, is_of_question}
@@ -15,6 +15,7 @@ use Rattle.mvd_sync.specs.Walk.{Reads}
 use Rattle.mvd_sync.specs.declared.asking.Questions.{Questions}
 use Rattle.mvd_sync.specs.declared.report.SyncFault.TheVariants.{Local, Peer}
 use Rattle.mvd_sync.proofs.Descents.{Each-at, answers_long}
+use Rattle.mvd_sync.proofs.Positions.{FillEndsBy}
 
 -- a page that no true side tells
 pub page_refused : {S X : Type 0} (s : SideOf S) (IsTold : Type 0) (result : Result X Refusal) (left left' : ℕ) (old new : S) → left ≡ left' + 1 → s.follows 1 old new → (s.is_faithful old → Keeps s old new) → (s.is_faithful old → IsTold)
@@ -47,7 +48,7 @@ one_refused s left left' old new refusal spent follows self told not_of_key kept
 
 module _ {L P : Type 0} (l : SideOf L) (p : SideOf P) (path : List ℕ) (after : Option (List ℕ)) (mine theirs : List Entry × Bool) (left : Questions) (local : L) (peer : P) where
   -- the local listing was not filled
-  pub local_unfilled : (self : (s : P) → p.follows 0 s s) (local' : L) (refusal : Refusal) → ComesToEnd l (Keeps l local local') 1 left.local local local' refusal → IsSpent mine → FillEnds l p mine theirs left local local' peer peer (Local refusal)
+  pub local_unfilled : (self : (s : P) → p.follows 0 s s) (local' : L) (refusal : Refusal) → ComesToEnd l (Keeps l local local') 1 left.local local local' refusal → IsSpent mine → FillEndsBy l p mine theirs left local local' peer peer (Local refusal)
   local_unfilled self local' refusal e spent = record {
     ends = record {
       asked_local = e.asked;
@@ -65,7 +66,7 @@ module _ {L P : Type 0} (l : SideOf L) (p : SideOf P) (path : List ℕ) (after :
   }
 
   -- or the peer's was not, after it
-  pub peer_unfilled : (mine' : List Entry × Bool) (left_l : ℕ) (local' : L) (peer' : P) (refusal : Refusal) → Fills l path after mine mine' left.local left_l local local' → ComesToEnd p (Keeps p peer peer') 1 left.peer peer peer' refusal → IsSpent theirs → FillEnds l p mine theirs left local local' peer peer' (Peer refusal)
+  pub peer_unfilled : (mine' : List Entry × Bool) (left_l : ℕ) (local' : L) (peer' : P) (refusal : Refusal) → Fills l path after mine mine' left.local left_l local local' → ComesToEnd p (Keeps p peer peer') 1 left.peer peer peer' refusal → IsSpent theirs → FillEndsBy l p mine theirs left local local' peer peer' (Peer refusal)
   peer_unfilled mine' left_l local' peer' refusal f e spent = record {
     ends = record {
       asked_local = f.asked;

@@ -7,7 +7,8 @@ use Rattle.std.proofs.lemmas.List.{length-take-le, take_more}
 use Rattle.mvd_dots.specs.declared.refusals.Refusal.{Refusal}
 use Rattle.mvd_dots.specs.declared.refusals.Refusal.TheVariants.{Memory}
 use Rattle.mvd_sync.specs.Sides.{HasAnswered, HasRefused, Reaches}
-use Rattle.mvd_sync.specs.Windows.{Asked, EachAnswer, EachRefusal, EachTold, Ends}
+use Rattle.mvd_sync.specs.Windows.{EachAnswer, EachRefusal, EachTold, Ends}
+use Rattle.mvd_sync.proofs.Positions.{AskedBy}
 
 pub each_more : {Q A : Type 0} (P : Q → A → Type 0) (qs : List Q) (ts : List (Result A Refusal)) (q : Q) (a : Result A Refusal) → EachAnswer P qs ts → EachAnswer P (q ∷ []) (a ∷ []) → EachAnswer P (qs ++ q ∷ []) (ts ++ a ∷ [])
 each_more P [] [] q a h i = i
@@ -105,7 +106,7 @@ module _ {S : Type 0} (follows : ℕ → S → S → Type 0) (can_refuse : S →
       cause = elim why [ inl told ↦ inl (refused_now old mid new refusal (n, before) (1, step) told) | inr memory ↦ inr memory ];
     }
 
-  pub none_asked : {Q A : Type 0} (May Right : Q → A → Type 0) (Refuses : Q → Refusal → Type 0) (T : Type 0) (old : S) → Asked follows can_refuse can_answer May Right Refuses T [] [] old old
+  pub none_asked : {Q A : Type 0} (May Right : Q → A → Type 0) (Refuses : Q → Refusal → Type 0) (T : Type 0) (old : S) → AskedBy follows can_refuse can_answer May Right Refuses T [] [] old old
   none_asked May Right Refuses T old = record {
     count = self old;
     may = tt;
@@ -116,7 +117,7 @@ module _ {S : Type 0} (follows : ℕ → S → S → Type 0) (can_refuse : S →
 
   -- one question more
   module _ {Q A : Type 0} (May Right : Q → A → Type 0) {Refuses : Q → Refusal → Type 0} (T : Type 0) (old mid new : S) (qs : List Q) (ts : List (Result A Refusal)) (q : Q) (a : Result A Refusal) where
-    pub one_more : Asked follows can_refuse can_answer May Right Refuses T qs ts old mid → follows 1 mid new → IfOk a (May q) → (T → IfOk a (Right q)) → IfErr a (can_refuse new) → OnOk a (can_answer new) → (T → IfErr a (Refuses q)) → Asked follows can_refuse can_answer May Right Refuses T (qs ++ q ∷ []) (ts ++ a ∷ []) old new
+    pub one_more : AskedBy follows can_refuse can_answer May Right Refuses T qs ts old mid → follows 1 mid new → IfOk a (May q) → (T → IfOk a (Right q)) → IfErr a (can_refuse new) → OnOk a (can_answer new) → (T → IfErr a (Refuses q)) → AskedBy follows can_refuse can_answer May Right Refuses T (qs ++ q ∷ []) (ts ++ a ∷ []) old new
     one_more before step may right refuses answers not_of_key =
         let way : Reaches follows old mid = (length qs, before.count) in
         let last : Reaches follows mid new = (1, step) in
@@ -135,10 +136,10 @@ module _ {S : Type 0} (follows : ℕ → S → S → Type 0) (can_refuse : S →
 
   -- in turn
   pub one_more_at : {Q A : Type 0} (May Right : Q → A → Type 0) {Refuses : Q → Refusal → Type 0} (T : Type 0) (old mid new : S) (all : List Q) (i : ℕ) (q : Q) (ts us : List (Result A Refusal)) (a : Result A Refusal) → i < length all → q ≡ get_or all i q → us ≡ ts ++ a ∷ []
-      → Asked follows can_refuse can_answer May Right Refuses T (take i all) ts old mid → follows 1 mid new → IfOk a (May q) → (T → IfOk a (Right q)) → IfErr a (can_refuse new) → OnOk a (can_answer new) → (T → IfErr a (Refuses q))
-      → Asked follows can_refuse can_answer May Right Refuses T (take (i + 1) all) us old new
+      → AskedBy follows can_refuse can_answer May Right Refuses T (take i all) ts old mid → follows 1 mid new → IfOk a (May q) → (T → IfOk a (Right q)) → IfErr a (can_refuse new) → OnOk a (can_answer new) → (T → IfErr a (Refuses q))
+      → AskedBy follows can_refuse can_answer May Right Refuses T (take (i + 1) all) us old new
   one_more_at May Right {Refuses} T old mid new all i q ts us a low at pushed before step may right refuses answers not_of_key =
       let more : take (i + 1) all ≡ take i all ++ q ∷ [] = take_more all i q low ∙ ap (λ x. take i all ++ x ∷ []) (sym at) in
-      subst (λ qs. Asked follows can_refuse can_answer May Right Refuses T qs us old new) (sym more)
-      (subst (λ us. Asked follows can_refuse can_answer May Right Refuses T (take i all ++ q ∷ []) us old new) (sym pushed)
+      subst (λ qs. AskedBy follows can_refuse can_answer May Right Refuses T qs us old new) (sym more)
+      (subst (λ us. AskedBy follows can_refuse can_answer May Right Refuses T (take i all ++ q ∷ []) us old new) (sym pushed)
       (one_more May Right T old mid new (take i all) ts q a before step may right refuses answers not_of_key))

@@ -4,7 +4,7 @@ use Rattle.std.proofs.lemmas.List.{length-map}
 use Rattle.mvd_dots.specs.declared.refusals.Refusal.{Refusal}
 use Rattle.mvd_dots.specs.declared.refusals.Refusal.TheVariants.{Memory}
 use Rattle.mvd_keys.specs.State.{State}
-use Rattle.mvd_sync.specs.Carries.{Gives, PlanEnds}
+use Rattle.mvd_sync.specs.Carries.{Gives}
 use Rattle.mvd_sync.specs.Meetings.{held_keys, is_held}
 use Rattle.mvd_sync.specs.Questions.{ComesToEnd, Keeps}
 use Rattle.mvd_sync.specs.Sides.{SideOf, of_memory}
@@ -13,6 +13,7 @@ use Rattle.mvd_sync.specs.declared.asking.Questions.{Questions}
 use Rattle.mvd_sync.specs.declared.report.Side.{Side}
 use Rattle.mvd_sync.specs.declared.report.Side.TheVariants.{Local as AtLocal, Peer as AtPeer}
 use Rattle.mvd_sync.specs.declared.report.SyncFault.TheVariants.{Local, Peer}
+use Rattle.mvd_sync.proofs.Positions.{ReadsEndBy}
 
 filter_short : (Q : Entry → Bool) (es : List Entry) → length (filter Q es) ≤ length es
 filter_short Q [] = omega arith
@@ -27,7 +28,7 @@ held_short name es =
     omega (arith, n, m)
 
 module _ {L P : Type 0} (l : SideOf L) (p : SideOf P) (entries : List Entry) (left : Questions) (local local' : L) (peer peer' : P) (refusal : Refusal) where
-  pub ends_at_local : ComesToEnd l (Keeps l local local') (length (held_keys AtLocal entries)) left.local local local' refusal → p.follows 0 peer peer → PlanEnds l p (length entries) left local local' peer peer (Local refusal)
+  pub ends_at_local : ComesToEnd l (Keeps l local local') (length (held_keys AtLocal entries)) left.local local local' refusal → p.follows 0 peer peer → ReadsEndBy l p (λ asked. asked ≤ length entries) left local local' peer peer (Local refusal)
   ends_at_local e self =
       let short = held_short AtLocal entries in
       record {
@@ -39,11 +40,11 @@ module _ {L P : Type 0} (l : SideOf L) (p : SideOf P) (entries : List Entry) (le
         within = (e.within, omega arith);
         follows = (e.follows, self);
         cause = e.cause;
-        local_side = e.right;
-        peer_side = λ t. record { still = t; states = refl };
+        kept_local = e.right;
+        kept_peer = λ t. record { still = t; states = refl };
       }
 
-  pub ends_at_peer : (mine : List State) (left' : ℕ) → Gives l AtLocal entries mine left.local left' local local' → ComesToEnd p (Keeps p peer peer') (length (held_keys AtPeer entries)) left.peer peer peer' refusal → PlanEnds l p (length entries) left local local' peer peer' (Peer refusal)
+  pub ends_at_peer : (mine : List State) (left' : ℕ) → Gives l AtLocal entries mine left.local left' local local' → ComesToEnd p (Keeps p peer peer') (length (held_keys AtPeer entries)) left.peer peer peer' refusal → ReadsEndBy l p (λ asked. asked ≤ length entries) left local local' peer peer' (Peer refusal)
   ends_at_peer mine left' given e =
       let short = held_short AtLocal entries in
       let short' = held_short AtPeer entries in
@@ -56,11 +57,11 @@ module _ {L P : Type 0} (l : SideOf L) (p : SideOf P) (entries : List Entry) (le
         within = (let spent = given.spent in omega (arith, spent), e.within);
         follows = (given.follows, e.follows);
         cause = e.cause;
-        local_side = λ t. (given.right t).kept;
-        peer_side = e.right;
+        kept_local = λ t. (given.right t).kept;
+        kept_peer = e.right;
       }
 
-  pub ends_for_memory : (mine theirs : List State) (left' left'' : ℕ) → Gives l AtLocal entries mine left.local left' local local' → Gives p AtPeer entries theirs left.peer left'' peer peer' → refusal ≡ Memory → PlanEnds l p (length entries) left local local' peer peer' (Local refusal)
+  pub ends_for_memory : (mine theirs : List State) (left' left'' : ℕ) → Gives l AtLocal entries mine left.local left' local local' → Gives p AtPeer entries theirs left.peer left'' peer peer' → refusal ≡ Memory → ReadsEndBy l p (λ asked. asked ≤ length entries) left local local' peer peer' (Local refusal)
   ends_for_memory mine theirs left' left'' given given' is = record {
     asked_local = length (held_keys AtLocal entries);
     asked_peer = length (held_keys AtPeer entries);
@@ -70,6 +71,6 @@ module _ {L P : Type 0} (l : SideOf L) (p : SideOf P) (entries : List Entry) (le
     within = (let spent = given.spent in omega (arith, spent), let spent = given'.spent in omega (arith, spent));
     follows = (given.follows, given'.follows);
     cause = of_memory is;
-    local_side = λ t. (given.right t).kept;
-    peer_side = λ t. (given'.right t).kept;
+    kept_local = λ t. (given.right t).kept;
+    kept_peer = λ t. (given'.right t).kept;
   }

@@ -9,11 +9,11 @@ use Rattle.mvd_keys.specs.State.{State}
 use Rattle.mvd_keys.specs.Writes.{Key}
 use Rattle.mvd_sync.specs.Questions.{AllAnswered, ComesToEnd, ForEach, IsOfKey, TakesFirst, TakesIn}
 use Rattle.mvd_sync.specs.Sides.{HasAnswered, HasRefused, SideOf, is_of_key, is_of_question, of_memory, of_questions, of_side}
-use Rattle.mvd_sync.specs.Windows.{Asked, EachAnswer, EachTold, Ends, Pushes, PushesFirst}
+use Rattle.mvd_sync.specs.Windows.{EachAnswer, EachTold, Ends, Pushes, PushesFirst}
 use Rattle.mvd_sync.proofs.Answering.{told_at}
 use Rattle.mvd_sync.proofs.Compose.{ends_for_memory, refused_later}
 use Rattle.mvd_sync.proofs.ManyPushes.{first_later, pushes-append, pushes_apart}
-use Rattle.mvd_sync.proofs.Positions.{BlamesBy}
+use Rattle.mvd_sync.proofs.Positions.{AskedBy, BlamesBy}
 
 abbrev Told : Type 0
 Told = Result (Unit {0}) Refusal
@@ -158,7 +158,7 @@ module _ {S : Type 0} (s : SideOf S) (on : (m n : ℕ) (old mid new : S) → s.f
     most = stays (length before.done) old mid before.follows
 
     -- it was answered
-    pub front_on : {May Right : Pair → Unit {0} → Type 0} {Refuses : Pair → Refusal → Type 0} {T : Type 0} → Asked s.follows s.can_refuse s.can_answer May Right Refuses T (take taken rest) answers mid new
+    pub front_on : {May Right : Pair → Unit {0} → Type 0} {Refuses : Pair → Refusal → Type 0} {T : Type 0} → AskedBy s.follows s.can_refuse s.can_answer May Right Refuses T (take taken rest) answers mid new
         → (s.is_faithful mid → s.is_faithful new × Pushes (s.most_keys mid) (s.states mid) (take taken rest) answers (s.states new))
         → FrontPushed s pairs (drop taken rest) (told ++ answers) left left'' old new
     front_on {May} asked pushes = record {
@@ -176,7 +176,7 @@ module _ {S : Type 0} (s : SideOf S) (on : (m n : ℕ) (old mid new : S) → s.f
     }
 
     -- a refusal of more than its key, that was told on the way
-    pub ended_told : {May Right : Pair → Unit {0} → Type 0} {Refuses : Pair → Refusal → Type 0} {T : Type 0} (refusal : Refusal) → Asked s.follows s.can_refuse s.can_answer May Right Refuses T (take taken rest) answers mid new
+    pub ended_told : {May Right : Pair → Unit {0} → Type 0} {Refuses : Pair → Refusal → Type 0} {T : Type 0} (refusal : Refusal) → AskedBy s.follows s.can_refuse s.can_answer May Right Refuses T (take taken rest) answers mid new
         → (s.is_faithful mid → s.is_faithful new × Pushes (s.most_keys mid) (s.states mid) (take taken rest) answers (s.states new))
         → (refusal ≡ Memory) ⊎ (Contains answers (Err refusal) × (is_of_key refusal ≡ false))
         → ComesToEnd s (TakesFirst s pairs old new refusal) (length pairs) left old new refusal

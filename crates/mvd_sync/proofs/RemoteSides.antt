@@ -12,7 +12,8 @@ use Rattle.mvd_sync.specs.Links.{AsksFor, Link}
 use Rattle.mvd_sync.specs.Questions.{ForEach}
 use Rattle.mvd_sync.specs.Sides.{HasAnswered, HasRefused}
 use Rattle.mvd_sync.proofs.Lined.{goes_on}
-use Rattle.mvd_sync.specs.Windows.{Asked, EachAnswer, EachRefusal, EachTold, Ends}
+use Rattle.mvd_sync.specs.Windows.{EachAnswer, EachRefusal, EachTold, Ends}
+use Rattle.mvd_sync.proofs.Positions.{AskedBy}
 
 -- ---- as many answers as requests
 
@@ -70,7 +71,7 @@ module _ {S : Type 0} (refused : S → Option Refusal) (Follows : S → S → Ty
     refused_now : (refusal : Refusal) → Refuses new refusal → HasRefused (λ _. Follows) Refuses old new refusal
     refused_now refusal now = (new, (0, still), now, (0, self new))
 
-    answered_so : (May Right : Q → A → Type 0) (Apart : Q → Refusal → Type 0) (Was : Type 0) → ((q : Q) (a : A) → May q a) → (ts : List (Result A Refusal)) → (Was → EachAnswer Right qs ts) → (Was → EachRefusal Apart qs ts) → AsksAll as_reply kind (frames_of (map request qs)) ts l l' → Asked (λ _. Follows) Refuses Goes May Right Apart Was qs ts old new
+    answered_so : (May Right : Q → A → Type 0) (Apart : Q → Refusal → Type 0) (Was : Type 0) → ((q : Q) (a : A) → May q a) → (ts : List (Result A Refusal)) → (Was → EachAnswer Right qs ts) → (Was → EachRefusal Apart qs ts) → AsksAll as_reply kind (frames_of (map request qs)) ts l l' → AskedBy (λ _. Follows) Refuses Goes May Right Apart Was qs ts old new
     answered_so May Right Apart Was free ts right of_key a =
         let goes : refused new ≡ None = sym is ∙ a.answered.goes_on in
         let m = many_after ([], []) (map request qs) in
@@ -93,15 +94,15 @@ module _ {S : Type 0} (refused : S → Option Refusal) (Follows : S → S → Ty
     ended_so refusal (of_answer replies answered why) = let goes : refused new ≡ None = sym is ∙ answered.goes_on in inl (refused_now refusal (λ own e. absurd (cc)))
 
     module _ (May Right : Q → A → Type 0) (Apart : Q → Refusal → Type 0) (Was : Type 0) (Settles : List (Result A Refusal) → Type 0) (E : Refusal → Type 0) (free : (q : Q) (a : A) → May q a) (right : (ts : List (Result A Refusal)) → Settles ts → EachAnswer Right qs ts) (of_key : (ts : List (Result A Refusal)) → Settles ts → EachRefusal Apart qs ts) where
-      asked_at : (r : Result V Refusal) → MatchResult r (λ v. AsksAll as_reply kind (frames_of (map request qs)) (items v) l l') (RefusesAll kind (frames_of (map request qs)) l l') → (Was → MatchResult r (λ v. Settles (items v)) E) → IfOk r (λ v. Asked (λ _. Follows) Refuses Goes May Right Apart Was qs (items v) old new)
+      asked_at : (r : Result V Refusal) → MatchResult r (λ v. AsksAll as_reply kind (frames_of (map request qs)) (items v) l l') (RefusesAll kind (frames_of (map request qs)) l l') → (Was → MatchResult r (λ v. Settles (items v)) E) → IfOk r (λ v. AskedBy (λ _. Follows) Refuses Goes May Right Apart Was qs (items v) old new)
       asked_at (Ok v) h truth = answered_so May Right Apart Was free (items v) (λ t. right (items v) (truth t)) (λ t. of_key (items v) (truth t)) h
       asked_at (Err refusal) h truth = tt
 
-      pub link_asked : (Was → MatchResult result (λ v. Settles (items v)) E) → IfOk result (λ v. Asked (λ _. Follows) Refuses Goes May Right Apart Was qs (items v) old new)
+      pub link_asked : (Was → MatchResult result (λ v. Settles (items v)) E) → IfOk result (λ v. AskedBy (λ _. Follows) Refuses Goes May Right Apart Was qs (items v) old new)
       link_asked truth = asked_at result asked truth
 
     -- nothing is said of one that was true
-    pub link_told : (May Right : Q → A → Type 0) (Apart : Q → Refusal → Type 0) → ((q : Q) (a : A) → May q a) → IfOk result (λ v. Asked (λ _. Follows) Refuses Goes May Right Apart ⊥ qs (items v) old new)
+    pub link_told : (May Right : Q → A → Type 0) (Apart : Q → Refusal → Type 0) → ((q : Q) (a : A) → May q a) → IfOk result (λ v. AskedBy (λ _. Follows) Refuses Goes May Right Apart ⊥ qs (items v) old new)
     link_told May Right Apart free = ok_of _ result asked (λ v. answered_so May Right Apart ⊥ free (items v) (λ never. absurd never) (λ never. absurd never))
 
     pub link_ends : IfErr result (Ends (λ _. Follows) Refuses (length qs) old new)

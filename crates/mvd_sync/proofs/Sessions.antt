@@ -8,22 +8,21 @@ use Rattle.std.specs.Cmp.Lexicographic.{slice_cmp}
 use Rattle.std.specs.FinMap.{get, len}
 use Rattle.mvd_tree.proofs.Under.{keys_same}
 use Rattle.mvd_site.specs.Held.{AreHeld, States}
-use Rattle.mvd_sync.specs.Buckets.{Goes, GoesOver, held_in}
-use Rattle.mvd_sync.specs.Exchanges.{AreNext, Done, Exchanges, Exchanging, IsNext, given_keys, joined_keys, keys_done, keys_next}
-use Rattle.mvd_sync.specs.Session.{AreDistinct, AreFew, Each, HasAllThatDiffer, Session, is_member}
+use Rattle.mvd_sync.specs.Buckets.{held_in}
+use Rattle.mvd_sync.specs.Exchanges.{AreNext, Done, Exchanging, IsNext, given_keys, joined_keys, keys_done, keys_next}
+use Rattle.mvd_sync.specs.Session.{AreDistinct, AreFew, Each, HasAllThatDiffer, is_member}
 use Rattle.mvd_sync.specs.Sides.{HasAnswered, SideOf}
-use Rattle.mvd_sync.specs.Walk.{FindsBuckets, ReadsEnd, AreFewFor}
 use Rattle.mvd_sync.specs.declared.cursor.Entry.{Entry}
 use Rattle.mvd_sync.specs.declared.asking.Questions.{Questions}
 use Rattle.mvd_sync.specs.declared.report.Report.{Report}
 use Rattle.mvd_sync.specs.declared.report.SyncFault.{SyncFault}
 use Rattle.mvd_sync.proofs.Compose.{answered_still}
-use Rattle.mvd_sync.proofs.Going.{goes_of_end, goes_of_exchange, goes_of_reads, goes_on}
+use Rattle.mvd_sync.proofs.Going.{course_done, course_ends, goes_of_end, goes_of_exchange, goes_of_reads, goes_on}
 use Rattle.mvd_sync.proofs.Joined.{joins_of, joins_some}
 use Rattle.mvd_sync.proofs.Keys.{Each-weaker, member_has}
 use Rattle.mvd_sync.proofs.Telling.{tells_of}
 use Rattle.mvd_sync.proofs.Walks.{digests_differ}
-use Rattle.mvd_sync.proofs.Positions.{FindsAllBy, FindsBy, GoesOnBy, JoinsSomeBy, MeetsBy, SoFarBy}
+use Rattle.mvd_sync.proofs.Positions.{AreFewForBy, ExchangesBy, GoesFewOnBy, FindsBucketsBy, FindsBy, GoesBy, GoesOnBy, GoesOverBy, JoinsSomeBy, MeetsBy, ReadsEndBy, SessionBy, SoFarBy}
 
 abbrev tie : List ℕ → List ℕ → Bool
 tie k q = eq_by_cmp (slice_cmp nat_cmp) k q
@@ -87,45 +86,25 @@ module _ {L P : Type 0} (l : SideOf L) (p : SideOf P) (most : ℕ) (local local'
   abbrev all_left : Questions
   all_left = record { local = most; peer = most }
 
-  pub session_ends : {A : Type 0} (fault : SyncFault) (g : Goes {A = A} l p all_left left' local local' peer peer' before after (Err fault))
+  pub session_ends : {A : Type 0} (fault : SyncFault) (g : GoesBy {A = A} l p all_left left' local local' peer peer' before after (Err fault))
       → (l.is_faithful local → p.is_faithful peer → JoinsSomeBy (l.is_faithful local') (p.is_faithful peer') (l.states local) (p.states peer) (l.states local') (p.states peer'))
-      → (l.is_faithful local → p.is_faithful peer → (differing : List (List ℕ)) → HasAllThatDiffer (l.states local) (p.states peer) differing → AreFew (g.asked_local + g.wanted_local) (l.states local) differing × AreFew (g.asked_peer + g.wanted_peer) (p.states peer) differing)
-      → Session l p most local local' peer peer' (Err fault)
+      → (l.is_faithful local → p.is_faithful peer → (differing : List (List ℕ)) → HasAllThatDiffer (l.states local) (p.states peer) differing → AreFew (g.course.asked_local + g.course.wanted_local) (l.states local) differing × AreFew (g.course.asked_peer + g.course.wanted_peer) (p.states peer) differing)
+      → SessionBy l p most local local' peer peer' (Err fault)
   session_ends fault g joins few = record {
-    asked_local = g.asked_local;
-    asked_peer = g.asked_peer;
-    wanted_local = g.wanted_local;
-    wanted_peer = g.wanted_peer;
-    within = g.within;
-    follows = g.follows;
-    cause = g.cause;
+    course = course_ends l p all_left local local' peer peer' fault g.course;
     answers = tt;
-    local_side = λ t. let c = g.local_side t in record { after_ok = tt; after_fault = c.after_fault; pushes = c.pushes };
-    peer_side = λ t. let c = g.peer_side t in record { after_ok = tt; after_fault = c.after_fault; pushes = c.pushes };
-    beside_local = g.beside_local;
-    beside_peer = g.beside_peer;
     meets = λ t u. let j = joins t u in record { joined = j.joined; given = j.given; joins = j.joins; tells = tt };
     few = few;
   }
 
-  pub session_done : {A : Type 0} (x : A) (report : Report) (g : Goes {A = A} l p all_left left' local local' peer peer' before after (Ok x))
+  pub session_done : {A : Type 0} (x : A) (report : Report) (g : GoesBy {A = A} l p all_left left' local local' peer peer' before after (Ok x))
       → HasAnswered l.follows l.can_answer local local' × HasAnswered p.follows p.can_answer peer peer'
       → (l.is_faithful local → p.is_faithful peer → MeetsBy (l.is_faithful local') (p.is_faithful peer') (l.most_keys local) (p.most_keys peer) (l.number local) (l.states local) (p.states peer) (l.states local') (p.states peer') (Ok report))
-      → (l.is_faithful local → p.is_faithful peer → (differing : List (List ℕ)) → HasAllThatDiffer (l.states local) (p.states peer) differing → AreFew (g.asked_local + g.wanted_local) (l.states local) differing × AreFew (g.asked_peer + g.wanted_peer) (p.states peer) differing)
-      → Session l p most local local' peer peer' (Ok report)
+      → (l.is_faithful local → p.is_faithful peer → (differing : List (List ℕ)) → HasAllThatDiffer (l.states local) (p.states peer) differing → AreFew (g.course.asked_local + g.course.wanted_local) (l.states local) differing × AreFew (g.course.asked_peer + g.course.wanted_peer) (p.states peer) differing)
+      → SessionBy l p most local local' peer peer' (Ok report)
   session_done x report g answers meets few = record {
-    asked_local = g.asked_local;
-    asked_peer = g.asked_peer;
-    wanted_local = g.wanted_local;
-    wanted_peer = g.wanted_peer;
-    within = g.within;
-    follows = g.follows;
-    cause = tt;
+    course = course_done l p all_left local local' peer peer' x report g.course;
     answers = answers;
-    local_side = λ t. let c = g.local_side t in record { after_ok = c.after_ok; after_fault = tt; pushes = c.pushes };
-    peer_side = λ t. let c = g.peer_side t in record { after_ok = c.after_ok; after_fault = tt; pushes = c.pushes };
-    beside_local = g.beside_local;
-    beside_peer = g.beside_peer;
     meets = meets;
     few = few;
   }
@@ -139,12 +118,12 @@ begins_with number = record { number = number; waiting = []; keys = 0; refused =
 
 -- the walk came to an end
 module _ {L P : Type 0} (l : SideOf L) (p : SideOf P) (most : ℕ) (local local1 : L) (peer peer1 : P) where
-  pub session_walks : (fault : SyncFault) → ReadsEnd l p (λ asked. AreFewFor l p local peer (λ m. asked ≤ 1 + 2 * m)) (record { local = most; peer = most }) local local1 peer peer1 fault → Session l p most local local1 peer peer1 (Err fault)
+  pub session_walks : (fault : SyncFault) → ReadsEndBy l p (λ asked. AreFewForBy l p local peer (λ m. asked ≤ 1 + 2 * m)) (record { local = most; peer = most }) local local1 peer peer1 fault → SessionBy l p most local local1 peer peer1 (Err fault)
   unfolding goes_of_end
   session_walks fault r =
       let left : Questions = record { local = most; peer = most } in
       let e = begins_with (l.number local) in
-      session_ends l p most local local1 peer peer1 left e e {A = Unit {0}} fault (goes_of_end l p (λ asked. AreFewFor l p local peer (λ m. asked ≤ 1 + 2 * m)) left left local local1 peer peer1 e fault r)
+      session_ends l p most local local1 peer peer1 left e e {A = Unit {0}} fault (goes_of_end l p (λ asked. AreFewForBy l p local peer (λ m. asked ≤ 1 + 2 * m)) left left local local1 peer peer1 e fault r)
       (λ t u. joins_some (l.most_keys local) (p.most_keys peer) (l.states local) (p.states peer) (l.states local1) (p.states peer1) (l.number local) (l.is_faithful local1) (p.is_faithful peer1) []
       (so_none (l.most_keys local) (p.most_keys peer) (l.number local) (l.states local) (p.states peer) (l.states local1) (p.states peer1) (r.kept_local t).states (r.kept_peer u).states))
       (λ t u differing all.
@@ -158,23 +137,23 @@ module _ {L P : Type 0} (l : SideOf L) (p : SideOf P)
     (form_l : (s : L) → l.is_faithful s → AreHeld (l.states s)) (form_p : (s : P) → p.is_faithful s → AreHeld (p.states s))
     (held_few : (a : States) (paths : List (List ℕ)) → AreDistinct paths → Each (λ path. length path ≡ 3) paths → held_in a paths ≤ len a)
     (most : ℕ) (mid left2 : Questions) (local local1 local2 : L) (peer peer1 peer2 : P) (paths : List (List ℕ)) (e2 : Exchanging)
-    (w : FindsBuckets l p (record { local = most; peer = most }) mid local local1 peer peer1 paths) where
+    (w : FindsBucketsBy l p (record { local = most; peer = most }) mid local local1 peer peer1 paths) where
   abbrev start : Exchanging
   start = begins_with (l.number local)
 
   abbrev total : Questions
   total = record { local = most; peer = most }
 
-  walked : Goes l p total mid local local1 peer peer1 start start (Ok (tt {0}))
+  walked : GoesBy l p total mid local local1 peer peer1 start start (Ok (tt {0}))
   unfolding goes_of_reads
   walked = goes_of_reads l p (tt {0}) w.asked w.asked total mid local local1 peer peer1 start w.local_side w.peer_side
 
-  module _ {A : Type 0} (r2 : Result A SyncFault) (second : GoesOver l p paths (length paths) mid left2 local1 local2 peer1 peer2 start e2 r2) where
-    pub gone : Goes l p total left2 local local2 peer peer2 start e2 r2
+  module _ {A : Type 0} (r2 : Result A SyncFault) (second : GoesOverBy l p paths (length paths) mid left2 local1 local2 peer1 peer2 start e2 r2) where
+    pub gone : GoesBy l p total left2 local local2 peer peer2 start e2 r2
     gone = goes_on l p on on' total mid left2 local local1 local2 peer peer1 peer2 start start e2 (tt {0}) r2 walked second.goes
 
     abbrev Found : ℕ → ℕ → Type 0
-    Found x y = FindsBy l p (l.number local) (l.states local) (p.states peer) [] paths (length paths) (held_in (l.states local) paths) (held_in (p.states peer) paths) (second.goes.asked_local + second.goes.wanted_local) (second.goes.asked_peer + second.goes.wanted_peer) local2 peer2 x y start e2 r2
+    Found x y = FindsBy l p (l.number local) (l.states local) (p.states peer) [] paths (length paths) (second.goes.course.asked_local + second.goes.course.wanted_local) (second.goes.course.asked_peer + second.goes.course.wanted_peer) local2 peer2 x y start e2 r2
 
     pub found_there : l.is_faithful local → p.is_faithful peer → Found (l.most_keys local) (p.most_keys peer)
     found_there t u =
@@ -199,7 +178,7 @@ module _ {L P : Type 0} (l : SideOf L) (p : SideOf P)
         (omega (arith, i, pages.0), omega (arith, j, pages.1))
 
   -- the buckets came to an end
-  pub session_buckets : {A : Type 0} (fault : SyncFault) → GoesOver {A = A} l p paths (length paths) mid left2 local1 local2 peer1 peer2 start e2 (Err fault) → Session l p most local local2 peer peer2 (Err fault)
+  pub session_buckets : {A : Type 0} (fault : SyncFault) → GoesOverBy {A = A} l p paths (length paths) mid left2 local1 local2 peer1 peer2 start e2 (Err fault) → SessionBy l p most local local2 peer peer2 (Err fault)
   unfolding gone walked goes_on goes_of_reads
   session_buckets {A} fault second = session_ends l p most local local2 peer peer2 left2 start e2 fault (gone (Err fault) second)
       (λ t u. (found_there (Err fault) second t u).ends)
@@ -211,16 +190,16 @@ module _ {L P : Type 0} (l : SideOf L) (p : SideOf P)
       let keys = few_next (l.states local) (p.states peer) f.found differing f.next all in
       (omega (arith, pages.0, few.0, walk, keys), omega (arith, pages.1, few.1, walk, keys)))
 
-  module _ {A B : Type 0} (x2 : A) (second : GoesOver l p paths (length paths) mid left2 local1 local2 peer1 peer2 start e2 (Ok x2)) (left3 : Questions) (local3 : L) (peer3 : P) (e3 : Exchanging) (r3 : Result B SyncFault)
-      (third : Exchanges l p e2.waiting left2 left3 local2 local3 peer2 peer3 e2 e3 r3) where
-    all_gone : Goes l p total left3 local local3 peer peer3 start e3 r3
+  module _ {A B : Type 0} (x2 : A) (second : GoesOverBy l p paths (length paths) mid left2 local1 local2 peer1 peer2 start e2 (Ok x2)) (left3 : Questions) (local3 : L) (peer3 : P) (e3 : Exchanging) (r3 : Result B SyncFault)
+      (third : ExchangesBy l p e2.waiting left2 left3 local2 local3 peer2 peer3 e2 e3 r3) where
+    all_gone : GoesBy l p total left3 local local3 peer peer3 start e3 r3
     all_gone = goes_on l p on on' total left2 left3 local local2 local3 peer peer2 peer3 start e2 e3 x2 r3 (gone (Ok x2) second) (goes_of_exchange l p e2.waiting left2 left3 local2 local3 peer2 peer3 e2 e3 r3 (omega arith) third)
 
     most_l2 : l.most_keys local2 ≡ l.most_keys local
-    most_l2 = most_l second.goes.asked_local local1 local2 second.goes.follows.0 ∙ most_l w.asked local local1 w.local_side.follows
+    most_l2 = most_l second.goes.course.asked_local local1 local2 second.goes.course.follows.0 ∙ most_l w.asked local local1 w.local_side.follows
 
     most_p2 : p.most_keys peer2 ≡ p.most_keys peer
-    most_p2 = most_p second.goes.asked_peer peer1 peer2 second.goes.follows.1 ∙ most_p w.asked peer peer1 w.peer_side.follows
+    most_p2 = most_p second.goes.course.asked_peer peer1 peer2 second.goes.course.follows.1 ∙ most_p w.asked peer peer1 w.peer_side.follows
 
     abbrev Ends : List Done → ℕ → ℕ → Option ℕ → Type 0
     Ends done x y o = MatchResult r3 (λ _. GoesOnBy l p o (l.states local) (p.states peer) done e2.waiting local3 peer3 x y e3) (λ _. JoinsSomeBy (l.is_faithful local3) (p.is_faithful peer3) (l.states local) (p.states peer) (l.states local3) (p.states peer3))
@@ -228,7 +207,7 @@ module _ {L P : Type 0} (l : SideOf L) (p : SideOf P)
     abbrev Steps : List Done → ℕ → ℕ → Option ℕ → Type 0
     Steps done x y o = SoFarBy x y o (l.states local) (p.states peer) (l.states local2) (p.states peer2) done → Ends done x y o
 
-    all_found : (t : l.is_faithful local) (u : p.is_faithful peer) → FindsAllBy l p (l.number local) (l.states local) (p.states peer) [] paths (found_there (Ok x2) second t u).found (found_there (Ok x2) second t u).found (length paths + (found_there (Ok x2) second t u).pages_local) (length paths + (found_there (Ok x2) second t u).pages_peer) (second.goes.asked_local + second.goes.wanted_local) (second.goes.asked_peer + second.goes.wanted_peer) local2 peer2 (l.most_keys local) (p.most_keys peer) e2
+    all_found : (t : l.is_faithful local) (u : p.is_faithful peer) → GoesFewOnBy l p (l.number local) (l.states local) (p.states peer) [] (found_there (Ok x2) second t u).found (length paths + (found_there (Ok x2) second t u).pages_local) (length paths + (found_there (Ok x2) second t u).pages_peer) (second.goes.course.asked_local + second.goes.course.wanted_local) (second.goes.course.asked_peer + second.goes.course.wanted_peer) local2 peer2 (l.most_keys local) (p.most_keys peer) e2
     all_found t u = (found_there (Ok x2) second t u).ends
 
     ended : (t : l.is_faithful local) (u : p.is_faithful peer) → Ends (all_found t u).goes_on.now (l.most_keys local) (p.most_keys peer) (l.number local)
@@ -240,7 +219,7 @@ module _ {L P : Type 0} (l : SideOf L) (p : SideOf P)
     abbrev AllFew : ℕ → ℕ → List (List ℕ) → Type 0
     AllFew i j differing = AreFew i (l.states local) differing × AreFew j (p.states peer) differing
 
-    all_few : l.is_faithful local → p.is_faithful peer → (differing : List (List ℕ)) → HasAllThatDiffer (l.states local) (p.states peer) differing → AllFew ((w.asked + second.goes.asked_local + third.asked_local) + third.wanted_local) ((w.asked + second.goes.asked_peer + third.asked_peer) + third.wanted_peer) differing
+    all_few : l.is_faithful local → p.is_faithful peer → (differing : List (List ℕ)) → HasAllThatDiffer (l.states local) (p.states peer) differing → AllFew ((w.asked + second.goes.course.asked_local + third.course.asked_local) + third.course.wanted_local) ((w.asked + second.goes.course.asked_peer + third.course.asked_peer) + third.course.wanted_peer) differing
     all_few t u differing all =
         let f = found_there (Ok x2) second t u in
         let pages = pages_few (Ok x2) second t u in
@@ -251,22 +230,22 @@ module _ {L P : Type 0} (l : SideOf L) (p : SideOf P)
         (omega (arith, pages.0, fewer.0, few.0, walk, keys), omega (arith, pages.1, fewer.1, few.1, walk, keys))
 
   -- the last window came to an end
-  pub session_exchanges : {A B : Type 0} (x2 : A) (second : GoesOver l p paths (length paths) mid left2 local1 local2 peer1 peer2 start e2 (Ok x2)) (left3 : Questions) (local3 : L) (peer3 : P) (e3 : Exchanging) (fault : SyncFault)
-      → Exchanges {A = B} l p e2.waiting left2 left3 local2 local3 peer2 peer3 e2 e3 (Err fault) → Session l p most local local3 peer peer3 (Err fault)
+  pub session_exchanges : {A B : Type 0} (x2 : A) (second : GoesOverBy l p paths (length paths) mid left2 local1 local2 peer1 peer2 start e2 (Ok x2)) (left3 : Questions) (local3 : L) (peer3 : P) (e3 : Exchanging) (fault : SyncFault)
+      → ExchangesBy {A = B} l p e2.waiting left2 left3 local2 local3 peer2 peer3 e2 e3 (Err fault) → SessionBy l p most local local3 peer peer3 (Err fault)
   unfolding all_gone gone walked goes_on goes_of_reads goes_of_exchange
   session_exchanges {A} {B} x2 second left3 local3 peer3 e3 fault third = session_ends l p most local local3 peer peer3 left3 start e3 fault (all_gone x2 second left3 local3 peer3 e3 (Err fault) third)
       (λ t u. ended x2 second left3 local3 peer3 e3 (Err fault) third t u) (all_few x2 second left3 local3 peer3 e3 (Err fault) third)
 
   -- all was done
-  pub session_all : {A B : Type 0} (x2 : A) (second : GoesOver l p paths (length paths) mid left2 local1 local2 peer1 peer2 start e2 (Ok x2)) (left3 : Questions) (local3 : L) (peer3 : P) (e3 : Exchanging) (x3 : B)
-      → Exchanges {A = B} l p e2.waiting left2 left3 local2 local3 peer2 peer3 e2 e3 (Ok x3) → e3.waiting ≡ [] → (report : Report) → report.keys ≡ e3.keys → report.refused ≡ e3.refused → report.old ≡ e3.older → report.first_refused ≡ e3.first_refused
-      → Session l p most local local3 peer peer3 (Ok report)
+  pub session_all : {A B : Type 0} (x2 : A) (second : GoesOverBy l p paths (length paths) mid left2 local1 local2 peer1 peer2 start e2 (Ok x2)) (left3 : Questions) (local3 : L) (peer3 : P) (e3 : Exchanging) (x3 : B)
+      → ExchangesBy {A = B} l p e2.waiting left2 left3 local2 local3 peer2 peer3 e2 e3 (Ok x3) → e3.waiting ≡ [] → (report : Report) → report.keys ≡ e3.keys → report.refused ≡ e3.refused → report.old ≡ e3.older → report.first_refused ≡ e3.first_refused
+      → SessionBy l p most local local3 peer peer3 (Ok report)
   unfolding all_gone gone walked goes_on goes_of_reads goes_of_exchange
   session_all {A} {B} x2 second left3 local3 peer3 e3 x3 third none report keys refused old first =
-      let follow_l = on second.goes.asked_local third.asked_local local1 local2 local3 second.goes.follows.0 third.follows.0 in
-      let follow_p = on' second.goes.asked_peer third.asked_peer peer1 peer2 peer3 second.goes.follows.1 third.follows.1 in
+      let follow_l = on second.goes.course.asked_local third.course.asked_local local1 local2 local3 second.goes.course.follows.0 third.course.follows.0 in
+      let follow_p = on' second.goes.course.asked_peer third.course.asked_peer peer1 peer2 peer3 second.goes.course.follows.1 third.course.follows.1 in
       session_done l p most local local3 peer peer3 left3 start e3 x3 report (all_gone x2 second left3 local3 peer3 e3 (Ok x3) third)
-      (answered_still l on local local1 local3 (second.goes.asked_local + third.asked_local, follow_l) w.answers.0, answered_still p on' peer peer1 peer3 (second.goes.asked_peer + third.asked_peer, follow_p) w.answers.1)
+      (answered_still l on local local1 local3 (second.goes.course.asked_local + third.course.asked_local, follow_l) w.answers.0, answered_still p on' peer peer1 peer3 (second.goes.course.asked_peer + third.course.asked_peer, follow_p) w.answers.1)
       (λ t u.
       let a = l.states local in
       let b = p.states peer in
@@ -281,12 +260,12 @@ module _ {L P : Type 0} (l : SideOf L) (p : SideOf P)
         given = given_keys done;
         joins = joins_of (l.most_keys local) (p.most_keys peer) a b (l.states local3) (p.states peer3) (l.number local) (l.is_faithful local3) (p.is_faithful peer3) done h.so_far;
         tells = tells_of (l.most_keys local) (p.most_keys peer) (l.number local) a b (l.states local3) (p.states peer3) done e3 report h.so_far h.counts keys refused old first
-            (λ apart key differ. ap (λ ks. is_member ks key) (sym done_keys) ∙ f.all key ((w.right t u).whole apart key differ) (digests_differ a b (form_l local t) (form_p peer u) apart key differ));
+            (λ apart key differ. ap (λ ks. is_member ks key) (sym done_keys) ∙ (found_there (Ok x2) second t u).all key ((w.right t u).whole apart key differ) (digests_differ a b (form_l local t) (form_p peer u) apart key differ));
       })
       (all_few x2 second left3 local3 peer3 e3 (Ok x3) third)
 
 -- buckets by the names that a session has for them
 pub over_at : {L P A : Type 0} (l : SideOf L) (p : SideOf P) (qs ps : List (List ℕ)) (left left' : Questions) (local local' : L) (peer peer' : P) (e f after : Exchanging) (result : Result A SyncFault) → qs ≡ ps → e ≡ f
-    → GoesOver l p qs (length qs) left left' local local' peer peer' e after result → GoesOver l p ps (length ps) left left' local local' peer peer' f after result
+    → GoesOverBy l p qs (length qs) left left' local local' peer peer' e after result → GoesOverBy l p ps (length ps) left left' local local' peer peer' f after result
 over_at l p qs ps left left' local local' peer peer' e f after result same start h =
-    subst (λ x. GoesOver l p ps (length ps) left left' local local' peer peer' x after result) start (subst (λ xs. GoesOver l p xs (length xs) left left' local local' peer peer' e after result) same h)
+    subst (λ x. GoesOverBy l p ps (length ps) left left' local local' peer peer' x after result) start (subst (λ xs. GoesOverBy l p xs (length xs) left left' local local' peer peer' e after result) same h)

@@ -7,7 +7,6 @@ use Rattle.mvd_dots.specs.declared.refusals.Refusal.{Refusal}
 use Rattle.mvd_dots.specs.declared.refusals.Refusal.TheVariants.{Broken}
 use Rattle.mvd_keys.specs.State.{IsValid, State}
 use Rattle.mvd_site.specs.Held.{States}
-use Rattle.mvd_sync.specs.Carries.{Planned}
 use Rattle.mvd_sync.specs.Exchanges.{IsHeldByEither, keys_next}
 use Rattle.mvd_sync.specs.Meetings.{ArePlans, held_keys, is_held, noted, pair_of, rest_if, taken_from}
 use Rattle.mvd_sync.specs.Questions.{ForEach, TakesFirst, TakesIn}
@@ -22,6 +21,7 @@ use Rattle.mvd_sync.specs.declared.report.SyncFault.{SyncFault}
 use Rattle.mvd_sync.proofs.Handing.{gives_given, gives_good, gives_noted, pulls_given, pulls_good}
 use Rattle.mvd_sync.proofs.Taking.{comes_by, each_first}
 use Rattle.mvd_sync.proofs.Windowed.{meeting_keys}
+use Rattle.mvd_sync.proofs.Positions.{PlannedBy}
 
 -- ---- lists
 
@@ -104,7 +104,7 @@ changes_first T named C old new refusal still c = record { after_ok = tt; after_
 -- ---- what was handed over
 
 module _ {L P : Type 0} (l : SideOf L) (p : SideOf P) (number : Option ℕ) (entries : List Entry) (left left1 : Questions) (local local1 : L) (peer peer1 : P) (ms : List Meeting)
-    (plan : Planned l p number entries left left1 local local1 peer peer1 ms) (G : List ℕ → State → Type 0) where
+    (plan : PlannedBy l p number entries left left1 local local1 peer peer1 ms) (G : List ℕ → State → Type 0) where
   pub pulls : ((k : List ℕ) (s : State) → p.can_give k s × HasAnswered p.follows p.can_answer peer peer1 → G k s) → Each (λ p. G p.0 p.1 × IsValid p.1) (filter_map (pair_of AtLocal) ms)
   pulls f = pulls_good (λ k s. G k s × IsValid s) ms
       (pulls_given G number entries plan.mine plan.theirs ms (each_may (λ k s. p.can_give k s × HasAnswered p.follows p.can_answer peer peer1) G f (held_keys AtPeer entries) plan.theirs plan.from_peer.may) plan.plans)

@@ -11,24 +11,24 @@ use Rattle.mvd_site.specs.Answer.{digests}
 use Rattle.mvd_site.specs.Held.{States}
 use Rattle.mvd_tree.specs.HashTree.{KeyDigests, is_under, path_of_key}
 use Rattle.mvd_sync.specs.Answers.{IsPageOf}
-use Rattle.mvd_sync.specs.Buckets.{AreElsewhere, ArePages, GoesOver, GoesThrough, held_in}
+use Rattle.mvd_sync.specs.Buckets.{AreElsewhere, ArePages, held_in}
 use Rattle.mvd_sync.specs.Exchanges.{AreNext, Done, Exchanging, keys_done, keys_next}
 use Rattle.mvd_sync.specs.Nodes.{has_below}
 use Rattle.mvd_sync.specs.Session.{AreDistinct, Each, IsIn, is_member}
 use Rattle.mvd_sync.specs.Sides.{SideOf}
-use Rattle.mvd_sync.specs.Walk.{Reads, ReadsEnd}
+use Rattle.mvd_sync.specs.Walk.{Reads}
 use Rattle.mvd_sync.specs.declared.cursor.Entry.{Entry}
 use Rattle.mvd_sync.specs.declared.asking.Questions.{Questions}
 use Rattle.mvd_sync.specs.declared.report.SyncFault.{SyncFault}
 use Rattle.mvd_sync.proofs.Descents.{Each-left, Each-right}
-use Rattle.mvd_sync.proofs.Going.{goes_nowhere, goes_of_end, goes_of_reads, goes_on}
+use Rattle.mvd_sync.proofs.Going.{goes_nowhere, if_ok, goes_of_end, goes_of_reads, goes_on}
 use Rattle.mvd_sync.proofs.Gone.{all_split, each_keys, page_same}
 use Rattle.mvd_sync.proofs.Joined.{joins_some}
 use Rattle.mvd_sync.proofs.Keys.{Each-weaker, is_member-append, no_member, or_cases, or_left, or_right}
 use Rattle.mvd_sync.proofs.Nexts.{goes_from, goes_further, keys_done-append, keys_next-append, were_next}
 use Rattle.mvd_sync.proofs.Nodes.{AreLong, Each-append, begins-one, or_first, or_second}
 use Rattle.mvd_sync.proofs.Pushes.{tied}
-use Rattle.mvd_sync.proofs.Positions.{FindsAllBy, FindsBy, GoesOnBy, JoinsSomeBy, SoFarBy}
+use Rattle.mvd_sync.proofs.Positions.{FindsBy, GoesFewOnBy, GoesOnBy, GoesOverBy, GoesThroughBy, JoinsSomeBy, ReadsEndBy, SoFarBy}
 
 -- ---- lists of buckets
 
@@ -95,9 +95,9 @@ elsewhere_second ps qs done now waiting found at d l is elsewhere below =
 -- ---- what was found in the first buckets and in the others
 
 module _ {L P A : Type 0} (l : SideOf L) (p : SideOf P) (number : Option ℕ) (a b : States) (done : List Done) (ps qs : List (List ℕ)) (most_local most_peer firsts1 firsts2 asked_l1 asked_p1 asked_l2 asked_p2 : ℕ) (local1 local2 : L) (peer1 peer2 : P) (before at after : Exchanging)
-    (first : FindsBy {A = Unit {0}} l p number a b done ps firsts1 (held_in a ps) (held_in b ps) asked_l1 asked_p1 local1 peer1 most_local most_peer before at (Ok (tt {0})))
+    (first : FindsBy {A = Unit {0}} l p number a b done ps firsts1 asked_l1 asked_p1 local1 peer1 most_local most_peer before at (Ok (tt {0})))
     (result : Result A SyncFault)
-    (second : FindsBy l p number a b (done ++ first.ends.goes_on.now) qs firsts2 (held_in a qs) (held_in b qs) asked_l2 asked_p2 local2 peer2 most_local most_peer at after result) where
+    (second : FindsBy l p number a b (done ++ first.ends.goes_on.now) qs firsts2 asked_l2 asked_p2 local2 peer2 most_local most_peer at after result) where
   found_both : List Entry
   found_both = first.found ++ second.found
 
@@ -111,18 +111,17 @@ module _ {L P A : Type 0} (l : SideOf L) (p : SideOf P) (number : Option ℕ) (a
   all_both others key h differ =
       ap (λ ks. is_member ks key) (keys_next-append first.found second.found) ∙ is_member-append (keys_next first.found) (keys_next second.found) key
       ∙ elim (or_cases (has_below ps key) (has_below qs key) (sym (below-append ps qs key) ∙ h)) [
-        | inl u ↦ or_first (is_member (keys_next first.found) key) (is_member (keys_next second.found) key) (first.ends.all key u differ)
+        | inl u ↦ or_first (is_member (keys_next first.found) key) (is_member (keys_next second.found) key) (first.all key u differ)
         | inr v ↦ or_second (is_member (keys_next first.found) key) (is_member (keys_next second.found) key) (others key v differ)
       ]
 
   ends_both : (r : Result A SyncFault)
-      → MatchResult r (λ _. FindsAllBy l p number a b (done ++ first.ends.goes_on.now) qs second.found (at.waiting ++ second.found) (firsts2 + second.pages_local) (firsts2 + second.pages_peer) asked_l2 asked_p2 local2 peer2 most_local most_peer after)
+      → MatchResult r (λ _. GoesFewOnBy l p number a b (done ++ first.ends.goes_on.now) (at.waiting ++ second.found) (firsts2 + second.pages_local) (firsts2 + second.pages_peer) asked_l2 asked_p2 local2 peer2 most_local most_peer after)
       (λ _. JoinsSomeBy (l.is_faithful local2) (p.is_faithful peer2) a b (l.states local2) (p.states peer2))
-      → MatchResult r (λ _. FindsAllBy l p number a b done (ps ++ qs) (first.found ++ second.found) (before.waiting ++ (first.found ++ second.found)) ((firsts1 + firsts2) + (first.pages_local + second.pages_local)) ((firsts1 + firsts2) + (first.pages_peer + second.pages_peer)) (asked_l1 + asked_l2) (asked_p1 + asked_p2) local2 peer2 most_local most_peer after)
+      → MatchResult r (λ _. GoesFewOnBy l p number a b done (before.waiting ++ (first.found ++ second.found)) ((firsts1 + firsts2) + (first.pages_local + second.pages_local)) ((firsts1 + firsts2) + (first.pages_peer + second.pages_peer)) (asked_l1 + asked_l2) (asked_p1 + asked_p2) local2 peer2 most_local most_peer after)
       (λ _. JoinsSomeBy (l.is_faithful local2) (p.is_faithful peer2) a b (l.states local2) (p.states peer2))
   ends_both (Err fault) h = h
   ends_both (Ok done_) h = record {
-    all = all_both h.all;
     goes_on = subst (λ es. GoesOnBy l p number a b done es local2 peer2 most_local most_peer after) (append_assoc before.waiting first.found second.found)
         (goes_further l p number a b done most_local most_peer (before.waiting ++ first.found) second.found local1 local2 peer1 peer2 at after first.ends.goes_on h.goes_on);
     fewer =
@@ -132,7 +131,7 @@ module _ {L P A : Type 0} (l : SideOf L) (p : SideOf P) (number : Option ℕ) (a
         (omega (arith, k.0, k.1, x.0, y.0), omega (arith, k.0, k.1, x.1, y.1));
   }
 
-  pub finds_both : FindsBy l p number a b done (ps ++ qs) (firsts1 + firsts2) (held_in a (ps ++ qs)) (held_in b (ps ++ qs)) (asked_l1 + asked_l2) (asked_p1 + asked_p2) local2 peer2 most_local most_peer before after result
+  pub finds_both : FindsBy l p number a b done (ps ++ qs) (firsts1 + firsts2) (asked_l1 + asked_l2) (asked_p1 + asked_p2) local2 peer2 most_local most_peer before after result
   finds_both =
       let k = keys_both in
       let x = first.ends.fewer in
@@ -146,6 +145,7 @@ module _ {L P A : Type 0} (l : SideOf L) (p : SideOf P) (number : Option ℕ) (a
         below = Each-append (λ e. IsTrue (has_below (ps ++ qs) e.key)) first.found second.found
             (Each-weaker (λ e. IsTrue (has_below ps e.key)) (λ e. IsTrue (has_below (ps ++ qs) e.key)) (λ e h. below_first ps qs e.key h) first.found first.below)
             (Each-weaker (λ e. IsTrue (has_below qs e.key)) (λ e. IsTrue (has_below (ps ++ qs) e.key)) (λ e h. below_second ps qs e.key h) second.found second.below);
+        all = if_ok result all_both second.all;
         next = subst (AreNext a b done) (append_assoc before.waiting first.found second.found)
             (were_next done first.ends.goes_on.now (before.waiting ++ first.found) at.waiting second.found first.ends.goes_on.is a b first.next.each second.next);
         pages_local = first.pages_local + second.pages_local;
@@ -156,11 +156,11 @@ module _ {L P A : Type 0} (l : SideOf L) (p : SideOf P) (number : Option ℕ) (a
       }
 
 -- by so many questions, however they are counted
-found_at : {L P A : Type 0} (l : SideOf L) (p : SideOf P) (number : Option ℕ) (a b : States) (done : List Done) (paths : List (List ℕ)) (firsts held_local held_peer i j i' j' : ℕ) (local' : L) (peer' : P) (most_local most_peer : ℕ) (before after : Exchanging) (result : Result A SyncFault) → i ≡ i' → j ≡ j'
-    → FindsBy l p number a b done paths firsts held_local held_peer i j local' peer' most_local most_peer before after result → FindsBy l p number a b done paths firsts held_local held_peer i' j' local' peer' most_local most_peer before after result
-found_at l p number a b done paths firsts held_local held_peer i j i' j' local' peer' most_local most_peer before after result e e' h =
-    subst (λ n. FindsBy l p number a b done paths firsts held_local held_peer n j' local' peer' most_local most_peer before after result) e
-    (subst (λ m. FindsBy l p number a b done paths firsts held_local held_peer i m local' peer' most_local most_peer before after result) e' h)
+found_at : {L P A : Type 0} (l : SideOf L) (p : SideOf P) (number : Option ℕ) (a b : States) (done : List Done) (paths : List (List ℕ)) (firsts i j i' j' : ℕ) (local' : L) (peer' : P) (most_local most_peer : ℕ) (before after : Exchanging) (result : Result A SyncFault) → i ≡ i' → j ≡ j'
+    → FindsBy l p number a b done paths firsts i j local' peer' most_local most_peer before after result → FindsBy l p number a b done paths firsts i' j' local' peer' most_local most_peer before after result
+found_at l p number a b done paths firsts i j i' j' local' peer' most_local most_peer before after result e e' h =
+    subst (λ n. FindsBy l p number a b done paths firsts n j' local' peer' most_local most_peer before after result) e
+    (subst (λ m. FindsBy l p number a b done paths firsts i m local' peer' most_local most_peer before after result) e' h)
 
 later_sum : (a v b w : ℕ) → v ≡ 0 → (a + v) + (b + w) ≡ (a + b) + w
 later_sum a v b w none = omega (arith, none)
@@ -172,7 +172,7 @@ sums n a w = omega arith
 
 -- nothing was gone over
 module _ {L P : Type 0} (l : SideOf L) (p : SideOf P) (Told : States → States → Type 0) (self : (s : L) → l.follows 0 s s) (self' : (s : P) → p.follows 0 s s) (left : Questions) (local : L) (peer : P) (before : Exchanging) where
-  pub through_none : GoesThrough l p Told [] 0 left left local local peer peer before before (Ok (tt {0}))
+  pub through_none : GoesThroughBy l p Told [] 0 left left local local peer peer before before (Ok (tt {0}))
   unfolding goes_nowhere goes_of_reads
   through_none = record {
     goes = goes_nowhere l p self self' (tt {0}) left local peer before;
@@ -182,13 +182,13 @@ module _ {L P : Type 0} (l : SideOf L) (p : SideOf P) (Told : States → States 
         record {
           found = [];
           below = tt;
+          all = λ key h differ. absurd (cc);
           next = subst (AreNext a b done) (sym none) next;
           pages_local = 0;
           pages_peer = 0;
           pages = (omega arith, omega arith);
           few = (omega arith, omega arith);
           ends = record {
-            all = λ key h differ. absurd (cc);
             goes_on = subst (λ es. GoesOnBy l p before.number a b done es local peer (l.most_keys local) (p.most_keys peer) before) (sym none) (goes_from l p before.number a b done (l.most_keys local) (p.most_keys peer) local peer before t u so counts next);
             fewer = (omega (arith, n), omega (arith, n));
           };
@@ -219,25 +219,25 @@ module _ {L P : Type 0} (l : SideOf L) (p : SideOf P)
     (stays' : (n : ℕ) (old new : P) → p.follows n old new → p.most_keys new ≡ p.most_keys old) where
   pub through_on : {A : Type 0} (Told Then : States → States → Type 0) → ((a b : States) → Told a b → Then a b)
       → (ps qs : List (List ℕ)) (firsts1 firsts2 : ℕ) (left mid left' : Questions) (local local1 local2 : L) (peer peer1 peer2 : P) (before at after : Exchanging) (result : Result A SyncFault)
-      → GoesThrough l p Told ps firsts1 left mid local local1 peer peer1 before at (Ok (tt {0})) → GoesThrough l p Then qs firsts2 mid left' local1 local2 peer1 peer2 at after result
-      → GoesThrough l p Told (ps ++ qs) (firsts1 + firsts2) left left' local local2 peer peer2 before after result
+      → GoesThroughBy l p Told ps firsts1 left mid local local1 peer peer1 before at (Ok (tt {0})) → GoesThroughBy l p Then qs firsts2 mid left' local1 local2 peer1 peer2 at after result
+      → GoesThroughBy l p Told (ps ++ qs) (firsts1 + firsts2) left left' local local2 peer peer2 before after result
   unfolding goes_on
   through_on Told Then then ps qs firsts1 firsts2 left mid left' local local1 local2 peer peer1 peer2 before at after result first second = record {
     goes = goes_on l p on on' left mid left' local local1 local2 peer peer1 peer2 before at after (tt {0}) result first.goes second.goes;
     meets = λ t u distinct long a b done so counts next elsewhere told.
         let one = first.meets t u (distinct_first ps qs distinct) (Each-left (λ path. length path ≡ 3) ps qs long) a b done so counts next (elsewhere_first ps qs (keys_done done ++ keys_next before.waiting) elsewhere) told in
         let g = one.ends.goes_on in
-        let i = first.goes.asked_local in
-        let j = first.goes.asked_peer in
-        let now = as_now l p stays stays' local local1 peer peer1 i j before at first.goes.follows first.goes.same (λ x y o. SoFarBy x y o a b (l.states local1) (p.states peer1) (done ++ g.now)) g.so_far in
+        let i = first.goes.course.asked_local in
+        let j = first.goes.course.asked_peer in
+        let now = as_now l p stays stays' local local1 peer peer1 i j before at first.goes.course.follows first.goes.same (λ x y o. SoFarBy x y o a b (l.states local1) (p.states peer1) (done ++ g.now)) g.so_far in
         let two = second.meets g.still.0 g.still.1 (distinct_second ps qs distinct) (Each-right (λ path. length path ≡ 3) ps qs long) a b (done ++ g.now) now g.counts g.waits
         (elsewhere_second ps qs done g.now before.waiting one.found at.waiting distinct long g.is elsewhere one.below) (then a b told) in
         let w = first.goes.calm in
-        let sl = second.goes.asked_local + second.goes.wanted_local in
-        let sp = second.goes.asked_peer + second.goes.wanted_peer in
-        found_at l p before.number a b done (ps ++ qs) (firsts1 + firsts2) (held_in a (ps ++ qs)) (held_in b (ps ++ qs)) _ _ _ _ local2 peer2 (l.most_keys local) (p.most_keys peer) before after result (later_sum first.goes.asked_local first.goes.wanted_local second.goes.asked_local second.goes.wanted_local w.0) (later_sum first.goes.asked_peer first.goes.wanted_peer second.goes.asked_peer second.goes.wanted_peer w.1)
-        (finds_both l p before.number a b done ps qs (l.most_keys local) (p.most_keys peer) firsts1 firsts2 (first.goes.asked_local + first.goes.wanted_local) (first.goes.asked_peer + first.goes.wanted_peer) sl sp local1 local2 peer1 peer2 before at after one result
-        (as_then l p stays stays' local local1 peer peer1 i j before at first.goes.follows first.goes.same (λ x y o. FindsBy l p o a b (done ++ g.now) qs firsts2 (held_in a qs) (held_in b qs) sl sp local2 peer2 x y at after result) two));
+        let sl = second.goes.course.asked_local + second.goes.course.wanted_local in
+        let sp = second.goes.course.asked_peer + second.goes.course.wanted_peer in
+        found_at l p before.number a b done (ps ++ qs) (firsts1 + firsts2) _ _ _ _ local2 peer2 (l.most_keys local) (p.most_keys peer) before after result (later_sum first.goes.course.asked_local first.goes.course.wanted_local second.goes.course.asked_local second.goes.course.wanted_local w.0) (later_sum first.goes.course.asked_peer first.goes.course.wanted_peer second.goes.course.asked_peer second.goes.course.wanted_peer w.1)
+        (finds_both l p before.number a b done ps qs (l.most_keys local) (p.most_keys peer) firsts1 firsts2 (first.goes.course.asked_local + first.goes.course.wanted_local) (first.goes.course.asked_peer + first.goes.course.wanted_peer) sl sp local1 local2 peer1 peer2 before at after one result
+        (as_then l p stays stays' local local1 peer peer1 i j before at first.goes.course.follows first.goes.same (λ x y o. FindsBy l p o a b (done ++ g.now) qs firsts2 sl sp local2 peer2 x y at after result) two));
   }
 
   -- ---- a window
@@ -261,8 +261,8 @@ module _ {L P : Type 0} (l : SideOf L) (p : SideOf P)
   pub window_through : {A : Type 0} (paths : List (List ℕ)) (mine theirs : List (List (Key × List ℕ) × Bool)) (n : ℕ) (left mid left' : Questions) (local local1 local2 : L) (peer peer1 peer2 : P) (before after : Exchanging) (result : Result A SyncFault)
       → Reads l n left.local mid.local local local1 → Reads p n left.peer mid.peer peer peer1
       → (l.is_faithful local → ArePages (digests (l.states local)) paths mine) → (p.is_faithful peer → ArePages (digests (p.states peer)) paths theirs)
-      → GoesThrough l p (λ a b. ArePages (digests a) paths mine × ArePages (digests b) paths theirs) paths 0 mid left' local1 local2 peer1 peer2 before after result
-      → GoesOver l p paths n left left' local local2 peer peer2 before after result
+      → GoesThroughBy l p (λ a b. ArePages (digests a) paths mine × ArePages (digests b) paths theirs) paths 0 mid left' local1 local2 peer1 peer2 before after result
+      → GoesOverBy l p paths n left left' local local2 peer peer2 before after result
   unfolding goes_on goes_of_reads
   window_through {A} paths mine theirs n left mid left' local local1 local2 peer peer1 peer2 before after result r q told_l told_p second = record {
     goes = goes_on l p on on' left mid left' local local1 local2 peer peer1 peer2 before before after (tt {0}) result (goes_of_reads l p (tt {0}) n n left mid local local1 peer peer1 before r q) second.goes;
@@ -279,34 +279,35 @@ module _ {L P : Type 0} (l : SideOf L) (p : SideOf P)
           pages_then b (p.states peer) paths theirs (λ x h. (kept x h).1) (told_p u),
         ) in
         let f = second.meets k.still j.still distinct long a b done now counts next elsewhere told in
-        let sl = second.goes.asked_local + second.goes.wanted_local in
-        let sp = second.goes.asked_peer + second.goes.wanted_peer in
-        let g = as_then l p stays stays' local local1 peer peer1 n n before before (r.follows, q.follows) refl (λ x y o. FindsBy l p o a b done paths 0 (held_in a paths) (held_in b paths) sl sp local2 peer2 x y before after result) f in
-        found_at l p before.number a b done paths n (held_in a paths) (held_in b paths) _ _ _ _ local2 peer2 (l.most_keys local) (p.most_keys peer) before after result (sums n second.goes.asked_local second.goes.wanted_local) (sums n second.goes.asked_peer second.goes.wanted_peer)
-        (later before.number a b done paths n (held_in a paths) (held_in b paths) sl sp local2 peer2 (l.most_keys local) (p.most_keys peer) before after result g);
+        let sl = second.goes.course.asked_local + second.goes.course.wanted_local in
+        let sp = second.goes.course.asked_peer + second.goes.course.wanted_peer in
+        let g = as_then l p stays stays' local local1 peer peer1 n n before before (r.follows, q.follows) refl (λ x y o. FindsBy l p o a b done paths 0 sl sp local2 peer2 x y before after result) f in
+        found_at l p before.number a b done paths n _ _ _ _ local2 peer2 (l.most_keys local) (p.most_keys peer) before after result (sums n second.goes.course.asked_local second.goes.course.wanted_local) (sums n second.goes.course.asked_peer second.goes.course.wanted_peer)
+        (later before.number a b done paths n sl sp local2 peer2 (l.most_keys local) (p.most_keys peer) before after result g);
   }
     where
-      ends_later : {B : Type 0} (number : Option ℕ) (a b : States) (done : List Done) (paths : List (List ℕ)) (found next : List Entry) (n i j asked_l asked_p : ℕ) (local' : L) (peer' : P) (most_local most_peer : ℕ) (after : Exchanging) (r : Result B SyncFault)
-          → MatchResult r (λ _. FindsAllBy l p number a b done paths found next (0 + i) (0 + j) asked_l asked_p local' peer' most_local most_peer after) (λ _. JoinsSomeBy (l.is_faithful local') (p.is_faithful peer') a b (l.states local') (p.states peer'))
-          → MatchResult r (λ _. FindsAllBy l p number a b done paths found next (n + i) (n + j) (n + asked_l) (n + asked_p) local' peer' most_local most_peer after) (λ _. JoinsSomeBy (l.is_faithful local') (p.is_faithful peer') a b (l.states local') (p.states peer'))
-      ends_later number a b done paths found next n i j asked_l asked_p local' peer' most_local most_peer after (Err fault) h = h
-      ends_later number a b done paths found next n i j asked_l asked_p local' peer' most_local most_peer after (Ok x) h = record { all = h.all; goes_on = h.goes_on; fewer = let k = h.fewer in (omega (arith, k.0), omega (arith, k.1)) }
+      ends_later : {B : Type 0} (number : Option ℕ) (a b : States) (done : List Done) (next : List Entry) (n i j asked_l asked_p : ℕ) (local' : L) (peer' : P) (most_local most_peer : ℕ) (after : Exchanging) (r : Result B SyncFault)
+          → MatchResult r (λ _. GoesFewOnBy l p number a b done next (0 + i) (0 + j) asked_l asked_p local' peer' most_local most_peer after) (λ _. JoinsSomeBy (l.is_faithful local') (p.is_faithful peer') a b (l.states local') (p.states peer'))
+          → MatchResult r (λ _. GoesFewOnBy l p number a b done next (n + i) (n + j) (n + asked_l) (n + asked_p) local' peer' most_local most_peer after) (λ _. JoinsSomeBy (l.is_faithful local') (p.is_faithful peer') a b (l.states local') (p.states peer'))
+      ends_later number a b done next n i j asked_l asked_p local' peer' most_local most_peer after (Err fault) h = h
+      ends_later number a b done next n i j asked_l asked_p local' peer' most_local most_peer after (Ok x) h = record { goes_on = h.goes_on; fewer = let k = h.fewer in (omega (arith, k.0), omega (arith, k.1)) }
 
-      later : {B : Type 0} (number : Option ℕ) (a b : States) (done : List Done) (paths : List (List ℕ)) (n held_local held_peer asked_l asked_p : ℕ) (local' : L) (peer' : P) (most_local most_peer : ℕ) (before after : Exchanging) (r : Result B SyncFault)
-          → FindsBy l p number a b done paths 0 held_local held_peer asked_l asked_p local' peer' most_local most_peer before after r → FindsBy l p number a b done paths n held_local held_peer (n + asked_l) (n + asked_p) local' peer' most_local most_peer before after r
-      later number a b done paths n held_local held_peer asked_l asked_p local' peer' most_local most_peer before after r f = record {
+      later : {B : Type 0} (number : Option ℕ) (a b : States) (done : List Done) (paths : List (List ℕ)) (n asked_l asked_p : ℕ) (local' : L) (peer' : P) (most_local most_peer : ℕ) (before after : Exchanging) (r : Result B SyncFault)
+          → FindsBy l p number a b done paths 0 asked_l asked_p local' peer' most_local most_peer before after r → FindsBy l p number a b done paths n (n + asked_l) (n + asked_p) local' peer' most_local most_peer before after r
+      later number a b done paths n asked_l asked_p local' peer' most_local most_peer before after r f = record {
         found = f.found;
         below = f.below;
+        all = f.all;
         next = f.next;
         pages_local = f.pages_local;
         pages_peer = f.pages_peer;
         pages = f.pages;
         few = let k = f.few in (omega (arith, k.0), omega (arith, k.1));
-        ends = ends_later number a b done paths f.found (before.waiting ++ f.found) n f.pages_local f.pages_peer asked_l asked_p local' peer' most_local most_peer after r f.ends;
+        ends = ends_later number a b done (before.waiting ++ f.found) n f.pages_local f.pages_peer asked_l asked_p local' peer' most_local most_peer after r f.ends;
       }
 
   -- they were not
-  pub window_ends : {A : Type 0} (paths : List (List ℕ)) (n : ℕ) (left left' : Questions) (local local' : L) (peer peer' : P) (before : Exchanging) (fault : SyncFault) → ReadsEnd l p (λ asked. asked ≤ n) left local local' peer peer' fault → GoesOver {A = A} l p paths n left left' local local' peer peer' before before (Err fault)
+  pub window_ends : {A : Type 0} (paths : List (List ℕ)) (n : ℕ) (left left' : Questions) (local local' : L) (peer peer' : P) (before : Exchanging) (fault : SyncFault) → ReadsEndBy l p (λ asked. asked ≤ n) left local local' peer peer' fault → GoesOverBy {A = A} l p paths n left left' local local' peer peer' before before (Err fault)
   unfolding goes_of_end
   window_ends {A} paths n left left' local local' peer peer' before fault r = record {
     goes = goes_of_end l p (λ asked. asked ≤ n) left left' local local' peer peer' before fault r;
@@ -319,6 +320,7 @@ module _ {L P : Type 0} (l : SideOf L) (p : SideOf P)
         record {
           found = [];
           below = tt;
+          all = tt;
           next = subst (AreNext a b done) (sym (append-nil before.waiting)) next;
           pages_local = 0;
           pages_peer = 0;
@@ -340,7 +342,7 @@ page_at held (q ∷ paths) (x ∷ pages) (suc i) path page h low e f = page_at h
 
 -- what was found in the first buckets was found in all
 pub through_cut : {L P A : Type 0} (l : SideOf L) (p : SideOf P) (Told : States → States → Type 0) (ps qs : List (List ℕ)) (firsts more : ℕ) (left left' : Questions) (local local' : L) (peer peer' : P) (before after : Exchanging) (fault : SyncFault)
-    → GoesThrough {A = A} l p Told ps firsts left left' local local' peer peer' before after (Err fault) → GoesThrough {A = A} l p Told (ps ++ qs) (firsts + more) left left' local local' peer peer' before after (Err fault)
+    → GoesThroughBy {A = A} l p Told ps firsts left left' local local' peer peer' before after (Err fault) → GoesThroughBy {A = A} l p Told (ps ++ qs) (firsts + more) left left' local local' peer peer' before after (Err fault)
 through_cut l p Told ps qs firsts more left left' local local' peer peer' before after fault g = record {
   goes = g.goes;
   meets = λ t u distinct long a b done so counts next elsewhere told.
@@ -352,6 +354,7 @@ through_cut l p Told ps qs firsts more left left' local local' peer peer' before
       record {
         found = f.found;
         below = Each-weaker (λ e. IsTrue (has_below ps e.key)) (λ e. IsTrue (has_below (ps ++ qs) e.key)) (λ e h. below_first ps qs e.key h) f.found f.below;
+        all = tt;
         next = f.next;
         pages_local = f.pages_local;
         pages_peer = f.pages_peer;

@@ -12,13 +12,14 @@ use Rattle.mvd_tree.specs.Hashed.{HashesTellApart}
 use Rattle.mvd_sync.specs.Nodes.{children_of, differing_children, differs_at, has_below}
 use Rattle.mvd_sync.specs.Session.{AreDistinct, Each, HasAllThatDiffer}
 use Rattle.mvd_sync.specs.Sides.{SideOf}
-use Rattle.mvd_sync.specs.Walk.{AreFewFor, Descends, FindsBuckets, HaveAnswered, Reads, ReadsEnd}
+use Rattle.mvd_sync.specs.Walk.{Reads}
 use Rattle.mvd_sync.specs.declared.asking.Questions.{Questions}
 use Rattle.mvd_sync.specs.declared.report.SyncFault.{SyncFault}
 use Rattle.mvd_sync.proofs.Compose.{answered_later, answered_still}
 use Rattle.mvd_sync.proofs.Descents.{end_later, reads_on}
 use Rattle.mvd_sync.proofs.Keys.{Each-weaker}
 use Rattle.mvd_sync.proofs.Nodes.{AreLong, Each-filter, Each-passes, differing_has_key, differs-from, distinct-below, distinct-filter, few_nodes, whole_below}
+use Rattle.mvd_sync.proofs.Positions.{AreFewForBy, DescendsBy, FindsBucketsBy, HaveAnsweredBy, ReadsEndBy}
 
 -- ---- what digests tell
 
@@ -76,11 +77,11 @@ pub record Walks {L P : Type 0} (l : SideOf L) (p : SideOf P) (n : ℕ) (left le
   pub asked : ℕ
   pub local_side : Reads l asked left.local left'.local local local'
   pub peer_side : Reads p asked left.peer left'.peer peer peer'
-  pub answers : 1 ≤ n → HaveAnswered l p local local' peer peer'
+  pub answers : 1 ≤ n → HaveAnsweredBy l p local local' peer peer'
   pub some : n ≡ 0 → paths ≢ []
   pub long : AreLong n paths
   pub right : l.is_faithful local → p.is_faithful peer → AreNodes (l.states local) (p.states peer) n paths
-  pub few : AreFewFor l p local peer (λ most. asked + length paths ≤ 1 + n * most)
+  pub few : AreFewForBy l p local peer (λ most. asked + length paths ≤ 1 + n * most)
 
 module _ {L P : Type 0} (l : SideOf L) (p : SideOf P) where
   pub walk_begins : (self : (s : L) → l.follows 0 s s) (self' : (s : P) → p.follows 0 s s) (left : Questions) (local : L) (peer : P) (paths : List (List ℕ)) → paths ≡ [] ∷ [] → Walks l p 0 left left local local peer peer paths
@@ -98,7 +99,7 @@ module _ {L P : Type 0} (l : SideOf L) (p : SideOf P) where
   module _ (on : (m n : ℕ) (old mid new : L) → l.follows m old mid → l.follows n mid new → l.follows (m + n) old new)
       (on' : (m n : ℕ) (old mid new : P) → p.follows m old mid → p.follows n mid new → p.follows (m + n) old new)
       (n : ℕ) (low : n < 3) (left mid : Questions) (local local1 : L) (peer peer1 : P) (paths : List (List ℕ)) (w : Walks l p n left mid local local1 peer peer1 paths) where
-    answers_on : (left' : Questions) (local2 : L) (peer2 : P) (below : List (List ℕ)) → (k : ℕ) → k ≡ n → Descends l p paths mid left' local1 local2 peer1 peer2 below → HaveAnswered l p local local2 peer peer2
+    answers_on : (left' : Questions) (local2 : L) (peer2 : P) (below : List (List ℕ)) → (k : ℕ) → k ≡ n → DescendsBy l p paths mid left' local1 local2 peer1 peer2 below → HaveAnsweredBy l p local local2 peer peer2
     answers_on left' local2 peer2 below zero e d =
         let new = d.answers (w.some (sym e)) in (
           answered_later l on local local1 local2 (w.asked, w.local_side.follows) new.0,
@@ -112,7 +113,7 @@ module _ {L P : Type 0} (l : SideOf L) (p : SideOf P) where
 
     -- one level more
     pub walks_on : (held : (s : L) → l.is_faithful s → AreHeld (l.states s)) (held' : (s : P) → p.is_faithful s → AreHeld (p.states s)) (left' : Questions) (local2 : L) (peer2 : P) (below : List (List ℕ))
-        → Descends l p paths mid left' local1 local2 peer1 peer2 below → Walks l p (n + 1) left left' local local2 peer peer2 below
+        → DescendsBy l p paths mid left' local1 local2 peer1 peer2 below → Walks l p (n + 1) left left' local local2 peer peer2 below
     walks_on held held' left' local2 peer2 below d =
         let long = d.longer n w.long in
         let right : l.is_faithful local → p.is_faithful peer → AreNodes (l.states local) (p.states peer) (n + 1) below = λ t u.
@@ -132,14 +133,14 @@ module _ {L P : Type 0} (l : SideOf L) (p : SideOf P) where
         }
 
     -- a side came to an end on the way down
-    pub walk_ends : (local2 : L) (peer2 : P) (fault : SyncFault) → ReadsEnd l p (λ asked. asked ≤ length paths) mid local1 local2 peer1 peer2 fault
-        → ReadsEnd l p (λ asked. AreFewFor l p local peer (λ most. asked ≤ 1 + 2 * most)) left local local2 peer peer2 fault
+    pub walk_ends : (local2 : L) (peer2 : P) (fault : SyncFault) → ReadsEndBy l p (λ asked. asked ≤ length paths) mid local1 local2 peer1 peer2 fault
+        → ReadsEndBy l p (λ asked. AreFewForBy l p local peer (λ most. asked ≤ 1 + 2 * most)) left local local2 peer peer2 fault
     walk_ends local2 peer2 fault e =
-        let more : (i : ℕ) → i ≤ length paths → AreFewFor l p local peer (λ most. w.asked + i ≤ 1 + 2 * most) = λ i few t u keys all. few_end n w.asked (length paths) i (length keys) low (w.few t u keys all) few in
-        end_later l p on on' (λ asked. asked ≤ length paths) (λ asked. AreFewFor l p local peer (λ most. asked ≤ 1 + 2 * most)) left mid w.asked w.asked local local1 local2 peer peer1 peer2 fault w.local_side w.peer_side more more e
+        let more : (i : ℕ) → i ≤ length paths → AreFewForBy l p local peer (λ most. w.asked + i ≤ 1 + 2 * most) = λ i few t u keys all. few_end n w.asked (length paths) i (length keys) low (w.few t u keys all) few in
+        end_later l p on on' (λ asked. asked ≤ length paths) (λ asked. AreFewForBy l p local peer (λ most. asked ≤ 1 + 2 * most)) left mid w.asked w.asked local local1 local2 peer peer1 peer2 fault w.local_side w.peer_side more more e
 
   -- it has come to the buckets
-  pub walk_finds : (n : ℕ) (left left' : Questions) (local local' : L) (peer peer' : P) (paths : List (List ℕ)) → n ≡ 3 → Walks l p n left left' local local' peer peer' paths → FindsBuckets l p left left' local local' peer peer' paths
+  pub walk_finds : (n : ℕ) (left left' : Questions) (local local' : L) (peer peer' : P) (paths : List (List ℕ)) → n ≡ 3 → Walks l p n left left' local local' peer peer' paths → FindsBucketsBy l p left left' local local' peer peer' paths
   walk_finds n left left' local local' peer peer' paths e w = record {
     asked = w.asked;
     local_side = w.local_side;
@@ -151,8 +152,8 @@ module _ {L P : Type 0} (l : SideOf L) (p : SideOf P) where
   }
 
   -- memory was refused before any question
-  pub no_walk : (self : (s : L) → l.follows 0 s s) (self' : (s : P) → p.follows 0 s s) (left : Questions) (local : L) (peer : P) (fault : SyncFault) → ReadsEnd l p (λ asked. asked ≤ 0) left local local peer peer fault
-      → ReadsEnd l p (λ asked. AreFewFor l p local peer (λ most. asked ≤ 1 + 2 * most)) left local local peer peer fault
+  pub no_walk : (self : (s : L) → l.follows 0 s s) (self' : (s : P) → p.follows 0 s s) (left : Questions) (local : L) (peer : P) (fault : SyncFault) → ReadsEndBy l p (λ asked. asked ≤ 0) left local local peer peer fault
+      → ReadsEndBy l p (λ asked. AreFewForBy l p local peer (λ most. asked ≤ 1 + 2 * most)) left local local peer peer fault
   no_walk self self' left local peer fault e = record {
     asked_local = e.asked_local;
     asked_peer = e.asked_peer;

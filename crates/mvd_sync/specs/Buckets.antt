@@ -8,11 +8,11 @@ use Rattle.mvd_tree.specs.Page.{rest_of}
 use Rattle.mvd_site.specs.Answer.{digests}
 use Rattle.mvd_site.specs.Held.{States}
 use Rattle.mvd_sync.specs.Answers.{IsPageOf}
-use Rattle.mvd_sync.specs.Exchanges.{AreNext, Counts, Done, Exchanging, GoesOn, JoinsSome, SoFar, began, keys_done, keys_next}
+use Rattle.mvd_sync.specs.Exchanges.{AreNext, Counts, Done, Exchanging, GoesOn, JoinsSome, Moment, SoFar, Spends, Stand, began, keys_done, keys_next, stand_at}
 use Rattle.mvd_sync.specs.Nodes.{has_below}
 use Rattle.mvd_sync.specs.Questions.{Fills, ForEach}
-use Rattle.mvd_sync.specs.Session.{After, AreDistinct, Before, Changes, Each, IsIn, after_of, both_of}
-use Rattle.mvd_sync.specs.Sides.{Blames, IsFaultOf, IsSilent, SideOf}
+use Rattle.mvd_sync.specs.Session.{After, AreDistinct, Asking, Both, Course, Each, IsIn, after_of, asking, both, both_of}
+use Rattle.mvd_sync.specs.Sides.{Sides, Two, two}
 use Rattle.mvd_sync.specs.Walk.{ReadsEnd}
 use Rattle.mvd_sync.specs.declared.cursor.Entry.{Entry}
 use Rattle.mvd_sync.specs.declared.asking.Questions.{Questions}
@@ -22,28 +22,19 @@ use Rattle.mvd_sync.specs.declared.report.SyncFault.TheVariants.{Local, Peer}
 -- ---- any two sides
 
 -- SO A SESSION WENT ON, or ended by a fault
-pub record Goes {L P A : Type 0} (l : SideOf L) (p : SideOf P) (left left' : Questions) (local local' : L) (peer peer' : P) (before after : Exchanging) (result : Result A SyncFault) : Type 0 where
-  -- so many questions were made to each side
-  pub asked_local : ℕ
-  pub asked_peer : ℕ
-  pub wanted_local : ℕ
-  pub wanted_peer : ℕ
-  pub within : (asked_local ≤ left.local) × (asked_peer ≤ left.peer)
-  pub spent : OnOk result ((left.local ≡ left'.local + asked_local) × (left.peer ≡ left'.peer + asked_peer))
-  pub calm : OnOk result ((wanted_local ≡ 0) × (wanted_peer ≡ 0))
-  pub follows : l.follows asked_local local local' × p.follows asked_peer peer peer'
-  pub cause : IfErr result (IsFaultOf
-      (Blames l (record { most = left.local; asked = asked_local; wanted = wanted_local; old = local; new = local' }))
-      (Blames p (record { most = left.peer; asked = asked_peer; wanted = wanted_peer; old = peer; new = peer' })))
-  -- whatever the other side is
-  pub local_side : l.is_faithful local → Changes (l.is_faithful local') (Local Broken) p.can_give (l.states local) (l.states local') result
-  pub peer_side : p.is_faithful peer → Changes (p.is_faithful peer') (Peer Broken) l.can_give (p.states peer) (p.states peer') result
-  pub beside_local : IsSilent l.follows l.can_answer local → p.is_faithful peer → p.is_faithful peer' × (p.states peer' ≡ p.states peer)
-  pub beside_peer : IsSilent p.follows p.can_answer peer → l.is_faithful local → l.is_faithful local' × (l.states local' ≡ l.states local)
+pub record Goes {L P A : Type 0} (s : Sides L P) (old new : Moment L P) (result : Result A SyncFault) : Type 0 where
+  pub course : Course s old.now new.now.at result
+  pub spent : Spends s old.now new.now result course
+  pub calm : OnOk result ((course.wanted_local ≡ 0) × (course.wanted_peer ≡ 0))
   -- the counts rise by no more than questions are made, and less than a window waits
-  pub same : after.number ≡ before.number
-  pub room : OnOk result (after.keys + after.refused + left'.local + left'.peer ≤ before.keys + before.refused + left.local + left.peer)
-  pub short : length before.waiting < 1000 → OnOk result (length after.waiting < 1000)
+  pub same : new.work.number ≡ old.work.number
+  pub room : OnOk result (new.work.keys + new.work.refused + new.now.left.local + new.now.left.peer
+      ≤ old.work.keys + old.work.refused + old.now.left.local + old.now.left.peer)
+  pub short : length old.work.waiting < 1000 → OnOk result (length new.work.waiting < 1000)
+
+-- so many questions were made to each side, or wanted
+abbrev pub asked_of : {L P A : Type 0} {s : Sides L P} {old new : Moment L P} {result : Result A SyncFault} → Goes s old new result → Two ℕ ℕ
+asked_of goes = two (goes.course.asked_local + goes.course.wanted_local) (goes.course.asked_peer + goes.course.wanted_peer)
 
 -- ---- between two true sides
 
@@ -51,37 +42,48 @@ pub record Goes {L P A : Type 0} (l : SideOf L) (p : SideOf P) (left left' : Que
 abbrev pub AreElsewhere : List (List ℕ) → List Key → Type 0
 AreElsewhere paths keys = Each (λ key. has_below paths key ≡ false) keys
 
--- the keys that were found are all that differ in these buckets, and the first of those to be exchanged are
-pub record FindsAll (before : Before) (after : After) (done : List Done) (paths : List (List ℕ)) (found next : List Entry)
-    (most_l most_p asked_l asked_p : ℕ) (e : Exchanging) : Type 0 where
-  pub all : (key : Key) → IsTrue (has_below paths key) →
-      get (digests before.held.local) key ≢ get (digests before.held.peer) key → IsIn (keys_next found) key
-  pub goes_on : GoesOn before after done next e
-  pub fewer : (asked_l + 2 * length e.waiting ≤ most_l + 2 * length next)
-      × (asked_p + 2 * length e.waiting ≤ most_p + 2 * length next)
-
--- Keys that differ in these buckets were found, and are to be exchanged after those that waited. Of the questions to a side
--- there are `firsts`, one for each thousand keys that it holds there, and two for each key to be exchanged
-pub record Finds {A : Type 0} (before : Before) (after : After) (done : List Done) (paths : List (List ℕ))
-    (firsts held_local held_peer asked_local asked_peer : ℕ) (e e' : Exchanging) (result : Result A SyncFault) : Type 0 where
-  pub found : List Entry
-  pub below : Each (λ e. IsTrue (has_below paths e.key)) found
-  pub next : AreNext before.held.local before.held.peer done (e.waiting ++ found)
-  pub pages_local : ℕ
-  pub pages_peer : ℕ
-  pub pages : (1000 * pages_local ≤ held_local) × (1000 * pages_peer ≤ held_peer)
-  pub few : (asked_local ≤ firsts + pages_local + 2 * length (e.waiting ++ found))
-      × (asked_peer ≤ firsts + pages_peer + 2 * length (e.waiting ++ found))
-  pub ends : MatchResult result
-      (λ _.
-      FindsAll before after done paths found (e.waiting ++ found) (firsts + pages_local) (firsts + pages_peer)
-      asked_local asked_peer e')
-      (λ _. JoinsSome before.held after)
-
 -- how many keys are held in the buckets
 abbrev pub held_in : States → List (List ℕ) → ℕ
 held_in states [] = 0
 held_in states (path ∷ paths) = length (entries (rest_of (digests states) path None)) + held_in states paths
+
+-- the first of the keys that are next were exchanged, by two questions to each side for each, and `most` besides
+pub record GoesFewOn (stand : Stand) (after : After) (most asked : Two ℕ ℕ) (e : Exchanging) : Type 0 where
+  pub goes_on : GoesOn stand after e
+  pub fewer : (asked.local + 2 * length e.waiting ≤ most.local + 2 * length stand.next)
+      × (asked.peer + 2 * length e.waiting ≤ most.peer + 2 * length stand.next)
+
+-- all keys that differ in these buckets are among these
+abbrev pub HasAllIn : Both → List (List ℕ) → List Entry → Type 0
+HasAllIn held paths found = (key : Key) → IsTrue (has_below paths key) →
+    get (digests held.local) key ≢ get (digests held.peer) key → IsIn (keys_next found) key
+
+-- buckets, and so many questions about their first pages
+pub record Buckets : Type 0 where
+  pub paths : List (List ℕ)
+  pub firsts : ℕ
+
+-- more keys are next
+abbrev pub with_next : Stand → List Entry → Stand
+with_next stand found = record stand { next = stand.next ++ found }
+
+-- Keys that differ in these buckets were found, and are to be exchanged after those that were next. Of the questions to a side
+-- there are those about first pages, one for each thousand keys that it holds there, and two for each key to be exchanged
+pub record Finds {A : Type 0} (stand : Stand) (after : After) (buckets : Buckets) (asked : Two ℕ ℕ) (e : Exchanging) (result : Result A SyncFault) : Type 0 where
+  pub found : List Entry
+  pub below : Each (λ e. IsTrue (has_below buckets.paths e.key)) found
+  pub all : OnOk result (HasAllIn stand.before.held buckets.paths found)
+  pub next : AreNext stand.before.held.local stand.before.held.peer stand.done (stand.next ++ found)
+  pub pages_local : ℕ
+  pub pages_peer : ℕ
+  pub pages : (1000 * pages_local ≤ held_in stand.before.held.local buckets.paths)
+      × (1000 * pages_peer ≤ held_in stand.before.held.peer buckets.paths)
+  pub few : (asked.local ≤ buckets.firsts + pages_local + 2 * length (stand.next ++ found))
+      × (asked.peer ≤ buckets.firsts + pages_peer + 2 * length (stand.next ++ found))
+  pub ends : MatchResult result
+      (λ _. GoesFewOn (with_next stand found) after
+      (two (buckets.firsts + pages_local) (buckets.firsts + pages_peer)) asked e)
+      (λ _. JoinsSome stand.before.held after)
 
 -- ---- one key
 
@@ -89,37 +91,45 @@ held_in states (path ∷ paths) = length (entries (rest_of (digests states) path
 abbrev pub IsSpent : List (Key × List ℕ) × Bool → Type 0
 IsSpent listing = (listing.0 ≡ []) × (listing.1 ≡ true)
 
+-- two sides, the questions that are left for each, and the listings of a bucket of theirs
+pub record Reading (L P : Type 0) : Type 0 where
+  pub now : Asking L P
+  pub mine : List (Key × List ℕ) × Bool
+  pub theirs : List (Key × List ℕ) × Bool
+
+abbrev pub reading : {L P : Type 0} → L → P → Questions → (mine theirs : List (Key × List ℕ) × Bool) → Reading L P
+reading local peer left mine theirs = record { now = asking local peer left; mine = mine; theirs = theirs }
+
 -- both listings were filled
-pub record FillsBoth {L P : Type 0} (l : SideOf L) (p : SideOf P) (path : List ℕ) (after : Option (List ℕ)) (mine mine' theirs theirs' : List (Key × List ℕ) × Bool) (left left' : Questions) (local local' : L) (peer peer' : P) : Type 0 where
-  pub local_side : Fills l path after mine mine' left.local left'.local local local'
-  pub peer_side : Fills p path after theirs theirs' left.peer left'.peer peer peer'
+pub record FillsBoth {L P : Type 0} (s : Sides L P) (path : List ℕ) (after : Option (List ℕ)) (old new : Reading L P) : Type 0 where
+  pub local_side : Fills s.local path after old.mine new.mine old.now.left.local new.now.left.local old.now.at.local new.now.at.local
+  pub peer_side : Fills s.peer path after old.theirs new.theirs old.now.left.peer new.now.left.peer old.now.at.peer new.now.at.peer
 
 -- or one side came to an end; of each side no more was asked than was needed
-pub record FillEnds {L P : Type 0} (l : SideOf L) (p : SideOf P) (mine theirs : List (Key × List ℕ) × Bool) (left : Questions) (local local' : L) (peer peer' : P) (fault : SyncFault) : Type 0 where
-  pub ends : ReadsEnd l p (λ asked. asked ≤ 1) left local local' peer peer' fault
-  pub needed : (1 ≤ ends.asked_local + ends.wanted_local → IsSpent mine) × (1 ≤ ends.asked_peer + ends.wanted_peer → IsSpent theirs)
+pub record FillEnds {L P : Type 0} (s : Sides L P) (old : Reading L P) (new : Two L P) (fault : SyncFault) : Type 0 where
+  pub ends : ReadsEnd s (λ asked. asked ≤ 1) old.now new fault
+  pub needed : (1 ≤ ends.asked_local + ends.wanted_local → IsSpent old.mine) × (1 ≤ ends.asked_peer + ends.wanted_peer → IsSpent old.theirs)
 
 -- the entry, if it differs
 abbrev pub waits_if : Entry → List Entry
 waits_if e = cond e.differs (e ∷ []) []
 
--- of two true sides: some of these are exchanged, by two questions to each side for each, and the others wait
-pub record SettlesAll {A : Type 0} (before : Before) (after : After) (done : List Done) (next : List Entry)
-    (asked_l asked_p : ℕ) (e : Exchanging) (result : Result A SyncFault) : Type 0 where
-  pub few : (asked_l ≤ 2 * length next) × (asked_p ≤ 2 * length next)
-  pub fewer : OnOk result ((asked_l + 2 * length e.waiting ≤ 2 * length next)
-      × (asked_p + 2 * length e.waiting ≤ 2 * length next))
-  pub ends : MatchResult result (λ _. GoesOn before after done next e) (λ _. JoinsSome before.held after)
+-- of two true sides: some of the keys that are next are exchanged, by two questions to each side for each, and the others wait
+pub record SettlesAll {A : Type 0} (stand : Stand) (after : After) (asked : Two ℕ ℕ) (e : Exchanging) (result : Result A SyncFault) : Type 0 where
+  pub few : (asked.local ≤ 2 * length stand.next) × (asked.peer ≤ 2 * length stand.next)
+  pub fewer : OnOk result ((asked.local + 2 * length e.waiting ≤ 2 * length stand.next)
+      × (asked.peer + 2 * length e.waiting ≤ 2 * length stand.next))
+  pub ends : MatchResult result (λ _. GoesOn stand after e) (λ _. JoinsSome stand.before.held after)
 
 -- a key waits, if it differs, or is exchanged with the others
-pub record Settles {L P A : Type 0} (l : SideOf L) (p : SideOf P) (e : Entry) (left left' : Questions) (local local' : L) (peer peer' : P) (before after : Exchanging) (result : Result A SyncFault) : Type 0 where
-  pub goes : Goes l p left left' local local' peer peer' before after result
-  pub meets : l.is_faithful local → p.is_faithful peer
+pub record Settles {L P A : Type 0} (s : Sides L P) (e : Entry) (old new : Moment L P) (result : Result A SyncFault) : Type 0 where
+  pub goes : Goes s old new result
+  pub meets : s.local.is_faithful old.now.at.local → s.peer.is_faithful old.now.at.peer
       → (a b : States) (done : List Done)
-      → SoFar (began l p before.number a b local peer) (both_of l p local peer) done → Counts done before
-      → AreNext a b done (before.waiting ++ waits_if e)
-      → SettlesAll (began l p before.number a b local peer) (after_of l p local' peer') done
-      (before.waiting ++ waits_if e) (goes.asked_local + goes.wanted_local) (goes.asked_peer + goes.wanted_peer) after result
+      → SoFar (began s old.work.number (both a b) old.now.at) (both_of s old.now.at) done → Counts done old.work
+      → AreNext a b done (old.work.waiting ++ waits_if e)
+      → SettlesAll (stand_at s old (both a b) done (old.work.waiting ++ waits_if e)) (after_of s new.now.at)
+      (asked_of goes) new.work result
 
 -- ---- buckets
 
@@ -127,17 +137,17 @@ pub record Settles {L P A : Type 0} (l : SideOf L) (p : SideOf P) (e : Entry) (l
 abbrev pub ArePages : KeyDigests → List (List ℕ) → List (List (Key × List ℕ) × Bool) → Type 0
 ArePages held paths pages = ForEach (λ path page. IsPageOf held path None page.0 page.1) paths pages
 
--- Buckets are gone over, with so many questions about their first pages, and what differs in them is exchanged, or waits; where
--- this was told of the states of true sides
-pub record GoesThrough {L P A : Type 0} (l : SideOf L) (p : SideOf P) (Told : States → States → Type 0) (paths : List (List ℕ)) (firsts : ℕ) (left left' : Questions) (local local' : L) (peer peer' : P) (before after : Exchanging) (result : Result A SyncFault) : Type 0 where
-  pub goes : Goes l p left left' local local' peer peer' before after result
-  pub meets : l.is_faithful local → p.is_faithful peer → AreDistinct paths → Each (λ path. length path ≡ 3) paths
+-- Buckets are gone over, and what differs in them is exchanged, or waits; where this was told of the states of true sides
+pub record GoesThrough {L P A : Type 0} (s : Sides L P) (Told : States → States → Type 0) (buckets : Buckets) (old new : Moment L P) (result : Result A SyncFault) : Type 0 where
+  pub goes : Goes s old new result
+  pub meets : s.local.is_faithful old.now.at.local → s.peer.is_faithful old.now.at.peer
+      → AreDistinct buckets.paths → Each (λ path. length path ≡ 3) buckets.paths
       → (a b : States) (done : List Done)
-      → SoFar (began l p before.number a b local peer) (both_of l p local peer) done → Counts done before
-      → AreNext a b done before.waiting → AreElsewhere paths (keys_done done ++ keys_next before.waiting) → Told a b
-      → Finds (began l p before.number a b local peer) (after_of l p local' peer') done paths firsts
-      (held_in a paths) (held_in b paths) (goes.asked_local + goes.wanted_local) (goes.asked_peer + goes.wanted_peer) before after result
+      → SoFar (began s old.work.number (both a b) old.now.at) (both_of s old.now.at) done → Counts done old.work
+      → AreNext a b done old.work.waiting
+      → AreElsewhere buckets.paths (keys_done done ++ keys_next old.work.waiting) → Told a b
+      → Finds (stand_at s old (both a b) done old.work.waiting) (after_of s new.now.at) buckets (asked_of goes) new.work result
 
--- BUCKETS ARE GONE OVER, with so many questions about their first pages, and what differs in them is exchanged, or waits
-abbrev pub GoesOver : {L P A : Type 0} → SideOf L → SideOf P → List (List ℕ) → ℕ → (left left' : Questions) (local local' : L) (peer peer' : P) (before after : Exchanging) → Result A SyncFault → Type 0
-GoesOver l p paths firsts left left' local local' peer peer' before after result = GoesThrough l p (λ a b. Unit {0}) paths firsts left left' local local' peer peer' before after result
+-- BUCKETS ARE GONE OVER, and what differs in them is exchanged, or waits
+abbrev pub GoesOver : {L P A : Type 0} → Sides L P → Buckets → (old new : Moment L P) → Result A SyncFault → Type 0
+GoesOver s buckets old new result = GoesThrough s (λ a b. Unit {0}) buckets old new result

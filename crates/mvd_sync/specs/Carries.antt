@@ -4,11 +4,11 @@ use Rattle.mvd_dots.specs.declared.refusals.Refusal.{Refusal}
 use Rattle.mvd_dots.specs.declared.refusals.Refusal.TheVariants.{Broken}
 use Rattle.mvd_keys.specs.State.{State}
 use Rattle.mvd_site.specs.Held.{States, state_at}
-use Rattle.mvd_sync.specs.Exchanges.{AreNext, Done, JoinsSome, SoFar, began, keys_done, keys_next}
+use Rattle.mvd_sync.specs.Exchanges.{AreNext, Done, JoinsSome, SoFar, Spends, began, keys_done, keys_next}
 use Rattle.mvd_sync.specs.Meetings.{ArePlans, done_of, held_keys, noted, pair_of, taken_from}
 use Rattle.mvd_sync.specs.Questions.{AllAnswered, IsOfKey, Keeps, TakesIn, AnswersEach}
-use Rattle.mvd_sync.specs.Session.{Changes, after_of, both_of}
-use Rattle.mvd_sync.specs.Sides.{Blames, HasAnswered, IsFaultOf, IsSilent, SideOf}
+use Rattle.mvd_sync.specs.Session.{Asking, Course, after_of, both, both_of}
+use Rattle.mvd_sync.specs.Sides.{HasAnswered, SideOf, Sides}
 use Rattle.mvd_sync.specs.declared.cursor.Entry.{Entry}
 use Rattle.mvd_sync.specs.declared.meetings.Meeting.{Meeting}
 use Rattle.mvd_sync.specs.declared.asking.Questions.{Questions}
@@ -25,27 +25,12 @@ Gives s name entries states left left' old new =
     (held_keys name entries) states left left' old new
 
 -- both gave the states that they hold, and this is to be done
-pub record Planned {L P : Type 0} (l : SideOf L) (p : SideOf P) (number : Option ℕ) (entries : List Entry) (left left' : Questions) (local local' : L) (peer peer' : P) (meetings : List Meeting) : Type 0 where
+pub record Planned {L P : Type 0} (s : Sides L P) (number : Option ℕ) (entries : List Entry) (old new : Asking L P) (meetings : List Meeting) : Type 0 where
   pub mine : List State
   pub theirs : List State
-  pub from_local : Gives l AtLocal entries mine left.local left'.local local local'
-  pub from_peer : Gives p AtPeer entries theirs left.peer left'.peer peer peer'
+  pub from_local : Gives s.local AtLocal entries mine old.left.local new.left.local old.at.local new.at.local
+  pub from_peer : Gives s.peer AtPeer entries theirs old.left.peer new.left.peer old.at.peer new.at.peer
   pub plans : ArePlans number entries mine theirs meetings
-
--- one did not, or memory was refused
-pub record PlanEnds {L P : Type 0} (l : SideOf L) (p : SideOf P) (count : ℕ) (left : Questions) (local local' : L) (peer peer' : P) (fault : SyncFault) : Type 0 where
-  pub asked_local : ℕ
-  pub asked_peer : ℕ
-  pub wanted_local : ℕ
-  pub wanted_peer : ℕ
-  pub few : (asked_local + wanted_local ≤ count) × (asked_peer + wanted_peer ≤ count)
-  pub within : (asked_local ≤ left.local) × (asked_peer ≤ left.peer)
-  pub follows : l.follows asked_local local local' × p.follows asked_peer peer peer'
-  pub cause : IsFaultOf
-      (Blames l (record { most = left.local; asked = asked_local; wanted = wanted_local; old = local; new = local' }))
-      (Blames p (record { most = left.peer; asked = asked_peer; wanted = wanted_peer; old = peer; new = peer' })) fault
-  pub local_side : l.is_faithful local → Keeps l local local'
-  pub peer_side : p.is_faithful peer → Keeps p peer peer'
 
 -- a side took what it was to take, or refused keys alone
 pub record Carried {S : Type 0} (s : SideOf S) (name : Side) (before after : List Meeting) (left left' : ℕ) (old new : S) : Type 0 where
@@ -54,28 +39,15 @@ pub record Carried {S : Type 0} (s : SideOf S) (name : Side) (before after : Lis
   pub answered : AllAnswered s (λ _ told. IsOfKey told) (TakesIn s (filter_map (pair_of name) before) told old new) (filter_map (pair_of name) before) told left left' old new
 
 -- THE KEYS OF A WINDOW ARE EXCHANGED
-pub record ExchangesAll {L P A : Type 0} (l : SideOf L) (p : SideOf P) (number : Option ℕ) (entries : List Entry) (left left' : Questions) (local local' : L) (peer peer' : P) (result : Result (Vec Meeting A) SyncFault) : Type 0 where
-  pub asked_local : ℕ
-  pub asked_peer : ℕ
-  pub wanted_local : ℕ
-  pub wanted_peer : ℕ
-  pub within : (asked_local ≤ left.local) × (asked_peer ≤ left.peer)
-  pub spent : OnOk result ((left.local ≡ left'.local + asked_local) × (left.peer ≡ left'.peer + asked_peer))
-  pub few : (asked_local + wanted_local ≤ 2 * length entries) × (asked_peer + wanted_peer ≤ 2 * length entries)
-  pub least : OnOk result (length entries ≤ asked_local + asked_peer)
-  pub follows : l.follows asked_local local local' × p.follows asked_peer peer peer'
-  pub cause : IfErr result (IsFaultOf
-      (Blames l (record { most = left.local; asked = asked_local; wanted = wanted_local; old = local; new = local' }))
-      (Blames p (record { most = left.peer; asked = asked_peer; wanted = wanted_peer; old = peer; new = peer' })))
-  pub local_side : l.is_faithful local → Changes (l.is_faithful local') (Local Broken) p.can_give (l.states local) (l.states local') result
-  pub peer_side : p.is_faithful peer → Changes (p.is_faithful peer') (Peer Broken) l.can_give (p.states peer) (p.states peer') result
-  pub beside_local : IsSilent l.follows l.can_answer local → p.is_faithful peer → p.is_faithful peer' × (p.states peer' ≡ p.states peer)
-  pub beside_peer : IsSilent p.follows p.can_answer peer → l.is_faithful local → l.is_faithful local' × (l.states local' ≡ l.states local)
+pub record ExchangesAll {L P A : Type 0} (s : Sides L P) (number : Option ℕ) (entries : List Entry) (old new : Asking L P) (result : Result (Vec Meeting A) SyncFault) : Type 0 where
+  pub course : Course s old new.at result
+  pub spent : Spends s old new result course
+  pub few : (course.asked_local + course.wanted_local ≤ 2 * length entries) × (course.asked_peer + course.wanted_peer ≤ 2 * length entries)
+  pub least : OnOk result (length entries ≤ course.asked_local + course.asked_peer)
   pub same : MatchResult result (λ meetings. keys_done (map done_of meetings.items) ≡ keys_next entries) (λ _. Unit {0})
-  pub meets : l.is_faithful local → p.is_faithful peer → (a b : States) (done : List Done) →
-      SoFar (began l p number a b local peer) (both_of l p local peer) done → AreNext a b done entries →
+  pub meets : s.local.is_faithful old.at.local → s.peer.is_faithful old.at.peer → (a b : States) (done : List Done) →
+      SoFar (began s number (both a b) old.at) (both_of s old.at) done → AreNext a b done entries →
       MatchResult result
-      (λ meetings.
-      SoFar (began l p number a b local peer) (both_of l p local' peer') (done ++ map done_of meetings.items)
-      × l.is_faithful local' × p.is_faithful peer')
-      (λ _. JoinsSome (record { local = a; peer = b }) (after_of l p local' peer'))
+      (λ meetings. SoFar (began s number (both a b) old.at) (both_of s new.at) (done ++ map done_of meetings.items)
+      × s.local.is_faithful new.at.local × s.peer.is_faithful new.at.peer)
+      (λ _. JoinsSome (both a b) (after_of s new.at))

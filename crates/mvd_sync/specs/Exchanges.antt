@@ -6,8 +6,8 @@ use Rattle.mvd_dots.specs.declared.refusals.Refusal.TheVariants.{Broken}
 use Rattle.mvd_keys.specs.State.{join}
 use Rattle.mvd_keys.specs.Writes.{Key}
 use Rattle.mvd_site.specs.Held.{States, state_at}
-use Rattle.mvd_sync.specs.Session.{After, AreDistinct, Before, Both, CanMeet, CannotMeet, Changes, Differ, Each, IsOld, Joins, after_of, both_of, is_member}
-use Rattle.mvd_sync.specs.Sides.{Blames, IsFaultOf, IsSilent, SideOf}
+use Rattle.mvd_sync.specs.Session.{After, AreDistinct, Asking, Before, Both, CanMeet, CannotMeet, Course, Differ, Each, IsOld, Joins, after_of, asking, both, both_of, is_member}
+use Rattle.mvd_sync.specs.Sides.{Sides, Two}
 use Rattle.mvd_sync.specs.declared.cursor.Entry.{Entry}
 use Rattle.mvd_sync.specs.declared.asking.Questions.{Questions}
 use Rattle.mvd_sync.specs.declared.report.Left.{Left}
@@ -126,60 +126,70 @@ pub record JoinsSome (old : Both) (after : After) : Type 0 where
   pub given : List Key
   pub joins : Joins old after joined given
 
--- `next` were to be exchanged: the first of them are done, and the others wait
-pub record GoesOn (before : Before) (after : After) (done : List Done) (next : List Entry)
-    (e : Exchanging) : Type 0 where
+-- how a session stands: how its two sides began, the keys that are done, and those that are next
+pub record Stand : Type 0 where
+  pub before : Before
+  pub done : List Done
+  pub next : List Entry
+
+-- the first of those that were next are done, and the others wait
+pub record GoesOn (stand : Stand) (after : After) (e : Exchanging) : Type 0 where
   pub now : List Done
-  pub is : keys_next next ≡ keys_done now ++ keys_next e.waiting
-  pub so_far : SoFar before after.held (done ++ now)
-  pub counts : Counts (done ++ now) e
-  pub waits : AreNext before.held.local before.held.peer (done ++ now) e.waiting
+  pub is : keys_next stand.next ≡ keys_done now ++ keys_next e.waiting
+  pub so_far : SoFar stand.before after.held (stand.done ++ now)
+  pub counts : Counts (stand.done ++ now) e
+  pub waits : AreNext stand.before.held.local stand.before.held.peer (stand.done ++ now) e.waiting
   pub still : after.local_true × after.peer_true
 
--- two sides that held `a` and `b` as the session began
-abbrev pub began : {L P : Type 0} → SideOf L → SideOf P → Option ℕ → (a b : States) → L → P → Before
-began l p number a b local peer = record {
-  held = record { local = a; peer = b };
-  most_local = l.most_keys local;
-  most_peer = p.most_keys peer;
+-- two sides, as they are now, that held this as the session began
+abbrev pub began : {L P : Type 0} → Sides L P → Option ℕ → Both → Two L P → Before
+began s number held now = record {
+  held = held;
+  most_local = s.local.most_keys now.local;
+  most_peer = s.peer.most_keys now.peer;
   number = number;
 }
 
 -- ---- a step
 
+-- a moment of a session: its two sides, the questions that are left for each, and what waits and was done
+pub record Moment (L P : Type 0) : Type 0 where
+  pub now : Asking L P
+  pub work : Exchanging
+
+abbrev pub moment : {L P : Type 0} → L → P → Questions → Exchanging → Moment L P
+moment local peer left work = record { now = asking local peer left; work = work }
+
+-- so it stands with these keys next, of two sides that held this as it began, where these are done and counted
+abbrev pub stand_at : {L P : Type 0} → Sides L P → Moment L P → Both → List Done → List Entry → Stand
+stand_at s m held done next = record { before = began s m.work.number held m.now.at; done = done; next = next }
+
 -- each entry is held by one of the two
 abbrev pub IsHeldByEither : Entry → Type 0
 IsHeldByEither e = (e.mine ≡ false → e.theirs ≡ true)
 
+-- the questions that were made are taken from those that were left, and no more were wanted
+abbrev pub Spends : {L P A : Type 0} (s : Sides L P) (old new : Asking L P) (result : Result A SyncFault) → Course s old new.at result → Type 0
+Spends s old new result course = OnOk result ((old.left.local ≡ new.left.local + course.asked_local)
+    × (old.left.peer ≡ new.left.peer + course.asked_peer))
+
 -- SOME OF THESE KEYS ARE EXCHANGED, or all, and the others wait
-pub record Exchanges {L P A : Type 0} (l : SideOf L) (p : SideOf P) (next : List Entry) (left left' : Questions) (local local' : L) (peer peer' : P) (before after : Exchanging) (result : Result A SyncFault) : Type 0 where
-  -- so many questions were made to each side
-  pub asked_local : ℕ
-  pub asked_peer : ℕ
-  pub wanted_local : ℕ
-  pub wanted_peer : ℕ
-  pub within : (asked_local ≤ left.local) × (asked_peer ≤ left.peer)
-  pub spent : OnOk result ((left.local ≡ left'.local + asked_local) × (left.peer ≡ left'.peer + asked_peer))
+pub record Exchanges {L P A : Type 0} (s : Sides L P) (next : List Entry) (old new : Moment L P) (result : Result A SyncFault) : Type 0 where
+  pub course : Course s old.now new.now.at result
+  pub spent : Spends s old.now new.now result course
   -- two for each key at most
-  pub few : (asked_local + wanted_local ≤ 2 * length next) × (asked_peer + wanted_peer ≤ 2 * length next)
-  pub fewer : OnOk result (((asked_local + wanted_local) + 2 * length after.waiting ≤ 2 * length next) × ((asked_peer + wanted_peer) + 2 * length after.waiting ≤ 2 * length next))
-  pub calm : OnOk result ((wanted_local ≡ 0) × (wanted_peer ≡ 0))
+  pub few : (course.asked_local + course.wanted_local ≤ 2 * length next) × (course.asked_peer + course.wanted_peer ≤ 2 * length next)
+  pub fewer : OnOk result (((course.asked_local + course.wanted_local) + 2 * length new.work.waiting ≤ 2 * length next)
+      × ((course.asked_peer + course.wanted_peer) + 2 * length new.work.waiting ≤ 2 * length next))
+  pub calm : OnOk result ((course.wanted_local ≡ 0) × (course.wanted_peer ≡ 0))
   -- and one at least
-  pub room : OnOk result (after.keys + after.refused + left'.local + left'.peer ≤ before.keys + before.refused + left.local + left.peer)
-  pub short : length next ≤ 1000 → OnOk result (length after.waiting < 1000)
-  pub follows : l.follows asked_local local local' × p.follows asked_peer peer peer'
-  pub cause : IfErr result (IsFaultOf
-      (Blames l (record { most = left.local; asked = asked_local; wanted = wanted_local; old = local; new = local' }))
-      (Blames p (record { most = left.peer; asked = asked_peer; wanted = wanted_peer; old = peer; new = peer' })))
-  -- whatever the other side is
-  pub local_side : l.is_faithful local → Changes (l.is_faithful local') (Local Broken) p.can_give (l.states local) (l.states local') result
-  pub peer_side : p.is_faithful peer → Changes (p.is_faithful peer') (Peer Broken) l.can_give (p.states peer) (p.states peer') result
-  pub beside_local : IsSilent l.follows l.can_answer local → p.is_faithful peer → p.is_faithful peer' × (p.states peer' ≡ p.states peer)
-  pub beside_peer : IsSilent p.follows p.can_answer peer → l.is_faithful local → l.is_faithful local' × (l.states local' ≡ l.states local)
+  pub room : OnOk result (new.work.keys + new.work.refused + new.now.left.local + new.now.left.peer
+      ≤ old.work.keys + old.work.refused + old.now.left.local + old.now.left.peer)
+  pub short : length next ≤ 1000 → OnOk result (length new.work.waiting < 1000)
+  pub same : new.work.number ≡ old.work.number
   -- between two true sides
-  pub same : after.number ≡ before.number
-  pub meets : l.is_faithful local → p.is_faithful peer → (a b : States) (done : List Done) →
-      SoFar (began l p before.number a b local peer) (both_of l p local peer) done → Counts done before →
+  pub meets : s.local.is_faithful old.now.at.local → s.peer.is_faithful old.now.at.peer → (a b : States) (done : List Done) →
+      SoFar (began s old.work.number (both a b) old.now.at) (both_of s old.now.at) done → Counts done old.work →
       AreNext a b done next → MatchResult result
-      (λ _. GoesOn (began l p before.number a b local peer) (after_of l p local' peer') done next after)
-      (λ _. JoinsSome (record { local = a; peer = b }) (after_of l p local' peer'))
+      (λ _. GoesOn (stand_at s old (both a b) done next) (after_of s new.now.at) new.work)
+      (λ _. JoinsSome (both a b) (after_of s new.now.at))

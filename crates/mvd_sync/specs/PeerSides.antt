@@ -1,7 +1,11 @@
 -- A side of a session, as the clauses of calls name it.
 use Rattle.mvd_sync.specs.declared.peer.Peer.{Ghosts}
-use Rattle.mvd_sync.specs.Sides.{SideOf, side}
+use Rattle.mvd_sync.specs.Sides.{SideOf, Sides, side}
 
 -- what a type of sides says of itself (`Peer`), as one value
 abbrev pub side_of : {P : Type 0} → Ghosts P → SideOf P
 side_of g = side g.states g.is_faithful g.can_give g.follows g.can_refuse g.can_answer g.most_keys g.number
+
+-- two of them
+abbrev pub sides_of : {L P : Type 0} → Ghosts L → Ghosts P → Sides L P
+sides_of local peer = record { local = side_of local; peer = side_of peer }

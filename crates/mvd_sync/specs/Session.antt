@@ -11,7 +11,8 @@ use Rattle.mvd_tree.specs.Hashed.{HashesTellApart}
 use Rattle.mvd_site.specs.Answer.{is_too_large, spelled}
 use Rattle.mvd_site.specs.Held.{States, state_at}
 use Rattle.mvd_sync.specs.Olds.{HasUnseen}
-use Rattle.mvd_sync.specs.Sides.{Blames, HasAnswered, IsFaultOf, IsSilent, SideOf}
+use Rattle.mvd_sync.specs.Sides.{Blames, HasAnswered, IsFaultOf, IsSilent, Sides, Two, two}
+use Rattle.mvd_sync.specs.declared.asking.Questions.{Questions}
 use Rattle.mvd_sync.specs.declared.report.Left.{Left}
 use Rattle.mvd_sync.specs.declared.report.Report.{Report}
 use Rattle.mvd_sync.specs.declared.report.Side.{Side}
@@ -77,6 +78,9 @@ AreDistinct (k ∷ ks) = (is_member ks k ≡ false) × AreDistinct ks
 pub record Both : Type 0 where
   pub local : States
   pub peer : States
+
+abbrev pub both : (a b : States) → Both
+both a b = record { local = a; peer = b }
 
 -- two sides as a session begins: what they hold, the most keys that each takes, and the number of
 -- the local one, where it is known
@@ -186,51 +190,77 @@ abbrev pub HasAllThatDiffer : States → States → List Key → Type 0
 HasAllThatDiffer a b keys = (key : Key) → get a key ≢ get b key → IsIn keys key
 
 -- what two sides hold
-abbrev pub both_of : {L P : Type 0} → SideOf L → SideOf P → L → P → Both
-both_of l p local peer = record { local = l.states local; peer = p.states peer }
+abbrev pub both_of : {L P : Type 0} → Sides L P → Two L P → Both
+both_of s at = record { local = s.local.states at.local; peer = s.peer.states at.peer }
 
 -- two sides as a session begins
-abbrev pub before_of : {L P : Type 0} → SideOf L → SideOf P → L → P → Before
-before_of l p local peer = record {
-  held = both_of l p local peer;
-  most_local = l.most_keys local;
-  most_peer = p.most_keys peer;
-  number = l.number local;
+abbrev pub before_of : {L P : Type 0} → Sides L P → Two L P → Before
+before_of s old = record {
+  held = both_of s old;
+  most_local = s.local.most_keys old.local;
+  most_peer = s.peer.most_keys old.peer;
+  number = s.local.number old.local;
 }
 
 -- and afterwards
-abbrev pub after_of : {L P : Type 0} → SideOf L → SideOf P → L → P → After
-after_of l p local' peer' = record {
-  held = both_of l p local' peer';
-  local_true = l.is_faithful local';
-  peer_true = p.is_faithful peer';
+abbrev pub after_of : {L P : Type 0} → Sides L P → Two L P → After
+after_of s new = record {
+  held = both_of s new;
+  local_true = s.local.is_faithful new.local;
+  peer_true = s.peer.is_faithful new.peer;
 }
 
--- A SESSION of two sides, each asked at most so many questions
-pub record Session {L P : Type 0} (l : SideOf L) (p : SideOf P) (most : ℕ) (local local' : L) (peer peer' : P) (result : Result Report SyncFault) : Type 0 where
+-- two sides, and the questions that are left for each
+pub record Asking (L P : Type 0) : Type 0 where
+  pub at : Two L P
+  pub left : Questions
+
+abbrev pub asking : {L P : Type 0} → L → P → Questions → Asking L P
+asking local peer left = record { at = two local peer; left = left }
+
+-- WHAT BECAME OF TWO SIDES by questions
+pub record Course {L P A : Type 0} (s : Sides L P) (old : Asking L P) (new : Two L P) (result : Result A SyncFault) : Type 0 where
   -- so many questions were made to each, and so many more were wanted, and nothing is changed of either but what so many that
   -- were made may change
   pub asked_local : ℕ
   pub asked_peer : ℕ
   pub wanted_local : ℕ
   pub wanted_peer : ℕ
-  pub within : (asked_local ≤ most) × (asked_peer ≤ most)
-  pub follows : l.follows asked_local local local' × p.follows asked_peer peer peer'
-  -- a fault has a cause; with no fault both sides have answered
+  pub within : (asked_local ≤ old.left.local) × (asked_peer ≤ old.left.peer)
+  pub follows : s.local.follows asked_local old.at.local new.local × s.peer.follows asked_peer old.at.peer new.peer
+  -- a fault has a cause
   pub cause : IfErr result (IsFaultOf
-      (Blames l (record { most = most; asked = asked_local; wanted = wanted_local; old = local; new = local' }))
-      (Blames p (record { most = most; asked = asked_peer; wanted = wanted_peer; old = peer; new = peer' })))
-  pub answers : OnOk result (HasAnswered l.follows l.can_answer local local' × HasAnswered p.follows p.can_answer peer peer')
+      (Blames s.local
+      (record { most = old.left.local; asked = asked_local; wanted = wanted_local; old = old.at.local; new = new.local }))
+      (Blames s.peer
+      (record { most = old.left.peer; asked = asked_peer; wanted = wanted_peer; old = old.at.peer; new = new.peer })))
   -- whatever the other is, a true side changes by pushes of states that the other may give, and by nothing else
-  pub local_side : l.is_faithful local → Changes (l.is_faithful local') (Local Broken) p.can_give (l.states local) (l.states local') result
-  pub peer_side : p.is_faithful peer → Changes (p.is_faithful peer') (Peer Broken) l.can_give (p.states peer) (p.states peer') result
+  pub local_side : s.local.is_faithful old.at.local → Changes (s.local.is_faithful new.local) (Local Broken)
+      s.peer.can_give (s.local.states old.at.local) (s.local.states new.local) result
+  pub peer_side : s.peer.is_faithful old.at.peer → Changes (s.peer.is_faithful new.peer) (Peer Broken)
+      s.local.can_give (s.peer.states old.at.peer) (s.peer.states new.peer) result
   -- beside a side that answers nothing a true one keeps its states: beside a silent local side the peer, and the other way round
-  pub beside_local : IsSilent l.follows l.can_answer local → p.is_faithful peer → p.is_faithful peer' × (p.states peer' ≡ p.states peer)
-  pub beside_peer : IsSilent p.follows p.can_answer peer → l.is_faithful local → l.is_faithful local' × (l.states local' ≡ l.states local)
+  pub beside_local : IsSilent s.local.follows s.local.can_answer old.at.local → s.peer.is_faithful old.at.peer →
+      s.peer.is_faithful new.peer × (s.peer.states new.peer ≡ s.peer.states old.at.peer)
+  pub beside_peer : IsSilent s.peer.follows s.peer.can_answer old.at.peer → s.local.is_faithful old.at.local →
+      s.local.is_faithful new.local × (s.local.states new.local ≡ s.local.states old.at.local)
+
+-- both sides have answered on the way
+abbrev pub HaveAnswered : {L P : Type 0} → Sides L P → (old new : Two L P) → Type 0
+HaveAnswered s old new = HasAnswered s.local.follows s.local.can_answer old.local new.local
+    × HasAnswered s.peer.follows s.peer.can_answer old.peer new.peer
+
+-- A SESSION of two sides, each asked at most so many questions
+pub record Session {L P : Type 0} (s : Sides L P) (most : ℕ) (old new : Two L P) (result : Result Report SyncFault) : Type 0 where
+  pub course : Course s (record { at = old; left = record { local = most; peer = most } }) new result
+  -- with no fault both sides have answered
+  pub answers : OnOk result (HaveAnswered s old new)
   -- between two true sides states are joined, at a fault, too; with no fault all that differ, but those refused for a cause, where
   -- SHA-256 tells the texts of both sides apart
-  pub meets : l.is_faithful local → p.is_faithful peer →
-      Meets (before_of l p local peer) (after_of l p local' peer') result
+  pub meets : s.local.is_faithful old.local → s.peer.is_faithful old.peer →
+      Meets (before_of s old) (after_of s new) result
   -- and few questions were made or wanted
-  pub few : l.is_faithful local → p.is_faithful peer → (differing : List Key) → HasAllThatDiffer (l.states local) (p.states peer) differing →
-      AreFew (asked_local + wanted_local) (l.states local) differing × AreFew (asked_peer + wanted_peer) (p.states peer) differing
+  pub few : s.local.is_faithful old.local → s.peer.is_faithful old.peer → (differing : List Key) →
+      HasAllThatDiffer (s.local.states old.local) (s.peer.states old.peer) differing →
+      AreFew (course.asked_local + course.wanted_local) (s.local.states old.local) differing
+      × AreFew (course.asked_peer + course.wanted_peer) (s.peer.states old.peer) differing

@@ -34,6 +34,19 @@ side states is_faithful can_give follows can_refuse can_answer most_keys number 
   number = number;
 }
 
+-- the two sides of a session, as what is known of each
+pub record Sides (L P : Type 0) : Type 1 where
+  pub local : SideOf L
+  pub peer : SideOf P
+
+-- and what the two are
+pub record Two (L P : Type 0) : Type 0 where
+  pub local : L
+  pub peer : P
+
+abbrev pub two : {L P : Type 0} → L → P → Two L P
+two local peer = record { local = local; peer = peer }
+
 -- ---- what comes of questions
 
 -- by questions, however many
@@ -72,7 +85,7 @@ is_of_question refusal = is_of_key refusal
 
 -- a side before and after it was asked: so many questions it might be asked at most, so many it was,
 -- and so many more were wanted
-pub record Asked (S : Type 0) : Type 0 where
+pub record Inquiry (S : Type 0) : Type 0 where
   pub most : ℕ
   pub asked : ℕ
   pub wanted : ℕ
@@ -81,7 +94,7 @@ pub record Asked (S : Type 0) : Type 0 where
 
 -- it refused so, and if it was true that is no refusal of one question alone (9, 10, 11, 14); or it gave what no true side
 -- gives (33); or all questions were made that it might be asked, and one more was wanted (36); or memory was refused
-pub data Blames {S : Type 0} (s : SideOf S) (a : Asked S) (refusal : Refusal) : Type 0 where
+pub data Blames {S : Type 0} (s : SideOf S) (a : Inquiry S) (refusal : Refusal) : Type 0 where
   of_side : HasRefused s.follows s.can_refuse a.old a.new refusal → (s.is_faithful a.old → is_of_question refusal ≡ false) →
       Blames s a refusal
   of_answer : refusal ≡ BadBody → (s.is_faithful a.old → ⊥) → Blames s a refusal

@@ -8,8 +8,8 @@ use Rattle.mvd_site.specs.Answer.{digests, spelled}
 use Rattle.mvd_site.specs.Held.{States}
 use Rattle.mvd_sync.specs.Nodes.{differing_children, differs_at, has_below, told_children}
 use Rattle.mvd_sync.specs.Questions.{Keeps}
-use Rattle.mvd_sync.specs.Session.{AreDistinct, Each, HasAllThatDiffer}
-use Rattle.mvd_sync.specs.Sides.{Blames, HasAnswered, IsFaultOf, SideOf}
+use Rattle.mvd_sync.specs.Session.{AreDistinct, Asking, Each, HasAllThatDiffer, HaveAnswered}
+use Rattle.mvd_sync.specs.Sides.{Blames, IsFaultOf, SideOf, Sides, Two}
 use Rattle.mvd_sync.specs.declared.asking.Node.{Node}
 use Rattle.mvd_sync.specs.declared.asking.Questions.{Questions}
 use Rattle.mvd_sync.specs.declared.report.SyncFault.{SyncFault}
@@ -32,23 +32,21 @@ pub record Reads {S : Type 0} (s : SideOf S) (asked left left' : ℕ) (old new :
   pub kept : s.is_faithful old → Keeps s old new
 
 -- They came to an end by a fault that has a cause: no more were made than were left, and so few
-pub record ReadsEnd {L P : Type 0} (l : SideOf L) (p : SideOf P) (AreFew : ℕ → Type 0) (left : Questions) (local local' : L) (peer peer' : P) (fault : SyncFault) : Type 0 where
+pub record ReadsEnd {L P : Type 0} (s : Sides L P) (AreFew : ℕ → Type 0) (old : Asking L P) (new : Two L P) (fault : SyncFault) : Type 0 where
   pub asked_local : ℕ
   pub asked_peer : ℕ
   pub wanted_local : ℕ
   pub wanted_peer : ℕ
-  pub within : (asked_local ≤ left.local) × (asked_peer ≤ left.peer)
+  pub within : (asked_local ≤ old.left.local) × (asked_peer ≤ old.left.peer)
   pub few : AreFew (asked_local + wanted_local) × AreFew (asked_peer + wanted_peer)
-  pub follows : l.follows asked_local local local' × p.follows asked_peer peer peer'
+  pub follows : s.local.follows asked_local old.at.local new.local × s.peer.follows asked_peer old.at.peer new.peer
   pub cause : IsFaultOf
-      (Blames l (record { most = left.local; asked = asked_local; wanted = wanted_local; old = local; new = local' }))
-      (Blames p (record { most = left.peer; asked = asked_peer; wanted = wanted_peer; old = peer; new = peer' })) fault
-  pub kept_local : l.is_faithful local → Keeps l local local'
-  pub kept_peer : p.is_faithful peer → Keeps p peer peer'
-
--- both sides have answered on the way
-abbrev pub HaveAnswered : {L P : Type 0} → SideOf L → SideOf P → (local local' : L) (peer peer' : P) → Type 0
-HaveAnswered l p local local' peer peer' = HasAnswered l.follows l.can_answer local local' × HasAnswered p.follows p.can_answer peer peer'
+      (Blames s.local
+      (record { most = old.left.local; asked = asked_local; wanted = wanted_local; old = old.at.local; new = new.local }))
+      (Blames s.peer
+      (record { most = old.left.peer; asked = asked_peer; wanted = wanted_peer; old = old.at.peer; new = new.peer })) fault
+  pub kept_local : s.local.is_faithful old.at.local → Keeps s.local old.at.local new.local
+  pub kept_peer : s.peer.is_faithful old.at.peer → Keeps s.peer old.at.peer new.peer
 
 -- ---- one level
 
@@ -63,12 +61,13 @@ told_all paths mine theirs = []
 
 -- ONE LEVEL: both sides were asked about these nodes, one question each, and told of their children; of two true sides these are
 -- the children that differ
-pub record Descends {L P : Type 0} (l : SideOf L) (p : SideOf P) (paths : List (List ℕ)) (left left' : Questions) (local local' : L) (peer peer' : P) (below : List (List ℕ)) : Type 0 where
-  pub local_side : Reads l (length paths) left.local left'.local local local'
-  pub peer_side : Reads p (length paths) left.peer left'.peer peer peer'
-  pub answers : paths ≢ [] → HaveAnswered l p local local' peer peer'
+pub record Descends {L P : Type 0} (s : Sides L P) (paths : List (List ℕ)) (old new : Asking L P) (below : List (List ℕ)) : Type 0 where
+  pub local_side : Reads s.local (length paths) old.left.local new.left.local old.at.local new.at.local
+  pub peer_side : Reads s.peer (length paths) old.left.peer new.left.peer old.at.peer new.at.peer
+  pub answers : paths ≢ [] → HaveAnswered s old.at new.at
   pub longer : (n : ℕ) → Each (λ path. length path ≡ n) paths → Each (λ path. length path ≡ n + 1) below
-  pub is : l.is_faithful local → p.is_faithful peer → below ≡ differing_children (digests (l.states local)) (digests (p.states peer)) paths
+  pub is : s.local.is_faithful old.at.local → s.peer.is_faithful old.at.peer →
+      below ≡ differing_children (digests (s.local.states old.at.local)) (digests (s.peer.states old.at.peer)) paths
 
 -- ---- all levels
 
@@ -79,16 +78,18 @@ pub record AreBuckets (a b : States) (buckets : List (List ℕ)) : Type 0 where
   pub whole : HashesTellApart spelled a b → (key : Key) → get a key ≢ get b key → IsTrue (has_below buckets key)
 
 -- so few questions, where so many keys differ at most
-abbrev pub AreFewFor : {L P : Type 0} → SideOf L → SideOf P → L → P → (ℕ → Type 0) → Type 0
-AreFewFor l p local peer Few = l.is_faithful local → p.is_faithful peer → (differing : List Key) → HasAllThatDiffer (l.states local) (p.states peer) differing → Few (length differing)
+abbrev pub AreFewFor : {L P : Type 0} → Sides L P → Two L P → (ℕ → Type 0) → Type 0
+AreFewFor s at Few = s.local.is_faithful at.local → s.peer.is_faithful at.peer → (differing : List Key) →
+    HasAllThatDiffer (s.local.states at.local) (s.peer.states at.peer) differing → Few (length differing)
 
 -- THE WALK from the root: both sides were asked equally many questions, and these are the buckets that differ. The questions, and
 -- one for each bucket, are at most one for the root and three for each key that differs
-pub record FindsBuckets {L P : Type 0} (l : SideOf L) (p : SideOf P) (left left' : Questions) (local local' : L) (peer peer' : P) (buckets : List (List ℕ)) : Type 0 where
+pub record FindsBuckets {L P : Type 0} (s : Sides L P) (old new : Asking L P) (buckets : List (List ℕ)) : Type 0 where
   pub asked : ℕ
-  pub local_side : Reads l asked left.local left'.local local local'
-  pub peer_side : Reads p asked left.peer left'.peer peer peer'
-  pub answers : HaveAnswered l p local local' peer peer'
+  pub local_side : Reads s.local asked old.left.local new.left.local old.at.local new.at.local
+  pub peer_side : Reads s.peer asked old.left.peer new.left.peer old.at.peer new.at.peer
+  pub answers : HaveAnswered s old.at new.at
   pub deep : Each (λ path. length path ≡ 3) buckets
-  pub right : l.is_faithful local → p.is_faithful peer → AreBuckets (l.states local) (p.states peer) buckets
-  pub few : AreFewFor l p local peer (λ most. asked + length buckets ≤ 1 + 3 * most)
+  pub right : s.local.is_faithful old.at.local → s.peer.is_faithful old.at.peer →
+      AreBuckets (s.local.states old.at.local) (s.peer.states old.at.peer) buckets
+  pub few : AreFewFor s old.at (λ most. asked + length buckets ≤ 1 + 3 * most)

@@ -1,17 +1,19 @@
 -- Many questions at once: one answer for each, in order, as if they were asked one after the other.
-use Rattle.std.specs.Prelude.{◌≡◌, ◌⊎◌, ◌<◌, ◌≤◌, ◌==◌, ℕ, Bool, true, false, List, [], ◌∷◌, length, Some, None, Result, Ok, Err, take}
+use Rattle.std.specs.Prelude.{◌≡◌, ◌⊎◌, ◌<◌, ◌≤◌, ◌==◌, ℕ, Bool, true, false, List, [], ◌∷◌, length, Option, Some, None, Result, Ok, Err, take}
 use Rattle.std.specs.FinMap.{get, len}
+use Rattle.std.specs.declared.alloc.Global.{Global}
+use Rattle.std.specs.declared.vec.Vec.{Vec}
 use Rattle.mvd_dots.specs.declared.refusals.Refusal.{Refusal}
 use Rattle.mvd_dots.specs.declared.refusals.Refusal.TheVariants.{BadBody, BadDefs, BadKind, BadPath, Broken, DotClash, FrameTooLong, Full, Memory, ReadFailed, StateTooLarge, TooManyRequests, Truncated, WriteFailed}
 use Rattle.mvd_keys.specs.State.{State, clashes, join}
 use Rattle.mvd_keys.specs.Writes.{Key}
 use Rattle.mvd_tree.specs.HashTree.{KeyDigests, node_digest}
-use Rattle.mvd_tree.specs.Page.{children_digests}
+use Rattle.mvd_tree.specs.Page.{children_digests, is_more_after_page, page_of}
 use Rattle.mvd_wire.specs.declared.reply.Digests.{Digests}
-use Rattle.mvd_site.specs.Answer.{is_too_large}
+use Rattle.mvd_site.specs.Answer.{digests, is_too_large}
 use Rattle.mvd_site.specs.Held.{States, state_at}
 use Rattle.mvd_sync.specs.Session.{pushed}
-use Rattle.mvd_sync.specs.Sides.{HasAnswered, HasRefused, Within, is_of_key}
+use Rattle.mvd_sync.specs.Sides.{HasAnswered, HasRefused, Within, is_of_key, is_of_question}
 
 -- each question with its answer, and this of each answer that is no refusal
 abbrev pub EachAnswer : {Q A : Type 0} → (Q → A → Type 0) → List Q → List (Result A Refusal) → Type 0
@@ -42,14 +44,61 @@ RefusesPage path refusal = is_of_key refusal ≡ false
 abbrev pub IsNode : KeyDigests → List ℕ → Digests → Type 0
 IsNode held path d = (d.own ≡ node_digest held path) × (length path < 3 → d.children ≡ Some (children_digests held path)) × (3 ≤ length path → d.children ≡ None)
 
+-- how a side behaves: what it may be after so many questions, and what is so of it after it refused one, or answered one
+pub record Manner (S : Type 0) : Type 1 where
+  pub follows : ℕ → S → S → Type 0
+  pub can_refuse : S → Refusal → Type 0
+  pub can_answer : S → Type 0
+
+abbrev pub manner : {S : Type 0} → (ℕ → S → S → Type 0) → (S → Refusal → Type 0) → (S → Type 0) → Manner S
+manner follows can_refuse can_answer = record { follows = follows; can_refuse = can_refuse; can_answer = can_answer }
+
+-- a kind of question: the answers that any side may give; and of a side that was true, the right answers, and the refusals
+pub record Kind (Q A : Type 0) : Type 1 where
+  pub may : Q → A → Type 0
+  pub was_true : Type 0
+  pub right : Q → A → Type 0
+  pub refuses : Q → Refusal → Type 0
+
+-- the digests of nodes are asked for
+abbrev pub for_nodes : Type 0 → States → Kind (List ℕ) Digests
+for_nodes was_true states = record {
+  may = λ _ _. Unit {0};
+  was_true = was_true;
+  right = IsNode (digests states);
+  refuses = λ _ refusal. is_of_question refusal ≡ false;
+}
+
+-- pages of buckets, each after a key
+abbrev pub for_pages : Type 0 → States → Kind (List ℕ × Option (List ℕ)) (Vec (Key × List ℕ) Global × Bool)
+for_pages was_true states = record {
+  may = λ _ _. Unit {0};
+  was_true = was_true;
+  right = λ q page. (page.0.items ≡ page_of (digests states) q.0 q.1) × (page.1 ≡ is_more_after_page (digests states) q.0 q.1);
+  refuses = λ q. RefusesPage q.0;
+}
+
+-- the states of keys
+abbrev pub for_states : (Key → State → Type 0) → Type 0 → States → Kind Key State
+for_states can_give was_true states = record {
+  may = can_give;
+  was_true = was_true;
+  right = λ key state. state ≡ state_at states key;
+  refuses = λ _ refusal. is_of_question refusal ≡ false;
+}
+
+-- states are pushed; what becomes of them is said by `Pushes`
+abbrev pub for_pushes : Kind (Key × State) (Unit {0})
+for_pushes = record { may = λ _ _. Unit {0}; was_true = ⊥; right = λ _ _. Unit {0}; refuses = λ _ _. Unit {0} }
+
 -- Questions that were asked one after the other and answered so: as many as there are, each answer one that the side may
 -- give, and right if it was true; each refusal one that it gave on the way, and of a true side one that its question may have
-pub record Asked {S Q A : Type 0} (follows : ℕ → S → S → Type 0) (can_refuse : S → Refusal → Type 0) (can_answer : S → Type 0) (May : Q → A → Type 0) (Right : Q → A → Type 0) (Refuses : Q → Refusal → Type 0) (was_true : Type 0) (questions : List Q) (answers : List (Result A Refusal)) (old new : S) : Type 0 where
-  pub count : follows (length questions) old new
-  pub may : EachAnswer May questions answers
-  pub right : was_true → EachAnswer Right questions answers
-  pub told : EachTold (HasAnswered follows can_answer old new) (HasRefused follows can_refuse old new) answers
-  pub not_of_key : was_true → EachRefusal Refuses questions answers
+pub record Asked {S Q A : Type 0} (m : Manner S) (kind : Kind Q A) (questions : List Q) (answers : List (Result A Refusal)) (old new : S) : Type 0 where
+  pub count : m.follows (length questions) old new
+  pub may : EachAnswer kind.may questions answers
+  pub right : kind.was_true → EachAnswer kind.right questions answers
+  pub told : EachTold (HasAnswered m.follows m.can_answer old new) (HasRefused m.follows m.can_refuse old new) answers
+  pub not_of_key : kind.was_true → EachRefusal kind.refuses questions answers
 
 -- Questions that were not all answered: the side refused one so that it refuses all (22, or its link's own), or memory was refused
 pub record Ends {S : Type 0} (follows : ℕ → S → S → Type 0) (can_refuse : S → Refusal → Type 0) (most : ℕ) (old new : S) (refusal : Refusal) : Type 0 where

@@ -1,10 +1,11 @@
 //! The keys that differ in the buckets.
 ghost use Rattle.std.specs.Prelude.{◌≡◌, ◌<◌, ◌≤◌, ◌+◌, ◌^◌, ◌++◌, ◌∷◌, [], length, map, Some, None, true, false, IfOk, IfErr, OnOk};
 ghost use Rattle.mvd_site.specs.Answer.{digests};
-ghost use Rattle.mvd_sync.specs.Buckets.{ArePages, FillEnds, FillsBoth, GoesOver, GoesThrough, Settles};
-ghost use Rattle.mvd_sync.specs.Exchanges.{IsHeldByEither};
+ghost use Rattle.mvd_sync.specs.Buckets.{ArePages, FillEnds, FillsBoth, GoesOver, GoesThrough, Settles, reading};
+ghost use Rattle.mvd_sync.specs.Exchanges.{IsHeldByEither, moment};
 ghost use Rattle.mvd_sync.specs.Session.{Each};
-ghost use Rattle.mvd_sync.specs.PeerSides.{side_of};
+ghost use Rattle.mvd_sync.specs.PeerSides.{sides_of};
+ghost use Rattle.mvd_sync.specs.Sides.{two};
 
 use crate::asking::{Questions, ask_pages};
 use crate::cursor::{self, Entry, Listing};
@@ -27,14 +28,12 @@ fn fill_both<L: Peer, P: Peer>(
     theirs: &mut Listing,
 ) -> Result<(), SyncFault>
     requires { length path.now ≡ 3 }
-    ensures filled { let l = side_of L.Peer in
-        let p = side_of P.Peer in
+    ensures filled { let s = sides_of L.Peer P.Peer in
         OnOk result
-        (FillsBoth l p path.now (Some after.now) mine.old mine.new theirs.old theirs.new left.old left.new local.old
-        local.new peer.old peer.new) }
-    ensures ended { let l = side_of L.Peer in
-        let p = side_of P.Peer in
-        IfErr result (FillEnds l p mine.old theirs.old left.old local.old local.new peer.old peer.new) }
+        (FillsBoth s path.now (Some after.now) (reading local.old peer.old left.old mine.old theirs.old)
+        (reading local.new peer.new left.new mine.new theirs.new)) }
+    ensures ended { let s = sides_of L.Peer P.Peer in
+        IfErr result (FillEnds s (reading local.old peer.old left.old mine.old theirs.old) (two local.new peer.new)) }
 {
     match mine.fill(local, &mut left.local, path, Some(after)) {
         Ok(()) => {}
@@ -57,9 +56,9 @@ fn settle<L: Peer, P: Peer>(
     requires held { IsHeldByEither entry }
     requires waiting { length exchange.old.waiting < 1000 }
     requires room { exchange.old.keys + exchange.old.refused + left.old.local + left.old.peer + 1000 < 2 ^ 64 }
-    ensures { let l = side_of L.Peer in
-        let p = side_of P.Peer in
-        Settles l p entry left.old left.new local.old local.new peer.old peer.new exchange.old exchange.new result }
+    ensures { let s = sides_of L.Peer P.Peer in
+        Settles s entry (moment local.old peer.old left.old exchange.old) (moment local.new peer.new left.new exchange.new)
+        result }
 {
     if entry.differs {
         exchange.add(local, peer, left, entry)
@@ -83,11 +82,11 @@ fn go_over<L: Peer, P: Peer>(
     requires theirs { (theirs.0 ≡ [] → theirs.1 ≡ false) × (length theirs.0 < 2 ^ 64) }
     requires waiting { length exchange.old.waiting < 1000 }
     requires room { exchange.old.keys + exchange.old.refused + left.old.local + left.old.peer + 1000 < 2 ^ 64 }
-    ensures { let l = side_of L.Peer in
-        let p = side_of P.Peer in
+    ensures { let s = sides_of L.Peer P.Peer in
         let paths = path.now ∷ [] in
-        GoesThrough l p (λ a b. ArePages (digests a) paths (mine ∷ []) × ArePages (digests b) paths (theirs ∷ [])) paths
-        0 left.old left.new local.old local.new peer.old peer.new exchange.old exchange.new result }
+        GoesThrough s (λ a b. ArePages (digests a) paths (mine ∷ []) × ArePages (digests b) paths (theirs ∷ []))
+        (record { paths = paths; firsts = 0 })
+        (moment local.old peer.old left.old exchange.old) (moment local.new peer.new left.new exchange.new) result }
 {
     while let Some(entry) = cursor::next(&mut mine, &mut theirs) {
         match fill_both(local, peer, left, path, &entry.key, &mut mine, &mut theirs) {
@@ -118,11 +117,11 @@ fn go_over_all<L: Peer, P: Peer>(
     requires theirs { Each (λ page. (page.0 ≡ [] → page.1 ≡ false) × (length page.0 < 2 ^ 64)) theirs.items }
     requires waiting { length exchange.old.waiting < 1000 }
     requires room { exchange.old.keys + exchange.old.refused + left.old.local + left.old.peer + 1000 < 2 ^ 64 }
-    ensures { let l = side_of L.Peer in
-        let p = side_of P.Peer in
-        GoesThrough l p
-        (λ a b. ArePages (digests a) paths.now mine.items × ArePages (digests b) paths.now theirs.items) paths.now
-        0 left.old left.new local.old local.new peer.old peer.new exchange.old exchange.new result }
+    ensures { let s = sides_of L.Peer P.Peer in
+        GoesThrough s
+        (λ a b. ArePages (digests a) paths.now mine.items × ArePages (digests b) paths.now theirs.items)
+        (record { paths = paths.now; firsts = 0 })
+        (moment local.old peer.old left.old exchange.old) (moment local.new peer.new left.new exchange.new) result }
 {
     for path in paths {
         let first = mine.remove(0);
@@ -159,10 +158,9 @@ fn exchange_window<L: Peer, P: Peer>(
     requires deep { Each (λ path. length path ≡ 3) paths.now }
     requires waiting { length exchange.old.waiting < 1000 }
     requires room { exchange.old.keys + exchange.old.refused + left.old.local + left.old.peer + 1000 < 2 ^ 64 }
-    ensures { let l = side_of L.Peer in
-        let p = side_of P.Peer in
-        GoesOver l p paths.now (length paths.now) left.old left.new local.old local.new peer.old peer.new exchange.old
-        exchange.new result }
+    ensures { let s = sides_of L.Peer P.Peer in
+        GoesOver s (record { paths = paths.now; firsts = length paths.now })
+        (moment local.old peer.old left.old exchange.old) (moment local.new peer.new left.new exchange.new) result }
 {
     let asked = match first_pages(alloc, paths) {
         Ok(asked) => asked,
@@ -191,10 +189,9 @@ pub fn exchange_buckets<L: Peer, P: Peer>(
     requires deep { Each (λ path. length path ≡ 3) paths.now }
     requires waiting { length exchange.old.waiting < 1000 }
     requires room { exchange.old.keys + exchange.old.refused + left.old.local + left.old.peer + 1000 < 2 ^ 64 }
-    ensures { let l = side_of L.Peer in
-        let p = side_of P.Peer in
-        GoesOver l p paths.now (length paths.now) left.old left.new local.old local.new peer.old peer.new exchange.old
-        exchange.new result }
+    ensures { let s = sides_of L.Peer P.Peer in
+        GoesOver s (record { paths = paths.now; firsts = length paths.now })
+        (moment local.old peer.old left.old exchange.old) (moment local.new peer.new left.new exchange.new) result }
 {
     let mut rest = paths;
     while !rest.is_empty() {

@@ -1,11 +1,13 @@
 //! The exchange of keys, a window after the other.
 ghost use Rattle.std.specs.Prelude.{◌≡◌, ◌<◌, ◌+◌, ◌^◌, ◌++◌, ◌∷◌, [], length, map, filter_map, IfOk, IfErr, OnOk, cond, ◌≤◌, ◌↔◌, IsTrue};
-ghost use Rattle.mvd_sync.specs.Exchanges.{Adds, Exchanges, IsHeldByEither};
+ghost use Rattle.mvd_sync.specs.Exchanges.{Adds, Exchanges, IsHeldByEither, moment};
 ghost use Rattle.mvd_sync.specs.Meetings.{done_of, held_keys, pair_of};
 ghost use Rattle.mvd_sync.specs.Questions.{ComesToEnd, Keeps, TakesFirst};
-ghost use Rattle.mvd_sync.specs.Session.{Each};
-ghost use Rattle.mvd_sync.specs.PeerSides.{side_of};
-ghost use Rattle.mvd_sync.specs.Carries.{Carried, ExchangesAll, Gives, PlanEnds, Planned};
+ghost use Rattle.mvd_sync.specs.Session.{Each, asking};
+ghost use Rattle.mvd_sync.specs.PeerSides.{side_of, sides_of};
+ghost use Rattle.mvd_sync.specs.Sides.{two};
+ghost use Rattle.mvd_sync.specs.Walk.{ReadsEnd};
+ghost use Rattle.mvd_sync.specs.Carries.{Carried, ExchangesAll, Gives, Planned};
 
 use crate::asking::{Questions, ask_gets, ask_pushes};
 use crate::cursor::Entry;
@@ -87,14 +89,12 @@ fn plans<L: Peer, P: Peer>(
     left: &mut Questions,
     entries: Vec<Entry>,
 ) -> Result<Vec<Meeting>, SyncFault>
-    ensures plans { let l = side_of L.Peer in
-        let p = side_of P.Peer in
-        IfOk result
-        (λ meetings. Planned l p number entries.items left.old left.new local.old local.new peer.old peer.new
-        meetings.items) }
-    ensures ended { let l = side_of L.Peer in
-        let p = side_of P.Peer in
-        IfErr result (PlanEnds l p (length entries.items) left.old local.old local.new peer.old peer.new) }
+    ensures plans { let s = sides_of L.Peer P.Peer in
+        IfOk result (λ meetings. Planned s number entries.items (asking local.old peer.old left.old)
+        (asking local.new peer.new left.new) meetings.items) }
+    ensures ended { let s = sides_of L.Peer P.Peer in
+        IfErr result (ReadsEnd s (λ asked. asked ≤ length entries.items) (asking local.old peer.old left.old)
+        (two local.new peer.new)) }
 {
     let mine = match gives(alloc, local, &mut left.local, &entries, Side::Local) {
         Ok(states) => states,
@@ -148,9 +148,9 @@ fn exchange_all<L: Peer, P: Peer>(
     entries: Vec<Entry>,
 ) -> Result<Vec<Meeting>, SyncFault>
     requires { Each IsHeldByEither entries.items }
-    ensures { let l = side_of L.Peer in
-        let p = side_of P.Peer in
-        ExchangesAll l p number entries.items left.old left.new local.old local.new peer.old peer.new result }
+    ensures { let s = sides_of L.Peer P.Peer in
+        ExchangesAll s number entries.items (asking local.old peer.old left.old) (asking local.new peer.new left.new)
+        result }
 {
     let meetings = match plans(alloc, number, local, peer, left, entries) {
         Ok(meetings) => meetings,
@@ -215,10 +215,9 @@ impl Exchange {
         requires held { IsHeldByEither entry }
         requires room { self.old.keys + self.old.refused + length self.old.waiting + left.old.local +
             left.old.peer + 1 < 2 ^ 64 }
-        ensures { let l = side_of L.Peer in
-            let p = side_of P.Peer in
-            Exchanges l p (self.old.waiting ++ entry ∷ []) left.old left.new local.old local.new peer.old peer.new
-            self.old self.new result }
+        ensures { let s = sides_of L.Peer P.Peer in
+            Exchanges s (self.old.waiting ++ entry ∷ []) (moment local.old peer.old left.old self.old)
+            (moment local.new peer.new left.new self.new) result }
     {
         match self.wait(entry) {
             Ok(()) => {}
@@ -257,10 +256,9 @@ impl Exchange {
     ) -> Result<(), SyncFault>
         requires room { self.old.keys + self.old.refused + length self.old.waiting + left.old.local +
             left.old.peer < 2 ^ 64 }
-        ensures exchanges { let l = side_of L.Peer in
-            let p = side_of P.Peer in
-            Exchanges l p self.old.waiting left.old left.new local.old local.new peer.old peer.new self.old self.new
-            result }
+        ensures exchanges { let s = sides_of L.Peer P.Peer in
+            Exchanges s self.old.waiting (moment local.old peer.old left.old self.old)
+            (moment local.new peer.new left.new self.new) result }
         ensures none { OnOk result (self.new.waiting ≡ []) }
     {
         let entries = std::mem::replace(&mut self.waiting, Vec::new(self.alloc));

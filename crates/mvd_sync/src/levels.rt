@@ -1,7 +1,8 @@
 //! The walk from the root to the buckets that differ, level by level.
 ghost use Rattle.std.specs.Prelude.{◌≡◌, ◌<◌, ◌≤◌, ◌+◌, ◌*◌, ◌++◌, ◌∷◌, [], ◌↔◌, length, IfOk, IfErr, OnOk, IsTrue};
-ghost use Rattle.mvd_sync.specs.Session.{Each};
-ghost use Rattle.mvd_sync.specs.PeerSides.{side_of};
+ghost use Rattle.mvd_sync.specs.Session.{Each, asking};
+ghost use Rattle.mvd_sync.specs.PeerSides.{sides_of};
+ghost use Rattle.mvd_sync.specs.Sides.{two};
 ghost use Rattle.mvd_sync.specs.Walk.{AreFewFor, Descends, FindsBuckets, ReadsEnd, told, told_all};
 
 use crate::asking::{Node, Questions, ask_nodes};
@@ -86,14 +87,12 @@ fn descend<L: Peer, P: Peer>(
     paths: &[Path],
 ) -> Result<Vec<Path>, SyncFault>
     requires inner { Each (λ path. length path < 3) paths.now }
-    ensures descends { let l = side_of L.Peer in
-        let p = side_of P.Peer in
-        IfOk result (λ below. Descends l p paths.now left.old left.new local.old local.new peer.old peer.new
-        below.items) }
-    ensures ended { let l = side_of L.Peer in
-        let p = side_of P.Peer in
-        IfErr result
-        (ReadsEnd l p (λ asked. asked ≤ length paths.now) left.old local.old local.new peer.old peer.new) }
+    ensures descends { let s = sides_of L.Peer P.Peer in
+        IfOk result (λ below. Descends s paths.now (asking local.old peer.old left.old)
+        (asking local.new peer.new left.new) below.items) }
+    ensures ended { let s = sides_of L.Peer P.Peer in
+        IfErr result (ReadsEnd s (λ asked. asked ≤ length paths.now) (asking local.old peer.old left.old)
+        (two local.new peer.new)) }
 {
     let mut below = Vec::new(alloc);
     let mut rest = paths;
@@ -134,15 +133,13 @@ pub fn differing_buckets<L: Peer, P: Peer>(
     peer: &mut P,
     left: &mut Questions,
 ) -> Result<Vec<Path>, SyncFault>
-    ensures found { let l = side_of L.Peer in
-        let p = side_of P.Peer in
-        IfOk result (λ buckets. FindsBuckets l p left.old left.new local.old local.new peer.old peer.new
-        buckets.items) }
-    ensures ended { let l = side_of L.Peer in
-        let p = side_of P.Peer in
-        IfErr result
-        (ReadsEnd l p (λ asked. AreFewFor l p local.old peer.old (λ most. asked ≤ 1 + 2 * most)) left.old local.old
-        local.new peer.old peer.new) }
+    ensures found { let s = sides_of L.Peer P.Peer in
+        IfOk result (λ buckets. FindsBuckets s (asking local.old peer.old left.old)
+        (asking local.new peer.new left.new) buckets.items) }
+    ensures ended { let s = sides_of L.Peer P.Peer in
+        let old = two local.old peer.old in
+        IfErr result (ReadsEnd s (λ asked. AreFewFor s old (λ most. asked ≤ 1 + 2 * most))
+        (asking local.old peer.old left.old) (two local.new peer.new)) }
 {
     let mut paths = match root(alloc) {
         Ok(paths) => paths,

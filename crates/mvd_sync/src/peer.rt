@@ -10,7 +10,7 @@ ghost use Rattle.mvd_site.specs.Held.{AreHeld, States, state_at};
 ghost use Rattle.mvd_site.specs.Answer.{digests};
 ghost use Rattle.mvd_sync.specs.Session.{pushed};
 ghost use Rattle.mvd_sync.specs.Sides.{is_of_question};
-ghost use Rattle.mvd_sync.specs.Windows.{Asked, CannotTake, Ends, IsNode, Leaves, Pushes, PushesFirst, RefusesPage};
+ghost use Rattle.mvd_sync.specs.Windows.{Asked, CannotTake, Ends, IsNode, Leaves, Pushes, PushesFirst, RefusesPage, for_nodes, for_pages, for_pushes, for_states, manner};
 
 use crate::windows::{is_over, left_open, room_for};
 use mvd_dots::Refusal;
@@ -115,9 +115,8 @@ pub trait Peer {
     fn nodes(&mut self, paths: &[Path]) -> Result<Vec<Result<Digests, Refusal>>, Refusal>
         ensures kept { is_faithful self.old → is_faithful self.new × (states self.new ≡ states self.old) }
         ensures told { IfOk result
-            (λ told. Asked follows can_refuse can_answer (λ _ _. Unit {0}) (IsNode (digests (states self.old)))
-            (λ _ refusal. is_of_question refusal ≡ false) (is_faithful self.old)
-            paths.now told.items self.old self.new) }
+            (λ told. Asked (manner follows can_refuse can_answer)
+            (for_nodes (is_faithful self.old) (states self.old)) paths.now told.items self.old self.new) }
         ensures ended { IfErr result (Ends follows can_refuse (length paths.now) self.old self.new) }
         ensures not_of_key { is_faithful self.old → IfErr result (λ refusal. is_of_question refusal ≡ false) }
     {
@@ -139,10 +138,8 @@ pub trait Peer {
     ) -> Result<Vec<Result<Page, Refusal>>, Refusal>
         ensures kept { is_faithful self.old → is_faithful self.new × (states self.new ≡ states self.old) }
         ensures told { IfOk result
-            (λ told. Asked follows can_refuse can_answer (λ _ _. Unit {0})
-            (λ q page. (page.0.items ≡ page_of (digests (states self.old)) q.0 q.1)
-            × (page.1 ≡ is_more_after_page (digests (states self.old)) q.0 q.1))
-            (λ q. RefusesPage q.0) (is_faithful self.old) asked.now told.items self.old self.new) }
+            (λ told. Asked (manner follows can_refuse can_answer)
+            (for_pages (is_faithful self.old) (states self.old)) asked.now told.items self.old self.new) }
         ensures ended { IfErr result (Ends follows can_refuse (length asked.now) self.old self.new) }
         ensures not_of_key { is_faithful self.old → IfErr result (λ refusal. is_of_question refusal ≡ false) }
     {
@@ -161,10 +158,8 @@ pub trait Peer {
     fn get_all(&mut self, keys: &[Key]) -> Result<Vec<Result<KeyState, Refusal>>, Refusal>
         ensures kept { is_faithful self.old → is_faithful self.new × (states self.new ≡ states self.old) }
         ensures told { IfOk result
-            (λ told. Asked follows can_refuse can_answer (can_give)
-            (λ key state. state ≡ state_at (states self.old) key)
-            (λ _ refusal. is_of_question refusal ≡ false) (is_faithful self.old)
-            keys.now told.items self.old self.new) }
+            (λ told. Asked (manner follows can_refuse can_answer)
+            (for_states can_give (is_faithful self.old) (states self.old)) keys.now told.items self.old self.new) }
         ensures ended { IfErr result (Ends follows can_refuse (length keys.now) self.old self.new) }
         ensures not_of_key { is_faithful self.old → IfErr result (λ refusal. is_of_question refusal ≡ false) }
     {
@@ -182,8 +177,7 @@ pub trait Peer {
     /// Joins each state to that of its key.
     fn push_all(&mut self, pairs: &[(Key, KeyState)]) -> Result<Vec<Result<(), Refusal>>, Refusal>
         ensures told { IfOk result
-            (λ told. Asked follows can_refuse can_answer (λ _ _. Unit {0}) (λ _ _. Unit {0}) (λ _ _. Unit {0}) ⊥
-            pairs.now told.items self.old self.new) }
+            (λ told. Asked (manner follows can_refuse can_answer) for_pushes pairs.now told.items self.old self.new) }
         ensures pushes { is_faithful self.old →
             IfOk result (λ told. is_faithful self.new ×
             Pushes (most_keys self.old) (states self.old) pairs.now told.items (states self.new)) }

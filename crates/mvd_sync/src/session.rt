@@ -1,7 +1,8 @@
 //! Sessions of two sides.
 ghost use Rattle.std.specs.Prelude.{◌≤◌};
 ghost use Rattle.mvd_sync.specs.Session.{Session};
-ghost use Rattle.mvd_sync.specs.PeerSides.{side_of};
+ghost use Rattle.mvd_sync.specs.PeerSides.{sides_of};
+ghost use Rattle.mvd_sync.specs.Sides.{two};
 
 use crate::asking::Questions;
 use crate::bucket_walk::exchange_buckets;
@@ -25,9 +26,7 @@ pub fn sync_within<L: Peer, P: Peer>(
 ) -> Result<Report, SyncFault>
     requires some { 1 ≤ questions }
     requires limit { questions ≤ MOST_QUESTIONS }
-    ensures session { let l = side_of L.Peer in
-        let p = side_of P.Peer in
-        Session l p questions local.old local.new peer.old peer.new result }
+    ensures session { Session (sides_of L.Peer P.Peer) questions (two local.old peer.old) (two local.new peer.new) result }
 {
     let number = local.number();
     let mut left = Questions {
@@ -55,9 +54,7 @@ pub fn sync<L: Peer, P: Peer>(
     local: &mut L,
     peer: &mut P,
 ) -> Result<Report, SyncFault>
-    ensures session { let l = side_of L.Peer in
-        let p = side_of P.Peer in
-        Session l p 10000000 local.old local.new peer.old peer.new result }
+    ensures session { Session (sides_of L.Peer P.Peer) 10000000 (two local.old peer.old) (two local.new peer.new) result }
 {
     sync_within(alloc, local, peer, MOST_QUESTIONS)
 }

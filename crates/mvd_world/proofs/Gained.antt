@@ -22,13 +22,13 @@ use Rattle.mvd_site.specs.Held.{AreHeld, States, state_at}
 use Rattle.mvd_site.specs.Sites.{SiteStands, SiteValue}
 use Rattle.mvd_site.proofs.OfTheSet.{states_of-stands}
 use Rattle.mvd_site.proofs.Steps.{state_at-stands}
-use Rattle.mvd_sync.specs.Session.{AreFew, CanMeet, HasAllThatDiffer, HasJoined, IsIn, Session, is_member}
+use Rattle.mvd_sync.specs.Session.{AreFew, CanMeet, HasAllThatDiffer, HasJoined, IsIn, is_member}
 use Rattle.mvd_sync.specs.Sides.{IsBroken, IsFaultOf, SideOf, SiteFollows, SiteRefuses, Stays, is_of_question, is_site_refusal, of_answer, of_memory, of_questions, of_side, side, tells_broken}
 use Rattle.mvd_sync.specs.declared.report.Report.{Report}
 use Rattle.mvd_sync.specs.declared.report.SyncFault.{SyncFault}
 use Rattle.mvd_sync.specs.declared.report.SyncFault.TheVariants.{Local, Peer}
 use Rattle.mvd_sync.proofs.JoinLaws.{join_absorbs, valid_at}
-use Rattle.mvd_sync.proofs.Positions.{BlamesBy, ReportsDoneBy}
+use Rattle.mvd_sync.proofs.Positions.{BlamesBy, ReportsDoneBy, SessionBy}
 use Rattle.mvd_sync.proofs.SiteSides.{is_broken}
 use Rattle.mvd_world.specs.Machine.{BreaksBy, FailsFor, MayFail, ToldAtOnce, all_asked, it_refused, writes_in}
 use Rattle.mvd_world.specs.Worlds.{Exchange}
@@ -185,11 +185,11 @@ fails_for a b local peer local' peer' i j v w (Err (Peer refusal)) first second 
 
 -- ---- and what it does
 
-pub sites_meet : (local peer local' peer' : SiteValue) (result : Result Report SyncFault) → IsTrue_side local → IsTrue_side peer → AreHeld local'.states → AreHeld peer'.states → Session site_side site_side 10000000 local local' peer peer' result → Exchange local peer local' peer' result
+pub sites_meet : (local peer local' peer' : SiteValue) (result : Result Report SyncFault) → IsTrue_side local → IsTrue_side peer → AreHeld local'.states → AreHeld peer'.states → SessionBy site_side site_side 10000000 local local' peer peer' result → Exchange local peer local' peer' result
 sites_meet local peer local' peer' result first second held held' session V W stands stands' =
     let m = session.meets first second in
-    let mine = session.local_side first in
-    let theirs = session.peer_side second in
+    let mine = session.course.local_side first in
+    let theirs = session.course.peer_side second in
     let here = whole_side (Local Broken) local' result mine.after_ok mine.after_fault in
     let there = whole_side (Peer Broken) peer' result theirs.after_ok theirs.after_fault in
     let a_is : local.states ≡ states_of V = Stands-one local.states (states_of V) V (stands first.0) (states_of-stands V) in
@@ -204,7 +204,7 @@ sites_meet local peer local' peer' result first second held held' session V W st
       peer_breaks = breaks_by (Peer Broken) is_peer_broken peer.broken peer'.broken result second.0 there;
       at_once = subst₂ (λ a b. ToldAtOnce a b m.joined result) (sym first.0) (sym second.0) tt;
       fails = subst₂ (λ a b. FailsFor a b local'.broken peer'.broken result) a_is b_is
-          (fails_for local.states peer.states local peer local' peer' session.asked_local session.asked_peer session.wanted_local session.wanted_peer result first second here there (session.few first second) session.cause);
+          (fails_for local.states peer.states local peer local' peer' session.course.asked_local session.course.asked_peer session.course.wanted_local session.course.wanted_peer result first second here there (session.few first second) session.course.cause);
       local_stands = λ is. joined_stands m.joined local.states peer.states local'.states V W (stands first.0) (stands' second.0) held (m.joins.local_side (is, held));
       peer_stands = λ is. given_stands m.joined m.given local.states peer.states peer'.states V W first.1 second.1 (stands first.0) (stands' second.0) held' m.joins.part m.joins.met (m.joins.peer_side (is, held'));
     }

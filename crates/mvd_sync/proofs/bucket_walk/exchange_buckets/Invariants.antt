@@ -1,7 +1,7 @@
 use Rattle.std.proofs.Common.{◌≡◌, ℕ, List, ◌++◌, length}
 use Rattle.std.specs.Prelude.{Ok}
-use Rattle.mvd_sync.specs.Buckets.{GoesOver}
 use Rattle.mvd_sync.specs.Sides.{side}
+use Rattle.mvd_sync.proofs.Positions.{GoesOverBy}
 use Rattle.mvd_sync.proofs.bucket_walk.exchange_buckets.Given as goal
 
 abbrev pub decreases-loop-rest : goal.decreases-loop-rest
@@ -14,4 +14,4 @@ invariant-loop-rest g l =
     let P = g.P.Peer in
     let local = side L.states L.is_faithful L.can_give L.follows L.can_refuse L.can_answer L.most_keys L.number in
     let peer = side P.states P.is_faithful P.can_give P.follows P.can_refuse P.can_answer P.most_keys P.number in
-    (done : List (List ℕ)) × (l.paths ≡ done ++ l.rest) × GoesOver local peer done (length done) l.fn.left l.left l.fn.local l.local l.fn.peer l.peer l.fn.exchange l.exchange (Ok (tt {0}))
+    (done : List (List ℕ)) × (l.paths ≡ done ++ l.rest) × GoesOverBy local peer done (length done) l.fn.left l.left l.fn.local l.local l.fn.peer l.peer l.fn.exchange l.exchange (Ok (tt {0}))

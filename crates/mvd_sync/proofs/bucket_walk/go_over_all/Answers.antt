@@ -3,11 +3,12 @@ use Rattle.std.specs.Prelude.{Ok, Err}
 use Rattle.std.proofs.lemmas.List.{take-append-drop, take_all}
 use Rattle.mvd_site.specs.Answer.{digests}
 use Rattle.mvd_site.specs.Held.{States}
-use Rattle.mvd_sync.specs.Buckets.{ArePages, GoesThrough}
+use Rattle.mvd_sync.specs.Buckets.{ArePages}
 use Rattle.mvd_sync.specs.Sides.{side}
 use Rattle.mvd_sync.proofs.Descents.{Each-at, one_taken}
 use Rattle.mvd_sync.proofs.Fetching.{IsGoodPage, first_left, page_left, rest_left, some_left}
 use Rattle.mvd_sync.proofs.Through.{page_at, through_cut, through_none, through_on}
+use Rattle.mvd_sync.proofs.Positions.{GoesThroughBy}
 use Rattle.mvd_sync.proofs.bucket_walk.go_over_all.Goals as goal
 
 pub loop-path-init : goal.loop-path-init
@@ -62,7 +63,7 @@ returns-in-Err g c =
     let then : (a b : States) → Told a b → Then a b = λ a b told. (page_at (digests a) paths mine i path c.remove-first.result told.0 c.loop-path-test.true c.path-item.is first, page_at (digests b) paths theirs i path c.remove-second.result told.1 c.loop-path-test.true c.path-item.is second) in
     let more = through_on l p g.met.L.Peer.follows_on g.met.P.Peer.follows_on g.met.L.Peer.most_stays g.met.P.Peer.most_stays Told Then then (take i paths) (path ∷ []) 0 0 c.args.left.now c.loop-path.left c.go_over.new.left c.args.local.now c.loop-path.local c.go_over.new.local c.args.peer.now c.loop-path.peer c.go_over.new.peer c.args.exchange.now c.loop-path.exchange c.go_over.new.exchange (Err c.in-Err.fault) at.over c.in-Err.ensures in
     let all : (take i paths ++ path ∷ []) ++ drop (i + 1) paths ≡ paths = ap (λ xs. xs ++ drop (i + 1) paths) (sym (one_taken paths i path c.loop-path-test.true c.path-item.is)) ∙ take-append-drop (i + 1) paths in
-    subst (λ qs. GoesThrough {A = Unit {0}} l p Told qs 0 c.args.left.now c.go_over.new.left c.args.local.now c.go_over.new.local c.args.peer.now c.go_over.new.peer c.args.exchange.now c.go_over.new.exchange (Err c.in-Err.fault)) all
+    subst (λ qs. GoesThroughBy {A = Unit {0}} l p Told qs 0 c.args.left.now c.go_over.new.left c.args.local.now c.go_over.new.local c.args.peer.now c.go_over.new.peer c.args.exchange.now c.go_over.new.exchange (Err c.in-Err.fault)) all
     (through_cut l p Told (take i paths ++ path ∷ []) (drop (i + 1) paths) 0 0 c.args.left.now c.go_over.new.left c.args.local.now c.go_over.new.local c.args.peer.now c.go_over.new.peer c.args.exchange.now c.go_over.new.exchange c.in-Err.fault more)
 
 pub loop-path-preserved : goal.loop-path-preserved
@@ -82,7 +83,7 @@ loop-path-preserved g c =
     let then : (a b : States) → Told a b → Then a b = λ a b told. (page_at (digests a) paths mine i path c.remove-first.result told.0 c.loop-path-test.true c.path-item.is first, page_at (digests b) paths theirs i path c.remove-second.result told.1 c.loop-path-test.true c.path-item.is second) in
     let more = through_on l p g.met.L.Peer.follows_on g.met.P.Peer.follows_on g.met.L.Peer.most_stays g.met.P.Peer.most_stays Told Then then (take i paths) (path ∷ []) 0 0 c.args.left.now c.loop-path.left c.go_over.new.left c.args.local.now c.loop-path.local c.go_over.new.local c.args.peer.now c.loop-path.peer c.go_over.new.peer c.args.exchange.now c.loop-path.exchange c.go_over.new.exchange (Ok (tt {0})) at.over c.in-Ok.ensures in
     record {
-      over = subst (λ qs. GoesThrough l p Told qs 0 c.args.left.now c.go_over.new.left c.args.local.now c.go_over.new.local c.args.peer.now c.go_over.new.peer c.args.exchange.now c.go_over.new.exchange (Ok (tt {0}))) (sym (one_taken paths i path c.loop-path-test.true c.path-item.is)) more;
+      over = subst (λ qs. GoesThroughBy l p Told qs 0 c.args.left.now c.go_over.new.left c.args.local.now c.go_over.new.local c.args.peer.now c.go_over.new.peer c.args.exchange.now c.go_over.new.exchange (Ok (tt {0}))) (sym (one_taken paths i path c.loop-path-test.true c.path-item.is)) more;
       mine = rest_left mine c.loop-path.mine.items c.remove-first.new.self.items i at.mine c.remove-first.ensures.by_index.2;
       theirs = rest_left theirs c.loop-path.theirs.items c.remove-second.new.self.items i at.theirs c.remove-second.ensures.by_index.2;
     }
@@ -93,7 +94,7 @@ returns g c =
     let p = side g.P.Peer.states g.P.Peer.is_faithful g.P.Peer.can_give g.P.Peer.follows g.P.Peer.can_refuse g.P.Peer.can_answer g.P.Peer.most_keys g.P.Peer.number in
     let at = c.loop-path.invariant in
     let all : take c.loop-path.path-index c.args.paths.now ≡ c.args.paths.now = take_all c.loop-path.path-index c.args.paths.now c.loop-path-test.false in
-    subst (λ qs. GoesThrough l p (λ a b. ArePages (digests a) c.args.paths.now c.args.mine.items × ArePages (digests b) c.args.paths.now c.args.theirs.items) qs 0 c.args.left.now c.loop-path.left c.args.local.now c.loop-path.local c.args.peer.now c.loop-path.peer c.args.exchange.now c.loop-path.exchange (Ok (tt {0}))) all at.over
+    subst (λ qs. GoesThroughBy l p (λ a b. ArePages (digests a) c.args.paths.now c.args.mine.items × ArePages (digests b) c.args.paths.now c.args.theirs.items) qs 0 c.args.left.now c.loop-path.left c.args.local.now c.loop-path.local c.args.peer.now c.loop-path.peer c.args.exchange.now c.loop-path.exchange (Ok (tt {0}))) all at.over
 
 pub go_over-requires-clause-deep : goal.go_over-requires-clause-deep
 go_over-requires-clause-deep g c = subst (λ (path : List ℕ). length path ≡ 3) (sym c.path-item.is) (Each-at (λ path. length path ≡ 3) c.args.paths.now c.loop-path.path-index c.path-item.result c.requires.deep c.loop-path-test.true)

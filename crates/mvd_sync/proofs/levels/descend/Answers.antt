@@ -1,12 +1,13 @@
 use Rattle.std.proofs.Common.{◌≡◌, ◌<◌, ◌≤◌, ◌+◌, ℕ, List, [], ◌++◌, length, take, refl, sym, ap, subst, ◌∙◌, arith, append-nil}
 use Rattle.mvd_sync.specs.Session.{Each}
 use Rattle.mvd_sync.specs.Sides.{side}
-use Rattle.mvd_sync.specs.Walk.{Descends, told_all}
+use Rattle.mvd_sync.specs.Walk.{told_all}
 use Rattle.mvd_sync.specs.declared.asking.Questions.{Questions}
 use Rattle.mvd_sync.proofs.Descents.{Each-right, Each-take, answers_long, descends_on, nothing_asked, reads_of, reads_on}
 use Rattle.std.specs.Cmp.{unsigned_Decides}
 use Rattle.mvd_sync.proofs.Pages.{no_entries}
 use Rattle.mvd_sync.proofs.Fails.{local_fails, memory_fails, peer_fails, window_fits, window_moves}
+use Rattle.mvd_sync.proofs.Positions.{DescendsBy}
 use Rattle.mvd_sync.proofs.levels.descend.Goals as goal
 
 inner_window : (paths done rest : List (List ℕ)) (n : ℕ) → paths ≡ done ++ rest → Each (λ path. length path < 3) paths → Each (λ path. length path < 3) (take n rest)
@@ -89,4 +90,4 @@ returns-clause-descends g c =
     let at = c.loop-rest.invariant in
     let none = no_entries c.loop-rest.rest.now ((unsigned_Decides (length c.loop-rest.rest.now) 0).0 (sym c.is_empty.ensures ∙ c.loop-rest-test.false)) in
     let all : c.args.paths.now ≡ at.0 = at.1 ∙ ap (λ xs. at.0 ++ xs) none ∙ append-nil at.0 in
-    subst (λ xs. Descends l p xs c.args.left.now c.loop-rest.left c.args.local.now c.loop-rest.local c.args.peer.now c.loop-rest.peer c.loop-rest.below.items) (sym all) at.2
+    subst (λ xs. DescendsBy l p xs c.args.left.now c.loop-rest.left c.args.local.now c.loop-rest.local c.args.peer.now c.loop-rest.peer c.loop-rest.below.items) (sym all) at.2

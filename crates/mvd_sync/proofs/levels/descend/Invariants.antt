@@ -1,6 +1,6 @@
 use Rattle.std.proofs.Common.{◌≡◌, ℕ, List, ◌++◌, length}
 use Rattle.mvd_sync.specs.Sides.{side}
-use Rattle.mvd_sync.specs.Walk.{Descends}
+use Rattle.mvd_sync.proofs.Positions.{DescendsBy}
 use Rattle.mvd_sync.proofs.levels.descend.Given as goal
 
 abbrev pub decreases-loop-rest : goal.decreases-loop-rest
@@ -12,4 +12,4 @@ invariant-loop-rest g l =
     let P = g.P.Peer in
     let local = side L.states L.is_faithful L.can_give L.follows L.can_refuse L.can_answer L.most_keys L.number in
     let peer = side P.states P.is_faithful P.can_give P.follows P.can_refuse P.can_answer P.most_keys P.number in
-    (done : List (List ℕ)) × (l.paths ≡ done ++ l.rest) × Descends local peer done l.fn.left l.left l.fn.local l.local l.fn.peer l.peer l.below.items
+    (done : List (List ℕ)) × (l.paths ≡ done ++ l.rest) × DescendsBy local peer done l.fn.left l.left l.fn.local l.local l.fn.peer l.peer l.below.items

@@ -24,7 +24,7 @@ returns-clause-exchange c =
     sites_meet c.args.local.now c.args.peer.now c.sync-ended.new.local c.sync-ended.new.peer c.sync-ended.result mine theirs c.key_count-3.ensures.held c.key_count-4.ensures.held c.sync-ended.ensures.session
 
 pub returns-clause-local_config : goal.returns-clause-local_config
-returns-clause-local_config c = c.sync-ended.ensures.session.follows.0.0
+returns-clause-local_config c = c.sync-ended.ensures.session.course.follows.0.0
 
 pub returns-clause-peer_config : goal.returns-clause-peer_config
-returns-clause-peer_config c = c.sync-ended.ensures.session.follows.1.0
+returns-clause-peer_config c = c.sync-ended.ensures.session.course.follows.1.0

@@ -8,7 +8,15 @@ use Rattle.std.specs.Prelude.{Option}
 use Rattle.mvd_keys.specs.Writes.{Key}
 use Rattle.mvd_tree.specs.Page.{is_more_after_page, page_of}
 use Rattle.mvd_sync.proofs.OneByOne.{always, both_ok, at_err, few_more, last_made, one_more_at}
+use Rattle.std.proofs.Common.{take}
+use Rattle.std.proofs.lemmas.List.{take_all}
+use Rattle.mvd_sync.specs.Windows.{Asked, for_pages, manner}
 use Rattle.mvd_sync.proofs.peer.Peer.pages.Goals as goal
+
+pub returns-clause-told : goal.returns-clause-told
+returns-clause-told g c =
+    let all : take c.loop-path.path-index c.args.asked.now ≡ c.args.asked.now = take_all c.loop-path.path-index c.args.asked.now c.loop-path-test.false in
+    subst (λ qs. Asked (manner g.Self.Peer.follows g.Self.Peer.can_refuse g.Self.Peer.can_answer) (for_pages (g.Self.Peer.is_faithful c.args.self.now) (g.Self.Peer.states c.args.self.now)) qs c.loop-path.told.items c.args.self.now c.loop-path.self) all c.loop-path.invariant.so_far
 
 pub returns-then-is_over-clause-ended : goal.returns-then-is_over-clause-ended
 returns-then-is_over-clause-ended g c =

@@ -79,7 +79,7 @@ sweep_all() { # STEP: that of all tests but the cheapest
         sweep mvd_faults_tests memory::$test "$1"
     done
     sweep mvd_faults_tests round_memory::a_round_tells_what_is_there "$1"
-    sweep mvd_app_tests script_memory::a_script_tells_what_it_did
+    sweep mvd_script_tests script_memory::a_script_tells_what_it_did
     sweep mvd_sync_tests refused_growth::a_refused_allocation_leaves_old_states_or_joins "$1"
 }
 

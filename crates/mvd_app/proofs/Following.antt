@@ -13,9 +13,10 @@ use Rattle.mvd_site.specs.Sites.{SiteValue}
 use Rattle.mvd_replica.specs.declared.replica.Replica.{Replica}
 use Rattle.sqlite.specs.Held.{Held, state}
 use Rattle.sqlite_trees.specs.declared.store.Store.{Ghosts}
-use Rattle.mvd_app.specs.Asked.{Exchange}
-use Rattle.mvd_app.specs.Stored.{AreRounds, FollowsAsked, FollowsPushed, HasRound, IsRound, IsServed, ReplicaAnswers}
-use Rattle.mvd_app.specs.Talk.{Answered, Asks}
+use Rattle.mvd_script.specs.Asked.{Exchange}
+use Rattle.mvd_app.specs.Stored.{AreRounds, FollowsAsked, FollowsPushed, HasRound, IsRound, IsServed}
+use Rattle.mvd_replica.specs.ReplicaCalls.{ReplicaAnswers}
+use Rattle.mvd_script.specs.Talk.{Answered, Asks}
 
 module _ {S : Type 0} {g : Ghosts S} where
   all_follow : (exchanges : List Exchange) (old new : Replica S g) → Answered ReplicaAnswers exchanges old new → FollowsAsked old new

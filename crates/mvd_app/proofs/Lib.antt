@@ -1,12 +1,7 @@
-pub mod Talking
-pub mod Playing
-pub mod Heads
-pub mod Running
 pub mod Pieces
 pub mod Typing
 pub mod Following
 pub mod Clients
 pub mod Watching
 pub mod Working
-pub mod Reporting
 pub mod Syncing

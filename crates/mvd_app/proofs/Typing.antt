@@ -15,20 +15,16 @@ use Rattle.mvd_wire.specs.declared.reply.Reply.{Reply}
 use Rattle.mvd_wire.specs.declared.request.Request.{Request}
 use Rattle.mvd_app.specs.ReadLine.{CameIn, ReadsLine}
 use Rattle.mvd_app.specs.Shell.{IsNoTyped, IsUntold, Shells, TakesLine, TellAll, TellsLine, Told, no_command_text}
-use Rattle.mvd_app.specs.Talk.{Answered, Asks, Speaks}
+use Rattle.mvd_script.specs.Talk.{Answered, Asks, Speaks}
 use Rattle.mvd_app.proofs.Pieces.{consumes_none, consumes_on, lines_fed, lines_one}
-use Rattle.mvd_app.proofs.Running.{appends_none, appends_on}
-use Rattle.mvd_app.proofs.Talking.{answered_both}
+use Rattle.mvd_script.proofs.Running.{appends_none, appends_on}
+use Rattle.mvd_script.proofs.Talking.{answered_both, asks_none as nothing_asked}
 
 module _ {A : Type 0} (Answers : A → A → Request → Reply → Type 0) where
   -- ---- what was asked
 
   pub asks_none : (a : A) → Asks Answers a a
-  unfolding Answered
-  asks_none a = record { exchanges = []; answered = refl }
-
-  pub speaks_asks : (old new : A) (ask : Ask) (text text' : List ℕ) (result : Result (Unit {0}) Refusal) → Speaks Answers old new ask text text' result → Asks Answers old new
-  speaks_asks old new ask text text' result speaks = record { exchanges = speaks.talks.exchanges; answered = speaks.talks.answered }
+  asks_none a = nothing_asked Answers a
 
   -- ---- one line
 

@@ -2,15 +2,17 @@
 use Rattle.std.proofs.Common.{◌≡◌, ℕ, List, [], ◌∷◌, subst, sym}
 use Rattle.mvd_keys.specs.Writes.{Write}
 use Rattle.mvd_replica.proofs.Keeping.{keeps_on, keeps_self, pushes_keep, turns_keep}
+use Rattle.mvd_replica.specs.Batch.{lost_requests}
 use Rattle.mvd_replica.specs.Programs.{HoldsMore, KeepsWrites, WorksOn}
 use Rattle.mvd_replica.specs.Replicas.{site_of, stored_of}
 use Rattle.mvd_replica.specs.declared.replica.Replica.{Replica}
 use Rattle.sqlite_disk.specs.declared.Disk as disk
 use Rattle.sqlite_disk.specs.declared.Files.{Files}
 use Rattle.sqlite_trees.specs.declared.store.Store.{Ghosts}
-use Rattle.mvd_app.specs.Asked.{Exchange}
-use Rattle.mvd_app.specs.Stored.{FollowsPushed, IsServed, ReplicaAnswers}
-use Rattle.mvd_app.specs.Talk.{Answered, Asks}
+use Rattle.mvd_script.specs.Asked.{Exchange}
+use Rattle.mvd_app.specs.Stored.{FollowsPushed, IsServed}
+use Rattle.mvd_replica.specs.ReplicaCalls.{ReplicaAnswers}
+use Rattle.mvd_script.specs.Talk.{Answered, Asks}
 use Rattle.mvd_app.proofs.Following.{follows}
 
 module _ {S : Type 0} {g : Ghosts S} where
@@ -19,7 +21,7 @@ module _ {S : Type 0} {g : Ghosts S} where
   unfolding Answered
   all_keep [] old new same = subst (λ (r : Replica S g). KeepsWrites (site_of old) (site_of r)) (sym same) (keeps_self (site_of old))
   all_keep (exchange ∷ exchanges) old new (between, one, others) =
-      keeps_on (site_of old) (site_of between) (site_of new) (λ known stands. (one.choice.0, one.replies.stands known one.choice.0 stands one.choice.1))
+      keeps_on (site_of old) (site_of between) (site_of new) (λ known stands. (one.choice.0, one.keeps known one.choice.0 stands one.choice.1))
       (all_keep exchanges between new others)
 
   pub asks_work : (old new : Replica S g) → Asks ReplicaAnswers old new → WorksOn (stored_of old) (stored_of new)
@@ -30,24 +32,27 @@ module _ {S : Type 0} {g : Ghosts S} where
         keeps = all_keep asks.exchanges old new asks.answered;
         sound = it.store.sound;
         holds = it.store.holds;
+        stored = λ sound held whole broken. let more = it.store.stored sound held whole broken in (more.request ∷ [], more.holds);
       }
 
   -- a server
   pub served_works : (old new : Replica S g) → IsServed old new → WorksOn (stored_of old) (stored_of new)
   served_works old new it = record {
     config = it.serves.config;
-    keeps = turns_keep _ (site_of old) (site_of new) it.serves.replies it.serves.choice;
+    keeps = turns_keep _ (site_of old) (site_of new) it.serves.stands it.serves.choice;
     sound = it.serves.follows.sound;
     holds = it.serves.follows.holds;
+    stored = λ sound held whole broken. let more = it.serves.follows.stored sound held whole broken in (lost_requests more.lost, more.holds);
   }
 
   -- a session
   pub pushed_works : (old new : Replica S g) → FollowsPushed old new → WorksOn (stored_of old) (stored_of new)
   pushed_works old new it = record {
     config = it.site.0;
-    keeps = pushes_keep (site_of old) (site_of new) it.site it.comes;
+    keeps = pushes_keep (site_of old) (site_of new) it.comes;
     sound = it.store.sound;
     holds = it.store.holds;
+    stored = λ sound held whole broken. let more = it.store.stored sound held whole broken in (more.request ∷ more.rest, more.holds);
   }
 
 -- the site that a configuration names

@@ -1,11 +1,6 @@
-pub mod Asked
 pub mod Output
 pub mod ReadLine
 pub mod Reported
-pub mod Script
 pub mod Shell
-pub mod Staged
 pub mod Stored
 pub mod Synced
-pub mod Talk
-pub mod Told

@@ -16,7 +16,7 @@ use Rattle.mvd_wire.specs.declared.reply.Reply.{Reply}
 use Rattle.mvd_wire.specs.declared.request.Request.{Request}
 use Rattle.mvd_app.specs.declared.shell.TheConstants.{HELP}
 use Rattle.mvd_app.specs.ReadLine.{CameIn, ReadsLine}
-use Rattle.mvd_app.specs.Talk.{Asks, Prints_line}
+use Rattle.mvd_script.specs.Talk.{Asks, Prints_line}
 
 -- ---- a line
 

@@ -1,16 +1,12 @@
 -- What the commands do to a stored site.
 use Rattle.std.specs.Prelude.{ℕ, ◌≡◌, List, [], ◌∷◌}
 use Rattle.std.specs.List.{flat_map}
-use Rattle.mvd_keys.specs.Writes.{Write}
-use Rattle.mvd_site.specs.Known.{Adds}
 use Rattle.mvd_host.specs.Hosts.{HostValue}
 use Rattle.mvd_host.specs.Round.{Round, Serves, side_of, turns_of}
 use Rattle.mvd_replica.specs.Replicas.{conn_of, site_of, stored_of}
 use Rattle.mvd_replica.specs.Sides.{ReplicaFollows, SideFollows}
-use Rattle.mvd_replica.specs.Turns.{AnswersStored, Turn}
+use Rattle.mvd_replica.specs.Turns.{Turn}
 use Rattle.mvd_replica.specs.declared.replica.Replica.{Replica}
-use Rattle.mvd_wire.specs.declared.reply.Reply.{Reply}
-use Rattle.mvd_wire.specs.declared.request.Request.{Request}
 use Rattle.sqlite_trees.specs.declared.store.Store.{Ghosts}
 
 module _ {S : Type 0} {g : Ghosts S} where
@@ -21,12 +17,6 @@ module _ {S : Type 0} {g : Ghosts S} where
   -- whatever a session does, its site changes by pushes alone, and its records follow
   abbrev pub FollowsPushed : Replica S g → Replica S g → Type 0
   FollowsPushed old new = SideFollows (stored_of old) (stored_of new)
-
-  -- it replies to a request as one may, there are writes that fit the reply, and its records follow
-  pub record ReplicaAnswers (old new : Replica S g) (request : Request) (reply : Reply) : Type 0 where
-    pub replies : AnswersStored (site_of old) (site_of new) request reply
-    pub choice : (added : List Write) × Adds request reply added
-    pub follows : ReplicaFollows (λ asked. asked ≡ request) (stored_of old) (stored_of new)
 
   -- ---- a server
 

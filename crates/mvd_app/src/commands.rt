@@ -1,9 +1,11 @@
 //! What a command line asks for, done: with standard input and output, files and sockets.
-ghost use Rattle.std.specs.Prelude.{◌≡◌, IfOk};
-ghost use Rattle.mvd_app.specs.Stored.{FollowsAsked, ReplicaAnswers};
-ghost use Rattle.mvd_app.specs.Talk.{Asks};
+ghost use Rattle.std.specs.Prelude.{◌≡◌, IfOk, None};
+ghost use Rattle.mvd_app.specs.Stored.{FollowsAsked};
+ghost use Rattle.mvd_replica.specs.ReplicaCalls.{ReplicaAnswers};
+ghost use Rattle.mvd_script.specs.Talk.{Asks};
 ghost use Rattle.mvd_input.specs.Orders.{IsInRange, IsSetUp};
 ghost use Rattle.mvd_replica.specs.Programs.{LeavesFile, WorksOn};
+ghost use Rattle.mvd_rows.specs.Defs.{no_definitions};
 ghost use Rattle.mvd_replica.specs.Replicas.{stored_of};
 ghost use Rattle.sqlite.specs.WalFiles.{image_at};
 
@@ -12,12 +14,12 @@ use crate::looping::loop_run;
 use crate::many::{Terms, serve_run};
 use crate::output::Output;
 use crate::peer_commands::{refused_in, sync_run, tell_report};
-use crate::script::sim;
 use crate::shell::{remote_shell_run, shell_run};
 use mvd_dots::Refusal;
 use mvd_input::{DEFS_MAX, Fault, Order, Setup, read_defs, read_input};
 use mvd_replica::{FileFault, Replica, open_file};
 use mvd_rows::Defs;
+use mvd_script::sim;
 use mvd_site::Config;
 use sqlite::{Alter, FileFrom, Files, Start};
 use sqlite_disk::Disk;
@@ -186,14 +188,18 @@ fn input(rt: &HostRuntime) -> Result<BufReader<<HostRuntime as Input>::Reader>, 
 /// What a site is set up with.
 fn config_in<'a>(rt: &HostRuntime, setup: Setup<'a>) -> Result<Config, Stop<'a>>
     requires { IsSetUp setup }
-    ensures { IfOk result (λ config. config.site ≡ setup.entry.site) }
+    ensures site { IfOk result (λ config. config.site ≡ setup.entry.site) }
+    ensures keys { IfOk result (λ config. config.max_keys ≡ setup.entry.max_keys) }
+    ensures none { setup.entry.defs ≡ None → IfOk result (λ config. config.defs ≡ no_definitions) }
 {
     let defs = defs_in(rt, setup.defs)?;
     Ok(Config::new(setup.site, setup.max_keys, defs))
 }
 
 /// The indexes and views of a file of definitions, or none.
-fn defs_in<'a>(rt: &HostRuntime, file: Option<&'a str>) -> Result<Defs, Stop<'a>> {
+fn defs_in<'a>(rt: &HostRuntime, file: Option<&'a str>) -> Result<Defs, Stop<'a>>
+    ensures { file.entry ≡ None → IfOk result (λ defs. defs ≡ no_definitions) }
+{
     let Some(file) = file else {
         return Ok(Defs::new(rt.alloc()));
     };

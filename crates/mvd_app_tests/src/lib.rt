@@ -1,10 +1,6 @@
-//! Tests of the commands: whole scripts, orders, their inputs, a connection within one process, links, shells, and hints.
+//! Tests of the commands: inputs, a connection within one process, links, shells, and hints.
 #![tactic(auto)]
 
-#[cfg(test)]
-mod early_ends;
-#[cfg(test)]
-mod full_bucket;
 #[cfg(test)]
 mod hints;
 #[cfg(test)]
@@ -12,20 +8,4 @@ mod inputs;
 #[cfg(test)]
 mod links;
 #[cfg(test)]
-mod list_scripts;
-#[cfg(test)]
-mod long;
-#[cfg(test)]
-mod orders;
-#[cfg(test)]
-mod random_scripts;
-#[cfg(test)]
-mod script_memory;
-#[cfg(test)]
-mod scripts;
-#[cfg(test)]
-mod session_scripts;
-#[cfg(test)]
 mod shells;
-#[cfg(test)]
-mod text_scripts;

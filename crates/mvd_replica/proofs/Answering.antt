@@ -106,7 +106,7 @@ broken_states old new request reply true was broken answers stays = ap (λ (s : 
 broken_states old new request reply false was broken answers stays = ap (λ (s : SiteValue). s.states) (broke_by old new request reply was broken answers).site
 
 -- what the states stand for after a request, also where the site is broken
-keeps_states : (old new : SiteValue) (request : Request) (reply : Reply) (is : Bool) → new.broken ≡ is → AnswersStored old new request reply → AnswersFromStored old new request reply → (new.broken ≡ true → reply ≡ Refused Broken) →
+pub keeps_states : (old new : SiteValue) (request : Request) (reply : Reply) (is : Bool) → new.broken ≡ is → AnswersStored old new request reply → AnswersFromStored old new request reply → (new.broken ≡ true → reply ≡ Refused Broken) →
     (old.broken ≡ true → new ≡ old) → (known added : List Write) → Stands old.states known → Adds request reply added → Stands new.states (known ++ added)
 keeps_states old new request reply false is one answers told stays known added stands adds = one.stands known added (λ _. stands) adds is
 keeps_states old new request reply true is one answers told stays known added stands adds =

@@ -9,26 +9,25 @@ use Rattle.mvd_keys.specs.State.{IsValid, State as KeyState, join}
 use Rattle.mvd_keys.specs.Writes.{Key, Stands, Write, is_empty, state, writes_for}
 use Rattle.mvd_site.proofs.Steps.{Stands-insert, Stands-same, state_at-stands}
 use Rattle.mvd_site.specs.Held.{States, state_at}
-use Rattle.mvd_site.specs.Sites.{SiteStands, SiteValue}
+use Rattle.mvd_site.specs.Sites.{SiteValue}
 use Rattle.mvd_sync.proofs.JoinLaws.{nothing_empty}
 use Rattle.mvd_sync.proofs.SiteSides.{not_nothing, removed_same}
 use Rattle.mvd_sync.specs.Session.{ComesByPushes, Each, is_nothing, pushed, pushed_all, put_state}
-use Rattle.mvd_sync.specs.Sides.{SiteFollows}
 use Rattle.mvd_replica.specs.Programs.{KeepsWrites}
-use Rattle.mvd_replica.specs.Turns.{Event, Replies, TellsTurns, Turn, known_after}
+use Rattle.mvd_replica.specs.Turns.{Event, StandsOn, TellsTurns, Turn, known_after}
 
 pub keeps_self : (site : SiteValue) → KeepsWrites site site
-keeps_self site known stands = ([], subst (SiteStands site) (sym (append-nil known)) stands)
+keeps_self site known stands = ([], subst (Stands site.states) (sym (append-nil known)) stands)
 
 pub keeps_on : (old mid new : SiteValue) → KeepsWrites old mid → KeepsWrites mid new → KeepsWrites old new
 keeps_on old mid new p q known stands =
     let one = p known stands in
     let two = q (known ++ one.0) one.1 in
-    (one.0 ++ two.0, subst (SiteStands new) (append_assoc known one.0 two.0) two.1)
+    (one.0 ++ two.0, subst (Stands new.states) (append_assoc known one.0 two.0) two.1)
 
 -- turns keep what was known
-pub turns_keep : (turns : List Turn) (old new : SiteValue) → Replies old new turns → (events : List Event) × TellsTurns events turns → KeepsWrites old new
-turns_keep turns old new replies choice known stands = (known_after choice.0, (replies known choice.0 stands choice.1).1)
+pub turns_keep : (turns : List Turn) (old new : SiteValue) → StandsOn old new turns → (events : List Event) × TellsTurns events turns → KeepsWrites old new
+turns_keep turns old new stand choice known stands = (known_after choice.0, stand known choice.0 stands choice.1)
 
 -- ---- pushes
 
@@ -61,11 +60,7 @@ pushes_stand (p ∷ ps) valid m known stands =
     (added ++ others.0, subst (Stands (pushed_all (pushed m p.0 p.1) ps)) (append_assoc known added others.0) others.1)
 
 -- pushes keep what was known
-pub pushes_keep : {can_give : Key → KeyState → Type 0} (old new : SiteValue) → SiteFollows old new → ComesByPushes can_give old.states new.states → KeepsWrites old new
-pushes_keep old new follows comes known stands =
-    elim old.broken as (λ b. old.broken ≡ b → (added : List Write) × SiteStands new (known ++ added)) [
-      | true ↦ λ broken. ([], λ whole. absurd (true≢false (sym broken ∙ sym (ap (λ (s : SiteValue). s.broken) (follows.1 broken)) ∙ whole)))
-      | false ↦ λ whole.
-          let it = pushes_stand comes.pushes comes.valid old.states known (stands whole) in
-          (it.0, λ _. subst (λ m. Stands m (known ++ it.0)) (sym comes.is) it.1)
-    ] refl
+pub pushes_keep : {can_give : Key → KeyState → Type 0} (old new : SiteValue) → ComesByPushes can_give old.states new.states → KeepsWrites old new
+pushes_keep old new comes known stands =
+    let it = pushes_stand comes.pushes comes.valid old.states known stands in
+    (it.0, subst (λ m. Stands m (known ++ it.0)) (sym comes.is) it.1)

@@ -27,13 +27,13 @@ module _ {D : Type 0} {g : Ghosts D} {f : store.Ghosts (FileStore D g)} (image :
       let opened = opens (works.sound closed.sound) in
       let just = opened.just config.site states holds in
       let was = subst (HoldsStates config.site states) (sym (opened.found.holds holds.db holds.held)) holds.holds in
-      let kept = works.keeps known (λ _. subst (λ m. Stands m known) (sym just) stands) in
+      let kept = works.keeps known (subst (λ m. Stands m known) (sym just) stands) in
       let number = ap (λ (c : ConfigValue). c.site) (works.config ∙ fresh.0) in
       let now = closed.holds whole (works.holds closed.sound (opened.opened (ours_held config.site states opened.was was)).holds) in
       record {
         states = (site_of new).states;
         added = kept.0;
-        stands = kept.1 whole;
+        stands = kept.1;
         seen = subst (λ n. HoldsFile (image_of g files) n (site_of new).states) number (closed.file.seen _ _ now);
         left = λ other may. subst (λ n. HoldsFile other n (site_of new).states) number (closed.file.left other may _ _ now);
       }

@@ -1,32 +1,41 @@
 -- A program on a file: it opens the site that the file holds, works on it, and closes it.
-use Rattle.std.specs.Prelude.{◌≡◌, ℕ, List, ◌++◌}
+use Rattle.std.specs.Prelude.{◌≡◌, Bool, true, false, ℕ, List, ◌++◌}
 use Rattle.mvd_keys.specs.Writes.{Stands, Write}
+use Rattle.mvd_wire.specs.declared.request.Request.{Request}
 use Rattle.mvd_records.specs.Records.{IsSound}
 use Rattle.mvd_site.specs.Held.{States}
-use Rattle.mvd_site.specs.Sites.{SiteStands, SiteValue}
+use Rattle.mvd_site.specs.Sites.{SiteValue}
 use Rattle.sqlite_disk.specs.declared.Disk.{Ghosts}
 use Rattle.sqlite_disk.specs.declared.Files.{Files}
+use Rattle.sqlite.specs.Effect.{Database}
 use Rattle.sqlite.specs.Files.{image_of}
 use Rattle.sqlite.specs.Recovery.{Image}
 use Rattle.sqlite.specs.WalFiles.{outcomes}
 use Rattle.sqlite.specs.WalReads.{AreClean}
 use Rattle.mvd_replica.specs.File.{HoldsFile}
-use Rattle.mvd_replica.specs.Kept.{HoldsSite}
+use Rattle.mvd_replica.specs.Kept.{HoldsSite, HoldsStates}
 use Rattle.mvd_replica.specs.Replicas.{StoredSite}
+use Rattle.mvd_replica.specs.Sides.{after_all}
 
--- whatever writes the site stood for, it stands for these and for what was added, unless it is broken
+-- whatever writes the states stood for, they stand for these and for some more, also where the site is broken
 abbrev pub KeepsWrites : SiteValue → SiteValue → Type 0
-KeepsWrites old new = (known : List Write) → SiteStands old known → (added : List Write) × SiteStands new (known ++ added)
+KeepsWrites old new = (known : List Write) → Stands old.states known → (added : List Write) × Stands new.states (known ++ added)
 
--- What is done with a stored site between its open and its close: the site keeps its configuration and the writes known, and the
--- records follow its states
+-- the records hold the site's states, with some more requests put in
+abbrev pub HoldsAfter : SiteValue → Database → Type 0
+HoldsAfter site db = (requests : List Request) × HoldsStates site.config.site (after_all site.config site.states requests) db
+
+-- What is done with a stored site between its open and its close: the site keeps its configuration and the writes known. If the
+-- store is sound, the records follow the states; and if the site broke by it, they hold its states and those of the commit in hand
 pub record WorksOn (old new : StoredSite) : Type 0 where
   pub config : new.site.config ≡ old.site.config
   pub keeps : KeepsWrites old.site new.site
   pub sound : IsSound new.store → IsSound old.store
   pub holds : IsSound new.store → HoldsSite old.site old.store.committed → HoldsSite new.site new.store.committed
+  pub stored : IsSound new.store → HoldsSite old.site old.store.committed → old.site.broken ≡ false →
+      new.site.broken ≡ true → HoldsAfter new.site new.store.committed
 
--- the files hold states of the site that stand for these writes and for what was added, as they read now and after a crash
+-- the files hold states of the site that stand for these writes and for some more, as they read now and after a crash
 pub record HoldsMore {D : Type 0} (g : Ghosts D) (site : ℕ) (known : List Write) (files : Files D) : Type 0 where
   pub states : States
   pub added : List Write
@@ -35,7 +44,7 @@ pub record HoldsMore {D : Type 0} (g : Ghosts D) (site : ℕ) (known : List Writ
   pub left : (image : Image) → outcomes g files.log files.db image → HoldsFile image site states
 
 -- A PROGRAM'S RUN on a file loses no write: where what it found was a site's states, it leaves such states that stand for all that
--- these stood for, and for what was added, if nobody else has written the files and their disk has returned what was written
+-- these stood for, and for some more, if nobody else has written the files and their disk has returned what was written
 abbrev pub LeavesFile : {D : Type 0} → Ghosts D → Image → ℕ → Files D → Type 0
 LeavesFile g image site files = AreClean g files.log files.db → (states : States) (known : List Write) →
     HoldsFile image site states → Stands states known → HoldsMore g site known files

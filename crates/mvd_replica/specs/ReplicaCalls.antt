@@ -5,7 +5,7 @@ use Rattle.std.specs.declared.alloc.Global.{Global}
 use Rattle.mvd_dots.specs.declared.refusals.Refusal.{Refusal}
 use Rattle.mvd_dots.specs.declared.refusals.Refusal.TheVariants.{Broken, Damaged, DotClash, Memory, Store}
 use Rattle.mvd_keys.specs.State.{IsValid, State, clashes, join}
-use Rattle.mvd_keys.specs.Writes.{Key, Write}
+use Rattle.mvd_keys.specs.Writes.{Key, Stands, Write}
 use Rattle.mvd_tree.specs.HashTree.{node_digest}
 use Rattle.mvd_tree.specs.Page.{is_more_after_page, page_of}
 use Rattle.mvd_wire.specs.declared.reply.Digests.{Digests}
@@ -159,6 +159,15 @@ module _ {S : Type 0} {g : Ghosts S} where
     pub survives : SurvivesRequest old request new
 
   -- ---- push
+
+  -- What of that an asker may count on: the reply is one that a site may give then, there are writes that fit it, and the records
+  -- follow
+  pub record ReplicaAnswers (old new : Replica S g) (request : Request) (reply : Reply) : Type 0 where
+    pub replies : AnswersStored (site_of old) (site_of new) request reply
+    pub choice : (added : List Write) × Adds request reply added
+    -- also where the site is broken, its states stand for what they stood for and for these
+    pub keeps : (known added : List Write) → Stands (site_of old).states known → Adds request reply added → Stands (site_of new).states (known ++ added)
+    pub follows : ReplicaFollows (λ asked. asked ≡ request) (stored_of old) (stored_of new)
 
   -- one push, with what it came to
   pub record PushesState (old : Replica S g) (key : Key) (pushed : State) (result : Result (Unit {0}) Refusal) (new : Replica S g) : Type 0 where

@@ -6,7 +6,7 @@ ghost use Rattle.mvd_site.specs.Answer.{is_question, places_reply, rows_reply};
 ghost use Rattle.mvd_site.specs.FromStates.{push_reply};
 ghost use Rattle.mvd_replica.specs.Asks.{ArePlaces, AreRows, IsDone, IsReplyTo, IsRow, IsWritten};
 ghost use Rattle.mvd_replica.specs.Asks.{TellsAnswer, put_reply, row_told};
-ghost use Rattle.mvd_replica.specs.ReplicaCalls.{Answers, root_told};
+ghost use Rattle.mvd_replica.specs.ReplicaCalls.{Answers, ReplicaAnswers, root_told};
 ghost use Rattle.mvd_replica.specs.Replicas.{site_of};
 
 use crate::replica::Replica;
@@ -14,12 +14,23 @@ use mvd_docs::{Document, Field, Term, ViewName};
 use mvd_dots::{Context, Dot, Refusal};
 use mvd_keys::{Key, Path, Place};
 use mvd_site::Prepared;
+use mvd_sync::Endpoint;
 use mvd_wire::{Items, Reply, Request, RowValue};
 use sqlite::Alter;
 
 /// The rows of a view: of each its term, how many siblings it has, the sum of their numbers, and the
 /// least and the greatest of these.
 pub type ViewRows = Items<(Term, u64, i128, Option<(i64, i64)>)>;
+
+impl<S: Alter> Endpoint for Replica<S> {
+    ghost answers = { ReplicaAnswers };
+
+    fn ask(&mut self, request: Request) -> Reply {
+        let reply = self.answer(&request);
+        drop(request);
+        reply
+    }
+}
 
 impl<S: Alter> Replica<S> {
     /// Writes a document in place of the documents that were seen, and gives its dot. Once this returns, it is stored.

@@ -4,6 +4,7 @@
 mod asking;
 mod bucket_walk;
 mod cursor;
+mod endpoint;
 mod exchange;
 mod levels;
 pub mod line;
@@ -16,6 +17,7 @@ pub mod session;
 mod site_side;
 mod windows;
 
+pub use endpoint::Endpoint;
 pub use line::{Duplex, Line};
 pub use peer::{Page, Peer};
 pub use remote::Remote;

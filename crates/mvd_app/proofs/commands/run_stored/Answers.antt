@@ -8,7 +8,7 @@ use Rattle.mvd_app.proofs.commands.run_stored.Goals as goal
 pub returns-in-Ok-close : goal.returns-in-Ok-close
 returns-in-Ok-close g c = record {
   kept = λ clean states known holds stands. (
-      let same = c.in_ok-config.ensures in
+      let same = c.in_ok-config.ensures.site in
       of_number c.in_ok-config.config.site c.args.setup.site known c.in-Ok-close.files same
       (leaves_file (image_at g.S.Start) c.in_ok-config.config c.in-Ok.replica c.work_on.new.replica c.in-Ok-close.files
       c.in-Ok.ensures.site c.in-Ok.ensures.opens c.work_on.ensures.works (sym c.is_broken.ensures ∙ c.if-is_broken.false)

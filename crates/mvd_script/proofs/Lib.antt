@@ -1,0 +1,5 @@
+pub mod Talking
+pub mod Playing
+pub mod Heads
+pub mod Running
+pub mod Reporting

@@ -1,7 +1,7 @@
 #!/usr/bin/env python3
 """Tries many wrong bodies in one check: each must be refused in the function that it changes.
 
-usage, at the repository's top: tools/wrong_bodies.py [--must-fail] CRATE..
+usage, at the repository's top: tools/wrong_bodies.py [--must-fail] CRATE[/WRONG_BODY]..
 
 It puts the wrong bodies of a crate (of `wrong-bodies/`, or of `must-fail/`) into a copy of the repository, as many at once as change
 different functions, and runs `rt check` there. The check says of each function whether it is proved. A wrong body counts as refused if a
@@ -53,8 +53,8 @@ def applied(texts, edit, folder):
 
 
 def clash(some, others):
-    """Whether two edits change one function, or one of them what stands outside of functions in a file that the other changes."""
-    return any(path == other and (name == its or not name or not its) for path, name in some for other, its in others)
+    """Whether two edits change one function, or one of them what stands outside of functions, on which any function may rest."""
+    return any(not name or not its or (path, name) == (other, its) for path, name in some for other, its in others)
 
 
 def groups_of(edits, folder):
@@ -92,7 +92,7 @@ def judged(said, functions):
     """Where a check refused a change of these functions: 'clause', 'answer', 'name', or '' if each of them is proved."""
     open_now = re.findall(r"^fn (\S+): (?!proved)", said, re.M)
     hit = [name for path, own in functions for name in open_now
-           if name.endswith(f"::{own}") or not own and f"::{pathlib.Path(path).stem}::" in name]
+           if not own or name.endswith(f"::{own}")]
     if not hit:
         return ""
     lines = said.split("\n")
@@ -121,15 +121,16 @@ def main(words):
             subprocess.run(["cp", "-a", part, str(room)], check=True)
         subprocess.run(["git", "init", "-q", "."], cwd=room, check=True)
         for name in names:
-            failed += tried(room / "crates" / name, kind)
+            crate, _, only = name.partition("/")
+            failed += tried(room / "crates" / crate, kind, only)
     finally:
         shutil.rmtree(room, ignore_errors=True)
     sys.exit(1 if failed else 0)
 
 
-def tried(folder, kind):
-    """Tries the wrong bodies of a crate, prints what came of each, and gives how many were not refused."""
-    edits = sorted((folder / kind).glob("*.edit"))
+def tried(folder, kind, only):
+    """Tries the wrong bodies of a crate, or one alone, prints what came of each, and gives how many were not refused."""
+    edits = sorted((folder / kind).glob(f"{only or '*'}.edit"))
     counts = {"clause": 0, "answer": 0, "name": 0, "": 0}
     for group, texts in groups_of(edits, folder):
         said = check(folder, texts)

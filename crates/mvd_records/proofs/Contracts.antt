@@ -1,10 +1,11 @@
 -- The relation of each call, from what its clauses on databases say.
 use Rattle.std.proofs.Common.{◌≡◌, ◌⊎◌, ℕ, List, [], ◌∷◌, Vec, Some, Result, Ok, Err, IfOk, IfErr, OnOk, refl, ap, subst, subst₂, ◌∙◌}
+use Rattle.std.specs.Prelude.{IsTrue}
 use Rattle.std.specs.FinMap.{entries, get, insert, remove}
 use Rattle.std.specs.declared.alloc.Global.{Global}
 use Rattle.sqlite.specs.Effect.{Database}
 use Rattle.sqlite.specs.Tree.{Trees}
-use Rattle.sqlite.specs.State.{State, Survives}
+use Rattle.sqlite.specs.State.{HasCleanDisk, State, Survives}
 use Rattle.sqlite.proofs.StateLemmas.{survives_weaker}
 use Rattle.mvd_dots.specs.declared.refusals.Refusal.{Refusal}
 use Rattle.mvd_dots.specs.declared.refusals.Refusal.TheVariants.{Damaged, Memory, Store}
@@ -112,8 +113,9 @@ pub loads : (table : StateTable) (version : ℕ) (old new : State) (result : Res
     → ((marked site : ℕ) → IsSound new → HoldsRecords marked site old.committed → OnOk result (IsWhole version (states_at table old.committed) (old_states old.committed) (new_states old.committed)))
     → ((marked site : ℕ) → IsSound new → HoldsRecords marked site old.committed → IfErr result (λ e. e ≡ Damaged → ¬ IsWhole version (states_at table old.committed) (old_states old.committed) (new_states old.committed)))
     → IfErr result (λ e. (e ≡ Damaged) ⊎ ((e ≡ Memory) ⊎ (e ≡ Store)))
+    → (HasCleanDisk new → OnOk result (IsTrue new.is_open))
     → Loads table (record { version = version; store = old }) result (record { version = version; store = new })
-loads table version old new result reads loaded rising whole damaged refusal = record {
+loads table version old new result reads loaded rising whole damaged refusal stays = record {
   before = reads.before;
   loaded = λ was sound holds. of_maps table (λ m _ _. IfOk result (λ pairs. entries_of pairs.items ≡ entries m)) old.committed was holds (loaded was.version was.site sound holds.records);
   rising = rising;
@@ -122,6 +124,7 @@ loads table version old new result reads loaded rising whole damaged refusal = r
   damaged = λ was sound holds. of_maps table (λ m o n. IfErr result (λ e. e ≡ Damaged → ¬ IsWhole version m o n)) old.committed was holds (damaged was.version was.site sound holds.records);
   refusal = refusal;
   unchanged = λ was sound holds. reads.unchanged was.version was.site sound holds.records;
+  stays_open = stays;
   survives = survives_weaker _ _ _ _ (λ _ trees leaves. left (λ _ _ _ _. ⊥) (λ _ _. ⊥) old trees (λ _ _ _ _ none. absurd none) leaves) reads.survives;
   version = refl;
 }

@@ -94,6 +94,8 @@ pub record Loads (table : StateTable) (old : Seen) (result : Result (Vec Pair Gl
   pub refusal : IfErr result (λ e. (e ≡ Damaged) ⊎ ((e ≡ Memory) ⊎ (e ≡ Store)))
   -- nothing is changed
   pub unchanged : OfHeld old.store new.store (λ _. SameCommit old.store new.store)
+  -- nothing is loaded of a store that a failure has shut
+  pub stays_open : HasCleanDisk new.store → OnOk result (IsTrue new.store.is_open)
   pub survives : Survives old.store new.store (LeavesChange (λ _ _. ⊥) old.store)
   pub version : new.version ≡ old.version
 

@@ -86,6 +86,7 @@ fn read_table<S: Alter>(
     ensures keys { (version site : _) → IsSound (state S.Store conn.new) →
         HoldsRecords version site (state S.Store conn.old).committed →
         OnOk result (AreKeys (states_at table (state S.Store conn.old).committed)) }
+    ensures open { HasCleanDisk (state S.Store conn.new) → OnOk result (IsTrue (state S.Store conn.new).is_open) }
     ensures rising { IfOk result (λ pairs. rises (entries_of pairs.items)) }
     ensures damaged { (version site : _) → IsSound (state S.Store conn.new) →
         HoldsRecords version site (state S.Store conn.old).committed → IfErr result (λ e. e ≡ Refusal.Damaged →
@@ -113,6 +114,7 @@ pub fn load<S: Alter>(
     ensures entries { (marked site : _) → IsSound (state S.Store conn.new) →
         HoldsRecords marked site (state S.Store conn.old).committed →
         IfOk result (λ pairs. entries_of pairs.items ≡ entries (states_at table (state S.Store conn.old).committed)) }
+    ensures open { HasCleanDisk (state S.Store conn.new) → OnOk result (IsTrue (state S.Store conn.new).is_open) }
     ensures rising { IfOk result (λ pairs. rises (entries_of pairs.items)) }
     ensures whole { (marked site : _) → IsSound (state S.Store conn.new) →
         HoldsRecords marked site (state S.Store conn.old).committed →

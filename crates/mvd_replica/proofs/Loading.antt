@@ -22,6 +22,11 @@ use Rattle.sqlite.specs.Effect.{Database}
 use Rattle.mvd_replica.specs.Kept.{HoldsSite, SpellStates}
 use Rattle.mvd_replica.specs.Stored.{spelled_entries}
 
+-- what is so, is so where a call gave something
+pub whenever : {A E P : Type 0} (r : Result A E) → P → OnOk r P
+whenever (Ok x) p = p
+whenever (Err e) p = tt
+
 -- ---- entries whose values are mapped
 
 module _ {X Y : Type 0} (f : X → Y) where

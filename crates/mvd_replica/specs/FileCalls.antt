@@ -14,7 +14,7 @@ use Rattle.sqlite.specs.declared.error.Error.{Error}
 use Rattle.sqlite.specs.Effect.{Database}
 use Rattle.sqlite.specs.Files.{FailsToClose, file_state}
 use Rattle.sqlite.specs.Recovery.{Image}
-use Rattle.sqlite.specs.State.{State, store_error}
+use Rattle.sqlite.specs.State.{HasCleanDisk, State, store_error}
 use Rattle.sqlite.specs.Tree.{Trees}
 use Rattle.sqlite.specs.WalReads.{AreClean}
 use Rattle.mvd_replica.specs.declared.file.FileFault.{FileFault}
@@ -43,8 +43,10 @@ module _ {D : Type 0} {g : Ghosts D} {f : store.Ghosts (FileStore D g)} where
     -- there is a set of writes that it stands for
     pub stands : IfOk result (λ replica. HasWrites (site_of replica))
     -- it is the site that the file and its log hold
-    pub opens : IfOk result (λ replica. IsSound (file_of replica) →
+    pub opens : IfOk result (λ replica. HasCleanDisk (file_of replica) →
         OpensFile image config (site_of replica) (file_database replica))
+    -- and no failure has shut the store, where the disk has returned what was written
+    pub open : IfOk result (λ replica. HasCleanDisk (file_of replica) → IsTrue (file_of replica).is_open)
     -- a refusal has its cause in what the file and its log hold, in the disk, or in want of memory
     pub refused : IfErr result (FailsFile image config)
 

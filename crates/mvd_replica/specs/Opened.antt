@@ -1,5 +1,5 @@
 -- What opening a site's records comes to: one relation, over the database that was found, what was returned, and what was left.
-use Rattle.std.specs.Prelude.{◌≡◌, ◌⊎◌, false, ℕ, List, Ok, Err}
+use Rattle.std.specs.Prelude.{◌≡◌, ◌⊎◌, false, ℕ, IsTrue, List, Ok, Err}
 use Rattle.mvd_dots.specs.declared.refusals.Refusal.{Refusal}
 use Rattle.mvd_dots.specs.declared.refusals.Refusal.TheVariants.{Damaged, Full, Memory, SiteMismatch}
 use Rattle.mvd_keys.specs.Writes.{Stands, Write}
@@ -8,7 +8,7 @@ use Rattle.mvd_records.specs.Records.{IsOpenRefusal, IsOurs, IsSound, TellsVersi
 use Rattle.mvd_site.specs.Config.{ConfigValue}
 use Rattle.mvd_site.specs.Sites.{SiteValue}
 use Rattle.sqlite.specs.Effect.{Database}
-use Rattle.sqlite.specs.State.{State}
+use Rattle.sqlite.specs.State.{HasCleanDisk, State}
 use Rattle.mvd_replica.specs.Kept.{HoldsSite}
 use Rattle.mvd_replica.specs.Stored.{AreDamaged, AreReadable, HasJust, HoldsTooMany, Resumes, SameStates}
 
@@ -44,6 +44,8 @@ pub record IsOpened (config : ConfigValue) (store : State) (site : SiteValue) (a
   -- there is a set of writes that it stands for
   pub stands : (known : List Write) × Stands site.states known
   pub before : IsSound after → IsSound store
+  -- no failure has shut it, where the disk has returned what was written
+  pub open : HasCleanDisk after → IsTrue after.is_open
   pub opened : OfOurs store after (OpensSite config store.committed site after.committed)
   -- another program's database is never made one of ours
   pub own : ¬ HoldsForeign store

@@ -1,5 +1,5 @@
 -- What the reading of a site's records comes to, step by step, where the records were some before and the store is sound after.
-use Rattle.std.specs.Prelude.{◌≡◌, ◌⊎◌, ◌↔◌, false, ℕ, List, Result, IfErr, IfOk, MatchResult}
+use Rattle.std.specs.Prelude.{◌≡◌, ◌⊎◌, ◌↔◌, false, ℕ, List, Result, IfErr, IfOk, IsTrue, MatchResult, OnOk}
 use Rattle.std.specs.FinMap.{entries}
 use Rattle.mvd_dots.specs.declared.refusals.Refusal.{Refusal}
 use Rattle.mvd_dots.specs.declared.refusals.Refusal.TheVariants.{Damaged, Full, Memory, Store}
@@ -11,6 +11,7 @@ use Rattle.mvd_site.specs.Config.{ConfigValue}
 use Rattle.mvd_site.specs.Sites.{SiteValue}
 use Rattle.sqlite.specs.Effect.{Database}
 use Rattle.sqlite.specs.Held.{state}
+use Rattle.sqlite.specs.State.{HasCleanDisk}
 use Rattle.sqlite_trees.specs.declared.store.Store.{Ghosts}
 use Rattle.mvd_replica.specs.Kept.{SpellStates}
 use Rattle.mvd_replica.specs.Stored.{AreInOrder, AreStored, HoldsTooMany, Migrates, Resumes, SameStates}
@@ -75,6 +76,10 @@ module _ {S : Type 0} (g : Ghosts S) where
   OfTold old new P = (number : ℕ) → IsSound (state g new.conn) → HoldsRecords old.version number (committed old) → P (committed old) (committed new)
 
   -- ---- a load, of records of version 2
+
+  -- nothing was loaded of a store that a failure has shut
+  abbrev pub LeavesOpen : {A : Type 0} → Result A Refusal → RecordsValue S → Type 0
+  LeavesOpen result new = HasCleanDisk (state g new.conn) → OnOk result (IsTrue (state g new.conn).is_open)
 
   -- nothing is committed
   abbrev pub LoadsOnly : RecordsValue S → RecordsValue S → Type 0

@@ -6,7 +6,7 @@ ghost use Rattle.mvd_records.specs.Pairs.{entries_of};
 ghost use Rattle.mvd_site.specs.Held.{IsHeldState};
 ghost use Rattle.mvd_replica.specs.Restored.{DamagedIn, HasWrites, IfDamaged, IsFresh, IsUnloaded, IsUnmoved, IsUnread};
 ghost use Rattle.mvd_replica.specs.Restored.{FindsAgain, FindsFull, FindsNone, FindsOrder, FindsStates, WereSound};
-ghost use Rattle.mvd_replica.specs.Restored.{LoadsFull, LoadsOnly, LoadsOrder, LoadsStates};
+ghost use Rattle.mvd_replica.specs.Restored.{LeavesOpen, LoadsFull, LoadsOnly, LoadsOrder, LoadsStates};
 ghost use Rattle.mvd_replica.specs.Restored.{MovesAlike, MovesAll, MovesStates, MovesVersion};
 ghost use Rattle.mvd_replica.specs.Stored.{IsOldStored, IsStored, Respells, spelled_entries};
 
@@ -73,6 +73,7 @@ fn load<S: Alter>(alloc: Global, records: &mut Records<S>, config: Config) -> Re
     ensures config { IfOk result (IsFresh config) }
     ensures stands { IfOk result HasWrites }
     ensures before { WereSound S.Store records.old records.new }
+    ensures open { LeavesOpen S.Store result records.new }
     ensures unchanged { LoadsOnly S.Store records.old records.new }
     ensures spelled { LoadsStates S.Store records.old result records.new }
     ensures full { LoadsFull S.Store config records.old result records.new }
@@ -146,6 +147,7 @@ pub fn site_in<S: Alter>(
     ensures config { IfOk result (IsFresh config) }
     ensures stands { IfOk result HasWrites }
     ensures before { WereSound S.Store records.old records.new }
+    ensures open { LeavesOpen S.Store result records.new }
     ensures holds { FindsStates S.Store records.old result records.new }
     ensures states { MovesStates S.Store records.old records.new }
     ensures alone { FindsNone S.Store records.old result records.new }

@@ -11,6 +11,6 @@ returns-in-Ok-close g c = record {
       let same = c.in_ok-config.ensures.site in
       of_number c.in_ok-config.config.site c.args.setup.site known c.in-Ok-close.files same
       (leaves_file (image_at g.S.Start) c.in_ok-config.config c.in-Ok.replica c.work_on.new.replica c.in-Ok-close.files
-      c.in-Ok.ensures.site c.in-Ok.ensures.opens c.work_on.ensures.works (sym c.is_broken.ensures ∙ c.if-is_broken.false)
+      c.in-Ok.ensures.site (λ sound. c.in-Ok.ensures.opens sound.clean) c.work_on.ensures.works (sym c.is_broken.ensures ∙ c.if-is_broken.false)
       (c.in-Ok-close.ensures.closed clean) states known (subst (λ n. HoldsFile (image_at g.S.Start) n states) (sym same) holds) stands));
 }

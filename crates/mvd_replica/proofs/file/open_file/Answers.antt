@@ -1,5 +1,6 @@
 use Rattle.std.proofs.Common.{List, ℕ, ap₂, cond, Bool}
 use Rattle.std.proofs.lemmas.Option.{IfSome_then}
+use Rattle.mvd_records.specs.Records.{IsSound}
 use Rattle.sqlite_disk.specs.Events.{Event, replay}
 use Rattle.sqlite.specs.Recovery.{Image}
 use Rattle.mvd_replica.proofs.Files.{fails_opening, found_in, just_held}
@@ -17,7 +18,9 @@ returns-in-Ok-open g c =
     record {
       site = it.is;
       stands = it.stands;
-      opens = λ sound. (
+      open = it.open;
+      opens = λ clean. (
+          let sound : IsSound _ = record { clean = clean; is_open = it.open clean } in
           let was = it.before sound in
           let found = found_in _ _ (c.in-Ok.ensures.found was.clean) ((c.in-Ok.ensures.opened was.clean).1 was.is_open).1 in
           record {
@@ -35,6 +38,7 @@ returns-in-Err g c = record {
   site = tt;
   stands = tt;
   opens = tt;
+  open = tt;
   refused = fails_opening _ c.args.config c.in-Err.error c.in-Err.ensures.named c.in-Err.left c.in-Err.ensures.unopened
       (IfSome_then c.in-Err.left c.in-Err.ensures.cause (λ left it. (
       let log = it.1 in
@@ -50,6 +54,7 @@ returns-in-Err-open g c =
       site = tt;
       stands = tt;
       opens = tt;
+      open = tt;
       refused = (
         it.refusal,
         λ sound. (

@@ -15,6 +15,7 @@ returns-in-Ok-site_in g c = record {
     is = c.in-Ok-site_in.ensures.config;
     stands = c.in-Ok-site_in.ensures.stands;
     before = λ sound. c.in-Ok.ensures.before (c.in-Ok-site_in.ensures.before sound);
+    open = c.in-Ok-site_in.ensures.open;
     opened = λ sound ours. (
         let store = state g.S.Store c.args.conn in
         let opened = c.in-Ok.ensures.opened (c.in-Ok-site_in.ensures.before sound) ours in

@@ -1,15 +1,18 @@
 -- What a replica does as a side of a session, beside what its own calls do.
-use Rattle.std.specs.Prelude.{◌≡◌, ◌≢◌, ◌⊎◌, false, true, ℕ, List, length, Vec, Result, IfErr, OnOk}
+use Rattle.std.specs.Prelude.{◌≡◌, ◌≢◌, ◌⊎◌, false, true, ℕ, List, length, map, Vec, Result, IfErr, OnOk}
 use Rattle.std.specs.declared.alloc.Global.{Global}
 use Rattle.mvd_dots.specs.declared.refusals.Refusal.{Refusal}
 use Rattle.mvd_dots.specs.declared.refusals.Refusal.TheVariants.{Broken, Memory}
 use Rattle.mvd_keys.specs.State.{State, clashes}
 use Rattle.mvd_keys.specs.Writes.{Key}
+use Rattle.mvd_wire.specs.declared.reply.Reply.{Reply}
 use Rattle.mvd_site.specs.Held.{state_at}
 use Rattle.mvd_sync.specs.Session.{pushed}
 use Rattle.mvd_sync.specs.Windows.{Asked, CannotTake, Ends, Pushes, PushesFirst, for_pushes, manner}
 use Rattle.sqlite_trees.specs.declared.store.Store.{Ghosts}
 use Rattle.mvd_replica.specs.declared.replica.Replica.{Replica}
+use Rattle.mvd_replica.specs.Batch.{AnswersAll}
+use Rattle.mvd_replica.specs.Pushes.{push_of, told_of}
 use Rattle.mvd_replica.specs.ReplicaCalls.{PushesState}
 use Rattle.mvd_replica.specs.Replicas.{site_of, stored_of}
 use Rattle.mvd_replica.specs.Sides.{IsTrueSite, ReplicaRefuses, SideFollows}
@@ -58,6 +61,11 @@ module _ {S : Type 0} {g : Ghosts S} where
   abbrev pub TellsWindow : Replica S g → List (Key × State) → Replica S g → Vec (Result (Unit {0}) Refusal) Global → Type 0
   TellsWindow old pairs new told =
       Asked (manner FollowsSide RefusesSide AnswersSide) for_pushes pairs told.items old new
+
+  -- it is told what the requests to push are told, one after the other
+  abbrev pub IsToldAlike : Replica S g → List (Key × State) → Replica S g → Vec (Result (Unit {0}) Refusal) Global → Type 0
+  IsToldAlike old pairs new told =
+      (replies : List Reply) × (told.items ≡ map told_of replies) × AnswersAll (map push_of pairs) replies (stored_of old) (stored_of new)
 
   -- the states are joined one after the other, each taken, or refused for its cause, and the site is true still
   abbrev pub PushesWindow : Replica S g → List (Key × State) → Replica S g → Vec (Result (Unit {0}) Refusal) Global → Type 0

@@ -3,7 +3,7 @@ ghost use Rattle.std.specs.Prelude.{◌≡◌, false, Some, IfErr, IfOk, OnErr};
 ghost use Rattle.std.specs.Option.{option_copied};
 ghost use Rattle.std.proofs.Common.{ap};
 ghost use Rattle.mvd_replica.specs.ReplicaCalls.{TellsPage, TellsState, node_told};
-ghost use Rattle.mvd_replica.specs.SideCalls.{EndsWindow, IsTrueUnlessBroken, IsWindowRefusal, PushesOnSide};
+ghost use Rattle.mvd_replica.specs.SideCalls.{EndsWindow, IsToldAlike, IsTrueUnlessBroken, IsWindowRefusal, PushesOnSide};
 ghost use Rattle.mvd_replica.specs.SideCalls.{PushesSome, PushesWindow, TellsWindow};
 ghost use Rattle.mvd_sync.specs.Sides.{is_of_question};
 
@@ -91,6 +91,7 @@ impl<S: Alter> Peer for Replica<S> {
     fn push_all(&mut self, pairs: &[(Key, KeyState)]) -> Result<Vec<Result<(), Refusal>>, Refusal>
         ensures told { IfOk result (TellsWindow self.old pairs.now self.new) }
         ensures pushes { IsTrueSite (site_of self.old) → IfOk result (PushesWindow self.old pairs.now self.new) }
+        ensures alike { IfOk result (IsToldAlike self.old pairs.now self.new) }
         ensures ended { IfErr result (EndsWindow self.old pairs.now self.new) }
         // It is refused for want of memory, or by a replica that is broken then.
         ensures refusal { IfErr result (IsWindowRefusal self.new) }

@@ -3,7 +3,9 @@ use Rattle.sqlite.specs.Held.{state}
 use Rattle.mvd_sync.specs.Windows.{EachAnswer, EachTold, Pushes}
 use Rattle.mvd_sync.proofs.OneByOne.{on_err, told_still}
 use Rattle.mvd_replica.specs.declared.replica.Replica.{Replica}
+use Rattle.mvd_replica.specs.Batch.{AnswersAll}
 use Rattle.mvd_replica.specs.Pushes.{told_of}
+use Rattle.mvd_replica.specs.Replicas.{stored_of}
 use Rattle.mvd_replica.specs.Sides.{ReplicaRefuses, side_follows_self}
 use Rattle.mvd_replica.proofs.Pushed.{answered_each, answered_follow, answered_told}
 use Rattle.mvd_replica.proofs.side.ReplicaPeer.push_all.Goals as goal
@@ -53,6 +55,12 @@ returns-clause-told g c =
           (subst (EachTold (Unit {0}) (ReplicaRefuses new)) (sym items) told.1);
       not_of_key = λ never. absurd never;
     }
+
+pub returns-clause-alike : goal.returns-clause-alike
+returns-clause-alike g c =
+    let replies = c.in_ok-replies.replies.items in
+    let items : c.add_told.new.told.items ≡ map told_of replies = c.add_told.ensures.told ∙ ap (λ l. l ++ map told_of replies) c.in_ok-told.ensures.items in
+    (replies, items, subst (λ requests. AnswersAll requests replies (stored_of c.args.self.now) (stored_of c.answer_all.new.self)) (c.deref.ensures.value ∙ c.in_ok-requests.ensures.pushes) c.in_ok-replies.ensures.answers)
 
 pub returns-clause-pushes : goal.returns-clause-pushes
 returns-clause-pushes g c was =

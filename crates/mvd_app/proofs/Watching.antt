@@ -43,7 +43,7 @@ module _ {S T : Type 0} (inner : T → S) (outer : S → T) (is : (s : S) → in
         right = it.right;
         told = told_still (HasAnswered follows can_answer (inner old) (inner new)) (HasAnswered (λ n a b. follows n (inner a) (inner b)) (λ t. can_answer (inner t)) old new)
             (HasRefused follows can_refuse (inner old) (inner new)) (HasRefused (λ n a b. follows n (inner a) (inner b)) (λ t. can_refuse (inner t)) old new) ts (answered old new) (refused old new) it.told;
-        not_of_key = it.not_of_key;
+        not_of_question = it.not_of_question;
       }
 
   pub ends_within : (most : ℕ) (old new : T) (mid : S) (refusal : Refusal) → inner new ≡ mid → Ends follows can_refuse most (inner old) mid refusal → Ends (λ n a b. follows n (inner a) (inner b)) (λ t. can_refuse (inner t)) most old new refusal

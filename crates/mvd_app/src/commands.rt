@@ -96,7 +96,7 @@ fn run_loop<'a>(rt: &HostRuntime, setup: Setup<'a>) -> Result<(), Stop<'a>>
 
 /// Opens the site that a file holds, which is made where it is missing, works on it, and closes it: what the log holds is copied
 /// into the file, and both are given back. It is proved for whatever stands in the file; `start` names that, and no code reads
-/// it. Where the site broke on the way it is stopped with `Broken`: what was stored stands in the log.
+/// it. Where the site broke on the way the program stops with `Broken`: what was stored stands in the log.
 fn run_stored<'a, S: Start>(
     rt: &HostRuntime,
     db: &'a str,
@@ -105,7 +105,7 @@ fn run_stored<'a, S: Start>(
     start: S,
 ) -> Result<Files<FileFrom<S>>, Stop<'a>>
     requires { IsSetUp setup }
-    // No write is lost that the file held.
+    // If it ends well, and the files are clean, no write is lost that they held of this site in version 2.
     ensures kept { IfOk result (LeavesFile ⟦<FileFrom<S> as Disk>⟧ (image_at S.Start) setup.entry.site) }
 {
     let config = config_in(rt, setup)?;
@@ -133,7 +133,7 @@ fn work_on<'a, S: Alter + Drop>(
     replica: &mut Replica<S>,
     work: Work,
 ) -> Result<(), Stop<'a>>
-    // The site keeps the writes known, and its records follow, however it ends.
+    // The site keeps the writes known, and its records follow its states, however it ends.
     ensures works { WorksOn (stored_of replica.old) (stored_of replica.new) }
 {
     let mut writer = Output::new(io::writer(rt));

@@ -31,7 +31,8 @@ abbrev pub turns_of : List (ℕ × Turn) → List Turn
 turns_of = map (λ t. t.1)
 
 -- What turns do to a replica: each reply is one that may be given from the writes known before it, the states stand for the writes
--- known and those that the turns added, and the records follow
+-- known and those that the turns added, of which there is a choice, and the records follow. 22 is told only where the site is broken
+-- afterwards
 pub record Serves (turns : List Turn) (old new : StoredSite) : Type 0 where
   pub replies : Replies old.site new.site turns
   pub stands : StandsOn old.site new.site turns
@@ -51,14 +52,14 @@ pub record Course (turns : List Turn) (old new : History) : Type 0 where
   pub told : AreQueued (map (λ t. t.reply) turns) queued
   pub moved : NoneMoved old new
 
--- A client that is not ready has no turn and is as it was, and where there is no such client there is no turn of it
+-- A number that no client has, has no turn; nor has a client that is not ready, and that is as it was
 pub record Spares (ready : List ℕ) (turns : List (ℕ × Turn)) (old new : HostValue) : Type 0 where
   pub none : (n : ℕ) → client_of old n ≡ None → own n turns ≡ []
   pub only : (n : ℕ) → IsOut n ready (length ready) → own n turns ≡ []
   pub same : (n : ℕ) → IsOut n ready (length ready) → client_of new n ≡ client_of old n
 
--- The turns of the list are those of one replica, and each client's own turns are the course of its connection. Only ready clients
--- have turns
+-- The turns, in order, are served by the replica; each client's own are what its connection took, and was answered. Only ready
+-- clients have turns, and no client is admitted
 pub record Round (ready : List ℕ) (turns : List (ℕ × Turn)) (old new : Side) : Type 0 where
   pub serves : Serves (turns_of turns) (stored_in old) (stored_in new)
   pub clients : (n : ℕ) → Both (client_of old.host n) (client_of new.host n) (Course (own n turns))

@@ -15,8 +15,8 @@ impl Host {
     ghost use Rattle.mvd_host.specs.Round.{Round, side_of};
 
     /// Takes at most 64 frames of each ready client, answers them together, queues each reply on its own client's connection, and
-    /// notes what was asked.
-    /// Whether there may be more to do at once: it is `false` where no frame was taken, and memory was not refused for one.
+    /// counts what was done and refused. Gives whether there may be more to do at once: after `false` no frame can be taken of a
+    /// ready client now.
     pub fn round<S: Alter>(
         &mut self,
         replica: &mut Replica<S>,

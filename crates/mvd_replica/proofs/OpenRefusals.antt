@@ -3,7 +3,7 @@ use Rattle.std.proofs.Common.{◌≡◌, ◌∙◌, ◌⊎◌, sym, inl, inr}
 use Rattle.mvd_dots.specs.declared.refusals.Refusal.{Refusal}
 use Rattle.mvd_dots.specs.declared.refusals.Refusal.TheVariants.{Damaged, Full, Memory, SiteMismatch, Store}
 use Rattle.mvd_records.specs.Records.{IsOpenRefusal}
-use Rattle.mvd_replica.specs.Opened.{IsSiteRefusal}
+use Rattle.mvd_replica.specs.Opened.{IsOpeningRefusal}
 
 pub open_not_full : (e : Refusal) → IsOpenRefusal e → ¬ (e ≡ Full)
 open_not_full e (inl is) full = let bad : SiteMismatch ≡ Full = sym is ∙ full in cc
@@ -14,7 +14,7 @@ open_not_full e (inr (inr is)) full = let bad : Store ≡ Full = sym is ∙ full
 abbrev pub IsReadRefusal : Refusal → Type 0
 IsReadRefusal e = (e ≡ Damaged) ⊎ ((e ≡ Full) ⊎ ((e ≡ Memory) ⊎ (e ≡ Store)))
 
-pub read_refusal : (e : Refusal) → IsReadRefusal e → IsSiteRefusal e
+pub read_refusal : (e : Refusal) → IsReadRefusal e → IsOpeningRefusal e
 read_refusal e (inl is) = inl (inr (inl is))
 read_refusal e (inr (inl is)) = inr (inl is)
 read_refusal e (inr (inr (inl is))) = inr (inr is)

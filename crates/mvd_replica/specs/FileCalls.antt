@@ -42,12 +42,13 @@ module _ {D : Type 0} {g : Ghosts D} {f : store.Ghosts (FileStore D g)} where
     pub site : IfOk result (λ replica. IsFresh config (site_of replica))
     -- there is a set of writes that it stands for
     pub stands : IfOk result (λ replica. HasWrites (site_of replica))
-    -- it is the site that the file and its log hold
+    -- where nobody else has written the files, and the disk has returned what was written, it is the site that they hold
     pub opens : IfOk result (λ replica. HasCleanDisk (file_of replica) →
         OpensFile image config (site_of replica) (file_database replica))
     -- and no failure has shut the store, where the disk has returned what was written
     pub open : IfOk result (λ replica. HasCleanDisk (file_of replica) → IsTrue (file_of replica).is_open)
-    -- a refusal has its cause in what the file and its log hold, in the disk, or in want of memory
+    -- a refusal has its cause in what the file and its log hold, in the disk, in want of memory, or in a program that has the
+    -- file open
     pub refused : IfErr result (FailsFile image config)
 
   -- What a close leaves. The store was sound to its end; what the database held of a site, the files hold, as they read now and

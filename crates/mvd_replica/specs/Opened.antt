@@ -12,16 +12,17 @@ use Rattle.sqlite.specs.State.{HasCleanDisk, State}
 use Rattle.mvd_replica.specs.Kept.{HoldsSite}
 use Rattle.mvd_replica.specs.Stored.{AreDamaged, AreReadable, HasJust, HoldsTooMany, Resumes, SameStates}
 
--- What was found is in order. The site holds just the states that its two maps spell, and so do the records that are left, with no
--- key of version 1 among them.
+-- What was found is in order. The site holds just the states that the two maps of the database found spell, and so do the records
+-- as they are now, with no key of version 1 among them.
 pub record OpensSite (config : ConfigValue) (was : Database) (site : SiteValue) (now : Database) : Type 0 where
   pub order : AreReadable config.site was
   pub spelled : HasJust was site.states
   pub holds : HoldsSite site now
   pub states : SameStates was now
 
--- Why it is no site of ours to open: 16 where the marks are another site's, 17 where the records are damaged, 10 where they hold
--- too many keys. The states stay; what is left is as it was, or goes on where a move of old keys was broken off.
+-- Why ours is not opened: 16 where the marks are another site's, 17 where the records are damaged, 10 where they hold too many
+-- keys. 20 and 21 need no cause. The states stay; the records are as they were, or a part of the old keys is moved, and the next
+-- open finds what this one did.
 pub record RefusesSite (config : ConfigValue) (was : Database) (e : Refusal) (now : Database) : Type 0 where
   pub states : SameStates was now
   pub mismatch : e ≡ SiteMismatch → TellsVersion (marks_of was) config.site (Err SiteMismatch)
@@ -34,9 +35,9 @@ pub record RefusesSite (config : ConfigValue) (was : Database) (e : Refusal) (no
 abbrev pub OfOurs : State → State → Type 0 → Type 0
 OfOurs store after P = IsSound after → IsOurs store.committed → P
 
--- a refusal of an open
-abbrev pub IsSiteRefusal : Refusal → Type 0
-IsSiteRefusal e = IsOpenRefusal e ⊎ ((e ≡ Full) ⊎ (e ≡ Memory))
+-- a refusal of an open: 16, 17, 21, 10 or 20
+abbrev pub IsOpeningRefusal : Refusal → Type 0
+IsOpeningRefusal e = IsOpenRefusal e ⊎ ((e ≡ Full) ⊎ (e ≡ Memory))
 
 -- the site that was opened, and the store that it leaves
 pub record IsOpened (config : ConfigValue) (store : State) (site : SiteValue) (after : State) : Type 0 where
@@ -52,7 +53,7 @@ pub record IsOpened (config : ConfigValue) (store : State) (site : SiteValue) (a
 
 -- the refusal, and the store that it leaves
 pub record IsRefused (config : ConfigValue) (store : State) (e : Refusal) (after : State) : Type 0 where
-  pub refusal : IsSiteRefusal e
+  pub refusal : IsOpeningRefusal e
   pub before : IsSound after → IsSound store
   pub refused : OfOurs store after (RefusesSite config store.committed e after.committed)
   -- another program's database is 17, and stays as it is

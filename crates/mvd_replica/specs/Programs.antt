@@ -17,7 +17,7 @@ use Rattle.mvd_replica.specs.Kept.{HoldsSite, HoldsStates}
 use Rattle.mvd_replica.specs.Replicas.{StoredSite}
 use Rattle.mvd_replica.specs.Sides.{after_all}
 
--- whatever writes the states stood for, they stand for these and for some more, also where the site is broken
+-- whatever writes the states stood for, they stand for these, and perhaps for more, also where the site is broken
 abbrev pub KeepsWrites : SiteValue → SiteValue → Type 0
 KeepsWrites old new = (known : List Write) → Stands old.states known → (added : List Write) × Stands new.states (known ++ added)
 
@@ -26,7 +26,7 @@ abbrev pub HoldsAfter : SiteValue → Database → Type 0
 HoldsAfter site db = (requests : List Request) × HoldsStates site.config.site (after_all site.config site.states requests) db
 
 -- What is done with a stored site between its open and its close: the site keeps its configuration and the writes known. If the
--- store is sound, the records follow the states; and if the site broke by it, they hold its states and those of the commit in hand
+-- store is sound, the records follow the states; and if the site broke by it, they hold its states with some requests put in
 pub record WorksOn (old new : StoredSite) : Type 0 where
   pub config : new.site.config ≡ old.site.config
   pub keeps : KeepsWrites old.site new.site
@@ -35,7 +35,7 @@ pub record WorksOn (old new : StoredSite) : Type 0 where
   pub stored : IsSound new.store → HoldsSite old.site old.store.committed → old.site.broken ≡ false →
       new.site.broken ≡ true → HoldsAfter new.site new.store.committed
 
--- the files hold states of the site that stand for these writes and for some more, as they read now and after a crash
+-- the files hold states of the site that stand for these writes, and perhaps for more, as they read now and after a crash
 pub record HoldsMore {D : Type 0} (g : Ghosts D) (site : ℕ) (known : List Write) (files : Files D) : Type 0 where
   pub states : States
   pub added : List Write
@@ -43,8 +43,9 @@ pub record HoldsMore {D : Type 0} (g : Ghosts D) (site : ℕ) (known : List Writ
   pub seen : HoldsFile (image_of g files) site states
   pub left : (image : Image) → outcomes g files.log files.db image → HoldsFile image site states
 
--- A PROGRAM'S RUN on a file loses no write: where what it found was a site's states, it leaves such states that stand for all that
--- these stood for, and for some more, if nobody else has written the files and their disk has returned what was written
+-- A PROGRAM'S RUN on a file loses no write: where the files held states of this site, in version 2, it leaves such states that
+-- stand for all that these stood for, and perhaps for more, if nobody else has written the files and their disk has returned what
+-- was written
 abbrev pub LeavesFile : {D : Type 0} → Ghosts D → Image → ℕ → Files D → Type 0
 LeavesFile g image site files = AreClean g files.log files.db → (states : States) (known : List Write) →
     HoldsFile image site states → Stands states known → HoldsMore g site known files

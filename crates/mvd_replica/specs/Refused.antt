@@ -12,7 +12,7 @@ use Rattle.sqlite.specs.Recovery.{Image}
 use Rattle.mvd_replica.specs.declared.file.FileFault.{FileFault}
 use Rattle.mvd_replica.specs.declared.file.FileFault.TheVariants as fault
 use Rattle.mvd_replica.specs.File.{RefusesFile}
-use Rattle.mvd_replica.specs.Opened.{IsSiteRefusal}
+use Rattle.mvd_replica.specs.Opened.{IsOpeningRefusal}
 
 module _ {D : Type 0} {g : Ghosts D} where
   -- The files at the path were not to be had; or they were opened, and then want of memory, a failure of the disk that is named, a
@@ -23,4 +23,4 @@ module _ {D : Type 0} {g : Ghosts D} where
   FailsFile image config (fault.File e (Some left)) =
       IsTrue (is_open_error e) × ((files : Files D) × (IsCleanLeft {g = g} left → (image_of g files ≡ image) × FailsToOpenFiles {g = g} files left e × LeavesFiles {g = g} files left))
   FailsFile image config (fault.Records e conn) =
-      IsSiteRefusal e × (IsSound (file_state {g = g} conn) → RefusesFile image config e (file_state {g = g} conn).committed)
+      IsOpeningRefusal e × (IsSound (file_state {g = g} conn) → RefusesFile image config e (file_state {g = g} conn).committed)

@@ -11,15 +11,15 @@ use sqlite_disk::Disk;
 /// Why a file was not opened as a site.
 #[derive(Drop)]
 pub enum FileFault<D: Disk + Drop> {
-    /// There is no database to be had of it. With what is left of the files, once they were opened.
+    /// No database could be opened: with what is left of the files, if they had been opened.
     File(Error, Option<Leftover<D>>),
     /// Its records are refused. With the connection, as it was or as the move of old keys left it.
     Records(Refusal, Connection<FileStore<D>>),
 }
 
-/// Opens the site that the file at a path holds, which is made where it is missing. It holds for
-/// whatever stands in the file and its log: `S` names that, and no code can read it. `main` alone
-/// picks one, `Unknown` or `Wary`; no clause ties it to the path.
+/// Opens the site that the file at a path holds, which is made where it is missing. The clause holds
+/// for whatever stands in the file and its log: `S` names that, and no code can read it. `main` alone
+/// picks one: `Unknown`, where a torn write leaves each byte old or new. No clause ties it to the path.
 pub fn open_file<S: Start>(
     rt: &HostRuntime,
     path: &str,

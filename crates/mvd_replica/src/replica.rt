@@ -82,7 +82,7 @@ impl<S: Alter> Replica<S> {
         self.site.key_count()
     }
 
-    /// How many commits of changes were made since it was opened, up to the greatest count.
+    /// How many commits of changes were made since it was opened; it stays at the greatest number.
     pub fn commits(&self) -> u64 {
         self.commits
     }

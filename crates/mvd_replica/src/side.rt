@@ -95,7 +95,7 @@ impl<S: Alter> Peer for Replica<S> {
         ensures ended { IfErr result (EndsWindow self.old pairs.now self.new) }
         // It is refused for want of memory, or by a replica that is broken then.
         ensures refusal { IfErr result (IsWindowRefusal self.new) }
-        ensures not_of_key { IsTrueSite (site_of self.old) → IfErr result (λ refusal. is_of_question refusal ≡ false) }
+        ensures not_of_question { IsTrueSite (site_of self.old) → IfErr result (λ refusal. is_of_question refusal ≡ false) }
         ensures unbroken { IsTrueSite (site_of self.old) → IfErr result (IsTrueUnlessBroken self.new) }
         ensures first { IsTrueSite (site_of self.old) → OnErr result (PushesSome self.old pairs.now self.new) }
     {

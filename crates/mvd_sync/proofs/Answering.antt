@@ -114,20 +114,20 @@ module _ {S Q : Type 0} (s : SideOf S) (qs : List Q) (left left' taken : ℕ) (o
 
   -- so many were asked, and this is why no more are
   pub ended_by : (T : Type 0) (refusal : Refusal) → s.follows (length (take taken qs)) old new → BlamesBy s left taken 0 old new refusal → (s.is_faithful old → is_of_question refusal ≡ false) → (s.is_faithful old → T) → ComesToEnd s T (length qs) left old new refusal
-  ended_by T refusal follows why not_of_key then = record {
+  ended_by T refusal follows why not_of_question then = record {
     asked = taken;
     wanted = 0;
     few = let most = takes.most in omega (arith, most);
     within = let spent = takes.spent in omega arith;
     follows = subst (λ n. s.follows n old new) asked_is follows;
     cause = why;
-    not_of_key = not_of_key;
+    not_of_question = not_of_question;
     right = then;
   }
 
   -- the call itself was refused
   pub ended_within : (T : Type 0) (refusal : Refusal) → Ends s.follows s.can_refuse (length (take taken qs)) old new refusal → (s.is_faithful old → is_of_question refusal ≡ false) → (s.is_faithful old → T) → ComesToEnd s T (length qs) left old new refusal
-  ended_within T refusal ends not_of_key then =
+  ended_within T refusal ends not_of_question then =
       let spent = takes.spent in
       let most = takes.most in
       let here = asked_is in
@@ -138,8 +138,8 @@ module _ {S Q : Type 0} (s : SideOf S) (qs : List Q) (left left' taken : ℕ) (o
         few = omega arith;
         within = omega arith;
         follows = ends.count.2;
-        cause = elim ends.cause [ inl told ↦ of_side told not_of_key | inr memory ↦ of_memory memory ];
-        not_of_key = not_of_key;
+        cause = elim ends.cause [ inl told ↦ of_side told not_of_question | inr memory ↦ of_memory memory ];
+        not_of_question = not_of_question;
         right = then;
       }
 
@@ -155,7 +155,7 @@ module _ {S Q : Type 0} (s : SideOf S) (qs : List Q) (left left' taken : ℕ) (o
         within = omega (arith, spent);
         follows = subst (λ n. s.follows n old new) asked_is follows;
         cause = of_questions is (omega (arith, spent, none)) refl;
-        not_of_key = λ _. ap is_of_question is;
+        not_of_question = λ _. ap is_of_question is;
         right = then;
       }
 

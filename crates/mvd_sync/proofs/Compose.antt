@@ -35,7 +35,7 @@ module _ {S : Type 0} (s : SideOf S) (on : (m n : ℕ) (old mid new : S) → s.f
       within = let within = e.within in omega arith;
       follows = on n e.asked old mid new before e.follows;
       cause = blames_later e.asked e.wanted refusal e.cause;
-      not_of_key = λ t. e.not_of_key (still t);
+      not_of_question = λ t. e.not_of_question (still t);
       right = λ t. then t (e.right (still t));
     }
 
@@ -48,7 +48,7 @@ ends_for_memory s T questions left left' n old new refusal spent few follows the
   within = omega arith;
   follows = follows;
   cause = of_memory is;
-  not_of_key = λ _. ap is_of_question is;
+  not_of_question = λ _. ap is_of_question is;
   right = then;
 }
 

@@ -28,21 +28,21 @@ page_refused s IsTold (Err refusal) left left' old new spent follows kept told b
   within = omega (arith, spent);
   follows = follows;
   cause = of_answer bad.0 (λ t. bad.1 (told t));
-  not_of_key = λ t. ap is_of_question bad.0;
+  not_of_question = λ t. ap is_of_question bad.0;
   right = kept;
 }
 
 -- it was refused
 pub one_refused : {S : Type 0} (s : SideOf S) (left left' : ℕ) (old new : S) (refusal : Refusal) → left ≡ left' + 1 → s.follows 1 old new → s.follows 0 new new → s.can_refuse new refusal → (s.is_faithful old → is_of_question refusal ≡ false) → (s.is_faithful old → Keeps s old new)
     → ComesToEnd s (Keeps s old new) 1 left old new refusal
-one_refused s left left' old new refusal spent follows self told not_of_key kept = record {
+one_refused s left left' old new refusal spent follows self told not_of_question kept = record {
   asked = 1;
   wanted = 0;
   few = omega arith;
   within = omega (arith, spent);
   follows = follows;
-  cause = of_side (new, (1, follows), told, (0, self)) not_of_key;
-  not_of_key = not_of_key;
+  cause = of_side (new, (1, follows), told, (0, self)) not_of_question;
+  not_of_question = not_of_question;
   right = kept;
 }
 

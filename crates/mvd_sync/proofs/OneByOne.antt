@@ -112,13 +112,13 @@ module _ {S : Type 0} (follows : ℕ → S → S → Type 0) (can_refuse : S →
     may = tt;
     right = λ _. tt;
     told = tt;
-    not_of_key = λ _. tt;
+    not_of_question = λ _. tt;
   }
 
   -- one question more
   module _ {Q A : Type 0} (May Right : Q → A → Type 0) {Refuses : Q → Refusal → Type 0} (T : Type 0) (old mid new : S) (qs : List Q) (ts : List (Result A Refusal)) (q : Q) (a : Result A Refusal) where
     pub one_more : AskedBy follows can_refuse can_answer May Right Refuses T qs ts old mid → follows 1 mid new → IfOk a (May q) → (T → IfOk a (Right q)) → IfErr a (can_refuse new) → OnOk a (can_answer new) → (T → IfErr a (Refuses q)) → AskedBy follows can_refuse can_answer May Right Refuses T (qs ++ q ∷ []) (ts ++ a ∷ []) old new
-    one_more before step may right refuses answers not_of_key =
+    one_more before step may right refuses answers not_of_question =
         let way : Reaches follows old mid = (length qs, before.count) in
         let last : Reaches follows mid new = (1, step) in
         let longer = length-append qs (q ∷ []) in
@@ -131,15 +131,15 @@ module _ {S : Type 0} (follows : ℕ → S → S → Type 0) (can_refuse : S →
           told = told_more U R ts a
               (told_still (HasAnswered follows can_answer old mid) U (HasRefused follows can_refuse old mid) R ts (answered_on old mid new last) (λ r. refused_on old mid new r last) before.told)
               (one_told U R a (ok_still a answers (answered_now old mid new way last)) (err_still a refuses (λ r. refused_now old mid new r way last)));
-          not_of_key = λ t. refusal_more Refuses qs ts q a (before.not_of_key t) (one_refusal Refuses q a (not_of_key t));
+          not_of_question = λ t. refusal_more Refuses qs ts q a (before.not_of_question t) (one_refusal Refuses q a (not_of_question t));
         }
 
   -- in turn
   pub one_more_at : {Q A : Type 0} (May Right : Q → A → Type 0) {Refuses : Q → Refusal → Type 0} (T : Type 0) (old mid new : S) (all : List Q) (i : ℕ) (q : Q) (ts us : List (Result A Refusal)) (a : Result A Refusal) → i < length all → q ≡ get_or all i q → us ≡ ts ++ a ∷ []
       → AskedBy follows can_refuse can_answer May Right Refuses T (take i all) ts old mid → follows 1 mid new → IfOk a (May q) → (T → IfOk a (Right q)) → IfErr a (can_refuse new) → OnOk a (can_answer new) → (T → IfErr a (Refuses q))
       → AskedBy follows can_refuse can_answer May Right Refuses T (take (i + 1) all) us old new
-  one_more_at May Right {Refuses} T old mid new all i q ts us a low at pushed before step may right refuses answers not_of_key =
+  one_more_at May Right {Refuses} T old mid new all i q ts us a low at pushed before step may right refuses answers not_of_question =
       let more : take (i + 1) all ≡ take i all ++ q ∷ [] = take_more all i q low ∙ ap (λ x. take i all ++ x ∷ []) (sym at) in
       subst (λ qs. AskedBy follows can_refuse can_answer May Right Refuses T qs us old new) (sym more)
       (subst (λ us. AskedBy follows can_refuse can_answer May Right Refuses T (take i all ++ q ∷ []) us old new) (sym pushed)
-      (one_more May Right T old mid new (take i all) ts q a before step may right refuses answers not_of_key))
+      (one_more May Right T old mid new (take i all) ts q a before step may right refuses answers not_of_question))

@@ -3,7 +3,7 @@ use Rattle.std.specs.Prelude.{◌≡◌, ℕ, Bool, List, ◌∷◌, Option, Res
 use Rattle.mvd_dots.specs.declared.refusals.Refusal.{Refusal}
 use Rattle.mvd_keys.specs.Writes.{Key}
 use Rattle.mvd_site.specs.Held.{States}
-use Rattle.mvd_sync.specs.Buckets.{Buckets, FillEnds, FillsBoth, Finds, Goes, GoesFewOn, GoesOver, GoesThrough, Settles, SettlesAll, reading}
+use Rattle.mvd_sync.specs.Buckets.{Buckets, FillEnds, FillsBoth, Finds, Goes, GoesOnWithin, GoesOver, GoesThrough, Settles, SettlesAll, reading}
 use Rattle.mvd_sync.specs.Carries.{ExchangesAll, Planned}
 use Rattle.mvd_sync.specs.Exchanges.{CameTo, Done, Exchanges, Exchanging, GoesOn, IsDone, JoinsSome, SoFar, Stand, moment}
 use Rattle.mvd_sync.specs.Session.{After, Before, Course, HaveAnswered, Joins, Meets, ReportsDone, Session, after_of, asking, both}
@@ -61,9 +61,9 @@ abbrev pub GoesOnBy : {L P : Type 0} → SideOf L → SideOf P → Option ℕ �
 GoesOnBy l p number a b done next local' peer' most_local most_peer =
     GoesOn (stand_by most_local most_peer number a b done next) (after_of (sides l p) (two local' peer'))
 
-abbrev pub GoesFewOnBy : {L P : Type 0} → SideOf L → SideOf P → Option ℕ → (a b : States) → List Done → List Entry → (most_l most_p asked_l asked_p : ℕ) → L → P → (most_local most_peer : ℕ) → Exchanging → Type 0
-GoesFewOnBy l p number a b done next most_l most_p asked_l asked_p local' peer' most_local most_peer =
-    GoesFewOn (stand_by most_local most_peer number a b done next) (after_of (sides l p) (two local' peer')) (two most_l most_p) (two asked_l asked_p)
+abbrev pub GoesOnWithinBy : {L P : Type 0} → SideOf L → SideOf P → Option ℕ → (a b : States) → List Done → List Entry → (most_l most_p asked_l asked_p : ℕ) → L → P → (most_local most_peer : ℕ) → Exchanging → Type 0
+GoesOnWithinBy l p number a b done next most_l most_p asked_l asked_p local' peer' most_local most_peer =
+    GoesOnWithin (stand_by most_local most_peer number a b done next) (after_of (sides l p) (two local' peer')) (two most_l most_p) (two asked_l asked_p)
 
 abbrev pub FindsBy : {L P A : Type 0} → SideOf L → SideOf P → Option ℕ → (a b : States) → List Done → List (List ℕ) → (firsts asked_local asked_peer : ℕ) → L → P → (most_local most_peer : ℕ) → (before after : Exchanging) → Result A SyncFault → Type 0
 FindsBy l p number a b done paths firsts asked_local asked_peer local' peer' most_local most_peer before after result =

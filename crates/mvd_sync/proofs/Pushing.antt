@@ -97,7 +97,7 @@ module _ {S : Type 0} (s : SideOf S) (pairs : List Pair) (left : ℕ) (old : S) 
 
   -- and the last answer, or what was made of it, ended them
   pub ended_after : (rest : List Pair) (told : List Told) (left' : ℕ) (new : S) (refusal : Refusal) (f : FrontPushed s pairs rest told left left' old new) → BlamesBy s left (length f.done) 0 old new refusal → (s.is_faithful old → is_of_question refusal ≡ false) → ComesToEnd s (TakesFirst s pairs old new refusal) (length pairs) left old new refusal
-  ended_after rest told left' new refusal f why not_of_key =
+  ended_after rest told left' new refusal f why not_of_question =
       let longer : length pairs ≡ length f.done + length rest = ap length f.whole ∙ length-append f.done rest in
       record {
         asked = length f.done;
@@ -106,7 +106,7 @@ module _ {S : Type 0} (s : SideOf S) (pairs : List Pair) (left : ℕ) (old : S) 
         within = let spent = f.spent in omega arith;
         follows = f.follows;
         cause = why;
-        not_of_key = not_of_key;
+        not_of_question = not_of_question;
         right = λ t.
             let k = f.took t in
             record {
@@ -137,7 +137,7 @@ module _ {S : Type 0} (s : SideOf S) (pairs : List Pair) (left : ℕ) (old : S) 
         within = omega (arith, spent);
         follows = f.follows;
         cause = of_questions is (omega (arith, spent, none)) refl;
-        not_of_key = λ _. ap is_of_question is;
+        not_of_question = λ _. ap is_of_question is;
         right = λ t. let k = before.right t in record { still = λ _. (f.took t).0; pushes = k.pushes };
       }
 
@@ -195,7 +195,7 @@ module _ {S : Type 0} (s : SideOf S) (on : (m n : ℕ) (old mid new : S) → s.f
     pub ended_call : (refusal : Refusal) → Ends s.follows s.can_refuse (length (take taken rest)) mid new refusal → (s.is_faithful mid → is_of_question refusal ≡ false) → (s.is_faithful mid → refusal ≢ Broken → s.is_faithful new)
         → (s.is_faithful mid → PushesFirst (s.is_faithful new) (s.most_keys mid) (s.states mid) (take taken rest) (s.states new))
         → ComesToEnd s (TakesFirst s pairs old new refusal) (length pairs) left old new refusal
-    ended_call refusal ends not_of_key unbroken first =
+    ended_call refusal ends not_of_question unbroken first =
         let few = ends.count.1 in
         let n = many in
         let spent_before = before.spent in
@@ -206,8 +206,8 @@ module _ {S : Type 0} (s : SideOf S) (on : (m n : ℕ) (old mid new : S) → s.f
           few = omega arith;
           within = omega arith;
           follows = on (length before.done) ends.count.0 old mid new before.follows ends.count.2;
-          cause = elim ends.cause [ inl told ↦ of_side (refused_later s on old mid new refusal (length before.done, before.follows) told) (λ t. not_of_key (before.took t).0) | inr memory ↦ of_memory memory ];
-          not_of_key = λ t. not_of_key (before.took t).0;
+          cause = elim ends.cause [ inl told ↦ of_side (refused_later s on old mid new refusal (length before.done, before.follows) told) (λ t. not_of_question (before.took t).0) | inr memory ↦ of_memory memory ];
+          not_of_question = λ t. not_of_question (before.took t).0;
           right = λ t.
               let k = before.took t in
               let p = first k.0 in

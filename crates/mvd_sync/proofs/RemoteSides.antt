@@ -83,7 +83,7 @@ module _ {S : Type 0} (refused : S → Option Refusal) (Follows : S → S → Ty
           may = each_free May qs ts free (omega arith);
           right = right;
           told = told_free (HasAnswered (λ _. Follows) Goes old new) (HasRefused (λ _. Follows) Refuses old new) ts (new, (0, still), goes, (0, self new)) (λ refusal. refused_now refusal (λ own e. absurd (cc)));
-          not_of_key = of_key;
+          not_of_question = of_key;
         }
 
     ended_so : (refusal : Refusal) → RefusesAll kind (frames_of (map request qs)) l l' refusal → HasRefused (λ _. Follows) Refuses old new refusal ⊎ (refusal ≡ Memory)

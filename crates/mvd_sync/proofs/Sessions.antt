@@ -22,7 +22,7 @@ use Rattle.mvd_sync.proofs.Joined.{joins_of, joins_some}
 use Rattle.mvd_sync.proofs.Keys.{Each-weaker, member_has}
 use Rattle.mvd_sync.proofs.Telling.{tells_of}
 use Rattle.mvd_sync.proofs.Walks.{digests_differ}
-use Rattle.mvd_sync.proofs.Positions.{AreFewForBy, ExchangesBy, GoesFewOnBy, FindsBucketsBy, FindsBy, GoesBy, GoesOnBy, GoesOverBy, JoinsSomeBy, MeetsBy, ReadsEndBy, SessionBy, SoFarBy}
+use Rattle.mvd_sync.proofs.Positions.{AreFewForBy, ExchangesBy, GoesOnWithinBy, FindsBucketsBy, FindsBy, GoesBy, GoesOnBy, GoesOverBy, JoinsSomeBy, MeetsBy, ReadsEndBy, SessionBy, SoFarBy}
 
 abbrev tie : List ℕ → List ℕ → Bool
 tie k q = eq_by_cmp (slice_cmp nat_cmp) k q
@@ -207,7 +207,7 @@ module _ {L P : Type 0} (l : SideOf L) (p : SideOf P)
     abbrev Steps : List Done → ℕ → ℕ → Option ℕ → Type 0
     Steps done x y o = SoFarBy x y o (l.states local) (p.states peer) (l.states local2) (p.states peer2) done → Ends done x y o
 
-    all_found : (t : l.is_faithful local) (u : p.is_faithful peer) → GoesFewOnBy l p (l.number local) (l.states local) (p.states peer) [] (found_there (Ok x2) second t u).found (length paths + (found_there (Ok x2) second t u).pages_local) (length paths + (found_there (Ok x2) second t u).pages_peer) (second.goes.course.asked_local + second.goes.course.wanted_local) (second.goes.course.asked_peer + second.goes.course.wanted_peer) local2 peer2 (l.most_keys local) (p.most_keys peer) e2
+    all_found : (t : l.is_faithful local) (u : p.is_faithful peer) → GoesOnWithinBy l p (l.number local) (l.states local) (p.states peer) [] (found_there (Ok x2) second t u).found (length paths + (found_there (Ok x2) second t u).pages_local) (length paths + (found_there (Ok x2) second t u).pages_peer) (second.goes.course.asked_local + second.goes.course.wanted_local) (second.goes.course.asked_peer + second.goes.course.wanted_peer) local2 peer2 (l.most_keys local) (p.most_keys peer) e2
     all_found t u = (found_there (Ok x2) second t u).ends
 
     ended : (t : l.is_faithful local) (u : p.is_faithful peer) → Ends (all_found t u).goes_on.now (l.most_keys local) (p.most_keys peer) (l.number local)

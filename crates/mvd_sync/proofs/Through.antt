@@ -28,7 +28,7 @@ use Rattle.mvd_sync.proofs.Keys.{Each-weaker, is_member-append, no_member, or_ca
 use Rattle.mvd_sync.proofs.Nexts.{goes_from, goes_further, keys_done-append, keys_next-append, were_next}
 use Rattle.mvd_sync.proofs.Nodes.{AreLong, Each-append, begins-one, or_first, or_second}
 use Rattle.mvd_sync.proofs.Pushes.{tied}
-use Rattle.mvd_sync.proofs.Positions.{FindsBy, GoesFewOnBy, GoesOnBy, GoesOverBy, GoesThroughBy, JoinsSomeBy, ReadsEndBy, SoFarBy}
+use Rattle.mvd_sync.proofs.Positions.{FindsBy, GoesOnWithinBy, GoesOnBy, GoesOverBy, GoesThroughBy, JoinsSomeBy, ReadsEndBy, SoFarBy}
 
 -- ---- lists of buckets
 
@@ -116,9 +116,9 @@ module _ {L P A : Type 0} (l : SideOf L) (p : SideOf P) (number : Option ℕ) (a
       ]
 
   ends_both : (r : Result A SyncFault)
-      → MatchResult r (λ _. GoesFewOnBy l p number a b (done ++ first.ends.goes_on.now) (at.waiting ++ second.found) (firsts2 + second.pages_local) (firsts2 + second.pages_peer) asked_l2 asked_p2 local2 peer2 most_local most_peer after)
+      → MatchResult r (λ _. GoesOnWithinBy l p number a b (done ++ first.ends.goes_on.now) (at.waiting ++ second.found) (firsts2 + second.pages_local) (firsts2 + second.pages_peer) asked_l2 asked_p2 local2 peer2 most_local most_peer after)
       (λ _. JoinsSomeBy (l.is_faithful local2) (p.is_faithful peer2) a b (l.states local2) (p.states peer2))
-      → MatchResult r (λ _. GoesFewOnBy l p number a b done (before.waiting ++ (first.found ++ second.found)) ((firsts1 + firsts2) + (first.pages_local + second.pages_local)) ((firsts1 + firsts2) + (first.pages_peer + second.pages_peer)) (asked_l1 + asked_l2) (asked_p1 + asked_p2) local2 peer2 most_local most_peer after)
+      → MatchResult r (λ _. GoesOnWithinBy l p number a b done (before.waiting ++ (first.found ++ second.found)) ((firsts1 + firsts2) + (first.pages_local + second.pages_local)) ((firsts1 + firsts2) + (first.pages_peer + second.pages_peer)) (asked_l1 + asked_l2) (asked_p1 + asked_p2) local2 peer2 most_local most_peer after)
       (λ _. JoinsSomeBy (l.is_faithful local2) (p.is_faithful peer2) a b (l.states local2) (p.states peer2))
   ends_both (Err fault) h = h
   ends_both (Ok done_) h = record {
@@ -287,8 +287,8 @@ module _ {L P : Type 0} (l : SideOf L) (p : SideOf P)
   }
     where
       ends_later : {B : Type 0} (number : Option ℕ) (a b : States) (done : List Done) (next : List Entry) (n i j asked_l asked_p : ℕ) (local' : L) (peer' : P) (most_local most_peer : ℕ) (after : Exchanging) (r : Result B SyncFault)
-          → MatchResult r (λ _. GoesFewOnBy l p number a b done next (0 + i) (0 + j) asked_l asked_p local' peer' most_local most_peer after) (λ _. JoinsSomeBy (l.is_faithful local') (p.is_faithful peer') a b (l.states local') (p.states peer'))
-          → MatchResult r (λ _. GoesFewOnBy l p number a b done next (n + i) (n + j) (n + asked_l) (n + asked_p) local' peer' most_local most_peer after) (λ _. JoinsSomeBy (l.is_faithful local') (p.is_faithful peer') a b (l.states local') (p.states peer'))
+          → MatchResult r (λ _. GoesOnWithinBy l p number a b done next (0 + i) (0 + j) asked_l asked_p local' peer' most_local most_peer after) (λ _. JoinsSomeBy (l.is_faithful local') (p.is_faithful peer') a b (l.states local') (p.states peer'))
+          → MatchResult r (λ _. GoesOnWithinBy l p number a b done next (n + i) (n + j) (n + asked_l) (n + asked_p) local' peer' most_local most_peer after) (λ _. JoinsSomeBy (l.is_faithful local') (p.is_faithful peer') a b (l.states local') (p.states peer'))
       ends_later number a b done next n i j asked_l asked_p local' peer' most_local most_peer after (Err fault) h = h
       ends_later number a b done next n i j asked_l asked_p local' peer' most_local most_peer after (Ok x) h = record { goes_on = h.goes_on; fewer = let k = h.fewer in (omega (arith, k.0), omega (arith, k.1)) }
 

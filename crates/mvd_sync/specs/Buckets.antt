@@ -26,7 +26,7 @@ pub record Goes {L P A : Type 0} (s : Sides L P) (old new : Moment L P) (result 
   pub course : Course s old.now new.now.at result
   pub spent : Spends s old.now new.now result course
   pub calm : OnOk result ((course.wanted_local ≡ 0) × (course.wanted_peer ≡ 0))
-  -- the counts rise by no more than questions are made, and less than a window waits
+  -- the number stays, the counts rise by no more than questions are made, and fewer keys than a window wait
   pub same : new.work.number ≡ old.work.number
   pub room : OnOk result (new.work.keys + new.work.refused + new.now.left.local + new.now.left.peer
       ≤ old.work.keys + old.work.refused + old.now.left.local + old.now.left.peer)
@@ -47,18 +47,18 @@ abbrev pub held_in : States → List (List ℕ) → ℕ
 held_in states [] = 0
 held_in states (path ∷ paths) = length (entries (rest_of (digests states) path None)) + held_in states paths
 
--- the first of the keys that are next were exchanged, by two questions to each side for each, and `most` besides
-pub record GoesFewOn (stand : Stand) (after : After) (most asked : Two ℕ ℕ) (e : Exchanging) : Type 0 where
+-- the first of the keys that are next were exchanged, by at most two questions to each side for each, and `most` besides
+pub record GoesOnWithin (stand : Stand) (after : After) (most asked : Two ℕ ℕ) (e : Exchanging) : Type 0 where
   pub goes_on : GoesOn stand after e
   pub fewer : (asked.local + 2 * length e.waiting ≤ most.local + 2 * length stand.next)
       × (asked.peer + 2 * length e.waiting ≤ most.peer + 2 * length stand.next)
 
--- all keys that differ in these buckets are among these
+-- all keys whose digests differ in these buckets are among these
 abbrev pub HasAllIn : Both → List (List ℕ) → List Entry → Type 0
 HasAllIn held paths found = (key : Key) → IsTrue (has_below paths key) →
     get (digests held.local) key ≢ get (digests held.peer) key → IsIn (keys_next found) key
 
--- buckets, and so many questions about their first pages
+-- buckets, and how many questions about their first pages are to be made: none where the pages are there
 pub record Buckets : Type 0 where
   pub paths : List (List ℕ)
   pub firsts : ℕ
@@ -68,7 +68,7 @@ abbrev pub with_next : Stand → List Entry → Stand
 with_next stand found = record stand { next = stand.next ++ found }
 
 -- Keys that differ in these buckets were found, and are to be exchanged after those that were next. Of the questions to a side
--- there are those about first pages, one for each thousand keys that it holds there, and two for each key to be exchanged
+-- there are at most those about first pages, one for each thousand keys that it holds there, and two for each key to be exchanged
 pub record Finds {A : Type 0} (stand : Stand) (after : After) (buckets : Buckets) (asked : Two ℕ ℕ) (e : Exchanging) (result : Result A SyncFault) : Type 0 where
   pub found : List Entry
   pub below : Each (λ e. IsTrue (has_below buckets.paths e.key)) found
@@ -81,7 +81,7 @@ pub record Finds {A : Type 0} (stand : Stand) (after : After) (buckets : Buckets
   pub few : (asked.local ≤ buckets.firsts + pages_local + 2 * length (stand.next ++ found))
       × (asked.peer ≤ buckets.firsts + pages_peer + 2 * length (stand.next ++ found))
   pub ends : MatchResult result
-      (λ _. GoesFewOn (with_next stand found) after
+      (λ _. GoesOnWithin (with_next stand found) after
       (two (buckets.firsts + pages_local) (buckets.firsts + pages_peer)) asked e)
       (λ _. JoinsSome stand.before.held after)
 
@@ -137,7 +137,8 @@ pub record Settles {L P A : Type 0} (s : Sides L P) (e : Entry) (old new : Momen
 abbrev pub ArePages : KeyDigests → List (List ℕ) → List (List (Key × List ℕ) × Bool) → Type 0
 ArePages held paths pages = ForEach (λ path page. IsPageOf held path None page.0 page.1) paths pages
 
--- Buckets are gone over, and what differs in them is exchanged, or waits; where this was told of the states of true sides
+-- Buckets are gone over, and what differs in them is exchanged, or waits. `Told` is what is known of the states of true sides
+-- before: their first pages, or nothing
 pub record GoesThrough {L P A : Type 0} (s : Sides L P) (Told : States → States → Type 0) (buckets : Buckets) (old new : Moment L P) (result : Result A SyncFault) : Type 0 where
   pub goes : Goes s old new result
   pub meets : s.local.is_faithful old.now.at.local → s.peer.is_faithful old.now.at.peer

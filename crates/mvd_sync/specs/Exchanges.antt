@@ -1,4 +1,4 @@
--- How keys are exchanged, a window after the other.
+-- How keys are exchanged, one window after another.
 use Rattle.std.specs.Prelude.{◌≡◌, ◌≢◌, ◌<◌, ◌≤◌, ◌+◌, ◌*◌, ◌↔◌, ℕ, Bool, true, false, not, List, ◌++◌, length, map, take, filter, filter_map, Option, Some, None, is_some, option_map, Result, IfErr, OnOk, MatchResult}
 use Rattle.std.specs.FinMap.{get}
 use Rattle.mvd_dots.specs.declared.refusals.Refusal.{Refusal}
@@ -40,7 +40,7 @@ keys_done ds = map (λ d. d.key) ds
 abbrev pub keys_next : List Entry → List Key
 keys_next es = map (λ e. e.key) es
 
--- the keys that were given to both sides
+-- the keys that both sides have joined
 abbrev pub is_given : Option (Side × Refusal) → Bool
 is_given refused = not (is_some refused)
 
@@ -141,7 +141,7 @@ pub record GoesOn (stand : Stand) (after : After) (e : Exchanging) : Type 0 wher
   pub waits : AreNext stand.before.held.local stand.before.held.peer (stand.done ++ now) e.waiting
   pub still : after.local_true × after.peer_true
 
--- two sides, as they are now, that held this as the session began
+-- two sides as they were when the session began, of which the local one has this number
 abbrev pub began : {L P : Type 0} → Sides L P → Option ℕ → Both → Two L P → Before
 began s number held now = record {
   held = held;
@@ -182,7 +182,7 @@ pub record Exchanges {L P A : Type 0} (s : Sides L P) (next : List Entry) (old n
   pub fewer : OnOk result (((course.asked_local + course.wanted_local) + 2 * length new.work.waiting ≤ 2 * length next)
       × ((course.asked_peer + course.wanted_peer) + 2 * length new.work.waiting ≤ 2 * length next))
   pub calm : OnOk result ((course.wanted_local ≡ 0) × (course.wanted_peer ≡ 0))
-  -- and one at least
+  -- each key that is counted took one question at least, and fewer keys than a window wait
   pub room : OnOk result (new.work.keys + new.work.refused + new.now.left.local + new.now.left.peer
       ≤ old.work.keys + old.work.refused + old.now.left.local + old.now.left.peer)
   pub short : length next ≤ 1000 → OnOk result (length new.work.waiting < 1000)

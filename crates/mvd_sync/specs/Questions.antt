@@ -46,7 +46,7 @@ pub record ComesToEnd {S : Type 0} (s : SideOf S) (True : Type 0) (questions lef
   pub within : asked ≤ left
   pub follows : s.follows asked old new
   pub cause : Blames s (record { most = left; asked = asked; wanted = wanted; old = old; new = new }) refusal
-  pub not_of_key : s.is_faithful old → is_of_question refusal ≡ false
+  pub not_of_question : s.is_faithful old → is_of_question refusal ≡ false
   pub right : s.is_faithful old → True
 
 -- ---- what is so of a side that was true

@@ -22,7 +22,7 @@ use Rattle.mvd_sync.specs.declared.report.SyncFault.TheVariants.{Local, Peer}
 
 -- ---- pushes into one side
 
--- nobody has written the key: a state with neither part
+-- nobody has written the key: no sibling, and an empty context
 abbrev pub is_nothing : State → Bool
 is_nothing s = (len s.siblings == 0) && is_empty s.context
 
@@ -51,7 +51,7 @@ pub record ComesByPushes (can_give : Key → State → Type 0) (old new : States
   pub valid : Each (λ p. IsValid p.1) pushes
   pub is : new ≡ pushed_all old pushes
 
--- a side that was true still is, unless it says that it is broken, and comes by such pushes
+-- a true side stays true, unless the fault is its own `Broken`; while it is true, its states come by pushes of what can be given
 pub record Changes {A : Type 0} (still_true : Type 0) (broken : SyncFault) (can_give : Key → State → Type 0) (old new : States) (result : Result A SyncFault) : Type 0 where
   pub after_ok : OnOk result still_true
   pub after_fault : IfErr result (λ fault. fault ≢ broken → still_true)
@@ -112,7 +112,7 @@ pub record Joins (old : Both) (after : After) (joined given : List Key) : Type 0
   pub local_side : after.local_true → HasJoined joined old.local old.peer old.local after.held.local
   pub peer_side : after.peer_true → HasJoined given old.local old.peer old.peer after.held.peer
 
--- more keys than a side takes are held by one of the two
+-- the two together hold more different keys than a side takes
 pub record AreTooMany (most : ℕ) (a b : States) : Type 0 where
   pub held : List Key
   pub distinct : AreDistinct held
@@ -129,8 +129,8 @@ abbrev pub own_of : Both → Side → States
 own_of held AtLocal = held.local
 own_of held AtPeer = held.peer
 
--- why a side refuses a key: the join of its states is too long (9), the side did not hold the key,
--- and both sides' keys together are more than it takes (10), or its states clash (11)
+-- why a side refuses a key. 9: the join is too long. 10: this side did not hold the key, and the two
+-- together hold more keys than it takes. 11: its states clash
 abbrev pub CannotMeet : Before → Side → Key → Refusal → Type 0
 CannotMeet before side key StateTooLarge =
     is_too_large (join (state_at before.held.local key) (state_at before.held.peer key)) ≡ true
@@ -140,7 +140,7 @@ CannotMeet before side key DotClash = clashes (state_at before.held.local key) (
 CannotMeet before side key refusal = ⊥
 
 -- where the local side refused a key its states were not joined; where the peer did they were, on
--- the local side alone
+-- the local side alone. So 11 is always the local side's
 abbrev pub was_joined : Side → Bool
 was_joined AtLocal = false
 was_joined AtPeer = true
@@ -174,14 +174,14 @@ pub record ReportsDone (before : Before) (joined given : List Key) (report : Rep
   pub are_old : (key : Key) → IsIn old_keys key ↔
       (IsIn (given ++ map (λ l. l.key) left) key × IsOld before.number before.held.local before.held.peer key)
 
--- between two sides that were true, at any end
+-- What two true sides come to, at a fault too: the keys joined, and with no fault the report
 pub record Meets (before : Before) (after : After) (result : Result Report SyncFault) : Type 0 where
   pub joined : List Key
   pub given : List Key
   pub joins : Joins before.held after joined given
   pub tells : IfOk result (ReportsDone before joined given)
 
--- so few questions, where all keys that differ are among these
+-- few questions for so many keys: one, five for each, and one for each thousand held
 abbrev pub AreFew : ℕ → States → List Key → Type 0
 AreFew asked states differing = asked ≤ 1 + 5 * length differing + len states / 1000
 
@@ -220,8 +220,8 @@ asking local peer left = record { at = two local peer; left = left }
 
 -- WHAT BECAME OF TWO SIDES by questions
 pub record Course {L P A : Type 0} (s : Sides L P) (old : Asking L P) (new : Two L P) (result : Result A SyncFault) : Type 0 where
-  -- so many questions were made to each, and so many more were wanted, and nothing is changed of either but what so many that
-  -- were made may change
+  -- Each side was asked so many questions, and is now what that many may make of it. `wanted` are questions that there was no
+  -- budget for: one where the fault is 36, and else any number
   pub asked_local : ℕ
   pub asked_peer : ℕ
   pub wanted_local : ℕ
@@ -259,7 +259,7 @@ pub record Session {L P : Type 0} (s : Sides L P) (most : ℕ) (old new : Two L 
   -- SHA-256 tells the texts of both sides apart
   pub meets : s.local.is_faithful old.local → s.peer.is_faithful old.peer →
       Meets (before_of s old) (after_of s new) result
-  -- and few questions were made or wanted
+  -- and few questions were made or wanted; so between true sides 36 means that this bound is above the budget
   pub few : s.local.is_faithful old.local → s.peer.is_faithful old.peer → (differing : List Key) →
       HasAllThatDiffer (s.local.states old.local) (s.peer.states old.peer) differing →
       AreFew (course.asked_local + course.wanted_local) (s.local.states old.local) differing

@@ -76,15 +76,15 @@ is_of_key Full = true
 is_of_key DotClash = true
 is_of_key refusal = false
 
--- or of one question alone: these, and 14, of its path
+-- a refusal of one question alone: 9, 10 or 11, or 14 of its path
 abbrev pub is_of_question : Refusal → Bool
 is_of_question BadPath = true
 is_of_question refusal = is_of_key refusal
 
 -- ---- why a session ends by a side
 
--- a side before and after it was asked: so many questions it might be asked at most, so many it was,
--- and so many more were wanted
+-- a side before and after it was asked: the most questions that it might be asked, how many it was
+-- asked, and how many more were wanted that there was no budget for
 pub record Inquiry (S : Type 0) : Type 0 where
   pub most : ℕ
   pub asked : ℕ
@@ -92,7 +92,7 @@ pub record Inquiry (S : Type 0) : Type 0 where
   pub old : S
   pub new : S
 
--- it refused so, and if it was true that is no refusal of one question alone (9, 10, 11, 14); or it gave what no true side
+-- it refused so on the way, and if it was true that is no refusal of one question alone (9, 10, 11, 14); or it gave what no true side
 -- gives (33); or all questions were made that it might be asked, and one more was wanted (36); or memory was refused
 pub data Blames {S : Type 0} (s : SideOf S) (a : Inquiry S) (refusal : Refusal) : Type 0 where
   of_side : HasRefused s.follows s.can_refuse a.old a.new refusal → (s.is_faithful a.old → is_of_question refusal ≡ false) →

@@ -15,27 +15,27 @@ use Rattle.mvd_site.specs.Held.{States, state_at}
 use Rattle.mvd_sync.specs.Session.{pushed}
 use Rattle.mvd_sync.specs.Sides.{HasAnswered, HasRefused, Within, is_of_key, is_of_question}
 
--- each question with its answer, and this of each answer that is no refusal
+-- P of each question with its answer; refusals are passed over, and the lists are equally long
 abbrev pub EachAnswer : {Q A : Type 0} → (Q → A → Type 0) → List Q → List (Result A Refusal) → Type 0
 EachAnswer P [] [] = Unit {0}
 EachAnswer P (q ∷ qs) (Ok a ∷ ts) = P q a × EachAnswer P qs ts
 EachAnswer P (q ∷ qs) (Err refusal ∷ ts) = EachAnswer P qs ts
 EachAnswer P qs ts = ⊥
 
--- this of each answer, and that of each refusal
+-- P where there is an answer, and R of each refusal
 abbrev pub EachTold : {A : Type 0} → Type 0 → (Refusal → Type 0) → List (Result A Refusal) → Type 0
 EachTold P R [] = Unit {0}
 EachTold P R (Ok a ∷ ts) = P × EachTold P R ts
 EachTold P R (Err refusal ∷ ts) = R refusal × EachTold P R ts
 
--- this of each question with its refusal
+-- P of each question with its refusal; answers are passed over, and the lists are equally long
 abbrev pub EachRefusal : {Q A : Type 0} → (Q → Refusal → Type 0) → List Q → List (Result A Refusal) → Type 0
 EachRefusal P [] [] = Unit {0}
 EachRefusal P (q ∷ qs) (Ok a ∷ ts) = EachRefusal P qs ts
 EachRefusal P (q ∷ qs) (Err refusal ∷ ts) = P q refusal × EachRefusal P qs ts
 EachRefusal P qs ts = ⊥
 
--- what a true side may refuse a page with: with nothing that is of a key alone, and with 14 only a path that has not three digits
+-- what a true side may refuse a page with: 14 only where the path has not three digits, and never 9, 10 or 11
 abbrev pub RefusesPage : List ℕ → Refusal → Type 0
 RefusesPage path BadPath = (length path == 3) ≡ false
 RefusesPage path refusal = is_of_key refusal ≡ false
@@ -53,7 +53,8 @@ pub record Manner (S : Type 0) : Type 1 where
 abbrev pub manner : {S : Type 0} → (ℕ → S → S → Type 0) → (S → Refusal → Type 0) → (S → Type 0) → Manner S
 manner follows can_refuse can_answer = record { follows = follows; can_refuse = can_refuse; can_answer = can_answer }
 
--- a kind of question: the answers that any side may give; and of a side that was true, the right answers, and the refusals
+-- what is to be said of the answers: those that any side may give; and of a side that was true, those that are right, and how it
+-- may refuse
 pub record Kind (Q A : Type 0) : Type 1 where
   pub may : Q → A → Type 0
   pub was_true : Type 0
@@ -87,7 +88,7 @@ for_states can_give was_true states = record {
   refuses = λ _ refusal. is_of_question refusal ≡ false;
 }
 
--- states are pushed; what becomes of them is said by `Pushes`
+-- states are pushed; what becomes of them is said by `Pushes`, so nothing is said here of a side that was true
 abbrev pub for_pushes : Kind (Key × State) (Unit {0})
 for_pushes = record { may = λ _ _. Unit {0}; was_true = ⊥; right = λ _ _. Unit {0}; refuses = λ _ _. Unit {0} }
 
@@ -98,15 +99,15 @@ pub record Asked {S Q A : Type 0} (m : Manner S) (kind : Kind Q A) (questions : 
   pub may : EachAnswer kind.may questions answers
   pub right : kind.was_true → EachAnswer kind.right questions answers
   pub told : EachTold (HasAnswered m.follows m.can_answer old new) (HasRefused m.follows m.can_refuse old new) answers
-  pub not_of_key : kind.was_true → EachRefusal kind.refuses questions answers
+  pub not_of_question : kind.was_true → EachRefusal kind.refuses questions answers
 
--- Questions that were not all answered: the side refused one so that it refuses all (22, or its link's own), or memory was refused
+-- Questions that came to an end: at most so many were made, and the side refused so, or memory was refused
 pub record Ends {S : Type 0} (follows : ℕ → S → S → Type 0) (can_refuse : S → Refusal → Type 0) (most : ℕ) (old new : S) (refusal : Refusal) : Type 0 where
   pub count : Within follows most old new
   pub cause : HasRefused follows can_refuse old new refusal ⊎ (refusal ≡ Memory)
 
--- Why a side that holds these states, of which it takes so many keys at most, refuses a push of one key (9, 10, 11); with 14,
--- which is of a path, it refuses none
+-- Why a side that takes at most so many keys, and holds these states, refuses a push: 9, 10 and 11 for these causes; never 14; any
+-- other refusal needs none
 abbrev pub CannotTake : ℕ → States → Key → State → Refusal → Type 0
 CannotTake most states key state StateTooLarge = (is_too_large state ≡ true) ⊎ (is_too_large (join (state_at states key) state) ≡ true)
 CannotTake most states key state Full = (get states key ≡ None) × (most ≤ len states)
@@ -121,7 +122,7 @@ Pushes most old (p ∷ ps) (Ok done ∷ ts) new = (clashes (state_at old p.0) p.
 Pushes most old (p ∷ ps) (Err refusal ∷ ts) new = CannotTake most old p.0 p.1 refusal × Pushes most old ps ts new
 Pushes most old ps ts new = ⊥
 
--- the first of them alone; and if the side is still true, nothing else has changed
+-- some first ones of the pushes, as `Pushes` says; and if the side is still true, it holds just that
 abbrev pub PushesFirst : Type 0 → ℕ → States → List (Key × State) → States → Type 0
 PushesFirst still most old ps new = (n : ℕ) × (ts : List (Result (Unit {0}) Refusal)) × (mid : States) × Pushes most old (take n ps) ts mid × (still → new ≡ mid)
 
@@ -129,7 +130,7 @@ PushesFirst still most old ps new = (n : ℕ) × (ts : List (Result (Unit {0}) R
 abbrev pub Takes : States → Key → State → States → Type 0
 Takes old key state new = (clashes (state_at old key) state ≡ false) × (new ≡ pushed old key state)
 
--- a refusal that may leave open whether a push was taken: 20, 22, or one from 30 on, as those of a link are
+-- a refusal that may leave open whether a push was taken: 20, 22, or one from 30 on
 abbrev pub leaves_open : Refusal → Bool
 leaves_open Memory = true
 leaves_open Broken = true

@@ -177,7 +177,7 @@ fn exchange_window<L: Peer, P: Peer>(
     go_over_all(local, peer, left, paths, mine, theirs, exchange)
 }
 
-/// Goes over some buckets, a window after the other.
+/// Goes over the buckets, a window at a time, and exchanges the keys that differ. Fewer than 1,000 may be left waiting.
 pub fn exchange_buckets<L: Peer, P: Peer>(
     alloc: Global,
     local: &mut L,

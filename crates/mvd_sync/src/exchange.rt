@@ -1,4 +1,4 @@
-//! The exchange of keys, a window after the other.
+//! The exchange of keys, one window after another.
 ghost use Rattle.std.specs.Prelude.{◌≡◌, ◌<◌, ◌+◌, ◌^◌, ◌++◌, ◌∷◌, [], length, map, filter_map, IfOk, IfErr, OnOk, cond, ◌≤◌, ◌↔◌, IsTrue};
 ghost use Rattle.mvd_sync.specs.Exchanges.{Adds, Exchanges, IsHeldByEither, moment};
 ghost use Rattle.mvd_sync.specs.Meetings.{done_of, held_keys, pair_of};

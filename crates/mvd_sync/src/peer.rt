@@ -18,7 +18,7 @@ use mvd_keys::{Key, KeyState, Path};
 use mvd_wire::Digests;
 use std::alloc::Global;
 
-/// A page of a bucket: the first thousand keys after a key, with their digests, and whether more are left.
+/// A page of a bucket: at most a thousand keys, the first after a key, with their digests, and whether more are left.
 pub type Page = (Vec<(Key, [u8; 32])>, bool);
 
 /// A side of a session: something that holds key states, and is asked for them.
@@ -28,8 +28,8 @@ pub type Page = (Vec<(Key, [u8; 32])>, bool);
 /// unless the refusal is one that leaves open whether it was: 20, 22, or one from 30 on. It stays true
 /// unless it says that it is broken. A question is one call of `node`, `bucket`, `get` or `push`. Each
 /// of these has a call for many questions: one answer for each, in order, as if they were asked one
-/// after the other; such a call is refused
-/// itself where the side is broken, or its link is, or memory is refused.
+/// after the other. A refusal in that list has changed nothing. An `Err` is of the whole call: the
+/// first of the questions were made, or none.
 pub trait Peer {
     /// The key states that it holds.
     ghost states: { Self → States };
@@ -43,7 +43,7 @@ pub trait Peer {
     /// The second may be what the first is after so many questions, true or not.
     ghost follows: { ℕ → Self → Self → Type 0 };
 
-    /// What it may have refused a question with, as it is after that, true or not.
+    /// What the side after it may have refused a question with, true or not.
     ghost can_refuse: { Self → Refusal → Type 0 };
 
     /// What is so of it after it answered a question, true or not.
@@ -66,7 +66,7 @@ pub trait Peer {
     fn node(&mut self, path: &Path) -> Result<Digests, Refusal>
         ensures kept { is_faithful self.old → is_faithful self.new × (states self.new ≡ states self.old) }
         ensures answer { is_faithful self.old → IfOk result (IsNode (digests (states self.old)) path.now) }
-        ensures not_of_key { is_faithful self.old → IfErr result (λ refusal. is_of_question refusal ≡ false) }
+        ensures not_of_question { is_faithful self.old → IfErr result (λ refusal. is_of_question refusal ≡ false) }
         ensures follows { follows 1 self.old self.new }
         ensures refuses { IfErr result (can_refuse self.new) }
         ensures answers { OnOk result (can_answer self.new) };
@@ -80,7 +80,7 @@ pub trait Peer {
         ensures more { is_faithful self.old →
             IfOk result (λ page. page.1
             ≡ is_more_after_page (digests (states self.old)) path.now (option_copied after.entry)) }
-        ensures not_of_key { is_faithful self.old → IfErr result (RefusesPage path.now) }
+        ensures not_of_question { is_faithful self.old → IfErr result (RefusesPage path.now) }
         ensures follows { follows 1 self.old self.new }
         ensures refuses { IfErr result (can_refuse self.new) }
         ensures answers { OnOk result (can_answer self.new) };
@@ -90,7 +90,7 @@ pub trait Peer {
         ensures kept { is_faithful self.old → is_faithful self.new × (states self.new ≡ states self.old) }
         ensures answer { is_faithful self.old → IfOk result (λ state. state ≡ state_at (states self.old) key.now) }
         ensures given { IfOk result (λ state. can_give key.now state) }
-        ensures not_of_key { is_faithful self.old → IfErr result (λ refusal. is_of_question refusal ≡ false) }
+        ensures not_of_question { is_faithful self.old → IfErr result (λ refusal. is_of_question refusal ≡ false) }
         ensures follows { follows 1 self.old self.new }
         ensures refuses { IfErr result (can_refuse self.new) }
         ensures answers { OnOk result (can_answer self.new) };
@@ -118,7 +118,7 @@ pub trait Peer {
             (λ told. Asked (manner follows can_refuse can_answer)
             (for_nodes (is_faithful self.old) (states self.old)) paths.now told.items self.old self.new) }
         ensures ended { IfErr result (Ends follows can_refuse (length paths.now) self.old self.new) }
-        ensures not_of_key { is_faithful self.old → IfErr result (λ refusal. is_of_question refusal ≡ false) }
+        ensures not_of_question { is_faithful self.old → IfErr result (λ refusal. is_of_question refusal ≡ false) }
     {
         let mut told = room_for(self.alloc(), paths.len())?;
         for path in paths {
@@ -141,7 +141,7 @@ pub trait Peer {
             (λ told. Asked (manner follows can_refuse can_answer)
             (for_pages (is_faithful self.old) (states self.old)) asked.now told.items self.old self.new) }
         ensures ended { IfErr result (Ends follows can_refuse (length asked.now) self.old self.new) }
-        ensures not_of_key { is_faithful self.old → IfErr result (λ refusal. is_of_question refusal ≡ false) }
+        ensures not_of_question { is_faithful self.old → IfErr result (λ refusal. is_of_question refusal ≡ false) }
     {
         let mut told = room_for(self.alloc(), asked.len())?;
         for (path, after) in asked {
@@ -161,7 +161,7 @@ pub trait Peer {
             (λ told. Asked (manner follows can_refuse can_answer)
             (for_states can_give (is_faithful self.old) (states self.old)) keys.now told.items self.old self.new) }
         ensures ended { IfErr result (Ends follows can_refuse (length keys.now) self.old self.new) }
-        ensures not_of_key { is_faithful self.old → IfErr result (λ refusal. is_of_question refusal ≡ false) }
+        ensures not_of_question { is_faithful self.old → IfErr result (λ refusal. is_of_question refusal ≡ false) }
     {
         let mut told = room_for(self.alloc(), keys.len())?;
         for key in keys {
@@ -182,7 +182,7 @@ pub trait Peer {
             IfOk result (λ told. is_faithful self.new ×
             Pushes (most_keys self.old) (states self.old) pairs.now told.items (states self.new)) }
         ensures ended { IfErr result (Ends follows can_refuse (length pairs.now) self.old self.new) }
-        ensures not_of_key { is_faithful self.old → IfErr result (λ refusal. is_of_question refusal ≡ false) }
+        ensures not_of_question { is_faithful self.old → IfErr result (λ refusal. is_of_question refusal ≡ false) }
         ensures unbroken { is_faithful self.old →
             IfErr result (λ refusal. refusal ≢ Refusal.Broken → is_faithful self.new) }
         ensures first { is_faithful self.old →
@@ -203,10 +203,10 @@ pub trait Peer {
     /// A true side holds keys and states in form.
     ghost in_form: { (side : Self) → is_faithful side → AreHeld (states side) };
 
-    /// No question is as good as some.
+    /// After no question a side follows itself.
     ghost follows_self: { (side : Self) → follows 0 side side };
 
-    /// Questions after questions are questions.
+    /// So many questions, and then so many more, are the sum of both.
     ghost follows_on: { (m n : ℕ) (old mid new : Self) →
         follows m old mid → follows n mid new → follows (m + n) old new };
 

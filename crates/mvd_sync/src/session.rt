@@ -16,7 +16,7 @@ use std::alloc::Global;
 pub const MOST_QUESTIONS: u64 = 10_000_000;
 
 /// Compares two sides from the root, level by level, and exchanges what differs, with at most so many questions to each side; one
-/// more would end it as that side's 36. Keys that are refused for themselves (9, 10, 11) are left. It stops at any other refusal,
+/// more would end it as that side's 36. Keys whose pushes are refused with 9, 10 or 11 are left. It stops at any other refusal,
 /// and the pushes already made stay.
 pub fn sync_within<L: Peer, P: Peer>(
     alloc: Global,
@@ -48,7 +48,7 @@ pub fn sync_within<L: Peer, P: Peer>(
     }
 }
 
-/// Compares two sides from the root, and exchanges what differs.
+/// Compares two sides from the root, and exchanges what differs, with at most `MOST_QUESTIONS` to each side.
 pub fn sync<L: Peer, P: Peer>(
     alloc: Global,
     local: &mut L,

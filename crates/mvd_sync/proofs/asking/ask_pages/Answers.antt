@@ -19,7 +19,7 @@ use Rattle.mvd_sync.proofs.asking.ask_pages.Goals as goal
 pub returns-in_err-told-clause-ended : goal.returns-in_err-told-clause-ended
 returns-in_err-told-clause-ended g c =
     let s = side g.P.Peer.states g.P.Peer.is_faithful g.P.Peer.can_give g.P.Peer.follows g.P.Peer.can_refuse g.P.Peer.can_answer g.P.Peer.most_keys g.P.Peer.number in
-    at_err_same _ _ _ c.in_err-told.field-0.0 c.from_residual.ensures (λ e is. cc) (ended_within s c.args.asked.now c.args.left.now c.take-taken.new.left c.take-taken.result c.args.side.now c.pages.new.self c.take-taken.ensures _ _ c.in_err-told.ensures.ended c.in_err-told.ensures.not_of_key (λ t. let k = c.pages.ensures.kept t in record { still = k.0; states = k.1 }))
+    at_err_same _ _ _ c.in_err-told.field-0.0 c.from_residual.ensures (λ e is. cc) (ended_within s c.args.asked.now c.args.left.now c.take-taken.new.left c.take-taken.result c.args.side.now c.pages.new.self c.take-taken.ensures _ _ c.in_err-told.ensures.ended c.in_err-told.ensures.not_of_question (λ t. let k = c.pages.ensures.kept t in record { still = k.0; states = k.1 }))
 
 pub returns-in_err-answer-clause-ended : goal.returns-in_err-answer-clause-ended
 returns-in_err-answer-clause-ended g c =
@@ -31,7 +31,7 @@ returns-in_err-answer-clause-ended g c =
     let R = HasRefused g.P.Peer.follows g.P.Peer.can_refuse c.args.side.now c.pages.new.self in
     let was : c.in-Some.answer ≡ Err c.in_err-answer.field-0.0 = c.in_err-answer.was in
     let told = subst (λ (a : Result Told Refusal). EachTold U R (a ∷ [])) was (told_at U R c.in_ok-told.told.items (length c.loop-answer.yielded) c.in-Some.answer asked.told turn.0 turn.1) in
-    let apart : g.P.Peer.is_faithful c.args.side.now → is_of_question c.in_err-answer.field-0.0 ≡ false = λ t. (subst (λ (a : Result Told Refusal). EachTold (Unit {0}) (λ r. is_of_question r ≡ false) (a ∷ [])) was (told_at (Unit {0}) (λ r. is_of_question r ≡ false) c.in_ok-told.told.items (length c.loop-answer.yielded) c.in-Some.answer (no_page_told (take c.take-taken.result c.args.asked.now) c.in_ok-told.told.items (each-take _ _ _ c.requires) (asked.not_of_key t)) turn.0 turn.1)).0 in
+    let apart : g.P.Peer.is_faithful c.args.side.now → is_of_question c.in_err-answer.field-0.0 ≡ false = λ t. (subst (λ (a : Result Told Refusal). EachTold (Unit {0}) (λ r. is_of_question r ≡ false) (a ∷ [])) was (told_at (Unit {0}) (λ r. is_of_question r ≡ false) c.in_ok-told.told.items (length c.loop-answer.yielded) c.in-Some.answer (no_page_told (take c.take-taken.result c.args.asked.now) c.in_ok-told.told.items (each-take _ _ _ c.requires) (asked.not_of_question t)) turn.0 turn.1)).0 in
     at_err_same _ _ _ c.in_err-answer.field-0.0 c.from_residual-in_err-answer.ensures (λ e is. cc) (ended_by s c.args.asked.now c.args.left.now c.take-taken.new.left c.take-taken.result c.args.side.now c.pages.new.self c.take-taken.ensures _ _ asked.count (of_side told.0 apart) apart (λ t. let k = c.pages.ensures.kept t in record { still = k.0; states = k.1 }))
 
 pub loop-answer-preserved : goal.loop-answer-preserved

@@ -53,7 +53,7 @@ returns-clause-told g c =
       right = λ never. absurd never;
       told = told_still (Unit {0}) _ (ReplicaRefuses new) _ c.add_told.new.told.items (λ _. (c.answer_all.new.self, (0, follows), whole, (0, side_follows_self _))) (λ r refuses. (c.answer_all.new.self, (0, follows), refuses, (0, side_follows_self _)))
           (subst (EachTold (Unit {0}) (ReplicaRefuses new)) (sym items) told.1);
-      not_of_key = λ never. absurd never;
+      not_of_question = λ never. absurd never;
     }
 
 pub returns-clause-alike : goal.returns-clause-alike

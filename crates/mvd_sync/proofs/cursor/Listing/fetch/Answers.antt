@@ -19,4 +19,4 @@ pub returns-in-Err-bucket-clause-ended : goal.returns-in-Err-bucket-clause-ended
 returns-in-Err-bucket-clause-ended g c =
     let s = side_of g.P.Peer.states g.P.Peer.is_faithful g.P.Peer.can_give g.P.Peer.follows g.P.Peer.can_refuse g.P.Peer.can_answer g.P.Peer.most_keys g.P.Peer.number in
     one_refused s c.args.left.now c.take_one.new.left c.args.side.now c.bucket.new.self c.in-Err-bucket.refusal c.in-Ok.ensures.taken c.bucket.ensures.follows (g.met.P.Peer.follows_self c.bucket.new.self)
-    c.in-Err-bucket.ensures.refuses (λ t. page_apart c.args.path.now c.in-Err-bucket.refusal c.requires (c.in-Err-bucket.ensures.not_of_key t)) (λ t. let k = c.bucket.ensures.kept t in record { still = k.0; states = k.1 })
+    c.in-Err-bucket.ensures.refuses (λ t. page_apart c.args.path.now c.in-Err-bucket.refusal c.requires (c.in-Err-bucket.ensures.not_of_question t)) (λ t. let k = c.bucket.ensures.kept t in record { still = k.0; states = k.1 })

@@ -23,5 +23,5 @@ loop-key-preserved g c =
       so_far = one_more_at g.Self.Peer.follows g.Self.Peer.can_refuse g.Self.Peer.can_answer g.met.Self.Peer.follows_self g.met.Self.Peer.follows_on _ _ _ _ _ _ _ _ c.key-item.result _ _ _ c.loop-key-test.true c.key-item.is c.in_ok-push.ensures.items before.so_far c.get-answer.ensures.follows
           c.get-answer.ensures.given
           (λ t. let k = before.kept t in subst (λ (m : States). IfOk c.get-answer.result (λ state. state ≡ state_at m c.key-item.result)) k.1 (c.get-answer.ensures.answer k.0))
-          c.get-answer.ensures.refuses c.get-answer.ensures.answers (λ t. c.get-answer.ensures.not_of_key (before.kept t).0);
+          c.get-answer.ensures.refuses c.get-answer.ensures.answers (λ t. c.get-answer.ensures.not_of_question (before.kept t).0);
     }

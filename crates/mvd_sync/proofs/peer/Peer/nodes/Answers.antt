@@ -25,5 +25,5 @@ loop-path-preserved g c =
       so_far = one_more_at g.Self.Peer.follows g.Self.Peer.can_refuse g.Self.Peer.can_answer g.met.Self.Peer.follows_self g.met.Self.Peer.follows_on _ _ _ _ _ _ _ _ c.path-item.result _ _ _ c.loop-path-test.true c.path-item.is c.in_ok-push.ensures.items before.so_far c.node-answer.ensures.follows
           (always _)
           (λ t. let k = before.kept t in subst (λ (m : States). IfOk c.node-answer.result (IsNode (digests m) c.path-item.result)) k.1 (c.node-answer.ensures.answer k.0))
-          c.node-answer.ensures.refuses c.node-answer.ensures.answers (λ t. c.node-answer.ensures.not_of_key (before.kept t).0);
+          c.node-answer.ensures.refuses c.node-answer.ensures.answers (λ t. c.node-answer.ensures.not_of_question (before.kept t).0);
     }

@@ -39,5 +39,5 @@ loop-path-preserved g c =
           subst (λ (m : States). IfOk c.bucket-answer.result (λ page. (page.0.items ≡ page_of (digests m) c.loop-path-item.result.0 c.loop-path-item.result.1) × (page.1 ≡ is_more_after_page (digests m) c.loop-path-item.result.0 c.loop-path-item.result.1))) k.1
           (subst (λ (after : Option Key). IfOk c.bucket-answer.result (λ page. (page.0.items ≡ page_of (digests (g.Self.Peer.states c.loop-path.self)) c.loop-path-item.result.0 after) × (page.1 ≡ is_more_after_page (digests (g.Self.Peer.states c.loop-path.self)) c.loop-path-item.result.0 after))) c.as_ref.ensures.value
           (both_ok _ _ c.bucket-answer.result (c.bucket-answer.ensures.page k.0) (c.bucket-answer.ensures.more k.0))))
-          c.bucket-answer.ensures.refuses c.bucket-answer.ensures.answers (λ t. c.bucket-answer.ensures.not_of_key (before.kept t).0);
+          c.bucket-answer.ensures.refuses c.bucket-answer.ensures.answers (λ t. c.bucket-answer.ensures.not_of_question (before.kept t).0);
     }

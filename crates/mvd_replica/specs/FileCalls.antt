@@ -46,7 +46,7 @@ module _ {D : Type 0} {g : Ghosts D} {f : store.Ghosts (FileStore D g)} where
     pub opens : IfOk result (λ replica. HasCleanDisk (file_of replica) →
         OpensFile image config (site_of replica) (file_database replica))
     -- and no failure has shut the store, where the disk has returned what was written
-    pub open : IfOk result (λ replica. HasCleanDisk (file_of replica) → IsTrue (file_of replica).is_open)
+    pub is_open : IfOk result (λ replica. HasCleanDisk (file_of replica) → IsTrue (file_of replica).is_open)
     -- a refusal has its cause in what the file and its log hold, in the disk, in want of memory, or in a program that has the
     -- file open
     pub refused : IfErr result (FailsFile image config)

@@ -46,7 +46,7 @@ pub record IsOpened (config : ConfigValue) (store : State) (site : SiteValue) (a
   pub stands : (known : List Write) × Stands site.states known
   pub before : IsSound after → IsSound store
   -- no failure has shut it, where the disk has returned what was written
-  pub open : HasCleanDisk after → IsTrue after.is_open
+  pub is_open : HasCleanDisk after → IsTrue after.is_open
   pub opened : OfOurs store after (OpensSite config store.committed site after.committed)
   -- another program's database is never made one of ours
   pub own : ¬ HoldsForeign store

@@ -73,7 +73,7 @@ fn load<S: Alter>(alloc: Global, records: &mut Records<S>, config: Config) -> Re
     ensures config { IfOk result (IsFresh config) }
     ensures stands { IfOk result HasWrites }
     ensures before { WereSound S.Store records.old records.new }
-    ensures open { LeavesOpen S.Store result records.new }
+    ensures stays_open { LeavesOpen S.Store result records.new }
     ensures unchanged { LoadsOnly S.Store records.old records.new }
     ensures spelled { LoadsStates S.Store records.old result records.new }
     ensures full { LoadsFull S.Store config records.old result records.new }
@@ -147,7 +147,7 @@ pub fn site_in<S: Alter>(
     ensures config { IfOk result (IsFresh config) }
     ensures stands { IfOk result HasWrites }
     ensures before { WereSound S.Store records.old records.new }
-    ensures open { LeavesOpen S.Store result records.new }
+    ensures stays_open { LeavesOpen S.Store result records.new }
     ensures holds { FindsStates S.Store records.old result records.new }
     ensures states { MovesStates S.Store records.old records.new }
     ensures alone { FindsNone S.Store records.old result records.new }

@@ -18,9 +18,9 @@ returns-in-Ok-open g c =
     record {
       site = it.is;
       stands = it.stands;
-      open = it.open;
+      is_open = it.is_open;
       opens = λ clean. (
-          let sound : IsSound _ = record { clean = clean; is_open = it.open clean } in
+          let sound : IsSound _ = record { clean = clean; is_open = it.is_open clean } in
           let was = it.before sound in
           let found = found_in _ _ (c.in-Ok.ensures.found was.clean) ((c.in-Ok.ensures.opened was.clean).1 was.is_open).1 in
           record {
@@ -38,7 +38,7 @@ returns-in-Err g c = record {
   site = tt;
   stands = tt;
   opens = tt;
-  open = tt;
+  is_open = tt;
   refused = fails_opening _ c.args.config c.in-Err.error c.in-Err.ensures.named c.in-Err.left c.in-Err.ensures.unopened
       (IfSome_then c.in-Err.left c.in-Err.ensures.cause (λ left it. (
       let log = it.1 in
@@ -54,7 +54,7 @@ returns-in-Err-open g c =
       site = tt;
       stands = tt;
       opens = tt;
-      open = tt;
+      is_open = tt;
       refused = (
         it.refusal,
         λ sound. (

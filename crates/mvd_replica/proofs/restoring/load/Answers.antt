@@ -9,8 +9,8 @@ use Rattle.mvd_replica.proofs.restoring.load.Goals as goal
 pub open-requires-clause-rising : goal.open-requires-clause-rising
 open-requires-clause-rising g c = states_rise _ _ c.in-Ok-states_of.ensures.spelled c.in-Ok.ensures.rising
 
-pub returns-clause-open : goal.returns-clause-open
-returns-clause-open g c clean = whenever c.open.result (c.in-Ok.ensures.stays_open clean)
+pub returns-clause-stays_open : goal.returns-clause-stays_open
+returns-clause-stays_open g c clean = whenever c.open.result (c.in-Ok.ensures.stays_open clean)
 
 pub returns-clause-spelled : goal.returns-clause-spelled
 returns-clause-spelled g c version number sound holds =

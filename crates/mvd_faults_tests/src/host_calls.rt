@@ -54,7 +54,7 @@ pub fn take(host: &mut Host, client: u64, most: usize) -> Bytes {
 }
 
 pub fn round<S: Alter>(host: &mut Host, replica: &mut Replica<S>, ready: &[u64]) {
-    host.round(replica, ready, &mut Tally::new());
+    let _ = host.round(replica, ready, &mut Tally::new());
 }
 
 /// Puts of three new clients, one of each in a round, and how many were answered by a dot.

@@ -1,5 +1,5 @@
 -- A round, from the frames that were taken and the replies that were queued.
-use Rattle.std.proofs.Common.{◌≡◌, ℕ, ◌+◌, ◌≤◌, ◌==◌, Bool, true, false, cond, List, [], ◌∷◌, ◌++◌, map, zip, length, Option, Some, None, Result, Ok, refl, sym, ap, ap₂, ◌∙◌, subst, arith}
+use Rattle.std.proofs.Common.{◌≡◌, ℕ, ◌+◌, ◌≤◌, ◌<◌, ◌==◌, ◌≢◌, ◌⊎◌, inl, inr, Bool, true, false, true≢false, cond, List, [], ◌∷◌, ◌++◌, map, zip, length, slice_index, Option, Some, None, Result, Ok, Err, refl, sym, ap, ap₂, ◌∙◌, subst, arith}
 use Rattle.std.proofs.lemmas.List.{map-append, length-append, length-map}
 use Rattle.std.specs.List.{AllByRecursion}
 use Rattle.mvd_dots.specs.declared.refusals.Refusal.{Refusal}
@@ -13,17 +13,17 @@ use Rattle.mvd_conn.specs.History.{History}
 use Rattle.mvd_replica.specs.Turns.{Turn}
 use Rattle.mvd_host.specs.Hosts.{AreKept, IfClient, client_in}
 use Rattle.mvd_host.specs.Course.{AreQueued, Both, IsOut, asked_by, own}
-use Rattle.mvd_host.specs.Taking.{AreFaults, TakesAll, TakesOn, TakesOnly}
+use Rattle.mvd_host.specs.Taking.{AreFaults, IsFair, IsIdle, IsNone, TakesAll, TakesOn, TakesOnly}
 use Rattle.mvd_host.specs.Queueing.{AreDue, Queues, QueuesOn, refused_all, refused_faults}
 use Rattle.mvd_site.specs.Sites.{SiteValue}
 use Rattle.mvd_replica.proofs.Positions.{AnswersAll}
 use Rattle.sqlite.specs.State.{State}
-use Rattle.mvd_host.specs.Round.{Course, Round, Spares, turns_of}
+use Rattle.mvd_host.specs.Round.{Course, GoesForward, Round, Side, Spares, turns_of}
 use Rattle.mvd_host.specs.declared.taking.Taken.{Taken}
 use Rattle.mvd_host.proofs.Own.{both_on, own-append}
 use Rattle.mvd_host.proofs.Positions.{Serves}
 use Rattle.mvd_host.proofs.Serving.{IsStill, serves_none, serves_on, serves_still, serves_turns}
-use Rattle.mvd_host.proofs.ToldLemmas.{on, queued_length, queues_none, untouched}
+use Rattle.mvd_host.proofs.ToldLemmas.{later_items, no_first, no_items, no_second, on, queued_length, queues_none, untouched}
 
 -- what of a client's own things is looked at
 own_mapped : {X Y : Type 0} (n : ℕ) (g : X → Y) (xs : List (ℕ × X)) → own n (map {B = ℕ × Y} (λ x. (x.0, g x.1)) xs) ≡ map g (own n xs)
@@ -261,6 +261,14 @@ nothing_mapped : {X Y : Type 0} (f : X → Y) (xs : List X) → map f xs ≡ [] 
 nothing_mapped f [] nothing = refl
 nothing_mapped {X} {Y} f (x ∷ xs) nothing = absurd (let no : ◌≡◌ {A = List Y} (f x ∷ map f xs) [] = nothing in cc)
 
+no_fault_left : (es : List (ℕ × Refusal)) → AreFaults [] es → es ≡ []
+no_fault_left [] all = refl
+no_fault_left (e ∷ es) all = absurd all
+
+no_faulty_left : (fs : List (ℕ × FrameValue)) → AreFaults fs [] → fs ≡ []
+no_faulty_left [] all = refl
+no_faulty_left (f ∷ fs) all = absurd all
+
 module _ (ready : List ℕ) (old mid between new : List (ℕ × History)) (taken : Taken) (took : TakesOnly ready (length ready) old mid taken) (admitted : ℕ) (site later : SiteValue) (before after : State)
     (a : Answered took.all.requests mid between site later before after) (queued : Queues (refused_faults taken.faults.items) between new) where
   all_turns : List (ℕ × Turn)
@@ -304,10 +312,93 @@ module _ (ready : List ℕ) (old mid between new : List (ℕ × History)) (taken
       untouched (own n (refused_faults taken.faults.items)) (client_in between n) (client_in new n) second (queued n)
       ∙ untouched (own n (tells a.ts)) (client_in mid n) (client_in between n) first (a.queued n) ∙ took.same n out
 
+  -- no turn of a client, no frame
+  no_frames : (n : ℕ) → own n all_turns ≡ [] → (own n took.all.requests ≡ []) × (own n took.all.faulty ≡ [])
+  unfolding all_turns
+  no_frames n none =
+      let faults = fault_turns took.all.faulty taken.faults.items in
+      let both : own n a.ts ++ own n faults ≡ [] = sym (own-append n a.ts faults) ∙ none in
+      let first : own n a.ts ≡ [] = no_first (own n a.ts) (own n faults) both in
+      let second : own n faults ≡ [] = no_second (own n a.ts) (own n faults) both in
+      let requests : map {B = Result Request Refusal} (λ r. Ok r) (own n took.all.requests) ≡ [] =
+      sym (own_mapped n (λ (r : Request). Ok r) took.all.requests) ∙ ap (own n) (sym a.asked) ∙ own_mapped n (λ (t : Turn). t.asked) a.ts ∙ ap (λ (l : List Turn). map (λ t. t.asked) l) first in
+      let faulty : map asked_by (own n took.all.faulty) ≡ [] =
+      sym (own_mapped n asked_by took.all.faulty) ∙ ap (own n) (sym (fault_asks took.all.faulty taken.faults.items took.all.holds.faults)) ∙ own_mapped n (λ (t : Turn). t.asked) faults ∙ ap (λ (l : List Turn). map (λ t. t.asked) l) second in
+      (nothing_mapped (λ (r : Request). Ok r) (own n took.all.requests) requests, nothing_mapped asked_by (own n took.all.faulty) faulty)
+
+  -- a client of which no frame was taken is as the taking left it
+  same_later : (n : ℕ) → (own n took.all.requests ≡ []) × (own n took.all.faulty ≡ []) → client_in new n ≡ client_in mid n
+  same_later n none =
+      let both = no_turns n none in
+      let faults = fault_turns took.all.faulty taken.faults.items in
+      let first : own n (tells a.ts) ≡ [] = own_mapped n (λ (t : Turn). t.reply) a.ts ∙ ap (λ (l : List Turn). map (λ t. t.reply) l) both.0 in
+      let second : own n (refused_faults taken.faults.items) ≡ [] =
+      ap (own n) (sym (fault_tells took.all.faulty taken.faults.items took.all.holds.faults)) ∙ own_mapped n (λ (t : Turn). t.reply) faults ∙ ap (λ (l : List Turn). map (λ t. t.reply) l) both.1 in
+      untouched (own n (refused_faults taken.faults.items)) (client_in between n) (client_in new n) second (queued n)
+      ∙ untouched (own n (tells a.ts)) (client_in mid n) (client_in between n) first (a.queued n)
+
+  pub fair_turns : IsFair ready (length ready) took.all.requests took.all.faulty mid → (i : ℕ) → i < length ready → (own (slice_index ready i) all_turns ≢ []) ⊎ IfClient (client_in new (slice_index ready i)) IsIdle
+  fair_turns fair i below = decide (own (slice_index ready i) all_turns) refl
+    where
+      decide : (l : List Turn) → own (slice_index ready i) all_turns ≡ l → (own (slice_index ready i) all_turns ≢ []) ⊎ IfClient (client_in new (slice_index ready i)) IsIdle
+      decide (t ∷ ts) is = inl (λ none. let no : ◌≡◌ {A = List Turn} (t ∷ ts) [] = sym is ∙ none in absurd (cc))
+      decide [] is =
+          let none = no_frames (slice_index ready i) is in
+          elim (fair i below) [
+            | inl (inl some) ↦ absurd (some none.0)
+            | inl (inr some) ↦ absurd (some none.1)
+            | inr idle ↦ inr (subst (λ o. IfClient o IsIdle) (sym (same_later (slice_index ready i) none)) idle)
+          ]
+
+  pub some_turns : ¬ IsNone taken → all_turns ≢ []
+  unfolding all_turns
+  some_turns some nothing =
+      let faults = fault_turns took.all.faulty taken.faults.items in
+      let first : a.ts ≡ [] = no_first a.ts faults nothing in
+      let second : faults ≡ [] = no_second a.ts faults nothing in
+      let requests : took.all.requests ≡ [] = nothing_mapped (λ (r : ℕ × Request). (r.0, Ok r.1)) took.all.requests (sym a.asked ∙ ap asks first) in
+      let faulty : took.all.faulty ≡ [] = nothing_mapped (λ (f : ℕ × FrameValue). (f.0, asked_by f.1)) took.all.faulty (sym (fault_asks took.all.faulty taken.faults.items took.all.holds.faults) ∙ ap asks second) in
+      let clients : length taken.clients.items ≡ 0 = ap length took.all.holds.clients ∙ ap (λ (l : List (ℕ × Request)). length (map (λ r. r.0) l)) requests in
+      let others : length taken.faults.items ≡ 0 = ap length (no_fault_left taken.faults.items (subst (λ l. AreFaults l taken.faults.items) faulty took.all.holds.faults)) in
+      some (omega (arith, clients, others))
+
+  pub all_idle : IsNone taken → IsFair ready (length ready) took.all.requests took.all.faulty mid → (i : ℕ) → i < length ready → IfClient (client_in new (slice_index ready i)) IsIdle
+  all_idle nothing fair i below =
+      let requests : took.all.requests ≡ [] = nothing_mapped (λ (r : ℕ × Request). r.0) took.all.requests (sym took.all.holds.clients ∙ no_items taken.clients.items (length taken.faults.items) nothing) in
+      let faulty : took.all.faulty ≡ [] = no_faulty_left took.all.faulty (subst (AreFaults took.all.faulty) (later_items (length taken.clients.items) taken.faults.items nothing) took.all.holds.faults) in
+      let none : (own (slice_index ready i) took.all.requests ≡ []) × (own (slice_index ready i) took.all.faulty ≡ []) = (ap (own (slice_index ready i)) requests, ap (own (slice_index ready i)) faulty) in
+      elim (fair i below) [
+        | inl (inl some) ↦ absurd (some none.0)
+        | inl (inr some) ↦ absurd (some none.1)
+        | inr idle ↦ subst (λ o. IfClient o IsIdle) (sym (same_later (slice_index ready i) none)) idle
+      ]
+
   round_spares : Spares ready all_turns (record { clients = old; admitted = admitted }) (record { clients = new; admitted = admitted })
   round_spares = record { none = λ n gone. none_of_all n (took.none n gone); only = λ n out. none_of_all n (took.only n out); same = same_after }
 
-  pub round_of : (turns : List (ℕ × Turn)) × Round ready turns
-      (record { host = record { clients = old; admitted = admitted }; site = site; store = before })
-      (record { host = record { clients = new; admitted = admitted }; site = later; store = after })
-  round_of = (all_turns, record { serves = round_serves; clients = round_clients; spares = round_spares; admitted = refl })
+  abbrev old_side : Side
+  old_side = record { host = record { clients = old; admitted = admitted }; site = site; store = before }
+
+  abbrev new_side : Side
+  new_side = record { host = record { clients = new; admitted = admitted }; site = later; store = after }
+
+  is_round : Round ready all_turns old_side new_side
+  is_round = record { serves = round_serves; clients = round_clients; spares = round_spares; admitted = refl }
+
+  -- frames were taken
+  pub round_of : ¬ IsNone taken → (refused : Bool) → (refused ≡ false → IsFair ready (length ready) took.all.requests took.all.faulty mid) → (result : Result Bool Refusal) → result ≡ cond refused (Err Memory) (Ok true)
+      → (turns : List (ℕ × Turn)) × Round ready turns old_side new_side × GoesForward result ready turns new_side.host
+  round_of some true fair result is = (all_turns, is_round, subst (λ r. GoesForward r ready all_turns new_side.host) (sym is) (record { fair = tt; some = tt; idle = tt }))
+  round_of some false fair result is =
+      (all_turns, is_round, subst (λ r. GoesForward r ready all_turns new_side.host) (sym is) (record { fair = fair_turns (fair refl); some = λ _. some_turns some; idle = λ no. absurd (true≢false no) }))
+
+  -- none was
+  pub round_none : IsNone taken → (refused : Bool) → (refused ≡ false → IsFair ready (length ready) took.all.requests took.all.faulty mid) → (result : Result Bool Refusal) → result ≡ cond refused (Err Memory) (Ok false)
+      → (turns : List (ℕ × Turn)) × Round ready turns old_side new_side × GoesForward result ready turns new_side.host
+  round_none none true fair result is = (all_turns, is_round, subst (λ r. GoesForward r ready all_turns new_side.host) (sym is) (record { fair = tt; some = tt; idle = tt }))
+  round_none none false fair result is =
+      (all_turns, is_round, subst (λ r. GoesForward r ready all_turns new_side.host) (sym is) (record {
+        fair = λ i below. inr (all_idle none (fair refl) i below);
+        some = λ yes. absurd (true≢false (sym yes));
+        idle = λ _. all_idle none (fair refl);
+      }))

@@ -10,11 +10,13 @@ use Rattle.mvd_wire.specs.Frames.{FrameValue}
 use Rattle.mvd_conn.specs.History.{History}
 use Rattle.mvd_host.specs.Hosts.{IfClient, client_in}
 use Rattle.mvd_host.specs.Course.{Both, own}
-use Rattle.mvd_host.specs.Taking.{AreFaults, Grows, Holds, IsIdle, IsMore, IsNone, TakesAll, TakesMore, TakesOf, TakesOn, TakesOnly}
+use Rattle.mvd_host.specs.Taking.{AreFaults, Grows, HasFrame, Holds, IsFair, IsIdle, IsMore, IsNone, TakesAll, TakesMore, TakesOf, TakesOn, TakesOnly}
 use Rattle.mvd_host.specs.declared.taking.Taken.{Taken}
 use Rattle.mvd_host.proofs.Frames.{none_moved, same, takes_on, then_none}
 use Rattle.mvd_host.proofs.Holding.{holds_same}
 use Rattle.mvd_host.proofs.Hosts.{at_is}
+use Rattle.std.proofs.lemmas.List.{length-append, length-map}
+use Rattle.mvd_host.proofs.ToldLemmas.{no_first, no_second}
 use Rattle.mvd_host.proofs.Own.{both_on, both_self, own-append, own-other, own-same}
 
 same_there : (n m : ℕ) → (n == m) ≡ true → m ≡ n
@@ -107,7 +109,7 @@ pub only_nothing : (ready : List ℕ) (clients : List (ℕ × History)) (taken :
 unfolding takes_nothing
 only_nothing ready clients taken holds = record { all = takes_nothing clients taken holds; none = λ n _. (refl, refl); only = λ n _. (refl, refl); same = λ n _. refl }
 
-pub only_of : (ready : List ℕ) (at : ℕ) (old mid new : List (ℕ × History)) (before after : Taken) → TakesOnly ready at old mid before → TakesOf (slice_index ready at) mid new before after → TakesOnly ready (at + 1) old new after
+unfoldable pub only_of : (ready : List ℕ) (at : ℕ) (old mid new : List (ℕ × History)) (before after : Taken) → TakesOnly ready at old mid before → TakesOf (slice_index ready at) mid new before after → TakesOnly ready (at + 1) old new after
 unfolding takes_of
 only_of ready at old mid new before after so_far one =
     let client = slice_index ready at in
@@ -159,6 +161,13 @@ takes_nowhere client old new taken is = record {
 
 -- ---- nothing comes next
 
+i_cases : (i at : ℕ) → i < at + 1 → (i ≡ at) ⊎ (i < at)
+i_cases i at below = by_eq (i == at) refl
+  where
+    by_eq : (b : Bool) → (i == at) ≡ b → (i ≡ at) ⊎ (i < at)
+    by_eq true is = inl (grind (arith, nat_tests))
+    by_eq false is = inr (grind (arith, nat_tests))
+
 idle_apart : (client : ℕ) (mid new : List (ℕ × History)) → IfClient (client_in new client) IsIdle → ((q : ℕ) → (q == client) ≡ false → client_in new q ≡ client_in mid q)
     → (n : ℕ) (b : Bool) → (n == client) ≡ b → IfClient (client_in mid n) IsIdle → IfClient (client_in new n) IsIdle
 idle_apart client mid new here others n true is idle = subst (λ m. IfClient (client_in new m) IsIdle) (same_there n client is) here
@@ -184,10 +193,81 @@ idle_all ready at mid new before after took grows none ends so_far i below =
       | inl same ↦ subst (λ j. IfClient (client_in new (slice_index ready j)) IsIdle) (sym same) here
       | inr less ↦ idle_apart (slice_index ready at) mid new here took.others (slice_index ready i) (slice_index ready i == slice_index ready at) refl (so_far before_none i less)
     ]
+
+-- ---- each had a turn, or nothing comes next
+
+faults_long : (fs : List (ℕ × FrameValue)) (es : List (ℕ × Refusal)) → AreFaults fs es → length es ≡ length fs
+faults_long [] [] all = refl
+faults_long [] (e ∷ es) all = absurd all
+faults_long (f ∷ fs) [] all = absurd all
+faults_long (f ∷ fs) (e ∷ es) all = let rest = faults_long fs es all.2 in omega (arith, rest)
+
+-- what was taken of a client later is its own too
+own_later : {X : Type 0} (client : ℕ) (xs : List (ℕ × X)) (ys : List X) → own client (xs ++ map {B = ℕ × X} (λ y. (client, y)) ys) ≡ [] → ys ≡ []
+own_later client xs ys none = no_second (own client xs) ys (ap (λ l. own client xs ++ l) (sym (own-same client ys)) ∙ sym (own-append client xs (map (λ y. (client, y)) ys)) ∙ none)
+
+own_before : {X : Type 0} (n : ℕ) (xs ys : List (ℕ × X)) → own n (xs ++ ys) ≡ [] → own n xs ≡ []
+own_before n xs ys none = no_first (own n xs) (own n ys) (sym (own-append n xs ys) ∙ none)
+
+no_items_there : {X : Type 0} (x : X) (xs : List X) → x ∷ xs ≡ [] → ⊥
+no_items_there {X} x xs none = let no : ◌≡◌ {A = List X} (x ∷ xs) [] = none in absurd (cc)
+
+some_frame : (client : ℕ) (rs : List (ℕ × Request)) (fs : List (ℕ × FrameValue)) (more : List Request) (faulty : List FrameValue) → 0 < length more + length faulty
+    → HasFrame client (rs ++ map (λ r. (client, r)) more) (fs ++ map (λ f. (client, f)) faulty)
+some_frame client rs fs (r ∷ more) faulty some = inl (λ none. no_items_there r more (own_later client rs (r ∷ more) none))
+some_frame client rs fs [] (f ∷ faulty) some = inr (λ none. no_items_there f faulty (own_later client fs (f ∷ faulty) none))
+some_frame client rs fs [] [] some = absurd (omega (arith, some))
+
+-- a client that has a fault has a frame that is none
+own_any : (client : ℕ) (fs : List (ℕ × FrameValue)) (es : List (ℕ × Refusal)) → AreFaults fs es → list_any (λ (e : ℕ × Refusal). e.0 == client) es ≡ true → own client fs ≡ [] → ⊥
+own_any client [] [] all any none = true≢false (sym any)
+own_any client [] (e ∷ es) all any none = absurd all
+own_any client (f ∷ fs) [] all any none = absurd all
+own_any client (f ∷ fs) (e ∷ es) all any none = by_bool (f.0 == client) refl
   where
-    i_cases : (i at : ℕ) → i < at + 1 → (i ≡ at) ⊎ (i < at)
-    i_cases i at below = by_eq (i == at) refl
-      where
-        by_eq : (b : Bool) → (i == at) ≡ b → (i ≡ at) ⊎ (i < at)
-        by_eq true is = inl (grind (arith, nat_tests))
-        by_eq false is = inr (grind (arith, nat_tests))
+    by_bool : (b : Bool) → (f.0 == client) ≡ b → ⊥
+    by_bool true is = no_items_there f.1 (own client fs) (sym (ap (λ b. cond b (f.1 ∷ own client fs) (own client fs)) is) ∙ none)
+    by_bool false is =
+        let later : own client fs ≡ [] = sym (ap (λ b. cond b (f.1 ∷ own client fs) (own client fs)) is) ∙ none in
+        let apart : (e.0 == client) ≡ false = subst (λ n. (n == client) ≡ false) (sym all.0) is in
+        own_any client fs es all.2 (sym (ap (λ b. b || list_any (λ (x : ℕ × Refusal). x.0 == client) es) apart) ∙ any) later
+
+pub fair_of : (ready : List ℕ) (at : ℕ) (old mid new : List (ℕ × History)) (before after : Taken) (so_far : TakesOnly ready at old mid before) (one : TakesOf (slice_index ready at) mid new before after)
+    → (IsMore before after ⊎ ((list_any (λ (e : ℕ × Refusal). e.0 == slice_index ready at) before.faults.items ≡ true) ⊎ IfClient (client_in new (slice_index ready at)) IsIdle))
+    → (t : TakesOnly ready (at + 1) old new after) × (IsFair ready at so_far.all.requests so_far.all.faulty mid → IsFair ready (at + 1) t.all.requests t.all.faulty new)
+unfolding only_of takes_of more_requests more_faulty
+fair_of ready at old mid new before after so_far one ends =
+    let client = slice_index ready at in
+    let rs = so_far.all.requests in
+    let fs = so_far.all.faulty in
+    let Rs : List (ℕ × Request) = rs ++ map (λ r. (client, r)) one.requests in
+    let Fs : List (ℕ × FrameValue) = fs ++ map (λ f. (client, f)) one.faulty in
+    let held = one.holds rs fs so_far.all.holds in
+    let here : HasFrame client Rs Fs ⊎ IfClient (client_in new client) IsIdle = elim ends [
+      | inl more ↦
+          let a : length before.clients.items ≡ length rs = ap length so_far.all.holds.clients ∙ length-map rs (λ (r : ℕ × Request). r.0) in
+          let b : length before.faults.items ≡ length fs = faults_long fs before.faults.items so_far.all.holds.faults in
+          let c : length after.clients.items ≡ length Rs = ap length held.clients ∙ length-map Rs (λ (r : ℕ × Request). r.0) in
+          let d : length after.faults.items ≡ length Fs = faults_long Fs after.faults.items held.faults in
+          let x : length Rs ≡ length rs + length one.requests = length-append rs (map (λ r. (client, r)) one.requests) ∙ ap (λ k. length rs + k) (length-map one.requests (λ (r : Request). (client, r))) in
+          let y : length Fs ≡ length fs + length one.faulty = length-append fs (map (λ f. (client, f)) one.faulty) ∙ ap (λ k. length fs + k) (length-map one.faulty (λ (f : FrameValue). (client, f))) in
+          inl (some_frame client rs fs one.requests one.faulty (omega (arith, more, a, b, c, d, x, y)))
+      | inr (inl any) ↦ inl (inr (λ none. own_any client fs before.faults.items so_far.all.holds.faults any (own_before client fs (map (λ f. (client, f)) one.faulty) none)))
+      | inr (inr idle) ↦ inr idle
+    ] in (
+      only_of ready at old mid new before after so_far one,
+      λ fair i below. elim (i_cases i at below) [
+        | inl same ↦ subst (λ j. HasFrame (slice_index ready j) Rs Fs ⊎ IfClient (client_in new (slice_index ready j)) IsIdle) (sym same) here
+        | inr less ↦ still ready at mid new before after one rs fs here (slice_index ready i) (slice_index ready i == client) refl (fair i less)
+      ],
+    )
+  where
+    still : (ready : List ℕ) (at : ℕ) (mid new : List (ℕ × History)) (before after : Taken) (one : TakesOf (slice_index ready at) mid new before after) (rs : List (ℕ × Request)) (fs : List (ℕ × FrameValue))
+        → (HasFrame (slice_index ready at) (rs ++ map (λ r. (slice_index ready at, r)) one.requests) (fs ++ map (λ f. (slice_index ready at, f)) one.faulty) ⊎ IfClient (client_in new (slice_index ready at)) IsIdle)
+        → (n : ℕ) (b : Bool) → (n == slice_index ready at) ≡ b → (HasFrame n rs fs ⊎ IfClient (client_in mid n) IsIdle)
+        → HasFrame n (rs ++ map (λ r. (slice_index ready at, r)) one.requests) (fs ++ map (λ f. (slice_index ready at, f)) one.faulty) ⊎ IfClient (client_in new n) IsIdle
+    still ready at mid new before after one rs fs here n true is was =
+        subst (λ m. HasFrame m (rs ++ map (λ r. (slice_index ready at, r)) one.requests) (fs ++ map (λ f. (slice_index ready at, f)) one.faulty) ⊎ IfClient (client_in new m) IsIdle) (same_there n (slice_index ready at) is) here
+    still ready at mid new before after one rs fs here n false is (inl (inl some)) = inl (inl (λ none. some (own_before n rs (map (λ r. (slice_index ready at, r)) one.requests) none)))
+    still ready at mid new before after one rs fs here n false is (inl (inr some)) = inl (inr (λ none. some (own_before n fs (map (λ f. (slice_index ready at, f)) one.faulty) none)))
+    still ready at mid new before after one rs fs here n false is (inr idle) = inr (subst (λ o. IfClient o IsIdle) (sym (one.others n is)) idle)

@@ -26,11 +26,11 @@ queued_on (x ∷ xs) ys (b ∷ bs) cs one other = (one.0, queued_on xs ys bs cs 
 pub queues_none : (clients : List (ℕ × History)) → Queues [] clients clients
 queues_none clients n = both_self (client_in clients n) (QueuesOn []) (λ x. record { queued = []; answers = sym (append-nil x.answers); told = tt; taken = refl; moved = none_moved x; none = λ _. refl })
 
-no_first : {X : Type 0} (xs ys : List X) → xs ++ ys ≡ [] → xs ≡ []
+pub no_first : {X : Type 0} (xs ys : List X) → xs ++ ys ≡ [] → xs ≡ []
 no_first [] ys nothing = refl
 no_first {X} (x ∷ xs) ys nothing = absurd (let no : ◌≡◌ {A = List X} (x ∷ (xs ++ ys)) [] = nothing in cc)
 
-no_second : {X : Type 0} (xs ys : List X) → xs ++ ys ≡ [] → ys ≡ []
+pub no_second : {X : Type 0} (xs ys : List X) → xs ++ ys ≡ [] → ys ≡ []
 no_second [] ys nothing = nothing
 no_second {X} (x ∷ xs) ys nothing = absurd (let no : ◌≡◌ {A = List X} (x ∷ (xs ++ ys)) [] = nothing in cc)
 

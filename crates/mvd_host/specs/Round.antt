@@ -1,6 +1,7 @@
 -- One round: frames of many clients, as turns of one list.
-use Rattle.std.specs.Prelude.{◌≡◌, ℕ, List, [], ◌++◌, map, length, None, false}
+use Rattle.std.specs.Prelude.{◌≡◌, ◌≢◌, ◌⊎◌, ◌<◌, Bool, ℕ, List, [], ◌++◌, map, length, slice_index, None, Result, IfOk, OnOk, true, false}
 use Rattle.std.specs.List.{AllByRecursion}
+use Rattle.mvd_dots.specs.declared.refusals.Refusal.{Refusal}
 use Rattle.mvd_wire.specs.Frames.{FrameValue}
 use Rattle.mvd_conn.specs.History.{History}
 use Rattle.mvd_site.specs.Sites.{SiteValue}
@@ -8,7 +9,8 @@ use Rattle.mvd_replica.specs.Turns.{Event, IsToldElse, Replies, StandsOn, TellsT
 use Rattle.mvd_replica.specs.Batch.{TurnsFollow}
 use Rattle.mvd_replica.specs.Replicas.{StoredSite, site_of, store_of}
 use Rattle.mvd_replica.specs.declared.replica.Replica.{Replica}
-use Rattle.mvd_host.specs.Hosts.{HostValue, client_of}
+use Rattle.mvd_host.specs.Hosts.{HostValue, IfClient, client_of}
+use Rattle.mvd_host.specs.Taking.{IsIdle}
 use Rattle.mvd_host.specs.Course.{AreQueued, Both, IsOut, NoneMoved, asked_by, own}
 use Rattle.sqlite.specs.State.{State}
 use Rattle.sqlite_trees.specs.declared.store.Store.{Ghosts}
@@ -57,6 +59,15 @@ pub record Spares (ready : List ℕ) (turns : List (ℕ × Turn)) (old new : Hos
   pub none : (n : ℕ) → client_of old n ≡ None → own n turns ≡ []
   pub only : (n : ℕ) → IsOut n ready (length ready) → own n turns ≡ []
   pub same : (n : ℕ) → IsOut n ready (length ready) → client_of new n ≡ client_of old n
+
+-- What a round that was not refused memory gives: each client that is ready had a turn, or nothing comes next of it; there may be
+-- more only where there was a turn, and where there is no more nothing comes next of any ready client
+pub record GoesForward (result : Result Bool Refusal) (ready : List ℕ) (turns : List (ℕ × Turn)) (new : HostValue) : Type 0 where
+  pub fair : OnOk result ((i : ℕ) → i < length ready →
+      (own (slice_index ready i) turns ≢ []) ⊎ IfClient (client_of new (slice_index ready i)) IsIdle)
+  pub some : IfOk result (λ more. more ≡ true → turns ≢ [])
+  pub idle : IfOk result (λ more. more ≡ false → (i : ℕ) → i < length ready →
+      IfClient (client_of new (slice_index ready i)) IsIdle)
 
 -- The turns, in order, are served by the replica; each client's own are what its connection took, and was answered. Only ready
 -- clients have turns, and no client is admitted

@@ -1,11 +1,11 @@
 -- The frames that are taken in one round.
-use Rattle.std.specs.Prelude.{◌≡◌, ◌==◌, ℕ, ◌+◌, ◌≤◌, ◌<◌, ◌⊎◌, List, [], ◌∷◌, ◌++◌, map, length, Ok, Err, None, ⊤, false, vec_len, vec_capacity}
+use Rattle.std.specs.Prelude.{◌≡◌, ◌≢◌, ◌==◌, Bool, slice_index, ℕ, ◌+◌, ◌≤◌, ◌<◌, ◌⊎◌, List, [], ◌∷◌, ◌++◌, map, length, Ok, Err, None, ⊤, false, vec_len, vec_capacity}
 use Rattle.mvd_dots.specs.declared.refusals.Refusal.{Refusal}
 use Rattle.mvd_dots.specs.Answer.{IsAnswer}
 use Rattle.mvd_wire.specs.declared.request.Request.{Request}
 use Rattle.mvd_wire.specs.Frames.{FrameValue}
 use Rattle.mvd_conn.specs.History.{History, after_next}
-use Rattle.mvd_host.specs.Hosts.{client_in}
+use Rattle.mvd_host.specs.Hosts.{IfClient, client_in}
 use Rattle.mvd_host.specs.Course.{Both, IsOut, NoneMoved, asked_by, own}
 use Rattle.mvd_host.specs.declared.taking.Taken.{Taken}
 
@@ -96,6 +96,20 @@ pub record TakesOnly (ready : List ℕ) (count : ℕ) (old new : List (ℕ × Hi
   pub none : (n : ℕ) → client_in old n ≡ None → (own n all.requests ≡ []) × (own n all.faulty ≡ [])
   pub only : (n : ℕ) → IsOut n ready count → (own n all.requests ≡ []) × (own n all.faulty ≡ [])
   pub same : (n : ℕ) → IsOut n ready count → client_in new n ≡ client_in old n
+
+-- a frame of this client was taken
+abbrev pub HasFrame : ℕ → List (ℕ × Request) → List (ℕ × FrameValue) → Type 0
+HasFrame n requests faulty = (own n requests ≢ []) ⊎ (own n faulty ≢ [])
+
+-- of each of the first of these clients a frame was taken, or nothing comes next of it
+abbrev pub IsFair : List ℕ → ℕ → List (ℕ × Request) → List (ℕ × FrameValue) → List (ℕ × History) → Type 0
+IsFair ready count requests faulty new = (i : ℕ) → i < count →
+    HasFrame (slice_index ready i) requests faulty ⊎ IfClient (client_in new (slice_index ready i)) IsIdle
+
+-- the clients were gone over, and where memory was not refused to one, that was fair
+abbrev pub TakesFairly : Bool → List ℕ → ℕ → List (ℕ × History) → List (ℕ × History) → Taken → Type 0
+TakesFairly refused ready count old new taken = (t : TakesOnly ready count old new taken)
+    × (refused ≡ false → IsFair ready count t.all.requests t.all.faulty new)
 
 -- nothing was taken
 abbrev pub IsNone : Taken → Type 0

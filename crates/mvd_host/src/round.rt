@@ -1,36 +1,35 @@
 //! One round: the frames that are held are answered together.
-ghost use Rattle.std.specs.Prelude.{◌≡◌, ◌<◌, ℕ, List, length, slice_index, false};
+ghost use Rattle.std.specs.Prelude.{◌≡◌, ℕ, List, Err, IfErr, Ok, cond};
 ghost use Rattle.mvd_replica.specs.Turns.{Turn};
 
 use crate::host::Host;
 use crate::queueing::{queue_faults, queue_refused, queue_replies};
 use crate::taking::Taken;
 use crate::tally::Tally;
+use mvd_dots::Refusal;
 use mvd_replica::Replica;
 use sqlite::Alter;
 
 impl Host {
-    ghost use Rattle.mvd_host.specs.Hosts.{IfClient, client_of};
-    ghost use Rattle.mvd_host.specs.Taking.{IsIdle};
-    ghost use Rattle.mvd_host.specs.Round.{Round, side_of};
+    ghost use Rattle.mvd_host.specs.Round.{GoesForward, Round, side_of};
 
     /// Takes at most 64 frames of each ready client, answers them together, queues each reply on its own client's connection, and
     /// counts what was done and refused. Gives whether there may be more to do at once: after `false` no frame can be taken of a
-    /// ready client now.
+    /// ready client now, and after `true` some was. It is refused where memory was for a frame; what else was taken is answered.
     pub fn round<S: Alter>(
         &mut self,
         replica: &mut Replica<S>,
         ready: &[u64],
         tally: &mut Tally,
-    ) -> bool
+    ) -> Result<bool, Refusal>
         ensures round { (turns : List (ℕ × Turn)) × Round ready.now turns
-            (side_of self.old replica.old) (side_of self.new replica.new) }
-        ensures idle { result ≡ false → (i : ℕ) → i < length ready.now → IfClient (client_of self.new (slice_index ready.now i)) IsIdle }
+            (side_of self.old replica.old) (side_of self.new replica.new) × GoesForward result ready.now turns self.new }
+        ensures memory { IfErr result (λ refusal. refusal ≡ Refusal.Memory) }
     {
         let mut taken = Taken::new(self.alloc);
         let refused = taken.take_all(self.alloc, &mut self.clients, ready);
-        if taken.clients.is_empty() && taken.faults.is_empty() {
-            return refused;
+        if taken.is_none() {
+            return told(refused, false);
         }
         match replica.answer_all(&taken.requests) {
             Ok(replies) => {
@@ -43,6 +42,17 @@ impl Host {
             }
         }
         queue_faults(&mut self.clients, &taken.faults);
-        true
+        told(refused, true)
     }
+}
+
+/// What a round gives: whether there may be more to do at once, or that memory was refused for a frame.
+fn told(refused: bool, more: bool) -> Result<bool, Refusal>
+    ensures is { result ≡ cond refused (Err Refusal.Memory) (Ok more) }
+    ensures memory { IfErr result (λ refusal. refusal ≡ Refusal.Memory) }
+{
+    if refused {
+        return Err(Refusal::Memory);
+    }
+    Ok(more)
 }

@@ -1,5 +1,5 @@
 //! The frames that are taken in one round.
-ghost use Rattle.std.specs.Prelude.{◌≡◌, ◌≢◌, ◌+◌, ◌≤◌, ◌<◌, ◌==◌, ◌⊎◌, List, ℕ, length, true, false, [], IsTrue, OnErr, OnOk, IfOk, IfErr, vec_capacity, vec_len, Some, slice_index};
+ghost use Rattle.std.specs.Prelude.{◌≡◌, ◌≢◌, ◌+◌, ◌≤◌, ◌<◌, ◌==◌, ◌⊎◌, ◌↔◌, List, ℕ, length, true, false, [], IsTrue, OnErr, OnOk, IfOk, IfErr, vec_capacity, vec_len, Some, slice_index};
 ghost use Rattle.std.specs.List.{Contains, list_any};
 ghost use Rattle.mvd_dots.specs.Answer.{IsAnswer};
 ghost use Rattle.mvd_wire.specs.declared.request.Request.{Request};
@@ -28,7 +28,7 @@ pub(crate) struct Taken {
 impl Taken {
     ghost use Rattle.mvd_host.specs.Course.{own};
     ghost use Rattle.mvd_host.specs.Hosts.{IfClient, client_in};
-    ghost use Rattle.mvd_host.specs.Taking.{EndsTaking, Grows, HasRoom, Holds, IsIdle, Keeps, IsMore, IsNone, Takes, TakesMore, TakesOf, TakesOnly, TakesRequests};
+    ghost use Rattle.mvd_host.specs.Taking.{EndsTaking, Grows, HasRoom, Holds, IsIdle, Keeps, IsMore, IsNone, Takes, TakesFairly, TakesMore, TakesOf, TakesRequests};
 
     pub(crate) fn new(alloc: Global) -> Taken
         ensures { Holds [] [] result }
@@ -38,6 +38,13 @@ impl Taken {
             requests: Vec::new(alloc),
             faults: Vec::new(alloc),
         }
+    }
+
+    /// Whether no frame was taken.
+    pub(crate) fn is_none(&self) -> bool
+        ensures { IsTrue result ↔ IsNone self.now }
+    {
+        self.clients.is_empty() && self.faults.is_empty()
     }
 
     /// Whether the client has a frame that is no request.
@@ -136,7 +143,7 @@ impl Taken {
         ready: &[u64],
     ) -> bool
         requires none { Holds [] [] self.old }
-        ensures took { TakesOnly ready.now (length ready.now) clients.old.entries clients.new.entries self.new }
+        ensures took { TakesFairly result ready.now (length ready.now) clients.old.entries clients.new.entries self.new }
         ensures idle { result ≡ false → IsNone self.new → (i : ℕ) → i < length ready.now → IfClient (client_in clients.new.entries (slice_index ready.now i)) IsIdle }
     {
         let mut refused = false;

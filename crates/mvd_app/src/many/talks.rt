@@ -87,7 +87,8 @@ impl Talks {
                 ask(self.alloc, &mut self.host, web, *number, replica, counts);
             }
         }
-        if self.host.round(replica, ready, &mut counts.tally) {
+        // Where memory was refused for a frame, there may be more.
+        if self.host.round(replica, ready, &mut counts.tally).unwrap_or(true) {
             counts.rounds = counts.rounds.saturating_add(1);
         }
         for number in ready {

@@ -1,8 +1,8 @@
-use Rattle.std.proofs.Common.{◌≡◌, ◌+◌, rules, [], length, true≢false, Ok, ◌∙◌, ℕ, List, map, zip, sym, ap, subst, subst₂}
+use Rattle.std.proofs.Common.{◌≡◌, ◌+◌, [], length, true≢false, Ok, ◌∙◌, ℕ, List, map, zip, sym, ap, subst, subst₂}
 use Rattle.mvd_wire.specs.declared.request.Request.{Request}
 use Rattle.mvd_wire.specs.declared.reply.Reply.{Reply}
 use Rattle.mvd_host.specs.Queueing.{AreDue, Queues, refused_all, refused_faults}
-use Rattle.mvd_host.proofs.RoundLemmas.{Answered, answered_err, answered_none, answered_ok, due, due_front, memory_asks, memory_tells, memory_turns, no_faults, ok_tells, round_kept, round_of, tells, zip_asks, zip_fits}
+use Rattle.mvd_host.proofs.RoundLemmas.{Answered, answered_err, answered_none, answered_ok, due, due_front, memory_asks, memory_tells, memory_turns, no_faults, ok_tells, round_kept, round_none, round_of, tells, zip_asks, zip_fits}
 use Rattle.std.specs.List.{AllByRecursion}
 use Rattle.mvd_dots.specs.declared.refusals.Refusal.{Refusal}
 use Rattle.mvd_wire.specs.Replies.{CanBeSent}
@@ -11,14 +11,15 @@ use Rattle.sqlite.specs.Held.{state}
 use Rattle.mvd_host.specs.declared.host.Host.TheInside.{Inside}
 use Rattle.mvd_replica.specs.Turns.{Turn}
 use Rattle.mvd_host.specs.Hosts.{AreKept, HostValue}
-use Rattle.mvd_host.specs.Round.{Round}
+use Rattle.mvd_host.specs.Round.{GoesForward, Round}
+use Rattle.mvd_host.specs.Taking.{IsNone}
 use Rattle.mvd_host.proofs.ToldLemmas.{due_later, later_items, no_items}
 use Rattle.mvd_host.proofs.host.Host.round.Goals.{in-Ok, in-Err}
 use Rattle.mvd_host.proofs.host.Host.round.Goals as goal
 
 pub queue_replies-requires-clause-due : goal.queue_replies-requires-clause-due
 queue_replies-requires-clause-due g c =
-    let took = c.take_all-refused.ensures.took in
+    let took = c.take_all-refused.ensures.took.0 in
     let all = took.all in
     let taken = c.take_all-refused.new.self in
     let a = c.in-Ok.ensures.answers in
@@ -31,7 +32,7 @@ queue_replies-requires-clause-due g c =
 
 pub queue_refused-requires : goal.queue_refused-requires
 queue_refused-requires g c =
-    let took = c.take_all-refused.ensures.took in
+    let took = c.take_all-refused.ensures.took.0 in
     let all = took.all in
     let taken = c.take_all-refused.new.self in
     let old = c.self.inside.clients.entries in
@@ -49,7 +50,7 @@ queue_replies-requires-clause-fits g c =
 
 pub queue_faults-requires : goal.queue_faults-requires
 queue_faults-requires g c =
-    let took = c.take_all-refused.ensures.took in
+    let took = c.take_all-refused.ensures.took.0 in
     let all = took.all in
     let taken = c.take_all-refused.new.self in
     let old = c.self.inside.clients.entries in
@@ -72,41 +73,42 @@ queue_faults-requires g c =
 -- nothing was taken
 pub invariant_of-self : goal.invariant_of-self
 invariant_of-self g c =
-    let took = c.take_all-refused.ensures.took in
+    let took = c.take_all-refused.ensures.took.0 in
     let all = took.all in
     let taken = c.take_all-refused.new.self in
     let old = c.self.inside.clients.entries in
     let mid = c.take_all-refused.new.clients.entries in
     let site = c.args.replica.now.site in
     let store = state g.S.Store c.args.replica.now.records.conn in
-    let zero : length taken.clients.items + length taken.faults.items ≡ 0 = search rules in
+    let zero : length taken.clients.items + length taken.faults.items ≡ 0 = c.is_none.ensures.0 c.if-is_none.true in
     let none : taken.clients.items ≡ [] = no_items taken.clients.items (length taken.faults.items) zero in
     let sound : taken.faults.items ≡ [] = later_items (length taken.clients.items) taken.faults.items zero in
     let a = answered_none all.requests taken.clients.items mid site store all.holds.clients none in
     let faults = no_faults taken.faults.items mid sound in
     round_kept c.args.ready.now old mid mid mid taken took c.self.inside.admitted site site store store a faults c.self.invariant
 
-pub returns-then-is_empty-2-clause-round : goal.returns-then-is_empty-2-clause-round
-returns-then-is_empty-2-clause-round g c =
-    let took = c.take_all-refused.ensures.took in
+pub returns-then-is_none-clause-round : goal.returns-then-is_none-clause-round
+returns-then-is_none-clause-round g c =
+    let took = c.take_all-refused.ensures.took.0 in
     let all = took.all in
     let taken = c.take_all-refused.new.self in
     let old = c.self.inside.clients.entries in
     let mid = c.take_all-refused.new.clients.entries in
     let site = c.args.replica.now.site in
     let store = state g.S.Store c.args.replica.now.records.conn in
-    let zero : length taken.clients.items + length taken.faults.items ≡ 0 = search rules in
+    let zero : length taken.clients.items + length taken.faults.items ≡ 0 = c.is_none.ensures.0 c.if-is_none.true in
     let none : taken.clients.items ≡ [] = no_items taken.clients.items (length taken.faults.items) zero in
     let sound : taken.faults.items ≡ [] = later_items (length taken.clients.items) taken.faults.items zero in
     let a = answered_none all.requests taken.clients.items mid site store all.holds.clients none in
     let faults = no_faults taken.faults.items mid sound in
-    subst (λ (h : HostValue). (turns : List (ℕ × Turn)) × Round c.args.ready.now turns (record { host = h; site = site; store = store }) (record { host = record { clients = mid; admitted = c.self.inside.admitted }; site = site; store = store }))
-    c.self.view_is (round_of c.args.ready.now old mid mid mid taken took c.self.inside.admitted site site store store a faults)
+    let new : HostValue = record { clients = mid; admitted = c.self.inside.admitted } in
+    subst (λ (h : HostValue). (turns : List (ℕ × Turn)) × Round c.args.ready.now turns (record { host = h; site = site; store = store }) (record { host = new; site = site; store = store }) × GoesForward c.told.result c.args.ready.now turns new)
+    c.self.view_is (round_none c.args.ready.now old mid mid mid taken took c.self.inside.admitted site site store store a faults zero c.take_all-refused.result c.take_all-refused.ensures.took.1 c.told.result c.told.ensures.is)
 
 -- something was
 pub invariant_of-self-2 : goal.invariant_of-self-2
 invariant_of-self-2 g c =
-    let took = c.take_all-refused.ensures.took in
+    let took = c.take_all-refused.ensures.took.0 in
     let all = took.all in
     let taken = c.take_all-refused.new.self in
     let old = c.self.inside.clients.entries in
@@ -136,7 +138,7 @@ invariant_of-self-2 g c =
 
 pub returns-clause-round : goal.returns-clause-round
 returns-clause-round g c =
-    let took = c.take_all-refused.ensures.took in
+    let took = c.take_all-refused.ensures.took.0 in
     let all = took.all in
     let taken = c.take_all-refused.new.self in
     let old = c.self.inside.clients.entries in
@@ -162,8 +164,6 @@ returns-clause-round g c =
     let store = state g.S.Store c.args.replica.now.records.conn in
     let after = state g.S.Store c.answer_all.new.self.records.conn in
     let faults = subst (λ (l : List (ℕ × Refusal)). Queues (refused_faults l) between new) c.deref-2.ensures.value c.queue_faults.ensures.queues in
-    subst₂ (λ (h : HostValue) (n : ℕ). (turns : List (ℕ × Turn)) × Round c.args.ready.now turns (record { host = h; site = site; store = store }) (record { host = record { clients = new; admitted = n }; site = later; store = after }))
-    c.self.view_is (sym admitted) (round_of c.args.ready.now old mid between new taken took c.self.inside.admitted site later store after a faults)
-
-pub returns-clause-idle : goal.returns-clause-idle
-returns-clause-idle g c = λ no. absurd (true≢false no)
+    let some : ¬ IsNone taken = λ none. true≢false (sym (c.is_none.ensures.1 none) ∙ c.if-is_none.false) in
+    subst₂ (λ (h : HostValue) (n : ℕ). (turns : List (ℕ × Turn)) × Round c.args.ready.now turns (record { host = h; site = site; store = store }) (record { host = record { clients = new; admitted = n }; site = later; store = after }) × GoesForward c.told-2.result c.args.ready.now turns (record { clients = new; admitted = n }))
+    c.self.view_is (sym admitted) (round_of c.args.ready.now old mid between new taken took c.self.inside.admitted site later store after a faults some c.take_all-refused.result c.take_all-refused.ensures.took.1 c.told-2.result c.told-2.ensures.is)

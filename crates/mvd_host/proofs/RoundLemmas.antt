@@ -396,9 +396,12 @@ module _ (ready : List ℕ) (old mid between new : List (ℕ × History)) (taken
   pub round_none : IsNone taken → (refused : Bool) → (refused ≡ false → IsFair ready (length ready) took.all.requests took.all.faulty mid) → (result : Result Bool Refusal) → result ≡ cond refused (Err Memory) (Ok false)
       → (turns : List (ℕ × Turn)) × Round ready turns old_side new_side × GoesForward result ready turns new_side.host
   round_none none true fair result is = (all_turns, is_round, subst (λ r. GoesForward r ready all_turns new_side.host) (sym is) (record { fair = tt; some = tt; idle = tt }))
-  round_none none false fair result is =
-      (all_turns, is_round, subst (λ r. GoesForward r ready all_turns new_side.host) (sym is) (record {
-        fair = λ i below. inr (all_idle none (fair refl) i below);
-        some = λ yes. absurd (true≢false (sym yes));
-        idle = λ _. all_idle none (fair refl);
-      }))
+  round_none none false fair result is = (
+    all_turns,
+    is_round,
+    subst (λ r. GoesForward r ready all_turns new_side.host) (sym is) (record {
+      fair = λ i below. inr (all_idle none (fair refl) i below);
+      some = λ yes. absurd (true≢false (sym yes));
+      idle = λ _. all_idle none (fair refl);
+    }),
+  )

@@ -88,7 +88,11 @@ impl Talks {
             }
         }
         // Where memory was refused for a frame, there may be more.
-        if self.host.round(replica, ready, &mut counts.tally).unwrap_or(true) {
+        if self
+            .host
+            .round(replica, ready, &mut counts.tally)
+            .unwrap_or(true)
+        {
             counts.rounds = counts.rounds.saturating_add(1);
         }
         for number in ready {

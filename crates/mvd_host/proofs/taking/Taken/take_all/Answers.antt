@@ -14,9 +14,9 @@ pub loop-client-preserved : goal.loop-client-preserved
 loop-client-preserved c = record {
   took = elim c.if-take_of.branch [
     | then-take_of w ↦ (
-        only_of c.args.ready.now c.loop-client.client-index c.args.clients.now.entries c.loop-client.clients.entries c.take_of.new.clients.entries c.loop-client.self c.take_of.new.self c.loop-client.invariant.took.0 c.take_of.ensures.took,
-        λ no. absurd (true≢false (sym w.refused-is ∙ no)),
-      )
+      only_of c.args.ready.now c.loop-client.client-index c.args.clients.now.entries c.loop-client.clients.entries c.take_of.new.clients.entries c.loop-client.self c.take_of.new.self c.loop-client.invariant.took.0 c.take_of.ensures.took,
+      λ no. absurd (true≢false (sym w.refused-is ∙ no)),
+    )
     | else-take_of w ↦
         let step = fair_of c.args.ready.now c.loop-client.client-index c.args.clients.now.entries c.loop-client.clients.entries c.take_of.new.clients.entries c.loop-client.self c.take_of.new.self c.loop-client.invariant.took.0 c.take_of.ensures.took
         (c.take_of.ensures.idle w.if-take_of.false) in

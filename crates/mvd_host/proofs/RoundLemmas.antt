@@ -337,7 +337,7 @@ module _ (ready : List ℕ) (old mid between new : List (ℕ × History)) (taken
       untouched (own n (refused_faults taken.faults.items)) (client_in between n) (client_in new n) second (queued n)
       ∙ untouched (own n (tells a.ts)) (client_in mid n) (client_in between n) first (a.queued n)
 
-  pub fair_turns : IsFair ready (length ready) took.all.requests took.all.faulty mid → (i : ℕ) → i < length ready → (own (slice_index ready i) all_turns ≢ []) ⊎ IfClient (client_in new (slice_index ready i)) IsIdle
+  fair_turns : IsFair ready (length ready) took.all.requests took.all.faulty mid → (i : ℕ) → i < length ready → (own (slice_index ready i) all_turns ≢ []) ⊎ IfClient (client_in new (slice_index ready i)) IsIdle
   fair_turns fair i below = decide (own (slice_index ready i) all_turns) refl
     where
       decide : (l : List Turn) → own (slice_index ready i) all_turns ≡ l → (own (slice_index ready i) all_turns ≢ []) ⊎ IfClient (client_in new (slice_index ready i)) IsIdle
@@ -350,7 +350,7 @@ module _ (ready : List ℕ) (old mid between new : List (ℕ × History)) (taken
             | inr idle ↦ inr (subst (λ o. IfClient o IsIdle) (sym (same_later (slice_index ready i) none)) idle)
           ]
 
-  pub some_turns : ¬ IsNone taken → all_turns ≢ []
+  some_turns : ¬ IsNone taken → all_turns ≢ []
   unfolding all_turns
   some_turns some nothing =
       let faults = fault_turns took.all.faulty taken.faults.items in
@@ -362,7 +362,7 @@ module _ (ready : List ℕ) (old mid between new : List (ℕ × History)) (taken
       let others : length taken.faults.items ≡ 0 = ap length (no_fault_left taken.faults.items (subst (λ l. AreFaults l taken.faults.items) faulty took.all.holds.faults)) in
       some (omega (arith, clients, others))
 
-  pub all_idle : IsNone taken → IsFair ready (length ready) took.all.requests took.all.faulty mid → (i : ℕ) → i < length ready → IfClient (client_in new (slice_index ready i)) IsIdle
+  all_idle : IsNone taken → IsFair ready (length ready) took.all.requests took.all.faulty mid → (i : ℕ) → i < length ready → IfClient (client_in new (slice_index ready i)) IsIdle
   all_idle nothing fair i below =
       let requests : took.all.requests ≡ [] = nothing_mapped (λ (r : ℕ × Request). r.0) took.all.requests (sym took.all.holds.clients ∙ no_items taken.clients.items (length taken.faults.items) nothing) in
       let faulty : took.all.faulty ≡ [] = no_faulty_left took.all.faulty (subst (AreFaults took.all.faulty) (later_items (length taken.clients.items) taken.faults.items nothing) took.all.holds.faults) in

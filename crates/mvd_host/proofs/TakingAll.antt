@@ -109,9 +109,9 @@ pub only_nothing : (ready : List ℕ) (clients : List (ℕ × History)) (taken :
 unfolding takes_nothing
 only_nothing ready clients taken holds = record { all = takes_nothing clients taken holds; none = λ n _. (refl, refl); only = λ n _. (refl, refl); same = λ n _. refl }
 
-unfoldable pub only_of : (ready : List ℕ) (at : ℕ) (old mid new : List (ℕ × History)) (before after : Taken) → TakesOnly ready at old mid before → TakesOf (slice_index ready at) mid new before after → TakesOnly ready (at + 1) old new after
+abbrev only_at : (ready : List ℕ) (at : ℕ) (old mid new : List (ℕ × History)) (before after : Taken) → TakesOnly ready at old mid before → TakesOf (slice_index ready at) mid new before after → TakesOnly ready (at + 1) old new after
 unfolding takes_of
-only_of ready at old mid new before after so_far one =
+only_at ready at old mid new before after so_far one =
     let client = slice_index ready at in
     record {
       all = takes_of client old mid new before after so_far.all one;
@@ -120,6 +120,9 @@ only_of ready at old mid new before after so_far one =
       only = λ n out. apart_too client old mid new before after so_far.all one n (apart_is n client (out at (omega arith))) (so_far.only n (λ i below. out i (omega (arith, below))));
       same = λ n out. one.others n (apart_is n client (out at (omega arith))) ∙ so_far.same n (λ i below. out i (omega (arith, below)));
     }
+
+pub only_of : (ready : List ℕ) (at : ℕ) (old mid new : List (ℕ × History)) (before after : Taken) → TakesOnly ready at old mid before → TakesOf (slice_index ready at) mid new before after → TakesOnly ready (at + 1) old new after
+only_of ready at old mid new before after so_far one = only_at ready at old mid new before after so_far one
 
 -- ---- one of the clients
 
@@ -223,19 +226,19 @@ own_any : (client : ℕ) (fs : List (ℕ × FrameValue)) (es : List (ℕ × Refu
 own_any client [] [] all any none = true≢false (sym any)
 own_any client [] (e ∷ es) all any none = absurd all
 own_any client (f ∷ fs) [] all any none = absurd all
-own_any client (f ∷ fs) (e ∷ es) all any none = by_bool (f.0 == client) refl
+own_any client (f ∷ fs) (e ∷ es) all any none = by_bool (own_any client fs es all.2) (f.0 == client) refl
   where
-    by_bool : (b : Bool) → (f.0 == client) ≡ b → ⊥
-    by_bool true is = no_items_there f.1 (own client fs) (sym (ap (λ b. cond b (f.1 ∷ own client fs) (own client fs)) is) ∙ none)
-    by_bool false is =
+    by_bool : (list_any (λ (x : ℕ × Refusal). x.0 == client) es ≡ true → own client fs ≡ [] → ⊥) → (b : Bool) → (f.0 == client) ≡ b → ⊥
+    by_bool rest true is = no_items_there f.1 (own client fs) (sym (ap (λ b. cond b (f.1 ∷ own client fs) (own client fs)) is) ∙ none)
+    by_bool rest false is =
         let later : own client fs ≡ [] = sym (ap (λ b. cond b (f.1 ∷ own client fs) (own client fs)) is) ∙ none in
         let apart : (e.0 == client) ≡ false = subst (λ n. (n == client) ≡ false) (sym all.0) is in
-        own_any client fs es all.2 (sym (ap (λ b. b || list_any (λ (x : ℕ × Refusal). x.0 == client) es) apart) ∙ any) later
+        rest (sym (ap (λ b. b || list_any (λ (x : ℕ × Refusal). x.0 == client) es) apart) ∙ any) later
 
 pub fair_of : (ready : List ℕ) (at : ℕ) (old mid new : List (ℕ × History)) (before after : Taken) (so_far : TakesOnly ready at old mid before) (one : TakesOf (slice_index ready at) mid new before after)
     → (IsMore before after ⊎ ((list_any (λ (e : ℕ × Refusal). e.0 == slice_index ready at) before.faults.items ≡ true) ⊎ IfClient (client_in new (slice_index ready at)) IsIdle))
     → (t : TakesOnly ready (at + 1) old new after) × (IsFair ready at so_far.all.requests so_far.all.faulty mid → IsFair ready (at + 1) t.all.requests t.all.faulty new)
-unfolding only_of takes_of more_requests more_faulty
+unfolding takes_of more_requests more_faulty
 fair_of ready at old mid new before after so_far one ends =
     let client = slice_index ready at in
     let rs = so_far.all.requests in
@@ -255,7 +258,7 @@ fair_of ready at old mid new before after so_far one ends =
       | inr (inl any) ↦ inl (inr (λ none. own_any client fs before.faults.items so_far.all.holds.faults any (own_before client fs (map (λ f. (client, f)) one.faulty) none)))
       | inr (inr idle) ↦ inr idle
     ] in (
-      only_of ready at old mid new before after so_far one,
+      only_at ready at old mid new before after so_far one,
       λ fair i below. elim (i_cases i at below) [
         | inl same ↦ subst (λ j. HasFrame (slice_index ready j) Rs Fs ⊎ IfClient (client_in new (slice_index ready j)) IsIdle) (sym same) here
         | inr less ↦ still ready at mid new before after one rs fs here (slice_index ready i) (slice_index ready i == client) refl (fair i less)

@@ -97,7 +97,7 @@ def judged(said, functions):
         return ""
     lines = said.split("\n")
     for name in hit:
-        at = next(n for n, line in enumerate(lines) if re.match(rf"fn {name}: (?!proved)", line))
+        at = next(n for n, line in enumerate(lines) if re.match(rf"fn {re.escape(name)}: (?!proved)", line))
         before = at
         while before and not lines[before - 1].startswith("fn "):
             before -= 1

@@ -1,5 +1,6 @@
 //! The keys of one bucket, in order, and the SHA-256 computation over their digests.
-ghost use Rattle.std.specs.Prelude.{◌≡◌, ◌≢◌, ℕ, ◌<◌, ◌≤◌, ◌+◌, ◌*◌, true, false, slice_index_or, length, IfOk, OnOk, OnErr, T, option_copied, List};
+ghost use Rattle.std.specs.Prelude.{◌≡◌, ◌≢◌, ℕ, ◌<◌, ◌≤◌, ◌+◌, ◌*◌, true, false, slice_index_or, length};
+ghost use Rattle.std.specs.Prelude.{IfOk, OnOk, OnErr, T, option_copied, List};
 ghost use Rattle.std.specs.Ordering.{is_lt};
 ghost use Rattle.std.specs.FinMap.{empty, entries, len, retain_keys, is_sorted};
 ghost use Rattle.std.specs.FinMap as map;
@@ -48,16 +49,20 @@ impl Model for Bucket {
 fn count_below(entries: &[(Key, [u8; 32])], key: &Key) -> usize
     requires { T (is_sorted key_cmp entries.now) }
     ensures within { result ≤ length entries.now }
-    ensures below { (i : ℕ) (d : List ℕ × List ℕ) → i < result → is_lt (key_cmp (slice_index_or entries.now i d).0 key.now) ≡ true }
-    ensures from { (i : ℕ) (d : List ℕ × List ℕ) → result ≤ i → i < length entries.now → is_lt (key_cmp (slice_index_or entries.now i d).0 key.now) ≡ false }
+    ensures below { (i : ℕ) (d : List ℕ × List ℕ) → i < result →
+        is_lt (key_cmp (slice_index_or entries.now i d).0 key.now) ≡ true }
+    ensures from { (i : ℕ) (d : List ℕ × List ℕ) → result ≤ i → i < length entries.now →
+        is_lt (key_cmp (slice_index_or entries.now i d).0 key.now) ≡ false }
 {
     entries.partition_point(|entry| entry.0.cmp(key).is_lt())
 }
 
 /// Whether the entry at an index has this key.
 fn is_at(entries: &[(Key, [u8; 32])], index: usize, key: &Key) -> bool
-    ensures yes { result ≡ true → (index < length entries.now) × ((d : List ℕ × List ℕ) → key_cmp (slice_index_or entries.now index d).0 key.now ≡ Ordering.Equal) }
-    ensures no { result ≡ false → index < length entries.now → (d : List ℕ × List ℕ) → key_cmp (slice_index_or entries.now index d).0 key.now ≢ Ordering.Equal }
+    ensures yes { result ≡ true → (index < length entries.now) × ((d : List ℕ × List ℕ) →
+        key_cmp (slice_index_or entries.now index d).0 key.now ≡ Ordering.Equal) }
+    ensures no { result ≡ false → index < length entries.now → (d : List ℕ × List ℕ) →
+        key_cmp (slice_index_or entries.now index d).0 key.now ≢ Ordering.Equal }
 {
     index < entries.len() && entries[index].0.cmp(key).is_eq()
 }
@@ -86,7 +91,8 @@ fn last_read(midstates: &[CountedHasher]) -> CountedHasher
 
 /// Keeps the computation that has read so many entries, if it is the next midstate, and unless memory is refused.
 fn keep(midstates: &mut Vec<CountedHasher>, read: usize, hasher: &CountedHasher)
-    ensures { (es : List (List ℕ × List ℕ)) → AreRead es midstates.old.items → HasRead es read hasher.now → read ≤ length es → AreRead es midstates.new.items }
+    ensures { (es : List (List ℕ × List ℕ)) → AreRead es midstates.old.items → HasRead es read hasher.now →
+        read ≤ length es → AreRead es midstates.new.items }
 {
     if read % 16 == 0 && read / 16 == midstates.len() + 1 {
         let _kept = midstates.push(hasher.copy());

@@ -3,6 +3,8 @@ use Rattle.std.specs.Prelude.{List, map, ◌≡◌, ℕ, ◌==◌, Bool, false, 
 use Rattle.std.specs.List.{All}
 use Rattle.std.specs.FinMap.{FinMap, get, len}
 use Rattle.mvd_keys.specs.Key.{key_cmp}
+use Rattle.mvd_keys.specs.Writes.{Key}
+use Rattle.mvd_rows.specs.Changes.{IsRoomy, state_in}
 use Rattle.mvd_rows.specs.Defs.{Definitions}
 use Rattle.mvd_rows.specs.declared.changes.Rows.{Rows}
 use Rattle.mvd_rows.specs.declared.definitions.ViewDef.{ViewDef}
@@ -99,3 +101,15 @@ definitions_of rows = record { indexes = map (λ index. index.field) rows.indexe
 pub record IsRowsOf (kept : Rows) (definitions : Definitions) (states : FinMap key_cmp State) : Type 0 where
   pub defs : definitions_of kept ≡ definitions
   pub rows : AreRowsOf kept.indexes.items kept.views.items (visible_in states)
+
+-- rows that stand for what is visible
+abbrev pub StandFor : Rows → Visible → Type 0
+StandFor kept visible = AreRowsOf kept.indexes.items kept.views.items visible
+
+-- whatever definitions and states the rows stand for, this holds of them
+abbrev pub IfRowsOf : Rows → (Definitions → FinMap key_cmp State → Type 0) → Type 0
+IfRowsOf kept Holds = (defs : Definitions) (states : FinMap key_cmp State) → IsRowsOf kept defs states → Holds defs states
+
+-- rows that stand for states in which a key has the old state, with room for the new one
+abbrev pub HasRoomFor : Rows → Key → State → State → Type 0
+HasRoomFor kept key old new = (defs : Definitions) × (states : FinMap key_cmp State) × (IsRowsOf kept defs states × (state_in states key ≡ old) × IsRoomy states × (len new.siblings ≤ 2 ^ 17))

@@ -2,11 +2,12 @@
 ghost use Rattle.std.specs.Prelude.{◌≡◌, ◌+◌, ◌*◌, ◌≤◌, ◌^◌, OnOk, IfErr, IsTrue, length};
 ghost use Rattle.std.specs.FinMap.{len};
 ghost use Rattle.mvd_keys.specs.State.{pairs_of, rises};
-ghost use Rattle.mvd_rows.specs.Changes.{CanMove, HasSiblings, before, growth, moved, moved_all, not_among, put_in, taken_out};
+ghost use Rattle.mvd_rows.specs.Changes.{CanMove, HasSiblings, before, growth, moved, moved_all, not_among};
+ghost use Rattle.mvd_rows.specs.Changes.{put_in, taken_out};
 ghost use Rattle.std.specs.FinMap as map;
 ghost use Rattle.mvd_dots.specs.declared.refusals.Refusal.TheVariants.{Memory};
 ghost use Rattle.mvd_rows.specs.Counted.{Within};
-ghost use Rattle.mvd_rows.specs.Stands.{AreRowsOf, IsSmall, definitions_of};
+ghost use Rattle.mvd_rows.specs.Stands.{IsSmall, StandFor, definitions_of};
 ghost use Rattle.mvd_rows.specs.Visible.{Visible};
 
 use crate::among::is_among;
@@ -39,14 +40,17 @@ impl Rows {
         document: &Document,
         meter: &mut Meter,
     ) -> Result<(), Refusal>
-        requires { (visible : Visible) × (AreRowsOf self.old.indexes.items self.old.views.items visible × (IsSmall visible × (map.get visible spot.now ≡ before way document.now))) }
-        ensures rows { OnOk result ((visible : Visible) → AreRowsOf self.old.indexes.items self.old.views.items visible → map.get visible spot.now ≡ before way document.now →
-            AreRowsOf self.new.indexes.items self.new.views.items (moved way visible spot.now document.now)) }
+        requires { (visible : Visible) × (StandFor self.old visible × (IsSmall visible ×
+            (map.get visible spot.now ≡ before way document.now))) }
+        ensures rows { OnOk result ((visible : Visible) → StandFor self.old visible →
+            map.get visible spot.now ≡ before way document.now →
+            StandFor self.new (moved way visible spot.now document.now)) }
         ensures defs { OnOk result (definitions_of self.new ≡ definitions_of self.old) }
         ensures indexes { length self.new.indexes.items ≡ length self.old.indexes.items }
         ensures views { length self.new.views.items ≡ length self.old.views.items }
         ensures memory { IfErr result (λ refusal. refusal ≡ Memory) }
-        ensures counts { Within (length self.old.indexes.items + 2 * length self.old.views.items) (4 * length self.old.views.items) meter.old meter.new }
+        ensures counts { Within (length self.old.indexes.items + 2 * length self.old.views.items)
+            (4 * length self.old.views.items) meter.old meter.new }
     {
         let parsed = document.parsed(self.alloc)?;
         change_places(self.alloc, &mut self.indexes, way, spot, &parsed, meter)?;
@@ -65,15 +69,20 @@ impl Rows {
     ) -> Result<(), Refusal>
         requires rising { IsTrue (rises siblings.now) }
         requires others_rise { IsTrue (rises others.now) }
-        requires room { (visible : Visible) × (AreRowsOf self.old.indexes.items self.old.views.items visible × (len visible + growth way (length siblings.now) ≤ 2 ^ 40) × CanMove way visible key.now (pairs_of others.now) (pairs_of siblings.now)) }
-        ensures rows { OnOk result ((visible : Visible) → AreRowsOf self.old.indexes.items self.old.views.items visible → CanMove way visible key.now (pairs_of others.now) (pairs_of siblings.now) →
-            AreRowsOf self.new.indexes.items self.new.views.items (moved_all way visible key.now (not_among (pairs_of others.now) (pairs_of siblings.now)))) }
+        requires room { (visible : Visible) × (StandFor self.old visible ×
+            (len visible + growth way (length siblings.now) ≤ 2 ^ 40) ×
+            CanMove way visible key.now (pairs_of others.now) (pairs_of siblings.now)) }
+        ensures rows { OnOk result ((visible : Visible) → StandFor self.old visible →
+            CanMove way visible key.now (pairs_of others.now) (pairs_of siblings.now) →
+            StandFor self.new (moved_all way visible key.now
+            (not_among (pairs_of others.now) (pairs_of siblings.now)))) }
         ensures defs { OnOk result (definitions_of self.new ≡ definitions_of self.old) }
         ensures indexes { length self.new.indexes.items ≡ length self.old.indexes.items }
         ensures views { length self.new.views.items ≡ length self.old.views.items }
         ensures memory { IfErr result (λ refusal. refusal ≡ Memory) }
         ensures counts { let moved = length (not_among (pairs_of others.now) (pairs_of siblings.now)) in
-            Within (moved * (length self.old.indexes.items + 2 * length self.old.views.items)) (moved * (4 * length self.old.views.items)) meter.old meter.new }
+            Within (moved * (length self.old.indexes.items + 2 * length self.old.views.items))
+            (moved * (4 * length self.old.views.items)) meter.old meter.new }
     {
         for sibling in siblings {
             if !is_among(others, sibling) {
@@ -98,13 +107,19 @@ impl Rows {
     ) -> Result<(), Refusal>
         requires rising_old { IsTrue (rises old.now) }
         requires rising_new { IsTrue (rises new.now) }
-        requires room { (visible : Visible) × (AreRowsOf self.old.indexes.items self.old.views.items visible × (len visible + length new.now ≤ 2 ^ 40) × HasSiblings visible key.now (pairs_of old.now)) }
-        ensures rows { OnOk result ((visible : Visible) → AreRowsOf self.old.indexes.items self.old.views.items visible → HasSiblings visible key.now (pairs_of old.now) →
-            AreRowsOf self.new.indexes.items self.new.views.items (put_in (taken_out visible key.now (not_among (pairs_of new.now) (pairs_of old.now))) key.now (not_among (pairs_of old.now) (pairs_of new.now)))) }
+        requires room { (visible : Visible) × (StandFor self.old visible ×
+            (len visible + length new.now ≤ 2 ^ 40) × HasSiblings visible key.now (pairs_of old.now)) }
+        ensures rows { OnOk result ((visible : Visible) → StandFor self.old visible →
+            HasSiblings visible key.now (pairs_of old.now) →
+            StandFor self.new (put_in
+            (taken_out visible key.now (not_among (pairs_of new.now) (pairs_of old.now)))
+            key.now (not_among (pairs_of old.now) (pairs_of new.now)))) }
         ensures defs { OnOk result (definitions_of self.new ≡ definitions_of self.old) }
         ensures memory { IfErr result (λ refusal. refusal ≡ Memory) }
-        ensures counts { let moved = length (not_among (pairs_of new.now) (pairs_of old.now)) + length (not_among (pairs_of old.now) (pairs_of new.now)) in
-            Within (moved * (length self.old.indexes.items + 2 * length self.old.views.items)) (moved * (4 * length self.old.views.items)) meter.old meter.new }
+        ensures counts { let moved = length (not_among (pairs_of new.now) (pairs_of old.now)) +
+            length (not_among (pairs_of old.now) (pairs_of new.now)) in
+            Within (moved * (length self.old.indexes.items + 2 * length self.old.views.items))
+            (moved * (4 * length self.old.views.items)) meter.old meter.new }
     {
         if self.indexes.is_empty() && self.views.is_empty() {
             return Ok(());

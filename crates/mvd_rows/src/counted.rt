@@ -1,16 +1,13 @@
 //! What `Rows` do. Each call adds the work that it took to the counts handed in: how many entries of the kept rows were
 //! put in, taken out or altered, and how many looks were made at them.
-ghost use Rattle.std.specs.Prelude.{◌≡◌, ◌≢◌, ◌≤◌, ◌^◌, ◌+◌, ◌*◌, Ok, Err, OnOk, IfOk, IfErr, length};
-ghost use Rattle.std.specs.FinMap.{FinMap, insert, len};
+ghost use Rattle.std.specs.Prelude.{◌≡◌, ◌≢◌, ◌+◌, ◌*◌, Ok, Err, OnOk, IfOk, IfErr, length};
+ghost use Rattle.std.specs.FinMap.{insert, len};
 ghost use Rattle.mvd_dots.specs.declared.refusals.Refusal.TheVariants.{Broken, Memory};
-ghost use Rattle.mvd_keys.specs.Key.{key_cmp};
-ghost use Rattle.mvd_keys.specs.State.{State};
 ghost use Rattle.mvd_rows.specs.Answers.{find_answer, range_answer, row_answer, rows_answer};
 ghost use Rattle.mvd_rows.specs.Visible.{visible_in};
-ghost use Rattle.mvd_rows.specs.Changes.{IsRoomy, differing, looks_each, state_in, updates_each};
+ghost use Rattle.mvd_rows.specs.Changes.{differing, looks_each, state_in, updates_each};
 ghost use Rattle.mvd_rows.specs.Counted.{Within, WithinUpdates};
-ghost use Rattle.mvd_rows.specs.Defs.{Definitions};
-ghost use Rattle.mvd_rows.specs.Stands.{IsRowsOf, definitions_of};
+ghost use Rattle.mvd_rows.specs.Stands.{HasRoomFor, IfRowsOf, IsRowsOf, definitions_of};
 
 use crate::changes::Rows;
 use crate::marks::Mark;
@@ -33,13 +30,16 @@ pub fn change(
     new: &KeyState,
     meter: &mut Meter,
 ) -> Result<(), Refusal>
-    requires room { (defs : Definitions) × (states : FinMap key_cmp State) × (IsRowsOf rows.old defs states × (state_in states key.now ≡ old.now) × IsRoomy states × (len new.now.siblings ≤ 2 ^ 17)) }
-    ensures stands { OnOk result ((defs : Definitions) (states : FinMap key_cmp State) → IsRowsOf rows.old defs states → state_in states key.now ≡ old.now →
-        IsRowsOf rows.new defs (insert states key.now new.now)) }
+    requires room { HasRoomFor rows.old key.now old.now new.now }
+    ensures stands { OnOk result (IfRowsOf rows.old (λ defs states. state_in states key.now ≡ old.now →
+        IsRowsOf rows.new defs (insert states key.now new.now))) }
     ensures broken { IfErr result (λ refusal. refusal ≡ Broken) }
-    ensures differing { WithinUpdates (differing old.now new.now * updates_each (definitions_of rows.old)) meter.old meter.new }
-    ensures looks { Within (differing old.now new.now * updates_each (definitions_of rows.old)) (differing old.now new.now * looks_each (definitions_of rows.old)) meter.old meter.new }
-    ensures most { WithinUpdates ((len old.now.siblings + len new.now.siblings) * updates_each (definitions_of rows.old)) meter.old meter.new }
+    ensures differing { WithinUpdates (differing old.now new.now * updates_each (definitions_of rows.old))
+        meter.old meter.new }
+    ensures looks { Within (differing old.now new.now * updates_each (definitions_of rows.old))
+        (differing old.now new.now * looks_each (definitions_of rows.old)) meter.old meter.new }
+    ensures most { WithinUpdates ((len old.now.siblings + len new.now.siblings) * updates_each (definitions_of rows.old))
+        meter.old meter.new }
 {
     match rows.replace(key, old.siblings(), new.siblings(), meter) {
         Ok(()) => Ok(()),
@@ -56,14 +56,14 @@ pub fn find(
     after: Option<(Key, Dot)>,
     meter: &mut Meter,
 ) -> Result<(Vec<Place>, bool), Refusal>
-    ensures found { IfOk result (λ page. (defs : Definitions) (states : FinMap key_cmp State) → IsRowsOf rows.now defs states →
-        find_answer defs (visible_in states) field.now term.now after ≡ Ok (page.0.items, page.1)) }
-    ensures refused { IfErr result (λ refusal. refusal ≢ Memory → (defs : Definitions) (states : FinMap key_cmp State) → IsRowsOf rows.now defs states →
-        find_answer defs (visible_in states) field.now term.now after ≡ Err refusal) }
+    ensures found { IfOk result (λ page. IfRowsOf rows.now (λ defs states.
+        find_answer defs (visible_in states) field.now term.now after ≡ Ok (page.0.items, page.1))) }
+    ensures refused { IfErr result (λ refusal. refusal ≢ Memory → IfRowsOf rows.now (λ defs states.
+        find_answer defs (visible_in states) field.now term.now after ≡ Err refusal)) }
     ensures counts { Within 0 1002 meter.old meter.new }
     ensures none { IfErr result (λ refusal. refusal ≢ Memory → Within 0 0 meter.old meter.new) }
-    ensures given { IfOk result (λ page. (defs : Definitions) (states : FinMap key_cmp State) → IsRowsOf rows.now defs states →
-        Within 0 (length page.0.items + 2) meter.old meter.new) }
+    ensures given { IfOk result (λ page. IfRowsOf rows.now (λ _ _.
+        Within 0 (length page.0.items + 2) meter.old meter.new)) }
 {
     let Some(index) = rows.index_of(field) else {
         return Err(Refusal::NoIndex);
@@ -86,14 +86,14 @@ pub fn range(
     after: Option<Place>,
     meter: &mut Meter,
 ) -> Result<(Vec<Place>, bool), Refusal>
-    ensures found { IfOk result (λ page. (defs : Definitions) (states : FinMap key_cmp State) → IsRowsOf rows.now defs states →
-        range_answer defs (visible_in states) field.now from.now to.now after ≡ Ok (page.0.items, page.1)) }
-    ensures refused { IfErr result (λ refusal. refusal ≢ Memory → (defs : Definitions) (states : FinMap key_cmp State) → IsRowsOf rows.now defs states →
-        range_answer defs (visible_in states) field.now from.now to.now after ≡ Err refusal) }
+    ensures found { IfOk result (λ page. IfRowsOf rows.now (λ defs states.
+        range_answer defs (visible_in states) field.now from.now to.now after ≡ Ok (page.0.items, page.1))) }
+    ensures refused { IfErr result (λ refusal. refusal ≢ Memory → IfRowsOf rows.now (λ defs states.
+        range_answer defs (visible_in states) field.now from.now to.now after ≡ Err refusal)) }
     ensures counts { Within 0 1002 meter.old meter.new }
     ensures none { IfErr result (λ refusal. refusal ≢ Memory → Within 0 0 meter.old meter.new) }
-    ensures given { IfOk result (λ page. (defs : Definitions) (states : FinMap key_cmp State) → IsRowsOf rows.now defs states →
-        Within 0 (length page.0.items + 2) meter.old meter.new) }
+    ensures given { IfOk result (λ page. IfRowsOf rows.now (λ _ _.
+        Within 0 (length page.0.items + 2) meter.old meter.new)) }
 {
     let Some(index) = rows.index_of(field) else {
         return Err(Refusal::NoIndex);
@@ -111,7 +111,8 @@ pub fn row(
     term: &Term,
     meter: &mut Meter,
 ) -> Result<(u64, i128, Option<(i64, i64)>), Refusal>
-    ensures row { (defs : Definitions) (states : FinMap key_cmp State) → IsRowsOf rows.now defs states → result ≡ row_answer defs (visible_in states) name.now term.now }
+    ensures row { IfRowsOf rows.now (λ defs states.
+        result ≡ row_answer defs (visible_in states) name.now term.now) }
     ensures counts { Within 0 1 meter.old meter.new }
     ensures none { IfErr result (λ _. Within 0 0 meter.old meter.new) }
 {
@@ -130,10 +131,10 @@ pub fn rows(
     after: Option<Term>,
     meter: &mut Meter,
 ) -> Result<(Vec<ShownRow>, bool), Refusal>
-    ensures found { IfOk result (λ page. (defs : Definitions) (states : FinMap key_cmp State) → IsRowsOf rows.now defs states →
-        rows_answer defs (visible_in states) name.now after ≡ Ok (page.0.items, page.1)) }
-    ensures refused { IfErr result (λ refusal. refusal ≢ Memory → (defs : Definitions) (states : FinMap key_cmp State) → IsRowsOf rows.now defs states →
-        rows_answer defs (visible_in states) name.now after ≡ Err refusal) }
+    ensures found { IfOk result (λ page. IfRowsOf rows.now (λ defs states.
+        rows_answer defs (visible_in states) name.now after ≡ Ok (page.0.items, page.1))) }
+    ensures refused { IfErr result (λ refusal. refusal ≢ Memory → IfRowsOf rows.now (λ defs states.
+        rows_answer defs (visible_in states) name.now after ≡ Err refusal)) }
     ensures counts { Within 0 1002 meter.old meter.new }
     ensures none { IfErr result (λ refusal. refusal ≢ Memory → Within 0 0 meter.old meter.new) }
     ensures given { IfOk result (λ page. Within 0 (length page.0.items + 2) meter.old meter.new) }

@@ -6,17 +6,22 @@ use std::test::Fail;
 const INDEXES: &[Case] = &[
     (
         "terms are found and ranged over in their order",
-        "sites 1\nindex n\nput 1 a - {\"n\":null}\nput 1 b - {\"n\":true}\nput 1 c - {\"n\":-1}\nput 1 d - {\"n\":10}\nput 1 e - {\"n\":\"10\"}\nput 1 f - {\"n\":[1]}\nput 1 g - {}\nfind 1 n 10\nfind 1 n false\nrange 1 n [null,10]\nrange 1 n [10,null]\nfind 1 m 1\nfind 1 n x\n",
-        "dot 1:1\ndot 1:1\ndot 1:1\ndot 1:1\ndot 1:1\ndot 1:1\ndot 1:1\nd 1:1\nnone\nnull a 1:1\ntrue b 1:1\n-1 c 1:1\n10 d 1:1\nnone\nrefused 12 NoIndex\nrefused 15 BadTerm\n",
+        "sites 1\nindex n\nput 1 a - {\"n\":null}\nput 1 b - {\"n\":true}\nput 1 c - {\"n\":-1}\n\
+        put 1 d - {\"n\":10}\nput 1 e - {\"n\":\"10\"}\nput 1 f - {\"n\":[1]}\nput 1 g - {}\nfind 1 n 10\n\
+        find 1 n false\nrange 1 n [null,10]\nrange 1 n [10,null]\nfind 1 m 1\nfind 1 n x\n",
+        "dot 1:1\ndot 1:1\ndot 1:1\ndot 1:1\ndot 1:1\ndot 1:1\ndot 1:1\nd 1:1\nnone\nnull a 1:1\ntrue b 1:1\n\
+        -1 c 1:1\n10 d 1:1\nnone\nrefused 12 NoIndex\nrefused 15 BadTerm\n",
     ),
     (
         "field paths go through objects",
-        "sites 1\nindex addr.city\nput 1 a - {\"addr\":{\"city\":\"Oslo\"}}\nput 1 b - {\"addr\":\"Oslo\"}\nput 1 c - {\"addr.city\":\"Oslo\"}\nfind 1 addr.city \"Oslo\"\nfind 1 a..b 1\n",
+        "sites 1\nindex addr.city\nput 1 a - {\"addr\":{\"city\":\"Oslo\"}}\nput 1 b - {\"addr\":\"Oslo\"}\n\
+        put 1 c - {\"addr.city\":\"Oslo\"}\nfind 1 addr.city \"Oslo\"\nfind 1 a..b 1\n",
         "dot 1:1\ndot 1:1\ndot 1:1\na 1:1\nrefused 37 BadDefs\n",
     ),
     (
         "a sibling that is superseded leaves its place",
-        "sites 1\nindex n\nput 1 a - {\"n\":1}\nput 1 a - {\"n\":1}\nfind 1 n 1\nput 1 a @ {\"n\":2}\nfind 1 n 1\nfind 1 n 2\ndel 1 a @\nfind 1 n 2\n",
+        "sites 1\nindex n\nput 1 a - {\"n\":1}\nput 1 a - {\"n\":1}\nfind 1 n 1\nput 1 a @ {\"n\":2}\n\
+        find 1 n 1\nfind 1 n 2\ndel 1 a @\nfind 1 n 2\n",
         "dot 1:1\ndot 1:2\na 1:1\na 1:2\ndot 1:3\nnone\na 1:3\nok\nnone\n",
     ),
 ];
@@ -24,17 +29,26 @@ const INDEXES: &[Case] = &[
 const VIEWS: &[Case] = &[
     (
         "all siblings of a key count, and a row that is left by all goes",
-        "sites 1\nview spend city amount\nput 1 a - {\"amount\":5,\"city\":\"Oslo\"}\nput 1 a - {\"amount\":-7,\"city\":\"Oslo\"}\nput 1 b - {\"city\":\"Oslo\"}\nrows 1 spend\nput 1 a @ {\"city\":\"Rome\"}\nput 1 b @ {\"city\":\"Rome\"}\nrows 1 spend\nrow 1 spend \"Oslo\"\nrow 1 other \"Oslo\"\n",
-        "dot 1:1\ndot 1:2\ndot 1:1\n\"Oslo\" 3 -2 -7 5\ndot 1:3\ndot 1:2\n\"Rome\" 2 0 - -\n0 0 - -\nrefused 13 NoView\n",
+        "sites 1\nview spend city amount\nput 1 a - {\"amount\":5,\"city\":\"Oslo\"}\n\
+        put 1 a - {\"amount\":-7,\"city\":\"Oslo\"}\nput 1 b - {\"city\":\"Oslo\"}\nrows 1 spend\n\
+        put 1 a @ {\"city\":\"Rome\"}\nput 1 b @ {\"city\":\"Rome\"}\nrows 1 spend\nrow 1 spend \"Oslo\"\n\
+        row 1 other \"Oslo\"\n",
+        "dot 1:1\ndot 1:2\ndot 1:1\n\"Oslo\" 3 -2 -7 5\ndot 1:3\ndot 1:2\n\"Rome\" 2 0 - -\n0 0 - -\n\
+        refused 13 NoView\n",
     ),
     (
         "the least and the greatest number follow what comes and goes",
-        "sites 1\nview v city n\nput 1 a - {\"city\":\"Oslo\",\"n\":5}\nput 1 b - {\"city\":\"Oslo\",\"n\":9}\nput 1 c - {\"city\":\"Oslo\",\"n\":7}\nrows 1 v\ndel 1 b @\nrows 1 v\nput 1 d - {\"city\":\"Oslo\",\"n\":5}\nrows 1 v\ndel 1 a @\nrows 1 v\n",
-        "dot 1:1\ndot 1:1\ndot 1:1\n\"Oslo\" 3 21 5 9\nok\n\"Oslo\" 2 12 5 7\ndot 1:1\n\"Oslo\" 3 17 5 7\nok\n\"Oslo\" 2 12 5 7\n",
+        "sites 1\nview v city n\nput 1 a - {\"city\":\"Oslo\",\"n\":5}\nput 1 b - {\"city\":\"Oslo\",\"n\":9}\n\
+        put 1 c - {\"city\":\"Oslo\",\"n\":7}\nrows 1 v\ndel 1 b @\nrows 1 v\n\
+        put 1 d - {\"city\":\"Oslo\",\"n\":5}\nrows 1 v\ndel 1 a @\nrows 1 v\n",
+        "dot 1:1\ndot 1:1\ndot 1:1\n\"Oslo\" 3 21 5 9\nok\n\"Oslo\" 2 12 5 7\ndot 1:1\n\"Oslo\" 3 17 5 7\nok\n\
+        \"Oslo\" 2 12 5 7\n",
     ),
     (
         "one put in place of two siblings",
-        "sites 1\nview spend city amount\nindex city\nput 1 a - {\"amount\":5,\"city\":\"Oslo\"}\nput 1 a - {\"amount\":-7,\"city\":\"Oslo\"}\nput 1 b - {\"city\":\"Oslo\"}\nput 1 a @ {\"city\":\"Oslo\"}\nrows 1 spend\nfind 1 city \"Oslo\"\n",
+        "sites 1\nview spend city amount\nindex city\nput 1 a - {\"amount\":5,\"city\":\"Oslo\"}\n\
+        put 1 a - {\"amount\":-7,\"city\":\"Oslo\"}\nput 1 b - {\"city\":\"Oslo\"}\n\
+        put 1 a @ {\"city\":\"Oslo\"}\nrows 1 spend\nfind 1 city \"Oslo\"\n",
         "dot 1:1\ndot 1:2\ndot 1:1\ndot 1:3\n\"Oslo\" 2 0 - -\na 1:3\nb 1:1\n",
     ),
 ];

@@ -56,8 +56,10 @@ const BASICS: &[Case] = &[
     ),
     (
         "two blind puts are siblings, and a third that has read both replaces them",
-        "sites 2\nput 1 k - {\"v\":1}\nput 2 k - {\"v\":2}\nsend 2 k\nrecv 1 1\nget 1 k\nput 1 k @ {\"v\":3}\nget 1 k\n",
-        "dot 1:1\ndot 2:1\nmessage 1\nok\ncontext 1:1,2:1\n1:1 {\"v\":1}\n2:1 {\"v\":2}\ndot 1:2\ncontext 1:2,2:1\n1:2 {\"v\":3}\n",
+        "sites 2\nput 1 k - {\"v\":1}\nput 2 k - {\"v\":2}\nsend 2 k\nrecv 1 1\nget 1 k\nput 1 k @ {\"v\":3}\n\
+        get 1 k\n",
+        "dot 1:1\ndot 2:1\nmessage 1\nok\ncontext 1:1,2:1\n1:1 {\"v\":1}\n2:1 {\"v\":2}\ndot 1:2\n\
+        context 1:2,2:1\n1:2 {\"v\":3}\n",
     ),
     (
         "a delete overtakes its put",
@@ -71,13 +73,18 @@ const BASICS: &[Case] = &[
     ),
     (
         "a delete removes only what was seen",
-        "sites 2\nput 1 k - {\"a\":1}\nsend 1 k\nrecv 2 1\ndel 2 k @\nput 1 k - {\"a\":2}\nsend 1 k\nsend 2 k\nrecv 2 2\nrecv 1 3\nget 1 k\nget 2 k\n",
-        "dot 1:1\nmessage 1\nok\nok\ndot 1:2\nmessage 2\nmessage 3\nok\nok\ncontext 1:2\n1:2 {\"a\":2}\ncontext 1:2\n1:2 {\"a\":2}\n",
+        "sites 2\nput 1 k - {\"a\":1}\nsend 1 k\nrecv 2 1\ndel 2 k @\nput 1 k - {\"a\":2}\nsend 1 k\nsend 2 k\n\
+        recv 2 2\nrecv 1 3\nget 1 k\nget 2 k\n",
+        "dot 1:1\nmessage 1\nok\nok\ndot 1:2\nmessage 2\nmessage 3\nok\nok\ncontext 1:2\n1:2 {\"a\":2}\n\
+        context 1:2\n1:2 {\"a\":2}\n",
     ),
     (
         "a message that comes again changes nothing",
-        "sites 2\nput 1 k - {\"v\":1}\nput 2 k - {\"v\":2}\nsend 2 k\nrecv 1 1\nroot 1\nrecv 1 1\nrecv 1 1\nrecv 1 1\nroot 1\nget 1 k\n",
-        "dot 1:1\ndot 2:1\nmessage 1\nok\n886da2412097c18c39ad0a4bd1827a9efe5d5c91c03b91a0b3b7b8c0a8a97000\nok\nok\nok\n886da2412097c18c39ad0a4bd1827a9efe5d5c91c03b91a0b3b7b8c0a8a97000\ncontext 1:1,2:1\n1:1 {\"v\":1}\n2:1 {\"v\":2}\n",
+        "sites 2\nput 1 k - {\"v\":1}\nput 2 k - {\"v\":2}\nsend 2 k\nrecv 1 1\nroot 1\nrecv 1 1\nrecv 1 1\n\
+        recv 1 1\nroot 1\nget 1 k\n",
+        "dot 1:1\ndot 2:1\nmessage 1\nok\n886da2412097c18c39ad0a4bd1827a9efe5d5c91c03b91a0b3b7b8c0a8a97000\nok\n\
+        ok\nok\n886da2412097c18c39ad0a4bd1827a9efe5d5c91c03b91a0b3b7b8c0a8a97000\ncontext 1:1,2:1\n\
+        1:1 {\"v\":1}\n2:1 {\"v\":2}\n",
     ),
     (
         "a put that was covered before it came stays invisible",
@@ -124,8 +131,10 @@ const LIMITS: &[Case] = &[
     ),
     (
         "forged contexts",
-        "sites 2\nput 1 k 2:0+7 {\"v\":1}\nsend 1 k\nrecv 2 1\nput 2 k - {\"v\":2}\nget 2 k\nput 1 k 2:8 {\"v\":3}\nsend 2 k\nrecv 1 2\nget 1 k\n",
-        "dot 1:1\nmessage 1\nok\ndot 2:8\ncontext 1:1,2:0+7+8\n1:1 {\"v\":1}\n2:8 {\"v\":2}\ndot 1:2\nmessage 2\nok\ncontext 1:2,2:8\n1:1 {\"v\":1}\n1:2 {\"v\":3}\n",
+        "sites 2\nput 1 k 2:0+7 {\"v\":1}\nsend 1 k\nrecv 2 1\nput 2 k - {\"v\":2}\nget 2 k\n\
+        put 1 k 2:8 {\"v\":3}\nsend 2 k\nrecv 1 2\nget 1 k\n",
+        "dot 1:1\nmessage 1\nok\ndot 2:8\ncontext 1:1,2:0+7+8\n1:1 {\"v\":1}\n2:8 {\"v\":2}\ndot 1:2\nmessage 2\n\
+        ok\ncontext 1:2,2:8\n1:1 {\"v\":1}\n1:2 {\"v\":3}\n",
     ),
     (
         "wide sites",
@@ -138,7 +147,10 @@ const NODES: &[Case] = &[
     (
         "nodes of the hash tree, as SHA-256 gives them",
         "sites 1\nput 1 abc - {}\nnode 1 ba8\nnode 1 ba7\nnode 1 ba\nnode 1 -\n",
-        "dot 1:1\n0000000000000000000000000000000000000000000000000000000000000000\n57b496402e74bd3514d5dd13d7995b0795902e49914cd378b01c7a8a2b4da60e\n96ca74c5aa29e21c3d4b099483b58f6a4e39d234021352d34735de76796e63d3\n0bbd072618d939960857918444b01f18dddc3efa96f7b34854a4e6d4e866d107\n",
+        "dot 1:1\n0000000000000000000000000000000000000000000000000000000000000000\n\
+        57b496402e74bd3514d5dd13d7995b0795902e49914cd378b01c7a8a2b4da60e\n\
+        96ca74c5aa29e21c3d4b099483b58f6a4e39d234021352d34735de76796e63d3\n\
+        0bbd072618d939960857918444b01f18dddc3efa96f7b34854a4e6d4e866d107\n",
     ),
     (
         "paths that are none",
@@ -167,7 +179,8 @@ const FORMS: &[Case] = &[
     (
         "contexts that are not in their one form",
         "sites 1\ndel 1 k 1:0\ndel 1 k 1:1+2\ndel 1 k 2:1,1:1\ndel 1 k 1:01\ndel 1 k 0:1\n",
-        "refused 2 BadContext\nrefused 2 BadContext\nrefused 2 BadContext\nrefused 2 BadContext\nrefused 2 BadContext\n",
+        "refused 2 BadContext\nrefused 2 BadContext\nrefused 2 BadContext\nrefused 2 BadContext\n\
+        refused 2 BadContext\n",
     ),
     (
         "the greatest site and number of keys",

@@ -1,5 +1,3 @@
-pub mod Pieces
-pub mod Typing
 pub mod Following
 pub mod Clients
 pub mod Watching

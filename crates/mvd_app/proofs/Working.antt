@@ -1,13 +1,13 @@
 -- Whatever a command does with a stored site keeps the writes known, and its records follow.
 use Rattle.std.proofs.Common.{◌≡◌, ℕ, List, [], ◌∷◌, subst, sym}
-use Rattle.mvd_keys.specs.Writes.{Write}
 use Rattle.mvd_replica.proofs.Keeping.{keeps_on, keeps_self, pushes_keep, turns_keep}
 use Rattle.mvd_replica.specs.Batch.{lost_requests}
-use Rattle.mvd_replica.specs.Programs.{HoldsMore, KeepsWrites, WorksOn}
+use Rattle.mvd_replica.specs.Programs.{KeepsFile, KeepsWrites, WorksOn}
 use Rattle.mvd_replica.specs.Replicas.{site_of, stored_of}
 use Rattle.mvd_replica.specs.declared.replica.Replica.{Replica}
 use Rattle.sqlite_disk.specs.declared.Disk as disk
 use Rattle.sqlite_disk.specs.declared.Files.{Files}
+use Rattle.sqlite.specs.Recovery.{Image}
 use Rattle.sqlite_trees.specs.declared.store.Store.{Ghosts}
 use Rattle.mvd_script.specs.Asked.{Exchange}
 use Rattle.mvd_app.specs.Stored.{FollowsPushed, IsServed}
@@ -56,5 +56,5 @@ module _ {S : Type 0} {g : Ghosts S} where
   }
 
 -- the site that a configuration names
-pub of_number : {D : Type 0} {g : disk.Ghosts D} (number site : ℕ) (known : List Write) (files : Files D) → number ≡ site → HoldsMore g number known files → HoldsMore g site known files
-of_number {g = g} number site known files same it = subst (λ n. HoldsMore g n known files) same it
+pub of_number : {D : Type 0} {g : disk.Ghosts D} (image : Image) (number site : ℕ) (files : Files D) → number ≡ site → KeepsFile g image number files → KeepsFile g image site files
+of_number {g = g} image number site files same it = subst (λ n. KeepsFile g image n files) same it

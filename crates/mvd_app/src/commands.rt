@@ -1,10 +1,10 @@
 //! What a command line asks for, done: with standard input and output, files and sockets.
 ghost use Rattle.std.specs.Prelude.{◌≡◌, IfOk, None};
-ghost use Rattle.mvd_app.specs.Stored.{FollowsAsked};
+ghost use Rattle.mvd_app.specs.Stored.{FollowsAsked, stored_site};
 ghost use Rattle.mvd_replica.specs.ReplicaCalls.{ReplicaAnswers};
 ghost use Rattle.mvd_script.specs.Talk.{Asks};
 ghost use Rattle.mvd_input.specs.Orders.{IsInRange, IsSetUp};
-ghost use Rattle.mvd_replica.specs.Programs.{LeavesFile, WorksOn};
+ghost use Rattle.mvd_replica.specs.Programs.{GivesBack, LeavesFile, WorksOn};
 ghost use Rattle.mvd_rows.specs.Defs.{no_definitions};
 ghost use Rattle.mvd_replica.specs.Replicas.{stored_of};
 ghost use Rattle.sqlite.specs.WalFiles.{image_at};
@@ -13,13 +13,12 @@ use crate::hint::{Hint, Stop};
 use crate::looping::loop_run;
 use crate::many::{Terms, serve_run};
 use crate::output::Output;
-use crate::peer_commands::{refused_in, sync_run, tell_report};
-use crate::shell::{remote_shell_run, shell_run};
+use crate::peer_commands::{refused_in, remote_shell_run, sync_run, tell_report};
 use mvd_dots::Refusal;
 use mvd_input::{DEFS_MAX, Fault, Order, Setup, read_defs, read_input};
 use mvd_replica::{FileFault, Replica, open_file};
 use mvd_rows::Defs;
-use mvd_script::sim;
+use mvd_script::{shell_run, sim};
 use mvd_site::Config;
 use sqlite::{Alter, FileFrom, Files, Start};
 use sqlite_disk::Disk;
@@ -35,13 +34,26 @@ enum Work {
     Sync(SocketAddr, u32, bool),
 }
 
-/// Runs an order, from standard input where it reads, and to standard output. A file that it opens holds what `start` names.
-pub fn run<'a, S: Start>(rt: &HostRuntime, order: Order<'a>, start: S) -> Result<(), Stop<'a>>
+/// Runs an order, from standard input where it reads, and to standard output. A file that it opens holds what `start` names. It
+/// gives that file and its log back, closed; `None` where the order works on no file.
+pub fn run<'a, S: Start>(
+    rt: &HostRuntime,
+    order: Order<'a>,
+    start: S,
+) -> Result<Option<Files<FileFrom<S>>>, Stop<'a>>
     requires { IsInRange order }
+    // If it ends well, and the files are clean, no write is lost that they held, of either version; and new files hold the site.
+    ensures kept { IfOk result (GivesBack ⟦<FileFrom<S> as Disk>⟧ (image_at S.Start) (stored_site order.entry)) }
 {
     match order {
-        Order::Sim => run_sim(rt),
-        Order::Loop(setup) => run_loop(rt, setup),
+        Order::Sim => {
+            run_sim(rt)?;
+            Ok(None)
+        }
+        Order::Loop(setup) => {
+            run_loop(rt, setup)?;
+            Ok(None)
+        }
         Order::Serve {
             db,
             setup,
@@ -51,14 +63,13 @@ pub fn run<'a, S: Start>(rt: &HostRuntime, order: Order<'a>, start: S) -> Result
             http,
         } => {
             let work = Work::Serve(address, Terms { http, conns, idle });
-            run_stored(rt, db, setup, work, start)?;
-            Ok(())
+            Ok(Some(run_stored(rt, db, setup, work, start)?))
         }
-        Order::Shell { db, setup } => {
-            run_stored(rt, db, setup, Work::Shell, start)?;
-            Ok(())
+        Order::Shell { db, setup } => Ok(Some(run_stored(rt, db, setup, Work::Shell, start)?)),
+        Order::RemoteShell { address, idle } => {
+            run_remote_shell(rt, address, idle)?;
+            Ok(None)
         }
-        Order::RemoteShell { address, idle } => run_remote_shell(rt, address, idle),
         Order::Sync {
             db,
             setup,
@@ -67,8 +78,7 @@ pub fn run<'a, S: Start>(rt: &HostRuntime, order: Order<'a>, start: S) -> Result
             verbose,
         } => {
             let work = Work::Sync(address, idle, verbose);
-            run_stored(rt, db, setup, work, start)?;
-            Ok(())
+            Ok(Some(run_stored(rt, db, setup, work, start)?))
         }
     }
 }

@@ -10,13 +10,14 @@ mod talks;
 mod timers;
 
 use crate::hint::Stop;
-use crate::peer_commands::{print_root, tell};
+use crate::peer_commands::print_root;
 use crowd::Crowd;
 use door::{Door, FRAMES, HTTP};
 use mio::{Events, Poll};
 use mvd_dots::Refusal;
 use mvd_input::Fault;
 use mvd_replica::Replica;
+use mvd_script::tell;
 use sqlite::Alter;
 use std::alloc::Global;
 use std::fmt::Write as Print;

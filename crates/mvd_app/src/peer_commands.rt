@@ -1,30 +1,28 @@
 //! The commands on a stored site that meet a peer.
-ghost use Rattle.std.specs.Prelude.{◌≡◌, ◌≢◌, ◌++◌, [], IfErr, IsErr, OnOk, string_bytes};
+ghost use Rattle.std.specs.Prelude.{◌≡◌, ◌≢◌, ◌++◌, [], IsErr, OnOk, string_bytes};
 ghost use Rattle.std.specs.Io.KnownBytes.{Appends};
-ghost use Rattle.mvd_dots.specs.declared.refusals.Refusal.TheVariants.{WriteFailed};
 ghost use Rattle.mvd_app.specs.Reported.{Reports, refused_text, root_text, session_text};
 ghost use Rattle.mvd_app.specs.Stored.{FollowsPushed};
 ghost use Rattle.mvd_app.specs.Synced.{MeetsFar};
-ghost use Rattle.mvd_input.specs.declared.fault.Fault.TheVariants.{Stopped};
-ghost use Rattle.mvd_input.specs.Ends.{EndsEarly};
 ghost use Rattle.mvd_replica.specs.Replicas.{site_of};
 ghost use Rattle.mvd_replica.specs.Sides.{IsTrueSite};
 ghost use Rattle.mvd_sync.specs.Lines.{IsTrueRemote};
 
-use crate::hint::{Older, Stop};
+use crate::hint::{Hint, Older, Stop};
 use crate::link::Link;
 use crate::progress::Watched;
 use mvd_dots::Refusal;
-use mvd_input::{Fault, write_out};
+use mvd_input::Fault;
 use mvd_keys::Path;
 use mvd_print::print_keys;
 use mvd_replica::{Replica, is_foreign};
+use mvd_script::{shell_run, tell};
 use mvd_site::Config;
 use mvd_sync::{Left, Line, Remote, Report, Side, SyncFault, sync};
 use sqlite::{Alter, Connection};
 use std::alloc::Global;
 use std::fmt::Write as Print;
-use std::io::{self, Read, Write};
+use std::io::{self, BufRead, Read, Write};
 use std::net::{Net, OpenStream, SocketAddr};
 use std::time::Duration;
 
@@ -216,16 +214,27 @@ pub fn print_root<S: Alter + Drop>(
     Ok(())
 }
 
-/// Writes the lines at once, and begins anew.
-pub fn tell<W: Write>(writer: &mut W, lines: &mut String) -> Result<(), Fault>
-    ensures told { OnOk result (Appends (W.contents writer.old) (W.contents writer.new) (string_bytes lines.old)) }
-    ensures failed { IfErr result (λ fault. fault ≡ Stopped WriteFailed) }
-    ensures ends { IfErr result EndsEarly }
-{
-    write_out(writer, lines.as_str())?;
-    lines.clear();
-    match writer.flush() {
+/// Answers the lines through the server at an address, and says Bye at their end. Where the connection was lost, each later line is
+/// refused so, and so is the Bye.
+pub fn remote_shell_run<'a, N: Net, R: BufRead, W: Write>(
+    rt: &N,
+    alloc: Global,
+    address: SocketAddr,
+    idle: u32,
+    reader: &mut R,
+    writer: &mut W,
+) -> Result<(), Stop<'a>> {
+    let stream = match connected(rt, address, idle) {
+        Ok(stream) => stream,
+        Err(error) => return Err(Stop::unanswered(address, error)),
+    };
+    let link = Link::new(alloc, stream)?;
+    let mut remote = Remote::new(alloc, link.incoming(alloc)?, link.outgoing());
+    if let Err(fault) = shell_run(alloc, &mut remote, reader, writer) {
+        return Err(Stop::in_input(fault, Hint::Script));
+    }
+    match remote.bye() {
         Ok(()) => Ok(()),
-        Err(_) => Err(Fault::Stopped(Refusal::WriteFailed)),
+        Err(refusal) => Err(Stop::at_server(address, refusal)),
     }
 }

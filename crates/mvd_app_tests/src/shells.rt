@@ -1,8 +1,9 @@
 //! Lines that are typed, and what they print.
-use mvd_app::{replica_in, shell_run};
+use mvd_app::replica_in;
 use mvd_dots::Refusal;
 use mvd_input::{Fault, read_defs};
 use mvd_replica::Replica;
+use mvd_script::shell_run;
 use mvd_site::Config;
 use sqlite::{Connection, MemStore};
 use std::alloc::Global;

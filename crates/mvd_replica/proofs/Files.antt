@@ -48,6 +48,7 @@ same_database a b p q same =
 
 pub found_in : (image : Image) (s : State) → FindsIn image s → IsDatabase s.committed → IsFoundIn image s.committed
 found_in image s found sound = record {
+  sound = sound;
   holds = λ db it. same_database s.committed db sound it.sound (∥∥₁_elim it.trees (Trees-set _ _) (λ held. found.holds db.trees held));
   reads = found.reads;
 }

@@ -27,8 +27,10 @@ pub record HoldsFile (image : Image) (site : ℕ) (states : States) : Type 0 whe
   pub held : HoldsImage image db
   pub holds : HoldsStates site states db
 
--- The database that was found is the one that the image holds, if it holds one. Else the image held none yet, and it is empty
+-- The database that was found is the one that the image holds, if it holds one. Else the image held none yet, and it is empty.
+-- It lists its schema, and obeys it
 pub record IsFoundIn (image : Image) (was : Database) : Type 0 where
+  pub sound : IsDatabase was
   pub holds : (db : Database) → HoldsImage image db → was ≡ db
   pub reads : AreFoundIn image was.trees
 

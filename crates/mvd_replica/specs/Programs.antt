@@ -1,21 +1,23 @@
 -- A program on a file: it opens the site that the file holds, works on it, and closes it.
-use Rattle.std.specs.Prelude.{◌≡◌, Bool, true, false, ℕ, List, ◌++◌}
+use Rattle.std.specs.Prelude.{◌≡◌, Bool, true, false, ℕ, List, [], ◌++◌, Option, Some, None}
 use Rattle.mvd_keys.specs.Writes.{Stands, Write}
 use Rattle.mvd_wire.specs.declared.request.Request.{Request}
-use Rattle.mvd_records.specs.Records.{IsSound}
+use Rattle.mvd_records.specs.Foreign.{IsForeign}
+use Rattle.mvd_records.specs.Records.{IsOurs, IsSound}
 use Rattle.mvd_site.specs.Held.{States}
 use Rattle.mvd_site.specs.Sites.{SiteValue}
 use Rattle.sqlite_disk.specs.declared.Disk.{Ghosts}
 use Rattle.sqlite_disk.specs.declared.Files.{Files}
 use Rattle.sqlite.specs.Effect.{Database}
-use Rattle.sqlite.specs.Files.{image_of}
+use Rattle.sqlite.specs.Files.{IsEmpty, image_of}
 use Rattle.sqlite.specs.Recovery.{Image}
 use Rattle.sqlite.specs.WalFiles.{outcomes}
 use Rattle.sqlite.specs.WalReads.{AreClean}
-use Rattle.mvd_replica.specs.File.{HoldsFile}
+use Rattle.mvd_replica.specs.File.{HoldsFile, IsFoundIn}
 use Rattle.mvd_replica.specs.Kept.{HoldsSite, HoldsStates}
 use Rattle.mvd_replica.specs.Replicas.{StoredSite}
 use Rattle.mvd_replica.specs.Sides.{after_all}
+use Rattle.mvd_replica.specs.Stored.{HasJust}
 
 -- whatever writes the states stood for, they stand for these, and perhaps for more, also where the site is broken
 abbrev pub KeepsWrites : SiteValue → SiteValue → Type 0
@@ -43,9 +45,25 @@ pub record HoldsMore {D : Type 0} (g : Ghosts D) (site : ℕ) (known : List Writ
   pub seen : HoldsFile (image_of g files) site states
   pub left : (image : Image) → outcomes g files.log files.db image → HoldsFile image site states
 
--- A PROGRAM'S RUN on a file loses no write: where the files held states of this site, in version 2, it leaves such states that
--- stand for all that these stood for, and perhaps for more, if nobody else has written the files and their disk has returned what
--- was written
+-- A PROGRAM'S RUN on a file loses no write. This database was found in the files, the empty one where they held none yet
+pub record KeepsFile {D : Type 0} (g : Ghosts D) (image : Image) (site : ℕ) (files : Files D) : Type 0 where
+  pub was : Database
+  pub found : IsFoundIn image was
+  -- it is no other program's
+  pub own : ¬ IsForeign was
+  -- of new files the run makes such as hold states of this site
+  pub begins : IsEmpty was.trees → HoldsMore g site [] files
+  -- in files of ours, of either version, it leaves states that stand for all that those in it stood for, and perhaps for more
+  pub leaves : IsOurs was → (states : States) (known : List Write) → HasJust was states → Stands states known → HoldsMore g site known files
+  -- so it does where they held states of this site in version 2
+  pub keeps : (states : States) (known : List Write) → HoldsFile image site states → Stands states known → HoldsMore g site known files
+
+-- if nobody else has written the files, and their disk has returned what was written
 abbrev pub LeavesFile : {D : Type 0} → Ghosts D → Image → ℕ → Files D → Type 0
-LeavesFile g image site files = AreClean g files.log files.db → (states : States) (known : List Write) →
-    HoldsFile image site states → Stands states known → HoldsMore g site known files
+LeavesFile g image site files = AreClean g files.log files.db → KeepsFile g image site files
+
+-- The files that a command gives back: those of a site, as a run leaves them, or none where it works on none
+abbrev pub GivesBack : {D : Type 0} → Ghosts D → Image → Option ℕ → Option (Files D) → Type 0
+GivesBack g image (Some site) (Some files) = LeavesFile g image site files
+GivesBack g image None None = Unit {0}
+GivesBack g image _ _ = ⊥

@@ -1,5 +1,5 @@
 use Rattle.mvd_app.proofs.Following.{follows}
-use Rattle.mvd_app.proofs.Typing.{asks_none}
+use Rattle.mvd_script.proofs.Typing.{asks_none}
 use Rattle.mvd_app.proofs.commands.typed.Goals as goal
 
 pub returns-in-Ok : goal.returns-in-Ok

@@ -1,7 +1,7 @@
 use Rattle.std.proofs.Common.{◌≡◌, ◌<◌, ap, arith, inl, inr, length, refl, rules, subst}
 use Rattle.std.specs.Io.BufRead.{FillKeeps}
-use Rattle.mvd_app.proofs.Pieces.{fed, nothing_left, whole}
-use Rattle.mvd_app.proofs.line_reader.read_piece.Goals as goal
+use Rattle.mvd_script.proofs.Pieces.{fed, nothing_left, whole}
+use Rattle.mvd_script.proofs.line_reader.read_piece.Goals as goal
 
 pub returns-then-is_empty-clause-read : goal.returns-then-is_empty-clause-read
 returns-then-is_empty-clause-read g c =

@@ -13,10 +13,10 @@ use Rattle.mvd_input.specs.declared.fault.Fault.TheVariants.{Line, Stopped}
 use Rattle.mvd_input.specs.Hexadecimal.{lines_of}
 use Rattle.mvd_wire.specs.declared.reply.Reply.{Reply}
 use Rattle.mvd_wire.specs.declared.request.Request.{Request}
-use Rattle.mvd_app.specs.ReadLine.{CameIn, ReadsLine}
-use Rattle.mvd_app.specs.Shell.{IsNoTyped, IsUntold, Shells, TakesLine, TellAll, TellsLine, Told, no_command_text}
+use Rattle.mvd_script.specs.ReadLine.{CameIn, ReadsLine}
+use Rattle.mvd_script.specs.Shell.{At, IsNoTyped, IsUntold, Shells, TakesLine, TellAll, TellsLine, Told, at, no_command_text}
 use Rattle.mvd_script.specs.Talk.{Answered, Asks, Speaks}
-use Rattle.mvd_app.proofs.Pieces.{consumes_none, consumes_on, lines_fed, lines_one}
+use Rattle.mvd_script.proofs.Pieces.{consumes_none, consumes_on, lines_fed, lines_one}
 use Rattle.mvd_script.proofs.Running.{appends_none, appends_on}
 use Rattle.mvd_script.proofs.Talking.{answered_both, asks_none as nothing_asked}
 
@@ -28,26 +28,27 @@ module _ {A : Type 0} (Answers : A → A → Request → Reply → Type 0) where
 
   -- ---- one line
 
-  pub unread : (number : ℕ) (a : A) (input input' out : Option (List ℕ)) (line : List ℕ) (fault : Fault) → ReadsLine input input' line (Err fault) → TakesLine Answers number a a input input' out out (Err fault)
+  pub unread : (number : ℕ) (a : A) (input input' out : Option (List ℕ)) (line : List ℕ) (fault : Fault) → ReadsLine input input' line (Err fault) → TakesLine Answers number (at a input out) (at a input' out) (Err fault)
   unread number a input input' out line fault (read, came, inl is) =
-      subst (λ (f : Fault). TakesLine Answers number a a input input' out out (Err f)) (sym is) (read, came, (asks_none a, refl))
+      subst (λ (f : Fault). TakesLine Answers number (at a input out) (at a input' out) (Err f)) (sym is) (read, came, (asks_none a, refl))
   unread number a input input' out line fault (read, came, inr (inl is)) =
-      subst (λ (f : Fault). TakesLine Answers number a a input input' out out (Err f)) (sym is) (read, came, (refl, refl))
+      subst (λ (f : Fault). TakesLine Answers number (at a input out) (at a input' out) (Err f)) (sym is) (read, came, (refl, refl))
   unread number a input input' out line fault (read, came, inr (inr (is, long))) =
-      subst (λ (f : Fault). TakesLine Answers number a a input input' out out (Err f)) (sym is) (read, came, (refl, refl, inl long))
+      subst (λ (f : Fault). TakesLine Answers number (at a input out) (at a input' out) (Err f)) (sym is) (read, came, (refl, refl, inl long))
 
   came_in : (input input' : Option (List ℕ)) (line : List ℕ) (goes_on : Bool) → ReadsLine input input' line (Ok goes_on) → CameIn input input' line
   came_in input input' line true (one, short, read) = (one, inr read)
   came_in input input' line false (one, short, read, all) = (one, inl read)
 
-  pub unanswered : (number : ℕ) (old new : A) (input input' out : Option (List ℕ)) (line : List ℕ) (goes_on : Bool) (fault : Fault) → ReadsLine input input' line (Ok goes_on) → fault ≡ Stopped Memory → Asks Answers old new → TakesLine Answers number old new input input' out out (Err fault)
+  pub unanswered : (number : ℕ) (old new : A) (input input' out : Option (List ℕ)) (line : List ℕ) (goes_on : Bool) (fault : Fault) → ReadsLine input input' line (Ok goes_on) → fault ≡ Stopped Memory → Asks Answers old new
+      → TakesLine Answers number (at old input out) (at new input' out) (Err fault)
   unanswered number old new input input' out line goes_on fault reads is asks =
-      subst (λ (f : Fault). TakesLine Answers number old new input input' out out (Err f)) (sym is) (line, came_in input input' line goes_on reads, (asks, refl))
+      subst (λ (f : Fault). TakesLine Answers number (at old input out) (at new input' out) (Err f)) (sym is) (line, came_in input input' line goes_on reads, (asks, refl))
 
   pub unwritten : (number : ℕ) (old new : A) (input input' out out' : Option (List ℕ)) (line : List ℕ) (goes_on : Bool) (text : List ℕ) (fault : Fault) → ReadsLine input input' line (Ok goes_on) → fault ≡ Stopped WriteFailed → TellsLine Answers number line old new text
-      → TakesLine Answers number old new input input' out out' (Err fault)
+      → TakesLine Answers number (at old input out) (at new input' out') (Err fault)
   unwritten number old new input input' out out' line goes_on text fault reads is tells =
-      subst (λ (f : Fault). TakesLine Answers number old new input input' out out' (Err f)) (sym is) (line, came_in input input' line goes_on reads, (text, tells))
+      subst (λ (f : Fault). TakesLine Answers number (at old input out) (at new input' out') (Err f)) (sym is) (line, came_in input input' line goes_on reads, (text, tells))
 
   -- a line that is no command
   pub no_command : (number : ℕ) (line text : List ℕ) (a : A) (empty : List ℕ) → empty ≡ [] → IsNoTyped line → text ≡ empty ++ no_command_text number → TellsLine Answers number line a a text
@@ -66,46 +67,46 @@ module _ {A : Type 0} (Answers : A → A → Request → Reply → Type 0) where
       let counted : number + length (first ∷ lines) ≡ (number + 1) + length lines = omega arith in
       (between, fits, one, tell_more lines (number + 1) line between mid new texts text others short (subst (λ (n : ℕ). TellsLine Answers n line mid new text) counted tells))
 
-  told_more : (lines : List (List ℕ)) (line : List ℕ) (old mid new : A) (out now out' : Option (List ℕ)) (text : List ℕ) → Told Answers lines old mid out now → length line ≤ 16777216 → TellsLine Answers (length lines + 1) line mid new text → Appends now out' text
-      → Told Answers (lines ++ line ∷ []) old new out out'
-  told_more lines line old mid new out now out' text told short tells appends = record {
+  told_more : (lines : List (List ℕ)) (line : List ℕ) (old mid new : At A) (text : List ℕ) → Told Answers lines old mid → length line ≤ 16777216 → TellsLine Answers (length lines + 1) line mid.asked new.asked text → Appends mid.out new.out text
+      → Told Answers (lines ++ line ∷ []) old new
+  told_more lines line old mid new text told short tells appends = record {
     texts = told.texts ++ text ∷ [];
-    told = tell_more lines 1 line old mid new told.texts text told.told short (subst (λ (n : ℕ). TellsLine Answers n line mid new text) (omega arith) tells);
-    written = subst (Appends out out') (sym (concat-append told.texts (text ∷ []) ∙ ap (λ (t : List ℕ). concat told.texts ++ t) (append-nil text))) (appends_on out now out' (concat told.texts) text told.written appends);
+    told = tell_more lines 1 line old.asked mid.asked new.asked told.texts text told.told short (subst (λ (n : ℕ). TellsLine Answers n line mid.asked new.asked text) (omega arith) tells);
+    written = subst (Appends old.out new.out) (sym (concat-append told.texts (text ∷ []) ∙ ap (λ (t : List ℕ). concat told.texts ++ t) (append-nil text))) (appends_on old.out mid.out new.out (concat told.texts) text told.written appends);
   }
 
   -- The lines before the one of a number were told, and all that was read is their text
-  pub record Far (old new : A) (input input' out out' : Option (List ℕ)) (number : ℕ) : Type 0 where
+  pub record Far (old new : At A) (number : ℕ) : Type 0 where
     pub before : List (List ℕ)
     pub counted : number ≡ length before + 1
     pub text : List ℕ
-    pub read : Consumes input input' text
+    pub read : Consumes old.input new.input text
     pub lines : (more : List ℕ) → lines_of (text ++ more) ≡ before ++ lines_of more
-    pub told : Told Answers before old new out out'
+    pub told : Told Answers before old new
 
-  pub begins : (a : A) (input out : Option (List ℕ)) → Far a a input input out out 1
+  pub begins : (start : At A) → Far start start 1
   unfolding TellAll
-  begins a input out = record {
+  begins start = record {
     before = [];
     counted = refl;
     text = [];
-    read = consumes_none input;
+    read = consumes_none start.input;
     lines = λ more. refl;
-    told = record { texts = []; told = (refl, refl); written = appends_none out };
+    told = record { texts = []; told = (refl, refl); written = appends_none start.out };
   }
 
   at_number : (m n : ℕ) (line : List ℕ) (old new : A) (text : List ℕ) → m ≡ n → TellsLine Answers m line old new text → TellsLine Answers n line old new text
   at_number m n line old new text same tells = subst (λ (k : ℕ). TellsLine Answers k line old new text) same tells
 
-  pub goes_on : (old mid new : A) (input now input' out so_far out' : Option (List ℕ)) (number : ℕ) → Far old mid input now out so_far number → TakesLine Answers number mid new now input' so_far out' (Ok true) → Far old new input input' out out' (number + 1)
-  goes_on old mid new input now input' out so_far out' number far (line, text, (one, short, read), tells, appends) = record {
+  pub goes_on : (old mid new : At A) (number : ℕ) → Far old mid number → TakesLine Answers number mid new (Ok true) → Far old new (number + 1)
+  goes_on old mid new number far (line, text, (one, short, read), tells, appends) = record {
     before = far.before ++ line ∷ [];
     counted = omega (arith, far.counted, length-append far.before (line ∷ []));
     text = far.text ++ (line ++ 10 ∷ []);
-    read = consumes_on input now input' far.text (line ++ 10 ∷ []) far.read read;
+    read = consumes_on old.input mid.input new.input far.text (line ++ 10 ∷ []) far.read read;
     lines = λ more. ap lines_of (append_assoc far.text (line ++ 10 ∷ []) more ∙ ap (λ (t : List ℕ). far.text ++ t) (append_assoc line (10 ∷ []) more)) ∙ far.lines (line ++ 10 ∷ more)
         ∙ ap (λ (ls : List (List ℕ)). far.before ++ ls) (lines_fed line more one) ∙ sym (append_assoc far.before (line ∷ []) (lines_of more));
-    told = told_more far.before line old mid new out so_far out' text far.told short (at_number number (length far.before + 1) line mid new text far.counted tells) appends;
+    told = told_more far.before line old mid new text far.told short (at_number number (length far.before + 1) line mid.asked new.asked text far.counted tells) appends;
   }
 
   all_of : (input now : Option (List ℕ)) (text line : List ℕ) → Consumes input now text → IfSome now (λ all. all ≡ line) → IfSome input (λ all. all ≡ text ++ line)
@@ -113,20 +114,20 @@ module _ {A : Type 0} (Answers : A → A → Request → Reply → Type 0) where
   all_of (Some x) None text line read is = absurd read
   all_of (Some x) (Some y) text line read is = read ∙ ap (λ (t : List ℕ). text ++ t) is
 
-  pub ends : (old mid new : A) (input now input' out so_far out' : Option (List ℕ)) (number : ℕ) (done : Unit {0}) → Far old mid input now out so_far number → TakesLine Answers number mid new now input' so_far out' (Ok false) → Shells Answers old new input input' out out' (Ok done)
-  ends old mid new input now input' out so_far out' number done far (line, text, (one, short, read, all), tells, appends) = record {
+  pub ends : (old mid new : At A) (number : ℕ) (done : Unit {0}) → Far old mid number → TakesLine Answers number mid new (Ok false) → Shells Answers old new (Ok done)
+  ends old mid new number done far (line, text, (one, short, read, all), tells, appends) = record {
     text = far.text ++ line;
-    read = consumes_on input now input' far.text line far.read read;
-    all = all_of input now far.text line far.read all;
-    lines = subst (λ (ls : List (List ℕ)). Told Answers ls old new out out') (sym (far.lines line ∙ ap (λ (ls : List (List ℕ)). far.before ++ ls) (lines_one line one)))
-        (told_more far.before line old mid new out so_far out' text far.told short (at_number number (length far.before + 1) line mid new text far.counted tells) appends);
+    read = consumes_on old.input mid.input new.input far.text line far.read read;
+    all = all_of old.input mid.input far.text line far.read all;
+    lines = subst (λ (ls : List (List ℕ)). Told Answers ls old new) (sym (far.lines line ∙ ap (λ (ls : List (List ℕ)). far.before ++ ls) (lines_one line one)))
+        (told_more far.before line old mid new text far.told short (at_number number (length far.before + 1) line mid.asked new.asked text far.counted tells) appends);
   }
 
-  breaks : (refusal : Refusal) (old mid new : A) (input now input' out so_far out' : Option (List ℕ)) (number : ℕ) (far : Far old mid input now out so_far number) (line more : List ℕ) (after : List (List ℕ)) → Consumes now input' more → lines_of more ≡ line ∷ after
-      → IsUntold Answers refusal number line mid new so_far out' → Shells Answers old new input input' out out' (Err (Stopped refusal))
-  breaks refusal old mid new input now input' out so_far out' number far line more after read is untold = record {
+  breaks : (refusal : Refusal) (old mid new : At A) (number : ℕ) (far : Far old mid number) (line more : List ℕ) (after : List (List ℕ)) → Consumes mid.input new.input more → lines_of more ≡ line ∷ after
+      → IsUntold Answers refusal number line mid new → Shells Answers old new (Err (Stopped refusal))
+  breaks refusal old mid new number far line more after read is untold = record {
     text = far.text ++ more;
-    read = consumes_on input now input' far.text more far.read read;
+    read = consumes_on old.input mid.input new.input far.text more far.read read;
     all = tt;
     lines = record {
       before = far.before;
@@ -134,24 +135,23 @@ module _ {A : Type 0} (Answers : A → A → Request → Reply → Type 0) where
       after = after;
       parts = far.lines more ∙ ap (λ (ls : List (List ℕ)). far.before ++ ls) is;
       between = mid;
-      so_far = so_far;
       told = far.told;
-      untold = subst (λ (n : ℕ). IsUntold Answers refusal n line mid new so_far out') far.counted untold;
+      untold = subst (λ (n : ℕ). IsUntold Answers refusal n line mid new) far.counted untold;
     };
   }
 
-  pub fails : (old mid new : A) (input now input' out so_far out' : Option (List ℕ)) (number : ℕ) (fault : Fault) → Far old mid input now out so_far number → TakesLine Answers number mid new now input' so_far out' (Err fault) → Shells Answers old new input input' out out' (Err fault)
-  fails old mid new input now input' out so_far out' number (Line at) far never = absurd never
-  fails old mid new input now input' out so_far out' number (Stopped refusal) far (line, (one, inl read), untold) =
-      breaks refusal old mid new input now input' out so_far out' number far line line [] read (lines_one line one) untold
-  fails old mid new input now input' out so_far out' number (Stopped refusal) far (line, (one, inr read), untold) =
-      breaks refusal old mid new input now input' out so_far out' number far line (line ++ 10 ∷ []) (lines_of []) read (lines_fed line [] one) untold
+  pub fails : (old mid new : At A) (number : ℕ) (fault : Fault) → Far old mid number → TakesLine Answers number mid new (Err fault) → Shells Answers old new (Err fault)
+  fails old mid new number (Line place) far never = absurd never
+  fails old mid new number (Stopped refusal) far (line, (one, inl read), untold) =
+      breaks refusal old mid new number far line line [] read (lines_one line one) untold
+  fails old mid new number (Stopped refusal) far (line, (one, inr read), untold) =
+      breaks refusal old mid new number far line (line ++ 10 ∷ []) (lines_of []) read (lines_fed line [] one) untold
 
   -- there are more lines than can be counted
-  pub counted_out : (old new : A) (input input' out out' : Option (List ℕ)) (number : ℕ) → Far old new input input' out out' number → number ≡ 2 ^ 64 - 1 → Shells Answers old new input input' out out' (Err (Stopped FrameTooLong))
+  pub counted_out : (old new : At A) (number : ℕ) → Far old new number → number ≡ 2 ^ 64 - 1 → Shells Answers old new (Err (Stopped FrameTooLong))
   unfolding lines_of
-  counted_out old new input input' out out' number far last =
-      breaks FrameTooLong old new new input input' input' out out' out' number far [] [] [] (consumes_none input') refl (refl, refl, inr last)
+  counted_out old new number far last =
+      breaks FrameTooLong old new new number far [] [] [] (consumes_none new.input) refl (refl, refl, inr last)
 
   -- ---- all that was asked
 
@@ -177,5 +177,5 @@ module _ {A : Type 0} (Answers : A → A → Request → Reply → Type 0) where
   all_ask (line ∷ lines) number old new (text ∷ texts) (between, short, one, others) = asks_both old between new (line_asks number line old between text one) (all_ask lines (number + 1) between new texts others)
 
   -- whatever became of the next line
-  pub far_asks : (old mid new : A) (input input' out out' : Option (List ℕ)) (number : ℕ) → Far old mid input input' out out' number → Asks Answers mid new → Asks Answers old new
-  far_asks old mid new input input' out out' number far asks = asks_both old mid new (all_ask far.before 1 old mid far.told.texts far.told.told) asks
+  pub far_asks : (old mid : At A) (new : A) (number : ℕ) → Far old mid number → Asks Answers mid.asked new → Asks Answers old.asked new
+  far_asks old mid new number far asks = asks_both old.asked mid.asked new (all_ask far.before 1 old.asked mid.asked far.told.texts far.told.told) asks

@@ -1,7 +1,7 @@
 //! Lines that come in piece by piece.
 ghost use Rattle.std.specs.Prelude.{◌≡◌, ◌≤◌, ◌++◌, [], IfErr, OnOk, length};
 ghost use Rattle.mvd_input.specs.Ends.{EndsEarly};
-ghost use Rattle.mvd_app.specs.ReadLine.{IsUnread, ReadsLine, ReadsPiece};
+ghost use Rattle.mvd_script.specs.ReadLine.{IsUnread, ReadsLine, ReadsPiece};
 
 use mvd_dots::Refusal;
 use mvd_input::{Fault, first_line};

@@ -1,23 +1,20 @@
 //! Lines that are typed, each answered at once.
 ghost use Rattle.std.specs.Prelude.{◌≡◌, ◌++◌, IfErr, OnOk, string_bytes};
-ghost use Rattle.mvd_dots.specs.declared.refusals.Refusal.TheVariants.{Memory};
+ghost use Rattle.std.specs.Io.KnownBytes.{Appends};
+ghost use Rattle.mvd_dots.specs.declared.refusals.Refusal.TheVariants.{Memory, WriteFailed};
 ghost use Rattle.mvd_input.specs.declared.fault.Fault.TheVariants.{Stopped};
 ghost use Rattle.mvd_input.specs.Ends.{EndsEarly};
-ghost use Rattle.mvd_app.specs.Shell.{Shells, TakesLine, TellsLine, no_command_text};
+ghost use Rattle.mvd_script.specs.Shell.{Shells, TakesLine, TellsLine, at, no_command_text};
 ghost use Rattle.mvd_script.specs.Talk.{Asks};
 
-use crate::hint::{Hint, Stop};
 use crate::line_reader::read_line;
-use crate::link::Link;
-use crate::peer_commands::{connected, tell};
+use crate::talk::answer;
 use mvd_dots::Refusal;
-use mvd_input::{Fault, Typed, text_of, typed_of};
-use mvd_script::answer;
-use mvd_sync::{Endpoint, Remote};
+use mvd_input::{Fault, Typed, text_of, typed_of, write_out};
+use mvd_sync::Endpoint;
 use std::alloc::Global;
 use std::fmt::Write as Print;
-use std::io::{BufRead, Read, Write};
-use std::net::{Net, SocketAddr};
+use std::io::{BufRead, Write};
 
 /// What `help` prints.
 pub const HELP: &str = "\
@@ -44,8 +41,8 @@ pub fn shell_run<A: Endpoint, R: BufRead, W: Write>(
     reader: &mut R,
     writer: &mut W,
 ) -> Result<(), Fault>
-    ensures told { Shells A.answers asked.old asked.new (R.remaining reader.old) (R.remaining reader.new)
-        (W.contents writer.old) (W.contents writer.new) result }
+    ensures told { Shells A.answers (at asked.old (R.remaining reader.old) (W.contents writer.old))
+        (at asked.new (R.remaining reader.new) (W.contents writer.new)) result }
     // Whatever ends it, only requests were asked, one after the other.
     ensures asked { Asks A.answers asked.old asked.new }
     ensures ends { IfErr result EndsEarly }
@@ -71,8 +68,8 @@ fn take_line<A: Endpoint, R: BufRead, W: Write>(
     writer: &mut W,
     out: &mut String,
 ) -> Result<bool, Fault>
-    ensures told { TakesLine A.answers number asked.old asked.new (R.remaining reader.old) (R.remaining reader.new)
-        (W.contents writer.old) (W.contents writer.new) result }
+    ensures told { TakesLine A.answers number (at asked.old (R.remaining reader.old) (W.contents writer.old))
+        (at asked.new (R.remaining reader.new) (W.contents writer.new)) result }
     ensures asked { Asks A.answers asked.old asked.new }
     ensures ends { IfErr result EndsEarly }
 {
@@ -125,27 +122,16 @@ fn print_no_command(number: u64, out: &mut String) -> Result<(), Fault>
     Ok(())
 }
 
-/// Answers the lines through the server at an address, and says Bye at their end. Where the connection was lost, each later line is
-/// refused so, and so is the Bye.
-pub fn remote_shell_run<'a, N: Net, R: BufRead, W: Write>(
-    rt: &N,
-    alloc: Global,
-    address: SocketAddr,
-    idle: u32,
-    reader: &mut R,
-    writer: &mut W,
-) -> Result<(), Stop<'a>> {
-    let stream = match connected(rt, address, idle) {
-        Ok(stream) => stream,
-        Err(error) => return Err(Stop::unanswered(address, error)),
-    };
-    let link = Link::new(alloc, stream)?;
-    let mut remote = Remote::new(alloc, link.incoming(alloc)?, link.outgoing());
-    if let Err(fault) = shell_run(alloc, &mut remote, reader, writer) {
-        return Err(Stop::in_input(fault, Hint::Script));
-    }
-    match remote.bye() {
+/// Writes the lines at once, and begins anew.
+pub fn tell<W: Write>(writer: &mut W, lines: &mut String) -> Result<(), Fault>
+    ensures told { OnOk result (Appends (W.contents writer.old) (W.contents writer.new) (string_bytes lines.old)) }
+    ensures failed { IfErr result (λ fault. fault ≡ Stopped WriteFailed) }
+    ensures ends { IfErr result EndsEarly }
+{
+    write_out(writer, lines.as_str())?;
+    lines.clear();
+    match writer.flush() {
         Ok(()) => Ok(()),
-        Err(refusal) => Err(Stop::at_server(address, refusal)),
+        Err(_) => Err(Fault::Stopped(Refusal::WriteFailed)),
     }
 }

@@ -1,6 +1,6 @@
 use Rattle.std.proofs.Common.{◌-◌, length}
-use Rattle.mvd_app.proofs.Pieces.{SoFar}
-use Rattle.mvd_app.proofs.line_reader.read_line.Given as goal
+use Rattle.mvd_script.proofs.Pieces.{SoFar}
+use Rattle.mvd_script.proofs.line_reader.read_line.Given as goal
 
 -- pieces of one line, none of them too long
 abbrev pub invariant-loop-fault : goal.invariant-loop-fault

@@ -1,5 +1,5 @@
-use Rattle.mvd_app.proofs.Typing.{unread}
-use Rattle.mvd_app.proofs.shell.take_line.Goals as goal
+use Rattle.mvd_script.proofs.Typing.{unread}
+use Rattle.mvd_script.proofs.shell.take_line.Goals as goal
 
 pub returns-clause-told : goal.returns-clause-told
 returns-clause-told g c =

@@ -5,8 +5,8 @@ use Rattle.std.specs.List.{list_any}
 use Rattle.mvd_dots.specs.declared.refusals.Refusal.TheVariants.{FrameTooLong, Memory, ReadFailed}
 use Rattle.mvd_input.specs.declared.fault.Fault.{Fault}
 use Rattle.mvd_input.specs.declared.fault.Fault.TheVariants.{Stopped}
-use Rattle.mvd_app.specs.declared.line_reader.Piece.{Piece}
-use Rattle.mvd_app.specs.declared.line_reader.Piece.TheVariants.{End, Last, Part}
+use Rattle.mvd_script.specs.declared.line_reader.Piece.{Piece}
+use Rattle.mvd_script.specs.declared.line_reader.Piece.TheVariants.{End, Last, Part}
 
 -- no line feed (10) is in the text
 abbrev pub IsOneLine : List ℕ → Type 0

@@ -8,8 +8,8 @@ use Rattle.std.proofs.BufReadLemmas.{Consumes_shown}
 use Rattle.std.proofs.lemmas.List.{append-nil, append_cancel_right, length-append, take_all, take_at}
 use Rattle.mvd_input.specs.declared.fault.Fault.{Fault}
 use Rattle.mvd_input.specs.Hexadecimal.{lines_after, lines_of, onto_first}
-use Rattle.mvd_app.specs.declared.line_reader.Piece.TheVariants.{End, Last, Part}
-use Rattle.mvd_app.specs.ReadLine.{IsOneLine, ReadsLine, ReadsPiece}
+use Rattle.mvd_script.specs.declared.line_reader.Piece.TheVariants.{End, Last, Part}
+use Rattle.mvd_script.specs.ReadLine.{IsOneLine, ReadsLine, ReadsPiece}
 
 -- ---- bytes that are read
 

@@ -115,7 +115,7 @@ fn run_stored<'a, S: Start>(
     start: S,
 ) -> Result<Files<FileFrom<S>>, Stop<'a>>
     requires { IsSetUp setup }
-    // If it ends well, and the files are clean, no write is lost that they held of this site in version 2.
+    // If it ends well, and the files are clean, no write is lost that they held, of either version; and new files hold the site.
     ensures kept { IfOk result (LeavesFile ⟦<FileFrom<S> as Disk>⟧ (image_at S.Start) setup.entry.site) }
 {
     let config = config_in(rt, setup)?;

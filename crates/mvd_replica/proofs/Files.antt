@@ -4,7 +4,7 @@ use Rattle.std.proofs.Math.Logic.{∥∥₁_elim}
 use Rattle.sqlite_catalog.proofs.ReadLemmas.{lists_once}
 use Rattle.sqlite_disk.specs.declared.Disk.{Ghosts}
 use Rattle.sqlite_disk.specs.declared.Files.{Files}
-use Rattle.sqlite.specs.Closing.{IsCopied}
+use Rattle.sqlite.specs.Closing.{HoldsAlone as Copied, IsCopied}
 use Rattle.sqlite.specs.Effect.{Database, IsDatabase}
 use Rattle.std.specs.Prelude.{IfSome}
 use Rattle.sqlite.specs.Files.{FailsToClose, FailsToOpenFiles, IsCleanLeft, IsClosed, LeavesFiles, file_state, image_of}
@@ -31,7 +31,7 @@ use Rattle.mvd_site.specs.Config.{ConfigValue}
 use Rattle.mvd_site.specs.Held.{States}
 use Rattle.mvd_site.specs.Sites.{SiteValue}
 use Rattle.mvd_records.specs.Records.{IsOurs}
-use Rattle.mvd_replica.specs.File.{ClosesFile, HoldsFile, IsFoundIn}
+use Rattle.mvd_replica.specs.File.{ClosesFile, HoldsAlone, HoldsFile, IsFoundIn}
 use Rattle.mvd_replica.specs.Kept.{HoldsStates}
 use Rattle.mvd_replica.specs.Opened.{OpensSite}
 use Rattle.mvd_replica.specs.Stops.{LeavesStates}
@@ -60,12 +60,18 @@ just_held image config was site now found opened number states file =
     let holds = subst (HoldsStates number states) (sym (found.holds file.db file.held)) file.holds in
     just_these config was site now (opened (ours_held number states was holds)) number states holds
 
--- what was copied into the files at a close is in them
+holds_alone : {image : Image} {db : Database} {site : ℕ} {states : States} → Copied image db.trees → IsDatabase db → HoldsStates site states db → HoldsAlone image site states
+holds_alone copied sound holds = record {
+  both = record { db = _; held = record { trees = copied.both; sound = sound }; holds = holds };
+  alone = record { db = _; held = record { trees = copied.alone; sound = sound }; holds = holds };
+}
+
+-- what was copied into the file at a close is in it
 pub closes : {D : Type 0} {g : Ghosts D} (c : Held (FileStore D g)) (files : Files D) → IsCopied {g = g} c files → IsDatabase (file_state {g = g} c).committed →
     ClosesFile g (file_state {g = g} c).committed files
 closes {g} c files copied sound = record {
-  seen = λ site states holds. record { db = _; held = record { trees = copied.seen.both; sound = sound }; holds = holds };
-  left = λ image may site states holds. record { db = _; held = record { trees = (copied.left image may).both; sound = sound }; holds = holds };
+  seen = λ site states holds. holds_alone copied.seen sound holds;
+  left = λ image may site states holds. holds_alone (copied.left image may) sound holds;
 }
 
 -- why there is no database of a file, with what is left of it or without

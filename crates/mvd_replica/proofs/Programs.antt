@@ -16,7 +16,7 @@ use Rattle.sqlite.specs.Files.{IsEmpty, image_of}
 use Rattle.sqlite.specs.Recovery.{Image}
 use Rattle.sqlite.specs.Schema.{Schema}
 use Rattle.mvd_replica.specs.declared.replica.Replica.{Replica}
-use Rattle.mvd_replica.specs.File.{HoldsFile, OpensFile}
+use Rattle.mvd_replica.specs.File.{HoldsAlone, HoldsFile, OpensFile}
 use Rattle.mvd_replica.specs.FileCalls.{IsClosed, file_database, file_of}
 use Rattle.mvd_replica.specs.Kept.{HoldsStates}
 use Rattle.mvd_replica.specs.Programs.{HoldsMore, KeepsFile, WorksOn}
@@ -61,8 +61,8 @@ module _ {D : Type 0} {g : Ghosts D} {f : store.Ghosts (FileStore D g)} (image :
         states = (site_of new).states;
         added = kept.0;
         stands = kept.1;
-        seen = subst (λ n. HoldsFile (image_of g files) n (site_of new).states) number (closed.file.seen _ _ now);
-        left = λ other may. subst (λ n. HoldsFile other n (site_of new).states) number (closed.file.left other may _ _ now);
+        seen = subst (λ n. HoldsAlone (image_of g files) n (site_of new).states) number (closed.file.seen _ _ now);
+        left = λ other may. subst (λ n. HoldsAlone other n (site_of new).states) number (closed.file.left other may _ _ now);
       }
 
   more_than_none : (known : List Write) → HoldsMore g config.site known files → HoldsMore g config.site [] files
@@ -77,6 +77,7 @@ module _ {D : Type 0} {g : Ghosts D} {f : store.Ghosts (FileStore D g)} (image :
     was = opened.was;
     found = opened.found;
     own = opened.own;
+    order = λ ours. (opened.opened ours).order;
     begins = λ empty. more_than_none first.0 (holds_more (empty_ours opened.was opened.found.sound empty) first.0 first.1);
     leaves = leaves;
     keeps = λ states known holds stands. (

@@ -1,7 +1,7 @@
 -- A site in a file: what the file and its log hold, as one image of both, and what opening and closing it comes to.
-use Rattle.std.specs.Prelude.{◌≡◌, ℕ}
+use Rattle.std.specs.Prelude.{◌≡◌, ℕ, []}
 use Rattle.mvd_dots.specs.declared.refusals.Refusal.{Refusal}
-use Rattle.mvd_dots.specs.declared.refusals.Refusal.TheVariants.{Damaged}
+use Rattle.mvd_dots.specs.declared.refusals.Refusal.TheVariants.{Damaged, SiteMismatch}
 use Rattle.mvd_site.specs.Config.{ConfigValue}
 use Rattle.mvd_site.specs.Held.{States}
 use Rattle.mvd_site.specs.Sites.{SiteValue}
@@ -51,9 +51,16 @@ pub record RefusesFile (image : Image) (config : ConfigValue) (e : Refusal) (now
   pub refused : IsOurs was → RefusesSite config was e now
   -- another program's database is 17, and stays as it is
   pub foreign : IsForeign was → (e ≡ Damaged) × (now ≡ was)
+  -- the records of another site stay as they are
+  pub untouched : e ≡ SiteMismatch → now ≡ was
 
--- What the database held of a site, the files hold: as they read now, and as whatever a crash leaves of them reads
+-- the file and its log hold these states, and so does the file alone
+pub record HoldsAlone (image : Image) (site : ℕ) (states : States) : Type 0 where
+  pub both : HoldsFile image site states
+  pub alone : HoldsFile (record image { log = [] }) site states
+
+-- What the database held of a site, the file holds: as it reads now, and as whatever a crash leaves of it reads
 pub record ClosesFile {D : Type 0} (g : Ghosts D) (db : Database) (files : Files D) : Type 0 where
-  pub seen : (site : ℕ) (states : States) → HoldsStates site states db → HoldsFile (image_of g files) site states
+  pub seen : (site : ℕ) (states : States) → HoldsStates site states db → HoldsAlone (image_of g files) site states
   pub left : (image : Image) → outcomes g files.log files.db image → (site : ℕ) (states : States) → HoldsStates site states db →
-      HoldsFile image site states
+      HoldsAlone image site states

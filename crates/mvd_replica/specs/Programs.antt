@@ -13,11 +13,11 @@ use Rattle.sqlite.specs.Files.{IsEmpty, image_of}
 use Rattle.sqlite.specs.Recovery.{Image}
 use Rattle.sqlite.specs.WalFiles.{outcomes}
 use Rattle.sqlite.specs.WalReads.{AreClean}
-use Rattle.mvd_replica.specs.File.{HoldsFile, IsFoundIn}
+use Rattle.mvd_replica.specs.File.{HoldsAlone, HoldsFile, IsFoundIn}
 use Rattle.mvd_replica.specs.Kept.{HoldsSite, HoldsStates}
 use Rattle.mvd_replica.specs.Replicas.{StoredSite}
 use Rattle.mvd_replica.specs.Sides.{after_all}
-use Rattle.mvd_replica.specs.Stored.{HasJust}
+use Rattle.mvd_replica.specs.Stored.{AreReadable, HasJust}
 
 -- whatever writes the states stood for, they stand for these, and perhaps for more, also where the site is broken
 abbrev pub KeepsWrites : SiteValue → SiteValue → Type 0
@@ -37,20 +37,21 @@ pub record WorksOn (old new : StoredSite) : Type 0 where
   pub stored : IsSound new.store → HoldsSite old.site old.store.committed → old.site.broken ≡ false →
       new.site.broken ≡ true → HoldsAfter new.site new.store.committed
 
--- the files hold states of the site that stand for these writes, and perhaps for more, as they read now and after a crash
+-- the file holds states of the site that stand for these writes, and perhaps for more, as it reads now and after a crash
 pub record HoldsMore {D : Type 0} (g : Ghosts D) (site : ℕ) (known : List Write) (files : Files D) : Type 0 where
   pub states : States
   pub added : List Write
   pub stands : Stands states (known ++ added)
-  pub seen : HoldsFile (image_of g files) site states
-  pub left : (image : Image) → outcomes g files.log files.db image → HoldsFile image site states
+  pub seen : HoldsAlone (image_of g files) site states
+  pub left : (image : Image) → outcomes g files.log files.db image → HoldsAlone image site states
 
 -- A PROGRAM'S RUN on a file loses no write. This database was found in the files, the empty one where they held none yet
 pub record KeepsFile {D : Type 0} (g : Ghosts D) (image : Image) (site : ℕ) (files : Files D) : Type 0 where
   pub was : Database
   pub found : IsFoundIn image was
-  -- it is no other program's
+  -- it is no other program's, and no other site's, and not damaged
   pub own : ¬ IsForeign was
+  pub order : IsOurs was → AreReadable site was
   -- of new files the run makes such as hold states of this site
   pub begins : IsEmpty was.trees → HoldsMore g site [] files
   -- in files of ours, of either version, it leaves states that stand for all that those in it stood for, and perhaps for more

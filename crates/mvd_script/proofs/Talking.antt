@@ -1,5 +1,5 @@
 -- Pages, asked for and printed one after the other.
-use Rattle.std.proofs.Common.{◌≡◌, ◌≢◌, ◌∙◌, ℕ, List, [], ◌∷◌, ◌++◌, Option, Some, None, Result, Ok, Err, refl, sym, ap, subst, subst₂, append_assoc, inl, inr, codes, Bor}
+use Rattle.std.proofs.Common.{◌≡◌, ◌≢◌, ◌∙◌, ℕ, List, [], ◌∷◌, ◌++◌, Option, Some, None, Result, Ok, Err, refl, sym, ap, subst, subst₂, append_assoc, inl, inr, codes, Bor, IfErr}
 use Rattle.std.proofs.lemmas.List.{append-nil}
 use Rattle.mvd_dots.specs.Answer.{IsAnswer, IsReading}
 use Rattle.mvd_dots.specs.Context.{DotSet}
@@ -15,7 +15,7 @@ use Rattle.mvd_wire.specs.declared.reply.Reply.{Reply}
 use Rattle.mvd_wire.specs.declared.request.Request.{Request}
 use Rattle.mvd_wire.specs.declared.request.Request.TheVariants.{Get}
 use Rattle.mvd_script.specs.Asked.{Exchange, IsRequestOf, IsWriteOf, Sees, delete_of, next_asked, put_of, question, shown}
-use Rattle.mvd_script.specs.Talk.{Answered, Asks, AsksFirst, EndsWith, Shows, ShowsPage, Speaks, SpeaksPages, TellsPage, TellsPages, Turns, text_onto}
+use Rattle.mvd_script.specs.Talk.{Answered, Asks, AsksFirst, EndsWith, MayHaveAsked, Shows, ShowsPage, Speaks, SpeaksPages, TellsPage, TellsPages, Turns, text_onto}
 use Rattle.mvd_script.specs.Told.{answer_text}
 
 no_memory : {T : Type 0} (answer : Result T Refusal) → IsAnswer (Err Memory) answer
@@ -200,6 +200,14 @@ module _ {A : Type 0} (Answers : A → A → Request → Reply → Type 0) where
 
   pub speaks_asks : (old new : A) (ask : Ask) (text text' : List ℕ) (result : Result (Unit {0}) Refusal) → Speaks Answers old new ask text text' result → Asks Answers old new
   speaks_asks old new ask text text' result speaks = record { exchanges = speaks.talks.exchanges; answered = speaks.talks.answered }
+
+  pub none_left : (a : A) (ask : Ask) (result : Result (Unit {0}) Refusal) → IfErr result (λ _. MayHaveAsked Answers a a ask)
+  none_left a ask (Ok done) = tt
+  none_left a ask (Err refusal) = inl refl
+
+  pub speaks_left : (old new : A) (ask : Ask) (text text' : List ℕ) (said result : Result (Unit {0}) Refusal) → Speaks Answers old new ask text text' said → IfErr result (λ _. MayHaveAsked Answers old new ask)
+  speaks_left old new ask text text' said (Ok done) speaks = tt
+  speaks_left old new ask text text' said (Err refusal) speaks = inr (speaks.told, speaks.talks)
 
   pub sees_shown : (old new : A) (key other : Key) (reply : Reply) (seen : Result DotSet Refusal) → IsAnswer (Ok other) (Ok key) → Answers old new (Get other) reply → IsAnswer seen (shown reply)
       → (exchanges : List Exchange) × Answered Answers exchanges old new × Sees key (codes "@") exchanges seen

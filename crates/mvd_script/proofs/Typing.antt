@@ -1,7 +1,8 @@
 -- Lines that were typed, one after the other, and what was told of them.
-use Rattle.std.proofs.Common.{◌≡◌, ◌∙◌, ◌≤◌, ◌+◌, ◌-◌, ◌^◌, ℕ, Bool, true, false, List, [], ◌∷◌, ◌++◌, IfSome, Option, Some, None, Result, Ok, Err, inl, inr, length, refl, sym, ap, subst, arith, append_assoc}
+use Rattle.std.proofs.Common.{◌≡◌, ◌∙◌, ◌≤◌, ◌+◌, ◌-◌, ◌^◌, ◌⊎◌, ℕ, Bool, true, false, List, [], ◌∷◌, ◌++◌, IfErr, IfSome, Option, Some, None, Result, Ok, Err, inl, inr, length, refl, sym, ap, subst, arith, append_assoc}
 use Rattle.std.specs.Io.KnownBytes.{Appends, Consumes}
 use Rattle.std.specs.List.{concat}
+use Rattle.std.specs.Str.{IsUtf8}
 use Rattle.std.proofs.lemmas.List.{append-nil, length-append}
 use Rattle.std.proofs.lemmas.List.Folds.{concat-append}
 use Rattle.mvd_dots.specs.declared.refusals.Refusal.{Refusal}
@@ -11,11 +12,12 @@ use Rattle.mvd_input.specs.declared.command.Typed.TheVariants.{Ask as Asked, Hel
 use Rattle.mvd_input.specs.declared.fault.Fault.{Fault}
 use Rattle.mvd_input.specs.declared.fault.Fault.TheVariants.{Line, Stopped}
 use Rattle.mvd_input.specs.Hexadecimal.{lines_of}
+use Rattle.mvd_input.specs.Lines.{IsTyped, said}
 use Rattle.mvd_wire.specs.declared.reply.Reply.{Reply}
 use Rattle.mvd_wire.specs.declared.request.Request.{Request}
 use Rattle.mvd_script.specs.ReadLine.{CameIn, ReadsLine}
-use Rattle.mvd_script.specs.Shell.{At, IsNoTyped, IsUntold, Shells, TakesLine, TellAll, TellsLine, Told, at, no_command_text}
-use Rattle.mvd_script.specs.Talk.{Answered, Asks, Speaks}
+use Rattle.mvd_script.specs.Shell.{At, IsNoTyped, IsUntold, MayTell, Shells, TakesLine, TellAll, TellsLine, Told, at, no_command_text}
+use Rattle.mvd_script.specs.Talk.{Answered, Asks, MayHaveAsked, told_text}
 use Rattle.mvd_script.proofs.Pieces.{consumes_none, consumes_on, lines_fed, lines_one}
 use Rattle.mvd_script.proofs.Running.{appends_none, appends_on}
 use Rattle.mvd_script.proofs.Talking.{answered_both, asks_none as nothing_asked}
@@ -30,7 +32,7 @@ module _ {A : Type 0} (Answers : A → A → Request → Reply → Type 0) where
 
   pub unread : (number : ℕ) (a : A) (input input' out : Option (List ℕ)) (line : List ℕ) (fault : Fault) → ReadsLine input input' line (Err fault) → TakesLine Answers number (at a input out) (at a input' out) (Err fault)
   unread number a input input' out line fault (read, came, inl is) =
-      subst (λ (f : Fault). TakesLine Answers number (at a input out) (at a input' out) (Err f)) (sym is) (read, came, (asks_none a, refl))
+      subst (λ (f : Fault). TakesLine Answers number (at a input out) (at a input' out) (Err f)) (sym is) (read, came, (inl refl, refl))
   unread number a input input' out line fault (read, came, inr (inl is)) =
       subst (λ (f : Fault). TakesLine Answers number (at a input out) (at a input' out) (Err f)) (sym is) (read, came, (refl, refl))
   unread number a input input' out line fault (read, came, inr (inr (is, long))) =
@@ -40,15 +42,24 @@ module _ {A : Type 0} (Answers : A → A → Request → Reply → Type 0) where
   came_in input input' line true (one, short, read) = (one, inr read)
   came_in input input' line false (one, short, read, all) = (one, inl read)
 
-  pub unanswered : (number : ℕ) (old new : A) (input input' out : Option (List ℕ)) (line : List ℕ) (goes_on : Bool) (fault : Fault) → ReadsLine input input' line (Ok goes_on) → fault ≡ Stopped Memory → Asks Answers old new
+  pub unanswered : (number : ℕ) (old new : A) (input input' out : Option (List ℕ)) (line : List ℕ) (goes_on : Bool) (fault : Fault) → ReadsLine input input' line (Ok goes_on) → fault ≡ Stopped Memory → MayTell Answers number line old new
       → TakesLine Answers number (at old input out) (at new input' out) (Err fault)
-  unanswered number old new input input' out line goes_on fault reads is asks =
-      subst (λ (f : Fault). TakesLine Answers number (at old input out) (at new input' out) (Err f)) (sym is) (line, came_in input input' line goes_on reads, (asks, refl))
+  unanswered number old new input input' out line goes_on fault reads is may =
+      subst (λ (f : Fault). TakesLine Answers number (at old input out) (at new input' out) (Err f)) (sym is) (line, came_in input input' line goes_on reads, (may, refl))
 
   pub unwritten : (number : ℕ) (old new : A) (input input' out out' : Option (List ℕ)) (line : List ℕ) (goes_on : Bool) (text : List ℕ) (fault : Fault) → ReadsLine input input' line (Ok goes_on) → fault ≡ Stopped WriteFailed → TellsLine Answers number line old new text
       → TakesLine Answers number (at old input out) (at new input' out') (Err fault)
   unwritten number old new input input' out out' line goes_on text fault reads is tells =
       subst (λ (f : Fault). TakesLine Answers number (at old input out) (at new input' out') (Err f)) (sym is) (line, came_in input input' line goes_on reads, (text, tells))
+
+  -- whatever was answered of a line
+  pub none_told : (number : ℕ) (line : List ℕ) (a : A) (result : Result (Unit {0}) Fault) → IfErr result (λ _. MayTell Answers number line a a)
+  none_told number line a (Ok done) = tt
+  none_told number line a (Err fault) = inl refl
+
+  pub asked_told : (number : ℕ) (line : List ℕ) (ask : Ask) (old new : A) → IsUtf8 line → IsTyped (Asked ask) (said line) → MayHaveAsked Answers old new ask → MayTell Answers number line old new
+  asked_told number line ask old new utf8 is (inl same) = inl same
+  asked_told number line ask old new utf8 is (inr (told, talks)) = inr (told_text told, inl (utf8, inr (Asked ask, is, record { told = told; talks = talks; is = refl })))
 
   -- a line that is no command
   pub no_command : (number : ℕ) (line text : List ℕ) (a : A) (empty : List ℕ) → empty ≡ [] → IsNoTyped line → text ≡ empty ++ no_command_text number → TellsLine Answers number line a a text
@@ -123,9 +134,9 @@ module _ {A : Type 0} (Answers : A → A → Request → Reply → Type 0) where
         (told_more far.before line old mid new text far.told short (at_number number (length far.before + 1) line mid.asked new.asked text far.counted tells) appends);
   }
 
-  breaks : (refusal : Refusal) (old mid new : At A) (number : ℕ) (far : Far old mid number) (line more : List ℕ) (after : List (List ℕ)) → Consumes mid.input new.input more → lines_of more ≡ line ∷ after
+  breaks : (refusal : Refusal) (old mid new : At A) (number : ℕ) (far : Far old mid number) (line more : List ℕ) (after : List (List ℕ)) → (after ≡ []) ⊎ (after ≡ [] ∷ []) → Consumes mid.input new.input more → lines_of more ≡ line ∷ after
       → IsUntold Answers refusal number line mid new → Shells Answers old new (Err (Stopped refusal))
-  breaks refusal old mid new number far line more after read is untold = record {
+  breaks refusal old mid new number far line more after last read is untold = record {
     text = far.text ++ more;
     read = consumes_on old.input mid.input new.input far.text more far.read read;
     all = tt;
@@ -133,6 +144,7 @@ module _ {A : Type 0} (Answers : A → A → Request → Reply → Type 0) where
       before = far.before;
       line = line;
       after = after;
+      last = last;
       parts = far.lines more ∙ ap (λ (ls : List (List ℕ)). far.before ++ ls) is;
       between = mid;
       told = far.told;
@@ -140,18 +152,22 @@ module _ {A : Type 0} (Answers : A → A → Request → Reply → Type 0) where
     };
   }
 
+  none_of : lines_of [] ≡ [] ∷ []
+  unfolding lines_of
+  none_of = refl
+
   pub fails : (old mid new : At A) (number : ℕ) (fault : Fault) → Far old mid number → TakesLine Answers number mid new (Err fault) → Shells Answers old new (Err fault)
   fails old mid new number (Line place) far never = absurd never
   fails old mid new number (Stopped refusal) far (line, (one, inl read), untold) =
-      breaks refusal old mid new number far line line [] read (lines_one line one) untold
+      breaks refusal old mid new number far line line [] (inl refl) read (lines_one line one) untold
   fails old mid new number (Stopped refusal) far (line, (one, inr read), untold) =
-      breaks refusal old mid new number far line (line ++ 10 ∷ []) (lines_of []) read (lines_fed line [] one) untold
+      breaks refusal old mid new number far line (line ++ 10 ∷ []) (lines_of []) (inr none_of) read (lines_fed line [] one) untold
 
   -- there are more lines than can be counted
   pub counted_out : (old new : At A) (number : ℕ) → Far old new number → number ≡ 2 ^ 64 - 1 → Shells Answers old new (Err (Stopped FrameTooLong))
   unfolding lines_of
   counted_out old new number far last =
-      breaks FrameTooLong old new new number far [] [] [] (consumes_none new.input) refl (refl, refl, inr last)
+      breaks FrameTooLong old new new number far [] [] [] (inl refl) (consumes_none new.input) refl (refl, refl, inr last)
 
   -- ---- all that was asked
 

@@ -16,7 +16,7 @@ use Rattle.mvd_wire.specs.declared.reply.Reply.{Reply}
 use Rattle.mvd_wire.specs.declared.request.Request.{Request}
 use Rattle.mvd_script.specs.declared.shell.TheConstants.{HELP}
 use Rattle.mvd_script.specs.ReadLine.{CameIn, ReadsLine}
-use Rattle.mvd_script.specs.Talk.{Asks, Prints_line}
+use Rattle.mvd_script.specs.Talk.{Prints_line}
 
 -- ---- a line
 
@@ -69,10 +69,14 @@ pub record Told {A : Type 0} (Answers : A → A → Request → Reply → Type 0
 
 -- ---- the end
 
--- Why the line of a number was not told. Memory was refused, and some of what it asks may have been asked; the reader failed; the
--- line is too long, or there are more lines than can be counted; or the writer failed, once it was answered.
+-- nothing was done of a line, or it was answered
+abbrev pub MayTell : {A : Type 0} → (A → A → Request → Reply → Type 0) → ℕ → List ℕ → A → A → Type 0
+MayTell Answers number line old new = (new ≡ old) ⊎ ((text : List ℕ) × TellsLine Answers number line old new text)
+
+-- Why the line of a number was not told. Memory was refused, before it was answered or then; the reader failed; the line is too
+-- long, or there are more lines than can be counted; or the writer failed, once it was answered.
 abbrev pub IsUntold : {A : Type 0} → (A → A → Request → Reply → Type 0) → Refusal → ℕ → List ℕ → At A → At A → Type 0
-IsUntold Answers Memory number line old new = Asks Answers old.asked new.asked × (new.out ≡ old.out)
+IsUntold Answers Memory number line old new = MayTell Answers number line old.asked new.asked × (new.out ≡ old.out)
 IsUntold Answers ReadFailed number line old new = (new.asked ≡ old.asked) × (new.out ≡ old.out)
 IsUntold Answers FrameTooLong number line old new =
     (new.asked ≡ old.asked) × (new.out ≡ old.out) × ((16777216 < length line) ⊎ (number ≡ 2 ^ 64 - 1))
@@ -85,6 +89,8 @@ pub record Breaks {A : Type 0} (Answers : A → A → Request → Reply → Type
   pub line : List ℕ
   pub after : List (List ℕ)
   pub parts : lines ≡ before ++ line ∷ after
+  -- nothing was read behind it but its line feed
+  pub last : (after ≡ []) ⊎ (after ≡ [] ∷ [])
   pub between : At A
   pub told : Told Answers before old between
   pub untold : IsUntold Answers refusal (length before + 1) line between new

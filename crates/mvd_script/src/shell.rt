@@ -4,7 +4,7 @@ ghost use Rattle.std.specs.Io.KnownBytes.{Appends};
 ghost use Rattle.mvd_dots.specs.declared.refusals.Refusal.TheVariants.{Memory, WriteFailed};
 ghost use Rattle.mvd_input.specs.declared.fault.Fault.TheVariants.{Stopped};
 ghost use Rattle.mvd_input.specs.Ends.{EndsEarly};
-ghost use Rattle.mvd_script.specs.Shell.{Shells, TakesLine, TellsLine, at, no_command_text};
+ghost use Rattle.mvd_script.specs.Shell.{MayTell, Shells, TakesLine, TellsLine, at, no_command_text};
 ghost use Rattle.mvd_script.specs.Talk.{Asks};
 
 use crate::line_reader::read_line;
@@ -87,7 +87,7 @@ fn take_line<A: Endpoint, R: BufRead, W: Write>(
 }
 
 /// Answers the line of this number, and puts what is printed of it in place of what `out` held.
-#[tactic(auto, using(crate::proofs::Typing::asks_none))]
+#[tactic(auto, using(crate::proofs::Typing::asks_none, crate::proofs::Typing::none_told, crate::proofs::Typing::asked_told))]
 fn take<A: Endpoint>(
     alloc: Global,
     asked: &mut A,
@@ -97,6 +97,7 @@ fn take<A: Endpoint>(
 ) -> Result<(), Fault>
     ensures told { OnOk result (TellsLine A.answers number line.now asked.old asked.new (string_bytes out.new)) }
     ensures memory { IfErr result (λ fault. fault ≡ Stopped Memory) }
+    ensures left { IfErr result (λ _. MayTell A.answers number line.now asked.old asked.new) }
     ensures asked { Asks A.answers asked.old asked.new }
 {
     out.clear();

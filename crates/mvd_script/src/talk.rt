@@ -1,6 +1,6 @@
 //! What is asked by one line, and what is printed of it.
 ghost use Rattle.std.specs.Prelude.{◌≡◌, ℕ, [], IfErr, List, OnOk, Result, string_bytes};
-ghost use Rattle.mvd_script.specs.Talk.{Asks, Prints_line, Shows, Speaks, SpeaksPages, TellsPage, Turns, told_text};
+ghost use Rattle.mvd_script.specs.Talk.{Asks, MayHaveAsked, Prints_line, Shows, Speaks, SpeaksPages, TellsPage, Turns, told_text};
 
 use crate::pages::next_page;
 use crate::printing::print_answer;
@@ -17,7 +17,7 @@ pub const LINE: usize = 64;
 
 /// Asks, and puts what is printed of it in place of what `out` held: what is answered, of a list page after page, or only how it is
 /// refused.
-#[tactic(auto, using(crate::proofs::Talking::asks_none, crate::proofs::Talking::speaks_asks))]
+#[tactic(auto, using(crate::proofs::Talking::asks_none, crate::proofs::Talking::speaks_asks, crate::proofs::Talking::none_left, crate::proofs::Talking::speaks_left))]
 pub fn answer<A: Endpoint>(
     alloc: Global,
     asked: &mut A,
@@ -28,6 +28,7 @@ pub fn answer<A: Endpoint>(
     ensures memory { IfErr result (λ refusal. refusal ≡ Refusal.Memory) }
     // Whatever was refused, what was asked was answered.
     ensures asked { Asks A.answers asked.old asked.new }
+    ensures left { IfErr result (λ _. MayHaveAsked A.answers asked.old asked.new ask.entry) }
 {
     begin_line(out)?;
     let said = say(alloc, asked, ask, out);

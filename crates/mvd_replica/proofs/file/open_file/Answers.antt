@@ -64,6 +64,7 @@ returns-in-Err-open g c =
               found = found_in _ _ (c.in-Ok.ensures.found was.clean) ((c.in-Ok.ensures.opened was.clean).1 was.is_open).1;
               refused = it.refused sound;
               foreign = λ foreign. it.foreign (record { foreign = foreign; autocommit = c.in-Ok.ensures.fresh.autocommit; is_open = was.is_open });
+              untouched = it.untouched sound;
             }),
       );
     }

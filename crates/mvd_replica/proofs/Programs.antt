@@ -6,7 +6,7 @@ use Rattle.mvd_records.specs.Records.{IsOurs, IsSound}
 use Rattle.mvd_records.specs.Tables.{no_tables}
 use Rattle.mvd_site.specs.Config.{ConfigValue}
 use Rattle.mvd_site.specs.Held.{States}
-use Rattle.sqlite_catalog.specs.Listing.{Lists}
+use Rattle.sqlite_catalog.specs.Listing.{IsIndexRow, IsTableRow, IsViewRow, Lists}
 use Rattle.sqlite_disk.specs.declared.Disk.{Ghosts}
 use Rattle.sqlite_disk.specs.declared.Files.{Files}
 use Rattle.sqlite_store.specs.declared.store.FileStore.{FileStore}
@@ -34,8 +34,8 @@ none_zipped P (y ∷ ys) zip = absurd zip
 
 none_listed : (schema : Schema) → Lists [] schema → schema ≡ no_tables
 none_listed schema lists =
-    ap (λ ts. record { tables = ts; indexes = schema.indexes; views = schema.views }) (none_zipped _ schema.tables lists.listed.tables)
-    ∙ ap₂ (λ is vs. record { tables = []; indexes = is; views = vs }) (none_zipped _ schema.indexes lists.listed.indexes) (none_zipped _ schema.views lists.listed.views)
+    ap (λ ts. record { tables = ts; indexes = schema.indexes; views = schema.views }) (none_zipped IsTableRow schema.tables lists.listed.tables)
+    ∙ ap₂ (λ is vs. record { tables = []; indexes = is; views = vs }) (none_zipped (IsIndexRow schema.tables) schema.indexes lists.listed.indexes) (none_zipped IsViewRow schema.views lists.listed.views)
 
 -- an empty database has none of the tables
 empty_ours : (db : Database) → IsDatabase db → IsEmpty db.trees → IsOurs db

@@ -57,9 +57,12 @@ module _ {A : Type 0} (Answers : A → A → Request → Reply → Type 0) where
   none_told number line a (Ok done) = tt
   none_told number line a (Err fault) = inl refl
 
-  pub asked_told : (number : ℕ) (line : List ℕ) (ask : Ask) (old new : A) → IsUtf8 line → IsTyped (Asked ask) (said line) → MayHaveAsked Answers old new ask → MayTell Answers number line old new
-  asked_told number line ask old new utf8 is (inl same) = inl same
-  asked_told number line ask old new utf8 is (inr (told, talks)) = inr (told_text told, inl (utf8, inr (Asked ask, is, record { told = told; talks = talks; is = refl })))
+  pub asked_told : (number : ℕ) (line said_of : List ℕ) (ask : Ask) (old new : A) (result : Result (Unit {0}) Fault) → IsUtf8 line → said_of ≡ said line → IsTyped (Asked ask) said_of → MayHaveAsked Answers old new ask
+      → IfErr result (λ _. MayTell Answers number line old new)
+  asked_told number line said_of ask old new (Ok done) utf8 same is may = tt
+  asked_told number line said_of ask old new (Err fault) utf8 same is (inl none) = inl none
+  asked_told number line said_of ask old new (Err fault) utf8 same is (inr (told, talks)) =
+      inr (told_text told, inl (utf8, inr (Asked ask, subst (IsTyped (Asked ask)) same is, record { told = told; talks = talks; is = refl })))
 
   -- a line that is no command
   pub no_command : (number : ℕ) (line text : List ℕ) (a : A) (empty : List ℕ) → empty ≡ [] → IsNoTyped line → text ≡ empty ++ no_command_text number → TellsLine Answers number line a a text

@@ -87,7 +87,7 @@ fn take_line<A: Endpoint, R: BufRead, W: Write>(
 }
 
 /// Answers the line of this number, and puts what is printed of it in place of what `out` held.
-#[tactic(auto, using(crate::proofs::Typing::asks_none, crate::proofs::Typing::none_told, crate::proofs::Typing::asked_told))]
+#[tactic(auto, using(crate::proofs::Typing::asks_none, crate::proofs::Typing::none_told))]
 fn take<A: Endpoint>(
     alloc: Global,
     asked: &mut A,

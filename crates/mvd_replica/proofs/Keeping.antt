@@ -1,5 +1,5 @@
 -- The writes known stay known, whatever is done with a site: by turns, by pushes, and from the open of a file to its close.
-use Rattle.std.proofs.Common.{◌≡◌, ◌∙◌, Bool, true, false, List, [], ◌∷◌, ◌++◌, None, Some, ap, append_assoc, cond, refl, sym, subst, true≢false}
+use Rattle.std.proofs.Common.{◌≡◌, ◌∙◌, true, false, List, [], ◌∷◌, ◌++◌, None, Some, ap, append_assoc, cond, refl, sym, subst}
 use Rattle.std.proofs.lemmas.List.{append-nil}
 use Rattle.std.specs.FinMap.{get, insert, remove}
 use Rattle.mvd_keys.proofs.Lists.{IsValid-join, join-empty, state_of_empty}

@@ -16,7 +16,7 @@ use Rattle.sqlite.specs.Files.{IsEmpty, image_of}
 use Rattle.sqlite.specs.Recovery.{Image}
 use Rattle.sqlite.specs.Schema.{Schema}
 use Rattle.mvd_replica.specs.declared.replica.Replica.{Replica}
-use Rattle.mvd_replica.specs.File.{HoldsAlone, HoldsFile, OpensFile}
+use Rattle.mvd_replica.specs.File.{HoldsAlone, OpensFile}
 use Rattle.mvd_replica.specs.FileCalls.{IsClosed, file_database, file_of}
 use Rattle.mvd_replica.specs.Kept.{HoldsStates}
 use Rattle.mvd_replica.specs.Programs.{HoldsMore, KeepsFile, WorksOn}

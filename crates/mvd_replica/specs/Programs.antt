@@ -1,5 +1,5 @@
 -- A program on a file: it opens the site that the file holds, works on it, and closes it.
-use Rattle.std.specs.Prelude.{◌≡◌, Bool, true, false, ℕ, List, [], ◌++◌, Option, Some, None}
+use Rattle.std.specs.Prelude.{◌≡◌, true, false, ℕ, List, [], ◌++◌, Option, Some, None}
 use Rattle.mvd_keys.specs.Writes.{Stands, Write}
 use Rattle.mvd_wire.specs.declared.request.Request.{Request}
 use Rattle.mvd_records.specs.Foreign.{IsForeign}

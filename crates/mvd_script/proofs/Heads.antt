@@ -11,8 +11,8 @@ use Rattle.mvd_world.specs.Worlds.{IsWorld}
 use Rattle.mvd_script.specs.declared.member.Member.{Member}
 use Rattle.mvd_script.specs.declared.head.Head.{Head}
 use Rattle.mvd_script.specs.declared.script.Script.{Script}
-use Rattle.mvd_script.specs.Script.{Blank, Commands, DefinesMore, Headed, MayNotStand, Plays, Running, Says, Stage, site_in}
-use Rattle.mvd_script.specs.Staged.{Answers, Begins, IsHead, IsStage, RunsAt, StartsAt, Takes}
+use Rattle.mvd_script.specs.Script.{Blank, Commands, DefinesMore, Headed, Plays, Running, Says, Stage, site_in}
+use Rattle.mvd_script.specs.Staged.{Answers, Begins, IsStage, RunsAt, StartsAt, Takes}
 
 pub none_of : {X : Type 0} (option : Option X) → is_some option ≡ false → option ≡ None
 none_of None is = refl

@@ -1,10 +1,8 @@
 -- What a world tells of a command is what the machine tells.
-use Rattle.std.proofs.Common.{IsSome, OnOk, is_some, if◌then◌else◌, ◌≡◌, ◌≢◌, ◌∙◌, ℕ, List, [], ◌∷◌, ◌++◌, Bool, true, false, Option, Some, None, Result, Ok, Err, MatchBool, refl, sym, ap, subst, inl, inr, Bor, length}
-use Rattle.std.specs.List.{slice_get}
+use Rattle.std.proofs.Common.{OnOk, is_some, if◌then◌else◌, ◌≡◌, ◌∙◌, ℕ, List, [], ◌∷◌, Bool, true, false, Option, Some, None, Result, Ok, Err, MatchBool, refl, sym, ap, subst, Bor, length}
 use Rattle.std.specs.Option.{option_copied}
 use Rattle.mvd_dots.specs.Answer.{IsAnswer}
 use Rattle.mvd_dots.specs.declared.refusals.Refusal.{Refusal}
-use Rattle.mvd_dots.specs.declared.refusals.Refusal.TheVariants.{Memory}
 use Rattle.mvd_input.specs.declared.command.Ask.{Ask}
 use Rattle.mvd_input.specs.declared.command.Command.{Command}
 use Rattle.mvd_input.specs.declared.command.Command.TheVariants as command
@@ -12,14 +10,13 @@ use Rattle.mvd_keys.specs.Key.{key_of_text}
 use Rattle.mvd_keys.specs.Writes.{Key}
 use Rattle.mvd_print.specs.Added.{Prints}
 use Rattle.mvd_print.specs.Text.{none_such_text}
-use Rattle.mvd_wire.specs.declared.reply.Reply.{Reply}
 use Rattle.mvd_wire.specs.declared.request.Request.{Request}
 use Rattle.mvd_world.specs.declared.steps.Step.{Step}
 use Rattle.mvd_world.specs.declared.steps.Step.TheVariants as step
 use Rattle.mvd_world.specs.declared.steps.Outcome.{Outcome}
 use Rattle.mvd_world.specs.declared.worlds.World.{World}
 use Rattle.mvd_world.specs.Machine.{Knowledge, Setting, is_numbered, is_site}
-use Rattle.mvd_world.specs.Worlds.{IsWorld, Leads, Steps}
+use Rattle.mvd_world.specs.Worlds.{IsWorld, Steps}
 use Rattle.mvd_script.specs.declared.member.Member.{Member}
 use Rattle.mvd_script.specs.Asked.{Exchange}
 use Rattle.mvd_script.specs.Script.{Says, SiteReplies, TellsCommand, TellsSend, TellsStep, asked_step, reply_in}

@@ -5,7 +5,6 @@ use Rattle.std.specs.List.{concat}
 use Rattle.std.specs.Option.{option_copied}
 use Rattle.std.proofs.lemmas.List.{append-nil}
 use Rattle.std.proofs.lemmas.List.Folds.{concat-append}
-use Rattle.mvd_dots.specs.declared.refusals.Refusal.{Refusal}
 use Rattle.mvd_dots.specs.declared.refusals.Refusal.TheVariants.{WriteFailed}
 use Rattle.mvd_input.specs.declared.fault.Fault.{Fault}
 use Rattle.mvd_input.specs.declared.fault.Fault.TheVariants as of_fault
@@ -13,7 +12,7 @@ use Rattle.mvd_input.specs.Hexadecimal.{lines_after, lines_of}
 use Rattle.mvd_input.proofs.Lines.{Taking, takes_all, takes_next, takes_none, takes_on}
 use Rattle.mvd_script.specs.declared.script.Script.{Script}
 use Rattle.mvd_script.specs.Script.{Blank, Ran, ReadAll, Reads, RunsScript, Stage}
-use Rattle.mvd_script.specs.Staged.{AddsLine, IsStage, RunsLine}
+use Rattle.mvd_script.specs.Staged.{AddsLine, IsStage}
 
 -- ---- bytes that are written
 

@@ -17,7 +17,7 @@ use Rattle.mvd_wire.specs.declared.reply.Reply.{Reply}
 use Rattle.mvd_wire.specs.declared.request.Request.{Request}
 use Rattle.mvd_script.specs.ReadLine.{CameIn, ReadsLine}
 use Rattle.mvd_script.specs.Shell.{At, IsNoTyped, IsUntold, MayTell, Shells, TakesLine, TellAll, TellsLine, Told, at, no_command_text}
-use Rattle.mvd_script.specs.Talk.{Answered, Asks, MayHaveAsked, told_text}
+use Rattle.mvd_script.specs.Talk.{Asks, MayHaveAsked, told_text}
 use Rattle.mvd_script.proofs.Pieces.{consumes_none, consumes_on, lines_fed, lines_one}
 use Rattle.mvd_script.proofs.Running.{appends_none, appends_on}
 use Rattle.mvd_script.proofs.Talking.{answered_both, asks_none as nothing_asked}

@@ -1,5 +1,5 @@
 -- A script: what each of its lines does to sites that know sets of writes, and what it prints (docs/FORMATS.md, Script).
-use Rattle.std.specs.Prelude.{◌≡◌, ◌≢◌, ◌⊎◌, ◌<◌, ◌≤◌, ◌+◌, ◌++◌, ℕ, List, [], ◌∷◌, length, Option, Some, None, Result, Ok, Err, MatchBool, if◌then◌else◌, unwrap_or, nat_lt}
+use Rattle.std.specs.Prelude.{◌≡◌, ◌⊎◌, ◌<◌, ◌≤◌, ◌+◌, ◌++◌, ℕ, List, [], ◌∷◌, length, Option, Some, None, Result, Ok, Err, MatchBool, if◌then◌else◌, unwrap_or, nat_lt}
 use Rattle.std.specs.Io.KnownBytes.{Appends, Consumes, IsAtEnd}
 use Rattle.std.specs.List.{concat}
 use Rattle.std.specs.Str.{IsUtf8}
@@ -18,7 +18,7 @@ use Rattle.mvd_input.specs.Hexadecimal.{lines_of}
 use Rattle.mvd_input.specs.Lines.{IsLine, IsNoLine, said}
 use Rattle.mvd_keys.specs.Key.{key_of_text}
 use Rattle.mvd_keys.specs.Writes.{Key}
-use Rattle.mvd_print.specs.Text.{none_such_text, refused_text}
+use Rattle.mvd_print.specs.Text.{none_such_text}
 use Rattle.mvd_rows.specs.Defs.{Definitions, no_definitions}
 use Rattle.mvd_wire.specs.declared.reply.Reply.{Reply}
 use Rattle.mvd_wire.specs.declared.reply.Reply.TheVariants.{Refused}

@@ -1,9 +1,9 @@
 -- The relations of a session, of sides, states and numbers one by one.
-use Rattle.std.specs.Prelude.{◌≡◌, ℕ, Bool, List, ◌∷◌, Option, Result, Vec}
+use Rattle.std.specs.Prelude.{ℕ, Bool, List, Option, Result, Vec}
 use Rattle.mvd_dots.specs.declared.refusals.Refusal.{Refusal}
 use Rattle.mvd_keys.specs.Writes.{Key}
 use Rattle.mvd_site.specs.Held.{States}
-use Rattle.mvd_sync.specs.Buckets.{Buckets, FillEnds, FillsBoth, Finds, Goes, GoesOnWithin, GoesOver, GoesThrough, Settles, SettlesAll, reading}
+use Rattle.mvd_sync.specs.Buckets.{FillEnds, FillsBoth, Finds, Goes, GoesOnWithin, GoesOver, GoesThrough, Settles, SettlesAll, reading}
 use Rattle.mvd_sync.specs.Carries.{ExchangesAll, Planned}
 use Rattle.mvd_sync.specs.Exchanges.{CameTo, Done, Exchanges, Exchanging, GoesOn, IsDone, JoinsSome, SoFar, Stand, moment}
 use Rattle.mvd_sync.specs.Session.{After, Before, Course, HaveAnswered, Joins, Meets, ReportsDone, Session, after_of, asking, both}

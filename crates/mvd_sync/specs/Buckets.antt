@@ -1,7 +1,6 @@
 -- The buckets that differ are gone over, and the keys that differ in them are exchanged.
-use Rattle.std.specs.Prelude.{◌≡◌, ◌≢◌, ◌<◌, ◌≤◌, ◌+◌, ◌*◌, ℕ, Bool, true, false, cond, List, [], ◌∷◌, ◌++◌, length, Option, None, IsTrue, Result, IfErr, OnOk, MatchResult}
+use Rattle.std.specs.Prelude.{◌≡◌, ◌≢◌, ◌<◌, ◌≤◌, ◌+◌, ◌*◌, ℕ, Bool, true, false, cond, List, [], ◌∷◌, ◌++◌, length, Option, None, IsTrue, Result, OnOk, MatchResult}
 use Rattle.std.specs.FinMap.{entries, get}
-use Rattle.mvd_dots.specs.declared.refusals.Refusal.TheVariants.{Broken}
 use Rattle.mvd_keys.specs.Writes.{Key}
 use Rattle.mvd_tree.specs.HashTree.{KeyDigests}
 use Rattle.mvd_tree.specs.Page.{rest_of}
@@ -17,7 +16,6 @@ use Rattle.mvd_sync.specs.Walk.{ReadsEnd}
 use Rattle.mvd_sync.specs.declared.cursor.Entry.{Entry}
 use Rattle.mvd_sync.specs.declared.asking.Questions.{Questions}
 use Rattle.mvd_sync.specs.declared.report.SyncFault.{SyncFault}
-use Rattle.mvd_sync.specs.declared.report.SyncFault.TheVariants.{Local, Peer}
 
 -- ---- any two sides
 

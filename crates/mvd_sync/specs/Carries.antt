@@ -1,21 +1,18 @@
 -- A window: its keys are asked for, and what each side lacks is pushed into it.
-use Rattle.std.specs.Prelude.{◌≡◌, ◌≤◌, ◌+◌, ◌*◌, ℕ, List, ◌++◌, length, map, filter_map, Option, Result, Vec, IfErr, OnOk, MatchResult}
+use Rattle.std.specs.Prelude.{◌≡◌, ◌≤◌, ◌+◌, ◌*◌, ℕ, List, ◌++◌, length, map, filter_map, Option, Result, Vec, OnOk, MatchResult}
 use Rattle.mvd_dots.specs.declared.refusals.Refusal.{Refusal}
-use Rattle.mvd_dots.specs.declared.refusals.Refusal.TheVariants.{Broken}
 use Rattle.mvd_keys.specs.State.{State}
 use Rattle.mvd_site.specs.Held.{States, state_at}
 use Rattle.mvd_sync.specs.Exchanges.{AreNext, Done, JoinsSome, SoFar, Spends, began, keys_done, keys_next}
 use Rattle.mvd_sync.specs.Meetings.{ArePlans, done_of, held_keys, noted, pair_of, taken_from}
-use Rattle.mvd_sync.specs.Questions.{AllAnswered, IsOfKey, Keeps, TakesIn, AnswersEach}
+use Rattle.mvd_sync.specs.Questions.{AllAnswered, IsOfKey, TakesIn, AnswersEach}
 use Rattle.mvd_sync.specs.Session.{Asking, Course, after_of, both, both_of}
 use Rattle.mvd_sync.specs.Sides.{HasAnswered, SideOf, Sides}
 use Rattle.mvd_sync.specs.declared.cursor.Entry.{Entry}
 use Rattle.mvd_sync.specs.declared.meetings.Meeting.{Meeting}
-use Rattle.mvd_sync.specs.declared.asking.Questions.{Questions}
 use Rattle.mvd_sync.specs.declared.report.Side.{Side}
 use Rattle.mvd_sync.specs.declared.report.Side.TheVariants.{Local as AtLocal, Peer as AtPeer}
 use Rattle.mvd_sync.specs.declared.report.SyncFault.{SyncFault}
-use Rattle.mvd_sync.specs.declared.report.SyncFault.TheVariants.{Local, Peer}
 
 -- a side gave the states of these keys
 abbrev pub Gives : {S : Type 0} → SideOf S → Side → List Entry → List State → ℕ → ℕ → S → S → Type 0

@@ -11,7 +11,6 @@ use Rattle.mvd_sync.specs.Questions.{Keeps}
 use Rattle.mvd_sync.specs.Session.{AreDistinct, Asking, Each, HasAllThatDiffer, HaveAnswered}
 use Rattle.mvd_sync.specs.Sides.{Blames, IsFaultOf, SideOf, Sides, Two}
 use Rattle.mvd_sync.specs.declared.asking.Node.{Node}
-use Rattle.mvd_sync.specs.declared.asking.Questions.{Questions}
 use Rattle.mvd_sync.specs.declared.report.SyncFault.{SyncFault}
 
 -- equal digests under a path mean equal states

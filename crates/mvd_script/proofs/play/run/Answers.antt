@@ -1,5 +1,5 @@
 use Rattle.std.specs.Prelude.{string_bytes}
-use Rattle.std.proofs.Common.{sym, subst, length, ◌-◌}
+use Rattle.std.proofs.Common.{length, ◌-◌}
 use Rattle.std.specs.List.{slice_get}
 use Rattle.mvd_world.specs.Machine.{is_numbered}
 use Rattle.mvd_script.specs.Script.{site_in}

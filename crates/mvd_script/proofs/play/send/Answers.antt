@@ -1,7 +1,4 @@
 use Rattle.std.specs.Prelude.{string_bytes}
-use Rattle.std.proofs.Common.{subst}
-use Rattle.mvd_dots.specs.Answer.{IsAnswer}
-use Rattle.mvd_keys.specs.Key.{key_of_text}
 use Rattle.mvd_script.proofs.Playing.{sends}
 use Rattle.mvd_script.proofs.play.send.Goals as goal
 

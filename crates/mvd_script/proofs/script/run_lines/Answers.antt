@@ -1,4 +1,4 @@
-use Rattle.std.proofs.Common.{Option, List, ℕ, Bor, Some, None, ◌+◌, subst, sym}
+use Rattle.std.proofs.Common.{Option, List, ℕ, Bor, Some, subst, sym}
 use Rattle.std.specs.Prelude.{string_bytes}
 use Rattle.std.specs.Io.KnownBytes.{Appends}
 use Rattle.std.specs.Option.{option_copied}

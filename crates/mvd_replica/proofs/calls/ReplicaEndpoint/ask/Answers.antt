@@ -1,7 +1,6 @@
 use Rattle.std.proofs.Common.{ap, refl, rules}
 use Rattle.mvd_replica.proofs.Answering.{keeps_states}
 use Rattle.mvd_replica.proofs.Sides.{follows_by}
-use Rattle.mvd_replica.specs.declared.replica.Replica.{Replica}
 use Rattle.mvd_replica.proofs.calls.ReplicaEndpoint.ask.Goals as goal
 
 pub returns : goal.returns

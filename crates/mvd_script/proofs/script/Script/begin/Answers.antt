@@ -1,5 +1,4 @@
 use Rattle.std.proofs.Common.{refl, Some, sym}
-use Rattle.mvd_script.specs.declared.script.Script.{Script}
 use Rattle.mvd_script.proofs.Heads.{are_there, begun, none_of}
 use Rattle.mvd_script.proofs.script.Script.begin.Goals as goal
 

@@ -1,10 +1,10 @@
 //! What a command line asks for, done: with standard input and output, files and sockets.
-ghost use Rattle.std.specs.Prelude.{◌≡◌, IfOk, None};
+ghost use Rattle.std.specs.Prelude.{◌≡◌, IfOk, None, Some};
 ghost use Rattle.mvd_app.specs.Stored.{FollowsAsked, stored_site};
 ghost use Rattle.mvd_replica.specs.ReplicaCalls.{ReplicaAnswers};
 ghost use Rattle.mvd_script.specs.Talk.{Asks};
 ghost use Rattle.mvd_input.specs.Orders.{IsInRange, IsSetUp};
-ghost use Rattle.mvd_replica.specs.Programs.{GivesBack, LeavesFile, WorksOn};
+ghost use Rattle.mvd_replica.specs.Programs.{GivesBack, WorksOn};
 ghost use Rattle.mvd_rows.specs.Defs.{no_definitions};
 ghost use Rattle.mvd_replica.specs.Replicas.{stored_of};
 ghost use Rattle.sqlite.specs.WalFiles.{image_at};
@@ -46,14 +46,8 @@ pub fn run<'a, S: Start>(
     ensures kept { IfOk result (GivesBack ⟦<FileFrom<S> as Disk>⟧ (image_at S.Start) (stored_site order.entry)) }
 {
     match order {
-        Order::Sim => {
-            run_sim(rt)?;
-            Ok(None)
-        }
-        Order::Loop(setup) => {
-            run_loop(rt, setup)?;
-            Ok(None)
-        }
+        Order::Sim => no_file(run_sim(rt)),
+        Order::Loop(setup) => no_file(run_loop(rt, setup)),
         Order::Serve {
             db,
             setup,
@@ -63,13 +57,10 @@ pub fn run<'a, S: Start>(
             http,
         } => {
             let work = Work::Serve(address, Terms { http, conns, idle });
-            Ok(Some(run_stored(rt, db, setup, work, start)?))
+            run_stored(rt, db, setup, work, start)
         }
-        Order::Shell { db, setup } => Ok(Some(run_stored(rt, db, setup, Work::Shell, start)?)),
-        Order::RemoteShell { address, idle } => {
-            run_remote_shell(rt, address, idle)?;
-            Ok(None)
-        }
+        Order::Shell { db, setup } => run_stored(rt, db, setup, Work::Shell, start),
+        Order::RemoteShell { address, idle } => no_file(run_remote_shell(rt, address, idle)),
         Order::Sync {
             db,
             setup,
@@ -78,8 +69,18 @@ pub fn run<'a, S: Start>(
             verbose,
         } => {
             let work = Work::Sync(address, idle, verbose);
-            Ok(Some(run_stored(rt, db, setup, work, start)?))
+            run_stored(rt, db, setup, work, start)
         }
+    }
+}
+
+/// What a command gives back that works on no file.
+fn no_file<'a, D: Drop>(ran: Result<(), Stop<'a>>) -> Result<Option<D>, Stop<'a>>
+    ensures { IfOk result (λ file. file ≡ None) }
+{
+    match ran {
+        Ok(()) => Ok(None),
+        Err(stop) => Err(stop),
     }
 }
 
@@ -113,10 +114,10 @@ fn run_stored<'a, S: Start>(
     setup: Setup<'a>,
     work: Work,
     start: S,
-) -> Result<Files<FileFrom<S>>, Stop<'a>>
+) -> Result<Option<Files<FileFrom<S>>>, Stop<'a>>
     requires { IsSetUp setup }
     // If it ends well, and the files are clean, no write is lost that they held, of either version; and new files hold the site.
-    ensures kept { IfOk result (LeavesFile ⟦<FileFrom<S> as Disk>⟧ (image_at S.Start) setup.entry.site) }
+    ensures kept { IfOk result (GivesBack ⟦<FileFrom<S> as Disk>⟧ (image_at S.Start) (Some setup.entry.site)) }
 {
     let config = config_in(rt, setup)?;
     let mut replica = match open_file(rt, db, start, config) {
@@ -129,7 +130,7 @@ fn run_stored<'a, S: Start>(
         return Err(Stop::from(Refusal::Broken));
     }
     match replica.close() {
-        Ok(files) => Ok(files),
+        Ok(files) => Ok(Some(files)),
         Err((error, conn)) => {
             drop(conn);
             Err(Stop::in_file(db, error))

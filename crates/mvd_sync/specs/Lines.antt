@@ -19,6 +19,7 @@ use Rattle.mvd_wire.specs.Requests.{IsRequest, request_frame}
 use Rattle.mvd_wire.specs.Replies.{reply_of}
 use Rattle.mvd_site.specs.Answer.{digests}
 use Rattle.mvd_site.specs.Held.{States, state_at}
+use Rattle.mvd_sync.specs.Links.{Asks, link}
 use Rattle.mvd_sync.specs.Sides.{Stays, is_of_question, stays_on}
 use Rattle.mvd_sync.specs.Windows.{CannotTake, IsNode, RefusesPage, Takes, leaves_open}
 use Rattle.mvd_sync.specs.declared.remote.Remote.{Remote}
@@ -148,6 +149,19 @@ AnswersTruly as_reply most old request (Err refusal) new =
 abbrev pub AsksTruly : {L A : Type 0} → (L → Type 0) → (L → Far) → (A → Reply) → Request → Remote L → Remote L → Result A Refusal → Type 0
 AsksTruly is_true far as_reply request old new result = IsTrueRemote is_true far old →
     IsTrueRemote is_true far new × AnswersTruly as_reply (far old.line).most (far old.line).states request result (far new.line).states
+
+-- what is shown of a question: the reply, or the refusal in its place
+abbrev pub shown_reply : Result Reply Refusal → Reply
+shown_reply (Ok reply) = reply
+shown_reply (Err refusal) = Refused refusal
+
+-- A REMOTE SIDE REPLIES: the frame of the request went out, and the reply is the frame that came in, or else the refusal that tells
+-- why none did; and if the line is true, it is a reply of what is at its other end
+pub record RepliesFar {L : Type 0} (remaining contents : L → Option (List ℕ)) (is_true : L → Type 0) (far : L → Far) (old new : Remote L) (request : Request) (reply : Reply) : Type 0 where
+  pub told : Result Reply Refusal
+  pub shown : reply ≡ shown_reply told
+  pub asked : Asks (link remaining contents old) (link remaining contents new) request told
+  pub truth : AsksTruly is_true far (λ reply. reply) request old new told
 
 -- what a reply is taken as: what it tells, or that there is no memory for it
 abbrev pub IsTaken : Reply → Result Reply Refusal → Type 0

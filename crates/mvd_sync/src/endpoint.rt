@@ -1,6 +1,7 @@
 //! What answers requests.
 ghost use Rattle.mvd_wire.specs.declared.reply.Reply.{Reply};
 ghost use Rattle.mvd_wire.specs.declared.request.Request.{Request};
+ghost use Rattle.mvd_sync.specs.Lines.{RepliesFar};
 
 use crate::line::Line;
 use crate::remote::Remote;
@@ -18,7 +19,8 @@ pub trait Endpoint {
 }
 
 impl<L: Line> Endpoint for Remote<L> {
-    ghost answers = { λ _ _ _ _. Unit {0} };
+    ghost answers = { λ old new request reply.
+        RepliesFar L.remaining L.contents L.is_true L.far old new request reply };
 
     fn ask(&mut self, request: Request) -> Reply {
         let told = Remote::ask(self, &request);

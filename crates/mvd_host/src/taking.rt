@@ -1,5 +1,6 @@
 //! The frames that are taken in one round.
-ghost use Rattle.std.specs.Prelude.{◌≡◌, ◌≢◌, ◌+◌, ◌≤◌, ◌<◌, ◌==◌, ◌⊎◌, ◌↔◌, List, ℕ, length, true, false, [], IsTrue, OnErr, OnOk, IfOk, IfErr, vec_capacity, vec_len, Some, slice_index};
+ghost use Rattle.std.specs.Prelude.{◌≡◌, ◌≢◌, ◌+◌, ◌≤◌, ◌<◌, ◌==◌, ◌⊎◌, ◌↔◌, List, ℕ, length, true, false, [], Some};
+ghost use Rattle.std.specs.Prelude.{IsTrue, OnErr, OnOk, IfOk, IfErr, vec_capacity, vec_len, slice_index};
 ghost use Rattle.std.specs.List.{Contains, list_any};
 ghost use Rattle.mvd_dots.specs.Answer.{IsAnswer};
 ghost use Rattle.mvd_wire.specs.declared.request.Request.{Request};
@@ -28,7 +29,8 @@ pub(crate) struct Taken {
 impl Taken {
     ghost use Rattle.mvd_host.specs.Course.{own};
     ghost use Rattle.mvd_host.specs.Hosts.{IfClient, client_in};
-    ghost use Rattle.mvd_host.specs.Taking.{EndsTaking, Grows, HasRoom, Holds, IsIdle, Keeps, IsMore, IsNone, Takes, TakesFairly, TakesMore, TakesOf, TakesRequests};
+    ghost use Rattle.mvd_host.specs.Taking.{EndsTaking, Grows, HasRoom, Holds, IsIdle, Keeps, IsMore, IsNone};
+    ghost use Rattle.mvd_host.specs.Taking.{Takes, TakesFairly, TakesMore, TakesOf, TakesRequests};
 
     pub(crate) fn new(alloc: Global) -> Taken
         ensures { Holds [] [] result }
@@ -124,7 +126,9 @@ impl Taken {
     ) -> bool
         ensures took { TakesOf client clients.old.entries clients.new.entries self.old self.new }
         ensures grows { Grows self.old self.new }
-        ensures idle { result ≡ false → IsMore self.old self.new ⊎ ((list_any (λ fault. fault.0 == client) self.old.faults.items ≡ true) ⊎ IfClient (client_in clients.new.entries client) IsIdle) }
+        ensures idle { result ≡ false → IsMore self.old self.new
+            ⊎ ((list_any (λ fault. fault.0 == client) self.old.faults.items ≡ true)
+            ⊎ IfClient (client_in clients.new.entries client) IsIdle) }
     {
         if self.has_fault(client) {
             return false;
@@ -144,7 +148,8 @@ impl Taken {
     ) -> bool
         requires none { Holds [] [] self.old }
         ensures took { TakesFairly result ready.now (length ready.now) clients.old.entries clients.new.entries self.new }
-        ensures idle { result ≡ false → IsNone self.new → (i : ℕ) → i < length ready.now → IfClient (client_in clients.new.entries (slice_index ready.now i)) IsIdle }
+        ensures idle { result ≡ false → IsNone self.new → (i : ℕ) → i < length ready.now →
+            IfClient (client_in clients.new.entries (slice_index ready.now i)) IsIdle }
     {
         let mut refused = false;
         for client in ready {

@@ -71,7 +71,8 @@ fn play(
 /// Sends a site's state of a key.
 fn send(alloc: Global, member: &mut Member, key: &str, out: &mut String) -> Result<(), Refusal>
     ensures { ActsFor
-        (λ setting before after told. (read : Result Key Refusal) × IsAnswer read (key_of_text key.now) × TellsSend setting member.old.site read before after told)
+        (λ setting before after told. (read : Result Key Refusal) × IsAnswer read (key_of_text key.now)
+        × TellsSend setting member.old.site read before after told)
         member.old.world member.new.world (string_bytes out.old) (string_bytes out.new) result }
 {
     match Key::read(alloc, key) {

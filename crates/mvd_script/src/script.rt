@@ -295,7 +295,8 @@ fn run_line(
 
 /// Writes what is to be written, if it is a whole piece.
 fn write_piece<W: Write>(writer: &mut W, out: &mut String) -> Result<(), Fault>
-    ensures sent { OnOk result ((sent : List ℕ) × Appends (W.contents writer.old) (W.contents writer.new) sent × (string_bytes out.old ≡ sent ++ string_bytes out.new)) }
+    ensures sent { OnOk result ((sent : List ℕ) × Appends (W.contents writer.old) (W.contents writer.new) sent
+        × (string_bytes out.old ≡ sent ++ string_bytes out.new)) }
     ensures failed { IfErr result (λ fault. fault ≡ Stopped WriteFailed) }
 {
     if out.len() >= PIECE {

@@ -53,7 +53,8 @@ fn put_in<A: Endpoint>(
     context: &str,
     document: &str,
 ) -> Result<Request, Refusal>
-    ensures { (exchanges : List Exchange) × Answered A.answers exchanges asked.old asked.new × IsWriteOf key.now context.now (put_of document.now) exchanges result }
+    ensures { (exchanges : List Exchange) × Answered A.answers exchanges asked.old asked.new
+        × IsWriteOf key.now context.now (put_of document.now) exchanges result }
 {
     match Key::read(alloc, key) {
         Ok(key) => match context_of(alloc, asked, &key, context) {

@@ -1,5 +1,6 @@
 //! One site. What each of its calls does is said and counted in `mvd_kept`; here nobody reads the counts.
-ghost use Rattle.std.specs.Prelude.{◌≡◌, ◌≢◌, ◌≤◌, ◌+◌, List, vec_capacity, true, false, Some, Err, Ok, length, IfOk, IfErr, OnOk, IsTrue};
+ghost use Rattle.std.specs.Prelude.{◌≡◌, ◌≢◌, ◌≤◌, ◌+◌, List, vec_capacity, true, false, Some, Err, Ok, length};
+ghost use Rattle.std.specs.Prelude.{IfOk, IfErr, OnOk, IsTrue};
 ghost use Rattle.std.specs.List.{AllByRecursion};
 ghost use Rattle.std.specs.Option.{option_copied};
 ghost use Rattle.std.specs.FinMap as map;
@@ -16,7 +17,7 @@ ghost use Rattle.mvd_wire.specs.Replies.{CanBeSent};
 ghost use Rattle.mvd_kept.specs.Answer.{digests, node_digests};
 ghost use Rattle.mvd_kept.specs.FromStates.{AnswersFrom, bucket_refusal, push_reply, unless_broken, with_state};
 ghost use Rattle.mvd_kept.specs.Held.{AreHeld, IsHeldState, state_at};
-ghost use Rattle.mvd_kept.specs.Installs.{InstallsAll, MayAllBeIn};
+ghost use Rattle.mvd_kept.specs.Installs.{InstallsAll, MayAllBeIn, broken_site, changed_site};
 ghost use Rattle.mvd_kept.specs.Known.{Adds, Event, IsValidRequest, Tells};
 ghost use Rattle.mvd_kept.specs.Prepared.{IsChangeNow, IsFrugal, IsReady, PreparesAt, PreparesFromStates};
 ghost use Rattle.mvd_kept.specs.Sites.{AnswersAll, AnswersOne, SiteValue, has_no_room, opened};
@@ -164,8 +165,8 @@ impl Site {
         requires held { IsHeldState change.state }
         // The key's state is still the one that the change was prepared from.
         requires fresh { IsChangeNow self.old change }
-        ensures ok { OnOk result ((self.old.broken ≡ false) × (self.new ≡ record { config = self.old.config; states = map.insert self.old.states change.key change.state; broken = false })) }
-        ensures err { IfErr result (λ refusal. (refusal ≡ Broken) × (self.new ≡ record { config = self.old.config; states = self.old.states; broken = true })) }
+        ensures ok { OnOk result ((self.old.broken ≡ false) × (self.new ≡ changed_site self.old change)) }
+        ensures err { IfErr result (λ refusal. (refusal ≡ Broken) × (self.new ≡ broken_site self.old)) }
     {
         counted::install(&mut self.kept, change, &mut begun())
     }
@@ -205,12 +206,16 @@ impl Site {
     /// applies, after which the site is as it was, unless it is broken.
     pub fn push(&mut self, key: &Key, pushed: &KeyState) -> Result<(), Refusal>
         ensures answer { AnswersFrom self.old self.new (Push key.now pushed.now) (push_reply result) }
-        ensures joined { OnOk result (self.new ≡ record { config = self.old.config; states = with_state self.old.states key.now (join (state_at self.old.states key.now) pushed.now); broken = false }) }
+        ensures joined { OnOk result (self.new ≡ record {
+          config = self.old.config;
+          states = with_state self.old.states key.now (join (state_at self.old.states key.now) pushed.now);
+          broken = false;
+        }) }
         ensures agreed { OnOk result (clashes (state_at self.old.states key.now) pushed.now ≡ false) }
         ensures clash { IfErr result (λ refusal. refusal ≡ DotClash → clashes (state_at self.old.states key.now) pushed.now ≡ true) }
         ensures unchanged { IfErr result (λ refusal. refusal ≢ Broken → self.new ≡ self.old) }
         // Whether it is broken, and for good.
-        ensures told { IfErr result (λ refusal. refusal ≡ Broken → self.new ≡ record { config = self.old.config; states = self.old.states; broken = true }) }
+        ensures told { IfErr result (λ refusal. refusal ≡ Broken → self.new ≡ broken_site self.old) }
         ensures stays { self.old.broken ≡ true → result ≡ Err Broken }
         // A state that was joined is that of some set of writes.
         ensures valid { OnOk result (IsValid pushed.now) }

@@ -6,7 +6,7 @@ use Rattle.std.specs.Str.{IsUtf8}
 use Rattle.std.proofs.lemmas.List.{append-nil, length-append}
 use Rattle.std.proofs.lemmas.List.Folds.{concat-append}
 use Rattle.mvd_dots.specs.declared.refusals.Refusal.{Refusal}
-use Rattle.mvd_dots.specs.declared.refusals.Refusal.TheVariants.{FrameTooLong, Memory, WriteFailed}
+use Rattle.mvd_dots.specs.declared.refusals.Refusal.TheVariants.{FrameTooLong}
 use Rattle.mvd_input.specs.declared.command.Ask.{Ask}
 use Rattle.mvd_input.specs.declared.command.Typed.TheVariants.{Ask as Asked, Help}
 use Rattle.mvd_input.specs.declared.fault.Fault.{Fault}
@@ -15,8 +15,8 @@ use Rattle.mvd_input.specs.Hexadecimal.{lines_of}
 use Rattle.mvd_input.specs.Lines.{IsTyped, said}
 use Rattle.mvd_wire.specs.declared.reply.Reply.{Reply}
 use Rattle.mvd_wire.specs.declared.request.Request.{Request}
-use Rattle.mvd_script.specs.ReadLine.{CameIn, ReadsLine}
-use Rattle.mvd_script.specs.Shell.{At, IsNoTyped, IsUntold, MayTell, Shells, TakesLine, TellAll, TellsLine, Told, at, no_command_text}
+use Rattle.mvd_script.specs.ReadLine.{ReadsLine}
+use Rattle.mvd_script.specs.Shell.{At, IsUntold, MayTell, Shells, TakesLine, TellAll, TellsLine, Told, at}
 use Rattle.mvd_script.specs.Talk.{Asks, MayHaveAsked, told_text}
 use Rattle.mvd_script.proofs.Pieces.{consumes_none, consumes_on, lines_fed, lines_one}
 use Rattle.mvd_script.proofs.Running.{appends_none, appends_on}
@@ -38,20 +38,6 @@ module _ {A : Type 0} (Answers : A → A → Request → Reply → Type 0) where
   unread number a input input' out line fault (read, came, inr (inr (is, long))) =
       subst (λ (f : Fault). TakesLine Answers number (at a input out) (at a input' out) (Err f)) (sym is) (read, came, (refl, refl, inl long))
 
-  came_in : (input input' : Option (List ℕ)) (line : List ℕ) (goes_on : Bool) → ReadsLine input input' line (Ok goes_on) → CameIn input input' line
-  came_in input input' line true (one, short, read) = (one, inr read)
-  came_in input input' line false (one, short, read, all) = (one, inl read)
-
-  pub unanswered : (number : ℕ) (old new : A) (input input' out : Option (List ℕ)) (line : List ℕ) (goes_on : Bool) (fault : Fault) → ReadsLine input input' line (Ok goes_on) → fault ≡ Stopped Memory → MayTell Answers number line old new
-      → TakesLine Answers number (at old input out) (at new input' out) (Err fault)
-  unanswered number old new input input' out line goes_on fault reads is may =
-      subst (λ (f : Fault). TakesLine Answers number (at old input out) (at new input' out) (Err f)) (sym is) (line, came_in input input' line goes_on reads, (may, refl))
-
-  pub unwritten : (number : ℕ) (old new : A) (input input' out out' : Option (List ℕ)) (line : List ℕ) (goes_on : Bool) (text : List ℕ) (fault : Fault) → ReadsLine input input' line (Ok goes_on) → fault ≡ Stopped WriteFailed → TellsLine Answers number line old new text
-      → TakesLine Answers number (at old input out) (at new input' out') (Err fault)
-  unwritten number old new input input' out out' line goes_on text fault reads is tells =
-      subst (λ (f : Fault). TakesLine Answers number (at old input out) (at new input' out') (Err f)) (sym is) (line, came_in input input' line goes_on reads, (text, tells))
-
   -- whatever was answered of a line
   pub none_told : (number : ℕ) (line : List ℕ) (a : A) (result : Result (Unit {0}) Fault) → IfErr result (λ _. MayTell Answers number line a a)
   none_told number line a (Ok done) = tt
@@ -63,10 +49,6 @@ module _ {A : Type 0} (Answers : A → A → Request → Reply → Type 0) where
   asked_told number line said_of ask old new (Err fault) utf8 same is (inl none) = inl none
   asked_told number line said_of ask old new (Err fault) utf8 same is (inr (told, talks)) =
       inr (told_text told, inl (utf8, inr (Asked ask, subst (IsTyped (Asked ask)) same is, record { told = told; talks = talks; is = refl })))
-
-  -- a line that is no command
-  pub no_command : (number : ℕ) (line text : List ℕ) (a : A) (empty : List ℕ) → empty ≡ [] → IsNoTyped line → text ≡ empty ++ no_command_text number → TellsLine Answers number line a a text
-  no_command number line text a empty none is_none is = inr (is_none, refl, is ∙ ap (λ (t : List ℕ). t ++ no_command_text number) none)
 
   -- ---- lines
 

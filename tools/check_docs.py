@@ -21,7 +21,7 @@ WIDTH = 100
 # Words of other projects, of the toolchain and of the command line that no file of ours has.
 FOREIGN = {
     "rt", "cargo", "valgrind", "perf", "top", "du", "sqlite3", "taskset", "sha256sum", "curl", "chromium", "python3", "Wait",
-    "Allow", "chunked",
+    "Allow", "chunked", "Wary",
 }
 CODE = (".rt", ".antt", ".py", ".sh", ".txt", ".edit", ".mvd", ".toml", ".rs", ".html")
 

@@ -1,6 +1,8 @@
-//! Tests of the commands: inputs, a connection within one process, links, shells, and hints.
+//! Tests of the commands: inputs, a connection within one process, links, shells, hints, and the example.
 #![tactic(auto)]
 
+#[cfg(test)]
+mod examples;
 #[cfg(test)]
 mod hints;
 #[cfg(test)]

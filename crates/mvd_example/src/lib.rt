@@ -9,8 +9,6 @@ use mvd_replica::{
 };
 use std::alloc::Global;
 use std::fmt::Write;
-use std::io;
-use std::process::ExitCode;
 
 const OSLO: &str = "{\"city\":\"Oslo\"}";
 
@@ -18,21 +16,9 @@ const BERGEN: &str = "{\"city\":\"Bergen\"}";
 
 const BOTH: &str = "{\"city\":\"Oslo\",\"was\":\"Bergen\"}";
 
-fn main(rt: HostRuntime) -> io::Result<ExitCode> {
-    let mut out = String::new(rt.alloc());
-    let ended = run(rt.alloc(), &mut out);
-    print!(rt; "{out}")?;
-    match ended {
-        Ok(()) => Ok(ExitCode::SUCCESS),
-        Err(refusal) => {
-            eprintln!(rt; "{refusal}")?;
-            Ok(ExitCode::from(1))
-        }
-    }
-}
-
-/// Two sites write to one key, and one of them resolves it.
-fn run(alloc: Global, out: &mut String) -> Result<(), Refusal> {
+/// Two sites write to one key, and one of them resolves it. It prints the documents that are read, and how many keys each session
+/// exchanged.
+pub fn run(alloc: Global, out: &mut String) -> Result<(), Refusal> {
     let mut desk = opened(alloc, 1)?;
     let mut phone = opened(alloc, 2)?;
     write_and_meet(alloc, &mut desk, &mut phone, out)

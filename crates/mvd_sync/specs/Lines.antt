@@ -1,7 +1,7 @@
 -- A line to a far side: the frames of requests go out, and those of its replies come in. A true one is what a transport is that
 -- hands on what is written and what is read, where the far side is true.
 use Rattle.std.proofs.Common.{refl, ◌∙◌}
-use Rattle.std.specs.Prelude.{◌≡◌, ◌≢◌, ◌⊎◌, ℕ, true, false, List, [], ◌∷◌, ◌++◌, take, Option, Some, None, IfSome, Result, Ok, Err, IfOk, IfErr, MatchResult}
+use Rattle.std.specs.Prelude.{◌≡◌, ◌≢◌, ◌⊎◌, ℕ, Bool, true, false, List, [], ◌∷◌, ◌++◌, take, Option, Some, None, IfSome, Result, Ok, Err, IfOk, IfErr, MatchResult}
 use Rattle.std.specs.declared.alloc.Global.{Global}
 use Rattle.std.specs.declared.vec.Vec.{Vec}
 use Rattle.mvd_dots.specs.declared.refusals.Refusal.{Refusal}
@@ -12,6 +12,7 @@ use Rattle.mvd_tree.specs.Page.{is_more_after_page, page_of}
 use Rattle.mvd_wire.specs.declared.frame.Frame.{Frame}
 use Rattle.mvd_wire.specs.declared.request.Request.{Request}
 use Rattle.mvd_wire.specs.declared.request.Request.TheVariants.{Get, Node, Bucket, Push, Bye}
+use Rattle.mvd_wire.specs.declared.reply.Digests.{Digests}
 use Rattle.mvd_wire.specs.declared.reply.Reply.{Reply}
 use Rattle.mvd_wire.specs.declared.reply.Reply.TheVariants.{State as Shown, Done, Digests as Told, Keys, Refused}
 use Rattle.mvd_wire.specs.Frames.{FrameValue, frame_value}
@@ -19,7 +20,8 @@ use Rattle.mvd_wire.specs.Requests.{IsRequest, request_frame}
 use Rattle.mvd_wire.specs.Replies.{reply_of}
 use Rattle.mvd_site.specs.Answer.{digests}
 use Rattle.mvd_site.specs.Held.{States, state_at}
-use Rattle.mvd_sync.specs.Links.{Asks, link}
+use Rattle.mvd_sync.specs.LinkWindows.{AsksForAll}
+use Rattle.mvd_sync.specs.Links.{Asks, AsksFor, link}
 use Rattle.mvd_sync.specs.Sides.{Stays, is_of_question, stays_on}
 use Rattle.mvd_sync.specs.Windows.{CannotTake, IsNode, RefusesPage, Takes, leaves_open}
 use Rattle.mvd_sync.specs.declared.remote.Remote.{Remote}
@@ -144,6 +146,25 @@ abbrev pub AnswersTruly : {A : Type 0} → (A → Reply) → ℕ → States → 
 AnswersTruly as_reply most old request (Ok answer) new = TrueReply most old request (as_reply answer) new
 AnswersTruly as_reply most old request (Err refusal) new =
     TrueReply most old request (Refused refusal) new ⊎ (((request_frame request ≡ Err refusal) × (new ≡ old)) ⊎ ((leaves_open refusal ≡ true) × MayTake most old request new))
+
+-- the replies that tell digests, a page, a state
+abbrev pub as_digests : Digests → Reply
+as_digests digests = Told digests
+
+abbrev pub as_page : Vec (Key × List ℕ) Global × Bool → Reply
+as_page page = Keys page.0.items page.1
+
+abbrev pub as_state : State → Reply
+as_state state = Shown state
+
+-- what a question to a remote side for an answer gives, over its link as it was and as it is
+abbrev pub AsksOver : {L A : Type 0} → (L → Option (List ℕ)) → (L → Option (List ℕ)) → (A → Reply) → Request → Remote L → Remote L → Result A Refusal → Type 0
+AsksOver remaining contents as_reply request old new = AsksFor as_reply request (link remaining contents old) (link remaining contents new)
+
+-- the same of many, whose replies are of this kind
+abbrev pub AsksAllOver : {L A : Type 0} → (L → Option (List ℕ)) → (L → Option (List ℕ)) → (A → Reply) → ℕ → List Request → Remote L → Remote L → Result (Vec (Result A Refusal) Global) Refusal → Type 0
+AsksAllOver remaining contents as_reply kind requests old new =
+    AsksForAll as_reply kind requests (link remaining contents old) (link remaining contents new)
 
 -- WHAT A REMOTE SIDE ASKS OVER A TRUE LINE is answered so
 abbrev pub AsksTruly : {L A : Type 0} → (L → Type 0) → (L → Far) → (A → Reply) → Request → Remote L → Remote L → Result A Refusal → Type 0

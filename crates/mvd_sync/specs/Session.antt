@@ -259,7 +259,7 @@ pub record Session {L P : Type 0} (s : Sides L P) (most : ℕ) (old new : Two L 
   -- SHA-256 tells the texts of both sides apart
   pub meets : s.local.is_faithful old.local → s.peer.is_faithful old.peer →
       Meets (before_of s old) (after_of s new) result
-  -- and few questions were made or wanted; so between true sides 36 means that this bound is above the budget
+  -- and few questions were made or wanted; so a 36 that a true side did not itself give means that this bound is above the budget
   pub few : s.local.is_faithful old.local → s.peer.is_faithful old.peer → (differing : List Key) →
       HasAllThatDiffer (s.local.states old.local) (s.peer.states old.peer) differing →
       AreFew (course.asked_local + course.wanted_local) (s.local.states old.local) differing

@@ -1,5 +1,5 @@
 -- Many questions at once: one answer for each, in order, as if they were asked one after the other.
-use Rattle.std.specs.Prelude.{◌≡◌, ◌⊎◌, ◌<◌, ◌≤◌, ◌==◌, ℕ, Bool, true, false, List, [], ◌∷◌, length, Option, Some, None, Result, Ok, Err, take}
+use Rattle.std.specs.Prelude.{◌≡◌, ◌⊎◌, ◌<◌, ◌≤◌, ◌==◌, ℕ, Bool, true, false, List, [], ◌∷◌, length, Option, Some, None, Result, Ok, Err, take, IfOk, OnErr}
 use Rattle.std.specs.FinMap.{get, len}
 use Rattle.std.specs.declared.alloc.Global.{Global}
 use Rattle.std.specs.declared.vec.Vec.{Vec}
@@ -79,6 +79,14 @@ for_pages was_true states = record {
   refuses = λ q. RefusesPage q.0;
 }
 
+-- the keys of a page of a bucket after a key, as these states give them
+abbrev pub HasKeys : States → List ℕ → Option (List ℕ) → Vec (Key × List ℕ) Global × Bool → Type 0
+HasKeys states path after page = page.0.items ≡ page_of (digests states) path after
+
+-- and whether more are left
+abbrev pub TellsMore : States → List ℕ → Option (List ℕ) → Vec (Key × List ℕ) Global × Bool → Type 0
+TellsMore states path after page = page.1 ≡ is_more_after_page (digests states) path after
+
 -- the states of keys
 abbrev pub for_states : (Key → State → Type 0) → Type 0 → States → Kind Key State
 for_states can_give was_true states = record {
@@ -100,6 +108,20 @@ pub record Asked {S Q A : Type 0} (m : Manner S) (kind : Kind Q A) (questions : 
   pub right : kind.was_true → EachAnswer kind.right questions answers
   pub told : EachTold (HasAnswered m.follows m.can_answer old new) (HasRefused m.follows m.can_refuse old new) answers
   pub not_of_question : kind.was_true → EachRefusal kind.refuses questions answers
+
+-- what is asked of a side, as it is before: nodes, pages, states
+abbrev pub nodes_of : {S : Type 0} → (S → Type 0) → (S → States) → S → Kind (List ℕ) Digests
+nodes_of is_faithful states side = for_nodes (is_faithful side) (states side)
+
+abbrev pub pages_of : {S : Type 0} → (S → Type 0) → (S → States) → S → Kind (List ℕ × Option (List ℕ)) (Vec (Key × List ℕ) Global × Bool)
+pages_of is_faithful states side = for_pages (is_faithful side) (states side)
+
+abbrev pub gets_of : {S : Type 0} → (Key → State → Type 0) → (S → Type 0) → (S → States) → S → Kind Key State
+gets_of can_give is_faithful states side = for_states can_give (is_faithful side) (states side)
+
+-- after Ok, the questions were asked one after the other and answered so
+abbrev pub AskedAll : {S Q A : Type 0} → Manner S → (S → Kind Q A) → List Q → S → S → Result (Vec (Result A Refusal) Global) Refusal → Type 0
+AskedAll m kind questions old new result = IfOk result (λ told. Asked m (kind old) questions told.items old new)
 
 -- Questions that came to an end: at most so many were made, and the side refused so, or memory was refused
 pub record Ends {S : Type 0} (follows : ℕ → S → S → Type 0) (can_refuse : S → Refusal → Type 0) (most : ℕ) (old new : S) (refusal : Refusal) : Type 0 where
@@ -125,6 +147,19 @@ Pushes most old ps ts new = ⊥
 -- some first ones of the pushes, as `Pushes` says; and if the side is still true, it holds just that
 abbrev pub PushesFirst : Type 0 → ℕ → States → List (Key × State) → States → Type 0
 PushesFirst still most old ps new = (n : ℕ) × (ts : List (Result (Unit {0}) Refusal)) × (mid : States) × Pushes most old (take n ps) ts mid × (still → new ≡ mid)
+
+-- a true side's pushes: after Ok each was taken or refused for its cause, and it is true; after a refusal some first ones were
+abbrev pub PushedAll : {S : Type 0} → (S → Type 0) → (S → ℕ) → (S → States) → List (Key × State) → S → S → Result (Vec (Result (Unit {0}) Refusal) Global) Refusal → Type 0
+PushedAll is_faithful most states pairs old new result =
+    is_faithful old → IfOk result (λ told. is_faithful new × Pushes (most old) (states old) pairs told.items (states new))
+
+abbrev pub PushedSome : {S : Type 0} → (S → Type 0) → (S → ℕ) → (S → States) → List (Key × State) → S → S → Result (Vec (Result (Unit {0}) Refusal) Global) Refusal → Type 0
+PushedSome is_faithful most states pairs old new result =
+    is_faithful old → OnErr result (PushesFirst (is_faithful new) (most old) (states old) pairs (states new))
+
+-- the states with one more push
+abbrev pub IsPushed : States → Key → State → States → Type 0
+IsPushed old key state new = new ≡ pushed old key state
 
 -- a state was taken
 abbrev pub Takes : States → Key → State → States → Type 0

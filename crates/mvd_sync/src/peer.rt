@@ -10,7 +10,8 @@ ghost use Rattle.mvd_site.specs.Held.{AreHeld, States, state_at};
 ghost use Rattle.mvd_site.specs.Answer.{digests};
 ghost use Rattle.mvd_sync.specs.Session.{pushed};
 ghost use Rattle.mvd_sync.specs.Sides.{is_of_question};
-ghost use Rattle.mvd_sync.specs.Windows.{Asked, CannotTake, Ends, IsNode, Leaves, Pushes, PushesFirst, RefusesPage, for_nodes, for_pages, for_pushes, for_states, manner};
+ghost use Rattle.mvd_sync.specs.Windows.{AskedAll, CannotTake, Ends, HasKeys, IsNode, IsPushed, Leaves, PushedAll, PushedSome, RefusesPage, TellsMore};
+ghost use Rattle.mvd_sync.specs.Windows.{for_pushes, gets_of, manner, nodes_of, pages_of};
 
 use crate::windows::{is_over, left_open, room_for};
 use mvd_dots::Refusal;
@@ -74,12 +75,9 @@ pub trait Peer {
     /// A page of a bucket after a key.
     fn bucket(&mut self, path: &Path, after: Option<&Key>) -> Result<Page, Refusal>
         ensures kept { is_faithful self.old → is_faithful self.new × (states self.new ≡ states self.old) }
-        ensures page { is_faithful self.old →
-            IfOk result (λ page. page.0.items
-            ≡ page_of (digests (states self.old)) path.now (option_copied after.entry)) }
+        ensures page { is_faithful self.old → IfOk result (HasKeys (states self.old) path.now (option_copied after.entry)) }
         ensures more { is_faithful self.old →
-            IfOk result (λ page. page.1
-            ≡ is_more_after_page (digests (states self.old)) path.now (option_copied after.entry)) }
+            IfOk result (TellsMore (states self.old) path.now (option_copied after.entry)) }
         ensures not_of_question { is_faithful self.old → IfErr result (RefusesPage path.now) }
         ensures follows { follows 1 self.old self.new }
         ensures refuses { IfErr result (can_refuse self.new) }
@@ -98,7 +96,7 @@ pub trait Peer {
     /// Joins a state to that of a key.
     fn push(&mut self, key: &Key, state: &KeyState) -> Result<(), Refusal>
         ensures ok { is_faithful self.old →
-            OnOk result (is_faithful self.new × (states self.new ≡ pushed (states self.old) key.now state.now)) }
+            OnOk result (is_faithful self.new × IsPushed (states self.old) key.now state.now (states self.new)) }
         ensures apart { is_faithful self.old →
             OnOk result (clashes (state_at (states self.old) key.now) state.now ≡ false) }
         ensures refused { is_faithful self.old →
@@ -114,9 +112,8 @@ pub trait Peer {
     /// The digests of several nodes.
     fn nodes(&mut self, paths: &[Path]) -> Result<Vec<Result<Digests, Refusal>>, Refusal>
         ensures kept { is_faithful self.old → is_faithful self.new × (states self.new ≡ states self.old) }
-        ensures told { IfOk result
-            (λ told. Asked (manner follows can_refuse can_answer)
-            (for_nodes (is_faithful self.old) (states self.old)) paths.now told.items self.old self.new) }
+        ensures told { AskedAll (manner follows can_refuse can_answer)
+            (nodes_of is_faithful states) paths.now self.old self.new result }
         ensures ended { IfErr result (Ends follows can_refuse (length paths.now) self.old self.new) }
         ensures not_of_question { is_faithful self.old → IfErr result (λ refusal. is_of_question refusal ≡ false) }
     {
@@ -137,9 +134,8 @@ pub trait Peer {
         asked: &[(Path, Option<Key>)],
     ) -> Result<Vec<Result<Page, Refusal>>, Refusal>
         ensures kept { is_faithful self.old → is_faithful self.new × (states self.new ≡ states self.old) }
-        ensures told { IfOk result
-            (λ told. Asked (manner follows can_refuse can_answer)
-            (for_pages (is_faithful self.old) (states self.old)) asked.now told.items self.old self.new) }
+        ensures told { AskedAll (manner follows can_refuse can_answer)
+            (pages_of is_faithful states) asked.now self.old self.new result }
         ensures ended { IfErr result (Ends follows can_refuse (length asked.now) self.old self.new) }
         ensures not_of_question { is_faithful self.old → IfErr result (λ refusal. is_of_question refusal ≡ false) }
     {
@@ -157,9 +153,8 @@ pub trait Peer {
     /// The states of several keys.
     fn get_all(&mut self, keys: &[Key]) -> Result<Vec<Result<KeyState, Refusal>>, Refusal>
         ensures kept { is_faithful self.old → is_faithful self.new × (states self.new ≡ states self.old) }
-        ensures told { IfOk result
-            (λ told. Asked (manner follows can_refuse can_answer)
-            (for_states can_give (is_faithful self.old) (states self.old)) keys.now told.items self.old self.new) }
+        ensures told { AskedAll (manner follows can_refuse can_answer)
+            (gets_of can_give is_faithful states) keys.now self.old self.new result }
         ensures ended { IfErr result (Ends follows can_refuse (length keys.now) self.old self.new) }
         ensures not_of_question { is_faithful self.old → IfErr result (λ refusal. is_of_question refusal ≡ false) }
     {
@@ -176,18 +171,14 @@ pub trait Peer {
 
     /// Joins each state to that of its key.
     fn push_all(&mut self, pairs: &[(Key, KeyState)]) -> Result<Vec<Result<(), Refusal>>, Refusal>
-        ensures told { IfOk result
-            (λ told. Asked (manner follows can_refuse can_answer) for_pushes pairs.now told.items self.old self.new) }
-        ensures pushes { is_faithful self.old →
-            IfOk result (λ told. is_faithful self.new ×
-            Pushes (most_keys self.old) (states self.old) pairs.now told.items (states self.new)) }
+        ensures told { AskedAll (manner follows can_refuse can_answer)
+            (λ _. for_pushes) pairs.now self.old self.new result }
+        ensures pushes { PushedAll is_faithful most_keys states pairs.now self.old self.new result }
         ensures ended { IfErr result (Ends follows can_refuse (length pairs.now) self.old self.new) }
         ensures not_of_question { is_faithful self.old → IfErr result (λ refusal. is_of_question refusal ≡ false) }
         ensures unbroken { is_faithful self.old →
             IfErr result (λ refusal. refusal ≢ Refusal.Broken → is_faithful self.new) }
-        ensures first { is_faithful self.old →
-            OnErr result (PushesFirst (is_faithful self.new)
-            (most_keys self.old) (states self.old) pairs.now (states self.new)) }
+        ensures first { PushedSome is_faithful most_keys states pairs.now self.old self.new result }
     {
         let mut told = room_for(self.alloc(), pairs.len())?;
         for (key, state) in pairs {

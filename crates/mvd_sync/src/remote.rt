@@ -7,10 +7,9 @@ ghost use Rattle.std.specs.Prelude.{◌≡◌, ◌⊎◌, [], IfOk, None, Some, 
 ghost use Rattle.mvd_dots.specs.declared.refusals.Refusal.{Refusal};
 ghost use Rattle.mvd_wire.specs.declared.request.Request.{Request};
 ghost use Rattle.mvd_wire.specs.declared.request.Request.TheVariants.{Get, Node, Bucket, Push, Bye};
-ghost use Rattle.mvd_wire.specs.declared.reply.Reply.TheVariants.{State as Shown, Done, Digests as Told, Keys, Refused};
-ghost use Rattle.mvd_sync.specs.LinkWindows.{AsksForAll};
-ghost use Rattle.mvd_sync.specs.Lines.{AsksAllTruly, AsksTruly, IsTrueRemote, KeepsMost, RemoteFollows, TakesNext};
-ghost use Rattle.mvd_sync.specs.Lines.{far_of, line_of, refused_of, remote_follows_on, remote_follows_self};
+ghost use Rattle.mvd_wire.specs.declared.reply.Reply.TheVariants.{Done, Refused};
+ghost use Rattle.mvd_sync.specs.Lines.{AsksAllOver, AsksAllTruly, AsksOver, AsksTruly, IsTrueRemote, KeepsMost, RemoteFollows, TakesNext};
+ghost use Rattle.mvd_sync.specs.Lines.{as_digests, as_page, as_state, far_of, line_of, refused_of, remote_follows_on, remote_follows_self};
 ghost use Rattle.mvd_sync.specs.Links.{Asks, AsksFor, ReadsReply, Sends, StaysRefused, answered_by, link};
 ghost use Rattle.mvd_wire.specs.Codec.{Gives};
 ghost use Rattle.mvd_wire.specs.Replies.{kind_of};
@@ -163,11 +162,11 @@ impl<L: Line> Remote<L> {
 
     /// The digest of a node, and those of its children.
     pub fn node(&mut self, path: &Path) -> Result<Digests, Refusal>
-        ensures asked { AsksFor (λ digests. Told digests) (Node path.now)
-            (link L.remaining L.contents self.old) (link L.remaining L.contents self.new) result }
+        ensures asked { AsksOver L.remaining L.contents as_digests
+            (Node path.now) self.old self.new result }
         ensures stays { StaysRefused self.old self.new result }
         ensures most { KeepsMost L.far self.old self.new }
-        ensures truth { AsksTruly L.is_true L.far (λ digests. Told digests)
+        ensures truth { AsksTruly L.is_true L.far as_digests
             (Node path.now) self.old self.new result }
     {
         if let Some(refusal) = self.refused {
@@ -210,11 +209,11 @@ impl<L: Line> Remote<L> {
 
     /// A page of a bucket after a key, and whether more are left.
     pub fn bucket(&mut self, path: &Path, after: Option<&Key>) -> Result<Page, Refusal>
-        ensures asked { AsksFor (λ page. Keys page.0.items page.1) (Bucket path.now (option_copied after.entry))
-            (link L.remaining L.contents self.old) (link L.remaining L.contents self.new) result }
+        ensures asked { AsksOver L.remaining L.contents as_page
+            (Bucket path.now (option_copied after.entry)) self.old self.new result }
         ensures stays { StaysRefused self.old self.new result }
         ensures most { KeepsMost L.far self.old self.new }
-        ensures truth { AsksTruly L.is_true L.far (λ page. Keys page.0.items page.1)
+        ensures truth { AsksTruly L.is_true L.far as_page
             (Bucket path.now (option_copied after.entry)) self.old self.new result }
     {
         if let Some(refusal) = self.refused {
@@ -225,11 +224,11 @@ impl<L: Line> Remote<L> {
 
     /// The state that the site has of a key.
     pub fn get(&mut self, key: &Key) -> Result<KeyState, Refusal>
-        ensures asked { AsksFor (λ state. Shown state) (Get key.now)
-            (link L.remaining L.contents self.old) (link L.remaining L.contents self.new) result }
+        ensures asked { AsksOver L.remaining L.contents as_state
+            (Get key.now) self.old self.new result }
         ensures stays { StaysRefused self.old self.new result }
         ensures most { KeepsMost L.far self.old self.new }
-        ensures truth { AsksTruly L.is_true L.far (λ state. Shown state)
+        ensures truth { AsksTruly L.is_true L.far as_state
             (Get key.now) self.old self.new result }
     {
         if let Some(refusal) = self.refused {
@@ -240,8 +239,8 @@ impl<L: Line> Remote<L> {
 
     /// Joins a state to the one that the site has of a key.
     pub fn push(&mut self, key: &Key, state: &KeyState) -> Result<(), Refusal>
-        ensures asked { AsksFor (λ _. Done) (Push key.now state.now)
-            (link L.remaining L.contents self.old) (link L.remaining L.contents self.new) result }
+        ensures asked { AsksOver L.remaining L.contents (λ _. Done)
+            (Push key.now state.now) self.old self.new result }
         ensures stays { StaysRefused self.old self.new result }
         ensures most { KeepsMost L.far self.old self.new }
         ensures truth { AsksTruly L.is_true L.far (λ _. Done)
@@ -255,8 +254,8 @@ impl<L: Line> Remote<L> {
 
     /// Ends the connection.
     pub fn bye(&mut self) -> Result<(), Refusal>
-        ensures asked { AsksFor (λ _. Done) (Bye)
-            (link L.remaining L.contents self.old) (link L.remaining L.contents self.new) result }
+        ensures asked { AsksOver L.remaining L.contents (λ _. Done)
+            (Bye) self.old self.new result }
         ensures stays { StaysRefused self.old self.new result }
         ensures most { KeepsMost L.far self.old self.new }
         ensures truth { AsksTruly L.is_true L.far (λ _. Done)
@@ -306,41 +305,41 @@ impl<L: Line> Peer for Remote<L> {
     }
 
     fn node(&mut self, path: &Path) -> Result<Digests, Refusal>
-        ensures asked { AsksFor (λ digests. Told digests) (Node path.now)
-            (link L.remaining L.contents self.old) (link L.remaining L.contents self.new) result }
+        ensures asked { AsksOver L.remaining L.contents as_digests
+            (Node path.now) self.old self.new result }
         ensures stays { StaysRefused self.old self.new result }
         ensures most { KeepsMost L.far self.old self.new }
-        ensures truth { AsksTruly L.is_true L.far (λ digests. Told digests)
+        ensures truth { AsksTruly L.is_true L.far as_digests
             (Node path.now) self.old self.new result }
     {
         Remote::node(self, path)
     }
 
     fn bucket(&mut self, path: &Path, after: Option<&Key>) -> Result<Page, Refusal>
-        ensures asked { AsksFor (λ page. Keys page.0.items page.1) (Bucket path.now (option_copied after.entry))
-            (link L.remaining L.contents self.old) (link L.remaining L.contents self.new) result }
+        ensures asked { AsksOver L.remaining L.contents as_page
+            (Bucket path.now (option_copied after.entry)) self.old self.new result }
         ensures stays { StaysRefused self.old self.new result }
         ensures most { KeepsMost L.far self.old self.new }
-        ensures truth { AsksTruly L.is_true L.far (λ page. Keys page.0.items page.1)
+        ensures truth { AsksTruly L.is_true L.far as_page
             (Bucket path.now (option_copied after.entry)) self.old self.new result }
     {
         Remote::bucket(self, path, after)
     }
 
     fn get(&mut self, key: &Key) -> Result<KeyState, Refusal>
-        ensures asked { AsksFor (λ state. Shown state) (Get key.now)
-            (link L.remaining L.contents self.old) (link L.remaining L.contents self.new) result }
+        ensures asked { AsksOver L.remaining L.contents as_state
+            (Get key.now) self.old self.new result }
         ensures stays { StaysRefused self.old self.new result }
         ensures most { KeepsMost L.far self.old self.new }
-        ensures truth { AsksTruly L.is_true L.far (λ state. Shown state)
+        ensures truth { AsksTruly L.is_true L.far as_state
             (Get key.now) self.old self.new result }
     {
         Remote::get(self, key)
     }
 
     fn push(&mut self, key: &Key, state: &KeyState) -> Result<(), Refusal>
-        ensures asked { AsksFor (λ _. Done) (Push key.now state.now)
-            (link L.remaining L.contents self.old) (link L.remaining L.contents self.new) result }
+        ensures asked { AsksOver L.remaining L.contents (λ _. Done)
+            (Push key.now state.now) self.old self.new result }
         ensures stays { StaysRefused self.old self.new result }
         ensures most { KeepsMost L.far self.old self.new }
         ensures truth { AsksTruly L.is_true L.far (λ _. Done)
@@ -350,11 +349,11 @@ impl<L: Line> Peer for Remote<L> {
     }
 
     fn nodes(&mut self, paths: &[Path]) -> Result<Vec<Result<Digests, Refusal>>, Refusal>
-        ensures asked { AsksForAll (λ digests. Told digests) 0xA7 (map (λ path. Node path) paths.now)
-            (link L.remaining L.contents self.old) (link L.remaining L.contents self.new) result }
+        ensures asked { AsksAllOver L.remaining L.contents as_digests 0xA7
+            (map (λ path. Node path) paths.now) self.old self.new result }
         ensures stays { StaysRefused self.old self.new result }
         ensures most { KeepsMost L.far self.old self.new }
-        ensures truth { AsksAllTruly L.is_true L.far (λ digests. Told digests)
+        ensures truth { AsksAllTruly L.is_true L.far as_digests
             (map (λ path. Node path) paths.now) self.old self.new result }
     {
         Remote::nodes(self, paths)
@@ -364,30 +363,30 @@ impl<L: Line> Peer for Remote<L> {
         &mut self,
         asked: &[(Path, Option<Key>)],
     ) -> Result<Vec<Result<Page, Refusal>>, Refusal>
-        ensures asked { AsksForAll (λ page. Keys page.0.items page.1) 0xA8 (map (λ q. Bucket q.0 q.1) asked.now)
-            (link L.remaining L.contents self.old) (link L.remaining L.contents self.new) result }
+        ensures asked { AsksAllOver L.remaining L.contents as_page 0xA8
+            (map (λ q. Bucket q.0 q.1) asked.now) self.old self.new result }
         ensures stays { StaysRefused self.old self.new result }
         ensures most { KeepsMost L.far self.old self.new }
-        ensures truth { AsksAllTruly L.is_true L.far (λ page. Keys page.0.items page.1)
+        ensures truth { AsksAllTruly L.is_true L.far as_page
             (map (λ q. Bucket q.0 q.1) asked.now) self.old self.new result }
     {
         Remote::pages(self, asked)
     }
 
     fn get_all(&mut self, keys: &[Key]) -> Result<Vec<Result<KeyState, Refusal>>, Refusal>
-        ensures asked { AsksForAll (λ state. Shown state) 0xA1 (map (λ key. Get key) keys.now)
-            (link L.remaining L.contents self.old) (link L.remaining L.contents self.new) result }
+        ensures asked { AsksAllOver L.remaining L.contents as_state 0xA1
+            (map (λ key. Get key) keys.now) self.old self.new result }
         ensures stays { StaysRefused self.old self.new result }
         ensures most { KeepsMost L.far self.old self.new }
-        ensures truth { AsksAllTruly L.is_true L.far (λ state. Shown state)
+        ensures truth { AsksAllTruly L.is_true L.far as_state
             (map (λ key. Get key) keys.now) self.old self.new result }
     {
         Remote::get_all(self, keys)
     }
 
     fn push_all(&mut self, pairs: &[(Key, KeyState)]) -> Result<Vec<Result<(), Refusal>>, Refusal>
-        ensures asked { AsksForAll (λ _. Done) 0xA3 (map (λ pair. Push pair.0 pair.1) pairs.now)
-            (link L.remaining L.contents self.old) (link L.remaining L.contents self.new) result }
+        ensures asked { AsksAllOver L.remaining L.contents (λ _. Done) 0xA3
+            (map (λ pair. Push pair.0 pair.1) pairs.now) self.old self.new result }
         ensures stays { StaysRefused self.old self.new result }
         ensures most { KeepsMost L.far self.old self.new }
         ensures truth { AsksAllTruly L.is_true L.far (λ _. Done)

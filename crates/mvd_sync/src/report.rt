@@ -17,7 +17,8 @@ pub enum SyncFault {
     /// The local side refused, or memory was refused to the session itself.
     #[error("fault {0} at this side")]
     Local(Refusal),
-    /// The peer refused.
+    /// The peer refused; or it is no side of this kind (33), or as many questions were asked of it as may be (36), or memory was
+    /// refused for a question to it.
     #[error("fault {0} at the other side")]
     Peer(Refusal),
 }
@@ -39,6 +40,6 @@ pub struct Report {
     pub refused: u64,
     /// Of how many keys the local side had not seen a dot of its own that the peer had.
     pub old: u64,
-    /// The first hundred of the keys that were refused.
+    /// The keys that were refused, but at most a hundred of them.
     pub first_refused: Items<Left>,
 }

@@ -26,7 +26,8 @@ pub fn sync_within<L: Peer, P: Peer>(
 ) -> Result<Report, SyncFault>
     requires some { 1 ≤ questions }
     requires limit { questions ≤ MOST_QUESTIONS }
-    ensures session { Session (sides_of L.Peer P.Peer) questions (two local.old peer.old) (two local.new peer.new) result }
+    ensures session { Session (sides_of L.Peer P.Peer) questions
+        (two local.old peer.old) (two local.new peer.new) result }
 {
     let number = local.number();
     let mut left = Questions {
@@ -54,7 +55,8 @@ pub fn sync<L: Peer, P: Peer>(
     local: &mut L,
     peer: &mut P,
 ) -> Result<Report, SyncFault>
-    ensures session { Session (sides_of L.Peer P.Peer) 10000000 (two local.old peer.old) (two local.new peer.new) result }
+    ensures session { Session (sides_of L.Peer P.Peer) 10000000
+        (two local.old peer.old) (two local.new peer.new) result }
 {
     sync_within(alloc, local, peer, MOST_QUESTIONS)
 }

@@ -1,10 +1,9 @@
 //! Many questions to a site at the other end of a connection, asked at once.
 ghost use Rattle.std.specs.Prelude.{◌≡◌, map};
 ghost use Rattle.mvd_wire.specs.declared.request.Request.TheVariants.{Get, Node, Bucket, Push};
-ghost use Rattle.mvd_wire.specs.declared.reply.Reply.TheVariants.{State, Done, Digests as Told, Keys};
-ghost use Rattle.mvd_sync.specs.LinkWindows.{AsksForAll};
-ghost use Rattle.mvd_sync.specs.Lines.{AsksAllTruly, KeepsMost};
-ghost use Rattle.mvd_sync.specs.Links.{StaysRefused, link};
+ghost use Rattle.mvd_wire.specs.declared.reply.Reply.TheVariants.{Done};
+ghost use Rattle.mvd_sync.specs.Lines.{AsksAllOver, AsksAllTruly, KeepsMost, as_digests, as_page, as_state};
+ghost use Rattle.mvd_sync.specs.Links.{StaysRefused};
 
 use super::Remote;
 use super::window::Window;
@@ -17,11 +16,11 @@ use mvd_wire::{Digests, encode_bucket, encode_get, encode_node, encode_push};
 impl<L: Line> Remote<L> {
     /// The digests of several nodes, asked at once.
     pub fn nodes(&mut self, paths: &[Path]) -> Result<Vec<Result<Digests, Refusal>>, Refusal>
-        ensures asked { AsksForAll (λ digests. Told digests) 0xA7 (map (λ path. Node path) paths.now)
-            (link L.remaining L.contents self.old) (link L.remaining L.contents self.new) result }
+        ensures asked { AsksAllOver L.remaining L.contents as_digests 0xA7
+            (map (λ path. Node path) paths.now) self.old self.new result }
         ensures stays { StaysRefused self.old self.new result }
         ensures most { KeepsMost L.far self.old self.new }
-        ensures truth { AsksAllTruly L.is_true L.far (λ digests. Told digests)
+        ensures truth { AsksAllTruly L.is_true L.far as_digests
             (map (λ path. Node path) paths.now) self.old self.new result }
     {
         if let Some(refusal) = self.refused {
@@ -39,11 +38,11 @@ impl<L: Line> Remote<L> {
         &mut self,
         asked: &[(Path, Option<Key>)],
     ) -> Result<Vec<Result<Page, Refusal>>, Refusal>
-        ensures asked { AsksForAll (λ page. Keys page.0.items page.1) 0xA8 (map (λ q. Bucket q.0 q.1) asked.now)
-            (link L.remaining L.contents self.old) (link L.remaining L.contents self.new) result }
+        ensures asked { AsksAllOver L.remaining L.contents as_page 0xA8
+            (map (λ q. Bucket q.0 q.1) asked.now) self.old self.new result }
         ensures stays { StaysRefused self.old self.new result }
         ensures most { KeepsMost L.far self.old self.new }
-        ensures truth { AsksAllTruly L.is_true L.far (λ page. Keys page.0.items page.1)
+        ensures truth { AsksAllTruly L.is_true L.far as_page
             (map (λ q. Bucket q.0 q.1) asked.now) self.old self.new result }
     {
         if let Some(refusal) = self.refused {
@@ -58,11 +57,11 @@ impl<L: Line> Remote<L> {
 
     /// The states that the site has of several keys, asked at once.
     pub fn get_all(&mut self, keys: &[Key]) -> Result<Vec<Result<KeyState, Refusal>>, Refusal>
-        ensures asked { AsksForAll (λ state. State state) 0xA1 (map (λ key. Get key) keys.now)
-            (link L.remaining L.contents self.old) (link L.remaining L.contents self.new) result }
+        ensures asked { AsksAllOver L.remaining L.contents as_state 0xA1
+            (map (λ key. Get key) keys.now) self.old self.new result }
         ensures stays { StaysRefused self.old self.new result }
         ensures most { KeepsMost L.far self.old self.new }
-        ensures truth { AsksAllTruly L.is_true L.far (λ state. State state)
+        ensures truth { AsksAllTruly L.is_true L.far as_state
             (map (λ key. Get key) keys.now) self.old self.new result }
     {
         if let Some(refusal) = self.refused {
@@ -80,8 +79,8 @@ impl<L: Line> Remote<L> {
         &mut self,
         pairs: &[(Key, KeyState)],
     ) -> Result<Vec<Result<(), Refusal>>, Refusal>
-        ensures asked { AsksForAll (λ _. Done) 0xA3 (map (λ pair. Push pair.0 pair.1) pairs.now)
-            (link L.remaining L.contents self.old) (link L.remaining L.contents self.new) result }
+        ensures asked { AsksAllOver L.remaining L.contents (λ _. Done) 0xA3
+            (map (λ pair. Push pair.0 pair.1) pairs.now) self.old self.new result }
         ensures stays { StaysRefused self.old self.new result }
         ensures most { KeepsMost L.far self.old self.new }
         ensures truth { AsksAllTruly L.is_true L.far (λ _. Done)

@@ -147,7 +147,7 @@ AnswersTruly as_reply most old request (Ok answer) new = TrueReply most old requ
 AnswersTruly as_reply most old request (Err refusal) new =
     TrueReply most old request (Refused refusal) new ⊎ (((request_frame request ≡ Err refusal) × (new ≡ old)) ⊎ ((leaves_open refusal ≡ true) × MayTake most old request new))
 
--- the replies that tell digests, a page, a state
+-- the replies that tell digests, a page, a state, and that it is done
 abbrev pub as_digests : Digests → Reply
 as_digests digests = Told digests
 
@@ -156,6 +156,9 @@ as_page page = Keys page.0.items page.1
 
 abbrev pub as_state : State → Reply
 as_state state = Shown state
+
+abbrev pub as_done : Unit {0} → Reply
+as_done _ = Done
 
 -- what a question to a remote side for an answer gives, over its link as it was and as it is
 abbrev pub AsksOver : {L A : Type 0} → (L → Option (List ℕ)) → (L → Option (List ℕ)) → (A → Reply) → Request → Remote L → Remote L → Result A Refusal → Type 0

@@ -221,7 +221,7 @@ asking local peer left = record { at = two local peer; left = left }
 -- WHAT BECAME OF TWO SIDES by questions
 pub record Course {L P A : Type 0} (s : Sides L P) (old : Asking L P) (new : Two L P) (result : Result A SyncFault) : Type 0 where
   -- Each side was asked so many questions, and is now what that many may make of it. `wanted` are questions that there was no
-  -- budget for: one where the fault is 36, and else any number
+  -- budget for: one where the fault is 36 for that cause, and else any number
   pub asked_local : ℕ
   pub asked_peer : ℕ
   pub wanted_local : ℕ

@@ -81,6 +81,14 @@ abbrev pub is_of_question : Refusal → Bool
 is_of_question BadPath = true
 is_of_question refusal = is_of_key refusal
 
+-- a refusal that is not of one question alone: neither 9, 10 or 11 nor 14
+abbrev pub IsOfNoQuestion : Refusal → Type 0
+IsOfNoQuestion refusal = is_of_question refusal ≡ false
+
+-- a true side stays true, with the states that it held
+abbrev pub StaysTrue : {S : Type 0} → (S → Type 0) → (S → States) → S → S → Type 0
+StaysTrue is_faithful states old new = is_faithful old → is_faithful new × (states new ≡ states old)
+
 -- ---- why a session ends by a side
 
 -- a side before and after it was asked: the most questions that it might be asked, how many it was

@@ -157,9 +157,9 @@ abbrev pub PushedSome : {S : Type 0} → (S → Type 0) → (S → ℕ) → (S �
 PushedSome is_faithful most states pairs old new result =
     is_faithful old → OnErr result (PushesFirst (is_faithful new) (most old) (states old) pairs (states new))
 
--- the states with one more push
-abbrev pub IsPushed : States → Key → State → States → Type 0
-IsPushed old key state new = new ≡ pushed old key state
+-- a side is true after a push, and holds the states with it
+abbrev pub IsPushed : {S : Type 0} → (S → Type 0) → (S → States) → Key → State → S → S → Type 0
+IsPushed is_faithful states key state old new = is_faithful new × (states new ≡ pushed (states old) key state)
 
 -- a state was taken
 abbrev pub Takes : States → Key → State → States → Type 0

@@ -8,8 +8,7 @@ ghost use Rattle.mvd_tree.specs.HashTree.{node_digest};
 ghost use Rattle.mvd_tree.specs.Page.{children_digests, is_more_after_page, page_of};
 ghost use Rattle.mvd_site.specs.Held.{AreHeld, States, state_at};
 ghost use Rattle.mvd_site.specs.Answer.{digests};
-ghost use Rattle.mvd_sync.specs.Session.{pushed};
-ghost use Rattle.mvd_sync.specs.Sides.{is_of_question};
+ghost use Rattle.mvd_sync.specs.Sides.{IsOfNoQuestion, StaysTrue};
 ghost use Rattle.mvd_sync.specs.Windows.{AskedAll, CannotTake, Ends, HasKeys, IsNode, IsPushed, Leaves, PushedAll, PushedSome, RefusesPage, TellsMore};
 ghost use Rattle.mvd_sync.specs.Windows.{for_pushes, gets_of, manner, nodes_of, pages_of};
 
@@ -65,17 +64,18 @@ pub trait Peer {
 
     /// The digest of a node and, above the buckets, those of its sixteen children.
     fn node(&mut self, path: &Path) -> Result<Digests, Refusal>
-        ensures kept { is_faithful self.old → is_faithful self.new × (states self.new ≡ states self.old) }
+        ensures kept { StaysTrue is_faithful states self.old self.new }
         ensures answer { is_faithful self.old → IfOk result (IsNode (digests (states self.old)) path.now) }
-        ensures not_of_question { is_faithful self.old → IfErr result (λ refusal. is_of_question refusal ≡ false) }
+        ensures not_of_question { is_faithful self.old → IfErr result IsOfNoQuestion }
         ensures follows { follows 1 self.old self.new }
         ensures refuses { IfErr result (can_refuse self.new) }
         ensures answers { OnOk result (can_answer self.new) };
 
     /// A page of a bucket after a key.
     fn bucket(&mut self, path: &Path, after: Option<&Key>) -> Result<Page, Refusal>
-        ensures kept { is_faithful self.old → is_faithful self.new × (states self.new ≡ states self.old) }
-        ensures page { is_faithful self.old → IfOk result (HasKeys (states self.old) path.now (option_copied after.entry)) }
+        ensures kept { StaysTrue is_faithful states self.old self.new }
+        ensures page { is_faithful self.old →
+            IfOk result (HasKeys (states self.old) path.now (option_copied after.entry)) }
         ensures more { is_faithful self.old →
             IfOk result (TellsMore (states self.old) path.now (option_copied after.entry)) }
         ensures not_of_question { is_faithful self.old → IfErr result (RefusesPage path.now) }
@@ -85,10 +85,10 @@ pub trait Peer {
 
     /// The state of a key, which is the empty one where the key is not held.
     fn get(&mut self, key: &Key) -> Result<KeyState, Refusal>
-        ensures kept { is_faithful self.old → is_faithful self.new × (states self.new ≡ states self.old) }
+        ensures kept { StaysTrue is_faithful states self.old self.new }
         ensures answer { is_faithful self.old → IfOk result (λ state. state ≡ state_at (states self.old) key.now) }
         ensures given { IfOk result (λ state. can_give key.now state) }
-        ensures not_of_question { is_faithful self.old → IfErr result (λ refusal. is_of_question refusal ≡ false) }
+        ensures not_of_question { is_faithful self.old → IfErr result IsOfNoQuestion }
         ensures follows { follows 1 self.old self.new }
         ensures refuses { IfErr result (can_refuse self.new) }
         ensures answers { OnOk result (can_answer self.new) };
@@ -96,7 +96,7 @@ pub trait Peer {
     /// Joins a state to that of a key.
     fn push(&mut self, key: &Key, state: &KeyState) -> Result<(), Refusal>
         ensures ok { is_faithful self.old →
-            OnOk result (is_faithful self.new × IsPushed (states self.old) key.now state.now (states self.new)) }
+            OnOk result (IsPushed is_faithful states key.now state.now self.old self.new) }
         ensures apart { is_faithful self.old →
             OnOk result (clashes (state_at (states self.old) key.now) state.now ≡ false) }
         ensures refused { is_faithful self.old →
@@ -111,11 +111,11 @@ pub trait Peer {
 
     /// The digests of several nodes.
     fn nodes(&mut self, paths: &[Path]) -> Result<Vec<Result<Digests, Refusal>>, Refusal>
-        ensures kept { is_faithful self.old → is_faithful self.new × (states self.new ≡ states self.old) }
+        ensures kept { StaysTrue is_faithful states self.old self.new }
         ensures told { AskedAll (manner follows can_refuse can_answer)
             (nodes_of is_faithful states) paths.now self.old self.new result }
         ensures ended { IfErr result (Ends follows can_refuse (length paths.now) self.old self.new) }
-        ensures not_of_question { is_faithful self.old → IfErr result (λ refusal. is_of_question refusal ≡ false) }
+        ensures not_of_question { is_faithful self.old → IfErr result IsOfNoQuestion }
     {
         let mut told = room_for(self.alloc(), paths.len())?;
         for path in paths {
@@ -133,11 +133,11 @@ pub trait Peer {
         &mut self,
         asked: &[(Path, Option<Key>)],
     ) -> Result<Vec<Result<Page, Refusal>>, Refusal>
-        ensures kept { is_faithful self.old → is_faithful self.new × (states self.new ≡ states self.old) }
+        ensures kept { StaysTrue is_faithful states self.old self.new }
         ensures told { AskedAll (manner follows can_refuse can_answer)
             (pages_of is_faithful states) asked.now self.old self.new result }
         ensures ended { IfErr result (Ends follows can_refuse (length asked.now) self.old self.new) }
-        ensures not_of_question { is_faithful self.old → IfErr result (λ refusal. is_of_question refusal ≡ false) }
+        ensures not_of_question { is_faithful self.old → IfErr result IsOfNoQuestion }
     {
         let mut told = room_for(self.alloc(), asked.len())?;
         for (path, after) in asked {
@@ -152,11 +152,11 @@ pub trait Peer {
 
     /// The states of several keys.
     fn get_all(&mut self, keys: &[Key]) -> Result<Vec<Result<KeyState, Refusal>>, Refusal>
-        ensures kept { is_faithful self.old → is_faithful self.new × (states self.new ≡ states self.old) }
+        ensures kept { StaysTrue is_faithful states self.old self.new }
         ensures told { AskedAll (manner follows can_refuse can_answer)
             (gets_of can_give is_faithful states) keys.now self.old self.new result }
         ensures ended { IfErr result (Ends follows can_refuse (length keys.now) self.old self.new) }
-        ensures not_of_question { is_faithful self.old → IfErr result (λ refusal. is_of_question refusal ≡ false) }
+        ensures not_of_question { is_faithful self.old → IfErr result IsOfNoQuestion }
     {
         let mut told = room_for(self.alloc(), keys.len())?;
         for key in keys {
@@ -175,7 +175,7 @@ pub trait Peer {
             (λ _. for_pushes) pairs.now self.old self.new result }
         ensures pushes { PushedAll is_faithful most_keys states pairs.now self.old self.new result }
         ensures ended { IfErr result (Ends follows can_refuse (length pairs.now) self.old self.new) }
-        ensures not_of_question { is_faithful self.old → IfErr result (λ refusal. is_of_question refusal ≡ false) }
+        ensures not_of_question { is_faithful self.old → IfErr result IsOfNoQuestion }
         ensures unbroken { is_faithful self.old →
             IfErr result (λ refusal. refusal ≢ Refusal.Broken → is_faithful self.new) }
         ensures first { PushedSome is_faithful most_keys states pairs.now self.old self.new result }

@@ -7,9 +7,9 @@ ghost use Rattle.std.specs.Prelude.{◌≡◌, ◌⊎◌, [], IfOk, None, Some, 
 ghost use Rattle.mvd_dots.specs.declared.refusals.Refusal.{Refusal};
 ghost use Rattle.mvd_wire.specs.declared.request.Request.{Request};
 ghost use Rattle.mvd_wire.specs.declared.request.Request.TheVariants.{Get, Node, Bucket, Push, Bye};
-ghost use Rattle.mvd_wire.specs.declared.reply.Reply.TheVariants.{Done, Refused};
+ghost use Rattle.mvd_wire.specs.declared.reply.Reply.TheVariants.{Refused};
 ghost use Rattle.mvd_sync.specs.Lines.{AsksAllOver, AsksAllTruly, AsksOver, AsksTruly, IsTrueRemote, KeepsMost, RemoteFollows, TakesNext};
-ghost use Rattle.mvd_sync.specs.Lines.{as_digests, as_page, as_state, far_of, line_of, refused_of, remote_follows_on, remote_follows_self};
+ghost use Rattle.mvd_sync.specs.Lines.{as_digests, as_done, as_page, as_state, far_of, line_of, refused_of, remote_follows_on, remote_follows_self};
 ghost use Rattle.mvd_sync.specs.Links.{Asks, AsksFor, ReadsReply, Sends, StaysRefused, answered_by, link};
 ghost use Rattle.mvd_wire.specs.Codec.{Gives};
 ghost use Rattle.mvd_wire.specs.Replies.{kind_of};
@@ -142,8 +142,9 @@ impl<L: Line> Remote<L> {
         }
     }
 
-    /// Asks one question: writes just the frame of the request, and reads just one frame, which spells the reply. After a
-    /// refusal of the link itself, 30 to 35, or 20 while a frame is read, every later question is refused so.
+    /// Asks one question: writes just the frame of the request, and reads just one frame, which spells
+    /// the reply. After a refusal of the link itself, 30 to 35, or 20 while a frame is read, every later
+    /// question is refused so.
     pub fn ask(&mut self, request: &Request) -> Result<Reply, Refusal>
         ensures asked { Asks (link L.remaining L.contents self.old) (link L.remaining L.contents self.new)
             request.now result }
@@ -239,11 +240,11 @@ impl<L: Line> Remote<L> {
 
     /// Joins a state to the one that the site has of a key.
     pub fn push(&mut self, key: &Key, state: &KeyState) -> Result<(), Refusal>
-        ensures asked { AsksOver L.remaining L.contents (λ _. Done)
+        ensures asked { AsksOver L.remaining L.contents as_done
             (Push key.now state.now) self.old self.new result }
         ensures stays { StaysRefused self.old self.new result }
         ensures most { KeepsMost L.far self.old self.new }
-        ensures truth { AsksTruly L.is_true L.far (λ _. Done)
+        ensures truth { AsksTruly L.is_true L.far as_done
             (Push key.now state.now) self.old self.new result }
     {
         if let Some(refusal) = self.refused {
@@ -254,11 +255,11 @@ impl<L: Line> Remote<L> {
 
     /// Ends the connection.
     pub fn bye(&mut self) -> Result<(), Refusal>
-        ensures asked { AsksOver L.remaining L.contents (λ _. Done)
+        ensures asked { AsksOver L.remaining L.contents as_done
             (Bye) self.old self.new result }
         ensures stays { StaysRefused self.old self.new result }
         ensures most { KeepsMost L.far self.old self.new }
-        ensures truth { AsksTruly L.is_true L.far (λ _. Done)
+        ensures truth { AsksTruly L.is_true L.far as_done
             (Bye) self.old self.new result }
     {
         if let Some(refusal) = self.refused {
@@ -338,11 +339,11 @@ impl<L: Line> Peer for Remote<L> {
     }
 
     fn push(&mut self, key: &Key, state: &KeyState) -> Result<(), Refusal>
-        ensures asked { AsksOver L.remaining L.contents (λ _. Done)
+        ensures asked { AsksOver L.remaining L.contents as_done
             (Push key.now state.now) self.old self.new result }
         ensures stays { StaysRefused self.old self.new result }
         ensures most { KeepsMost L.far self.old self.new }
-        ensures truth { AsksTruly L.is_true L.far (λ _. Done)
+        ensures truth { AsksTruly L.is_true L.far as_done
             (Push key.now state.now) self.old self.new result }
     {
         Remote::push(self, key, state)
@@ -385,11 +386,11 @@ impl<L: Line> Peer for Remote<L> {
     }
 
     fn push_all(&mut self, pairs: &[(Key, KeyState)]) -> Result<Vec<Result<(), Refusal>>, Refusal>
-        ensures asked { AsksAllOver L.remaining L.contents (λ _. Done) 0xA3
+        ensures asked { AsksAllOver L.remaining L.contents as_done 0xA3
             (map (λ pair. Push pair.0 pair.1) pairs.now) self.old self.new result }
         ensures stays { StaysRefused self.old self.new result }
         ensures most { KeepsMost L.far self.old self.new }
-        ensures truth { AsksAllTruly L.is_true L.far (λ _. Done)
+        ensures truth { AsksAllTruly L.is_true L.far as_done
             (map (λ pair. Push pair.0 pair.1) pairs.now) self.old self.new result }
     {
         Remote::push_all(self, pairs)

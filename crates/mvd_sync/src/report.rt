@@ -17,8 +17,8 @@ pub enum SyncFault {
     /// The local side refused, or memory was refused to the session itself.
     #[error("fault {0} at this side")]
     Local(Refusal),
-    /// The peer refused; or it is no side of this kind (33), or as many questions were asked of it as may be (36), or memory was
-    /// refused for a question to it.
+    /// The peer refused; or it is no side of this kind (33), or as many questions were asked of it as
+    /// may be (36), or memory was refused for a question to it.
     #[error("fault {0} at the other side")]
     Peer(Refusal),
 }

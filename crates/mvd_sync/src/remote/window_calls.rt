@@ -1,8 +1,7 @@
 //! Many questions to a site at the other end of a connection, asked at once.
 ghost use Rattle.std.specs.Prelude.{◌≡◌, map};
 ghost use Rattle.mvd_wire.specs.declared.request.Request.TheVariants.{Get, Node, Bucket, Push};
-ghost use Rattle.mvd_wire.specs.declared.reply.Reply.TheVariants.{Done};
-ghost use Rattle.mvd_sync.specs.Lines.{AsksAllOver, AsksAllTruly, KeepsMost, as_digests, as_page, as_state};
+ghost use Rattle.mvd_sync.specs.Lines.{AsksAllOver, AsksAllTruly, KeepsMost, as_digests, as_done, as_page, as_state};
 ghost use Rattle.mvd_sync.specs.Links.{StaysRefused};
 
 use super::Remote;
@@ -79,11 +78,11 @@ impl<L: Line> Remote<L> {
         &mut self,
         pairs: &[(Key, KeyState)],
     ) -> Result<Vec<Result<(), Refusal>>, Refusal>
-        ensures asked { AsksAllOver L.remaining L.contents (λ _. Done) 0xA3
+        ensures asked { AsksAllOver L.remaining L.contents as_done 0xA3
             (map (λ pair. Push pair.0 pair.1) pairs.now) self.old self.new result }
         ensures stays { StaysRefused self.old self.new result }
         ensures most { KeepsMost L.far self.old self.new }
-        ensures truth { AsksAllTruly L.is_true L.far (λ _. Done)
+        ensures truth { AsksAllTruly L.is_true L.far as_done
             (map (λ pair. Push pair.0 pair.1) pairs.now) self.old self.new result }
     {
         if let Some(refusal) = self.refused {

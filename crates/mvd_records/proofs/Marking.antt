@@ -17,7 +17,7 @@ use Rattle.sqlite.specs.Command.TheVariants.{Insert}
 use Rattle.sqlite.specs.Does.{Tally, Does}
 use Rattle.sqlite.specs.Rows.{Written}
 use Rattle.sqlite.specs.Tree.{Trees}
-use Rattle.sqlite.specs.Effect.{Database}
+use Rattle.sqlite.specs.Effect.{Database, IsDatabase}
 use Rattle.sqlite.specs.Listing.{understood}
 use Rattle.sqlite.specs.State.{State, Executes, Shown}
 use Rattle.sqlite.specs.View.{IsShaped}
@@ -124,6 +124,9 @@ marks_written limit text db after tally site has none h =
 
 shaped_marks : (site : ℕ) → IsShaped shape.Table (first_marks site)
 shaped_marks site = (((value_cmp-Int (pos 1) (pos 2) ∙ second_above, tt), (tt, tt)), (refl, (refl, tt)))
+
+pub marks_sound : (old new : State) (site count : ℕ) → HasTables all_tables old.now → Executes mark_text (Int (pos site) ∷ []) old new (Ok count) → IsDatabase new.now
+marks_sound old new site count has h = (runs_as mark_text (Int (pos site) ∷ []) old new all_tables has.schema (Insert 1 (Values mark_terms 3)) mark_is mark_plain count h).sound
 
 pub marked : (old new : State) (site count : ℕ) → HasTables all_tables old.now → marks_of old.now ≡ [] → Executes mark_text (Int (pos site) ∷ []) old new (Ok count) → HoldsRecords 2 site new.now × KeepsStates old.now new.now
 marked old new site count has none h =

@@ -97,7 +97,7 @@ fn pair_in(first: &Row, second: &Row) -> Option<(u32, u32)>
 }
 
 /// The version and the site, where the rows are the two marks.
-fn marks_in(rows: &[Row]) -> Option<(u32, u32)>
+pub fn marks_in(rows: &[Row]) -> Option<(u32, u32)>
     ensures { MatchOption result ((v s : _) → v < 2 ^ 32 → s < 2 ^ 32 →
         ¬ AreMarks v s (map first_two rows.now)) (λ p. AreMarks p.0 p.1 (map first_two rows.now)) }
 {

@@ -164,7 +164,8 @@ fn write_marks<S: Alter>(tx: &mut Transaction<'_, S>, site: u32) -> Result<(), R
         → OnOk result (HoldsRecords 2 site (state S.Store tx.new.conn.now).now ×
         KeepsStates (state S.Store tx.old.conn.now).now (state S.Store tx.new.conn.now).now) }
     ensures sound { HasCleanDisk (state S.Store tx.new.conn.now) →
-        IsTrue (state S.Store tx.old.conn.now).in_transaction → HasTables all_tables (state S.Store tx.old.conn.now).now →
+        IsTrue (state S.Store tx.old.conn.now).in_transaction →
+        HasTables all_tables (state S.Store tx.old.conn.now).now →
         IsDatabase (state S.Store tx.old.conn.now).now → OnOk result (IsDatabase (state S.Store tx.new.conn.now).now) }
     ensures refusal { IfErr result (λ e. e ≡ Refusal.Store) }
 {
@@ -190,7 +191,8 @@ fn settle<S: Alter>(tx: &mut Transaction<'_, S>, site: u32) -> Result<u32, Refus
         IfOk result (λ version. OpensRecords version site (state S.Store tx.old.conn.now).now
         (state S.Store tx.new.conn.now).now) }
     ensures sound { HasCleanDisk (state S.Store tx.new.conn.now) →
-        IsTrue (state S.Store tx.old.conn.now).in_transaction → HasTables all_tables (state S.Store tx.old.conn.now).now →
+        IsTrue (state S.Store tx.old.conn.now).in_transaction →
+        HasTables all_tables (state S.Store tx.old.conn.now).now →
         IsDatabase (state S.Store tx.old.conn.now).now → OnOk result (IsDatabase (state S.Store tx.new.conn.now).now) }
     ensures refused { HasCleanDisk (state S.Store tx.new.conn.now) →
         HasTables all_tables (state S.Store tx.old.conn.now).now →

@@ -15,7 +15,7 @@ use mvd_dots::Refusal;
 use mvd_input::Fault;
 use mvd_keys::Path;
 use mvd_print::print_keys;
-use mvd_replica::{Replica, is_foreign};
+use mvd_replica::{Replica, is_foreign, owner_in};
 use mvd_script::{shell_run, tell};
 use mvd_site::Config;
 use mvd_sync::{Left, Line, Remote, Report, Side, SyncFault, sync};
@@ -49,14 +49,6 @@ pub fn refused_in<'a, S: Alter + Drop>(
         return Stop::in_foreign(file);
     }
     Stop::in_records(file, refusal, owner_in(&mut conn))
-}
-
-/// The site that the marks of a database name, where they can be read.
-fn owner_in<S: Alter>(conn: &mut Connection<S>) -> Option<u32> {
-    match conn.query_row("SELECT value FROM meta WHERE name = 'site'", &[]) {
-        Ok(row) => row.get(0).ok(),
-        Err(_) => None,
-    }
 }
 
 /// A stream to the server at an address, on which no read and no write waits for more than so many seconds.

@@ -41,12 +41,12 @@ one_more a b c pairs key bytes so_far one = record {
 module _ {S : Type 0} (g : Ghosts S) (old mid : Held S) where
   -- what a crash may leave of the commit of many states
   pub all_leave : (pairs : List (List ℕ × List ℕ)) → IsSettled (state g old)
-      → ((version site : ℕ) → IsTrue (begun g old mid).in_transaction → IsDatabase (begun g old mid).now → HoldsRecords version site (begun g old mid).now → HoldsRecords version site (state g mid).now × SavesStates (begun g old mid).now (state g mid).now pairs)
+      → ((version site : ℕ) → IsTrue (begun g old mid).in_transaction → IsDatabase (begun g old mid).now → HoldsRecords version site (begun g old mid).now → IsDatabase (state g mid).now × (HoldsRecords version site (state g mid).now × SavesStates (begun g old mid).now (state g mid).now pairs))
       → (db : Trees) → db ≡ (state g mid).now.trees → Leaves (state g old) (λ version site db. HoldsRecords version site db × SavesStates (state g old).committed db pairs) db
   all_leave pairs settled stored db is version site was holds =
       let now = settled.settled was in
       let it = stored version site refl (settled.live was).0 (subst (HoldsRecords version site) (sym now) holds) in
-      ((state g mid).now, (it.0, subst (λ (d : Database). SavesStates d (state g mid).now pairs) now it.1), is)
+      ((state g mid).now, it.0, (it.1.0, subst (λ (d : Database). SavesStates d (state g mid).now pairs) now it.1.1), is)
 
 -- nothing was done
 pub stays_self : (a : State) → StaysInside a a

@@ -132,4 +132,4 @@ on_err (Err e) P Q f h = f h
 
 -- a call that only reads leaves nothing else to a crash
 pub reads_leave : (a b : State) (Q : ℕ → ℕ → Database → Type 0) → OnlyReads a b → Survives a b (Leaves a Q)
-reads_leave a b Q reads = survives_weaker a b _ _ (λ _ db left version site was holds. absurd ((left version site was holds).1)) reads.survives
+reads_leave a b Q reads = survives_weaker a b _ _ (λ _ db left version site was holds. absurd ((left version site was holds).2)) reads.survives

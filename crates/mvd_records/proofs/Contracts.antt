@@ -31,8 +31,8 @@ Follows P C =
 pub left : (P : Change) (C : Contents → Contents → Type 0) (s : State) (trees : Trees) → Follows P C → Leaves s (λ version site db. P version site s.committed db) trees → LeavesChange C s trees
 left P C s trees follows leaves was is_open holds =
     let it = leaves was.version was.site is_open holds.records in
-    let now = follows was s.committed it.0 holds it.1 in
-    (now.0, now.1, it.0, now.2, it.2)
+    let now = follows was s.committed it.0 holds it.2 in
+    (now.0, now.1, it.0, it.1, now.2, it.3)
 
 pub commits : {A : Type 0} (P : Change) (C : Contents → Contents → Type 0) (old new : State) (result : Result A Refusal) → Follows P C → (IsSound new → IsSound old)
     → ((version site : ℕ) → IsSound new → HoldsRecords version site old.committed → OnOk result (P version site old.committed new.committed))

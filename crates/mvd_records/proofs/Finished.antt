@@ -53,7 +53,7 @@ finished_then old trees settled h version site was holds =
     elim may [
       | inl ends ↦ elim ends.0 [ inl commit ↦ absurd cc | inr release ↦ absurd (let e = release.2 in cc) ]
       | inr it ↦ (let done = finished old.step_limit (statement_of finish_text (understood all_tables finish_text)) version site old.now it.2 it.1 here it.3 in
-          (it.2, (done.0, subst (λ d. KeepsStates d it.2) now done.1), it.5))
+          (it.2, it.4, (done.0, subst (λ d. KeepsStates d it.2) now done.1), it.5))
     ]
 
 -- no old key was left, and none is
@@ -64,9 +64,9 @@ ended site old mid new same none it =
 -- a question first, and then the statement
 pub asked_then : (a b c : State) → OnlyReads a b → (HasCleanDisk b → IsTrue b.is_open) → ((version site : ℕ) → IsSound b → HoldsRecords version site a.committed → HasNone (maps.old_states a.committed))
     → Survives b c (Leaves b (λ version site db. HoldsRecords 2 site db × KeepsStates b.committed db)) → Survives a c (Leaves a (λ _ site db. EndsMove site a.committed db))
-asked_then a b c reads stays none ends = survives_then a b c _ _ _ (λ _ db left version site was holds. absurd ((left version site was holds).1)) (λ clean db left version site was holds. (
+asked_then a b c reads stays none ends = survives_then a b c _ _ _ (λ _ db left version site was holds. absurd ((left version site was holds).2)) (λ clean db left version site was holds. (
     let mid : HasCleanDisk b = omega (arith, ends.clean, clean) in
     let sound : IsSound b = record { clean = mid; is_open = stays mid } in
     let same = reads.unchanged version site sound holds in
     let it = left version site (stays mid) (subst (HoldsRecords version site) (sym same) holds) in
-    (it.0, ended site a.committed b.committed it.0 same (none version site sound holds) it.1, it.2))) reads.survives ends
+    (it.0, it.1, ended site a.committed b.committed it.0 same (none version site sound holds) it.2, it.3))) reads.survives ends

@@ -46,7 +46,7 @@ module _ {A : Type 0} (C : Contents → Contents → Type 0) (P : Change) (gives
   pub survives_of : Survives old new (Leaves old (λ version site db. P version site old.committed db))
   survives_of = survives_weaker _ _ _ _ (λ _ trees left version site is_open holds. (
       let d = left (contents_of version site old.committed) is_open (holds_all version site old.committed holds) in
-      (d.2, gives version site old.committed d.2 d.0 d.1 d.3, d.4))) it.survives
+      (d.2, d.3, gives version site old.committed d.2 d.0 d.1 d.4, d.5))) it.survives
 
 sets_gives : (pairs : List (List ℕ × List ℕ)) →
     Gives (SetsStates pairs) (λ version site a b. HoldsRecords version site b × SavesStates a b pairs)

@@ -6,7 +6,7 @@ use Rattle.sqlite.specs.Change.{created, next_tree}
 use Rattle.sqlite.specs.Does.{Tally, lacks_sequence}
 use Rattle.sqlite.specs.Table.{Table}
 use Rattle.sqlite.specs.Schema.{Schema}
-use Rattle.sqlite.specs.Effect.{Database}
+use Rattle.sqlite.specs.Effect.{Database, IsDatabase}
 use Rattle.sqlite.specs.Listing.{understood}
 use Rattle.sqlite.specs.State.{State, Writes, Executes}
 use Rattle.sqlite.specs.View.{IsShaped}
@@ -42,6 +42,12 @@ makes text old new schema after table count has is plain whole defined makes_it 
       empty = ap (λ (d : Database). d.trees (next_tree schema)) now ∙ subst (λ s. first.0.trees (next_tree s) ≡ []) has made.empty;
       kept = subst (λ (d : Database). change.KeepsRows schema.tables old.now.trees d.trees) (sym now) (subst (λ (s : Schema). change.KeepsRows s.tables old.now.trees first.0.trees) has made.others);
     }
+
+made_sound : (text : List ℕ) (old new : State) (schema : Schema) (count : ℕ) → old.now.schema ≡ schema → command_of (understood schema text) ≡ CreateTable → IsPlain (understood schema text) → Executes text [] old new (Ok count) → IsDatabase new.now
+made_sound text old new schema count has is plain h = (runs_as text [] old new schema has CreateTable is plain count h).sound
+
+left_sound : (text : List ℕ) (old new : State) (schema : Schema) (count : ℕ) → old.now.schema ≡ schema → command_of (understood schema text) ≡ Nothing → IsPlain (understood schema text) → Executes text [] old new (Ok count) → IsDatabase old.now → IsDatabase new.now
+left_sound text old new schema count has is plain h = subst IsDatabase (sym (runs_as text [] old new schema has Nothing is plain count h).0.0.now_is)
 
 leaves : (text : List ℕ) (old new : State) (schema : Schema) (count : ℕ) → old.now.schema ≡ schema → command_of (understood schema text) ≡ Nothing → IsPlain (understood schema text) → Executes text [] old new (Ok count) → new.now ≡ old.now
 leaves text old new schema count has is plain h = (runs_as text [] old new schema has Nothing is plain count h).0.0.now_is
@@ -128,6 +134,27 @@ last_made : (old new : State) (count : ℕ) → AfterTwo old.now → Executes st
 last_made old new count (inl has) h =
     third_step old.now new.now has (makes states2_text old new old_tables all_tables (record new_states { tree = 0 }) count has.schema third_made.0 made_plain.2 made_texts.2 last_defined third_made.1 refl h)
 last_made old new count (inr has) h = stay (HasTables all_tables) old.now new.now (leaves states2_text old new all_tables count has.schema all_there.2 all_plain.2 h) has
+
+-- a database that obeyed its schema does so after each of them
+states_sound : (old new : State) (count : ℕ) → IsOurs old.now → Executes states_text [] old new (Ok count) → IsDatabase old.now → IsDatabase new.now
+states_sound old new count (inl has) h sound = made_sound states_text old new no_tables count has.schema first_made.0 made_plain.0 h
+states_sound old new count (inr (inl has)) h sound = left_sound states_text old new old_tables count has.schema there_before.0 before_plain.0 h sound
+states_sound old new count (inr (inr has)) h sound = left_sound states_text old new all_tables count has.schema all_there.0 all_plain.0 h sound
+
+meta_sound : (old new : State) (count : ℕ) → AfterOne old.now → Executes meta_text [] old new (Ok count) → IsDatabase old.now → IsDatabase new.now
+meta_sound old new count (inl has) h sound = made_sound meta_text old new one_table count has.schema second_made.0 made_plain.1 h
+meta_sound old new count (inr (inl has)) h sound = left_sound meta_text old new old_tables count has.schema there_before.1 before_plain.1 h sound
+meta_sound old new count (inr (inr has)) h sound = left_sound meta_text old new all_tables count has.schema all_there.1 all_plain.1 h sound
+
+last_sound : (old new : State) (count : ℕ) → AfterTwo old.now → Executes states2_text [] old new (Ok count) → IsDatabase old.now → IsDatabase new.now
+last_sound old new count (inl has) h sound = made_sound states2_text old new old_tables count has.schema third_made.0 made_plain.2 h
+last_sound old new count (inr has) h sound = left_sound states2_text old new all_tables count has.schema all_there.2 all_plain.2 h sound
+
+pub all_sound : (a b c d : State) (i j k : ℕ) → IsOurs a.now → Executes states_text [] a b (Ok i) → Executes meta_text [] b c (Ok j) → Executes states2_text [] c d (Ok k) → IsDatabase a.now → IsDatabase d.now
+all_sound a b c d i j k ours one two three sound =
+    let first = states_made a b i ours one in
+    let second = meta_made b c j first.0 two in
+    last_sound c d k second.0 three (meta_sound b c j first.0 two (states_sound a b i ours one sound))
 
 pub all_made : (a b c d : State) (i j k : ℕ) → IsOurs a.now → Executes states_text [] a b (Ok i) → Executes meta_text [] b c (Ok j) → Executes states2_text [] c d (Ok k) → HasTables all_tables d.now × KeepsRows a.now d.now
 all_made a b c d i j k ours one two three =

@@ -17,7 +17,7 @@ use Rattle.sqlite.specs.Command.TheVariants.{Insert}
 use Rattle.sqlite.specs.Does.{Tally, Does}
 use Rattle.sqlite.specs.Rows.{Written}
 use Rattle.sqlite.specs.Tree.{Trees}
-use Rattle.sqlite.specs.Effect.{Database}
+use Rattle.sqlite.specs.Effect.{Database, IsDatabase}
 use Rattle.sqlite.specs.Listing.{understood}
 use Rattle.sqlite.specs.State.{State, Executes, Shown}
 use Rattle.sqlite.specs.View.{IsShaped}
@@ -29,8 +29,9 @@ use Rattle.mvd_dots.specs.declared.refusals.Refusal.{Refusal}
 use Rattle.mvd_dots.specs.declared.refusals.Refusal.TheVariants.{SiteMismatch, Damaged}
 use Rattle.mvd_records.specs.Tables.{all_tables, old_states, meta, new_states}
 use Rattle.mvd_records.specs.States.{AreMarks, first_two, shown, states_in}
-use Rattle.mvd_records.specs.Records.{HasTables, HoldsRecords, OpensRecords, KeepsRows, KeepsStates, TellsVersion, TellsMarks, marks_of, rows_at}
+use Rattle.mvd_records.specs.Records.{HasTables, HoldsRecords, IsSettled, OpensRecords, KeepsRows, KeepsStates, TellsVersion, TellsMarks, marks_of, rows_at}
 use Rattle.mvd_records.proofs.Asked.{one_each}
+use Rattle.mvd_records.proofs.Calls.{shown_open}
 use Rattle.mvd_records.proofs.Saving.{went, same_value, cast_null, cast_int, plain_mode}
 use Rattle.mvd_records.proofs.Saved.{rows_there, with_rows}
 use Rattle.mvd_records.proofs.Texts.{marks_text, marks_query, marks_is, marks_plain, mark_text, mark_terms, mark_is, mark_plain}
@@ -67,6 +68,19 @@ told_marks old new answer site r has h tells =
     let same = IsPermutation-map first_two _ _ (listed_marks old new answer has.schema h) in
     let moved : IsPermutation (map shown (old.now.trees 2)) (map first_two answer) = subst (λ l. IsPermutation l (map first_two answer)) (map-map first_two shown (old.now.trees 2)) same in
     subst (λ (rows : List Row). TellsMarks (map shown rows) site r) (sym (meta_there old.now has.schema)) (tells_moved _ _ site r moved tells)
+
+-- and what marks are read are those of the table
+pub named_marks : (old new : State) (answer : List Row) (v s : ℕ) → HasTables all_tables old.now → Shown marks_text [] old new answer → AreMarks v s (map first_two answer) → AreMarks v s (marks_of old.now)
+named_marks old new answer v s has h are =
+    let same = IsPermutation-map first_two _ _ (listed_marks old new answer has.schema h) in
+    let moved : IsPermutation (map shown (old.now.trees 2)) (map first_two answer) = subst (λ l. IsPermutation l (map first_two answer)) (map-map first_two shown (old.now.trees 2)) same in
+    subst (λ (rows : List Row). AreMarks v s (map shown rows)) (sym (meta_there old.now has.schema)) (IsPermutation-trans _ _ _ moved are)
+
+-- so they are those that the last commit held, where no transaction is under way
+pub named_by : (old new : State) (answer : List Row) (v s : ℕ) → IsSettled old → HasTables all_tables old.committed → Shown marks_text [] old new answer → AreMarks v s (map first_two answer) → AreMarks v s (marks_of old.committed)
+named_by old new answer v s settled has h are =
+    let now = settled.settled (shown_open marks_text [] old new answer h) in
+    subst (λ (d : Database). AreMarks v s (marks_of d)) now (named_marks old new answer v s (subst (HasTables all_tables) (sym now) has) h are)
 
 -- the marks that are there tell the version
 pub told_opens : (version site : ℕ) (old new : Database) → new ≡ old → HasTables all_tables old → TellsMarks (marks_of old) site (Ok (Some version)) → OpensRecords version site old new
@@ -124,6 +138,9 @@ marks_written limit text db after tally site has none h =
 
 shaped_marks : (site : ℕ) → IsShaped shape.Table (first_marks site)
 shaped_marks site = (((value_cmp-Int (pos 1) (pos 2) ∙ second_above, tt), (tt, tt)), (refl, (refl, tt)))
+
+pub marks_sound : (old new : State) (site count : ℕ) → HasTables all_tables old.now → Executes mark_text (Int (pos site) ∷ []) old new (Ok count) → IsDatabase new.now
+marks_sound old new site count has h = (runs_as mark_text (Int (pos site) ∷ []) old new all_tables has.schema (Insert 1 (Values mark_terms 3)) mark_is mark_plain count h).sound
 
 pub marked : (old new : State) (site count : ℕ) → HasTables all_tables old.now → marks_of old.now ≡ [] → Executes mark_text (Int (pos site) ∷ []) old new (Ok count) → HoldsRecords 2 site new.now × KeepsStates old.now new.now
 marked old new site count has none h =

@@ -59,7 +59,7 @@ taken version site old new key count sound holds h =
     }
 
 pub put : (version site : ℕ) (old new : State) (key state : List ℕ) (count : ℕ) → IsDatabase old.now → HoldsRecords version site old.now → Executes put_text (Text key ∷ Blob state ∷ []) old new (Ok count)
-    → HoldsRecords version site new.now × SavesState old.now new.now key state
+    → IsDatabase new.now × (HoldsRecords version site new.now × SavesState old.now new.now key state)
 put version site old new key state count sound holds h =
     let has = holds.tables.schema in
     let w = runs_as put_text (Text key ∷ Blob state ∷ []) old new all_tables has (Insert 2 (Values save_terms 3)) put_is put_plain count h in
@@ -67,15 +67,18 @@ put version site old new key state count sound holds h =
     let it = puts old.step_limit (statement_of put_text (understood all_tables put_text)) old.now new.now w.tally key state has are w.sound w.changed in
     let done = it.1 in
     let set = states_set (old.now.trees 4) (new.now.trees 4) done.row (apart_in _ are) done.sets in (
-      record {
-        tables = with_rows new.now it.0 (subst (IsShaped shape.Table) (sym done.old_rows) (holds.tables.rows old_states (inl refl))) (subst (IsShaped shape.Table) (sym done.marks) (holds.tables.rows meta (inr (inl refl)))) done.shaped;
-        marks = subst (λ (rows : List Row). AreMarks version site (map shown rows)) (sym done.marks) holds.marks;
-      },
-      record {
-        old_same = ap states_in ((rows_there new.now it.0).0 ∙ (done.old_rows ∙ sym (rows_there old.now has).0));
-        saved = ap states_in (rows_there new.now it.0).1 ∙ (set ∙ (ap (λ k. insert (states_in (old.now.trees 4)) k (state_of done.row)) done.key_is
-            ∙ (ap (insert (states_in (old.now.trees 4)) key) done.state_is ∙ ap (λ rows. insert (states_in rows) key state) (sym (rows_there old.now has).1))));
-      },
+      w.sound,
+      (
+        record {
+          tables = with_rows new.now it.0 (subst (IsShaped shape.Table) (sym done.old_rows) (holds.tables.rows old_states (inl refl))) (subst (IsShaped shape.Table) (sym done.marks) (holds.tables.rows meta (inr (inl refl)))) done.shaped;
+          marks = subst (λ (rows : List Row). AreMarks version site (map shown rows)) (sym done.marks) holds.marks;
+        },
+        record {
+          old_same = ap states_in ((rows_there new.now it.0).0 ∙ (done.old_rows ∙ sym (rows_there old.now has).0));
+          saved = ap states_in (rows_there new.now it.0).1 ∙ (set ∙ (ap (λ k. insert (states_in (old.now.trees 4)) k (state_of done.row)) done.key_is
+              ∙ (ap (insert (states_in (old.now.trees 4)) key) done.state_is ∙ ap (λ rows. insert (states_in rows) key state) (sym (rows_there old.now has).1))));
+        },
+      ),
     )
 
 -- out of one table, and into the other

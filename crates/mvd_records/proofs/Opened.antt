@@ -47,8 +47,10 @@ module _ {S : Type 0} (g : Ghosts S) (old mid : Held S) where
       subst (λ (d : Database). OpensRecords version site d (state g mid).now) now (opened refl (subst IsOurs (sym now) ours))
 
   -- what a crash may leave of the commit
-  pub leaves : (site version : ℕ) → IsSettled (state g old) → (IsTrue begun.in_transaction → IsOurs begun.now → OpensRecords version site begun.now (state g mid).now) → (db : Trees) → db ≡ (state g mid).now.trees → LeavesOpened (state g old) site db
-  leaves site version settled opened db is was ours = ((state g mid).now, version, opened_mid site version settled was ours opened, is)
+  pub leaves : (site version : ℕ) → IsSettled (state g old) → (IsTrue begun.in_transaction → IsOurs begun.now → OpensRecords version site begun.now (state g mid).now)
+      → (IsTrue begun.in_transaction → IsOurs begun.now → IsDatabase begun.now → IsDatabase (state g mid).now) → (db : Trees) → db ≡ (state g mid).now.trees → LeavesOpened (state g old) site db
+  leaves site version settled opened sound db is was ours =
+      ((state g mid).now, version, sound refl (subst IsOurs (sym (settled.settled was)) ours) (settled.live was).0, opened_mid site version settled was ours opened, is)
 
 pub rolled_back : (old new : State) → IsRolledBack old new → KeepsCommit old new
 rolled_back old new it = unchanged_keeps old new (inr it)
@@ -60,9 +62,9 @@ not_committed old new e (inr late) = unchanged_keeps old new (inl late.2)
 module _ {S : Type 0} (g : Ghosts S) (old mid : Held S) where
   -- what a crash may leave of the commit of a key that moves
   pub moves_leave : (key bytes : List ℕ) → IsSettled (state g old)
-      → ((version site : ℕ) → IsTrue (begun g old mid).in_transaction → IsDatabase (begun g old mid).now → HoldsRecords version site (begun g old mid).now → HoldsRecords version site (state g mid).now × MovesState (begun g old mid).now (state g mid).now key bytes)
+      → ((version site : ℕ) → IsTrue (begun g old mid).in_transaction → IsDatabase (begun g old mid).now → HoldsRecords version site (begun g old mid).now → IsDatabase (state g mid).now × (HoldsRecords version site (state g mid).now × MovesState (begun g old mid).now (state g mid).now key bytes))
       → (db : Trees) → db ≡ (state g mid).now.trees → Leaves (state g old) (λ version site db. HoldsRecords version site db × MovesState (state g old).committed db key bytes) db
   moves_leave key bytes settled moved db is version site was holds =
       let now = settled.settled was in
       let it = moved version site refl (settled.live was).0 (subst (HoldsRecords version site) (sym now) holds) in
-      ((state g mid).now, (it.0, subst (λ (d : Database). MovesState d (state g mid).now key bytes) now it.1), is)
+      ((state g mid).now, it.0, (it.1.0, subst (λ (d : Database). MovesState d (state g mid).now key bytes) now it.1.1), is)

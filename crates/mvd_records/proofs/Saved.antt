@@ -78,5 +78,5 @@ saved_then old key state trees settled h version site was holds =
     elim may [
       | inl ends ↦ elim ends.0 [ inl commit ↦ absurd cc | inr release ↦ absurd (let e = release.2 in cc) ]
       | inr it ↦ (let done = saved old.step_limit (statement_of save_text (understood all_tables save_text)) version site old.now it.2 it.1 key state (settled.live was).0 here it.3 in
-          (it.2, (done.0, subst (λ d. SavesState d it.2 key state) now done.1), it.5))
+          (it.2, it.4, (done.0, subst (λ d. SavesState d it.2 key state) now done.1), it.5))
     ]

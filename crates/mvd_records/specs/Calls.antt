@@ -5,7 +5,7 @@ use Rattle.std.specs.Prelude.{MatchResult}
 use Rattle.std.specs.FinMap.{entries, is_sorted}
 use Rattle.std.specs.declared.alloc.Global.{Global}
 use Rattle.sqlite.specs.Held.{Held, state}
-use Rattle.sqlite.specs.Effect.{Database}
+use Rattle.sqlite.specs.Effect.{Database, IsDatabase}
 use Rattle.sqlite.specs.Tree.{Trees}
 use Rattle.sqlite.specs.State.{State, HasCleanDisk, Survives}
 use Rattle.sqlite_trees.specs.declared.store.Store.{Ghosts}
@@ -29,10 +29,10 @@ OfHeld old new P = (was : Contents) → IsSound new → Holds old.committed was 
 abbrev pub SameCommit : State → State → Type 0
 SameCommit old new = new.committed ≡ old.committed
 
--- the trees are those of a database in which what was held is changed so
+-- the trees are those of a database in which what was held is changed so, and which lists its schema and obeys it
 abbrev pub LeavesChange : (Contents → Contents → Type 0) → State → Trees → Type 0
 LeavesChange Change s trees = (was : Contents) → IsTrue s.is_open → Holds s.committed was →
-    (now : Contents) × Change was now × (db : Database) × Holds db now × (trees ≡ db.trees)
+    (now : Contents) × Change was now × (db : Database) × IsDatabase db × Holds db now × (trees ≡ db.trees)
 
 -- A change of what is held: Ok makes it. A crash leaves what it could leave before the call, or the change, all of it;
 -- also after an error, since the store may fail once the change is on its disk
@@ -47,9 +47,9 @@ pub record Commits {A : Type 0} (Change : Contents → Contents → Type 0) (old
 pub record SavesAll {A : Type 0} (old : Seen) (pairs : List (List ℕ × List ℕ)) (result : Result A Refusal) (new : Seen)
     : Type 0 where
   pub commits : Commits (SetsStates pairs) old.store result new.store
-  -- the store alone refuses it (21)
+  -- every refusal is 21, and no cause is claimed
   pub refusal : IfErr result (λ e. e ≡ Store)
-  -- and then, where the store is sound, the last commit is the same, also of a database that is none of ours. Where it
+  -- after it, where the store is sound, the last commit is the same, also of a database that is none of ours. Where it
   -- is not sound, the next open may find the whole change (`commits.survives`)
   pub unchanged : IsSound new.store → OnErr result (SameCommit old.store new.store)
   pub stays_open : HasCleanDisk new.store → OnOk result (IsTrue new.store.is_open)
@@ -62,7 +62,7 @@ Saves old key state result new = SavesAll old ((key, state) ∷ []) result new
 
 pub record Moves {A : Type 0} (old : Seen) (key state : List ℕ) (result : Result A Refusal) (new : Seen) : Type 0 where
   pub commits : Commits (MovesKey key state) old.store result new.store
-  -- 17 where the key is no old one, or 21, and then nothing is changed
+  -- 17, where the key is no old one, or 21; after either, where the store is sound, nothing is changed
   pub refusal : IfErr result (λ e. (e ≡ Damaged) ⊎ (e ≡ Store))
   pub damaged : OfHeld old.store new.store (λ was. IfErr result (λ e. e ≡ Damaged → LacksKey was.old_map key))
   pub unchanged : IsSound new.store → OnErr result (SameCommit old.store new.store)
@@ -72,7 +72,7 @@ pub record Moves {A : Type 0} (old : Seen) (key state : List ℕ) (result : Resu
 
 pub record Finishes {A : Type 0} (old : Seen) (result : Result A Refusal) (new : Seen) : Type 0 where
   pub commits : Commits EndsMoves old.store result new.store
-  -- 17 where an old key is left, or 21, and then nothing is changed
+  -- 17, where an old key is left, or 21; after either, of records of ours, where the store is sound, nothing is changed
   pub refusal : IfErr result (λ e. (e ≡ Damaged) ⊎ (e ≡ Store))
   pub damaged : OfHeld old.store new.store (λ was. IfErr result (λ e. e ≡ Damaged → ¬ HasNone was.old_map))
   pub unchanged : OfHeld old.store new.store (λ _. OnErr result (SameCommit old.store new.store))

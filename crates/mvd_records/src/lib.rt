@@ -5,10 +5,12 @@ pub mod foreign;
 mod loading;
 mod moving;
 mod open;
+pub mod owner;
 mod pairs;
 mod records;
 mod statements;
 mod storing;
 
 pub use foreign::is_foreign;
+pub use owner::owner_in;
 pub use records::Records;

@@ -45,8 +45,9 @@ fn put_new<S: Alter>(tx: &mut Transaction<'_, S>, key: &str, bytes: &[u8]) -> Re
     ensures put { (version site : _) → HasCleanDisk (state S.Store tx.new.conn.now) →
         IsTrue (state S.Store tx.old.conn.now).in_transaction → IsDatabase (state S.Store tx.old.conn.now).now →
         HoldsRecords version site (state S.Store tx.old.conn.now).now
-        → OnOk result (HoldsRecords version site (state S.Store tx.new.conn.now).now ×
-        SavesState (state S.Store tx.old.conn.now).now (state S.Store tx.new.conn.now).now key.now bytes.now) }
+        → OnOk result (IsDatabase (state S.Store tx.new.conn.now).now ×
+        (HoldsRecords version site (state S.Store tx.new.conn.now).now ×
+        SavesState (state S.Store tx.old.conn.now).now (state S.Store tx.new.conn.now).now key.now bytes.now)) }
     ensures refusal { IfErr result (λ e. e ≡ Refusal.Store) }
 {
     match tx.execute(
@@ -67,8 +68,9 @@ fn shift<S: Alter>(tx: &mut Transaction<'_, S>, key: &str, bytes: &[u8]) -> Resu
     ensures moved { (version site : _) → HasCleanDisk (state S.Store tx.new.conn.now) →
         IsTrue (state S.Store tx.old.conn.now).in_transaction → IsDatabase (state S.Store tx.old.conn.now).now →
         HoldsRecords version site (state S.Store tx.old.conn.now).now
-        → OnOk result (HoldsRecords version site (state S.Store tx.new.conn.now).now ×
-        MovesState (state S.Store tx.old.conn.now).now (state S.Store tx.new.conn.now).now key.now bytes.now) }
+        → OnOk result (IsDatabase (state S.Store tx.new.conn.now).now ×
+        (HoldsRecords version site (state S.Store tx.new.conn.now).now ×
+        MovesState (state S.Store tx.old.conn.now).now (state S.Store tx.new.conn.now).now key.now bytes.now)) }
     ensures missing { (version site : _) → HasCleanDisk (state S.Store tx.new.conn.now) →
         IsTrue (state S.Store tx.old.conn.now).in_transaction → IsDatabase (state S.Store tx.old.conn.now).now →
         HoldsRecords version site (state S.Store tx.old.conn.now).now

@@ -1,6 +1,7 @@
 //! Opening the records: the tables and the marks, in one transaction.
 ghost use Rattle.std.specs.Prelude.{◌≡◌, ◌≤◌, ◌<◌, ◌^◌, [], map, codes, MatchOption, MatchResult, IsTrue, IfErr};
 ghost use Rattle.std.specs.Prelude.{IfOk, OnOk, OnErr, Err};
+ghost use Rattle.sqlite.specs.Effect.{IsDatabase};
 ghost use Rattle.sqlite.specs.Held.{state};
 ghost use Rattle.sqlite.specs.State.{HasCleanDisk, KeepsCommit, Survives};
 ghost use Rattle.mvd_records.specs.States.{AreMarks, IsMark, first_two};
@@ -42,6 +43,9 @@ fn make_tables<S: Alter>(tx: &mut Transaction<'_, S>) -> Result<(), Refusal>
     ensures rows { HasCleanDisk (state S.Store tx.new.conn.now) →
         IsTrue (state S.Store tx.old.conn.now).in_transaction → IsOurs (state S.Store tx.old.conn.now).now →
         OnOk result (KeepsRows (state S.Store tx.old.conn.now).now (state S.Store tx.new.conn.now).now) }
+    ensures sound { HasCleanDisk (state S.Store tx.new.conn.now) →
+        IsTrue (state S.Store tx.old.conn.now).in_transaction → IsOurs (state S.Store tx.old.conn.now).now →
+        IsDatabase (state S.Store tx.old.conn.now).now → OnOk result (IsDatabase (state S.Store tx.new.conn.now).now) }
     ensures refusal { IfErr result (λ e. e ≡ Refusal.Store) }
 {
     match run(
@@ -93,7 +97,7 @@ fn pair_in(first: &Row, second: &Row) -> Option<(u32, u32)>
 }
 
 /// The version and the site, where the rows are the two marks.
-fn marks_in(rows: &[Row]) -> Option<(u32, u32)>
+pub fn marks_in(rows: &[Row]) -> Option<(u32, u32)>
     ensures { MatchOption result ((v s : _) → v < 2 ^ 32 → s < 2 ^ 32 →
         ¬ AreMarks v s (map first_two rows.now)) (λ p. AreMarks p.0 p.1 (map first_two rows.now)) }
 {
@@ -159,6 +163,10 @@ fn write_marks<S: Alter>(tx: &mut Transaction<'_, S>, site: u32) -> Result<(), R
         HasTables all_tables (state S.Store tx.old.conn.now).now → marks_of (state S.Store tx.old.conn.now).now ≡ []
         → OnOk result (HoldsRecords 2 site (state S.Store tx.new.conn.now).now ×
         KeepsStates (state S.Store tx.old.conn.now).now (state S.Store tx.new.conn.now).now) }
+    ensures sound { HasCleanDisk (state S.Store tx.new.conn.now) →
+        IsTrue (state S.Store tx.old.conn.now).in_transaction →
+        HasTables all_tables (state S.Store tx.old.conn.now).now →
+        IsDatabase (state S.Store tx.old.conn.now).now → OnOk result (IsDatabase (state S.Store tx.new.conn.now).now) }
     ensures refusal { IfErr result (λ e. e ≡ Refusal.Store) }
 {
     match tx.execute(
@@ -182,6 +190,10 @@ fn settle<S: Alter>(tx: &mut Transaction<'_, S>, site: u32) -> Result<u32, Refus
         HasTables all_tables (state S.Store tx.old.conn.now).now →
         IfOk result (λ version. OpensRecords version site (state S.Store tx.old.conn.now).now
         (state S.Store tx.new.conn.now).now) }
+    ensures sound { HasCleanDisk (state S.Store tx.new.conn.now) →
+        IsTrue (state S.Store tx.old.conn.now).in_transaction →
+        HasTables all_tables (state S.Store tx.old.conn.now).now →
+        IsDatabase (state S.Store tx.old.conn.now).now → OnOk result (IsDatabase (state S.Store tx.new.conn.now).now) }
     ensures refused { HasCleanDisk (state S.Store tx.new.conn.now) →
         HasTables all_tables (state S.Store tx.old.conn.now).now →
         IfErr result (λ e. TellsVersion (marks_of (state S.Store tx.old.conn.now).now) site (Err e)) }
@@ -207,6 +219,9 @@ fn prepare<S: Alter>(tx: &mut Transaction<'_, S>, site: u32) -> Result<u32, Refu
         IsTrue (state S.Store tx.old.conn.now).in_transaction → IsOurs (state S.Store tx.old.conn.now).now →
         IfOk result (λ version. OpensRecords version site (state S.Store tx.old.conn.now).now
         (state S.Store tx.new.conn.now).now) }
+    ensures sound { HasCleanDisk (state S.Store tx.new.conn.now) →
+        IsTrue (state S.Store tx.old.conn.now).in_transaction → IsOurs (state S.Store tx.old.conn.now).now →
+        IsDatabase (state S.Store tx.old.conn.now).now → OnOk result (IsDatabase (state S.Store tx.new.conn.now).now) }
     ensures refused { HasCleanDisk (state S.Store tx.new.conn.now) →
         IsTrue (state S.Store tx.old.conn.now).in_transaction → IsOurs (state S.Store tx.old.conn.now).now →
         IfErr result (λ e. TellsVersion (marks_of (state S.Store tx.old.conn.now).now) site (Err e)) }

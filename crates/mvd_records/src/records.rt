@@ -1,5 +1,7 @@
 //! Two maps from key to bytes, and a version, in the tables of a database.
 ghost use Rattle.std.specs.Prelude.{◌≡◌, ◌≤◌};
+ghost use Rattle.sqlite.specs.Held.{state};
+ghost use Rattle.sqlite.specs.State.{IsLive};
 ghost use Rattle.mvd_records.specs.Pairs.{entries_of};
 
 use crate::loading::StateTable;
@@ -60,8 +62,11 @@ impl<S: Alter> Records<S> {
 
     /// The version of the format: 1 until the old keys are moved, and then 2.
     pub fn version(&self) -> u32
-        ensures { result ≡ self.now.version }
+        ensures value { result ≡ self.now.version }
+        ensures live { IsLive (state S.Store self.now.conn) }
     {
+        // Here it is known that the database obeys its schema.
+        let _schema = self.conn.schema();
         self.version
     }
 

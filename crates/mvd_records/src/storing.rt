@@ -49,8 +49,9 @@ fn set_states<S: Alter>(
     ensures set { (version site : _) → HasCleanDisk (state S.Store tx.new.conn.now) →
         IsTrue (state S.Store tx.old.conn.now).in_transaction → IsDatabase (state S.Store tx.old.conn.now).now →
         HoldsRecords version site (state S.Store tx.old.conn.now).now
-        → OnOk result (HoldsRecords version site (state S.Store tx.new.conn.now).now ×
-        SavesStates (state S.Store tx.old.conn.now).now (state S.Store tx.new.conn.now).now (entries_of pairs.now)) }
+        → OnOk result (IsDatabase (state S.Store tx.new.conn.now).now ×
+        (HoldsRecords version site (state S.Store tx.new.conn.now).now ×
+        SavesStates (state S.Store tx.old.conn.now).now (state S.Store tx.new.conn.now).now (entries_of pairs.now))) }
     ensures refusal { IfErr result (λ e. e ≡ Refusal.Store) }
 {
     for pair in pairs {

@@ -19,7 +19,7 @@ use Rattle.sqlite.specs.Held.{Held}
 use Rattle.sqlite.specs.Recovery.{Image}
 use Rattle.sqlite.specs.Schema.{Schema}
 use Rattle.sqlite.specs.Start.{FindsIn}
-use Rattle.sqlite.specs.State.{State, store_error}
+use Rattle.sqlite.specs.State.{IsLive, State, store_error}
 use Rattle.sqlite.specs.Tree.{Trees}
 use Rattle.sqlite_catalog.specs.Listing.{IsSound}
 use Rattle.sqlite_store.specs.declared.store.FileStore.{FileStore}
@@ -93,12 +93,12 @@ pub record FailsToGive {D : Type 0} {g : Ghosts D} (c : Held (FileStore D g)) (f
 
 -- A store that is open leaves just its last commit
 pub fails_closing : {D : Type 0} {g : Ghosts D} (c : Held (FileStore D g)) (failed : Error × FileStore D g) →
-    ((trees : Trees) → IsTrue (file_state {g = g} c).is_open → (file_state {g = g} c).may_leave trees → trees ≡ (file_state {g = g} c).committed.trees) →
+    ((trees : Trees) → IsTrue (file_state {g = g} c).is_open → (file_state {g = g} c).may_leave trees → trees ≡ (file_state {g = g} c).committed.trees) → IsLive (file_state {g = g} c) →
     ((cause : StoreError) × (failed.0 ≡ store_error cause)) → IsClosed {g = g} c failed.1 → (IsClean (view failed.1) → FailsToClose {g = g} c failed.1 failed.0) →
     FailsToGive {g = g} c failed
-fails_closing {g} c failed settled named closed cause = record {
+fails_closing {g} c failed settled live named closed cause = record {
   named = named;
   cause = cause;
   crash = closed.quiet.outcomes;
-  left = λ was site states holds trees may. ((file_state {g = g} c).committed, holds, settled trees was (closed.quiet.outcomes trees may));
+  left = λ was site states holds trees may. ((file_state {g = g} c).committed, (live was).1, holds, settled trees was (closed.quiet.outcomes trees may));
 }

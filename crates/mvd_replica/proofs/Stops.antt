@@ -1,5 +1,5 @@
 -- What a stop leaves: the states before the call in hand, or those after it.
-use Rattle.std.proofs.Common.{◌≡◌, false, IsTrue, ℕ, List, refl, subst₂, inl, inr, arith}
+use Rattle.std.proofs.Common.{◌≡◌, false, IsTrue, ℕ, List, refl, subst, subst₂, inl, inr, arith}
 use Rattle.mvd_wire.specs.Codecs.{spell_state}
 use Rattle.mvd_wire.specs.declared.request.Request.{Request}
 use Rattle.mvd_records.specs.Records.{HoldsRecords, Leaves, SavesState}
@@ -8,11 +8,12 @@ use Rattle.mvd_site.specs.FromStates.{after_from}
 use Rattle.mvd_site.specs.Held.{IsSpelled}
 use Rattle.mvd_site.specs.Sites.{SiteValue}
 use Rattle.std.specs.FinMap.{insert}
-use Rattle.sqlite.specs.State.{HasCleanDisk, State, Survives}
+use Rattle.sqlite.specs.Files.{HoldsDatabase}
+use Rattle.sqlite.specs.State.{HasCleanDisk, IsLive, State, Survives}
 use Rattle.sqlite.specs.Tree.{Trees}
 use Rattle.sqlite.proofs.StateLemmas.{survives_weaker}
 use Rattle.mvd_replica.specs.Kept.{AreSpelled, HoldsStates}
-use Rattle.mvd_replica.specs.Stops.{LeavesAnswered, LeavesChange, StopsBetween}
+use Rattle.mvd_replica.specs.Stops.{HoldsWhatIsLeft, LeavesAnswered, LeavesChange, StopsBetween}
 use Rattle.mvd_replica.proofs.Storing.{stored_broken}
 
 -- nothing was called
@@ -26,12 +27,20 @@ survives_self s P = record {
   crash = λ _ trees may. inl may;
 }
 
+-- what a stop left is what the next open finds
+pub held_in_file : HoldsWhatIsLeft
+held_in_file image site states trees left held = record {
+  db = left.0;
+  held = record { trees = subst (λ t. ∥ HoldsDatabase image t ∥₁) left.3 held; sound = left.1 };
+  holds = left.2;
+}
+
 -- one key was saved, as a change of a site
 pub survives_change : (site : SiteValue) (change : ChangeValue) (old new : State) (key bytes : List ℕ) → key ≡ change.key → bytes ≡ spell_state change.state →
     Survives old new (Leaves old (λ version number db. HoldsRecords version number db × SavesState old.committed db key bytes)) → Survives old new (LeavesChange site change old)
 survives_change site change old new key bytes key-is bytes-is it = survives_weaker _ _ _ _ (λ _ trees left is_open holds. (
     let d = left 2 site.config.site is_open holds in
-    (d.0, d.1.0, subst₂ (SavesState old.committed d.0) key-is bytes-is d.1.1, d.2))) it
+    (d.0, d.1, d.2.0, subst₂ (SavesState old.committed d.0) key-is bytes-is d.2.1, d.3))) it
 
 -- the change that answers a request was stored
 pub survives_answered : (site : SiteValue) (request : Request) (change : ChangeValue) (old new : State) →
@@ -39,14 +48,14 @@ pub survives_answered : (site : SiteValue) (request : Request) (change : ChangeV
     Survives old new (LeavesChange site change old) → Survives old new (LeavesAnswered site request old)
 survives_answered site request change old new is fits fit it = survives_weaker _ _ _ _ (λ _ trees left is_open whole holds. (
     let d = left is_open holds.records in
-    (d.0, stored_broken site old.committed d.0 change _ whole is d.2 fits fit d.1 holds, d.3))) it
+    (d.0, d.1, stored_broken site old.committed d.0 change _ whole is d.3 fits fit d.2 holds, d.4))) it
 
 -- Where the store was open and held the states, a stop at the call leaves them, or those with the request's change. A store that is
 -- open leaves just its last commit, by the law `settled` of each store.
 pub stopped : (site : SiteValue) (request : Request) (old new : State) → ((trees : Trees) → IsTrue old.is_open → old.may_leave trees → trees ≡ old.committed.trees) →
-    Survives old new (LeavesAnswered site request old) → HasCleanDisk new → IsTrue old.is_open → site.broken ≡ false → AreSpelled site.states → HoldsStates site.config.site site.states old.committed →
+    IsLive old → Survives old new (LeavesAnswered site request old) → HasCleanDisk new → IsTrue old.is_open → site.broken ≡ false → AreSpelled site.states → HoldsStates site.config.site site.states old.committed →
     StopsBetween site.config.site site.states (after_from site.config site.states request) new.may_leave
-stopped site request old new settled it clean is_open whole fits holds trees may = elim (it.crash clean trees may) [
-  | inl before ↦ inl (old.committed, holds, settled trees is_open before)
+stopped site request old new settled live it clean is_open whole fits holds trees may = elim (it.crash clean trees may) [
+  | inl before ↦ inl (old.committed, (live is_open).1, holds, settled trees is_open before)
   | inr after ↦ inr (after is_open whole (record { records = holds.records; alone = holds.alone; spelled = λ _. holds.spelled }))
 ]

@@ -1,8 +1,9 @@
 -- What the requests of one commit come to, prepared side by side, before anything is changed.
 use Rattle.std.specs.Prelude.{◌≡◌, ◌≢◌, ◌⊎◌, ⊤, ℕ, ◌+◌, ◌<◌, false, List, [], ◌∷◌}
 use Rattle.std.specs.List.{AllByRecursion}
-use Rattle.std.specs.FinMap.{len as map_len}
+use Rattle.std.specs.FinMap.{insert, len as map_len}
 use Rattle.mvd_dots.specs.declared.refusals.Refusal.TheVariants.{Broken, Memory, Store}
+use Rattle.mvd_keys.specs.State.{State}
 use Rattle.mvd_keys.specs.Writes.{Key, Write}
 use Rattle.mvd_wire.specs.Codecs.{spell_state}
 use Rattle.mvd_wire.specs.declared.request.Request.{Request}
@@ -12,6 +13,7 @@ use Rattle.mvd_wire.specs.declared.reply.Reply.TheVariants.{Refused}
 use Rattle.mvd_wire.specs.Replies.{CanBeSent}
 use Rattle.mvd_site.specs.Change.{reply_of}
 use Rattle.mvd_site.specs.Config.{ConfigValue}
+use Rattle.mvd_site.specs.FromStates.{answer_from}
 use Rattle.mvd_site.specs.Held.{IsHeldState, IsSpelled, States}
 use Rattle.mvd_site.specs.Installs.{changes_in, with_prepared}
 use Rattle.mvd_site.specs.Known.{Adds}
@@ -30,6 +32,12 @@ IsElsewhere key (Delete own seen) = own ≢ key
 IsElsewhere key (Push own pushed) = own ≢ key
 IsElsewhere key Bye = ⊤
 IsElsewhere key request = ⊥
+
+-- A request at one key has the same answer after a change of another key, while there is room for a key more
+abbrev pub AnswersOthersAlike : Type 0
+AnswersOthersAlike = (config : ConfigValue) (states : States) (key : Key) (state : State) (request : Request) →
+    IsElsewhere key request → map_len states + 1 < config.max_keys →
+    answer_from config (insert states key state) request ≡ answer_from config states request
 
 -- it sees nothing of what was prepared
 abbrev pub IsApart : Request → Prepared → Type 0

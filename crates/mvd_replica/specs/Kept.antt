@@ -29,7 +29,8 @@ pub record HoldsStates (site : ℕ) (states : States) (db : Database) : Type 0 w
   pub spelled : SpellStates (new_states db) states
   pub fits : AreSpelled states
 
--- the site and the records agree, unless the site is broken
+-- the records are those of a site of this number, with none of version 1; and unless the site is broken, they are its
+-- states
 pub record HoldsSite (site : SiteValue) (db : Database) : Type 0 where
   pub records : HoldsRecords 2 site.config.site db
   pub alone : HasNone (old_states db)

@@ -49,7 +49,7 @@ pub record HoldsMore {D : Type 0} (g : Ghosts D) (site : ℕ) (known : List Writ
 pub record KeepsFile {D : Type 0} (g : Ghosts D) (image : Image) (site : ℕ) (files : Files D) : Type 0 where
   pub was : Database
   pub found : IsFoundIn image was
-  -- it is no other program's, and no other site's, and not damaged
+  -- it is no other program's; and if it is ours, it is this site's and not damaged
   pub own : ¬ IsForeign was
   pub order : IsOurs was → AreReadable site was
   -- of new files the run makes such as hold states of this site

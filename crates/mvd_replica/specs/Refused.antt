@@ -15,8 +15,9 @@ use Rattle.mvd_replica.specs.File.{RefusesFile}
 use Rattle.mvd_replica.specs.Opened.{IsOpeningRefusal}
 
 module _ {D : Type 0} {g : Ghosts D} where
-  -- The files at the path were not to be had; or they were opened, and then want of memory, a failure of the disk that is named, a
-  -- limit of the format, or files that hold no database have refused it, and each of them recovers as before
+  -- The files at the path were not to be had. Or they were opened: where what is left of them is clean, want of memory, a failure of
+  -- the disk that is named, a limit of the format, or files that hold no database have refused it, and they recover as before. Or the
+  -- records were refused: where the store is sound, for the reason that the database gives
   abbrev pub FailsFile : Image → ConfigValue → FileFault D g → Type 0
   FailsFile image config (fault.File e None) =
       IsTrue (is_open_error e) × ((e ≡ SqliteFailure CannotOpen) ⊎ ((e ≡ SqliteFailure OutOfMemory) ⊎ (e ≡ SqliteFailure DatabaseBusy)))

@@ -25,7 +25,7 @@ use Rattle.mvd_site.specs.Installs.{broken_site}
 use Rattle.mvd_site.specs.Known.{Adds}
 use Rattle.mvd_site.specs.Sites.{SiteValue}
 use Rattle.sqlite.specs.Held.{Held, state}
-use Rattle.sqlite.specs.State.{Survives}
+use Rattle.sqlite.specs.State.{IsLive, Survives}
 use Rattle.sqlite_trees.specs.declared.store.Store.{Ghosts}
 use Rattle.mvd_replica.specs.declared.replica.Replica.{Replica}
 use Rattle.mvd_replica.specs.Batch.{AnswersAll, AnswersFront}
@@ -103,10 +103,11 @@ module _ {S : Type 0} {g : Ghosts S} where
   abbrev pub SurvivesRequest : Replica S g → Request → Replica S g → Type 0
   SurvivesRequest old request new = Survives (store_of old) (store_of new) (LeavesAnswered (site_of old) request (store_of old))
 
-  -- the records stay a site's, and then hold the change, unless the store refused it
+  -- where the store is sound, the records stay those of a site of this number
   abbrev pub KeepsRecords : Replica S g → Replica S g → Type 0
   KeepsRecords old new = (number : ℕ) → IsSound (store_of new) → HoldsRecords 2 number (committed_of old) → HoldsRecords 2 number (committed_of new)
 
+  -- and then hold the change, unless the store refused it
   abbrev pub StoresChange : {A : Type 0} → Replica S g → ChangeValue → Result A Refusal → Replica S g → Type 0
   StoresChange old change result new =
       (number : ℕ) → IsSound (store_of new) → HoldsRecords 2 number (committed_of old) → Stores (committed_of old) (committed_of new) change result
@@ -151,7 +152,9 @@ module _ {S : Type 0} {g : Ghosts S} where
     pub clean : WasClean old new
     -- the store that is sound now was sound before
     pub before : WasSound old new
-    -- the records follow the states
+    -- while the store was open, its database listed its schema and obeyed it
+    pub live : IsLive (store_of old)
+    -- where the store is sound, the records follow the states
     pub records : RecordsFollow old new
     -- where the change breaks the site, they hold the states with the change in
     pub stored : StoresThoughBroken old request (reply ≡ Refused Broken) new
@@ -160,13 +163,15 @@ module _ {S : Type 0} {g : Ghosts S} where
 
   -- ---- push
 
-  -- What of that an asker may count on: the reply is one that a site may give then, there are writes that fit it, and the records
-  -- follow
+  -- What of that an asker may count on
   pub record ReplicaAnswers (old new : Replica S g) (request : Request) (reply : Reply) : Type 0 where
+    -- the reply is one that may be given, from any writes that the states stand for
     pub replies : AnswersStored (site_of old) (site_of new) request reply
+    -- there are writes that it adds, so what is said for all such writes is not empty
     pub choice : (added : List Write) × Adds request reply added
     -- also where the site is broken, its states stand for what they stood for and for these
     pub keeps : (known added : List Write) → Stands (site_of old).states known → Adds request reply added → Stands (site_of new).states (known ++ added)
+    -- and where the store is sound, the records follow the states
     pub follows : ReplicaFollows (λ asked. asked ≡ request) (stored_of old) (stored_of new)
 
   -- one push, with what it came to
@@ -181,7 +186,7 @@ module _ {S : Type 0} {g : Ghosts S} where
     pub clash : IfErr result (λ refusal. refusal ≡ DotClash → clashes (state_at (site_of old).states key) pushed ≡ true)
     -- a refusal other than 22 leaves the site as it was
     pub unchanged : IfErr result (λ refusal. refusal ≢ Broken → site_of new ≡ site_of old)
-    -- and the last commit
+    -- and, where the store is sound, the last commit; where it is not, the next open may find the push (`survives`)
     pub unstored : IfErr result (λ refusal. refusal ≢ Broken → KeepsCommit old new)
     -- what would change nothing leaves all as it was
     pub still : ChangesNothing (site_of old) (Push key pushed) → new ≡ old
@@ -195,7 +200,7 @@ module _ {S : Type 0} {g : Ghosts S} where
     pub stays : (site_of old).broken ≡ true → (result ≡ Err Broken) × (new ≡ old)
     -- a state that was joined is that of some set of writes
     pub valid : OnOk result (IsValid pushed)
-    -- the records follow the states
+    -- where the store is sound, the records follow the states
     pub follows : ReplicaFollows (λ asked. asked ≡ Push key pushed) (stored_of old) (stored_of new)
     -- where the push breaks the site, they hold the states with the push in
     pub stored : StoresThoughBroken old (Push key pushed) (result ≡ Err Broken) new

@@ -1,5 +1,6 @@
 -- A site over several runs of a program. Each run opens the file as the run before left it, answers requests, and closes it.
-use Rattle.std.specs.Prelude.{◌≡◌, ℕ, List, [], ◌∷◌, ◌++◌, ⊤, false, true}
+use Rattle.std.specs.Prelude.{◌≡◌, ℕ, List, [], ◌∷◌, ◌++◌, ⊤, false, true, Option, Result}
+use Rattle.mvd_dots.specs.declared.refusals.Refusal.{Refusal}
 use Rattle.mvd_keys.specs.Writes.{Stands, Write}
 use Rattle.mvd_wire.specs.declared.reply.Reply.{Reply}
 use Rattle.mvd_wire.specs.declared.request.Request.{Request}
@@ -15,9 +16,12 @@ use Rattle.mvd_replica.specs.File.{HoldsFile, OpensFile}
 use Rattle.mvd_replica.specs.declared.replica.Replica.{Replica}
 use Rattle.mvd_replica.specs.Kept.{HoldsSite, HoldsStates}
 use Rattle.mvd_replica.specs.ReplicaCalls.{Answers}
-use Rattle.mvd_replica.specs.Replicas.{StoredSite, committed_of, site_of, store_of, stored_of}
+use Rattle.mvd_replica.specs.Replicas.{StoredSite, committed_of, site_of, store_of, stored_by, stored_of}
+use Rattle.mvd_replica.specs.Served.{Served}
+use Rattle.mvd_replica.specs.declared.serving.Ended.{Ended}
 use Rattle.mvd_replica.specs.Stops.{StopsBetween}
 use Rattle.mvd_replica.specs.Turns.{AllTold, Event, Replies, StandsOn, TellsTurns, Turn, known_after}
+use Rattle.sqlite.specs.Held.{Held}
 use Rattle.sqlite.specs.Recovery.{Image}
 use Rattle.sqlite.specs.State.{HasCleanDisk, State}
 use Rattle.sqlite_trees.specs.declared.store.Store.{Ghosts}
@@ -77,6 +81,20 @@ AllAnswered f site known image (run ∷ runs) = (events : List Event) → TellsT
     × (run.new.broken ≡ true → (it : HoldsLost run.turns run.new (f run.after).committed)
     × ((added : List Write) → AddAll run.config (known ++ known_after events) (lost_requests it.lost) added
     → AllAnswered f site ((known ++ known_after events) ++ added) run.left runs))
+
+-- What runs of a site come to, from a file whose states stand for some writes
+abbrev pub AnswersAcrossRestarts : {C : Type 0} → (C → State) → Type 0
+AnswersAcrossRestarts {C} f =
+    (site : ℕ) (image : Image) (states : States) (known : List Write) (runs : List (Run C)) →
+    HoldsFile image site states → Stands states known → AreRuns f site image runs → AllAnswered f site known image runs
+
+-- the turns of a connection that was served are turns of a run
+abbrev pub ServesInRun : {S : Type 0} → Ghosts S → Type 0
+ServesInRun {S} g =
+    (old new : SiteValue) (before after : Held S) (input input' output output' : Option (List ℕ)) (result : Result Ended Refusal) →
+    (it : Served (record { stored = stored_by g old before; input = input; output = output })
+    (record { stored = stored_by g new after; input = input'; output = output' }) result) →
+    TurnsFollow it.turns (stored_by g old before) (stored_by g new after)
 
 -- A stop in the middle of a call of `answer`, or before the next one: whatever turns came before, if the store was sound when the call
 -- began, the files hold the states that all of them left, or these with the change of the request in hand, and nothing else.

@@ -140,6 +140,12 @@ pub record Served (old new : Conversation) (result : Result Ended Refusal) : Typ
   -- written went out whole
   pub went_out : WentOut turns ending old new result
 
+-- The same of a replica, with its reader and its writer: `left` tells what the one still has, and `taken` what the other took
+abbrev pub ServesOver : {S R W : Type 0} {g : Ghosts S} → (R → Option (List ℕ)) → (W → Option (List ℕ)) →
+    Replica S g × R × W → Replica S g × R × W → Result Ended Refusal → Type 0
+ServesOver left taken old new result =
+    Served (conversation_of old.0 (left old.1) (taken old.2)) (conversation_of new.0 (left new.1) (taken new.2)) result
+
 -- turns that were taken, after which the connection goes on
 pub record Went (turns : List Turn) (old new : Conversation) : Type 0 where
   pub takes : Takes turns old.stored new.stored

@@ -13,7 +13,8 @@ use sqlite_disk::Disk;
 pub enum FileFault<D: Disk + Drop> {
     /// No database could be opened: with what is left of the files, if they had been opened.
     File(Error, Option<Leftover<D>>),
-    /// Its records are refused. With the connection, as it was or as the move of old keys left it.
+    /// Its records are refused. With the connection: to another program's database as it was, to one
+    /// of ours as it was or as the move of old keys left it.
     Records(Refusal, Connection<FileStore<D>>),
 }
 

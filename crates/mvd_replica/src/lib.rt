@@ -18,7 +18,7 @@ pub use file::{FileFault, open_file};
 pub use mvd_docs::{Document, Field, Term, ViewName};
 pub use mvd_dots::{Context, Dot, Refusal};
 pub use mvd_keys::{Key, KeyState, Place};
-pub use mvd_records::is_foreign;
+pub use mvd_records::{is_foreign, owner_in};
 pub use mvd_rows::Defs;
 pub use mvd_site::Config;
 pub use mvd_sync::{Left, Report, Side, SyncFault, sync};

@@ -132,6 +132,8 @@ impl<S: Alter> Replica<S> {
     pub fn answer(&mut self, request: &Request) -> Reply
         ensures { Answers self.old request.now result self.new }
     {
+        // Here it is known that the database obeys its schema.
+        let _version = self.records.version();
         match self.site.prepare(request) {
             Err(refusal) => Reply::Refused(refusal),
             Ok(Prepared::Answer(reply)) => reply,
@@ -177,8 +179,8 @@ impl<S: Alter> Replica<S> {
     }
 
     /// Joins a state to that of a key, and stores it, as a request to push it does: done; or the first
-    /// refusal that applies, after which the site and the records are as they were, unless the replica
-    /// is broken.
+    /// refusal that applies. A refusal other than `Broken` leaves the site as it was, and the records
+    /// too, unless the store failed: then the next open may find the push.
     pub fn push(&mut self, key: &Key, pushed: &KeyState) -> Result<(), Refusal>
         ensures { PushesState self.old key.now pushed.now result self.new }
     {

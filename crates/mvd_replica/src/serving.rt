@@ -1,5 +1,5 @@
 //! The answering of one connection.
-ghost use Rattle.mvd_replica.specs.Served.{Served, conversation_of};
+ghost use Rattle.mvd_replica.specs.Served.{ServesOver};
 
 use crate::replica::Replica;
 use crate::turns::{stop, take_turn};
@@ -30,9 +30,8 @@ pub fn serve<R: Read, W: Write, S: Alter>(
     writer: &mut W,
     replica: &mut Replica<S>,
 ) -> Result<Ended, Refusal>
-    ensures { Served
-        (conversation_of replica.old (R.remaining reader.old) (W.contents writer.old))
-        (conversation_of replica.new (R.remaining reader.new) (W.contents writer.new)) result }
+    ensures { ServesOver R.remaining W.contents
+        (replica.old, reader.old, writer.old) (replica.new, reader.new, writer.new) result }
 {
     for _frame in 0..FRAMES_MAX {
         match take_turn(alloc, reader, writer, replica) {

@@ -33,9 +33,9 @@ returns-in-Ok-commit-clause-kept g c version site it holds =
     let early : HasCleanDisk (state g.S.Store mid) = omega (arith, c.commit.ensures.survives.clean, late) in
     let was : IsTrue old.is_open = search rules in
     let now = settled.settled was in
-    let done = subst (λ (h : Held _). IsTrue (state g.S.Store h).in_transaction → IsDatabase (state g.S.Store h).now → HoldsRecords version site (state g.S.Store h).now → HoldsRecords version site (state g.S.Store mid).now × MovesState (state g.S.Store h).now (state g.S.Store mid).now c.args.key.now c.args.bytes.now) begun (c.in-Ok.ensures.moved version site early) refl (settled.live was).0 (subst (HoldsRecords version site) (sym now) holds) in
+    let done = subst (λ (h : Held _). IsTrue (state g.S.Store h).in_transaction → IsDatabase (state g.S.Store h).now → HoldsRecords version site (state g.S.Store h).now → IsDatabase (state g.S.Store mid).now × (HoldsRecords version site (state g.S.Store mid).now × MovesState (state g.S.Store h).now (state g.S.Store mid).now c.args.key.now c.args.bytes.now)) begun (c.in-Ok.ensures.moved version site early) refl (settled.live was).0 (subst (HoldsRecords version site) (sym now) holds) in
     let committed = (c.in-Ok-commit.ensures.ok late).1.committed_is in
-    subst (λ (h : Held _). HoldsRecords version site (state g.S.Store h).committed) same (subst (HoldsRecords version site) (sym committed) done.0)
+    subst (λ (h : Held _). HoldsRecords version site (state g.S.Store h).committed) same (subst (HoldsRecords version site) (sym committed) done.1.0)
 
 pub returns-in-Ok-commit-clause-moved : goal.returns-in-Ok-commit-clause-moved
 returns-in-Ok-commit-clause-moved g c version site it holds =
@@ -49,9 +49,9 @@ returns-in-Ok-commit-clause-moved g c version site it holds =
     let early : HasCleanDisk (state g.S.Store mid) = omega (arith, c.commit.ensures.survives.clean, late) in
     let was : IsTrue old.is_open = search rules in
     let now = settled.settled was in
-    let done = subst (λ (h : Held _). IsTrue (state g.S.Store h).in_transaction → IsDatabase (state g.S.Store h).now → HoldsRecords version site (state g.S.Store h).now → HoldsRecords version site (state g.S.Store mid).now × MovesState (state g.S.Store h).now (state g.S.Store mid).now c.args.key.now c.args.bytes.now) begun (c.in-Ok.ensures.moved version site early) refl (settled.live was).0 (subst (HoldsRecords version site) (sym now) holds) in
+    let done = subst (λ (h : Held _). IsTrue (state g.S.Store h).in_transaction → IsDatabase (state g.S.Store h).now → HoldsRecords version site (state g.S.Store h).now → IsDatabase (state g.S.Store mid).now × (HoldsRecords version site (state g.S.Store mid).now × MovesState (state g.S.Store h).now (state g.S.Store mid).now c.args.key.now c.args.bytes.now)) begun (c.in-Ok.ensures.moved version site early) refl (settled.live was).0 (subst (HoldsRecords version site) (sym now) holds) in
     let committed = (c.in-Ok-commit.ensures.ok late).1.committed_is in
-    let from = subst (λ (d : Database). MovesState d (state g.S.Store mid).now c.args.key.now c.args.bytes.now) now done.1 in
+    let from = subst (λ (d : Database). MovesState d (state g.S.Store mid).now c.args.key.now c.args.bytes.now) now done.1.1 in
     subst (λ (h : Held _). MovesState old.committed (state g.S.Store h).committed c.args.key.now c.args.bytes.now) same (subst (λ (d : Database). MovesState old.committed d c.args.key.now c.args.bytes.now) (sym committed) from)
 
 pub returns-in-Ok-commit-clause-survives : goal.returns-in-Ok-commit-clause-survives
@@ -63,7 +63,7 @@ returns-in-Ok-commit-clause-survives g c =
     let begun = c.transaction-tx.ensures.begun in
     let early = λ (clean : HasCleanDisk (state g.S.Store end)). (let e : HasCleanDisk (state g.S.Store mid) = omega (arith, c.commit.ensures.survives.clean, clean) in e) in
     let stays = subst (λ (h : Held _). StaysInside (state g.S.Store h) (state g.S.Store mid)) begun c.shift.ensures.stays in
-    let moved = λ (clean : HasCleanDisk (state g.S.Store end)) (version site : ℕ). subst (λ (h : Held _). IsTrue (state g.S.Store h).in_transaction → IsDatabase (state g.S.Store h).now → HoldsRecords version site (state g.S.Store h).now → HoldsRecords version site (state g.S.Store mid).now × MovesState (state g.S.Store h).now (state g.S.Store mid).now c.args.key.now c.args.bytes.now) begun (c.in-Ok.ensures.moved version site (early clean)) in
+    let moved = λ (clean : HasCleanDisk (state g.S.Store end)) (version site : ℕ). subst (λ (h : Held _). IsTrue (state g.S.Store h).in_transaction → IsDatabase (state g.S.Store h).now → HoldsRecords version site (state g.S.Store h).now → IsDatabase (state g.S.Store mid).now × (HoldsRecords version site (state g.S.Store mid).now × MovesState (state g.S.Store h).now (state g.S.Store mid).now c.args.key.now c.args.bytes.now)) begun (c.in-Ok.ensures.moved version site (early clean)) in
     let left = Leaves old (λ version site db. HoldsRecords version site db × MovesState old.committed db c.args.key.now c.args.bytes.now) in
     let whole = survives_all g.S.Store c.args.conn.now mid (state g.S.Store end) _ left stays (λ clean db is. moves_leave g.S.Store c.args.conn.now mid c.args.key.now c.args.bytes.now settled (moved clean) db is) c.commit.ensures.survives in
     let same : end ≡ c.conn-2-1.given.0 = search rules in
@@ -78,7 +78,7 @@ returns-in-Err-commit-clause-survives g c =
     let begun = c.transaction-tx.ensures.begun in
     let early = λ (clean : HasCleanDisk (state g.S.Store end)). (let e : HasCleanDisk (state g.S.Store mid) = omega (arith, c.commit.ensures.survives.clean, clean) in e) in
     let stays = subst (λ (h : Held _). StaysInside (state g.S.Store h) (state g.S.Store mid)) begun c.shift.ensures.stays in
-    let moved = λ (clean : HasCleanDisk (state g.S.Store end)) (version site : ℕ). subst (λ (h : Held _). IsTrue (state g.S.Store h).in_transaction → IsDatabase (state g.S.Store h).now → HoldsRecords version site (state g.S.Store h).now → HoldsRecords version site (state g.S.Store mid).now × MovesState (state g.S.Store h).now (state g.S.Store mid).now c.args.key.now c.args.bytes.now) begun (c.in-Ok.ensures.moved version site (early clean)) in
+    let moved = λ (clean : HasCleanDisk (state g.S.Store end)) (version site : ℕ). subst (λ (h : Held _). IsTrue (state g.S.Store h).in_transaction → IsDatabase (state g.S.Store h).now → HoldsRecords version site (state g.S.Store h).now → IsDatabase (state g.S.Store mid).now × (HoldsRecords version site (state g.S.Store mid).now × MovesState (state g.S.Store h).now (state g.S.Store mid).now c.args.key.now c.args.bytes.now)) begun (c.in-Ok.ensures.moved version site (early clean)) in
     let left = Leaves old (λ version site db. HoldsRecords version site db × MovesState old.committed db c.args.key.now c.args.bytes.now) in
     let whole = survives_all g.S.Store c.args.conn.now mid (state g.S.Store end) _ left stays (λ clean db is. moves_leave g.S.Store c.args.conn.now mid c.args.key.now c.args.bytes.now settled (moved clean) db is) c.commit.ensures.survives in
     let same : end ≡ c.conn-2-1.given.0 = search rules in

@@ -19,7 +19,7 @@ pub returns-clause-moved : goal.returns-clause-moved
 returns-clause-moved g c version site clean inside sound holds =
     let mid = early _ _ c.put_new.ensures.stays clean in
     let taken = c.in-Ok.ensures.taken version site mid inside sound holds in
-    on_then c.put_new.result _ _ (λ it. (it.0, both_moved _ _ _ c.args.key.now c.args.bytes.now taken.2 it.1)) (c.put_new.ensures.put version site clean (c.in-Ok.ensures.inside mid inside) taken.0 taken.1)
+    on_then c.put_new.result _ _ (λ it. (it.0, (it.1.0, both_moved _ _ _ c.args.key.now c.args.bytes.now taken.2 it.1.1))) (c.put_new.ensures.put version site clean (c.in-Ok.ensures.inside mid inside) taken.0 taken.1)
 
 pub returns-clause-missing : goal.returns-clause-missing
 returns-clause-missing g c version site clean inside sound holds = if_err c.put_new.result _ _ (λ e is damaged. absurd (never e is damaged)) c.put_new.ensures.refusal

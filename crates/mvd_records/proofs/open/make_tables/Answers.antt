@@ -1,7 +1,7 @@
 use Rattle.mvd_records.specs.Records.{Ran}
 use Rattle.mvd_records.proofs.Checked.{on_then}
 use Rattle.mvd_records.proofs.Inside.{stays_then, early}
-use Rattle.mvd_records.proofs.Made.{all_made}
+use Rattle.mvd_records.proofs.Made.{all_made, all_sound}
 use Rattle.mvd_records.proofs.OpenTexts.{states2_text}
 use Rattle.mvd_records.proofs.open.make_tables.Goals as goal
 
@@ -32,3 +32,10 @@ returns-clause-rows g c clean inside ours =
     let one = c.in-Ok.ensures.ran (early _ _ c.run-2.ensures.stays mid) inside in
     let two = c.in-Ok-run.ensures.ran mid one.inside in
     on_then c.run-3.result _ _ (λ (it : Ran states2_text _ _ _). (all_made _ _ _ _ one.count two.count it.count ours one.did two.did it.did).1) (c.run-3.ensures.ran clean two.inside)
+
+pub returns-clause-sound : goal.returns-clause-sound
+returns-clause-sound g c clean inside ours sound =
+    let mid = early _ _ c.run-3.ensures.stays clean in
+    let one = c.in-Ok.ensures.ran (early _ _ c.run-2.ensures.stays mid) inside in
+    let two = c.in-Ok-run.ensures.ran mid one.inside in
+    on_then c.run-3.result _ _ (λ (it : Ran states2_text _ _ _). all_sound _ _ _ _ one.count two.count it.count ours one.did two.did it.did sound) (c.run-3.ensures.ran clean two.inside)

@@ -1,5 +1,5 @@
 use Rattle.std.proofs.Common.{◌≡◌, subst, sym, refl, IsTrue, Err, rules, arith}
-use Rattle.sqlite.specs.Effect.{Database}
+use Rattle.sqlite.specs.Effect.{Database, IsDatabase}
 use Rattle.sqlite.specs.Held.{Held, state}
 use Rattle.sqlite.specs.State.{HasCleanDisk, KeepsCommit, Survives}
 use Rattle.mvd_records.specs.Records.{IsSettled, IsSound, IsOurs, OpensRecords, StaysInside, LeavesOpened, LeavesRefused, TellsVersion, marks_of}
@@ -44,8 +44,9 @@ returns-in-Ok-commit-clause-survives g c =
     let early = λ (clean : HasCleanDisk (state g.S.Store c.commit.new.self.0)). (let e : HasCleanDisk (state g.S.Store mid) = omega (arith, c.commit.ensures.survives.clean, clean) in e) in
     let stays = subst (λ (h : Held _). StaysInside (state g.S.Store h) (state g.S.Store mid)) begun c.prepare.ensures.stays in
     let opened = λ (clean : HasCleanDisk (state g.S.Store c.commit.new.self.0)). subst (λ (h : Held _). IsTrue (state g.S.Store h).in_transaction → IsOurs (state g.S.Store h).now → OpensRecords c.in-Ok.version c.args.site (state g.S.Store h).now (state g.S.Store mid).now) begun (c.in-Ok.ensures.opened (early clean)) in
+    let sound = λ (clean : HasCleanDisk (state g.S.Store c.commit.new.self.0)). subst (λ (h : Held _). IsTrue (state g.S.Store h).in_transaction → IsOurs (state g.S.Store h).now → IsDatabase (state g.S.Store h).now → IsDatabase (state g.S.Store mid).now) begun (c.in-Ok.ensures.sound (early clean)) in
     let whole = survives_all g.S.Store c.args.conn.now mid (state g.S.Store c.commit.new.self.0) _ (LeavesOpened old c.args.site) stays
-    (λ clean db is. leaves g.S.Store c.args.conn.now mid c.args.site c.in-Ok.version settled (opened clean) db is) c.commit.ensures.survives in
+    (λ clean db is. leaves g.S.Store c.args.conn.now mid c.args.site c.in-Ok.version settled (opened clean) (sound clean) db is) c.commit.ensures.survives in
     let same : c.commit.new.self.0 ≡ c.conn-2-1.given.0 = search rules in
     subst (λ (h : Held _). Survives old (state g.S.Store h) (LeavesOpened old c.args.site)) same whole
 
@@ -58,8 +59,9 @@ returns-in-Err-commit-clause-survives g c =
     let early = λ (clean : HasCleanDisk (state g.S.Store c.commit.new.self.0)). (let e : HasCleanDisk (state g.S.Store mid) = omega (arith, c.commit.ensures.survives.clean, clean) in e) in
     let stays = subst (λ (h : Held _). StaysInside (state g.S.Store h) (state g.S.Store mid)) begun c.prepare.ensures.stays in
     let opened = λ (clean : HasCleanDisk (state g.S.Store c.commit.new.self.0)). subst (λ (h : Held _). IsTrue (state g.S.Store h).in_transaction → IsOurs (state g.S.Store h).now → OpensRecords c.in-Ok.version c.args.site (state g.S.Store h).now (state g.S.Store mid).now) begun (c.in-Ok.ensures.opened (early clean)) in
+    let sound = λ (clean : HasCleanDisk (state g.S.Store c.commit.new.self.0)). subst (λ (h : Held _). IsTrue (state g.S.Store h).in_transaction → IsOurs (state g.S.Store h).now → IsDatabase (state g.S.Store h).now → IsDatabase (state g.S.Store mid).now) begun (c.in-Ok.ensures.sound (early clean)) in
     let whole = survives_all g.S.Store c.args.conn.now mid (state g.S.Store c.commit.new.self.0) _ (LeavesOpened old c.args.site) stays
-    (λ clean db is. leaves g.S.Store c.args.conn.now mid c.args.site c.in-Ok.version settled (opened clean) db is) c.commit.ensures.survives in
+    (λ clean db is. leaves g.S.Store c.args.conn.now mid c.args.site c.in-Ok.version settled (opened clean) (sound clean) db is) c.commit.ensures.survives in
     let same : c.commit.new.self.0 ≡ c.conn-2-1.given.0 = search rules in
     subst (λ (h : Held _). Survives old (state g.S.Store h) (LeavesOpened old c.args.site)) same whole
 

@@ -40,3 +40,7 @@ returns-clause-refused g c clean inside ours =
 
 pub returns-in-Err-clause-refused : goal.returns-in-Err-clause-refused
 returns-in-Err-clause-refused g c clean inside ours = told_store _ c.args.site c.in-Err.refusal c.in-Err.ensures.refusal
+
+pub returns-clause-sound : goal.returns-clause-sound
+returns-clause-sound g c clean inside ours sound =
+    c.settle.ensures.sound clean (on g c clean inside) (tables g c clean inside ours) (c.in-Ok.ensures.sound (mid g c clean inside) inside ours sound)

@@ -1,5 +1,5 @@
 use Rattle.std.proofs.Common.{◌≡◌, [], subst, sym}
-use Rattle.sqlite.specs.Effect.{Database}
+use Rattle.sqlite.specs.Effect.{Database, IsDatabase}
 use Rattle.mvd_records.specs.Tables.{all_tables}
 use Rattle.mvd_records.specs.Records.{HasTables, marks_of}
 use Rattle.mvd_records.proofs.Inside.{stays_then, early}
@@ -24,3 +24,12 @@ returns-in-Ok-clause-opened g c clean inside has =
     let there = subst (HasTables all_tables) (sym same) has in
     let blank = subst (λ (d : Database). marks_of d ≡ []) (sym same) none in
     marked_opens c.args.site _ _ _ same none (c.in-Ok.ensures.marked clean (c.in-Ok-None.ensures.inside mid inside) there blank)
+
+pub returns-in-Ok-Some-clause-sound : goal.returns-in-Ok-Some-clause-sound
+returns-in-Ok-Some-clause-sound g c clean inside has sound = subst IsDatabase (sym (c.in-Ok-Some.ensures.same clean has)) sound
+
+pub returns-in-Ok-clause-sound : goal.returns-in-Ok-clause-sound
+returns-in-Ok-clause-sound g c clean inside has sound =
+    let mid = early _ _ c.write_marks.ensures.stays clean in
+    let same = c.in-Ok-None.ensures.same mid has in
+    c.in-Ok.ensures.sound clean (c.in-Ok-None.ensures.inside mid inside) (subst (HasTables all_tables) (sym same) has) (subst IsDatabase (sym same) sound)

@@ -4,7 +4,7 @@ use Rattle.sqlite.specs.Held.{state}
 use Rattle.sqlite.specs.State.{HasCleanDisk}
 use Rattle.mvd_records.specs.Records.{Ran}
 use Rattle.mvd_records.proofs.Inside.{execute_stays, ran_inside}
-use Rattle.mvd_records.proofs.Marking.{marked}
+use Rattle.mvd_records.proofs.Marking.{marked, marks_sound}
 use Rattle.mvd_records.proofs.Texts.{mark_text}
 use Rattle.mvd_records.proofs.open.write_marks.Given.{Over}
 use Rattle.mvd_records.proofs.open.write_marks.Goals as goal
@@ -24,3 +24,6 @@ returns-in-Ok-clause-marked g c clean inside has none = (let it = ran g c clean 
 
 pub returns-in-Err-clause-stays : goal.returns-in-Err-clause-stays
 returns-in-Err-clause-stays g c = execute_stays _ _ _ _ (Err c.in-Err.field-0) c.in-Err.ensures.runs c.in-Err.ensures.survives
+
+pub returns-in-Ok-clause-sound : goal.returns-in-Ok-clause-sound
+returns-in-Ok-clause-sound g c clean inside has sound = (let it = ran g c clean inside in marks_sound _ _ c.args.site it.count has it.did)

@@ -22,9 +22,9 @@ returns-in-Ok-commit-clause-kept g c version site it holds =
     let early : HasCleanDisk (state g.S.Store mid) = omega (arith, c.commit.ensures.survives.clean, late) in
     let was : IsTrue old.is_open = search rules in
     let now = settled.settled was in
-    let done = subst (λ (h : Held _). IsTrue (state g.S.Store h).in_transaction → IsDatabase (state g.S.Store h).now → HoldsRecords version site (state g.S.Store h).now → HoldsRecords version site (state g.S.Store mid).now × SavesStates (state g.S.Store h).now (state g.S.Store mid).now (entries_of c.args.pairs.now)) begun (c.in-Ok.ensures.set version site early) refl (settled.live was).0 (subst (HoldsRecords version site) (sym now) holds) in
+    let done = subst (λ (h : Held _). IsTrue (state g.S.Store h).in_transaction → IsDatabase (state g.S.Store h).now → HoldsRecords version site (state g.S.Store h).now → IsDatabase (state g.S.Store mid).now × (HoldsRecords version site (state g.S.Store mid).now × SavesStates (state g.S.Store h).now (state g.S.Store mid).now (entries_of c.args.pairs.now))) begun (c.in-Ok.ensures.set version site early) refl (settled.live was).0 (subst (HoldsRecords version site) (sym now) holds) in
     let committed = (c.in-Ok-commit.ensures.ok late).1.committed_is in
-    subst (λ (h : Held _). HoldsRecords version site (state g.S.Store h).committed) same (subst (HoldsRecords version site) (sym committed) done.0)
+    subst (λ (h : Held _). HoldsRecords version site (state g.S.Store h).committed) same (subst (HoldsRecords version site) (sym committed) done.1.0)
 
 pub returns-in-Ok-commit-clause-saved : goal.returns-in-Ok-commit-clause-saved
 returns-in-Ok-commit-clause-saved g c version site it holds =
@@ -38,9 +38,9 @@ returns-in-Ok-commit-clause-saved g c version site it holds =
     let early : HasCleanDisk (state g.S.Store mid) = omega (arith, c.commit.ensures.survives.clean, late) in
     let was : IsTrue old.is_open = search rules in
     let now = settled.settled was in
-    let done = subst (λ (h : Held _). IsTrue (state g.S.Store h).in_transaction → IsDatabase (state g.S.Store h).now → HoldsRecords version site (state g.S.Store h).now → HoldsRecords version site (state g.S.Store mid).now × SavesStates (state g.S.Store h).now (state g.S.Store mid).now (entries_of c.args.pairs.now)) begun (c.in-Ok.ensures.set version site early) refl (settled.live was).0 (subst (HoldsRecords version site) (sym now) holds) in
+    let done = subst (λ (h : Held _). IsTrue (state g.S.Store h).in_transaction → IsDatabase (state g.S.Store h).now → HoldsRecords version site (state g.S.Store h).now → IsDatabase (state g.S.Store mid).now × (HoldsRecords version site (state g.S.Store mid).now × SavesStates (state g.S.Store h).now (state g.S.Store mid).now (entries_of c.args.pairs.now))) begun (c.in-Ok.ensures.set version site early) refl (settled.live was).0 (subst (HoldsRecords version site) (sym now) holds) in
     let committed = (c.in-Ok-commit.ensures.ok late).1.committed_is in
-    let from = subst (λ (d : Database). SavesStates d (state g.S.Store mid).now (entries_of c.args.pairs.now)) now done.1 in
+    let from = subst (λ (d : Database). SavesStates d (state g.S.Store mid).now (entries_of c.args.pairs.now)) now done.1.1 in
     subst (λ (h : Held _). SavesStates old.committed (state g.S.Store h).committed (entries_of c.args.pairs.now)) same (subst (λ (d : Database). SavesStates old.committed d (entries_of c.args.pairs.now)) (sym committed) from)
 
 pub returns-in-Ok-commit-clause-survives : goal.returns-in-Ok-commit-clause-survives
@@ -52,7 +52,7 @@ returns-in-Ok-commit-clause-survives g c =
     let begun = c.transaction-tx.ensures.begun in
     let early = λ (clean : HasCleanDisk (state g.S.Store end)). (let e : HasCleanDisk (state g.S.Store mid) = omega (arith, c.commit.ensures.survives.clean, clean) in e) in
     let stays = subst (λ (h : Held _). StaysInside (state g.S.Store h) (state g.S.Store mid)) begun c.set_states.ensures.stays in
-    let stored = λ (clean : HasCleanDisk (state g.S.Store end)) (version site : ℕ). subst (λ (h : Held _). IsTrue (state g.S.Store h).in_transaction → IsDatabase (state g.S.Store h).now → HoldsRecords version site (state g.S.Store h).now → HoldsRecords version site (state g.S.Store mid).now × SavesStates (state g.S.Store h).now (state g.S.Store mid).now (entries_of c.args.pairs.now)) begun (c.in-Ok.ensures.set version site (early clean)) in
+    let stored = λ (clean : HasCleanDisk (state g.S.Store end)) (version site : ℕ). subst (λ (h : Held _). IsTrue (state g.S.Store h).in_transaction → IsDatabase (state g.S.Store h).now → HoldsRecords version site (state g.S.Store h).now → IsDatabase (state g.S.Store mid).now × (HoldsRecords version site (state g.S.Store mid).now × SavesStates (state g.S.Store h).now (state g.S.Store mid).now (entries_of c.args.pairs.now))) begun (c.in-Ok.ensures.set version site (early clean)) in
     let left = Leaves old (λ version site db. HoldsRecords version site db × SavesStates old.committed db (entries_of c.args.pairs.now)) in
     let whole = survives_all g.S.Store c.args.conn.now mid (state g.S.Store end) _ left stays (λ clean db is. all_leave g.S.Store c.args.conn.now mid (entries_of c.args.pairs.now) settled (stored clean) db is) c.commit.ensures.survives in
     let same : end ≡ c.conn-2-1.given.0 = search rules in
@@ -67,7 +67,7 @@ returns-in-Err-commit-clause-survives g c =
     let begun = c.transaction-tx.ensures.begun in
     let early = λ (clean : HasCleanDisk (state g.S.Store end)). (let e : HasCleanDisk (state g.S.Store mid) = omega (arith, c.commit.ensures.survives.clean, clean) in e) in
     let stays = subst (λ (h : Held _). StaysInside (state g.S.Store h) (state g.S.Store mid)) begun c.set_states.ensures.stays in
-    let stored = λ (clean : HasCleanDisk (state g.S.Store end)) (version site : ℕ). subst (λ (h : Held _). IsTrue (state g.S.Store h).in_transaction → IsDatabase (state g.S.Store h).now → HoldsRecords version site (state g.S.Store h).now → HoldsRecords version site (state g.S.Store mid).now × SavesStates (state g.S.Store h).now (state g.S.Store mid).now (entries_of c.args.pairs.now)) begun (c.in-Ok.ensures.set version site (early clean)) in
+    let stored = λ (clean : HasCleanDisk (state g.S.Store end)) (version site : ℕ). subst (λ (h : Held _). IsTrue (state g.S.Store h).in_transaction → IsDatabase (state g.S.Store h).now → HoldsRecords version site (state g.S.Store h).now → IsDatabase (state g.S.Store mid).now × (HoldsRecords version site (state g.S.Store mid).now × SavesStates (state g.S.Store h).now (state g.S.Store mid).now (entries_of c.args.pairs.now))) begun (c.in-Ok.ensures.set version site (early clean)) in
     let left = Leaves old (λ version site db. HoldsRecords version site db × SavesStates old.committed db (entries_of c.args.pairs.now)) in
     let whole = survives_all g.S.Store c.args.conn.now mid (state g.S.Store end) _ left stays (λ clean db is. all_leave g.S.Store c.args.conn.now mid (entries_of c.args.pairs.now) settled (stored clean) db is) c.commit.ensures.survives in
     let same : end ≡ c.conn-2-1.given.0 = search rules in

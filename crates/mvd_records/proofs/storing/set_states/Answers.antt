@@ -34,4 +34,4 @@ loop-pair-preserved g c =
 pub returns-clause-set : goal.returns-clause-set
 returns-clause-set g c version site clean inside sound holds =
     let all = c.loop-pair.invariant.set version site clean inside sound holds in
-    (all.1.0, subst (λ l. SavesStates (state g.S.Store c.args.tx.now.conn.now).now (state g.S.Store c.loop-pair.tx.conn.now).now (entries_of l)) (take_all c.loop-pair.pair-index c.args.pairs.now c.loop-pair-test.false) all.1.1)
+    (all.0, (all.1.0, subst (λ l. SavesStates (state g.S.Store c.args.tx.now.conn.now).now (state g.S.Store c.loop-pair.tx.conn.now).now (entries_of l)) (take_all c.loop-pair.pair-index c.args.pairs.now c.loop-pair-test.false) all.1.1))

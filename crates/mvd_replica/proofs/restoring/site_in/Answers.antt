@@ -7,7 +7,7 @@ use Rattle.mvd_replica.proofs.restoring.site_in.Goals as goal
 pub returns-then-version-eq2-clause-holds : goal.returns-then-version-eq2-clause-holds
 returns-then-version-eq2-clause-holds g c number sound holds =
     let version = c.args.records.now.version in
-    loaded_holds c.load.result _ _ version number (omega (arith, c.version.ensures, c.if-version-eq2.true)) (c.load.ensures.unchanged version number sound holds) holds (c.load.ensures.spelled version number sound holds)
+    loaded_holds c.load.result _ _ version number (omega (arith, c.version.ensures.value, c.if-version-eq2.true)) (c.load.ensures.unchanged version number sound holds) holds (c.load.ensures.spelled version number sound holds)
 
 pub returns-in-Ok-clause-holds : goal.returns-in-Ok-clause-holds
 returns-in-Ok-clause-holds g c number sound holds =
@@ -25,12 +25,12 @@ returns-then-version-eq2-clause-alone g c number sound holds =
 pub returns-then-version-eq2-clause-full : goal.returns-then-version-eq2-clause-full
 returns-then-version-eq2-clause-full g c number sound holds =
     let version = c.args.records.now.version in
-    too_many_after c.load.result c.args.config.max_keys version _ _ (omega (arith, c.version.ensures, c.if-version-eq2.true)) (c.load.ensures.unchanged version number sound holds) (c.load.ensures.full version number sound holds)
+    too_many_after c.load.result c.args.config.max_keys version _ _ (omega (arith, c.version.ensures.value, c.if-version-eq2.true)) (c.load.ensures.unchanged version number sound holds) (c.load.ensures.full version number sound holds)
 
 pub returns-then-version-eq2-clause-order : goal.returns-then-version-eq2-clause-order
 returns-then-version-eq2-clause-order g c number sound holds =
     let version = c.args.records.now.version in
-    order_by c.load.result version _ _ (omega (arith, c.version.ensures, c.if-version-eq2.true)) (c.load.ensures.order version number sound holds)
+    order_by c.load.result version _ _ (omega (arith, c.version.ensures.value, c.if-version-eq2.true)) (c.load.ensures.order version number sound holds)
 
 pub returns-in-Ok-clause-states : goal.returns-in-Ok-clause-states
 returns-in-Ok-clause-states g c number sound holds =

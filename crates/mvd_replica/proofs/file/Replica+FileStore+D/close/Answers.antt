@@ -28,7 +28,7 @@ pub returns-in-Err : goal.returns-in-Err
 returns-in-Err g c =
     let conn = c.into_connection-conn.result in
     let it : FailsToGive {g = g.D.Disk} conn c.in-Err.failed = fails_closing {g = g.D.Disk} conn c.in-Err.failed
-    (λ trees was may. settled_at conn.store g.met.D.Disk.seen_may_stay trees was may)
+    (λ trees was may. settled_at conn.store g.met.D.Disk.seen_may_stay trees was may) c.schema-schema.ensures.live
     c.in-Err.ensures.kind c.in-Err.ensures.err.0 c.in-Err.ensures.err.1 in
     let same = subst (λ k. FailsToGive {g = g.D.Disk} k c.in-Err.failed) c.into_connection-conn.ensures.same it in
     record {

@@ -42,6 +42,7 @@ returns-in-Err g c =
       taken = λ _. inr refl;
       clean = λ clean. clean;
       before = λ sound. sound;
+      live = c.version-version.ensures.live;
       records = λ _ holds. holds;
       stored = λ _ _ whole is. absurd (true≢false (sym (c.in-Err.ensures.whole (refusal_is refusal Broken is)) ∙ whole));
       survives = survives_self _ _;
@@ -73,6 +74,7 @@ returns-in-Ok-Answer g c =
       taken = λ _. inr refl;
       clean = λ clean. clean;
       before = λ sound. sound;
+      live = c.version-version.ensures.live;
       records = λ _ holds. holds;
       stored = λ _ _ _ is. absurd (true≢false (plain_no_refusal reply Broken plain.accepts is));
       survives = survives_self _ _;
@@ -109,6 +111,7 @@ returns-in-Ok g c =
       taken = c.in-Ok.ensures.taken;
       clean = c.in-Ok.ensures.clean;
       before = c.in-Ok.ensures.before;
+      live = c.version-version.ensures.live;
       records = λ sound holds.
           holds_put old new _ _ change whole c.in-Ok.ensures.site (c.in-Ok.ensures.stored old.config.site sound holds.records) (c.in-Ok.ensures.kept old.config.site sound holds.records) holds;
       stored = λ _ _ _ is. absurd (true≢false (plain_no_refusal reply Broken plain is));
@@ -142,6 +145,7 @@ returns-in-Err-put_in g c =
       taken = c.in-Err-put_in.ensures.taken;
       clean = c.in-Err-put_in.ensures.clean;
       before = c.in-Err-put_in.ensures.before;
+      live = c.version-version.ensures.live;
       records = λ sound holds.
           holds_refused old new _ _ change refusal put (λ store. c.in-Err-put_in.ensures.unchanged sound (ap (λ (r : Refusal). Err r) store))
           (c.in-Err-put_in.ensures.stored old.config.site sound holds.records) (c.in-Err-put_in.ensures.kept old.config.site sound holds.records) holds;

@@ -8,7 +8,6 @@ use Rattle.mvd_keys.specs.Writes.{Key}
 use Rattle.mvd_wire.specs.declared.reply.Reply.{Reply}
 use Rattle.mvd_site.specs.Held.{state_at}
 use Rattle.mvd_sync.specs.Session.{pushed}
-use Rattle.mvd_sync.specs.Sides.{is_of_question}
 use Rattle.mvd_sync.specs.Windows.{Asked, CannotTake, Ends, Pushes, PushesFirst, for_pushes, manner}
 use Rattle.sqlite_trees.specs.declared.store.Store.{Ghosts}
 use Rattle.mvd_replica.specs.declared.replica.Replica.{Replica}
@@ -17,10 +16,6 @@ use Rattle.mvd_replica.specs.Pushes.{push_of, told_of}
 use Rattle.mvd_replica.specs.ReplicaCalls.{PushesState}
 use Rattle.mvd_replica.specs.Replicas.{site_of, stored_of}
 use Rattle.mvd_replica.specs.Sides.{IsTrueSite, ReplicaRefuses, SideFollows}
-
--- the refusal is none of a question
-abbrev pub IsNotOfQuestion : Refusal → Type 0
-IsNotOfQuestion refusal = is_of_question refusal ≡ false
 
 module _ {S : Type 0} {g : Ghosts S} where
   -- what no call of a session changes of a replica

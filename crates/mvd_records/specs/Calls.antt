@@ -1,7 +1,7 @@
 -- What each call of the records does: one relation for a call, over what it was called on and with, what it returned,
 -- and what it left.
 use Rattle.std.specs.Prelude.{◌≡◌, ◌⊎◌, ℕ, List, [], ◌∷◌, Vec, Result, Ok, Err, IsTrue, OnOk, OnErr, IfOk, IfErr}
-use Rattle.std.specs.Prelude.{MatchResult}
+use Rattle.std.specs.Prelude.{IfSome, MatchResult, Option}
 use Rattle.std.specs.FinMap.{entries, is_sorted}
 use Rattle.std.specs.declared.alloc.Global.{Global}
 use Rattle.sqlite.specs.Held.{Held, state}
@@ -13,9 +13,11 @@ use Rattle.mvd_dots.specs.declared.refusals.Refusal.{Refusal}
 use Rattle.mvd_dots.specs.declared.refusals.Refusal.TheVariants.{Damaged, Memory, Store}
 use Rattle.mvd_keys.specs.Key.{key_cmp}
 use Rattle.mvd_records.specs.declared.loading.StateTable.{StateTable}
-use Rattle.mvd_records.specs.Records.{HasNone, IsOpenRefusal, IsOurs, IsSound, LacksKey, LeavesOpened, LeavesRefused}
+use Rattle.mvd_records.specs.Records.{HasNone, HasTables, IsOpenRefusal, IsOurs, IsSound, LacksKey, LeavesOpened, LeavesRefused}
 use Rattle.mvd_records.specs.Records.{OpensRecords, TellsVersion, marks_of}
 use Rattle.mvd_records.specs.Foreign.{HoldsForeign}
+use Rattle.mvd_records.specs.States.{AreMarks}
+use Rattle.mvd_records.specs.Tables.{all_tables}
 use Rattle.mvd_records.specs.Pairs.{Pair, entries_of, rises}
 use Rattle.mvd_records.specs.Contents.{CanLoad, Contents, EndsMoves, Holds, MovesKey, SetsStates, map_of}
 use Rattle.mvd_records.specs.Seen.{RecordsValue, Seen, seen}
@@ -125,3 +127,8 @@ SparesForeign g conn refused = HoldsForeign (state g conn) → refused ≡ (Dama
 abbrev pub Opens : {S : Type 0} → Ghosts S → Held S → ℕ → Result (RecordsValue S) (Refusal × Held S) → Type 0
 Opens g conn site (Ok records) = IsOpened (state g conn) site (seen g records)
 Opens g conn site (Err refused) = IsRefused (state g conn) site refused.0 (state g refused.1) × SparesForeign g conn refused
+
+-- ---- owner_in: where the store is sound and all our tables are there, the site is the one that the marks name
+abbrev pub TellsOwner : State → State → Option ℕ → Type 0
+TellsOwner old new result = IsSound new → HasTables all_tables old.committed →
+    IfSome result (λ site. (version : ℕ) × AreMarks version site (marks_of old.committed))

@@ -1,9 +1,7 @@
 //! Whose records a database holds.
-ghost use Rattle.std.specs.Prelude.{IfSome};
 ghost use Rattle.sqlite.specs.Held.{state};
-ghost use Rattle.mvd_records.specs.Records.{HasTables, IsSound, OnlyReads, marks_of};
-ghost use Rattle.mvd_records.specs.States.{AreMarks};
-ghost use Rattle.mvd_records.specs.Tables.{all_tables};
+ghost use Rattle.mvd_records.specs.Calls.{TellsOwner};
+ghost use Rattle.mvd_records.specs.Records.{OnlyReads};
 
 use crate::open::marks_in;
 use crate::statements::is_settled;
@@ -12,8 +10,7 @@ use sqlite::{Alter, Connection};
 /// The site that the marks of a database name, where they can be read.
 pub fn owner_in<S: Alter>(conn: &mut Connection<S>) -> Option<u32>
     ensures reads { OnlyReads (state S.Store conn.old) (state S.Store conn.new) }
-    ensures named { IsSound (state S.Store conn.new) → HasTables all_tables (state S.Store conn.old).committed →
-        IfSome result (λ site. (version : _) × AreMarks version site (marks_of (state S.Store conn.old).committed)) }
+    ensures named { TellsOwner (state S.Store conn.old) (state S.Store conn.new) result }
 {
     if !is_settled(conn) {
         return None;

@@ -1,5 +1,4 @@
 use Rattle.std.proofs.Common.{arith}
-use Rattle.sqlite.specs.Held.{state}
 use Rattle.mvd_records.proofs.Calls.{sound_before, not_shown, shown_open, shown_keeps}
 use Rattle.mvd_records.proofs.Checked.{only_reads}
 use Rattle.mvd_records.proofs.Marking.{named_by}

@@ -1,6 +1,7 @@
 //! What a command line asks for, done: with standard input and output, files and sockets.
 ghost use Rattle.std.specs.Prelude.{◌≡◌, IfOk, None, Some};
 ghost use Rattle.mvd_app.specs.Stored.{FollowsAsked, stored_site};
+ghost use Rattle.mvd_replica.specs.FileCalls.{ClosesInto};
 ghost use Rattle.mvd_replica.specs.ReplicaCalls.{ReplicaAnswers};
 ghost use Rattle.mvd_script.specs.Talk.{Asks};
 ghost use Rattle.mvd_input.specs.Orders.{IsInRange, IsSetUp};
@@ -20,7 +21,7 @@ use mvd_replica::{FileFault, Replica, open_file};
 use mvd_rows::Defs;
 use mvd_script::{shell_run, sim};
 use mvd_site::Config;
-use sqlite::{Alter, FileFrom, Files, Start};
+use sqlite::{Alter, FileFrom, FileStore, Files, Start};
 use sqlite_disk::Disk;
 use std::fs;
 use std::io::{self, BufReader};
@@ -122,17 +123,40 @@ fn run_stored<'a, S: Start>(
     let config = config_in(rt, setup)?;
     let mut replica = match open_file(rt, db, start, config) {
         Ok(replica) => replica,
-        Err(FileFault::File(error, _)) => return Err(Stop::in_file(db, error)),
-        Err(FileFault::Records(refusal, conn)) => return Err(refused_in(db, refusal, conn)),
+        Err(fault) => return Err(unopened(db, fault)),
     };
     work_on(rt, &mut replica, work)?;
     if replica.is_broken() {
         return Err(Stop::from(Refusal::Broken));
     }
-    match replica.close() {
+    match closed(db, replica) {
         Ok(files) => Ok(Some(files)),
-        Err((error, conn)) => {
-            drop(conn);
+        Err(stop) => Err(stop),
+    }
+}
+
+/// Why a file was not opened as a site.
+fn unopened<'a, D: Disk + Drop>(db: &'a str, fault: FileFault<D>) -> Stop<'a> {
+    match fault {
+        FileFault::File(error, left) => {
+            drop(left);
+            Stop::in_file(db, error)
+        }
+        FileFault::Records(refusal, conn) => refused_in(db, refusal, conn),
+    }
+}
+
+/// Closes a stored site, and gives back its file and the log.
+fn closed<'a, D: Disk + Drop>(
+    db: &'a str,
+    replica: Replica<FileStore<D>>,
+) -> Result<Files<D>, Stop<'a>>
+    ensures { IfOk result (ClosesInto replica) }
+{
+    match replica.close() {
+        Ok(files) => Ok(files),
+        Err((error, store)) => {
+            drop(store);
             Err(Stop::in_file(db, error))
         }
     }

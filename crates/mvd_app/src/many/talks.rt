@@ -19,7 +19,7 @@ use std::hash::RandomState;
 const WAITS_MAX: usize = 262_144;
 
 /// What a client speaks.
-#[derive(Clone, Copy, PartialEq, Eq)]
+#[derive(Clone, Copy)]
 pub(crate) enum Kind {
     Frames,
     Http,
@@ -50,7 +50,11 @@ impl Talks {
         let Ok(Some(number)) = self.host.admit() else {
             return None;
         };
-        if kind == Kind::Http && self.open_web(number).is_err() {
+        let opened = match kind {
+            Kind::Frames => Ok(()),
+            Kind::Http => self.open_web(number),
+        };
+        if opened.is_err() {
             self.host.dismiss(number);
             return None;
         }
@@ -59,12 +63,12 @@ impl Talks {
 
     fn open_web(&mut self, number: u64) -> Result<(), AllocError> {
         let web = WebConnection::new(self.alloc, self.keys);
-        self.webs.insert(number, web)?;
+        drop(self.webs.insert(number, web)?);
         Ok(())
     }
 
     pub fn dismiss(&mut self, number: u64) {
-        self.webs.remove(&number);
+        drop(self.webs.remove(&number));
         self.host.dismiss(number);
     }
 

@@ -156,18 +156,28 @@ fn step(alloc: Global, random: &mut Random, sides: &mut Sides, clients: &mut [Cl
     }
 }
 
+/// All bytes come that have room.
+fn come_all(host: &mut Host, clients: &mut [Client]) {
+    for (number, client) in (0..CLIENTS).zip(clients.iter_mut()) {
+        come(host, number, client, ROOM);
+    }
+}
+
+/// All replies leave.
+fn leave_all(host: &mut Host, clients: &mut [Client]) {
+    for (number, client) in (0..CLIENTS).zip(clients.iter_mut()) {
+        for _ in 0..10u32 {
+            leave(host, number, client, ROOM);
+        }
+    }
+}
+
 /// All bytes come, all requests are answered, and all replies leave.
 fn finish(alloc: Global, sides: &mut Sides, clients: &mut [Client]) {
     for _ in 0..REQUESTS {
-        for (number, client) in (0..CLIENTS).zip(clients.iter_mut()) {
-            come(&mut sides.host, number, client, ROOM);
-        }
+        come_all(&mut sides.host, clients);
         take_round(alloc, sides, clients, &[7, 2, 5, 0, 3, 6, 1, 4]);
-        for (number, client) in (0..CLIENTS).zip(clients.iter_mut()) {
-            for _ in 0..10u32 {
-                leave(&mut sides.host, number, client, ROOM);
-            }
-        }
+        leave_all(&mut sides.host, clients);
     }
 }
 

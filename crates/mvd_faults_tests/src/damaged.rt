@@ -1,11 +1,11 @@
 //! Records that are damaged, and files that are.
-use super::replica_calls::{Root, conn_of, memory_after, or_refusal, push, replies, root_of};
-use super::stops::{OLD_ROWS, connected_after, in_files, no_files};
+use super::file_calls::{Course, Work, files_after, no_files, on_files, settled};
+use super::replica_calls::{Root, memory_after, or_refusal, push};
+use super::stops::OLD_ROWS;
 use mvd_dots::Refusal;
 use mvd_keys::Key;
 use mvd_records::Records;
-use mvd_replica::Replica;
-use sqlite::{Alter, Connection, FileStore, Files, MemStore};
+use sqlite::{Files, MemStore};
 use sqlite_disk::{Disk, Memory};
 use std::alloc::Global;
 use std::test::Fail;
@@ -79,21 +79,10 @@ const DAMAGED: &[(&str, &str)] = &[
     ),
 ];
 
-/// The files of a database that is closed, which stands in one of them alone.
-fn close<D: Disk + Drop>(conn: Connection<FileStore<D>>) -> Option<Files<D>> {
-    match conn.close_files() {
-        Ok(files) => Some(files),
-        Err((_, store)) => {
-            drop(store.close());
-            None
-        }
-    }
-}
-
-/// The bytes of a database that is closed; none where it is not.
-fn closed(alloc: Global, conn: Connection<FileStore<Memory>>) -> Vec<u8> {
+/// The bytes of the database of these files, which is opened and closed; none where it is not.
+fn closed(alloc: Global, files: Files<Memory>) -> Vec<u8> {
     let mut bytes = Vec::new(alloc);
-    if let Some(files) = close(conn) {
+    if let Some(files) = settled(alloc, files) {
         push(&mut bytes, files.db.bytes());
     }
     bytes
@@ -101,7 +90,7 @@ fn closed(alloc: Global, conn: Connection<FileStore<Memory>>) -> Vec<u8> {
 
 /// A database file after these statements.
 fn database(alloc: Global, statements: &[&str]) -> Result<Vec<u8>, Refusal> {
-    Ok(closed(alloc, connected_after(alloc, statements)?))
+    Ok(closed(alloc, files_after(alloc, Work::Statements(statements))?))
 }
 
 /// Files of which the database has these bytes.
@@ -113,26 +102,18 @@ fn files_with(alloc: Global, bytes: &[u8]) -> Result<Files<Memory>, Refusal> {
     Ok(files)
 }
 
-/// The files, where what they hold is refused as damaged.
-fn damaged(alloc: Global, files: Files<Memory>) -> Option<Files<Memory>> {
-    match in_files(alloc, files) {
-        Err((Refusal::Damaged, files)) => Some(files),
-        other => {
-            drop(other);
-            None
-        }
-    }
-}
-
 /// Whether the records in a file of these bytes are refused as damaged, twice, and the file stays as it is.
 fn is_damaged(alloc: Global, bytes: &[u8]) -> Result<bool, Refusal> {
-    match damaged(alloc, files_with(alloc, bytes)?) {
-        Some(files) => {
-            let is_same = files.db.bytes() == bytes;
-            Ok(is_same && damaged(alloc, files).is_some())
-        }
-        None => Ok(false),
-    }
+    let files = files_with(alloc, bytes)?;
+    let (once, files) = on_files(alloc, files, Work::Open, None);
+    let (twice, files) = on_files(alloc, files, Work::Open, None);
+    let is_same = files.db.bytes() == bytes;
+    drop(files);
+    Ok(is_same && is_damage(once) && is_damage(twice))
+}
+
+fn is_damage(found: Result<Course, Refusal>) -> bool {
+    matches!(found, Err(Refusal::Damaged))
 }
 
 fn is_case_damaged(alloc: Global, rows: &(&str, &str)) -> Result<bool, Refusal> {
@@ -215,47 +196,37 @@ fn another_programs_database_is_refused_and_stays(rt: HostRuntime) -> Result<(),
     Ok(())
 }
 
-/// A put of a document of so many letters at a key of one letter.
-fn long_put(alloc: Global, key: u8, letters: u32) -> Vec<u8> {
-    let mut frame = Vec::new(alloc);
-    push(&mut frame, &letters.saturating_add(19).to_be_bytes());
-    push(&mut frame, &[0x22, 1, key, 0, 0, 0, 0]);
-    push(&mut frame, &letters.saturating_add(8).to_be_bytes());
-    push(&mut frame, b"{\"a\":\"");
-    for _ in 0..letters {
-        push(&mut frame, b"x");
-    }
-    push(&mut frame, b"\"}");
-    frame
-}
-
-/// Puts documents at so many keys, each of so many letters more than the one before.
-pub fn put_keys<S: Alter + Drop>(alloc: Global, replica: &mut Replica<S>, keys: u8, letters: u32) {
-    for number in 0..keys {
-        let letters = letters.saturating_mul(u32::from(number));
-        let put = long_put(alloc, b'0'.saturating_add(number), letters);
-        let _replies = replies(alloc, replica, put.as_slice());
-    }
-}
-
 /// The bytes of a file of records with ten keys, and its root.
 fn ten_keys(alloc: Global) -> Result<(Vec<u8>, Root), Refusal> {
-    let mut replica = or_refusal(in_files(alloc, no_files(alloc)))?;
-    put_keys(alloc, &mut replica, 10, 1_000);
-    let root = root_of(alloc, &mut replica);
-    Ok((closed(alloc, conn_of(replica)), root))
+    let (found, files) = on_files(alloc, no_files(alloc), Work::Documents(10, 1_000), None);
+    let bytes = closed(alloc, files);
+    match found {
+        Ok(course) => {
+            let root = course.last;
+            Ok((bytes, root))
+        }
+        Err(refusal) => {
+            drop(bytes);
+            Err(refusal)
+        }
+    }
 }
 
 /// The root of the records in a file with these bytes; `None` where it is refused.
 fn root_in(alloc: Global, bytes: &[u8]) -> Result<Option<Root>, Refusal> {
     let files = files_with(alloc, bytes)?;
-    match or_refusal(in_files(alloc, files)) {
-        Ok(mut replica) => {
-            let root = root_of(alloc, &mut replica);
-            drop(replica);
-            Ok(Some(root))
+    let (found, files) = on_files(alloc, files, Work::Open, None);
+    drop(files);
+    Ok(last_of(found))
+}
+
+fn last_of(found: Result<Course, Refusal>) -> Option<Root> {
+    match found {
+        Ok(course) => {
+            let root = course.last;
+            Some(root)
         }
-        Err(_) => Ok(None),
+        Err(_) => None,
     }
 }
 

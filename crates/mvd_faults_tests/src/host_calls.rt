@@ -2,8 +2,8 @@
 ghost use Rattle.std.specs.Prelude.{◌≤◌, length};
 ghost use Rattle.mvd_host.specs.Hosts.{IfClient, client_of};
 
+use super::file_calls::written;
 use super::replica_calls::{Bytes, ROOM};
-use super::stops::written;
 use mvd_dots::Refusal;
 use mvd_host::{Host, Tally};
 use mvd_replica::Replica;

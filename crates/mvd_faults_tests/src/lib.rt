@@ -11,6 +11,8 @@ mod clients;
 #[cfg(test)]
 mod damaged;
 #[cfg(test)]
+mod file_calls;
+#[cfg(test)]
 mod host_calls;
 #[cfg(test)]
 mod memory;

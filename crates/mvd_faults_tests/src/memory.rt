@@ -65,14 +65,24 @@ fn answered(alloc: Global, replica: &mut Replica<MemStore>, asked: &[(&str, &str
     count
 }
 
+/// Whether a replica answers the requests from a number on as it should.
+fn rest_is_answered(
+    alloc: Global,
+    replica: &mut Replica<MemStore>,
+    asked: &[(&str, &str)],
+    from: usize,
+) -> bool {
+    let rest = asked.get(from..).unwrap_or(&[]);
+    answered(alloc, replica, rest) == rest.len()
+}
+
 /// Whether a replica answers as it should; one that is broken is opened again, and has the write.
 fn replica_answers(alloc: Global, asked: &Asked) -> Result<bool, Refusal> {
     let mut replica = made(alloc, asked.0)?;
     let count = answered(alloc, &mut replica, asked.1);
     let from = count.saturating_add(usize::from(replica.is_broken()));
     let mut replica = mended(alloc, replica, asked.0)?;
-    let rest = asked.1.get(from..).unwrap_or(&[]);
-    let is_whole = answered(alloc, &mut replica, rest) == rest.len();
+    let is_whole = rest_is_answered(alloc, &mut replica, asked.1, from);
     drop(replica);
     Ok(is_whole && (from > count || count == asked.1.len()))
 }

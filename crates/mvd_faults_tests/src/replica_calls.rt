@@ -187,18 +187,23 @@ pub fn push(bytes: &mut Vec<u8>, more: &[u8]) {
     let _ = bytes.extend_from_slice(more);
 }
 
-/// How a connection ended, as a word or the name of a refusal.
+/// An end of a connection, as a word or the name of a refusal.
+fn name_of(ended: Result<Ended, Refusal>) -> &'static str {
+    match ended {
+        Ok(Ended::Bye) => "bye",
+        Ok(Ended::End) => "end",
+        Err(refusal) => refusal.name(),
+    }
+}
+
+/// How a connection ended.
 pub fn served_on<R: Read, W: Write, S: Alter + Drop>(
     alloc: Global,
     reader: &mut R,
     writer: &mut W,
     replica: &mut Replica<S>,
 ) -> &'static str {
-    match serve(alloc, reader, writer, replica) {
-        Ok(Ended::Bye) => "bye",
-        Ok(Ended::End) => "end",
-        Err(refusal) => refusal.name(),
-    }
+    name_of(serve(alloc, reader, writer, replica))
 }
 
 /// What a connection with these bytes gives, however long it is, and how it ends.

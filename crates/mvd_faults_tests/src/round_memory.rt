@@ -11,7 +11,7 @@ use std::alloc::Global;
 use std::test::Fail;
 
 /// Three clients send these frames, each one of them, which are answered in one round. It is done again where memory was refused.
-fn send(host: &mut Host, replica: &mut Replica<MemStore>, frames: [&str; 3]) {
+fn send(host: &mut Host, replica: &mut Replica<MemStore>, frames: &[&str]) {
     for (client, frame) in (0..3u64).zip(frames) {
         let bytes = Bytes::of(&[frame]);
         if feed(host, client, bytes.bytes()) == 0 {
@@ -26,19 +26,25 @@ fn send(host: &mut Host, replica: &mut Replica<MemStore>, frames: [&str; 3]) {
 /// What three clients are told, each of a put and of the question behind it. The puts share a round, and so do the questions.
 fn told_in_rounds(host: &mut Host, replica: &mut Replica<MemStore>) -> Bytes {
     let mut output = Bytes::of(&[]);
-    send(host, replica, [PAIRS[0].0, PAIRS[1].0, PAIRS[2].0]);
-    send(host, replica, [PAIRS[0].1, PAIRS[1].1, PAIRS[2].1]);
+    send(host, replica, &[PAIRS[0].0, PAIRS[1].0, PAIRS[2].0]);
+    send(host, replica, &[PAIRS[0].1, PAIRS[1].1, PAIRS[2].1]);
     for client in 0..3u64 {
         output.put(take(host, client, ROOM).bytes());
     }
     output
 }
 
+/// A new client, which is admitted once more where memory was refused.
+fn admit_again(host: &mut Host) -> Result<u64, Refusal> {
+    match admit(host) {
+        Err(_) => admit(host),
+        admitted => admitted,
+    }
+}
+
 fn admit_three(host: &mut Host) -> Result<(), Refusal> {
     for _ in 0..3u32 {
-        if admit(host).is_err() {
-            admit(host)?;
-        }
+        admit_again(host)?;
     }
     Ok(())
 }

@@ -29,7 +29,7 @@ fn base(alloc: Global, counter: u32) -> Vec<u8> {
     let mut bytes = Vec::new(alloc);
     push(&mut bytes, &[0, 0, 0, 1, 0, 0, 0, 2]);
     push(&mut bytes, &u64::from(counter).to_be_bytes());
-    push(&mut bytes, &[0; 4]);
+    push(&mut bytes, &[0, 0, 0, 0]);
     bytes
 }
 
@@ -134,13 +134,12 @@ fn loose_state(rt: HostRuntime) -> Result<Vec<u8>, Fail> {
     Ok(state)
 }
 
-#[test]
-fn seventy_thousand_loose_counters(rt: HostRuntime) -> Result<(), Fail> {
-    let reply = loose_state(rt)?;
-    let state = reply.as_slice().get(5..).unwrap_or(&[]);
+/// Delivers a reply's state to another site, which is read there, and deleted by its context.
+fn deliver(rt: HostRuntime, reply: &[u8]) -> Result<(), Fail> {
+    let state = reply.get(5..).unwrap_or(&[]);
     let context = state.get(..CONTEXT).unwrap_or(&[]);
     let mut other = new_replica(rt.alloc(), 3)?;
-    take(
+    let taken = take(
         rt,
         &mut other,
         &[
@@ -149,5 +148,15 @@ fn seventy_thousand_loose_counters(rt: HostRuntime) -> Result<(), Fail> {
             ("deleted", 0x23, context, (0xA3, 5)),
             ("read again", 0x21, NONE, (0xA1, 7 + CONTEXT)),
         ],
-    )
+    );
+    drop(other);
+    taken
+}
+
+#[test]
+fn seventy_thousand_loose_counters(rt: HostRuntime) -> Result<(), Fail> {
+    let reply = loose_state(rt)?;
+    let taken = deliver(rt, reply.as_slice());
+    drop(reply);
+    taken
 }

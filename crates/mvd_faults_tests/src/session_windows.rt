@@ -1,17 +1,15 @@
 //! Sessions of two stored sites have one commit for a window.
-use super::damaged::put_keys;
+use super::file_calls::{Course, Work, no_files, on_files, put_keys};
 use super::replica_calls::new_replica;
-use super::stops::{Stopping, fused, in_files, meets, no_files};
+use super::stops::fused;
 use mvd_dots::Refusal;
-use mvd_replica::Replica;
-use sqlite::{Files, MemStore};
 use std::alloc::Global;
 use std::test::Fail;
 
-/// Whether a session brings all keys of a replica to these files.
-fn takes_all(alloc: Global, files: Files<Stopping>, other: &mut Replica<MemStore>) -> bool {
-    match in_files(alloc, files) {
-        Ok(mut replica) => meets(alloc, &mut replica, other, 1_000),
+/// Whether a session ended well.
+fn is_well(found: Result<Course, Refusal>) -> bool {
+    match found {
+        Ok(course) => course.done == 1,
         Err(_) => false,
     }
 }
@@ -20,7 +18,11 @@ fn takes_all(alloc: Global, files: Files<Stopping>, other: &mut Replica<MemStore
 fn brings(alloc: Global, keys: u8, calls: u64) -> Result<bool, Refusal> {
     let mut other = new_replica(alloc, 2)?;
     put_keys(alloc, &mut other, keys, 0);
-    Ok(takes_all(alloc, fused(no_files(alloc), true, calls), &mut other))
+    let files = fused(no_files(alloc), true, calls);
+    let (found, files) = on_files(alloc, files, Work::Local(1_000), Some(&mut other));
+    drop(files);
+    drop(other);
+    Ok(is_well(found))
 }
 
 /// How many calls of the log a session needs that brings so many keys, of which it needs less than 512.

@@ -1,75 +1,15 @@
 //! Files that stop before some call, and are opened again.
 use super::damaged::{OLD, ONE};
-use super::host_calls::put_in_rounds;
-use super::replica_calls::{
-    Bytes, Root, conn_of, new_replica, opened, or_refusal, root_of, run_all, serves,
-};
+use super::file_calls::{Course, Work, files_after, no_files, on_files, put_all};
+use super::replica_calls::{Root, new_replica, root_of};
 use mvd_dots::Refusal;
 use mvd_replica::Replica;
-use mvd_sync::sync_within;
-use sqlite::{Alter, Connection, FileStore, Files, MemStore, Options};
-use sqlite_disk::{Crash, Disk, Fuse, Memory};
+use sqlite::{Files, MemStore};
+use sqlite_disk::{Crash, Fuse, Memory};
 use std::alloc::Global;
 use std::test::Fail;
 
 pub type Stopping = Fuse<Memory>;
-
-/// Two files in memory with no byte.
-pub fn no_files(alloc: Global) -> Files<Memory> {
-    Files {
-        log: Memory::new(alloc),
-        db: Memory::new(alloc),
-    }
-}
-
-// Each call of the kit stands in a helper with no clause, so that no proof carries the clauses of two.
-fn connected<D: Disk + Drop>(
-    alloc: Global,
-    files: Files<D>,
-) -> Result<Connection<FileStore<D>>, Files<D>> {
-    if !files.may_be_used() {
-        return Err(files);
-    }
-    match Connection::open_files(alloc, files, Options::new(1)) {
-        Ok(conn) => Ok(conn),
-        Err((_, left)) => Err(left.into_files()),
-    }
-}
-
-/// A database in two new files, after these statements.
-pub fn connected_after(
-    alloc: Global,
-    statements: &[&str],
-) -> Result<Connection<FileStore<Memory>>, Refusal> {
-    let Ok(mut conn) = connected(alloc, no_files(alloc)) else {
-        return Err(Refusal::Store);
-    };
-    match run_all(&mut conn, statements) {
-        Ok(()) => Ok(conn),
-        Err(refusal) => {
-            drop(conn);
-            Err(refusal)
-        }
-    }
-}
-
-fn files_of<D: Disk + Drop>(conn: Connection<FileStore<D>>) -> Files<D> {
-    conn.into_store().close()
-}
-
-/// The replica of site 1 that two files hold, and what is left of them where they hold none.
-pub fn in_files<D: Disk + Drop>(
-    alloc: Global,
-    files: Files<D>,
-) -> Result<Replica<FileStore<D>>, (Refusal, Files<D>)> {
-    match connected(alloc, files) {
-        Ok(conn) => match opened(alloc, conn, 1, 100) {
-            Ok(replica) => Ok(replica),
-            Err((refusal, conn)) => Err((refusal, files_of(conn))),
-        },
-        Err(files) => Err((Refusal::Store, files)),
-    }
-}
 
 /// Files of which one stops after so many calls: the log, or the database.
 pub fn fused(files: Files<Memory>, of_log: bool, calls: u64) -> Files<Stopping> {
@@ -107,7 +47,7 @@ enum Run {
 }
 
 /// Six requests, each of which changes the states: puts at four keys, the last two of which supersede others.
-const PUTS: [&str; 6] = [
+const PUTS: &[&str] = &[
     "0000001222016b00000000000000077b2261223a317d",
     "0000001222016100000000000000077b2261223a327d",
     "0000001222016b00000000000000077b2261223a337d",
@@ -117,57 +57,24 @@ const PUTS: [&str; 6] = [
 ];
 
 /// Puts at keys of the side whose files stop, and of the other.
-const MINE: [&str; 2] = [
+const MINE: &[&str] = &[
     "0000001222016b00000000000000077b2261223a317d",
     "0000001222016100000000000000077b2261223a327d",
 ];
 
-const THEIRS: [&str; 2] = [
+const THEIRS: &[&str] = &[
     "0000001222016b00000000000000077b2261223a337d",
     "0000001222016200000000000000077b2261223a347d",
 ];
 
-/// How many of these replies are a dot.
-pub fn written(replies: &[u8]) -> usize {
-    let mut written = 0usize;
-    for frame in replies.chunks(17) {
-        if frame.len() == 17 && frame[4] == 0xA2 {
-            written = written.saturating_add(1);
-        }
-    }
-    written
-}
-
-/// Serves puts, and tells how many were answered by a dot.
-fn put_all<S: Alter + Drop>(alloc: Global, replica: &mut Replica<S>, puts: &[&str]) -> usize {
-    let (output, _) = serves(alloc, replica, &Bytes::of(puts));
-    written(output.bytes())
-}
-
-/// Whether a session with so many questions to each side at most ends well.
-pub fn meets<S: Alter + Drop, T: Alter + Drop>(
-    alloc: Global,
-    local: &mut Replica<S>,
-    peer: &mut Replica<T>,
-    questions: usize,
-) -> bool {
-    sync_within(alloc, local, peer, (questions as u64).clamp(1, 1_000)).is_ok()
-}
-
-/// Does so much of a run, and tells how much was done: of the six puts how many, or of another run whether all of it was.
-fn does<S: Alter + Drop>(
-    alloc: Global,
-    run: Run,
-    most: usize,
-    replica: &mut Replica<S>,
-    other: &mut Replica<MemStore>,
-) -> usize {
+/// So much of a run: of the six puts how many, or of a session how many questions to each side at most.
+fn work_of(run: Run, most: usize) -> Work<'static> {
     match run {
-        Run::Puts => put_all(alloc, replica, &PUTS[..most.min(6)]),
-        Run::Rounds => put_in_rounds(alloc, replica, &PUTS[..most.min(6)]).unwrap_or(0),
-        Run::Move => 1,
-        Run::Local => usize::from(meets(alloc, replica, other, most)),
-        Run::Peer => usize::from(meets(alloc, other, replica, most)),
+        Run::Puts => Work::Puts(PUTS.get(..most).unwrap_or(PUTS)),
+        Run::Rounds => Work::Rounds(PUTS.get(..most).unwrap_or(PUTS)),
+        Run::Move => Work::Open,
+        Run::Local => Work::Local(most),
+        Run::Peer => Work::Peer(most),
     }
 }
 
@@ -196,41 +103,25 @@ pub const OLD_ROWS: &str = "INSERT INTO states VALUES
  ('k', x'00010001000000000000000100000000000100010000000000000001000000077b2261223a317d')";
 
 /// Records of version 1 with three keys.
-fn three_old(alloc: Global) -> Result<Files<Memory>, Refusal> {
-    Ok(files_of(connected_after(alloc, &[OLD, ONE, OLD_ROWS])?))
-}
+const THREE_OLD: &[&str] = &[OLD, ONE, OLD_ROWS];
 
-/// Records with the two puts of the side whose files stop.
-fn with_mine(alloc: Global) -> Result<Files<Memory>, Refusal> {
-    let mut replica = or_refusal(in_files(alloc, no_files(alloc)))?;
-    put_all(alloc, &mut replica, &MINE);
-    Ok(files_of(conn_of(replica)))
-}
-
-/// The files before a run.
+/// The files before a run: none, three old keys, or the two puts of the side whose files stop.
 fn files_before(alloc: Global, run: Run) -> Result<Files<Memory>, Refusal> {
     match run {
         Run::Puts | Run::Rounds => Ok(no_files(alloc)),
-        Run::Move => three_old(alloc),
-        Run::Local | Run::Peer => with_mine(alloc),
+        Run::Move => files_after(alloc, Work::Statements(THREE_OLD)),
+        Run::Local | Run::Peer => files_after(alloc, Work::Puts(MINE)),
     }
 }
 
-/// Does so much of a run on files that stop: how much was done, the root then, and the files.
-fn done_on(
-    alloc: Global,
-    run: Run,
-    most: usize,
-    files: Files<Stopping>,
-    other: &mut Replica<MemStore>,
-) -> (usize, Root, Files<Stopping>) {
-    match in_files(alloc, files) {
-        Ok(mut replica) => {
-            let done = does(alloc, run, most, &mut replica, other);
-            let root = root_of(alloc, &mut replica);
-            (done, root, files_of(conn_of(replica)))
+/// What was done, and the root then; nothing where no replica was opened.
+fn done_of(found: Result<Course, Refusal>) -> (usize, Root) {
+    match found {
+        Ok(course) => {
+            let last = course.last;
+            (course.done, last)
         }
-        Err((_, files)) => (0, [0; 33], files),
+        Err(_) => (0, [0; 33]),
     }
 }
 
@@ -241,14 +132,17 @@ fn found_in(
     files: Files<Stopping>,
     other: &mut Replica<MemStore>,
 ) -> Result<(Root, Root), Refusal> {
-    let mut replica = or_refusal(in_files(alloc, revived(files)))?;
-    let kept = root_of(alloc, &mut replica);
-    if !puts(run) {
-        does(alloc, run, 1_000, &mut replica, other);
-    }
-    let end = root_of(alloc, &mut replica);
-    drop(replica);
-    Ok((kept, end))
+    let work = if puts(run) {
+        Work::Open
+    } else {
+        work_of(run, 1_000)
+    };
+    let (found, files) = on_files(alloc, revived(files), work, Some(other));
+    drop(files);
+    let course = found?;
+    let first = course.first;
+    let last = course.last;
+    Ok((first, last))
 }
 
 /// What a run came to: how much was done, and the roots: as it ended, once the machine was back, and after one more session, there
@@ -271,7 +165,8 @@ fn done_beside(
     other: &mut Replica<MemStore>,
 ) -> Result<Left, Refusal> {
     let files = fused(files_before(alloc, run)?, stop.0, stop.1);
-    let (done, last, files) = done_on(alloc, run, most, files, other);
+    let (found, files) = on_files(alloc, files, work_of(run, most), Some(&mut *other));
+    let (done, last) = done_of(found);
     let (kept, end) = found_in(alloc, run, files, other)?;
     Ok(Left {
         done,
@@ -285,7 +180,7 @@ fn done_beside(
 /// The same beside a side of its own, which has two puts.
 fn done(alloc: Global, run: Run, most: usize, stop: (bool, u64)) -> Result<Left, Refusal> {
     let mut other = new_replica(alloc, 2)?;
-    put_all(alloc, &mut other, &THEIRS);
+    put_all(alloc, &mut other, THEIRS);
     let left = done_beside(alloc, run, most, stop, &mut other);
     drop(other);
     left

@@ -9,7 +9,7 @@ use Rattle.mvd_keys.proofs.Lists.{and_true}
 use Rattle.mvd_wire.specs.Codec.{number}
 use Rattle.mvd_wire.specs.Frames.{FrameValue, body_at, length_at, frame_at, frame_limit, spell_frame}
 use Rattle.mvd_wire.proofs.Laws.{IsBytes, IsBytes-take, wide32}
-use Rattle.mvd_wire.proofs.FrameLemmas.{frame_again}
+use Rattle.mvd_frames.proofs.FrameLemmas.{frame_again}
 use Rattle.mvd_conn.specs.Front.{IsPart, IsWhole}
 use Rattle.mvd_conn.specs.Stands.{frame_of}
 

@@ -8,7 +8,7 @@ use Rattle.mvd_dots.specs.declared.refusals.Refusal.{Refusal}
 use Rattle.mvd_dots.specs.declared.refusals.Refusal.TheVariants.{FrameTooLong, TooManyRequests}
 use Rattle.mvd_dots.specs.Refusal.{number_of}
 use Rattle.mvd_wire.specs.Frames.{FrameValue, frame_at, frame_limit, spell_frame}
-use Rattle.mvd_wire.proofs.FrameLemmas.{frame_again}
+use Rattle.mvd_frames.proofs.FrameLemmas.{frame_again}
 use Rattle.mvd_conn.proofs.FrontLemmas.{full_front}
 use Rattle.mvd_conn.specs.declared.ending.Source.{Source}
 use Rattle.mvd_conn.specs.declared.ending.Source.TheVariants as source

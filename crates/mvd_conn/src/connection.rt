@@ -10,7 +10,8 @@ use crate::scan::{Found, Front, front_of, last_after};
 use bytes::BytesMut;
 use http_server::Log;
 use mvd_dots::Refusal;
-use mvd_wire::{Reply, Short, encode_reply, short_reply};
+use mvd_frames::{Short, encode_reply, short_reply};
+use mvd_wire::Reply;
 use std::alloc::Global;
 use std::marker::Model;
 

@@ -2,7 +2,8 @@
 use super::replica_calls::{Bytes, CLASH, GET, PUT, ROOM, WIDE, new_replica, replies, served_on};
 use mvd_dots::Refusal;
 use mvd_replica::Replica;
-use mvd_wire::{Frame, decode_reply, read_frame};
+use mvd_frames::{decode_reply, read_frame};
+use mvd_wire::Frame;
 use sqlite::MemStore;
 use std::alloc::Global;
 use std::io;

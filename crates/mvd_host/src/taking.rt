@@ -10,7 +10,8 @@ ghost use Rattle.mvd_host.specs.Course.{asked_by};
 
 use mvd_conn::Connection;
 use mvd_dots::Refusal;
-use mvd_wire::{Request, decode_request};
+use mvd_frames::decode_request;
+use mvd_wire::Request;
 use std::alloc::{AllocError, Global};
 use std::collections::BTreeMap;
 

@@ -10,10 +10,8 @@ ghost use Rattle.mvd_replica.specs.Steps.{AnswersFrame, FollowsFrame, SendsReply
 use crate::replica::Replica;
 use crate::serving::Ended;
 use mvd_dots::Refusal;
-use mvd_wire::{
-    Frame, Reply, Request, Short, decode_request, encode_reply, read_frame, short_reply,
-    write_frame,
-};
+use mvd_frames::{Short, decode_request, encode_reply, read_frame, short_reply, write_frame};
+use mvd_wire::{Frame, Reply, Request};
 use sqlite::Alter;
 use std::alloc::Global;
 use std::io::{Read, Write};

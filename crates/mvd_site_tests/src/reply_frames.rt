@@ -1,6 +1,6 @@
 //! Replies.
 use mvd_dots::Refusal;
-use mvd_wire::{decode_reply, encode_reply, read_frame};
+use mvd_frames::{decode_reply, encode_reply, read_frame};
 use std::alloc::Global;
 use std::test::Fail;
 

@@ -1,6 +1,6 @@
 //! Requests.
 use mvd_dots::Refusal;
-use mvd_wire::{decode_request, encode_request, read_frame};
+use mvd_frames::{decode_request, encode_request, read_frame};
 use std::alloc::Global;
 use std::test::Fail;
 

@@ -6,7 +6,8 @@ use mvd_rows::Defs;
 use mvd_site::{Config, Site, no_work};
 use mvd_start::Start;
 use mvd_tree::key_path;
-use mvd_wire::{Reply, Request, decode_request, encode_reply};
+use mvd_frames::{decode_request, encode_reply};
+use mvd_wire::{Reply, Request};
 use std::alloc::Global;
 use std::test::Fail;
 

@@ -9,7 +9,8 @@ ghost use Rattle.mvd_sync.specs.Lines.{Far, ReadsTruly, SendsTruly, line_of, ref
 
 use crate::remote::Remote;
 use mvd_dots::Refusal;
-use mvd_wire::{Frame, read_frame, write_frame};
+use mvd_frames::{read_frame, write_frame};
+use mvd_wire::Frame;
 use std::alloc::Global;
 use std::io::{Read, Write};
 

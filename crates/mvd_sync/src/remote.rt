@@ -21,10 +21,8 @@ use crate::peer::{Page, Peer};
 use answer::Answer;
 use mvd_dots::Refusal;
 use mvd_keys::{Key, KeyState, Path};
-use mvd_wire::{
-    Digests, Reply, Request, decode_reply, encode_bucket, encode_bye, encode_get, encode_node,
-    encode_push, encode_request,
-};
+use mvd_frames::{decode_reply, encode_bucket, encode_bye, encode_get, encode_node, encode_push, encode_request};
+use mvd_wire::{Digests, Reply, Request};
 use std::alloc::Global;
 
 /// A site that is asked over a line. What it holds is known as far as the line is true; of a reader

@@ -19,8 +19,8 @@ use Rattle.mvd_wire.specs.Replies.{reply_of, within_page}
 use Rattle.mvd_wire.specs.Rows.{page_limit}
 use Rattle.mvd_wire.specs.declared.frame.Frame.{Frame}
 use Rattle.mvd_wire.specs.declared.reply.Reply.TheVariants as told
-use Rattle.mvd_wire.proofs.FrameLemmas.{frame_again}
-use Rattle.mvd_wire.proofs.ReplyLaws.{replies_again}
+use Rattle.mvd_frames.proofs.FrameLemmas.{frame_again}
+use Rattle.mvd_frames.proofs.ReplyLaws.{replies_again}
 use Rattle.mvd_wire.specs.declared.reply.Reply.{Reply}
 use Rattle.mvd_wire.specs.declared.reply.Reply.TheVariants.{Done, Keys, Refused}
 use Rattle.std.specs.FinMap.{get, len}

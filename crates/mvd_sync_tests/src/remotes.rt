@@ -7,7 +7,8 @@ use mvd_keys::{Key, KeyState};
 use mvd_rows::Defs;
 use mvd_site::{Config, Site};
 use mvd_sync::{Duplex, Remote, SyncFault};
-use mvd_wire::{Request, decode_request};
+use mvd_frames::decode_request;
+use mvd_wire::Request;
 use std::alloc::Global;
 use std::test::Fail;
 

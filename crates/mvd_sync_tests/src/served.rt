@@ -11,7 +11,8 @@ ghost use Rattle.mvd_wire.specs.Requests.{SpellsRequest};
 use mvd_dots::Refusal;
 use mvd_site::Site;
 use mvd_sync::Line;
-use mvd_wire::{Frame, Reply, Request, decode_request, encode_reply, read_frame};
+use mvd_frames::{decode_request, encode_reply, read_frame};
+use mvd_wire::{Frame, Reply, Request};
 use std::alloc::Global;
 use std::collections::VecDeque;
 

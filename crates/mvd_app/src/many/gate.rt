@@ -9,7 +9,8 @@ use mvd_http::{
 };
 use mvd_replica::Replica;
 use mvd_web::{Asked, WebConnection};
-use mvd_wire::{Reply, decode_reply, encode_request, read_frame};
+use mvd_frames::{decode_reply, encode_request, read_frame};
+use mvd_wire::Reply;
 use sqlite::Alter;
 use std::alloc::Global;
 

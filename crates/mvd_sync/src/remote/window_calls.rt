@@ -10,7 +10,8 @@ use crate::line::Line;
 use crate::peer::Page;
 use mvd_dots::Refusal;
 use mvd_keys::{Key, KeyState, Path};
-use mvd_wire::{Digests, encode_bucket, encode_get, encode_node, encode_push};
+use mvd_frames::{encode_bucket, encode_get, encode_node, encode_push};
+use mvd_wire::Digests;
 
 impl<L: Line> Remote<L> {
     /// The digests of several nodes, asked at once.

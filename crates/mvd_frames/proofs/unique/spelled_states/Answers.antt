@@ -1,0 +1,5 @@
+use Rattle.mvd_frames.proofs.Forms.{fits_of, form_of}
+use Rattle.mvd_frames.proofs.unique.spelled_states.Goals as goal
+
+pub returns : goal.returns
+returns c = record { in_form = form_of; spelled = fits_of }

@@ -1,7 +1,0 @@
-use Rattle.std.proofs.Common.{refl}
-use Rattle.mvd_wire.specs.Rows.{digests}
-use Rattle.mvd_wire.proofs.lists.digests_at.Goals as goal
-
-pub returns : goal.returns
-unfolding digests
-returns c = rw (c.in_ok-own.ensures, c.in_ok-children.ensures) refl

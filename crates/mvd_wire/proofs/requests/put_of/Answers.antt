@@ -1,7 +1,0 @@
-use Rattle.std.proofs.Common.{refl}
-use Rattle.mvd_wire.specs.Requests.{put}
-use Rattle.mvd_wire.proofs.requests.put_of.Goals as goal
-
-pub returns : goal.returns
-unfolding put
-returns c = rw (c.in_ok-key.ensures, c.in_ok-context.ensures, c.in_ok-document.ensures, ← c.is_empty.ensures, c.if-not-is_empty.false) refl

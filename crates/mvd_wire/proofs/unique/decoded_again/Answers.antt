@@ -1,6 +1,0 @@
-use Rattle.mvd_wire.proofs.ReplyLaws.{replies_again}
-use Rattle.mvd_wire.proofs.RequestLaws.{requests_again}
-use Rattle.mvd_wire.proofs.unique.decoded_again.Goals as goal
-
-pub returns : goal.returns
-returns c = record { requests = requests_again; replies = replies_again }

@@ -1,5 +1,0 @@
-use Rattle.mvd_wire.proofs.Forms.{fits_of, form_of}
-use Rattle.mvd_wire.proofs.unique.spelled_states.Goals as goal
-
-pub returns : goal.returns
-returns c = record { in_form = form_of; spelled = fits_of }

@@ -21,7 +21,7 @@ use Rattle.mvd_kept.specs.Config.{ConfigValue}
 use Rattle.mvd_kept.specs.FromStates.{AnswersFrom, answer_from, change_from, put_from, with_change, within}
 use Rattle.mvd_kept.specs.Held.{States, state_at}
 use Rattle.mvd_kept.specs.Known.{Adds, Changes, MayReply}
-use Rattle.mvd_kept.specs.Prepared.{LimitsTo, Prepares, PreparesAnswer, PreparesAnswerFrom, PreparesChange, PreparesChangeFrom, PreparesFrom, PreparesFromStates, PreparesReply}
+use Rattle.mvd_kept.specs.Prepared.{LimitsTo, Prepares, PreparesAnswer, PreparesAnswerFrom, PreparesAt, PreparesChange, PreparesChangeFrom, PreparesFrom, PreparesFromStates, PreparesReply}
 use Rattle.mvd_kept.specs.Sites.{AnswersOne, SiteValue}
 use Rattle.mvd_kept.specs.declared.prepared.Prepared.{Prepared}
 use Rattle.mvd_kept.specs.declared.prepared.Prepared.TheVariants.{Answer, Change}
@@ -132,6 +132,12 @@ prepares_known config states known request (Ok (Change change)) stands gives =
       leaves = ap (change_of known request) is ∙ sym (changed_alike config states known request stands) ∙ gives.leaves;
       differs = λ same. gives.differs (same ∙ sym (state_at-stands states known change.key stands));
     }
+
+-- so what follows from the states follows from the writes that they stand for
+pub known_at : (site : SiteValue) (request : Request) (result : Result Prepared Refusal) →
+    PreparesFromStates site request result → PreparesAt site request result
+known_at site request result from = λ whole known stands.
+    prepares_known site.config site.states known request result stands (from whole)
 
 -- ---- the step
 

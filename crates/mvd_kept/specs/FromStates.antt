@@ -105,6 +105,12 @@ unless_broken broken told x = if broken then told else x
 abbrev pub bucket_refusal : Bool → List ℕ → Refusal
 bucket_refusal broken path = if broken then Broken else if length path == 3 then Memory else BadPath
 
+-- the site with a state joined to that of a key
+abbrev pub joined_site : SiteValue → Key → State → SiteValue
+joined_site site key pushed =
+    let joined = join (state_at site.states key) pushed in
+    record { config = site.config; states = with_state site.states key joined; broken = false }
+
 -- the reply to a push that came to this
 abbrev pub push_reply : {A : Type 0} → Result A Refusal → Reply
 push_reply (Ok done) = Done

@@ -14,7 +14,7 @@ use crate::work::{HeldLook, Work};
 use mvd_count::Count;
 use mvd_dots::Refusal;
 use mvd_keys::{Key, KeyState};
-use mvd_rows::{Rows, counted};
+use mvd_rows::Rows;
 use std::alloc::{AllocError, Global};
 use std::collections::BTreeMap;
 use std::marker::Model;
@@ -133,8 +133,8 @@ impl Held {
     {
         let empty = KeyState::empty(alloc);
         match self.get(key, &mut work.looks) {
-            Some(old) => counted::change(rows, key, old, state, &mut work.rows),
-            None => counted::change(rows, key, &empty, state, &mut work.rows),
+            Some(old) => rows.change(key, old, state, &mut work.rows),
+            None => rows.change(key, &empty, state, &mut work.rows),
         }
     }
 }

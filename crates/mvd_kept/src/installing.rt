@@ -1,15 +1,20 @@
-//! What was prepared of requests side by side, put in: the hash tree is made anew once for all of it.
-ghost use Rattle.std.specs.Prelude.{◌≡◌, ◌⊎◌, ◌≤◌, ◌+◌, ◌*◌, Some, false, true, IfOk, OnErr, OnOk, length, vec_capacity};
+//! What was prepared, put in: one change, or all of requests side by side, for which the hash tree is made anew once.
+ghost use Rattle.std.specs.Prelude.{◌≡◌, ◌⊎◌, ◌≤◌, ◌+◌, ◌*◌, Some, false, true};
+ghost use Rattle.std.specs.Prelude.{IfErr, IfOk, OnErr, OnOk, length, vec_capacity};
 ghost use Rattle.std.specs.FinMap as map;
 ghost use Rattle.mvd_digest.specs.Counted.{Hashes};
-ghost use Rattle.mvd_rows.specs.Changes.{differing, looks_each, updates_each};
+ghost use Rattle.mvd_dots.specs.declared.refusals.Refusal.TheVariants.{Broken};
+ghost use Rattle.mvd_rows.specs.Changes.{IsRoomy, differing, looks_each, updates_each};
 ghost use Rattle.mvd_rows.specs.Stands.{IsRowsOf};
 ghost use Rattle.mvd_tree.specs.Change.{changed_all};
 ghost use Rattle.mvd_tree.specs.States.{key_digest};
 ghost use Rattle.mvd_kept.specs.Answer.{spelled};
-ghost use Rattle.mvd_kept.specs.Costs.{Costs};
+ghost use Rattle.mvd_kept.specs.Costs.{ChangeCosts, Costs};
 ghost use Rattle.mvd_kept.specs.Held.{IsHeldState, state_at};
-ghost use Rattle.mvd_kept.specs.Installs.{InstallCosts, InstallsAll, MayAllBeIn, MayBeIn, PutsIfWhole, TreeCosts, bytes_in, changes_in, digests_in, is_change, moved_in, moved_of};
+ghost use Rattle.mvd_kept.specs.Installs.{InstallCosts, InstallsAll, MayAllBeIn, MayBeIn, PutsIfWhole, TreeCosts};
+ghost use Rattle.mvd_kept.specs.Installs.{broken_site, bytes_in, changed_site, changes_in, digests_in, is_change};
+ghost use Rattle.mvd_kept.specs.Installs.{moved_in, moved_of};
+ghost use Rattle.mvd_kept.specs.Prepared.{IsChangeNow};
 ghost use Rattle.mvd_kept.specs.Sites.{has_no_room};
 
 use crate::config::Config;
@@ -208,8 +213,55 @@ fn put_all(
 }
 
 impl Kept {
-    /// Puts in what was prepared of requests side by side, as one after the other, and adds the reply of each. The hash tree is
-    /// made anew once. Where memory is refused, what is kept is broken from that change on.
+    /// Here it is known that there are few keys, and few siblings of each.
+    fn few(&self)
+        ensures { IsRoomy self.now.states }
+    {
+        let _most = self.config.max_keys();
+        let _held = self.states.len();
+    }
+
+    /// Puts in the change of one key, and changes no other: its state, its digest and its rows. Where memory is
+    /// refused, what is kept is broken from then on. The key's state is to be still the one that the change was
+    /// prepared from: what came between would be undone.
+    pub fn install(&mut self, change: Change, work: &mut Work) -> Result<(), Refusal>
+        requires room { has_no_room self.old.config self.old.states change.key ≡ false }
+        requires held { IsHeldState change.state }
+        // The key's state is still the one that the change was prepared from.
+        requires fresh { IsChangeNow self.old change }
+        ensures ok { OnOk result ((self.old.broken ≡ false) × (self.new ≡ changed_site self.old change)) }
+        ensures err { IfErr result (λ refusal. (refusal ≡ Broken) × (self.new ≡ broken_site self.old)) }
+        ensures costs { ChangeCosts 0 self.old change.key change.state work.old work.new }
+        ensures idle { self.old.broken ≡ true → work.new ≡ work.old }
+    {
+        if self.broken {
+            return Err(Refusal::Broken);
+        }
+        self.few();
+        let digest = change.digest(&mut work.hashed);
+        let (key, state) = change.into_parts();
+        let digested = self
+            .tree
+            .change(&key, Some(digest), &mut work.hashed)
+            .is_ok();
+        if !digested {
+            self.broken = true;
+            return Err(Refusal::Broken);
+        }
+        match self
+            .states
+            .replace(self.alloc, &mut self.rows, key, state, work)
+        {
+            Ok(()) => Ok(()),
+            Err(_) => {
+                self.broken = true;
+                Err(Refusal::Broken)
+            }
+        }
+    }
+
+    /// Puts in what was prepared of requests side by side, as one after the other, and adds the reply of each. The hash
+    /// tree is made anew once. Where memory is refused, what is kept is broken from that change on.
     pub fn install_all(&mut self, group: Vec<Prepared>, replies: &mut Vec<Reply>, work: &mut Work)
         requires space { length replies.old.items + length group.items ≤ vec_capacity replies.old }
         requires fresh { self.old.broken ≡ false → MayAllBeIn self.old group.items }

@@ -1,18 +1,23 @@
 //! What a site keeps, and the answers to requests from that. The work is added to counts that are handed in.
-ghost use Rattle.std.specs.Prelude.{◌≡◌, ◌≢◌, ◌≤◌, false, true, None, Some, Err, Ok, is_some, IfOk, IfErr, OnOk};
+ghost use Rattle.std.specs.Prelude.{◌≡◌, ◌≢◌, ◌≤◌, List, false, true, None, Some, Err, Ok};
+ghost use Rattle.std.specs.Prelude.{is_some, IfOk, IfErr, OnOk};
 ghost use Rattle.std.specs.FinMap as map;
 ghost use Rattle.mvd_count.specs.Counted.{RoseBy};
-ghost use Rattle.mvd_dots.specs.declared.refusals.Refusal.TheVariants.{Broken, Memory};
-ghost use Rattle.mvd_keys.specs.State.{IsValid, empty_state};
-ghost use Rattle.mvd_keys.specs.Writes.{is_empty};
-ghost use Rattle.mvd_rows.specs.Changes.{IsRoomy};
+ghost use Rattle.mvd_dots.specs.declared.refusals.Refusal.{Refusal};
+ghost use Rattle.mvd_dots.specs.declared.refusals.Refusal.TheVariants.{Broken, DotClash, Memory};
+ghost use Rattle.mvd_keys.specs.State.{IsValid, clashes, empty_state};
+ghost use Rattle.mvd_keys.specs.Writes.{Write, is_empty};
 ghost use Rattle.mvd_wire.specs.declared.request.Request.TheVariants.{Get, Put, Delete, Push};
-ghost use Rattle.mvd_wire.specs.declared.reply.Reply.TheVariants.{State as Shown};
-ghost use Rattle.mvd_kept.specs.Costs.{ChangeCosts, PrepareCosts};
-ghost use Rattle.mvd_kept.specs.Held.{AreHeld, IsHeldState, IsKept, state_at};
-ghost use Rattle.mvd_kept.specs.Known.{IsValidRequest};
-ghost use Rattle.mvd_kept.specs.Prepared.{IsFrugal, IsReady, LimitsTo, PreparesFrom, PreparesFromStates, PreparesReply};
-ghost use Rattle.mvd_kept.specs.Sites.{SiteValue, has_no_room};
+ghost use Rattle.mvd_wire.specs.declared.reply.Reply.TheVariants.{Refused, State as Shown};
+ghost use Rattle.mvd_wire.specs.Replies.{CanBeSent};
+ghost use Rattle.mvd_kept.specs.Costs.{AnswerCosts, Costs, PrepareCosts};
+ghost use Rattle.mvd_kept.specs.FromStates.{AnswersFrom, joined_site, push_reply, unless_broken};
+ghost use Rattle.mvd_kept.specs.Held.{AreHeld, IsKept, state_at};
+ghost use Rattle.mvd_kept.specs.Installs.{broken_site};
+ghost use Rattle.mvd_kept.specs.Known.{Adds, IsValidRequest};
+ghost use Rattle.mvd_kept.specs.Prepared.{IsFrugal, IsReady, LimitsTo, PreparesAt, PreparesFrom};
+ghost use Rattle.mvd_kept.specs.Prepared.{PreparesFromStates, PreparesReply};
+ghost use Rattle.mvd_kept.specs.Sites.{AnswersOne, SiteValue};
 
 use crate::config::Config;
 use crate::held::Held;
@@ -84,14 +89,16 @@ impl Kept {
         self.broken
     }
 
-    /// What a request comes to, with at most one look at a held key state, and as many looks at kept rows as its page has
-    /// entries, and two more.
+    /// What a request comes to, with at most one look at a held key state, and as many looks at kept rows as its page
+    /// has entries, and two more. Nothing is changed yet, and several changes may be prepared side by side.
     pub fn prepare(&self, request: &Request, work: &mut Work) -> Result<Prepared, Refusal>
+        ensures answer { PreparesAt self.now request.now result }
         ensures states { PreparesFromStates self.now request.now result }
         ensures ready { IfOk result (IsReady self.now) }
         ensures valid { IfOk result (λ _. IsValidRequest request.now) }
         ensures broken { self.now.broken ≡ true → result ≡ Err Broken }
         ensures whole { IfErr result (λ refusal. refusal ≡ Broken → self.now.broken ≡ true) }
+        // A question of a node or of a row, Bye, and a push of what is held already take no memory.
         ensures frugal { IsFrugal self.now.states request.now → IfErr result (λ refusal. refusal ≢ Memory) }
         ensures costs { PrepareCosts request.now result work.old work.new }
         ensures idle { self.now.broken ≡ true → work.new ≡ work.old }
@@ -130,18 +137,91 @@ impl Kept {
         }
     }
 
+    /// The state of a key, empty where the key is not held, by at most one look. A broken site refuses it.
+    pub fn get(&self, key: &Key, work: &mut Work) -> Result<KeyState, Refusal>
+        ensures whole { IfOk result (λ _. self.now.broken ≡ false) }
+        ensures state { IfOk result (λ state. state ≡ state_at self.now.states key.now) }
+        ensures refused { IfErr result (λ refusal. refusal ≡ unless_broken self.now.broken Broken Memory) }
+        ensures costs { Costs 1 0 0 0 0 work.old work.new }
+        ensures idle { self.now.broken ≡ true → work.new ≡ work.old }
+    {
+        if self.is_broken() {
+            return Err(Refusal::Broken);
+        }
+        self.state_of(key, &mut work.looks)
+    }
+
+    /// Answers one request. A refusal other than `Broken` leaves the site as it was.
+    pub fn answer(&mut self, request: &Request, work: &mut Work) -> Reply
+        ensures answer { AnswersOne self.old self.new request.now result }
+        ensures states { AnswersFrom self.old self.new request.now result }
+        // There is a set of writes that it adds.
+        ensures choice { (added : List Write) × Adds request.now result added }
+        ensures config { self.new.config ≡ self.old.config }
+        // Whether it is broken, and for good.
+        ensures told { result ≡ Refused Broken → self.new.broken ≡ true }
+        ensures broken { self.new.broken ≡ true → result ≡ Refused Broken }
+        ensures stays { self.old.broken ≡ true → self.new ≡ self.old }
+        ensures unchanged { (refusal : Refusal) → result ≡ Refused refusal → refusal ≢ Broken → self.new ≡ self.old }
+        // A question of a node or of a row, Bye, and a push of what is held already take no memory.
+        ensures frugal { IsFrugal self.old.states request.now → result ≢ Refused Memory }
+        // It is not too long for its frame.
+        ensures fits { CanBeSent result }
+        ensures costs { AnswerCosts self.old request.now result work.old work.new }
+        ensures idle { self.old.broken ≡ true → work.new ≡ work.old }
+    {
+        match self.prepare(request, work) {
+            Err(refusal) => Reply::Refused(refusal),
+            Ok(Prepared::Answer(reply)) => reply,
+            Ok(Prepared::Change(change)) => {
+                let reply = change.reply();
+                match self.install(change, work) {
+                    Ok(()) => reply,
+                    Err(broken) => Reply::Refused(broken),
+                }
+            }
+        }
+    }
+
+    /// Joins a state to that of a key, as a request to push it does, without a request: done; or the first refusal that
+    /// applies, after which the site is as it was, unless it is broken.
+    pub fn push(&mut self, key: &Key, pushed: &KeyState, work: &mut Work) -> Result<(), Refusal>
+        ensures answer { AnswersFrom self.old self.new (Push key.now pushed.now) (push_reply result) }
+        ensures joined { OnOk result (self.new ≡ joined_site self.old key.now pushed.now) }
+        ensures agreed { OnOk result (clashes (state_at self.old.states key.now) pushed.now ≡ false) }
+        ensures clash { IfErr result (λ refusal. refusal ≡ DotClash →
+            clashes (state_at self.old.states key.now) pushed.now ≡ true) }
+        ensures unchanged { IfErr result (λ refusal. refusal ≢ Broken → self.new ≡ self.old) }
+        // Whether it is broken, and for good.
+        ensures told { IfErr result (λ refusal. refusal ≡ Broken → self.new ≡ broken_site self.old) }
+        ensures stays { self.old.broken ≡ true → result ≡ Err Broken }
+        // A state that was joined is that of some set of writes.
+        ensures valid { OnOk result (IsValid pushed.now) }
+        ensures costs { AnswerCosts self.old (Push key.now pushed.now) (push_reply result) work.old work.new }
+        ensures idle { self.old.broken ≡ true → work.new ≡ work.old }
+    {
+        if self.is_broken() {
+            return Err(Refusal::Broken);
+        }
+        match self.prepare_push(key, pushed, &mut work.looks) {
+            Err(refusal) => Err(refusal),
+            Ok(Prepared::Answer(_)) => Ok(()),
+            Ok(Prepared::Change(change)) => self.install(change, work),
+        }
+    }
+
     fn prepare_get(&self, key: &Key, looks: &mut Count<HeldLook>) -> Result<Prepared, Refusal>
         ensures answer { PreparesReply (Shown (state_at self.now.states key.now)) result }
         ensures ready { IfOk result (IsReady self.now) }
         ensures whole { IfErr result (λ refusal. refusal ≢ Broken) }
         ensures looked { RoseBy 1 looks.old looks.new }
     {
-        let state = self.get(key, looks)?;
+        let state = self.state_of(key, looks)?;
         Ok(Prepared::Answer(Reply::State(state)))
     }
 
     /// The state of a key, empty where the key is not held. This is one look.
-    pub fn get(&self, key: &Key, looks: &mut Count<HeldLook>) -> Result<KeyState, Refusal>
+    fn state_of(&self, key: &Key, looks: &mut Count<HeldLook>) -> Result<KeyState, Refusal>
         ensures state { IfOk result (λ state. state ≡ state_at self.now.states key.now) }
         ensures kept { IfOk result IsKept }
         ensures only { IfErr result (λ refusal. refusal ≡ Memory) }
@@ -193,7 +273,7 @@ impl Kept {
     }
 
     /// What a push of this state to this key comes to, with at most one look at a held key state.
-    pub fn prepare_push(
+    fn prepare_push(
         &self,
         key: &Key,
         pushed: &KeyState,
@@ -266,49 +346,5 @@ impl Kept {
         }
         let change = Change::new(self.alloc, key, after, dot)?;
         Ok(Prepared::Change(change))
-    }
-
-    /// Here it is known that there are few keys, and few siblings of each.
-    fn few(&self)
-        ensures { IsRoomy self.now.states }
-    {
-        let _most = self.config.max_keys();
-        let _held = self.states.len();
-    }
-
-    /// Puts in the change of one key, and changes no other: its state, its digest and its rows. Where memory is refused, what
-    /// is kept is broken from then on.
-    pub fn install(&mut self, change: Change, work: &mut Work) -> Result<(), Refusal>
-        requires room { has_no_room self.old.config self.old.states change.key ≡ false }
-        requires held { IsHeldState change.state }
-        ensures ok { OnOk result ((self.old.broken ≡ false) × (self.new ≡ record { config = self.old.config; states = map.insert self.old.states change.key change.state; broken = false })) }
-        ensures err { IfErr result (λ refusal. (refusal ≡ Broken) × (self.new ≡ record { config = self.old.config; states = self.old.states; broken = true })) }
-        ensures costs { ChangeCosts 0 self.old change.key change.state work.old work.new }
-        ensures idle { self.old.broken ≡ true → work.new ≡ work.old }
-    {
-        if self.broken {
-            return Err(Refusal::Broken);
-        }
-        self.few();
-        let digest = change.digest(&mut work.hashed);
-        let (key, state) = change.into_parts();
-        let digested = self
-            .tree
-            .change(&key, Some(digest), &mut work.hashed)
-            .is_ok();
-        if !digested {
-            self.broken = true;
-            return Err(Refusal::Broken);
-        }
-        match self
-            .states
-            .replace(self.alloc, &mut self.rows, key, state, work)
-        {
-            Ok(()) => Ok(()),
-            Err(_) => {
-                self.broken = true;
-                Err(Refusal::Broken)
-            }
-        }
     }
 }

@@ -3,7 +3,6 @@
 #![tactic(auto)]
 
 mod config;
-pub mod counted;
 mod held;
 mod installing;
 mod kept;

@@ -12,7 +12,7 @@ ghost use Rattle.mvd_kept.specs.Held.{IsHeldState};
 
 use mvd_dots::Refusal;
 use mvd_keys::{Key, KeyState};
-use mvd_rows::{Defs, Meter, Rows, counted};
+use mvd_rows::{Defs, Meter, Rows};
 use std::alloc::Global;
 
 /// The rows of these definitions for just these states.
@@ -32,7 +32,7 @@ pub fn rows_of(
     let empty = KeyState::empty(alloc);
     let mut rows = Rows::new(alloc, defs.copy()?)?;
     for entry in states {
-        if counted::change(&mut rows, &entry.0, &empty, &entry.1, meter).is_err() {
+        if rows.change(&entry.0, &empty, &entry.1, meter).is_err() {
             return Err(Refusal::Memory);
         }
     }

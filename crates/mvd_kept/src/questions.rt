@@ -19,7 +19,7 @@ use crate::prepared::Prepared;
 use mvd_docs::{Field, Term, ViewName};
 use mvd_dots::{Dot, Refusal};
 use mvd_keys::{Key, Path, Place};
-use mvd_rows::{Meter, counted};
+use mvd_rows::Meter;
 use mvd_wire::{Digests, Items, Reply, RowValue};
 use std::alloc::Global;
 
@@ -101,7 +101,7 @@ impl Kept {
         // Here it is known that what is held are keys.
         let _held = self.states.len();
         let after = copy_spot(self.alloc, after)?;
-        let (places, is_more) = counted::find(&self.rows, field, term, after, meter)?;
+        let (places, is_more) = self.rows.find(field, term, after, meter)?;
         Ok(Prepared::Answer(Reply::Places(Items::new(places), is_more)))
     }
 
@@ -123,7 +123,7 @@ impl Kept {
         // Here it is known that what is held are keys.
         let _held = self.states.len();
         let after = copy_place(self.alloc, after)?;
-        let (places, is_more) = counted::range(&self.rows, field, from, to, after, meter)?;
+        let (places, is_more) = self.rows.range(field, from, to, after, meter)?;
         Ok(Prepared::Answer(Reply::Places(Items::new(places), is_more)))
     }
 
@@ -141,7 +141,7 @@ impl Kept {
         ensures frugal { IfErr result (λ refusal. refusal ≢ Memory) }
         ensures looks { Within 0 (prepared_looks result) meter.old meter.new }
     {
-        let (count, sum, ends) = counted::row(&self.rows, view, term, meter)?;
+        let (count, sum, ends) = self.rows.row(view, term, meter)?;
         Ok(Prepared::Answer(Reply::Row(RowValue { count, sum, ends })))
     }
 
@@ -159,7 +159,7 @@ impl Kept {
         ensures looks { Within 0 (prepared_looks result) meter.old meter.new }
     {
         let after = copy_term(self.alloc, after)?;
-        let (rows, is_more) = counted::rows(&self.rows, view, after, meter)?;
+        let (rows, is_more) = self.rows.rows(view, after, meter)?;
         Ok(Prepared::Answer(Reply::Rows(Items::new(rows), is_more)))
     }
 }

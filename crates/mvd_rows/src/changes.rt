@@ -1,13 +1,13 @@
-//! All kept rows.
+//! All kept rows, and how they follow a change of a key's state.
 ghost use Rattle.std.specs.Prelude.{◌≡◌, ◌+◌, ◌*◌, ◌≤◌, ◌^◌, OnOk, IfErr, IsTrue, length};
-ghost use Rattle.std.specs.FinMap.{len};
+ghost use Rattle.std.specs.FinMap.{insert, len};
 ghost use Rattle.mvd_keys.specs.State.{pairs_of, rises};
 ghost use Rattle.mvd_rows.specs.Changes.{CanMove, HasSiblings, before, growth, moved, moved_all, not_among};
-ghost use Rattle.mvd_rows.specs.Changes.{put_in, taken_out};
+ghost use Rattle.mvd_rows.specs.Changes.{differing, looks_each, put_in, state_in, taken_out, updates_each};
 ghost use Rattle.std.specs.FinMap as map;
-ghost use Rattle.mvd_dots.specs.declared.refusals.Refusal.TheVariants.{Memory};
-ghost use Rattle.mvd_rows.specs.Counted.{Within};
-ghost use Rattle.mvd_rows.specs.Stands.{IsSmall, StandFor, definitions_of};
+ghost use Rattle.mvd_dots.specs.declared.refusals.Refusal.TheVariants.{Broken, Memory};
+ghost use Rattle.mvd_rows.specs.Counted.{Within, WithinUpdates};
+ghost use Rattle.mvd_rows.specs.Stands.{HasRoomFor, IfRowsOf, IsRowsOf, IsSmall, StandFor, definitions_of};
 ghost use Rattle.mvd_rows.specs.Visible.{Visible};
 
 use crate::among::is_among;
@@ -19,11 +19,12 @@ use crate::moves::Way;
 use crate::views::View;
 use mvd_docs::Document;
 use mvd_dots::Refusal;
-use mvd_keys::{Key, Sibling};
+use mvd_keys::{Key, KeyState, Sibling};
 use std::alloc::Global;
 
 /// The places of each index and the rows of each view. They stand for a map of key states: every answer is the one that
-/// computing afresh from those states would give.
+/// computing afresh from those states would give. Each call adds the work that it took to the counts handed in: how
+/// many entries of the kept rows were put in, taken out or altered, and how many looks were made at them.
 #[derive(Drop)]
 pub struct Rows {
     pub(crate) alloc: Global,
@@ -98,7 +99,7 @@ impl Rows {
 
     /// From the one list of a key's siblings to the other. What stands in both is not touched, and a document is read
     /// again only where an index or a view asks it.
-    pub(crate) fn replace(
+    fn replace(
         &mut self,
         key: &Key,
         old: &[Sibling],
@@ -127,5 +128,35 @@ impl Rows {
         self.move_all(Way::Goes, key, old, new, meter)?;
         self.move_all(Way::Comes, key, new, old, meter)?;
         Ok(())
+    }
+
+    /// From standing for a map in which the key has the old state, empty where it is not held, to standing for that
+    /// map with the new state there. The map has at most `2^20` keys, and each state at most `2^17` siblings. The one
+    /// refusal is `Broken`, for want of memory: after it the rows stand for nothing. For each sibling that stands in
+    /// one of the two states alone it makes at most one update for each index and two for each view, and at most four
+    /// looks for each view; one that stands in both is not touched and costs none.
+    pub fn change(
+        &mut self,
+        key: &Key,
+        old: &KeyState,
+        new: &KeyState,
+        meter: &mut Meter,
+    ) -> Result<(), Refusal>
+        requires room { HasRoomFor self.old key.now old.now new.now }
+        ensures stands { OnOk result (IfRowsOf self.old (λ defs states. state_in states key.now ≡ old.now →
+            IsRowsOf self.new defs (insert states key.now new.now))) }
+        ensures broken { IfErr result (λ refusal. refusal ≡ Broken) }
+        ensures differing { WithinUpdates (differing old.now new.now * updates_each (definitions_of self.old))
+            meter.old meter.new }
+        ensures looks { Within (differing old.now new.now * updates_each (definitions_of self.old))
+            (differing old.now new.now * looks_each (definitions_of self.old)) meter.old meter.new }
+        ensures most { WithinUpdates
+            ((len old.now.siblings + len new.now.siblings) * updates_each (definitions_of self.old))
+            meter.old meter.new }
+    {
+        match self.replace(key, old.siblings(), new.siblings(), meter) {
+            Ok(()) => Ok(()),
+            Err(_) => Err(Refusal::Broken),
+        }
     }
 }

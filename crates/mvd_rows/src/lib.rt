@@ -2,9 +2,9 @@
 #![tactic(auto)]
 
 mod among;
+mod answering;
 mod building;
 mod changes;
-pub mod counted;
 mod definitions;
 mod index;
 pub mod laws;

@@ -8,14 +8,14 @@ ghost use Rattle.mvd_dots.specs.Answer.{IsAnswer};
 ghost use Rattle.mvd_dots.specs.declared.refusals.Refusal.{Refusal};
 ghost use Rattle.mvd_dots.specs.declared.refusals.Refusal.TheVariants.{Broken, DotClash, Memory};
 ghost use Rattle.mvd_keys.specs.Key.{key_cmp};
-ghost use Rattle.mvd_keys.specs.State.{IsValid, clashes, join};
+ghost use Rattle.mvd_keys.specs.State.{IsValid, clashes};
 ghost use Rattle.mvd_keys.specs.Writes.{Write, Stands};
 ghost use Rattle.mvd_tree.specs.Page.{is_more_after_page, page_of};
 ghost use Rattle.mvd_wire.specs.declared.reply.Reply.TheVariants.{Refused};
 ghost use Rattle.mvd_wire.specs.declared.request.Request.TheVariants.{Push};
 ghost use Rattle.mvd_wire.specs.Replies.{CanBeSent};
 ghost use Rattle.mvd_kept.specs.Answer.{digests, node_digests};
-ghost use Rattle.mvd_kept.specs.FromStates.{AnswersFrom, bucket_refusal, push_reply, unless_broken, with_state};
+ghost use Rattle.mvd_kept.specs.FromStates.{AnswersFrom, bucket_refusal, joined_site, push_reply, unless_broken};
 ghost use Rattle.mvd_kept.specs.Held.{AreHeld, IsHeldState, state_at};
 ghost use Rattle.mvd_kept.specs.Installs.{InstallsAll, MayAllBeIn, broken_site, changed_site};
 ghost use Rattle.mvd_kept.specs.Known.{Adds, Event, IsValidRequest, Tells};
@@ -24,7 +24,7 @@ ghost use Rattle.mvd_kept.specs.Sites.{AnswersAll, AnswersOne, SiteValue, has_no
 
 use crate::uncounted::no_work;
 use mvd_dots::Refusal;
-use mvd_kept::{Change, Config, Kept, Prepared, Work, counted};
+use mvd_kept::{Change, Config, Kept, Prepared, Work};
 use mvd_keys::{Key, KeyState, Path};
 use mvd_start::Start;
 use mvd_wire::{Digests, Reply, Request};
@@ -75,13 +75,6 @@ impl Site {
     {
         let kept = Kept::open(alloc, config, states, &mut begun())?;
         Ok(Site { kept })
-    }
-
-    /// What it keeps, of which questions can be asked that count their work.
-    pub fn kept(&self) -> &Kept
-        ensures { result.now ≡ self.now }
-    {
-        &self.kept
     }
 
     /// The allocator that it keeps.
@@ -146,7 +139,7 @@ impl Site {
         // A question of a node or of a row, Bye, and a push of what is held already take no memory.
         ensures frugal { IsFrugal self.now.states request.now → IfErr result (λ refusal. refusal ≢ Memory) }
     {
-        counted::prepare(&self.kept, request, &mut begun())
+        self.kept.prepare(request, &mut begun())
     }
 
     /// The state of a key, empty where the key is not held. A broken site refuses it.
@@ -155,7 +148,7 @@ impl Site {
         ensures state { IfOk result (λ state. state ≡ state_at self.now.states key.now) }
         ensures refused { IfErr result (λ refusal. refusal ≡ unless_broken self.now.broken Broken Memory) }
     {
-        counted::get(&self.kept, key, &mut begun())
+        self.kept.get(key, &mut begun())
     }
 
     /// Puts in the change of one key, and changes no other. Where memory is refused the site is broken from then on. The
@@ -168,18 +161,18 @@ impl Site {
         ensures ok { OnOk result ((self.old.broken ≡ false) × (self.new ≡ changed_site self.old change)) }
         ensures err { IfErr result (λ refusal. (refusal ≡ Broken) × (self.new ≡ broken_site self.old)) }
     {
-        counted::install(&mut self.kept, change, &mut begun())
+        self.kept.install(change, &mut begun())
     }
 
-    /// Puts in what was prepared of requests side by side, one after the other, and adds the reply of each. The hash tree is made
-    /// anew once for all of them. Where memory is refused the site is broken from that change on.
+    /// Puts in what was prepared of requests side by side, one after the other, and adds the reply of each. The hash tree
+    /// is made anew once for all of them. Where memory is refused the site is broken from that change on.
     pub fn install_all(&mut self, group: Vec<Prepared>, replies: &mut Vec<Reply>)
         requires space { length replies.old.items + length group.items ≤ vec_capacity replies.old }
         requires fresh { self.old.broken ≡ false → MayAllBeIn self.old group.items }
         ensures puts { InstallsAll self.old self.new group.items replies.old.items replies.new.items }
         ensures space { vec_capacity replies.new ≡ vec_capacity replies.old }
     {
-        counted::install_all(&mut self.kept, group, replies, &mut begun())
+        self.kept.install_all(group, replies, &mut begun())
     }
 
     /// Answers one request. A refusal other than `Broken` leaves the site as it was.
@@ -199,18 +192,14 @@ impl Site {
         // It is not too long for its frame.
         ensures fits { CanBeSent result }
     {
-        counted::answer(&mut self.kept, request, &mut begun())
+        self.kept.answer(request, &mut begun())
     }
 
     /// Joins a state to that of a key, as a request to push it does, without a request: done; or the first refusal that
     /// applies, after which the site is as it was, unless it is broken.
     pub fn push(&mut self, key: &Key, pushed: &KeyState) -> Result<(), Refusal>
         ensures answer { AnswersFrom self.old self.new (Push key.now pushed.now) (push_reply result) }
-        ensures joined { OnOk result (self.new ≡ record {
-          config = self.old.config;
-          states = with_state self.old.states key.now (join (state_at self.old.states key.now) pushed.now);
-          broken = false;
-        }) }
+        ensures joined { OnOk result (self.new ≡ joined_site self.old key.now pushed.now) }
         ensures agreed { OnOk result (clashes (state_at self.old.states key.now) pushed.now ≡ false) }
         ensures clash { IfErr result (λ refusal. refusal ≡ DotClash → clashes (state_at self.old.states key.now) pushed.now ≡ true) }
         ensures unchanged { IfErr result (λ refusal. refusal ≢ Broken → self.new ≡ self.old) }
@@ -220,7 +209,7 @@ impl Site {
         // A state that was joined is that of some set of writes.
         ensures valid { OnOk result (IsValid pushed.now) }
     {
-        counted::push(&mut self.kept, key, pushed, &mut begun())
+        self.kept.push(key, pushed, &mut begun())
     }
 
     /// Answers requests in order, beginning with no key.

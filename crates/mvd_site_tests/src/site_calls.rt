@@ -1,6 +1,6 @@
 //! Calls of a site that no script makes, and the paths of keys.
 use mvd_dots::Refusal;
-use mvd_kept::{Kept, Work, counted};
+use mvd_kept::{Kept, Work};
 use mvd_keys::Key;
 use mvd_rows::Defs;
 use mvd_site::{Config, Site, no_work};
@@ -83,7 +83,7 @@ fn nothing() -> Work {
 /// answer.
 fn answer_takes(kept: &mut Kept, request: &Request, looks: u64, computations: u64) -> bool {
     let mut work = nothing();
-    let _reply = counted::answer(kept, request, &mut work);
+    let _reply = kept.answer(request, &mut work);
     work.looks.made(&Start::new()) == looks
         && work.hashed.computations.made(&Start::new()) == computations
 }

@@ -43,7 +43,7 @@ loop-entry-preserved c =
     let at : state_in (from_entries (take i es)) e.0 ≡ c.empty-empty.result =
     ap (λ o. unwrap_or o empty_state) (fresh_at es i e (holds _ c.requires.rising) c.loop-entry-test.true c.entry-item.is) ∙ sym c.empty-empty.ensures in
     record {
-      rows = subst (IsRowsOf c.change.new.rows c.args.defs.now) (next_at es i e (holds _ c.requires.rising) c.loop-entry-test.true c.entry-item.is)
+      rows = subst (IsRowsOf c.change.new.self c.args.defs.now) (next_at es i e (holds _ c.requires.rising) c.loop-entry-test.true c.entry-item.is)
           (where_ok c.change.result _ c.change.ensures.stands c.if-is_err.ensures.value c.args.defs.now (from_entries (take i es)) c.loop-entry.invariant.rows at);
       counts = rows_next es i e c.empty-empty.result _ c.args.defs.now c.args.meter.now c.loop-entry.meter c.change.new.meter c.loop-entry-test.true c.entry-item.is c.empty-empty.ensures c.loop-entry.invariant.rows.defs c.loop-entry.invariant.counts c.change.ensures.looks;
     }

@@ -1,9 +1,10 @@
-use Rattle.std.proofs.Common.{refl, ap, sym, subst}
+use Rattle.std.proofs.Common.{Ok, refl, ap, sym, subst}
 use Rattle.mvd_wire.specs.declared.reply.Reply.TheVariants.{Done}
 use Rattle.mvd_kept.specs.Answer.{bucket_answer, digests}
-use Rattle.mvd_kept.specs.Prepared.{PreparesAnswerFrom, PreparesReply}
+use Rattle.mvd_kept.specs.Prepared.{PreparesAnswerFrom, PreparesFrom, PreparesReply}
 use Rattle.mvd_kept.specs.Costs.{PrepareCosts, prepared_looks}
-use Rattle.mvd_kept.proofs.Prepare.{asked}
+use Rattle.mvd_kept.specs.declared.prepared.Prepared.TheVariants.{Answer}
+use Rattle.mvd_kept.proofs.Prepare.{asked, known_at}
 use Rattle.mvd_kept.proofs.Spent.{free_request, looked, paged}
 use Rattle.mvd_kept.proofs.kept.Kept.prepare.Goals as goal
 
@@ -33,6 +34,49 @@ returns-in-Bucket-clause-states c =
 pub returns-in-Bye-clause-states : goal.returns-in-Bye-clause-states
 returns-in-Bye-clause-states c = λ whole.
     subst (λ r. PreparesAnswerFrom c.args.self.now.config c.args.self.now.states r Done) (sym c.in-Bye.is) (record { answers = refl; still = tt; after = refl })
+
+pub returns-in-Get-clause-answer : goal.returns-in-Get-clause-answer
+returns-in-Get-clause-answer c = known_at c.args.self.now c.args.request.now _ (returns-in-Get-clause-states c)
+
+pub returns-in-Find-clause-answer : goal.returns-in-Find-clause-answer
+returns-in-Find-clause-answer c = known_at c.args.self.now c.args.request.now _ (returns-in-Find-clause-states c)
+
+pub returns-in-Range-clause-answer : goal.returns-in-Range-clause-answer
+returns-in-Range-clause-answer c = known_at c.args.self.now c.args.request.now _ (returns-in-Range-clause-states c)
+
+pub returns-in-Row-clause-answer : goal.returns-in-Row-clause-answer
+returns-in-Row-clause-answer c = known_at c.args.self.now c.args.request.now _ (returns-in-Row-clause-states c)
+
+pub returns-in-Rows-clause-answer : goal.returns-in-Rows-clause-answer
+returns-in-Rows-clause-answer c = known_at c.args.self.now c.args.request.now _ (returns-in-Rows-clause-states c)
+
+pub returns-in-Node-clause-answer : goal.returns-in-Node-clause-answer
+returns-in-Node-clause-answer c = known_at c.args.self.now c.args.request.now _ (returns-in-Node-clause-states c)
+
+pub returns-in-Bucket-clause-answer : goal.returns-in-Bucket-clause-answer
+returns-in-Bucket-clause-answer c = known_at c.args.self.now c.args.request.now _ (returns-in-Bucket-clause-states c)
+
+pub returns-in-Bye-clause-answer : goal.returns-in-Bye-clause-answer
+returns-in-Bye-clause-answer c =
+    known_at c.args.self.now c.args.request.now (Ok (Answer Done)) (returns-in-Bye-clause-states c)
+
+pub returns-in-Put-clause-answer : goal.returns-in-Put-clause-answer
+returns-in-Put-clause-answer c =
+    let site = c.args.self.now in
+    known_at site c.args.request.now _ (λ _.
+    subst (λ r. PreparesFrom site.config site.states r c.prepare_put.result) (sym c.in-Put.is) c.prepare_put.ensures.answer)
+
+pub returns-in-Delete-clause-answer : goal.returns-in-Delete-clause-answer
+returns-in-Delete-clause-answer c =
+    let site = c.args.self.now in
+    known_at site c.args.request.now _ (λ _.
+    subst (λ r. PreparesFrom site.config site.states r c.prepare_delete.result) (sym c.in-Delete.is) c.prepare_delete.ensures.answer)
+
+pub returns-in-Push-clause-answer : goal.returns-in-Push-clause-answer
+returns-in-Push-clause-answer c =
+    let site = c.args.self.now in
+    known_at site c.args.request.now _ (λ _.
+    subst (λ r. PreparesFrom site.config site.states r c.prepare_push.result) (sym c.in-Push.is) c.prepare_push.ensures.answer)
 
 pub returns-then-self-clause-costs : goal.returns-then-self-clause-costs
 returns-then-self-clause-costs c = free_request c.args.request.now _ c.args.work.now

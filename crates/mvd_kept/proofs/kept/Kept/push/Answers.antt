@@ -6,11 +6,11 @@ use Rattle.mvd_kept.specs.Prepared.{IsReady, PreparesFrom}
 use Rattle.mvd_kept.proofs.Prepare.{answers_from_refusal}
 use Rattle.mvd_kept.proofs.Pushes.{PushFacts, not_broken, on_ok, push_facts, pushed_by_install, pushed_still}
 use Rattle.mvd_kept.proofs.Spent.{looked, one_look, wrote}
-use Rattle.mvd_kept.proofs.counted.push.Goals as goal
+use Rattle.mvd_kept.proofs.kept.Kept.push.Goals as goal
 
 pub returns-in-Err : goal.returns-in-Err
 returns-in-Err c =
-    let old = c.args.site.now in
+    let old = c.args.self.now in
     let key = c.args.key.now in
     let pushed = c.args.pushed.now in
     let result : Result (Unit {0}) Refusal = Err c.in-Err.refusal in
@@ -21,7 +21,7 @@ returns-in-Err c =
 
 pub returns-in-Ok-Answer : goal.returns-in-Ok-Answer
 returns-in-Ok-Answer c =
-    let old = c.args.site.now in
+    let old = c.args.self.now in
     let key = c.args.key.now in
     let pushed = c.args.pushed.now in
     let result : Result (Unit {0}) Refusal = Ok tt in
@@ -34,8 +34,8 @@ returns-in-Ok-Answer c =
 
 pub returns : goal.returns
 returns c =
-    let old = c.args.site.now in
-    let new = c.install.new.site in
+    let old = c.args.self.now in
+    let new = c.install.new.self in
     let key = c.args.key.now in
     let pushed = c.args.pushed.now in
     let result = c.install.result in

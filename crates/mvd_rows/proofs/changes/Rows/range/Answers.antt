@@ -1,11 +1,11 @@
 use Rattle.std.proofs.lemmas.Result.{IfErr-weaker, IfOk-weaker}
 use Rattle.mvd_rows.specs.Visible.{visible_in}
 use Rattle.mvd_rows.proofs.Asking.{range_some}
-use Rattle.mvd_rows.proofs.counted.range.Goals as goal
+use Rattle.mvd_rows.proofs.changes.Rows.range.Goals as goal
 
 pub returns-clause-found : goal.returns-clause-found
 returns-clause-found c = IfOk-weaker c.page.result _ _ (λ page told defs states stands.
-    range_some c.args.rows.now defs states stands c.in-Some.index.now c.args.field.now c.args.from.now c.args.to.now c.args.after _ _ c.in-Some.ensures.has c.in-Some.ensures.field c.in_ok-start.ensures.start
+    range_some c.args.self.now defs states stands c.in-Some.index.now c.args.field.now c.args.from.now c.args.to.now c.args.after _ _ c.in-Some.ensures.has c.in-Some.ensures.field c.in_ok-start.ensures.start
     (told (visible_in states) (c.in-Some.ensures.places (visible_in states) stands.rows)))
     c.page.ensures.page
 

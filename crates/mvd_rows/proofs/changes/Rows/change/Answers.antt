@@ -7,7 +7,7 @@ use Rattle.mvd_rows.specs.Stands.{definitions_of}
 use Rattle.mvd_rows.specs.Visible.{visible_in}
 use Rattle.mvd_rows.proofs.ByKey.{few_visible}
 use Rattle.mvd_rows.proofs.Standing.{differ_updates, differ_within, has_siblings, most_updates, stands_after}
-use Rattle.mvd_rows.proofs.counted.change.Goals as goal
+use Rattle.mvd_rows.proofs.changes.Rows.change.Goals as goal
 
 pub replace-requires-clause-room : goal.replace-requires-clause-room
 replace-requires-clause-room c =
@@ -25,22 +25,22 @@ returns-in-Ok-clause-stands c = λ defs states stands is.
 
 pub returns-in-Ok-clause-differing : goal.returns-in-Ok-clause-differing
 returns-in-Ok-clause-differing c = differ_updates c.args.old.now c.args.new.now _ _ _ _
-    (differ_within c.args.old.now c.args.new.now _ _ c.args.rows.now _ _ c.siblings.ensures.entries c.siblings-2.ensures.entries c.replace.ensures.counts)
+    (differ_within c.args.old.now c.args.new.now _ _ c.args.self.now _ _ c.siblings.ensures.entries c.siblings-2.ensures.entries c.replace.ensures.counts)
 
 pub returns-in-Ok-clause-looks : goal.returns-in-Ok-clause-looks
-returns-in-Ok-clause-looks c = differ_within c.args.old.now c.args.new.now _ _ c.args.rows.now _ _ c.siblings.ensures.entries c.siblings-2.ensures.entries c.replace.ensures.counts
+returns-in-Ok-clause-looks c = differ_within c.args.old.now c.args.new.now _ _ c.args.self.now _ _ c.siblings.ensures.entries c.siblings-2.ensures.entries c.replace.ensures.counts
 
 pub returns-in-Ok-clause-most : goal.returns-in-Ok-clause-most
-returns-in-Ok-clause-most c = most_updates c.args.old.now c.args.new.now (updates_each (definitions_of c.args.rows.now)) _ _ _
-    (differ_within c.args.old.now c.args.new.now _ _ c.args.rows.now _ _ c.siblings.ensures.entries c.siblings-2.ensures.entries c.replace.ensures.counts)
+returns-in-Ok-clause-most c = most_updates c.args.old.now c.args.new.now (updates_each (definitions_of c.args.self.now)) _ _ _
+    (differ_within c.args.old.now c.args.new.now _ _ c.args.self.now _ _ c.siblings.ensures.entries c.siblings-2.ensures.entries c.replace.ensures.counts)
 
 pub returns-in-Err-clause-differing : goal.returns-in-Err-clause-differing
 returns-in-Err-clause-differing c = differ_updates c.args.old.now c.args.new.now _ _ _ _
-    (differ_within c.args.old.now c.args.new.now _ _ c.args.rows.now _ _ c.siblings.ensures.entries c.siblings-2.ensures.entries c.replace.ensures.counts)
+    (differ_within c.args.old.now c.args.new.now _ _ c.args.self.now _ _ c.siblings.ensures.entries c.siblings-2.ensures.entries c.replace.ensures.counts)
 
 pub returns-in-Err-clause-looks : goal.returns-in-Err-clause-looks
-returns-in-Err-clause-looks c = differ_within c.args.old.now c.args.new.now _ _ c.args.rows.now _ _ c.siblings.ensures.entries c.siblings-2.ensures.entries c.replace.ensures.counts
+returns-in-Err-clause-looks c = differ_within c.args.old.now c.args.new.now _ _ c.args.self.now _ _ c.siblings.ensures.entries c.siblings-2.ensures.entries c.replace.ensures.counts
 
 pub returns-in-Err-clause-most : goal.returns-in-Err-clause-most
-returns-in-Err-clause-most c = most_updates c.args.old.now c.args.new.now (updates_each (definitions_of c.args.rows.now)) _ _ _
-    (differ_within c.args.old.now c.args.new.now _ _ c.args.rows.now _ _ c.siblings.ensures.entries c.siblings-2.ensures.entries c.replace.ensures.counts)
+returns-in-Err-clause-most c = most_updates c.args.old.now c.args.new.now (updates_each (definitions_of c.args.self.now)) _ _ _
+    (differ_within c.args.old.now c.args.new.now _ _ c.args.self.now _ _ c.siblings.ensures.entries c.siblings-2.ensures.entries c.replace.ensures.counts)

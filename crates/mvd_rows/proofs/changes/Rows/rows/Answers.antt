@@ -6,7 +6,7 @@ use Rattle.mvd_rows.proofs.changes.Rows.rows.Goals as goal
 pub returns-clause-found : goal.returns-clause-found
 returns-clause-found c = IfOk-weaker c.page.result _ _ (λ page told defs states stands.
     rows_some c.args.self.now defs states stands c.in-Some.view.now c.args.name.now c.args.after _
-        c.in-Some.ensures.named (told (visible_in states) (c.in-Some.ensures.rows (visible_in states) stands.rows)))
+    c.in-Some.ensures.named (told (visible_in states) (c.in-Some.ensures.rows (visible_in states) stands.rows)))
     c.page.ensures.page
 
 pub returns-clause-refused : goal.returns-clause-refused

@@ -21,7 +21,8 @@ use Rattle.mvd_kept.specs.Config.{ConfigValue}
 use Rattle.mvd_kept.specs.FromStates.{AnswersFrom, answer_from, change_from, put_from, with_change, within}
 use Rattle.mvd_kept.specs.Held.{States, state_at}
 use Rattle.mvd_kept.specs.Known.{Adds, Changes, MayReply}
-use Rattle.mvd_kept.specs.Prepared.{LimitsTo, Prepares, PreparesAnswer, PreparesAnswerFrom, PreparesAt, PreparesChange, PreparesChangeFrom, PreparesFrom, PreparesFromStates, PreparesReply}
+use Rattle.mvd_kept.specs.Prepared.{LimitsTo, Prepares, PreparesAnswer, PreparesAnswerFrom, PreparesAt}
+use Rattle.mvd_kept.specs.Prepared.{PreparesChange, PreparesChangeFrom, PreparesFrom, PreparesFromStates, PreparesReply}
 use Rattle.mvd_kept.specs.Sites.{AnswersOne, SiteValue}
 use Rattle.mvd_kept.specs.declared.prepared.Prepared.{Prepared}
 use Rattle.mvd_kept.specs.declared.prepared.Prepared.TheVariants.{Answer, Change}

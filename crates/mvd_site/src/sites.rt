@@ -112,8 +112,8 @@ impl Site {
         self.kept.node(path)
     }
 
-    /// A page of at most 1,000 of a bucket's keys with their digests, those after a key if one is given, and whether more
-    /// follow. `BadPath` where the path has not three digits; a broken site refuses it.
+    /// A page of at most 1,000 of a bucket's keys with their digests, those after a key if one is given, and whether
+    /// more follow. `BadPath` where the path has not three digits; a broken site refuses it.
     pub fn bucket(
         &self,
         path: &Path,
@@ -151,8 +151,8 @@ impl Site {
         self.kept.get(key, &mut begun())
     }
 
-    /// Puts in the change of one key, and changes no other. Where memory is refused the site is broken from then on. The
-    /// key's state is to be still the one that the change was prepared from: what came between would be undone.
+    /// Puts in the change of one key, and changes no other. Where memory is refused the site is broken from then on.
+    /// The key's state is to be still the one that the change was prepared from: what came between would be undone.
     pub fn install(&mut self, change: Change) -> Result<(), Refusal>
         requires room { has_no_room self.old.config self.old.states change.key ≡ false }
         requires held { IsHeldState change.state }
@@ -164,8 +164,8 @@ impl Site {
         self.kept.install(change, &mut begun())
     }
 
-    /// Puts in what was prepared of requests side by side, one after the other, and adds the reply of each. The hash tree
-    /// is made anew once for all of them. Where memory is refused the site is broken from that change on.
+    /// Puts in what was prepared of requests side by side, one after the other, and adds the reply of each. The hash
+    /// tree is made anew once for all of them. Where memory is refused the site is broken from that change on.
     pub fn install_all(&mut self, group: Vec<Prepared>, replies: &mut Vec<Reply>)
         requires space { length replies.old.items + length group.items ≤ vec_capacity replies.old }
         requires fresh { self.old.broken ≡ false → MayAllBeIn self.old group.items }

@@ -16,7 +16,9 @@ change-requires c =
     let i = c.loop-entry.entry-index in
     let e = c.entry-item.result in
     let at : state_in (from_entries (take i es)) e.0 ≡ c.empty-empty.result =
-    ap (λ o. unwrap_or o empty_state) (fresh_at es i e (holds _ c.requires.rising) c.loop-entry-test.true c.entry-item.is) ∙ sym c.empty-empty.ensures in
+    ap (λ o. unwrap_or o empty_state)
+    (fresh_at es i e (holds _ c.requires.rising) c.loop-entry-test.true c.entry-item.is) ∙ sym
+    c.empty-empty.ensures in
     record {
       room = (
         c.args.defs.now,
@@ -33,7 +35,16 @@ change-requires c =
 pub loop-entry-init : goal.loop-entry-init
 loop-entry-init c =
     let same : c.args.defs.now ≡ c.in_ok-copy.field-0 = cc (c.in_ok-copy.ensures) in
-    record { rows = subst (λ d. IsRowsOf c.in_ok-rows.rows d empty) (sym same) c.in_ok-rows.ensures.stands; counts = record { updates = omega arith; looks = omega arith; least_updates = omega arith; least_looks = omega arith } }
+    record {
+      rows = subst (λ d. IsRowsOf c.in_ok-rows.rows d empty) (sym same) c.in_ok-rows.ensures.stands;
+      counts
+          = record {
+            updates = omega arith;
+            looks = omega arith;
+            least_updates = omega arith;
+            least_looks = omega arith;
+          };
+    }
 
 pub loop-entry-preserved : goal.loop-entry-preserved
 loop-entry-preserved c =
@@ -41,18 +52,27 @@ loop-entry-preserved c =
     let i = c.loop-entry.entry-index in
     let e = c.entry-item.result in
     let at : state_in (from_entries (take i es)) e.0 ≡ c.empty-empty.result =
-    ap (λ o. unwrap_or o empty_state) (fresh_at es i e (holds _ c.requires.rising) c.loop-entry-test.true c.entry-item.is) ∙ sym c.empty-empty.ensures in
+    ap (λ o. unwrap_or o empty_state)
+    (fresh_at es i e (holds _ c.requires.rising) c.loop-entry-test.true c.entry-item.is) ∙ sym
+    c.empty-empty.ensures in
     record {
-      rows = subst (IsRowsOf c.change.new.self c.args.defs.now) (next_at es i e (holds _ c.requires.rising) c.loop-entry-test.true c.entry-item.is)
-          (where_ok c.change.result _ c.change.ensures.stands c.if-is_err.ensures.value c.args.defs.now (from_entries (take i es)) c.loop-entry.invariant.rows at);
-      counts = rows_next es i e c.empty-empty.result _ c.args.defs.now c.args.meter.now c.loop-entry.meter c.change.new.meter c.loop-entry-test.true c.entry-item.is c.empty-empty.ensures c.loop-entry.invariant.rows.defs c.loop-entry.invariant.counts c.change.ensures.looks;
+      rows = subst (IsRowsOf c.change.new.self c.args.defs.now)
+          (next_at es i e (holds _ c.requires.rising) c.loop-entry-test.true c.entry-item.is)
+          (where_ok c.change.result _ c.change.ensures.stands c.if-is_err.ensures.value c.args.defs.now
+          (from_entries (take i es)) c.loop-entry.invariant.rows at);
+      counts = rows_next es i e c.empty-empty.result _ c.args.defs.now c.args.meter.now c.loop-entry.meter
+          c.change.new.meter c.loop-entry-test.true c.entry-item.is c.empty-empty.ensures
+          c.loop-entry.invariant.rows.defs c.loop-entry.invariant.counts c.change.ensures.looks;
     }
 
 pub returns-then-is_err-clause-counts : goal.returns-then-is_err-clause-counts
 returns-then-is_err-clause-counts c =
     rows_part c.args.states.now (c.loop-entry.entry-index + 1) c.args.defs.now _ _
-    (rows_next c.args.states.now c.loop-entry.entry-index c.entry-item.result c.empty-empty.result _ c.args.defs.now c.args.meter.now c.loop-entry.meter c.change.new.meter
-    c.loop-entry-test.true c.entry-item.is c.empty-empty.ensures c.loop-entry.invariant.rows.defs c.loop-entry.invariant.counts c.change.ensures.looks)
+    (rows_next c.args.states.now c.loop-entry.entry-index c.entry-item.result c.empty-empty.result _ c.args.defs.now
+    c.args.meter.now c.loop-entry.meter c.change.new.meter
+    c.loop-entry-test.true c.entry-item.is c.empty-empty.ensures c.loop-entry.invariant.rows.defs
+    c.loop-entry.invariant.counts c.change.ensures.looks)
 
 pub returns-clause-counts : goal.returns-clause-counts
-returns-clause-counts c = rows_part c.args.states.now c.loop-entry.entry-index c.args.defs.now _ _ c.loop-entry.invariant.counts
+returns-clause-counts c =
+    rows_part c.args.states.now c.loop-entry.entry-index c.args.defs.now _ _ c.loop-entry.invariant.counts

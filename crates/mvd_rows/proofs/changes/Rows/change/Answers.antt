@@ -16,31 +16,49 @@ replace-requires-clause-room c =
     let new = c.requires.room.2.3 in
     let size : length (pairs_of c.siblings-2.result.now) ≡ length c.siblings-2.result.now = length-map _ _ in
     let same = ap length c.siblings-2.ensures.entries in
-    let all = len-entries c.args.new.now.siblings in
-    (visible_in states, (c.requires.room.2.0.rows, omega arith, has_siblings states c.args.key.now c.args.old.now _ c.siblings.ensures.entries c.requires.room.2.1))
+    let all = len-entries c.args.new.now.siblings in (
+      visible_in states,
+      (
+        c.requires.room.2.0.rows,
+        omega arith,
+        has_siblings states c.args.key.now c.args.old.now _
+            c.siblings.ensures.entries c.requires.room.2.1,
+      ),
+    )
 
 pub returns-in-Ok-clause-stands : goal.returns-in-Ok-clause-stands
 returns-in-Ok-clause-stands c = λ defs states stands is.
-    stands_after _ _ defs states c.args.key.now c.args.old.now c.args.new.now _ _ c.siblings.ensures.entries c.siblings-2.ensures.entries stands is c.in-Ok.ensures.defs c.in-Ok.ensures.rows
+    stands_after _ _ defs states c.args.key.now c.args.old.now c.args.new.now _ _ c.siblings.ensures.entries
+    c.siblings-2.ensures.entries stands is c.in-Ok.ensures.defs c.in-Ok.ensures.rows
 
 pub returns-in-Ok-clause-differing : goal.returns-in-Ok-clause-differing
 returns-in-Ok-clause-differing c = differ_updates c.args.old.now c.args.new.now _ _ _ _
-    (differ_within c.args.old.now c.args.new.now _ _ c.args.self.now _ _ c.siblings.ensures.entries c.siblings-2.ensures.entries c.replace.ensures.counts)
+    (differ_within c.args.old.now c.args.new.now _ _ c.args.self.now _ _ c.siblings.ensures.entries
+    c.siblings-2.ensures.entries c.replace.ensures.counts)
 
 pub returns-in-Ok-clause-looks : goal.returns-in-Ok-clause-looks
-returns-in-Ok-clause-looks c = differ_within c.args.old.now c.args.new.now _ _ c.args.self.now _ _ c.siblings.ensures.entries c.siblings-2.ensures.entries c.replace.ensures.counts
+returns-in-Ok-clause-looks c =
+    differ_within c.args.old.now c.args.new.now _ _ c.args.self.now _ _ c.siblings.ensures.entries
+    c.siblings-2.ensures.entries c.replace.ensures.counts
 
 pub returns-in-Ok-clause-most : goal.returns-in-Ok-clause-most
-returns-in-Ok-clause-most c = most_updates c.args.old.now c.args.new.now (updates_each (definitions_of c.args.self.now)) _ _ _
-    (differ_within c.args.old.now c.args.new.now _ _ c.args.self.now _ _ c.siblings.ensures.entries c.siblings-2.ensures.entries c.replace.ensures.counts)
+returns-in-Ok-clause-most c =
+    most_updates c.args.old.now c.args.new.now (updates_each (definitions_of c.args.self.now)) _ _ _
+    (differ_within c.args.old.now c.args.new.now _ _ c.args.self.now _ _ c.siblings.ensures.entries
+    c.siblings-2.ensures.entries c.replace.ensures.counts)
 
 pub returns-in-Err-clause-differing : goal.returns-in-Err-clause-differing
 returns-in-Err-clause-differing c = differ_updates c.args.old.now c.args.new.now _ _ _ _
-    (differ_within c.args.old.now c.args.new.now _ _ c.args.self.now _ _ c.siblings.ensures.entries c.siblings-2.ensures.entries c.replace.ensures.counts)
+    (differ_within c.args.old.now c.args.new.now _ _ c.args.self.now _ _ c.siblings.ensures.entries
+    c.siblings-2.ensures.entries c.replace.ensures.counts)
 
 pub returns-in-Err-clause-looks : goal.returns-in-Err-clause-looks
-returns-in-Err-clause-looks c = differ_within c.args.old.now c.args.new.now _ _ c.args.self.now _ _ c.siblings.ensures.entries c.siblings-2.ensures.entries c.replace.ensures.counts
+returns-in-Err-clause-looks c =
+    differ_within c.args.old.now c.args.new.now _ _ c.args.self.now _ _ c.siblings.ensures.entries
+    c.siblings-2.ensures.entries c.replace.ensures.counts
 
 pub returns-in-Err-clause-most : goal.returns-in-Err-clause-most
-returns-in-Err-clause-most c = most_updates c.args.old.now c.args.new.now (updates_each (definitions_of c.args.self.now)) _ _ _
-    (differ_within c.args.old.now c.args.new.now _ _ c.args.self.now _ _ c.siblings.ensures.entries c.siblings-2.ensures.entries c.replace.ensures.counts)
+returns-in-Err-clause-most c =
+    most_updates c.args.old.now c.args.new.now (updates_each (definitions_of c.args.self.now)) _ _ _
+    (differ_within c.args.old.now c.args.new.now _ _ c.args.self.now _ _ c.siblings.ensures.entries
+    c.siblings-2.ensures.entries c.replace.ensures.counts)

@@ -11,16 +11,26 @@ use Rattle.mvd_rows.proofs.changes.Rows.find.Goals as goal
 
 pub returns-clause-found : goal.returns-clause-found
 returns-clause-found c = IfOk-weaker c.page.result _ _ (λ page told defs states stands.
-    find_some c.args.self.now defs states stands c.in-Some.index.now c.args.field.now c.args.term.now c.in_ok-copy.field-0 c.args.after _ c.in-Some.ensures.has c.in-Some.ensures.field (same_ok _ _ c.in_ok-copy.ensures)
+    find_some c.args.self.now defs states stands c.in-Some.index.now c.args.field.now c.args.term.now
+    c.in_ok-copy.field-0 c.args.after _ c.in-Some.ensures.has c.in-Some.ensures.field
+    (same_ok _ _ c.in_ok-copy.ensures)
     (told (visible_in states) (c.in-Some.ensures.places (visible_in states) stands.rows)
-    ∙ ap (λ s. page_of (filter (λ p. is_past (record { term = c.in_ok-copy.field-0; spot = s }) p && not (is_gt (term_cmp p.term c.args.term.now))) (places_in c.in-Some.index.now.field (visible_in states)))) c.spot_of.ensures))
+    ∙ ap (λ s. page_of (filter
+    (λ p. is_past (record { term = c.in_ok-copy.field-0; spot = s }) p && not
+    (is_gt (term_cmp p.term c.args.term.now))) (places_in c.in-Some.index.now.field (visible_in states))))
+    c.spot_of.ensures))
     c.page.ensures.page
 
 pub returns-clause-refused : goal.returns-clause-refused
-returns-clause-refused c = IfErr-weaker c.page.result _ _ (λ refusal memory other. absurd (other memory)) c.page.ensures.memory
+returns-clause-refused c =
+    IfErr-weaker c.page.result _ _ (λ refusal memory other. absurd (other memory)) c.page.ensures.memory
 
 pub returns-clause-given : goal.returns-clause-given
-returns-clause-given c = IfOk-weaker c.page.result _ _ (λ page told defs states stands. told (visible_in states) (c.in-Some.ensures.places (visible_in states) stands.rows)) c.page.ensures.given
+returns-clause-given c =
+    IfOk-weaker c.page.result _ _
+    (λ page told defs states stands. told (visible_in states)
+    (c.in-Some.ensures.places (visible_in states) stands.rows)) c.page.ensures.given
 
 pub returns-clause-none : goal.returns-clause-none
-returns-clause-none c = IfErr-weaker c.page.result _ _ (λ refusal memory other. absurd (other memory)) c.page.ensures.memory
+returns-clause-none c =
+    IfErr-weaker c.page.result _ _ (λ refusal memory other. absurd (other memory)) c.page.ensures.memory

@@ -42,6 +42,8 @@ const SHELL_USAGE: &str = "\
 mvd shell --db <FILE> --site <N> [--defs <FILE>] [--max-keys <N>]
        mvd shell --port <P> [--address <IP>] [--idle <S>]";
 
+const SHELL_PORT: &str = "The port of a server, 1 to 65535, in place of a database.";
+
 const SYNC: &str =
     "Runs a session of a database with a server, after which both hold all that one of them held. It prints how \
                     many keys differed, and the digest of all that the database holds then.";
@@ -123,10 +125,6 @@ fn serve_command<'a>(alloc: Global) -> Result<Command<'a>, AllocError>
 fn shell_command<'a>(alloc: Global) -> Result<Command<'a>, AllocError>
     ensures { IfOk result (λ command. app_of command ≡ spec.shell_words) }
 {
-    let port = port(
-        alloc,
-        "The port of a server, 1 to 65535, in place of a database.",
-    );
     named(
         alloc,
         "shell",
@@ -138,7 +136,7 @@ fn shell_command<'a>(alloc: Global) -> Result<Command<'a>, AllocError>
     .arg(site(alloc).required(false))?
     .arg(defs(alloc))?
     .arg(max_keys(alloc))?
-    .arg(port.required(false))?
+    .arg(port(alloc, SHELL_PORT).required(false))?
     .arg(address(alloc))?
     .arg(idle(alloc, IDLE, "60"))
 }

@@ -34,7 +34,7 @@ const BOTH: &str = "a shell has '--db <FILE>' with its options, or '--port <P>' 
 
 /// What a site is set up with: its number is at least 1, and it may hold 1 to 1,000,000 keys. A file may define its indexes and
 /// views.
-#[derive(Debug, Clone, Copy, PartialEq, Eq)]
+#[derive(Clone, Copy, PartialEq, Eq)]
 pub struct Setup<'a> {
     pub site: u32,
     pub defs: Option<&'a str>,
@@ -43,7 +43,7 @@ pub struct Setup<'a> {
 
 /// What a command line asks for. Numbers are in their ranges: those of a site as told there, a port at least 1, `conns` 1 to 1,000,
 /// `idle` 1 to 86,400 seconds, and the port `http` at least 1.
-#[derive(Debug, Clone, Copy, PartialEq, Eq)]
+#[derive(Clone, Copy, PartialEq, Eq)]
 pub enum Order<'a> {
     /// Run a script from standard input.
     Sim,
@@ -79,7 +79,7 @@ pub enum Order<'a> {
 }
 
 /// Why a command line asks for nothing.
-#[derive(Debug, Drop)]
+#[derive(Drop)]
 pub enum OrderFault {
     /// Its words are none of the program's, or they ask for help.
     Words(Error),
@@ -115,7 +115,7 @@ impl From<AllocError> for OrderFault {
 }
 
 /// Why the options of a command mean no order.
-#[derive(Debug, Clone, Copy)]
+#[derive(Clone, Copy)]
 enum Unread {
     /// A number is out of its range.
     Range,

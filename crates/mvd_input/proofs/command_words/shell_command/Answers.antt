@@ -13,7 +13,7 @@ pub returns : goal.returns
 returns c =
     let no_db : rule_of c.required.result ≡ spec.db = ap rule_of c.required.ensures ∙ ap spare c.db.ensures in
     let no_site : rule_of c.required-2.result ≡ spec.site = ap rule_of c.required-2.ensures ∙ ap spare c.site.ensures in
-    let no_port : rule_of c.required-3.result ≡ spec.port = ap rule_of c.required-3.ensures ∙ ap spare c.port-port.ensures in
+    let no_port : rule_of c.required-3.result ≡ spec.port = ap rule_of c.required-3.ensures ∙ ap spare c.port.ensures in
     let one = adds _ _ _ _ _ c.in_ok-arg.ensures (ap app_of_fields c.override_usage.ensures ∙ c.named.ensures) no_db refl in
     let two = adds _ _ _ _ _ c.in_ok-arg-2.ensures one no_site refl in
     let three = adds _ _ _ _ _ c.in_ok-arg-3.ensures two c.defs.ensures refl in

@@ -22,18 +22,6 @@ pub record SideOf (S : Type 0) : Type 1 where
   pub most_keys : S → ℕ
   pub number : S → Option ℕ
 
-abbrev pub side : {S : Type 0} → (S → States) → (S → Type 0) → (Key → State → Type 0) → (ℕ → S → S → Type 0) → (S → Refusal → Type 0) → (S → Type 0) → (S → ℕ) → (S → Option ℕ) → SideOf S
-side states is_faithful can_give follows can_refuse can_answer most_keys number = record {
-  states = states;
-  is_faithful = is_faithful;
-  can_give = can_give;
-  follows = follows;
-  can_refuse = can_refuse;
-  can_answer = can_answer;
-  most_keys = most_keys;
-  number = number;
-}
-
 -- the two sides of a session, as what is known of each
 pub record Sides (L P : Type 0) : Type 1 where
   pub local : SideOf L

@@ -10,7 +10,8 @@ use Rattle.std.specs.Prelude.{Bool}
 use Rattle.mvd_sync.specs.Answers.{Entry}
 use Rattle.mvd_sync.proofs.ToldPages.{TellsPage, Told, listing_right, not_bad}
 use Rattle.mvd_sync.specs.Questions.{ForEach}
-use Rattle.mvd_sync.specs.Sides.{HasAnswered, HasRefused, of_answer, of_side, side, is_of_question}
+use Rattle.mvd_sync.specs.PeerSides.{side_of}
+use Rattle.mvd_sync.specs.Sides.{HasAnswered, HasRefused, of_answer, of_side, is_of_question}
 use Rattle.mvd_sync.specs.Windows.{EachTold}
 use Rattle.mvd_sync.proofs.Answering.{IsListingOf, Passes, answered_all, each-take, ended_by, ended_few, ended_memory, ended_within, for_each_more, no_page_told, passed, told_at}
 use Rattle.mvd_sync.proofs.OneByOne.{at_err, at_err_same}
@@ -18,12 +19,12 @@ use Rattle.mvd_sync.proofs.asking.ask_pages.Goals as goal
 
 pub returns-in_err-told-clause-ended : goal.returns-in_err-told-clause-ended
 returns-in_err-told-clause-ended g c =
-    let s = side g.P.Peer.states g.P.Peer.is_faithful g.P.Peer.can_give g.P.Peer.follows g.P.Peer.can_refuse g.P.Peer.can_answer g.P.Peer.most_keys g.P.Peer.number in
+    let s = side_of g.P.Peer in
     at_err_same _ _ _ c.in_err-told.field-0.0 c.from_residual.ensures (λ e is. cc) (ended_within s c.args.asked.now c.args.left.now c.take-taken.new.left c.take-taken.result c.args.side.now c.pages.new.self c.take-taken.ensures _ _ c.in_err-told.ensures.ended c.in_err-told.ensures.not_of_question (λ t. let k = c.pages.ensures.kept t in record { still = k.0; states = k.1 }))
 
 pub returns-in_err-answer-clause-ended : goal.returns-in_err-answer-clause-ended
 returns-in_err-answer-clause-ended g c =
-    let s = side g.P.Peer.states g.P.Peer.is_faithful g.P.Peer.can_give g.P.Peer.follows g.P.Peer.can_refuse g.P.Peer.can_answer g.P.Peer.most_keys g.P.Peer.number in
+    let s = side_of g.P.Peer in
     let asked = c.in_ok-told.ensures.told in
     let road = YieldsList-from_vec {s = c.into_iter-answer-iterator.result} c.in_ok-told.told.items (search rules) (search rules) in
     let turn = YieldsList-turn road c.loop-answer.yielded c.loop-answer.answer-iterator c.loop-answer.yielded_by c.next.result c.next.new.self c.in-Some.answer c.in-Some.is c.next.ensures.steps in
@@ -42,7 +43,7 @@ loop-answer-preserved g c =
 
 pub returns-in_err-of_page-clause-ended : goal.returns-in_err-of_page-clause-ended
 returns-in_err-of_page-clause-ended g c =
-    let s = side g.P.Peer.states g.P.Peer.is_faithful g.P.Peer.can_give g.P.Peer.follows g.P.Peer.can_refuse g.P.Peer.can_answer g.P.Peer.most_keys g.P.Peer.number in
+    let s = side_of g.P.Peer in
     let asked = c.in_ok-told.ensures.told in
     let road = YieldsList-from_vec {s = c.into_iter-answer-iterator.result} c.in_ok-told.told.items (search rules) (search rules) in
     let turn = YieldsList-turn road c.loop-answer.yielded c.loop-answer.answer-iterator c.loop-answer.yielded_by c.next.result c.next.new.self c.in-Some.answer c.in-Some.is c.next.ensures.steps in
@@ -54,24 +55,24 @@ returns-in_err-of_page-clause-ended g c =
 
 pub returns-in_err-push-clause-ended : goal.returns-in_err-push-clause-ended
 returns-in_err-push-clause-ended g c =
-    let s = side g.P.Peer.states g.P.Peer.is_faithful g.P.Peer.can_give g.P.Peer.follows g.P.Peer.can_refuse g.P.Peer.can_answer g.P.Peer.most_keys g.P.Peer.number in
+    let s = side_of g.P.Peer in
     at_err _ _ _ c.from_residual-in_err-push.ensures (λ e memory. ended_memory s c.args.asked.now c.args.left.now c.take-taken.new.left c.take-taken.result c.args.side.now c.pages.new.self c.take-taken.ensures _ e memory c.in_ok-told.ensures.told.count (λ t. let k = c.pages.ensures.kept t in record { still = k.0; states = k.1 }))
 
 pub returns-in_err-listings-clause-ended : goal.returns-in_err-listings-clause-ended
 returns-in_err-listings-clause-ended g c =
-    let s = side g.P.Peer.states g.P.Peer.is_faithful g.P.Peer.can_give g.P.Peer.follows g.P.Peer.can_refuse g.P.Peer.can_answer g.P.Peer.most_keys g.P.Peer.number in
+    let s = side_of g.P.Peer in
     at_err _ _ _ c.from_residual-in_err-listings.ensures (λ e memory. ended_memory s c.args.asked.now c.args.left.now c.take-taken.new.left c.take-taken.result c.args.side.now c.pages.new.self c.take-taken.ensures _ e memory c.in_ok-told.ensures.told.count (λ t. let k = c.pages.ensures.kept t in record { still = k.0; states = k.1 }))
 
 pub returns-in_err-are_all-clause-ended : goal.returns-in_err-are_all-clause-ended
 returns-in_err-are_all-clause-ended g c =
-    let s = side g.P.Peer.states g.P.Peer.is_faithful g.P.Peer.can_give g.P.Peer.follows g.P.Peer.can_refuse g.P.Peer.can_answer g.P.Peer.most_keys g.P.Peer.number in
+    let s = side_of g.P.Peer in
     let few = c.in_err-are_all.ensures.few in
     at_err_same _ _ _ c.in_err-are_all.field-0.0 c.from_residual-in_err-are_all.ensures (λ e is. cc)
     (ended_few s c.args.asked.now c.args.left.now c.take-taken.new.left c.take-taken.result c.args.side.now c.pages.new.self c.take-taken.ensures _ _ few.0 few.1 c.in_ok-told.ensures.told.count (λ t. let k = c.pages.ensures.kept t in record { still = k.0; states = k.1 }))
 
 pub returns-clause-told : goal.returns-clause-told
 returns-clause-told g c =
-    let s = side g.P.Peer.states g.P.Peer.is_faithful g.P.Peer.can_give g.P.Peer.follows g.P.Peer.can_refuse g.P.Peer.can_answer g.P.Peer.most_keys g.P.Peer.number in
+    let s = side_of g.P.Peer in
     let asked = c.in_ok-told.ensures.told in
     let road = YieldsList-from_vec {s = c.into_iter-answer-iterator.result} c.in_ok-told.told.items (search rules) (search rules) in
     let end = YieldsList-end road c.loop-answer.yielded c.loop-answer.answer-iterator c.loop-answer.yielded_by c.next.result c.next.new.self c.in-None.is c.next.ensures.steps in

@@ -1,6 +1,7 @@
 pub mod Links
 pub mod LinkWindows
 pub mod Lines
+pub mod Remotes
 pub mod Olds
 pub mod Session
 pub mod Sides

@@ -23,7 +23,7 @@ use Rattle.mvd_site.specs.Held.{States, state_at}
 use Rattle.mvd_sync.specs.LinkWindows.{AsksForAll}
 use Rattle.mvd_sync.specs.Links.{Asks, AsksFor, link}
 use Rattle.mvd_sync.specs.Sides.{Stays, is_of_question, stays_on}
-use Rattle.mvd_sync.specs.Windows.{CannotTake, IsNode, RefusesPage, Takes, leaves_open}
+use Rattle.mvd_sync.specs.Windows.{CannotTake, IsNode, PageValue, RefusesPage, Takes, leaves_open}
 use Rattle.mvd_sync.specs.declared.remote.Remote.{Remote}
 
 -- the far end: the key states that it holds once all that went out is answered, the replies that are still to be read, and how
@@ -151,7 +151,7 @@ AnswersTruly as_reply most old request (Err refusal) new =
 abbrev pub as_digests : Digests → Reply
 as_digests digests = Told digests
 
-abbrev pub as_page : Vec (Key × List ℕ) Global × Bool → Reply
+abbrev pub as_page : PageValue → Reply
 as_page page = Keys page.0.items page.1
 
 abbrev pub as_state : State → Reply
@@ -160,32 +160,10 @@ as_state state = Shown state
 abbrev pub as_done : Unit {0} → Reply
 as_done _ = Done
 
--- what a question to a remote side for an answer gives, over its link as it was and as it is
-abbrev pub AsksOver : {L A : Type 0} → (L → Option (List ℕ)) → (L → Option (List ℕ)) → (A → Reply) → Request → Remote L → Remote L → Result A Refusal → Type 0
-AsksOver remaining contents as_reply request old new = AsksFor as_reply request (link remaining contents old) (link remaining contents new)
-
--- the same of many, whose replies are of this kind
-abbrev pub AsksAllOver : {L A : Type 0} → (L → Option (List ℕ)) → (L → Option (List ℕ)) → (A → Reply) → ℕ → List Request → Remote L → Remote L → Result (Vec (Result A Refusal) Global) Refusal → Type 0
-AsksAllOver remaining contents as_reply kind requests old new =
-    AsksForAll as_reply kind requests (link remaining contents old) (link remaining contents new)
-
--- WHAT A REMOTE SIDE ASKS OVER A TRUE LINE is answered so
-abbrev pub AsksTruly : {L A : Type 0} → (L → Type 0) → (L → Far) → (A → Reply) → Request → Remote L → Remote L → Result A Refusal → Type 0
-AsksTruly is_true far as_reply request old new result = IsTrueRemote is_true far old →
-    IsTrueRemote is_true far new × AnswersTruly as_reply (far old.line).most (far old.line).states request result (far new.line).states
-
 -- what is shown of a question: the reply, or the refusal in its place
 abbrev pub shown_reply : Result Reply Refusal → Reply
 shown_reply (Ok reply) = reply
 shown_reply (Err refusal) = Refused refusal
-
--- A REMOTE SIDE REPLIES: the frame of the request went out, and the reply is the frame that came in, or else the refusal that tells
--- why none did; and if the line is true, it is a reply of what is at its other end
-pub record RepliesFar {L : Type 0} (remaining contents : L → Option (List ℕ)) (is_true : L → Type 0) (far : L → Far) (old new : Remote L) (request : Request) (reply : Reply) : Type 0 where
-  pub told : Result Reply Refusal
-  pub shown : reply ≡ shown_reply told
-  pub asked : Asks (link remaining contents old) (link remaining contents new) request told
-  pub truth : AsksTruly is_true far (λ reply. reply) request old new told
 
 -- what a reply is taken as: what it tells, or that there is no memory for it
 abbrev pub IsTaken : Reply → Result Reply Refusal → Type 0
@@ -202,9 +180,6 @@ pub record Took {L : Type 0} (is_true : L → Type 0) (far : L → Far) (old new
   pub states : (far new.line).states ≡ (far old.line).states
   pub due : new.refused ≡ None → TakesDue (far old.line).due (far new.line).due told
   pub own : (refusal : Refusal) → new.refused ≡ Some refusal → leaves_open refusal ≡ true
-
-abbrev pub TakesNext : {L : Type 0} → (L → Type 0) → (L → Far) → Remote L → Remote L → Result Reply Refusal → Type 0
-TakesNext is_true far old new told = is_true old.line → Took is_true far old new told
 
 -- ---- a window
 
@@ -272,15 +247,6 @@ TellsAllTruly most old requests replies new = AllToldTruly most old requests rep
 -- a window was refused, and of its requests the first were taken
 abbrev pub EndsOpen : ℕ → States → List Request → Refusal → States → Type 0
 EndsOpen most old requests refusal new = (leaves_open refusal ≡ true) × TakesFirst most old (framed requests) new
-
--- this of a window that went out over a true line, and that of one that was refused
-abbrev pub EndsTruly : {L V : Type 0} → (L → Type 0) → (L → Far) → (ℕ → States → V → States → Type 0) → List Request → Remote L → Remote L → Result V Refusal → Type 0
-EndsTruly is_true far Answered requests old new result = IsTrueRemote is_true far old → IsTrueRemote is_true far new ×
-    MatchResult result (λ told. Answered (far old.line).most (far old.line).states told (far new.line).states) (λ refusal. EndsOpen (far old.line).most (far old.line).states requests refusal (far new.line).states)
-
--- A WINDOW OVER A TRUE LINE is answered so
-abbrev pub AsksAllTruly : {L A : Type 0} → (L → Type 0) → (L → Far) → (A → Reply) → List Request → Remote L → Remote L → Result (Vec (Result A Refusal) Global) Refusal → Type 0
-AsksAllTruly is_true far as_reply requests old new result = EndsTruly is_true far (λ most before told after. SettleTruly as_reply most before requests told.items after) requests old new result
 
 -- a reply was taken for what it tells, and the answer leaves nothing open
 abbrev pub IsSettled : {A : Type 0} → Result Reply Refusal → Result A Refusal → Type 0

@@ -61,6 +61,10 @@ pub record Kind (Q A : Type 0) : Type 1 where
   pub right : Q → A → Type 0
   pub refuses : Q → Refusal → Type 0
 
+-- a page as a side gives it: keys with their digests, and whether more are left
+abbrev pub PageValue : Type 0
+PageValue = Vec (Key × List ℕ) Global × Bool
+
 -- the digests of nodes are asked for
 abbrev pub for_nodes : Type 0 → States → Kind (List ℕ) Digests
 for_nodes was_true states = record {
@@ -71,7 +75,7 @@ for_nodes was_true states = record {
 }
 
 -- pages of buckets, each after a key
-abbrev pub for_pages : Type 0 → States → Kind (List ℕ × Option (List ℕ)) (Vec (Key × List ℕ) Global × Bool)
+abbrev pub for_pages : Type 0 → States → Kind (List ℕ × Option (List ℕ)) PageValue
 for_pages was_true states = record {
   may = λ _ _. Unit {0};
   was_true = was_true;
@@ -80,11 +84,11 @@ for_pages was_true states = record {
 }
 
 -- the keys of a page of a bucket after a key, as these states give them
-abbrev pub HasKeys : States → List ℕ → Option (List ℕ) → Vec (Key × List ℕ) Global × Bool → Type 0
+abbrev pub HasKeys : States → List ℕ → Option (List ℕ) → PageValue → Type 0
 HasKeys states path after page = page.0.items ≡ page_of (digests states) path after
 
 -- and whether more are left
-abbrev pub TellsMore : States → List ℕ → Option (List ℕ) → Vec (Key × List ℕ) Global × Bool → Type 0
+abbrev pub TellsMore : States → List ℕ → Option (List ℕ) → PageValue → Type 0
 TellsMore states path after page = page.1 ≡ is_more_after_page (digests states) path after
 
 -- the states of keys
@@ -113,7 +117,7 @@ pub record Asked {S Q A : Type 0} (m : Manner S) (kind : Kind Q A) (questions : 
 abbrev pub nodes_of : {S : Type 0} → (S → Type 0) → (S → States) → S → Kind (List ℕ) Digests
 nodes_of is_faithful states side = for_nodes (is_faithful side) (states side)
 
-abbrev pub pages_of : {S : Type 0} → (S → Type 0) → (S → States) → S → Kind (List ℕ × Option (List ℕ)) (Vec (Key × List ℕ) Global × Bool)
+abbrev pub pages_of : {S : Type 0} → (S → Type 0) → (S → States) → S → Kind (List ℕ × Option (List ℕ)) PageValue
 pages_of is_faithful states side = for_pages (is_faithful side) (states side)
 
 abbrev pub gets_of : {S : Type 0} → (Key → State → Type 0) → (S → Type 0) → (S → States) → S → Kind Key State

@@ -1,7 +1,7 @@
 //! What answers requests.
 ghost use Rattle.mvd_wire.specs.declared.reply.Reply.{Reply};
 ghost use Rattle.mvd_wire.specs.declared.request.Request.{Request};
-ghost use Rattle.mvd_sync.specs.Lines.{RepliesFar};
+ghost use Rattle.mvd_sync.specs.Remotes.{RepliesFar};
 
 use crate::line::Line;
 use crate::remote::Remote;
@@ -19,8 +19,7 @@ pub trait Endpoint {
 }
 
 impl<L: Line> Endpoint for Remote<L> {
-    ghost answers = { λ old new request reply.
-        RepliesFar L.remaining L.contents L.is_true L.far old new request reply };
+    ghost answers = { RepliesFar L.Line };
 
     fn ask(&mut self, request: Request) -> Reply {
         let told = Remote::ask(self, &request);

@@ -6,10 +6,10 @@ mod window;
 ghost use Rattle.std.specs.Prelude.{◌≡◌, ◌⊎◌, [], IfOk, None, Some, Ok};
 ghost use Rattle.mvd_dots.specs.declared.refusals.Refusal.{Refusal};
 ghost use Rattle.mvd_wire.specs.declared.request.Request.{Request};
-ghost use Rattle.mvd_wire.specs.declared.request.Request.TheVariants.{Bye};
 ghost use Rattle.mvd_wire.specs.declared.reply.Reply.TheVariants.{Refused};
-ghost use Rattle.mvd_sync.specs.Lines.{AsksOver, AsksTruly, IsTrueRemote, KeepsMost, TakesNext, as_done, line_of, refused_of};
-ghost use Rattle.mvd_sync.specs.Links.{Asks, AsksFor, ReadsReply, Sends, StaysRefused, answered_by, link};
+ghost use Rattle.mvd_sync.specs.Lines.{IsTrueRemote, KeepsMost, line_of, refused_of};
+ghost use Rattle.mvd_sync.specs.Links.{Asks, ReadsReply, Sends, StaysRefused, answered_by};
+ghost use Rattle.mvd_sync.specs.Remotes.{AsksOver, AsksTruly, TakesReply, any_query, bye_query, link_of, query};
 ghost use Rattle.mvd_wire.specs.Codec.{Gives};
 ghost use Rattle.mvd_wire.specs.Replies.{kind_of};
 ghost use Rattle.mvd_wire.specs.Requests.{IsRequest, request_frame};
@@ -98,7 +98,7 @@ impl<L: Line> Remote<L> {
         ensures of_kind { IfOk result (λ reply. (kind_of reply ≡ kind) ⊎ (kind_of reply ≡ 0xEE)) }
         ensures unsent { L.contents (line_of self.new) ≡ L.contents (line_of self.old) }
         ensures most { KeepsMost L.far self.old self.new }
-        ensures truth { TakesNext L.is_true L.far self.old self.new result }
+        ensures truth { TakesReply L.Line self.old self.new result }
     {
         let came = match self.line.receive(self.alloc) {
             Ok(Some(came)) => came,
@@ -122,12 +122,11 @@ impl<L: Line> Remote<L> {
     /// Sends a frame, and reads the reply, which is of this kind or a refusal.
     fn send(&mut self, frame: &[u8], kind: u8) -> Result<Reply, Refusal>
         requires { refused_of self.old ≡ None }
-        ensures sends { Sends (link L.remaining L.contents self.old) (link L.remaining L.contents self.new)
-            frame.now kind result }
+        ensures sends { Sends (link_of L.Line self.old) (link_of L.Line self.new) frame.now kind result }
         ensures of_kind { IfOk result (λ reply. (kind_of reply ≡ kind) ⊎ (kind_of reply ≡ 0xEE)) }
         ensures most { KeepsMost L.far self.old self.new }
         ensures truth { (request : Request) → IsRequest request → request_frame request ≡ Ok frame.now →
-            AsksTruly L.is_true L.far (λ reply. reply) request self.old self.new result }
+            AsksTruly L.Line (any_query request) self.old self.new result }
     {
         match self.line.send(frame) {
             Ok(()) => self.read(kind),
@@ -139,11 +138,10 @@ impl<L: Line> Remote<L> {
     /// the reply. After a refusal of the link itself, 30 to 35, or 20 while a frame is read, every later
     /// question is refused so.
     pub fn ask(&mut self, request: &Request) -> Result<Reply, Refusal>
-        ensures asked { Asks (link L.remaining L.contents self.old) (link L.remaining L.contents self.new)
-            request.now result }
+        ensures asked { Asks (link_of L.Line self.old) (link_of L.Line self.new) request.now result }
         ensures stays { StaysRefused self.old self.new result }
         ensures most { KeepsMost L.far self.old self.new }
-        ensures truth { AsksTruly L.is_true L.far (λ reply. reply) request.now self.old self.new result }
+        ensures truth { AsksTruly L.Line (any_query request.now) self.old self.new result }
     {
         if let Some(refusal) = self.refused {
             return Err(refusal);
@@ -157,13 +155,13 @@ impl<L: Line> Remote<L> {
     /// Sends the frame of a question for such an answer, and reads that, or tells why the question has no frame.
     fn ask_for<A: Answer>(&mut self, frame: Result<Vec<u8>, Refusal>) -> Result<A, Refusal>
         ensures asked { (request : Request) → answered_by request ≡ A.of_kind →
-            Gives (λ v. v.items) frame (request_frame request) → AsksFor A.as_reply request
-            (link L.remaining L.contents self.old) (link L.remaining L.contents self.new) result }
+            Gives (λ v. v.items) frame (request_frame request) →
+            AsksOver L.Line (query request A.as_reply) self.old self.new result }
         ensures stays { StaysRefused self.old self.new result }
         ensures most { KeepsMost L.far self.old self.new }
         ensures truth { (request : Request) → IfOk frame (λ _. IsRequest request) →
             Gives (λ v. v.items) frame (request_frame request) →
-            AsksTruly L.is_true L.far A.as_reply request self.old self.new result }
+            AsksTruly L.Line (query request A.as_reply) self.old self.new result }
     {
         if let Some(refusal) = self.refused {
             return Err(refusal);
@@ -180,12 +178,10 @@ impl<L: Line> Remote<L> {
 
     /// Ends the connection.
     pub fn bye(&mut self) -> Result<(), Refusal>
-        ensures asked { AsksOver L.remaining L.contents as_done
-            (Bye) self.old self.new result }
+        ensures asked { AsksOver L.Line bye_query self.old self.new result }
         ensures stays { StaysRefused self.old self.new result }
         ensures most { KeepsMost L.far self.old self.new }
-        ensures truth { AsksTruly L.is_true L.far as_done
-            (Bye) self.old self.new result }
+        ensures truth { AsksTruly L.Line bye_query self.old self.new result }
     {
         self.ask_for(encode_bye(self.alloc))
     }

@@ -1,12 +1,15 @@
 //! A site at the other end of a connection, as a side of a session.
-ghost use Rattle.std.specs.Prelude.{◌≡◌, IfOk, None, Some, map};
+ghost use Rattle.std.specs.Prelude.{◌≡◌, IfOk, None, Some};
 ghost use Rattle.std.specs.Option.{option_copied};
-ghost use Rattle.mvd_wire.specs.declared.request.Request.TheVariants.{Get, Node, Bucket, Push};
+ghost use Rattle.mvd_wire.specs.declared.request.Request.TheVariants.{Bucket};
 ghost use Rattle.mvd_wire.specs.Codec.{Gives};
 ghost use Rattle.mvd_wire.specs.Requests.{IsRequest, request_frame};
-ghost use Rattle.mvd_sync.specs.Lines.{AsksAllOver, AsksAllTruly, AsksOver, AsksTruly, IsTrueRemote, KeepsMost, RemoteFollows};
-ghost use Rattle.mvd_sync.specs.Lines.{as_digests, as_done, as_page, as_state, far_of, line_of, refused_of, remote_follows_on, remote_follows_self};
+ghost use Rattle.mvd_sync.specs.Lines.{IsTrueRemote, KeepsMost, RemoteFollows};
+ghost use Rattle.mvd_sync.specs.Lines.{far_of, line_of, refused_of, remote_follows_on, remote_follows_self};
 ghost use Rattle.mvd_sync.specs.Links.{StaysRefused};
+ghost use Rattle.mvd_sync.specs.Remotes.{AsksAllOver, AsksAllTruly, AsksOver, AsksTruly};
+ghost use Rattle.mvd_sync.specs.Remotes.{node_queries, node_query, page_queries, page_query, push_queries, push_query};
+ghost use Rattle.mvd_sync.specs.Remotes.{state_queries, state_query};
 
 use super::Remote;
 use super::window::Window;
@@ -68,56 +71,46 @@ impl<L: Line> Peer for Remote<L> {
     }
 
     fn node(&mut self, path: &Path) -> Result<Digests, Refusal>
-        ensures asked { AsksOver L.remaining L.contents as_digests
-            (Node path.now) self.old self.new result }
+        ensures asked { AsksOver L.Line (node_query path.now) self.old self.new result }
         ensures stays { StaysRefused self.old self.new result }
         ensures most { KeepsMost L.far self.old self.new }
-        ensures truth { AsksTruly L.is_true L.far as_digests
-            (Node path.now) self.old self.new result }
+        ensures truth { AsksTruly L.Line (node_query path.now) self.old self.new result }
     {
         self.ask_for(encode_node(self.alloc, path))
     }
 
     fn bucket(&mut self, path: &Path, after: Option<&Key>) -> Result<Page, Refusal>
-        ensures asked { AsksOver L.remaining L.contents as_page
-            (Bucket path.now (option_copied after.entry)) self.old self.new result }
+        ensures asked { AsksOver L.Line (page_query path.now (option_copied after.entry)) self.old self.new result }
         ensures stays { StaysRefused self.old self.new result }
         ensures most { KeepsMost L.far self.old self.new }
-        ensures truth { AsksTruly L.is_true L.far as_page
-            (Bucket path.now (option_copied after.entry)) self.old self.new result }
+        ensures truth { AsksTruly L.Line (page_query path.now (option_copied after.entry)) self.old self.new result }
     {
         self.ask_for(self.bucket_frame(path, after))
     }
 
     fn get(&mut self, key: &Key) -> Result<KeyState, Refusal>
-        ensures asked { AsksOver L.remaining L.contents as_state
-            (Get key.now) self.old self.new result }
+        ensures asked { AsksOver L.Line (state_query key.now) self.old self.new result }
         ensures stays { StaysRefused self.old self.new result }
         ensures most { KeepsMost L.far self.old self.new }
-        ensures truth { AsksTruly L.is_true L.far as_state
-            (Get key.now) self.old self.new result }
+        ensures truth { AsksTruly L.Line (state_query key.now) self.old self.new result }
     {
         self.ask_for(encode_get(self.alloc, key))
     }
 
     fn push(&mut self, key: &Key, state: &KeyState) -> Result<(), Refusal>
-        ensures asked { AsksOver L.remaining L.contents as_done
-            (Push key.now state.now) self.old self.new result }
+        ensures asked { AsksOver L.Line (push_query key.now state.now) self.old self.new result }
         ensures stays { StaysRefused self.old self.new result }
         ensures most { KeepsMost L.far self.old self.new }
-        ensures truth { AsksTruly L.is_true L.far as_done
-            (Push key.now state.now) self.old self.new result }
+        ensures truth { AsksTruly L.Line (push_query key.now state.now) self.old self.new result }
     {
         self.ask_for(encode_push(self.alloc, key, state))
     }
 
     fn nodes(&mut self, paths: &[Path]) -> Result<Vec<Result<Digests, Refusal>>, Refusal>
-        ensures asked { AsksAllOver L.remaining L.contents as_digests 0xA7
-            (map (λ path. Node path) paths.now) self.old self.new result }
+        ensures asked { AsksAllOver L.Line (node_queries paths.now) self.old self.new result }
         ensures stays { StaysRefused self.old self.new result }
         ensures most { KeepsMost L.far self.old self.new }
-        ensures truth { AsksAllTruly L.is_true L.far as_digests
-            (map (λ path. Node path) paths.now) self.old self.new result }
+        ensures truth { AsksAllTruly L.Line (node_queries paths.now) self.old self.new result }
     {
         if let Some(refusal) = self.refused {
             return Err(refusal);
@@ -133,12 +126,10 @@ impl<L: Line> Peer for Remote<L> {
         &mut self,
         asked: &[(Path, Option<Key>)],
     ) -> Result<Vec<Result<Page, Refusal>>, Refusal>
-        ensures asked { AsksAllOver L.remaining L.contents as_page 0xA8
-            (map (λ q. Bucket q.0 q.1) asked.now) self.old self.new result }
+        ensures asked { AsksAllOver L.Line (page_queries asked.now) self.old self.new result }
         ensures stays { StaysRefused self.old self.new result }
         ensures most { KeepsMost L.far self.old self.new }
-        ensures truth { AsksAllTruly L.is_true L.far as_page
-            (map (λ q. Bucket q.0 q.1) asked.now) self.old self.new result }
+        ensures truth { AsksAllTruly L.Line (page_queries asked.now) self.old self.new result }
     {
         if let Some(refusal) = self.refused {
             return Err(refusal);
@@ -151,12 +142,10 @@ impl<L: Line> Peer for Remote<L> {
     }
 
     fn get_all(&mut self, keys: &[Key]) -> Result<Vec<Result<KeyState, Refusal>>, Refusal>
-        ensures asked { AsksAllOver L.remaining L.contents as_state 0xA1
-            (map (λ key. Get key) keys.now) self.old self.new result }
+        ensures asked { AsksAllOver L.Line (state_queries keys.now) self.old self.new result }
         ensures stays { StaysRefused self.old self.new result }
         ensures most { KeepsMost L.far self.old self.new }
-        ensures truth { AsksAllTruly L.is_true L.far as_state
-            (map (λ key. Get key) keys.now) self.old self.new result }
+        ensures truth { AsksAllTruly L.Line (state_queries keys.now) self.old self.new result }
     {
         if let Some(refusal) = self.refused {
             return Err(refusal);
@@ -169,12 +158,10 @@ impl<L: Line> Peer for Remote<L> {
     }
 
     fn push_all(&mut self, pairs: &[(Key, KeyState)]) -> Result<Vec<Result<(), Refusal>>, Refusal>
-        ensures asked { AsksAllOver L.remaining L.contents as_done 0xA3
-            (map (λ pair. Push pair.0 pair.1) pairs.now) self.old self.new result }
+        ensures asked { AsksAllOver L.Line (push_queries pairs.now) self.old self.new result }
         ensures stays { StaysRefused self.old self.new result }
         ensures most { KeepsMost L.far self.old self.new }
-        ensures truth { AsksAllTruly L.is_true L.far as_done
-            (map (λ pair. Push pair.0 pair.1) pairs.now) self.old self.new result }
+        ensures truth { AsksAllTruly L.Line (push_queries pairs.now) self.old self.new result }
     {
         if let Some(refusal) = self.refused {
             return Err(refusal);

@@ -4,7 +4,7 @@ use Rattle.std.specs.Prelude.{Bool, ◌^◌, None, Some, Result, Ok, Err}
 use Rattle.std.specs.declared.vec.Vec.{Vec}
 use Rattle.std.specs.declared.alloc.Global.{Global}
 use Rattle.mvd_wire.specs.declared.reply.Digests.{Digests}
-use Rattle.mvd_sync.specs.Answers.{Entry, IsPage}
+use Rattle.mvd_sync.specs.Answers.{IsPage, ListingValue, PageEntry}
 use Rattle.mvd_sync.specs.declared.asking.Node.{Node}
 use Rattle.mvd_dots.specs.declared.refusals.Refusal.{Refusal}
 use Rattle.mvd_dots.specs.declared.refusals.Refusal.TheVariants.{BadPath, Memory, TooManyRequests}
@@ -103,7 +103,7 @@ no_page_told (q ∷ qs) (Err r ∷ ts) deep h = (page_apart q.0 r deep.0 h.0, no
 abbrev pub IsNodeOf : Digests → Node → Type 0
 IsNodeOf digests node = (node.own ≡ digests.own) × (digests.children ≡ Some node.children)
 
-abbrev pub IsListingOf : Vec (List ℕ × List ℕ) Global × Bool → List Entry × Bool → Type 0
+abbrev pub IsListingOf : Vec (List ℕ × List ℕ) Global × Bool → ListingValue → Type 0
 IsListingOf page listing = (listing ≡ (page.0.items, page.1)) × IsPage None listing.0 listing.1 × (length listing.0 < 2 ^ 64)
 
 -- ---- the end of some questions, of which as many were asked as were left

@@ -11,7 +11,7 @@ use Rattle.mvd_site.specs.Held.{AreHeld, States}
 use Rattle.mvd_sync.specs.Carries.{Carried}
 use Rattle.mvd_sync.specs.Exchanges.{Done, IsHeldByEither, keys_next}
 use Rattle.mvd_sync.specs.Meetings.{done_of, held_keys, noted, pair_of, taken_from}
-use Rattle.mvd_sync.specs.Questions.{ComesToEnd, ForEach, IsOfKey, Keeps, TakesFirst, TakesIn}
+use Rattle.mvd_sync.specs.Questions.{ComesToEnd, ForEach, IsOfKey, Keeps, TakesInFirst, TakesIn}
 use Rattle.mvd_sync.specs.Session.{ComesByPushes, Each}
 use Rattle.mvd_sync.specs.Sides.{IsSilent, SideOf}
 use Rattle.mvd_sync.specs.Windows.{Pushes}
@@ -94,7 +94,7 @@ module _ {L P : Type 0} (l : SideOf L) (p : SideOf P) (number : Option ℕ) (ent
     no_pulls silent = pulls l p number entries left left1 local local1 peer peer1 ms plan (λ _ _. ⊥) (λ k s h. silent_gives p.follows p.can_answer peer peer1 (p.can_give k s) silent h)
 
     -- the local side came to an end
-    pub ends_at_local : {A : Type 0} → (left' : Questions) (local2 : L) (refusal : Refusal) → ComesToEnd l (TakesFirst l pairs_l local1 local2 refusal) (length pairs_l) left1.local local1 local2 refusal → (pairs_l ≡ [] → local2 ≡ local1)
+    pub ends_at_local : {A : Type 0} → (left' : Questions) (local2 : L) (refusal : Refusal) → ComesToEnd l (TakesInFirst l pairs_l local1 local2 refusal) (length pairs_l) left1.local local1 local2 refusal → (pairs_l ≡ [] → local2 ≡ local1)
         → ExchangesAllBy {A = A} l p number entries left left' local local2 peer peer1 (Err (Local refusal))
     ends_at_local {A} left' local2 refusal e alone = record {
       course = record {
@@ -190,10 +190,10 @@ module _ {L P : Type 0} (l : SideOf L) (p : SideOf P) (number : Option ℕ) (ent
       beside_l t silent = ((took_l t).still, pushed_none (l.states local) (l.states local2) (comes_l (λ _ _. ⊥) (no_pulls silent) t))
 
       -- the peer came to an end
-      pub ends_at_peer : {A : Type 0} → (left' : Questions) (peer2 : P) (refusal : Refusal) → ComesToEnd p (TakesFirst p (filter_map (pair_of AtPeer) ms1) peer1 peer2 refusal) (length (filter_map (pair_of AtPeer) ms1)) left1.peer peer1 peer2 refusal
+      pub ends_at_peer : {A : Type 0} → (left' : Questions) (peer2 : P) (refusal : Refusal) → ComesToEnd p (TakesInFirst p (filter_map (pair_of AtPeer) ms1) peer1 peer2 refusal) (length (filter_map (pair_of AtPeer) ms1)) left1.peer peer1 peer2 refusal
           → (filter_map (pair_of AtPeer) ms1 ≡ [] → peer2 ≡ peer1) → ExchangesAllBy {A = A} l p number entries left left' local local2 peer peer2 (Err (Peer refusal))
       ends_at_peer {A} left' peer2 refusal e' alone =
-          let e : ComesToEnd p (TakesFirst p pairs_p peer1 peer2 refusal) (length pairs_p) left1.peer peer1 peer2 refusal = subst (λ qs. ComesToEnd p (TakesFirst p qs peer1 peer2 refusal) (length qs) left1.peer peer1 peer2 refusal) same_pairs e' in
+          let e : ComesToEnd p (TakesInFirst p pairs_p peer1 peer2 refusal) (length pairs_p) left1.peer peer1 peer2 refusal = subst (λ qs. ComesToEnd p (TakesInFirst p qs peer1 peer2 refusal) (length qs) left1.peer peer1 peer2 refusal) same_pairs e' in
           record {
             course = record {
               asked_local = asked_l;

@@ -6,7 +6,7 @@ use Rattle.mvd_dots.specs.declared.refusals.Refusal.{Refusal}
 use Rattle.mvd_dots.specs.declared.refusals.Refusal.TheVariants.{BadBody}
 use Rattle.mvd_site.specs.Answer.{digests}
 use Rattle.mvd_tree.specs.HashTree.{KeyDigests}
-use Rattle.mvd_sync.specs.Answers.{Entry, IsPage, IsPageOf}
+use Rattle.mvd_sync.specs.Answers.{IsPage, IsPageOf, ListingValue, PageEntry}
 use Rattle.mvd_sync.specs.Buckets.{ArePages, IsSpent}
 use Rattle.mvd_sync.specs.Questions.{AllAnswered, ComesToEnd, Fills, ForEach, Keeps, AnswersEach}
 use Rattle.mvd_sync.specs.Session.{Each}
@@ -46,7 +46,7 @@ one_refused s left left' old new refusal spent follows self told not_of_question
   right = kept;
 }
 
-module _ {L P : Type 0} (l : SideOf L) (p : SideOf P) (path : List ℕ) (after : Option (List ℕ)) (mine theirs : List Entry × Bool) (left : Questions) (local : L) (peer : P) where
+module _ {L P : Type 0} (l : SideOf L) (p : SideOf P) (path : List ℕ) (after : Option (List ℕ)) (mine theirs : ListingValue) (left : Questions) (local : L) (peer : P) where
   -- the local listing was not filled
   pub local_unfilled : (self : (s : P) → p.follows 0 s s) (local' : L) (refusal : Refusal) → ComesToEnd l (Keeps l local local') 1 left.local local local' refusal → IsSpent mine → FillEndsBy l p mine theirs left local local' peer peer (Local refusal)
   local_unfilled self local' refusal e spent = record {
@@ -66,7 +66,7 @@ module _ {L P : Type 0} (l : SideOf L) (p : SideOf P) (path : List ℕ) (after :
   }
 
   -- or the peer's was not, after it
-  pub peer_unfilled : (mine' : List Entry × Bool) (left_l : ℕ) (local' : L) (peer' : P) (refusal : Refusal) → Fills l path after mine mine' left.local left_l local local' → ComesToEnd p (Keeps p peer peer') 1 left.peer peer peer' refusal → IsSpent theirs → FillEndsBy l p mine theirs left local local' peer peer' (Peer refusal)
+  pub peer_unfilled : (mine' : ListingValue) (left_l : ℕ) (local' : L) (peer' : P) (refusal : Refusal) → Fills l path after mine mine' left.local left_l local local' → ComesToEnd p (Keeps p peer peer') 1 left.peer peer peer' refusal → IsSpent theirs → FillEndsBy l p mine theirs left local local' peer peer' (Peer refusal)
   peer_unfilled mine' left_l local' peer' refusal f e spent = record {
     ends = record {
       asked_local = f.asked;
@@ -111,23 +111,23 @@ pages_deep paths asked deep is = subst (Each (λ (q : List ℕ × Option (List �
     first_deep (path ∷ paths) deep = (deep.0, first_deep paths deep.1)
 
 -- what a page has, whoever told it
-abbrev pub IsGoodPage : List Entry × Bool → Type 0
+abbrev pub IsGoodPage : ListingValue → Type 0
 IsGoodPage page = (page.0 ≡ [] → page.1 ≡ false) × (length page.0 < 2 ^ 64)
 
 module _ {S : Type 0} (s : SideOf S) (held : KeyDigests) (T : Type 0) where
-  good_pages : (paths : List (List ℕ)) (pages : List (List Entry × Bool)) → ForEach {Q = List ℕ × Option (List ℕ)} (λ q page. IsPage None page.0 page.1 × (length page.0 < 2 ^ 64) × T) (map (λ path. (path, None)) paths) pages → Each IsGoodPage pages
+  good_pages : (paths : List (List ℕ)) (pages : List ListingValue) → ForEach {Q = List ℕ × Option (List ℕ)} (λ q page. IsPage None page.0 page.1 × (length page.0 < 2 ^ 64) × T) (map (λ path. (path, None)) paths) pages → Each IsGoodPage pages
   good_pages [] [] h = tt
   good_pages [] (x ∷ pages) h = absurd h
   good_pages (q ∷ paths) [] h = absurd h
   good_pages (q ∷ paths) (x ∷ pages) h = ((h.0.0.ended, h.0.1), good_pages paths pages h.1)
 
-  first_told : (paths : List (List ℕ)) (pages : List (List Entry × Bool)) → ForEach {Q = List ℕ × Option (List ℕ)} (λ q page. IsPageOf held q.0 q.1 page.0 page.1) (map (λ path. (path, None)) paths) pages → ArePages held paths pages
+  first_told : (paths : List (List ℕ)) (pages : List ListingValue) → ForEach {Q = List ℕ × Option (List ℕ)} (λ q page. IsPageOf held q.0 q.1 page.0 page.1) (map (λ path. (path, None)) paths) pages → ArePages held paths pages
   first_told [] [] h = tt
   first_told [] (x ∷ pages) h = absurd h
   first_told (q ∷ paths) [] h = absurd h
   first_told (q ∷ paths) (x ∷ pages) h = (h.0, first_told paths pages h.1)
 
-module _ {S : Type 0} (s : SideOf S) (T : Type 0) (paths : List (List ℕ)) (asked : List (List ℕ × Option (List ℕ))) (pages : List (List Entry × Bool)) (left left' : ℕ) (old new : S) (is : asked ≡ map (λ path. (path, None)) paths)
+module _ {S : Type 0} (s : SideOf S) (T : Type 0) (paths : List (List ℕ)) (asked : List (List ℕ × Option (List ℕ))) (pages : List ListingValue) (left left' : ℕ) (old new : S) (is : asked ≡ map (λ path. (path, None)) paths)
     (h : AllAnswered s (λ q page. IsPage None page.0 page.1 × (length page.0 < 2 ^ 64) × T) (AnswersEach s (λ q page. IsPageOf (digests (s.states old)) q.0 q.1 page.0 page.1) asked pages old new) asked pages left left' old new) where
   as_long : length asked ≡ length paths
   as_long = ap length is ∙ length-map paths (λ path. (path, None))

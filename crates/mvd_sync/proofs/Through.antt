@@ -10,7 +10,7 @@ use Rattle.mvd_keys.specs.Writes.{Key}
 use Rattle.mvd_site.specs.Answer.{digests}
 use Rattle.mvd_site.specs.Held.{States}
 use Rattle.mvd_tree.specs.HashTree.{KeyDigests, is_under, path_of_key}
-use Rattle.mvd_sync.specs.Answers.{IsPageOf}
+use Rattle.mvd_sync.specs.Answers.{IsPageOf, ListingValue}
 use Rattle.mvd_sync.specs.Buckets.{AreElsewhere, ArePages, held_in}
 use Rattle.mvd_sync.specs.Exchanges.{AreNext, Done, Exchanging, keys_done, keys_next}
 use Rattle.mvd_sync.specs.Nodes.{has_below}
@@ -242,7 +242,7 @@ module _ {L P : Type 0} (l : SideOf L) (p : SideOf P)
 
   -- ---- a window
 
-  pages_then : (a a' : States) (paths : List (List ℕ)) (pages : List (List (Key × List ℕ) × Bool)) → ((q : Key) → IsTrue (has_below paths q) → get a' q ≡ get a q) → ArePages (digests a') paths pages → ArePages (digests a) paths pages
+  pages_then : (a a' : States) (paths : List (List ℕ)) (pages : List ListingValue) → ((q : Key) → IsTrue (has_below paths q) → get a' q ≡ get a q) → ArePages (digests a') paths pages → ArePages (digests a) paths pages
   pages_then a a' [] [] same h = tt
   pages_then a a' [] (x ∷ pages) same h = absurd h
   pages_then a a' (q ∷ paths) [] same h = absurd h
@@ -258,7 +258,7 @@ module _ {L P : Type 0} (l : SideOf L) (p : SideOf P)
       so.rest q (no_member Other (keys_done done) (Each-left Other (keys_done done) waiting elsewhere) q (λ none. true≢false (sym h ∙ none)))
 
   -- the first pages were told by both, and their buckets gone over
-  pub window_through : {A : Type 0} (paths : List (List ℕ)) (mine theirs : List (List (Key × List ℕ) × Bool)) (n : ℕ) (left mid left' : Questions) (local local1 local2 : L) (peer peer1 peer2 : P) (before after : Exchanging) (result : Result A SyncFault)
+  pub window_through : {A : Type 0} (paths : List (List ℕ)) (mine theirs : List ListingValue) (n : ℕ) (left mid left' : Questions) (local local1 local2 : L) (peer peer1 peer2 : P) (before after : Exchanging) (result : Result A SyncFault)
       → Reads l n left.local mid.local local local1 → Reads p n left.peer mid.peer peer peer1
       → (l.is_faithful local → ArePages (digests (l.states local)) paths mine) → (p.is_faithful peer → ArePages (digests (p.states peer)) paths theirs)
       → GoesThroughBy l p (λ a b. ArePages (digests a) paths mine × ArePages (digests b) paths theirs) paths 0 mid left' local1 local2 peer1 peer2 before after result
@@ -332,7 +332,7 @@ module _ {L P : Type 0} (l : SideOf L) (p : SideOf P)
 
 -- ---- one bucket of several
 
-pub page_at : (held : KeyDigests) (paths : List (List ℕ)) (pages : List (List (Key × List ℕ) × Bool)) (i : ℕ) (path : List ℕ) (page : List (Key × List ℕ) × Bool) → ArePages held paths pages → i < length paths → path ≡ get_or paths i path → page ≡ get_or pages i page → ArePages held (path ∷ []) (page ∷ [])
+pub page_at : (held : KeyDigests) (paths : List (List ℕ)) (pages : List ListingValue) (i : ℕ) (path : List ℕ) (page : ListingValue) → ArePages held paths pages → i < length paths → path ≡ get_or paths i path → page ≡ get_or pages i page → ArePages held (path ∷ []) (page ∷ [])
 page_at held [] pages i path page h low e f = absurd (omega (arith, low))
 page_at held (q ∷ paths) [] i path page h low e f = absurd h
 page_at held (q ∷ paths) (x ∷ pages) zero path page h low e f = (subst (λ x. IsPageOf held path None x.0 x.1) (sym f) (subst (λ q. IsPageOf held q None x.0 x.1) (sym e) h.0), tt)

@@ -6,7 +6,7 @@ use Rattle.mvd_tree.specs.HashTree.{KeyDigests}
 use Rattle.mvd_tree.specs.Page.{rest_of}
 use Rattle.mvd_site.specs.Answer.{digests}
 use Rattle.mvd_site.specs.Held.{States}
-use Rattle.mvd_sync.specs.Answers.{IsPageOf}
+use Rattle.mvd_sync.specs.Answers.{IsPageOf, ListingValue}
 use Rattle.mvd_sync.specs.Exchanges.{AreNext, Counts, Done, Exchanging, GoesOn, JoinsSome, Moment, SoFar, Spends, Stand, began, keys_done, keys_next, stand_at}
 use Rattle.mvd_sync.specs.Nodes.{has_below}
 use Rattle.mvd_sync.specs.Questions.{Fills, ForEach}
@@ -86,16 +86,16 @@ pub record Finds {A : Type 0} (stand : Stand) (after : After) (buckets : Buckets
 -- ---- one key
 
 -- a listing with no entry left, of a bucket that goes on
-abbrev pub IsSpent : List (Key × List ℕ) × Bool → Type 0
+abbrev pub IsSpent : ListingValue → Type 0
 IsSpent listing = (listing.0 ≡ []) × (listing.1 ≡ true)
 
 -- two sides, the questions that are left for each, and the listings of a bucket of theirs
 pub record Reading (L P : Type 0) : Type 0 where
   pub now : Asking L P
-  pub mine : List (Key × List ℕ) × Bool
-  pub theirs : List (Key × List ℕ) × Bool
+  pub mine : ListingValue
+  pub theirs : ListingValue
 
-abbrev pub reading : {L P : Type 0} → L → P → Questions → (mine theirs : List (Key × List ℕ) × Bool) → Reading L P
+abbrev pub reading : {L P : Type 0} → L → P → Questions → (mine theirs : ListingValue) → Reading L P
 reading local peer left mine theirs = record { now = asking local peer left; mine = mine; theirs = theirs }
 
 -- both listings were filled
@@ -132,7 +132,7 @@ pub record Settles {L P A : Type 0} (s : Sides L P) (e : Entry) (old new : Momen
 -- ---- buckets
 
 -- the first page of each bucket
-abbrev pub ArePages : KeyDigests → List (List ℕ) → List (List (Key × List ℕ) × Bool) → Type 0
+abbrev pub ArePages : KeyDigests → List (List ℕ) → List ListingValue → Type 0
 ArePages held paths pages = ForEach (λ path page. IsPageOf held path None page.0 page.1) paths pages
 
 -- Buckets are gone over, and what differs in them is exchanged, or waits. `Told` is what is known of the states of true sides

@@ -15,8 +15,8 @@ use Rattle.mvd_sync.specs.declared.report.Side.TheVariants.{Local as AtLocal, Pe
 use Rattle.mvd_sync.specs.declared.report.SyncFault.{SyncFault}
 
 -- a side gave the states of these keys
-abbrev pub Gives : {S : Type 0} → SideOf S → Side → List Entry → List State → ℕ → ℕ → S → S → Type 0
-Gives s name entries states left left' old new =
+abbrev pub GivesStates : {S : Type 0} → SideOf S → Side → List Entry → List State → ℕ → ℕ → S → S → Type 0
+GivesStates s name entries states left left' old new =
     AllAnswered s (λ key state. s.can_give key state × HasAnswered s.follows s.can_answer old new)
     (AnswersEach s (λ key state. state ≡ state_at (s.states old) key) (held_keys name entries) states old new)
     (held_keys name entries) states left left' old new
@@ -25,8 +25,8 @@ Gives s name entries states left left' old new =
 pub record Planned {L P : Type 0} (s : Sides L P) (number : Option ℕ) (entries : List Entry) (old new : Asking L P) (meetings : List Meeting) : Type 0 where
   pub mine : List State
   pub theirs : List State
-  pub from_local : Gives s.local AtLocal entries mine old.left.local new.left.local old.at.local new.at.local
-  pub from_peer : Gives s.peer AtPeer entries theirs old.left.peer new.left.peer old.at.peer new.at.peer
+  pub from_local : GivesStates s.local AtLocal entries mine old.left.local new.left.local old.at.local new.at.local
+  pub from_peer : GivesStates s.peer AtPeer entries theirs old.left.peer new.left.peer old.at.peer new.at.peer
   pub plans : ArePlans number entries mine theirs meetings
 
 -- a side took what it was to take, or refused keys alone

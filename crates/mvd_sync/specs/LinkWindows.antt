@@ -12,7 +12,7 @@ use Rattle.mvd_wire.specs.declared.reply.Reply.TheVariants.{Refused}
 use Rattle.mvd_wire.specs.Frames.{AppendsFront, FrameValue}
 use Rattle.mvd_wire.specs.Replies.{kind_of}
 use Rattle.mvd_wire.specs.Requests.{request_frame}
-use Rattle.mvd_sync.specs.Links.{GoesOn, Link, ReadCause, Receives, TellsReply, TellsNone}
+use Rattle.mvd_sync.specs.Links.{IsUp, Link, ReadCause, Receives, TellsReply, TellsNone}
 use Rattle.mvd_sync.specs.Questions.{ForEach}
 
 -- ---- what goes out
@@ -61,7 +61,7 @@ TurnBreaks kind nones old new refusal = (n : ℕ) × (replies : List (Result Rep
 pub record Answered (kind : ℕ) (frames : Frames) (replies : List (Result Reply Refusal)) (old new : Link) : Type 0 where
   pub wrote : Appends old.output new.output frames.0
   pub read : TakeTurns kind frames.1 replies old.input new.input
-  pub goes_on : GoesOn new
+  pub goes_on : IsUp new
 
 -- an answer is what a reply tells
 abbrev pub Answers : {A : Type 0} → (A → Reply) → Result Reply Refusal → Result A Refusal → Type 0

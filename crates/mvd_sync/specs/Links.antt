@@ -23,9 +23,9 @@ pub record Link : Type 0 where
 abbrev pub link : {L : Type 0} → (L → Option (List ℕ)) → (L → Option (List ℕ)) → Remote L → Link
 link remaining contents remote = record { input = remaining remote.line; output = contents remote.line; refused = remote.refused }
 
--- the link goes on
-abbrev pub GoesOn : Link → Type 0
-GoesOn link = link.refused ≡ None
+-- the link is up: it has not refused
+abbrev pub IsUp : Link → Type 0
+IsUp link = link.refused ≡ None
 
 -- the kind byte of the replies that accept a request
 abbrev pub answered_by : Request → ℕ
@@ -87,20 +87,20 @@ ReadsReply old new kind refused (Ok reply) = Receives old new (TellsReply kind r
 ReadsReply old new kind refused (Err refusal) = (ReadCause old new kind refusal × (refused ≡ Some refusal)) ⊎ (Receives old new (TellsNone kind refusal) × (refused ≡ None) × (number_of refusal < 30))
 
 -- why a link breaks with this refusal
-pub data Cause (old new : Link) (sent : List ℕ) (kind : ℕ) (refusal : Refusal) : Type 0 where
+pub data BreakCause (old new : Link) (sent : List ℕ) (kind : ℕ) (refusal : Refusal) : Type 0 where
   -- the writer failed after a front of the frame, and nothing was read
-  of_write : refusal ≡ WriteFailed → AppendsFront old.output new.output sent → new.input ≡ old.input → Cause old new sent kind refusal
-  of_read : Appends old.output new.output sent → ReadCause old.input new.input kind refusal → Cause old new sent kind refusal
+  of_write : refusal ≡ WriteFailed → AppendsFront old.output new.output sent → new.input ≡ old.input → BreakCause old new sent kind refusal
+  of_read : Appends old.output new.output sent → ReadCause old.input new.input kind refusal → BreakCause old new sent kind refusal
 
 -- the link itself refuses, from now on
 pub record Breaks (old new : Link) (sent : List ℕ) (kind : ℕ) (refusal : Refusal) : Type 0 where
-  pub cause : Cause old new sent kind refusal
+  pub cause : BreakCause old new sent kind refusal
   pub kept : new.refused ≡ Some refusal
 
 -- how the sending of a frame over a link that goes on ends, where a reply of this kind is asked for
 abbrev pub Sends : Link → Link → List ℕ → ℕ → Result Reply Refusal → Type 0
-Sends old new sent kind (Ok reply) = Exchanged old new sent (TellsReply kind reply) × GoesOn new
-Sends old new sent kind (Err refusal) = Breaks old new sent kind refusal ⊎ (Exchanged old new sent (TellsNone kind refusal) × GoesOn new × (number_of refusal < 30))
+Sends old new sent kind (Ok reply) = Exchanged old new sent (TellsReply kind reply) × IsUp new
+Sends old new sent kind (Err refusal) = Breaks old new sent kind refusal ⊎ (Exchanged old new sent (TellsNone kind refusal) × IsUp new × (number_of refusal < 30))
 
 -- nothing was sent: the link had refused before, or the request has no frame, or memory was refused for it
 abbrev pub SendsNothing : Link → Link → Request → Refusal → Type 0

@@ -27,16 +27,16 @@ abbrev pub or_empty : Option State → State
 or_empty s = unwrap_or s empty_state
 
 -- each side takes the other's state, if it has one, but the peer none that it has; states that clash are refused at the local side
-pub data Meets (own other pull give : Option State) (refused : Option (Side × Refusal)) : Type 0 where
-  clash : clashes (or_empty own) (or_empty other) ≡ true → pull ≡ None → give ≡ None → refused ≡ Some (AtLocal, DotClash) → Meets own other pull give refused
-  meet : clashes (or_empty own) (or_empty other) ≡ false → pull ≡ other → give ≡ own → refused ≡ None → Meets own other pull give refused
-  has : clashes (or_empty own) (or_empty other) ≡ false → pull ≡ other → give ≡ None → join (or_empty own) (or_empty other) ≡ or_empty other → refused ≡ None → Meets own other pull give refused
+pub data Trades (own other pull give : Option State) (refused : Option (Side × Refusal)) : Type 0 where
+  clash : clashes (or_empty own) (or_empty other) ≡ true → pull ≡ None → give ≡ None → refused ≡ Some (AtLocal, DotClash) → Trades own other pull give refused
+  meet : clashes (or_empty own) (or_empty other) ≡ false → pull ≡ other → give ≡ own → refused ≡ None → Trades own other pull give refused
+  has : clashes (or_empty own) (or_empty other) ≡ false → pull ≡ other → give ≡ None → join (or_empty own) (or_empty other) ≡ or_empty other → refused ≡ None → Trades own other pull give refused
 
 pub record IsPlan (key : Key) (is_old : Bool) (own other : Option State) (m : Meeting) : Type 0 where
   pub of_key : m.key ≡ key
   pub told_old : m.is_old ≡ is_old
   pub fresh : m.asked ≡ false
-  pub meets : Meets own other m.pull m.give m.refused
+  pub meets : Trades own other m.pull m.give m.refused
   pub pull_valid : IfSome m.pull IsValid
   pub give_valid : IfSome m.give IsValid
 

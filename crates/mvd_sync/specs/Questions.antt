@@ -8,7 +8,7 @@ use Rattle.mvd_tree.specs.HashTree.{KeyDigests, node_digest}
 use Rattle.mvd_tree.specs.Page.{children_digests}
 use Rattle.mvd_wire.specs.Codecs.{spell_state}
 use Rattle.mvd_site.specs.Answer.{digests}
-use Rattle.mvd_sync.specs.Answers.{Entry, IsPage, IsPageOf}
+use Rattle.mvd_sync.specs.Answers.{IsPage, IsPageOf, ListingValue, PageEntry}
 use Rattle.mvd_sync.specs.Sides.{Blames, SideOf, is_of_key, is_of_question}
 use Rattle.mvd_sync.specs.Windows.{Pushes, PushesFirst}
 use Rattle.mvd_sync.specs.declared.asking.Node.{Node}
@@ -67,14 +67,14 @@ pub record TakesIn {S : Type 0} (s : SideOf S) (pairs : List (Key × State)) (to
   pub pushes : Pushes (s.most_keys old) (s.states old) pairs told (s.states new)
 
 -- after pushes that came to an end, of which the first were made
-pub record TakesFirst {S : Type 0} (s : SideOf S) (pairs : List (Key × State)) (old new : S) (refusal : Refusal) : Type 0 where
+pub record TakesInFirst {S : Type 0} (s : SideOf S) (pairs : List (Key × State)) (old new : S) (refusal : Refusal) : Type 0 where
   pub still : refusal ≢ Broken → s.is_faithful new
   pub pushes : PushesFirst (s.is_faithful new) (s.most_keys old) (s.states old) pairs (s.states new)
 
 -- ---- a listing
 
 -- A page of a bucket after a key was asked for
-pub record Fetches {S : Type 0} (s : SideOf S) (path : List ℕ) (after : Option (List ℕ)) (listing : List Entry × Bool) (left left' : ℕ) (old new : S) : Type 0 where
+pub record Fetches {S : Type 0} (s : SideOf S) (path : List ℕ) (after : Option (List ℕ)) (listing : ListingValue) (left left' : ℕ) (old new : S) : Type 0 where
   pub spent : left ≡ left' + 1
   pub follows : s.follows 1 old new
   pub page : IsPage after listing.0 listing.1
@@ -83,7 +83,7 @@ pub record Fetches {S : Type 0} (s : SideOf S) (path : List ℕ) (after : Option
   pub right : s.is_faithful old → IsPageOf (digests (s.states old)) path after listing.0 listing.1
 
 -- A listing of the keys of a bucket after a key was filled, by a question more where it had come to its end and there are more
-pub record Fills {S : Type 0} (s : SideOf S) (path : List ℕ) (after : Option (List ℕ)) (listing listing' : List Entry × Bool) (left left' : ℕ) (old new : S) : Type 0 where
+pub record Fills {S : Type 0} (s : SideOf S) (path : List ℕ) (after : Option (List ℕ)) (listing listing' : ListingValue) (left left' : ℕ) (old new : S) : Type 0 where
   pub asked : ℕ
   pub one : asked ≤ 1
   pub needed : 1 ≤ asked → (listing.0 ≡ []) × (listing.1 ≡ true)

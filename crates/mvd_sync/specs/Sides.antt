@@ -74,8 +74,8 @@ abbrev pub IsOfNoQuestion : Refusal → Type 0
 IsOfNoQuestion refusal = is_of_question refusal ≡ false
 
 -- a true side stays true, with the states that it held
-abbrev pub StaysTrue : {S : Type 0} → (S → Type 0) → (S → States) → S → S → Type 0
-StaysTrue is_faithful states old new = is_faithful old → is_faithful new × (states new ≡ states old)
+abbrev pub StaysFaithful : {S : Type 0} → (S → Type 0) → (S → States) → S → S → Type 0
+StaysFaithful is_faithful states old new = is_faithful old → is_faithful new × (states new ≡ states old)
 
 -- ---- why a session ends by a side
 

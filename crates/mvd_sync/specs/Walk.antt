@@ -31,13 +31,13 @@ pub record Reads {S : Type 0} (s : SideOf S) (asked left left' : ℕ) (old new :
   pub kept : s.is_faithful old → Keeps s old new
 
 -- They came to an end by a fault that has a cause: no more were made than were left, and so few
-pub record ReadsEnd {L P : Type 0} (s : Sides L P) (AreFew : ℕ → Type 0) (old : Asking L P) (new : Two L P) (fault : SyncFault) : Type 0 where
+pub record ReadsEnd {L P : Type 0} (s : Sides L P) (Few : ℕ → Type 0) (old : Asking L P) (new : Two L P) (fault : SyncFault) : Type 0 where
   pub asked_local : ℕ
   pub asked_peer : ℕ
   pub wanted_local : ℕ
   pub wanted_peer : ℕ
   pub within : (asked_local ≤ old.left.local) × (asked_peer ≤ old.left.peer)
-  pub few : AreFew (asked_local + wanted_local) × AreFew (asked_peer + wanted_peer)
+  pub few : Few (asked_local + wanted_local) × Few (asked_peer + wanted_peer)
   pub follows : s.local.follows asked_local old.at.local new.local × s.peer.follows asked_peer old.at.peer new.peer
   pub cause : IsFaultOf
       (Blames s.local

@@ -3,7 +3,7 @@ ghost use Rattle.std.specs.Prelude.{◌≡◌, ◌≢◌, ◌+◌, ◌-◌, ◌<
 ghost use Rattle.mvd_site.specs.Answer.{digests};
 ghost use Rattle.mvd_site.specs.Held.{state_at};
 ghost use Rattle.mvd_sync.specs.Answers.{IsPage, IsPageOf};
-ghost use Rattle.mvd_sync.specs.Questions.{AllAnswered, ComesToEnd, ForEach, IsInner, IsOfKey, IsWindow, Keeps, Takes, TakesFirst, TakesIn, AnswersEach, push_bytes};
+ghost use Rattle.mvd_sync.specs.Questions.{AllAnswered, ComesToEnd, ForEach, IsInner, IsOfKey, IsWindow, Keeps, Takes, TakesInFirst, TakesIn, AnswersEach, push_bytes};
 ghost use Rattle.mvd_sync.specs.Session.{Each};
 ghost use Rattle.mvd_sync.specs.PeerSides.{side_of};
 ghost use Rattle.mvd_sync.specs.Sides.{HasAnswered, is_of_key};
@@ -208,7 +208,7 @@ pub fn ask_pushes<P: Peer>(
         pairs.now told.items left.old left.new side.old side.new) }
     ensures ended { let s = side_of P.Peer in
         IfErr result
-        (λ refusal. ComesToEnd s (TakesFirst s pairs.now side.old side.new refusal) (length pairs.now) left.old
+        (λ refusal. ComesToEnd s (TakesInFirst s pairs.now side.old side.new refusal) (length pairs.now) left.old
         side.old side.new refusal) }
 {
     let mut told = Vec::with_capacity(side.alloc(), pairs.len())?;

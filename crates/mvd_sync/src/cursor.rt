@@ -1,9 +1,10 @@
 //! What a session has left of a side's page of a bucket.
 ghost use Rattle.std.specs.Prelude.{◌≡◌, ◌≢◌, ◌+◌, ◌-◌, ◌*◌, ◌≤◌, [], ◌∷◌, length, IfOk, IfErr, IfSome, IfNone, OnSome, ◌<◌, ◌^◌, OnOk, OnErr, MatchOption, option_copied, true, IsTrue, ◌↔◌};
 ghost use Rattle.mvd_tree.specs.Page.{is_after};
-ghost use Rattle.mvd_sync.specs.Answers.{IsPage, Rises, TakesNext, order_of_first};
+ghost use Rattle.mvd_sync.specs.Answers.{IsPage, Rises, TakesLesser, order_of_first};
 ghost use Rattle.mvd_sync.specs.Questions.{ComesToEnd, Fetches, Fills, Keeps};
 ghost use Rattle.mvd_sync.specs.PeerSides.{side_of};
+ghost use Rattle.mvd_sync.specs.Sides.{two};
 
 use crate::asking::take_one;
 use crate::levels::is_same;
@@ -165,8 +166,8 @@ impl Listing {
 /// Takes the lesser first key of two listings, from both where both begin with it.
 pub fn next(mine: &mut Listing, theirs: &mut Listing) -> Option<Entry>
     ensures none { IfNone result ((mine.old.0 ≡ []) × (theirs.old.0 ≡ [])) }
-    ensures next { IfSome result (λ e. TakesNext
-        mine.old.0 theirs.old.0 e.key e.mine e.theirs e.differs mine.new.0 theirs.new.0) }
+    ensures next { IfSome result (λ e.
+        TakesLesser (two mine.old.0 theirs.old.0) e (two mine.new.0 theirs.new.0)) }
     ensures fewer { OnSome result (length mine.new.0 + length theirs.new.0 < length mine.old.0 + length theirs.old.0) }
     ensures more { (mine.new.1 ≡ mine.old.1) × (theirs.new.1 ≡ theirs.old.1) }
 {

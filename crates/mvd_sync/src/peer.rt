@@ -8,7 +8,7 @@ ghost use Rattle.mvd_tree.specs.HashTree.{node_digest};
 ghost use Rattle.mvd_tree.specs.Page.{children_digests, is_more_after_page, page_of};
 ghost use Rattle.mvd_site.specs.Held.{AreHeld, States, state_at};
 ghost use Rattle.mvd_site.specs.Answer.{digests};
-ghost use Rattle.mvd_sync.specs.Sides.{IsOfNoQuestion, StaysTrue};
+ghost use Rattle.mvd_sync.specs.Sides.{IsOfNoQuestion, StaysFaithful};
 ghost use Rattle.mvd_sync.specs.Windows.{AskedAll, CannotTake, Ends, HasKeys, IsNode, IsPushed, Leaves, PushedAll, PushedSome, RefusesPage, TellsMore};
 ghost use Rattle.mvd_sync.specs.Windows.{for_pushes, gets_of, manner, nodes_of, pages_of};
 
@@ -64,7 +64,7 @@ pub trait Peer {
 
     /// The digest of a node and, above the buckets, those of its sixteen children.
     fn node(&mut self, path: &Path) -> Result<Digests, Refusal>
-        ensures kept { StaysTrue is_faithful states self.old self.new }
+        ensures kept { StaysFaithful is_faithful states self.old self.new }
         ensures answer { is_faithful self.old → IfOk result (IsNode (digests (states self.old)) path.now) }
         ensures not_of_question { is_faithful self.old → IfErr result IsOfNoQuestion }
         ensures follows { follows 1 self.old self.new }
@@ -73,7 +73,7 @@ pub trait Peer {
 
     /// A page of a bucket after a key.
     fn bucket(&mut self, path: &Path, after: Option<&Key>) -> Result<Page, Refusal>
-        ensures kept { StaysTrue is_faithful states self.old self.new }
+        ensures kept { StaysFaithful is_faithful states self.old self.new }
         ensures page { is_faithful self.old →
             IfOk result (HasKeys (states self.old) path.now (option_copied after.entry)) }
         ensures more { is_faithful self.old →
@@ -85,7 +85,7 @@ pub trait Peer {
 
     /// The state of a key, which is the empty one where the key is not held.
     fn get(&mut self, key: &Key) -> Result<KeyState, Refusal>
-        ensures kept { StaysTrue is_faithful states self.old self.new }
+        ensures kept { StaysFaithful is_faithful states self.old self.new }
         ensures answer { is_faithful self.old → IfOk result (λ state. state ≡ state_at (states self.old) key.now) }
         ensures given { IfOk result (λ state. can_give key.now state) }
         ensures not_of_question { is_faithful self.old → IfErr result IsOfNoQuestion }
@@ -111,7 +111,7 @@ pub trait Peer {
 
     /// The digests of several nodes.
     fn nodes(&mut self, paths: &[Path]) -> Result<Vec<Result<Digests, Refusal>>, Refusal>
-        ensures kept { StaysTrue is_faithful states self.old self.new }
+        ensures kept { StaysFaithful is_faithful states self.old self.new }
         ensures told { AskedAll (manner follows can_refuse can_answer)
             (nodes_of is_faithful states) paths.now self.old self.new result }
         ensures ended { IfErr result (Ends follows can_refuse (length paths.now) self.old self.new) }
@@ -133,7 +133,7 @@ pub trait Peer {
         &mut self,
         asked: &[(Path, Option<Key>)],
     ) -> Result<Vec<Result<Page, Refusal>>, Refusal>
-        ensures kept { StaysTrue is_faithful states self.old self.new }
+        ensures kept { StaysFaithful is_faithful states self.old self.new }
         ensures told { AskedAll (manner follows can_refuse can_answer)
             (pages_of is_faithful states) asked.now self.old self.new result }
         ensures ended { IfErr result (Ends follows can_refuse (length asked.now) self.old self.new) }
@@ -152,7 +152,7 @@ pub trait Peer {
 
     /// The states of several keys.
     fn get_all(&mut self, keys: &[Key]) -> Result<Vec<Result<KeyState, Refusal>>, Refusal>
-        ensures kept { StaysTrue is_faithful states self.old self.new }
+        ensures kept { StaysFaithful is_faithful states self.old self.new }
         ensures told { AskedAll (manner follows can_refuse can_answer)
             (gets_of can_give is_faithful states) keys.now self.old self.new result }
         ensures ended { IfErr result (Ends follows can_refuse (length keys.now) self.old self.new) }

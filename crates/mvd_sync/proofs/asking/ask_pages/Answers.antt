@@ -7,7 +7,7 @@ use Rattle.mvd_dots.specs.declared.refusals.Refusal.{Refusal}
 use Rattle.std.proofs.Common.{ap}
 use Rattle.mvd_site.specs.Answer.{digests}
 use Rattle.std.specs.Prelude.{Bool}
-use Rattle.mvd_sync.specs.Answers.{Entry}
+use Rattle.mvd_sync.specs.Answers.{ListingValue, PageEntry}
 use Rattle.mvd_sync.proofs.ToldPages.{TellsPage, Told, listing_right, not_bad}
 use Rattle.mvd_sync.specs.Questions.{ForEach}
 use Rattle.mvd_sync.specs.PeerSides.{side_of}
@@ -38,7 +38,7 @@ returns-in_err-answer-clause-ended g c =
 pub loop-answer-preserved : goal.loop-answer-preserved
 loop-answer-preserved g c =
     let was : c.in-Some.answer ≡ Ok c.in_ok-answer.field-0 = c.in_ok-answer.was in
-    subst (λ (us : List (List Entry × Bool)). ForEach (Passes IsListingOf) (c.loop-answer.yielded ++ c.in-Some.answer ∷ []) us) (sym c.in_ok-push.ensures.items)
+    subst (λ (us : List ListingValue). ForEach (Passes IsListingOf) (c.loop-answer.yielded ++ c.in-Some.answer ∷ []) us) (sym c.in_ok-push.ensures.items)
     (for_each_more (Passes IsListingOf) c.loop-answer.yielded c.loop-answer.listings.items c.in-Some.answer c.in_ok-of_page.field-0 c.loop-answer.invariant (subst (λ (a : Result Told Refusal). Passes IsListingOf a c.in_ok-of_page.field-0) (sym was) (c.in_ok-of_page.ensures.page, c.in_ok-of_page.ensures.rises, c.in_ok-of_page.ensures.length)))
 
 pub returns-in_err-of_page-clause-ended : goal.returns-in_err-of_page-clause-ended

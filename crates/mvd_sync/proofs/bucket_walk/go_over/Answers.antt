@@ -47,7 +47,7 @@ loop-entry-preserved g c =
     let at = c.loop-entry.invariant in
     let f = c.in-Ok.ensures.filled in
     let e = c.in-Some.entry in
-    let n = takes_shorter c.loop-entry.mine.0 c.loop-entry.theirs.0 c.next.new.mine.0 c.next.new.theirs.0 e.key e.mine e.theirs e.differs c.in-Some.ensures.next in
+    let n = takes_shorter c.loop-entry.mine.0 c.loop-entry.theirs.0 c.next.new.mine.0 c.next.new.theirs.0 e c.in-Some.ensures.next in
     let low = at.mine.1 in
     let low' = at.theirs.1 in
     record {

@@ -9,7 +9,7 @@ use Rattle.mvd_sync.specs.declared.asking.Node.{Node}
 use Rattle.mvd_dots.specs.declared.refusals.Refusal.{Refusal}
 use Rattle.mvd_dots.specs.declared.refusals.Refusal.TheVariants.{BadPath, Memory, TooManyRequests}
 use Rattle.std.proofs.lemmas.List.{length-take-le, take_all}
-use Rattle.mvd_sync.specs.Questions.{AllAnswered, ComesToEnd, ForEach, Keeps, Takes, AnswersEach}
+use Rattle.mvd_sync.specs.Questions.{AllAnswered, AnswersEach, ComesToEnd, ForEach, Keeps, Takes, with_left}
 use Rattle.mvd_sync.specs.Session.{Each}
 use Rattle.mvd_sync.specs.Sides.{SideOf, of_memory, of_questions, of_side, is_of_question}
 use Rattle.mvd_sync.specs.Windows.{EachAnswer, EachRefusal, EachTold, Ends, RefusesPage}
@@ -113,7 +113,7 @@ module _ {S Q : Type 0} (s : SideOf S) (qs : List Q) (left left' taken : ℕ) (o
   asked_is = let most = takes.most in length-take-le taken qs most
 
   -- so many were asked, and this is why no more are
-  pub ended_by : (T : Type 0) (refusal : Refusal) → s.follows (length (take taken qs)) old new → BlamesBy s left taken 0 old new refusal → (s.is_faithful old → is_of_question refusal ≡ false) → (s.is_faithful old → T) → ComesToEnd s T (length qs) left old new refusal
+  pub ended_by : (T : Type 0) (refusal : Refusal) → s.follows (length (take taken qs)) old new → BlamesBy s left taken 0 old new refusal → (s.is_faithful old → is_of_question refusal ≡ false) → (s.is_faithful old → T) → ComesToEnd s T (length qs) (with_left old left) new refusal
   ended_by T refusal follows why not_of_question then = record {
     asked = taken;
     wanted = 0;
@@ -126,7 +126,7 @@ module _ {S Q : Type 0} (s : SideOf S) (qs : List Q) (left left' taken : ℕ) (o
   }
 
   -- the call itself was refused
-  pub ended_within : (T : Type 0) (refusal : Refusal) → Ends s.follows s.can_refuse (length (take taken qs)) old new refusal → (s.is_faithful old → is_of_question refusal ≡ false) → (s.is_faithful old → T) → ComesToEnd s T (length qs) left old new refusal
+  pub ended_within : (T : Type 0) (refusal : Refusal) → Ends s.follows s.can_refuse (length (take taken qs)) old new refusal → (s.is_faithful old → is_of_question refusal ≡ false) → (s.is_faithful old → T) → ComesToEnd s T (length qs) (with_left old left) new refusal
   ended_within T refusal ends not_of_question then =
       let spent = takes.spent in
       let most = takes.most in
@@ -144,7 +144,7 @@ module _ {S Q : Type 0} (s : SideOf S) (qs : List Q) (left left' taken : ℕ) (o
       }
 
   -- no more were left
-  pub ended_few : (T : Type 0) (refusal : Refusal) → refusal ≡ TooManyRequests → taken < length qs → s.follows (length (take taken qs)) old new → (s.is_faithful old → T) → ComesToEnd s T (length qs) left old new refusal
+  pub ended_few : (T : Type 0) (refusal : Refusal) → refusal ≡ TooManyRequests → taken < length qs → s.follows (length (take taken qs)) old new → (s.is_faithful old → T) → ComesToEnd s T (length qs) (with_left old left) new refusal
   ended_few T refusal is few follows then =
       let spent = takes.spent in
       let none = takes.all few in
@@ -160,12 +160,12 @@ module _ {S Q : Type 0} (s : SideOf S) (qs : List Q) (left left' taken : ℕ) (o
       }
 
   -- memory was refused
-  pub ended_memory : (T : Type 0) (refusal : Refusal) → refusal ≡ Memory → s.follows (length (take taken qs)) old new → (s.is_faithful old → T) → ComesToEnd s T (length qs) left old new refusal
+  pub ended_memory : (T : Type 0) (refusal : Refusal) → refusal ≡ Memory → s.follows (length (take taken qs)) old new → (s.is_faithful old → T) → ComesToEnd s T (length qs) (with_left old left) new refusal
   ended_memory T refusal is follows then = ended_by T refusal follows (of_memory is) (λ _. ap is_of_question is) then
 
   -- all were answered
   pub answered_all : {A : Type 0} (May Right : Q → A → Type 0) (answers : List A) → length qs ≤ taken → s.follows (length (take taken qs)) old new → ForEach May (take taken qs) answers → (s.is_faithful old → Keeps s old new × ForEach Right (take taken qs) answers)
-      → AllAnswered s May (AnswersEach s Right qs answers old new) qs answers left left' old new
+      → AllAnswered s May (AnswersEach s Right qs answers old new) qs answers (with_left old left) (with_left new left')
   answered_all May Right answers all follows may right =
       let whole : take taken qs ≡ qs = take_all taken qs all in
       let spent = takes.spent in

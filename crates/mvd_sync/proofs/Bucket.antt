@@ -8,6 +8,7 @@ use Rattle.mvd_site.specs.Answer.{digests}
 use Rattle.mvd_site.specs.Held.{States}
 use Rattle.mvd_tree.specs.HashTree.{is_under}
 use Rattle.mvd_tree.specs.Page.{is_after}
+use Rattle.mvd_sync.specs.Questions.{with_left}
 use Rattle.mvd_sync.specs.Answers.{IsPageOf, ListingValue, TakesLesser}
 use Rattle.mvd_sync.specs.Buckets.{AreElsewhere, ArePages, held_in, waits_if}
 use Rattle.mvd_sync.specs.Exchanges.{AreNext, Counts, Done, Exchanging, keys_done, keys_next}
@@ -300,10 +301,10 @@ module _ {L P : Type 0} (l : SideOf L) (p : SideOf P) (path : List ℕ) (first s
           (stays' : (n : ℕ) (old new : P) → p.follows n old new → p.most_keys new ≡ p.most_keys old)
           (mine2 theirs2 : ListingValue) (left2 left3 : Questions) (local2 local3 : L) (peer2 peer3 : P) (after : Exchanging)
           (f : FillsBothBy l p path (Some e.key) mine1 mine2 theirs1 theirs2 left1 left2 local1 local2 peer1 peer2) where
-        reads_local : Reads l f.local_side.asked left1.local left2.local local1 local2
+        reads_local : Reads l f.local_side.asked (with_left local1 left1.local) (with_left local2 left2.local)
         reads_local = record { spent = f.local_side.spent; follows = f.local_side.follows; kept = f.local_side.kept }
 
-        reads_peer : Reads p f.peer_side.asked left1.peer left2.peer peer1 peer2
+        reads_peer : Reads p f.peer_side.asked (with_left peer1 left1.peer) (with_left peer2 left2.peer)
         reads_peer = record { spent = f.peer_side.spent; follows = f.peer_side.follows; kept = f.peer_side.kept }
 
         -- with the questions that filled them

@@ -10,6 +10,7 @@ use Rattle.mvd_keys.specs.Writes.{Key}
 use Rattle.mvd_site.specs.Answer.{digests}
 use Rattle.mvd_site.specs.Held.{States}
 use Rattle.mvd_tree.specs.HashTree.{KeyDigests, is_under, path_of_key}
+use Rattle.mvd_sync.specs.Questions.{with_left}
 use Rattle.mvd_sync.specs.Answers.{IsPageOf, ListingValue}
 use Rattle.mvd_sync.specs.Buckets.{AreElsewhere, ArePages, held_in}
 use Rattle.mvd_sync.specs.Exchanges.{AreNext, Done, Exchanging, keys_done, keys_next}
@@ -259,7 +260,7 @@ module _ {L P : Type 0} (l : SideOf L) (p : SideOf P)
 
   -- the first pages were told by both, and their buckets gone over
   pub window_through : {A : Type 0} (paths : List (List ℕ)) (mine theirs : List ListingValue) (n : ℕ) (left mid left' : Questions) (local local1 local2 : L) (peer peer1 peer2 : P) (before after : Exchanging) (result : Result A SyncFault)
-      → Reads l n left.local mid.local local local1 → Reads p n left.peer mid.peer peer peer1
+      → Reads l n (with_left local left.local) (with_left local1 mid.local) → Reads p n (with_left peer left.peer) (with_left peer1 mid.peer)
       → (l.is_faithful local → ArePages (digests (l.states local)) paths mine) → (p.is_faithful peer → ArePages (digests (p.states peer)) paths theirs)
       → GoesThroughBy l p (λ a b. ArePages (digests a) paths mine × ArePages (digests b) paths theirs) paths 0 mid left' local1 local2 peer1 peer2 before after result
       → GoesOverBy l p paths n left left' local local2 peer peer2 before after result

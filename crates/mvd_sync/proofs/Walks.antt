@@ -9,6 +9,7 @@ use Rattle.mvd_site.specs.Held.{AreHeld, States}
 use Rattle.mvd_tree.proofs.Apart.{same_state, same_states_under}
 use Rattle.mvd_tree.specs.HashTree.{is_under}
 use Rattle.mvd_tree.specs.Hashed.{HashesTellApart}
+use Rattle.mvd_sync.specs.Questions.{with_left}
 use Rattle.mvd_sync.specs.Nodes.{children_of, differing_children, differs_at, has_below}
 use Rattle.mvd_sync.specs.Session.{AreDistinct, Each, HasAllThatDiffer}
 use Rattle.mvd_sync.specs.Sides.{SideOf}
@@ -75,8 +76,8 @@ few_end (suc (suc (suc n))) asked paths more most low a b = absurd (omega (arith
 -- it has come so many levels down
 pub record Walks {L P : Type 0} (l : SideOf L) (p : SideOf P) (n : ℕ) (left left' : Questions) (local local' : L) (peer peer' : P) (paths : List (List ℕ)) : Type 0 where
   pub asked : ℕ
-  pub local_side : Reads l asked left.local left'.local local local'
-  pub peer_side : Reads p asked left.peer left'.peer peer peer'
+  pub local_side : Reads l asked (with_left local left.local) (with_left local' left'.local)
+  pub peer_side : Reads p asked (with_left peer left.peer) (with_left peer' left'.peer)
   pub answers : 1 ≤ n → HaveAnsweredBy l p local local' peer peer'
   pub some : n ≡ 0 → paths ≢ []
   pub long : AreLong n paths

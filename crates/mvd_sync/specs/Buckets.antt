@@ -12,7 +12,7 @@ use Rattle.mvd_sync.specs.Nodes.{has_below}
 use Rattle.mvd_sync.specs.Questions.{Fills, ForEach}
 use Rattle.mvd_sync.specs.Session.{After, AreDistinct, Asking, Both, Course, Each, IsIn, after_of, asking, both, both_of}
 use Rattle.mvd_sync.specs.Sides.{Sides, Two, two}
-use Rattle.mvd_sync.specs.Walk.{ReadsEnd}
+use Rattle.mvd_sync.specs.Walk.{ReadsEnd, local_of, peer_of}
 use Rattle.mvd_sync.specs.declared.cursor.Entry.{Entry}
 use Rattle.mvd_sync.specs.declared.asking.Questions.{Questions}
 use Rattle.mvd_sync.specs.declared.report.SyncFault.{SyncFault}
@@ -99,9 +99,9 @@ abbrev pub reading : {L P : Type 0} → L → P → Questions → (mine theirs :
 reading local peer left mine theirs = record { now = asking local peer left; mine = mine; theirs = theirs }
 
 -- both listings were filled
-pub record FillsBoth {L P : Type 0} (s : Sides L P) (path : List ℕ) (after : Option (List ℕ)) (old new : Reading L P) : Type 0 where
-  pub local_side : Fills s.local path after old.mine new.mine old.now.left.local new.now.left.local old.now.at.local new.now.at.local
-  pub peer_side : Fills s.peer path after old.theirs new.theirs old.now.left.peer new.now.left.peer old.now.at.peer new.now.at.peer
+pub record FillsBoth {L P : Type 0} (s : Sides L P) (path : List ℕ) (after : Option Key) (old new : Reading L P) : Type 0 where
+  pub local_side : Fills s.local path after old.mine new.mine (local_of old.now) (local_of new.now)
+  pub peer_side : Fills s.peer path after old.theirs new.theirs (peer_of old.now) (peer_of new.now)
 
 -- or one side came to an end; of each side no more was asked than was needed
 pub record FillEnds {L P : Type 0} (s : Sides L P) (old : Reading L P) (new : Two L P) (fault : SyncFault) : Type 0 where

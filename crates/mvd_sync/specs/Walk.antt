@@ -7,7 +7,7 @@ use Rattle.mvd_tree.specs.Hashed.{HashesTellApart, SameUnder}
 use Rattle.mvd_site.specs.Answer.{digests, spelled}
 use Rattle.mvd_site.specs.Held.{States}
 use Rattle.mvd_sync.specs.Nodes.{differing_children, differs_at, has_below, told_children}
-use Rattle.mvd_sync.specs.Questions.{Keeps}
+use Rattle.mvd_sync.specs.Questions.{Keeps, OneAsking, with_left}
 use Rattle.mvd_sync.specs.Session.{AreDistinct, Asking, Each, HasAllThatDiffer, HaveAnswered}
 use Rattle.mvd_sync.specs.Sides.{Blames, IsFaultOf, SideOf, Sides, Two}
 use Rattle.mvd_sync.specs.declared.asking.Node.{Node}
@@ -24,11 +24,18 @@ IsBelow path key = IsTrue (is_under path key)
 
 -- ---- questions that change nothing
 
+-- one of two sides, with the questions that are left for it
+abbrev pub local_of : {L P : Type 0} → Asking L P → OneAsking L
+local_of a = with_left a.at.local a.left.local
+
+abbrev pub peer_of : {L P : Type 0} → Asking L P → OneAsking P
+peer_of a = with_left a.at.peer a.left.peer
+
 -- So many questions were made to a side, and taken from those that were left
-pub record Reads {S : Type 0} (s : SideOf S) (asked left left' : ℕ) (old new : S) : Type 0 where
-  pub spent : left ≡ left' + asked
-  pub follows : s.follows asked old new
-  pub kept : s.is_faithful old → Keeps s old new
+pub record Reads {S : Type 0} (s : SideOf S) (asked : ℕ) (old new : OneAsking S) : Type 0 where
+  pub spent : old.left ≡ new.left + asked
+  pub follows : s.follows asked old.at new.at
+  pub kept : s.is_faithful old.at → Keeps s old.at new.at
 
 -- They came to an end by a fault that has a cause: no more were made than were left, and so few
 pub record ReadsEnd {L P : Type 0} (s : Sides L P) (Few : ℕ → Type 0) (old : Asking L P) (new : Two L P) (fault : SyncFault) : Type 0 where
@@ -61,8 +68,8 @@ told_all paths mine theirs = []
 -- ONE LEVEL: both sides were asked about these nodes, one question each, and told of their children; of two true sides these are
 -- the children that differ
 pub record Descends {L P : Type 0} (s : Sides L P) (paths : List (List ℕ)) (old new : Asking L P) (below : List (List ℕ)) : Type 0 where
-  pub local_side : Reads s.local (length paths) old.left.local new.left.local old.at.local new.at.local
-  pub peer_side : Reads s.peer (length paths) old.left.peer new.left.peer old.at.peer new.at.peer
+  pub local_side : Reads s.local (length paths) (local_of old) (local_of new)
+  pub peer_side : Reads s.peer (length paths) (peer_of old) (peer_of new)
   pub answers : paths ≢ [] → HaveAnswered s old.at new.at
   pub longer : (n : ℕ) → Each (λ path. length path ≡ n) paths → Each (λ path. length path ≡ n + 1) below
   pub is : s.local.is_faithful old.at.local → s.peer.is_faithful old.at.peer →
@@ -85,8 +92,8 @@ AreFewFor s at Few = s.local.is_faithful at.local → s.peer.is_faithful at.peer
 -- one for each bucket, are at most one for the root and three for each key that differs
 pub record FindsBuckets {L P : Type 0} (s : Sides L P) (old new : Asking L P) (buckets : List (List ℕ)) : Type 0 where
   pub asked : ℕ
-  pub local_side : Reads s.local asked old.left.local new.left.local old.at.local new.at.local
-  pub peer_side : Reads s.peer asked old.left.peer new.left.peer old.at.peer new.at.peer
+  pub local_side : Reads s.local asked (local_of old) (local_of new)
+  pub peer_side : Reads s.peer asked (peer_of old) (peer_of new)
   pub answers : HaveAnswered s old.at new.at
   pub deep : Each (λ path. length path ≡ 3) buckets
   pub right : s.local.is_faithful old.at.local → s.peer.is_faithful old.at.peer →

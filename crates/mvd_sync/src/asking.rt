@@ -3,7 +3,7 @@ ghost use Rattle.std.specs.Prelude.{◌≡◌, ◌≢◌, ◌+◌, ◌-◌, ◌<
 ghost use Rattle.mvd_site.specs.Answer.{digests};
 ghost use Rattle.mvd_site.specs.Held.{state_at};
 ghost use Rattle.mvd_sync.specs.Answers.{IsPage, IsPageOf};
-ghost use Rattle.mvd_sync.specs.Questions.{AllAnswered, ComesToEnd, ForEach, IsInner, IsOfKey, IsWindow, Keeps, Takes, TakesInFirst, TakesIn, AnswersEach, push_bytes};
+ghost use Rattle.mvd_sync.specs.Questions.{AllAnswered, AnswersEach, ComesToEnd, ForEach, IsInner, IsOfKey, IsWindow, Keeps, Takes, TakesIn, TakesInFirst, with_left, push_bytes};
 ghost use Rattle.mvd_sync.specs.Session.{Each};
 ghost use Rattle.mvd_sync.specs.PeerSides.{side_of};
 ghost use Rattle.mvd_sync.specs.Sides.{HasAnswered, is_of_key};
@@ -83,10 +83,10 @@ pub fn ask_nodes<P: Peer>(
         IfOk result
         (λ nodes. AllAnswered s (λ _ _. HasAnswered P.follows P.can_answer side.old side.new)
         (AnswersEach s (IsInner (digests (P.states side.old))) paths.now nodes.items side.old side.new)
-        paths.now nodes.items left.old left.new side.old side.new) }
+        paths.now nodes.items (with_left side.old left.old) (with_left side.new left.new)) }
     ensures ended { let s = side_of P.Peer in
         IfErr result
-        (ComesToEnd s (Keeps s side.old side.new) (length paths.now) left.old side.old side.new) }
+        (ComesToEnd s (Keeps s side.old side.new) (length paths.now) (with_left side.old left.old) side.new) }
 {
     let taken = take(left, paths.len());
     let told = side.nodes(&paths[..taken])?;
@@ -111,10 +111,10 @@ pub fn ask_pages<P: Peer>(
         × HasAnswered P.follows P.can_answer side.old side.new)
         (AnswersEach s (λ q page. IsPageOf (digests (P.states side.old)) q.0 q.1 page.0 page.1)
         asked.now pages.items side.old side.new)
-        asked.now pages.items left.old left.new side.old side.new) }
+        asked.now pages.items (with_left side.old left.old) (with_left side.new left.new)) }
     ensures ended { let s = side_of P.Peer in
         IfErr result
-        (ComesToEnd s (Keeps s side.old side.new) (length asked.now) left.old side.old side.new) }
+        (ComesToEnd s (Keeps s side.old side.new) (length asked.now) (with_left side.old left.old) side.new) }
 {
     let taken = take(left, asked.len());
     let told = side.pages(&asked[..taken])?;
@@ -137,10 +137,10 @@ pub fn ask_gets<P: Peer>(
         (λ states. AllAnswered s (λ key state. P.can_give key state
         × HasAnswered P.follows P.can_answer side.old side.new)
         (AnswersEach s (λ key state. state ≡ state_at (P.states side.old) key) keys.now states.items side.old side.new)
-        keys.now states.items left.old left.new side.old side.new) }
+        keys.now states.items (with_left side.old left.old) (with_left side.new left.new)) }
     ensures ended { let s = side_of P.Peer in
         IfErr result
-        (ComesToEnd s (Keeps s side.old side.new) (length keys.now) left.old side.old side.new) }
+        (ComesToEnd s (Keeps s side.old side.new) (length keys.now) (with_left side.old left.old) side.new) }
 {
     let taken = take(left, keys.len());
     let told = side.get_all(&keys[..taken])?;
@@ -205,11 +205,11 @@ pub fn ask_pushes<P: Peer>(
         IfOk result
         (λ told. AllAnswered s (λ _ told. IsOfKey told)
         (TakesIn s pairs.now told.items side.old side.new)
-        pairs.now told.items left.old left.new side.old side.new) }
+        pairs.now told.items (with_left side.old left.old) (with_left side.new left.new)) }
     ensures ended { let s = side_of P.Peer in
         IfErr result
-        (λ refusal. ComesToEnd s (TakesInFirst s pairs.now side.old side.new refusal) (length pairs.now) left.old
-        side.old side.new refusal) }
+        (λ refusal. ComesToEnd s (TakesInFirst s pairs.now side.old side.new refusal) (length pairs.now) (with_left side.old left.old)
+        side.new refusal) }
 {
     let mut told = Vec::with_capacity(side.alloc(), pairs.len())?;
     let mut rest = pairs;

@@ -2,7 +2,7 @@
 ghost use Rattle.std.specs.Prelude.{◌≡◌, ◌≢◌, ◌+◌, ◌-◌, ◌*◌, ◌≤◌, [], ◌∷◌, length, IfOk, IfErr, IfSome, IfNone, OnSome, ◌<◌, ◌^◌, OnOk, OnErr, MatchOption, option_copied, true, IsTrue, ◌↔◌};
 ghost use Rattle.mvd_tree.specs.Page.{is_after};
 ghost use Rattle.mvd_sync.specs.Answers.{IsPage, Rises, TakesLesser, order_of_first};
-ghost use Rattle.mvd_sync.specs.Questions.{ComesToEnd, Fetches, Fills, Keeps};
+ghost use Rattle.mvd_sync.specs.Questions.{ComesToEnd, Fetches, Fills, Keeps, with_left};
 ghost use Rattle.mvd_sync.specs.PeerSides.{side_of};
 ghost use Rattle.mvd_sync.specs.Sides.{two};
 
@@ -93,9 +93,9 @@ impl Listing {
         requires { length path.now ≡ 3 }
         ensures told { let s = side_of P.Peer in
             IfOk result
-            (λ listing. Fetches s path.now (option_copied after.entry) listing left.old left.new side.old side.new) }
+            (λ listing. Fetches s path.now (option_copied after.entry) listing (with_left side.old left.old) (with_left side.new left.new)) }
         ensures ended { let s = side_of P.Peer in
-            IfErr result (ComesToEnd s (Keeps s side.old side.new) 1 left.old side.old side.new) }
+            IfErr result (ComesToEnd s (Keeps s side.old side.new) 1 (with_left side.old left.old) side.new) }
     {
         match take_one(left) {
             Ok(()) => {}
@@ -125,9 +125,9 @@ impl Listing {
         requires { length path.now ≡ 3 }
         ensures filled { let s = side_of P.Peer in
             OnOk result
-            (Fills s path.now (option_copied after.entry) self.old self.new left.old left.new side.old side.new) }
+            (Fills s path.now (option_copied after.entry) self.old self.new (with_left side.old left.old) (with_left side.new left.new)) }
         ensures ended { let s = side_of P.Peer in
-            IfErr result (ComesToEnd s (Keeps s side.old side.new) 1 left.old side.old side.new) }
+            IfErr result (ComesToEnd s (Keeps s side.old side.new) 1 (with_left side.old left.old) side.new) }
         ensures needed { OnErr result ((self.old.0 ≡ []) × (self.old.1 ≡ true)) }
     {
         if !self.is_spent() {

@@ -1,5 +1,6 @@
 use Rattle.std.proofs.Common.{◌≡◌, ℕ, List, map, length, Option, None, refl, ap, ◌∙◌, arith}
 use Rattle.std.proofs.lemmas.List.{length-map}
+use Rattle.mvd_sync.specs.Questions.{with_left}
 use Rattle.mvd_sync.specs.PeerSides.{side_of}
 use Rattle.mvd_sync.specs.Sides.{HasAnswered, SideOf}
 use Rattle.mvd_sync.specs.Walk.{Reads}
@@ -9,7 +10,7 @@ use Rattle.mvd_sync.proofs.Fetching.{pages_deep, pages_good, pages_long, pages_r
 use Rattle.mvd_sync.proofs.Through.{window_ends, window_through}
 use Rattle.mvd_sync.proofs.bucket_walk.exchange_window.Goals as goal
 
-nothing_read : {S : Type 0} (s : SideOf S) (self : (x : S) → s.follows 0 x x) (left : ℕ) (at : S) → Reads s 0 left left at at
+nothing_read : {S : Type 0} (s : SideOf S) (self : (x : S) → s.follows 0 x x) (left : ℕ) (at : S) → Reads s 0 (with_left at left) (with_left at left)
 nothing_read s self left at = record { spent = omega arith; follows = self at; kept = λ t. record { still = t; states = refl } }
 
 as_long : (paths : List (List ℕ)) (asked : List (List ℕ × Option (List ℕ))) → asked ≡ map (λ path. (path, None)) paths → length asked ≡ length paths

@@ -62,7 +62,7 @@ module _ {L P : Type 0} (l : SideOf L) (p : SideOf P) where
 
 -- ---- how far a bucket is gone over
 
--- between two true sides
+-- between two faithful sides
 pub record AtKey {L P : Type 0} (l : SideOf L) (p : SideOf P) (number : Option ℕ) (a b : States) (done : List Done) (path : List ℕ) (mine theirs : ListingValue) (asked_l asked_p : ℕ) (local' : L) (peer' : P) (most_local most_peer : ℕ) (before after : Exchanging) : Type 0 where
   pub upto : Option (List ℕ)
   pub found : List Entry

@@ -17,7 +17,7 @@ use Rattle.mvd_sync.specs.declared.report.SyncFault.TheVariants.{Local, Peer}
 use Rattle.mvd_sync.proofs.Descents.{Each-at, answers_long}
 use Rattle.mvd_sync.proofs.Positions.{FillEndsBy}
 
--- a page that no true side tells
+-- a page that no faithful side tells
 pub page_refused : {S X : Type 0} (s : SideOf S) (IsTold : Type 0) (result : Result X Refusal) (left left' : ℕ) (old new : S) → left ≡ left' + 1 → s.follows 1 old new → (s.is_faithful old → Keeps s old new) → (s.is_faithful old → IsTold)
     → IfErr result (λ refusal. (refusal ≡ BadBody) × (IsTold → ⊥)) → IfErr result (ComesToEnd s (Keeps s old new) 1 (with_left old left) new)
 page_refused s IsTold (Ok page) left left' old new spent follows kept told bad = tt

@@ -11,7 +11,7 @@ use Rattle.mvd_sync.specs.Windows.{EachAnswer, EachTold, IsNode}
 use Rattle.mvd_sync.specs.declared.asking.Node.{Node}
 use Rattle.mvd_sync.proofs.Answering.{IsNodeOf, Passes, answer_at}
 
--- a true side does not leave the children out
+-- a faithful side does not leave the children out
 pub not_without : (held : KeyDigests) (paths : List (List ℕ)) (ts : List (Result Digests Refusal)) (n : ℕ) (d : Digests) → Each (λ path. length path < 3) paths → EachAnswer (IsNode held) paths ts → n < length ts → Ok d ≡ get_or ts n (Ok d) → d.children ≡ None → ⊥
 not_without held paths ts n d short right low at none =
     answer_at (IsNode held) (λ path. length path < 3) (λ d. d.children ≡ None → ⊥) (λ q a inner node e. let p : a.children ≡ Some (children_digests held q) = node.1 inner in absurd (cc)) paths ts n d short right low at none

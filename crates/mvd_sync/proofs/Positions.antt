@@ -130,5 +130,5 @@ FillEndsBy l p mine theirs left local local' peer peer' = FillEnds (sides l p) (
 -- ---- windows
 
 abbrev pub AskedBy : {S Q A : Type 0} → (ℕ → S → S → Type 0) → (S → Refusal → Type 0) → (S → Type 0) → (May Right : Q → A → Type 0) → (Q → Refusal → Type 0) → Type 0 → List Q → List (Result A Refusal) → (old new : S) → Type 0
-AskedBy follows can_refuse can_answer May Right Refuses was_true =
-    Asked (manner follows can_refuse can_answer) (record { may = May; was_true = was_true; right = Right; refuses = Refuses })
+AskedBy follows can_refuse can_answer May Right Refuses was_faithful =
+    Asked (manner follows can_refuse can_answer) (record { may = May; was_faithful = was_faithful; right = Right; refuses = Refuses })

@@ -1,4 +1,4 @@
--- A page that a true side tells rises.
+-- A page that a faithful side tells rises.
 use Rattle.std.proofs.Common.{◌≡◌, ◌<◌, get_or, ℕ, zero, suc, Bool, true, false, cond, ◌&&◌, List, [], ◌∷◌, take, length, refl, sym, ap, ◌∙◌, Some, None, Option}
 use Rattle.std.specs.Prelude.{T, nat_lt}
 use Rattle.std.specs.Ordering.{nat_cmp, is_eq}
@@ -80,7 +80,7 @@ Told = Vec (List ℕ × List ℕ) Global × Bool
 abbrev pub Asking : Type 0
 Asking = List ℕ × Option (List ℕ)
 
--- what a true side tells of a bucket after a key
+-- what a faithful side tells of a bucket after a key
 abbrev pub TellsPage : KeyDigests → Asking → Told → Type 0
 TellsPage held q page = (page.0.items ≡ page_of held q.0 q.1) × (page.1 ≡ is_more_after_page held q.0 q.1)
 

@@ -1,4 +1,4 @@
--- What becomes of the keys of a window between two true sides.
+-- What becomes of the keys of a window between two faithful sides.
 use Rattle.std.proofs.Common.{◌≡◌, ◌≢◌, ◌⊎◌, inl, inr, ◌↔◌, ℕ, true, false, cond, List, [], ◌∷◌, map, filter, filter_map, refl, sym, ap, subst, ◌∙◌, Some, None, Option, option_map, true≢false}
 use Rattle.std.specs.Prelude.{Result, Ok, Err, is_some}
 use Rattle.std.specs.List.{cons_option}

@@ -1,4 +1,4 @@
--- A window that was exchanged between two true sides.
+-- A window that was exchanged between two faithful sides.
 use Rattle.std.proofs.Common.{◌≡◌, ◌≢◌, ◌⊎◌, inl, inr, ◌↔◌, ℕ, Bool, true, false, ◌||◌, List, [], ◌∷◌, ◌++◌, map, filter_map, refl, sym, ap, subst, ◌∙◌, Some, None, Option, true≢false}
 use Rattle.std.specs.Prelude.{Result, is_some}
 use Rattle.std.proofs.lemmas.List.{map-append}
@@ -143,7 +143,7 @@ not_after ks js k d h =
       | false ↦ λ _. refl
     ] refl
 
--- A WINDOW between two true sides
+-- A WINDOW between two faithful sides
 module _ (ml mp : ℕ) (number : Option ℕ) (a b x y x' y' : States) (done : List Done) (es : List Entry) (mine theirs : List State) (ms : List Meeting) (told told' : List (Result (Unit {0}) Refusal))
     (so : SoFarBy ml mp number a b x y done) (next : AreNext a b done es) (held_a : AreHeld x) (held_b : AreHeld y) (none : is_too_large empty_state ≡ false)
     (p : ForEach (IsState x) (held_keys AtLocal es) mine) (q : ForEach (IsState y) (held_keys AtPeer es) theirs) (plans : ArePlans number es mine theirs ms) where

@@ -23,12 +23,12 @@ abbrev pub Rises : Option (List ℕ) → List PageEntry → Type 0
 Rises after [] = Unit {0}
 Rises after (e ∷ es) = IsTrue (is_after after e.0) × Rises (Some e.0) es
 
--- a page that a true side may tell: its keys rise, and there are more only after a key
+-- a page that a faithful side may tell: its keys rise, and there are more only after a key
 pub record IsPage (after : Option (List ℕ)) (page : List PageEntry) (more : Bool) : Type 0 where
   pub rises : Rises after page
   pub ended : page ≡ [] → more ≡ false
 
--- what a true side tells of a bucket after a key: so many of its entries as a page has, and whether there are more
+-- what a faithful side tells of a bucket after a key: so many of its entries as a page has, and whether there are more
 pub record IsPageOf (held : KeyDigests) (path : List ℕ) (after : Option (List ℕ)) (page : List PageEntry) (more : Bool) : Type 0 where
   pub is : page ≡ page_of held path after
   pub goes_on : more ≡ is_more_after_page held path after

@@ -34,7 +34,7 @@ pub record Goes {L P A : Type 0} (s : Sides L P) (old new : Moment L P) (result 
 abbrev pub asked_of : {L P A : Type 0} {s : Sides L P} {old new : Moment L P} {result : Result A SyncFault} → Goes s old new result → Two ℕ ℕ
 asked_of goes = two (goes.course.asked_local + goes.course.wanted_local) (goes.course.asked_peer + goes.course.wanted_peer)
 
--- ---- between two true sides
+-- ---- between two faithful sides
 
 -- none of these keys is in one of the buckets
 abbrev pub AreElsewhere : List (List ℕ) → List Key → Type 0
@@ -112,7 +112,7 @@ pub record FillEnds {L P : Type 0} (s : Sides L P) (old : Reading L P) (new : Tw
 abbrev pub waits_if : Entry → List Entry
 waits_if e = cond e.differs (e ∷ []) []
 
--- of two true sides: some of the keys that are next are exchanged, by two questions to each side for each, and the others wait
+-- of two faithful sides: some of the keys that are next are exchanged, by two questions to each side for each, and the others wait
 pub record SettlesAll {A : Type 0} (stand : Stand) (after : After) (asked : Two ℕ ℕ) (e : Exchanging) (result : Result A SyncFault) : Type 0 where
   pub few : (asked.local ≤ 2 * length stand.next) × (asked.peer ≤ 2 * length stand.next)
   pub fewer : OnOk result ((asked.local + 2 * length e.waiting ≤ 2 * length stand.next)
@@ -135,7 +135,7 @@ pub record Settles {L P A : Type 0} (s : Sides L P) (e : Entry) (old new : Momen
 abbrev pub ArePages : KeyDigests → List (List ℕ) → List ListingValue → Type 0
 ArePages held paths pages = ForEach (λ path page. IsPageOf held path None page.0 page.1) paths pages
 
--- Buckets are gone over, and what differs in them is exchanged, or waits. `Told` is what is known of the states of true sides
+-- Buckets are gone over, and what differs in them is exchanged, or waits. `Told` is what is known of the states of faithful sides
 -- before: their first pages, or nothing
 pub record GoesThrough {L P A : Type 0} (s : Sides L P) (Told : States → States → Type 0) (buckets : Buckets) (old new : Moment L P) (result : Result A SyncFault) : Type 0 where
   pub goes : Goes s old new result

@@ -64,7 +64,7 @@ left_of d = option_map (left_as d.key) d.refused
 abbrev pub left_keys : List Done → List Left
 left_keys ds = filter_map left_of ds
 
--- ---- between two true sides
+-- ---- between two faithful sides
 
 -- what became of the states of a key
 abbrev pub CameTo : (before : Before) (now : Both) → Key → Option (Side × Refusal) → Type 0
@@ -185,7 +185,7 @@ pub record Exchanges {L P A : Type 0} (s : Sides L P) (next : List Entry) (old n
       ≤ old.work.keys + old.work.refused + old.now.left.local + old.now.left.peer)
   pub short : length next ≤ 1000 → OnOk result (length new.work.waiting < 1000)
   pub same : new.work.number ≡ old.work.number
-  -- between two true sides
+  -- between two faithful sides
   pub meets : s.local.is_faithful old.now.at.local → s.peer.is_faithful old.now.at.peer → (a b : States) (done : List Done) →
       SoFar (began s old.work.number (both a b) old.now.at) (both_of s old.now.at) done → Counts done old.work →
       AreNext a b done next → MatchResult result

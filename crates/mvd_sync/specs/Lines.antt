@@ -1,5 +1,5 @@
 -- A line to a far side: the frames of requests go out, and those of its replies come in. A true one is what a transport is that
--- hands on what is written and what is read, where the far side is true.
+-- hands on what is written and what is read, where the far side is faithful.
 use Rattle.std.proofs.Common.{refl, ◌∙◌}
 use Rattle.std.specs.Prelude.{◌≡◌, ◌≢◌, ◌⊎◌, ℕ, Bool, true, false, List, [], ◌∷◌, ◌++◌, take, Option, Some, None, IfSome, Result, Ok, Err, IfOk, IfErr, MatchResult}
 use Rattle.std.specs.declared.alloc.Global.{Global}
@@ -33,7 +33,7 @@ pub record Far : Type 0 where
   pub due : List Reply
   pub most : ℕ
 
--- ---- what a true side replies
+-- ---- what a faithful side replies
 
 -- a question was refused, and not for itself alone
 abbrev pub RefusesQuestion : States → Refusal → States → Type 0
@@ -43,7 +43,7 @@ RefusesQuestion old refusal new = (is_of_question refusal ≡ false) × (new ≡
 abbrev pub RefusesPush : ℕ → States → Key → State → Refusal → States → Type 0
 RefusesPush most old key state refusal new = (CannotTake most old key state refusal × (new ≡ old)) ⊎ ((refusal ≡ Broken) × Takes old key state new)
 
--- The reply of a true side to a request, from the states that it holds, and those that it holds then. Of requests that no session
+-- The reply of a faithful side to a request, from the states that it holds, and those that it holds then. Of requests that no session
 -- makes nothing is said.
 abbrev pub TrueReply : ℕ → States → Request → Reply → States → Type 0
 TrueReply most old (Get key) (Shown state) new = (state ≡ state_at old key) × (new ≡ old)
@@ -141,7 +141,7 @@ remote_follows_on {L} far old mid new p q = (stays_on (λ (remote : Remote L). (
 abbrev pub MayTake : ℕ → States → Request → States → Type 0
 MayTake most old request new = (new ≡ old) ⊎ ((reply : Reply) × TrueReply most old request reply new)
 
--- what a true side answers to a request, or why there is no answer: it refuses, or the request has no frame, or it is left open
+-- what a faithful side answers to a request, or why there is no answer: it refuses, or the request has no frame, or it is left open
 abbrev pub AnswersTruly : {A : Type 0} → (A → Reply) → ℕ → States → Request → Result A Refusal → States → Type 0
 AnswersTruly as_reply most old request (Ok answer) new = TrueReply most old request (as_reply answer) new
 AnswersTruly as_reply most old request (Err refusal) new =

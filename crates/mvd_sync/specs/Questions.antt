@@ -39,16 +39,16 @@ ForEach P qs ts = ⊥
 
 -- ALL WERE ANSWERED, each by what a side may answer, faithful or not, and taken from those that were left; and of a
 -- side that was faithful this is so
-pub record AllAnswered {S Q A : Type 0} (s : SideOf S) (May : Q → A → Type 0) (True : Type 0)
+pub record AllAnswered {S Q A : Type 0} (s : SideOf S) (May : Q → A → Type 0) (IfFaithful : Type 0)
     (questions : List Q) (answers : List A) (old new : OneAsking S) : Type 0 where
   pub spent : old.left ≡ new.left + length questions
   pub follows : s.follows (length questions) old.at new.at
   pub may : ForEach May questions answers
-  pub right : s.is_faithful old.at → True
+  pub right : s.is_faithful old.at → IfFaithful
 
 -- THEY CAME TO AN END: so many were made, and wanted, no more than there are, nor than were left, and this is why; and
 -- of a side that was faithful this is so
-pub record ComesToEnd {S : Type 0} (s : SideOf S) (True : Type 0) (questions : ℕ) (old : OneAsking S) (new : S)
+pub record ComesToEnd {S : Type 0} (s : SideOf S) (IfFaithful : Type 0) (questions : ℕ) (old : OneAsking S) (new : S)
     (refusal : Refusal) : Type 0 where
   pub asked : ℕ
   pub wanted : ℕ
@@ -57,7 +57,7 @@ pub record ComesToEnd {S : Type 0} (s : SideOf S) (True : Type 0) (questions : �
   pub follows : s.follows asked old.at new
   pub cause : Blames s (record { most = old.left; asked = asked; wanted = wanted; old = old.at; new = new }) refusal
   pub not_of_question : s.is_faithful old.at → is_of_question refusal ≡ false
-  pub right : s.is_faithful old.at → True
+  pub right : s.is_faithful old.at → IfFaithful
 
 -- ---- what is so of a side that was faithful
 

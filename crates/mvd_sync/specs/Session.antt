@@ -51,7 +51,7 @@ pub record ComesByPushes (can_give : Key → State → Type 0) (old new : States
   pub valid : Each (λ p. IsValid p.1) pushes
   pub is : new ≡ pushed_all old pushes
 
--- a true side stays true, unless the fault is its own `Broken`; while it is true, its states come by pushes of what can be given
+-- a faithful side stays faithful, unless the fault is its own `Broken`; while it is faithful, its states come by pushes of what can be given
 pub record Changes {A : Type 0} (still_true : Type 0) (broken : SyncFault) (can_give : Key → State → Type 0) (old new : States) (result : Result A SyncFault) : Type 0 where
   pub after_ok : OnOk result still_true
   pub after_fault : IfErr result (λ fault. fault ≢ broken → still_true)
@@ -90,7 +90,7 @@ pub record Before : Type 0 where
   pub most_peer : ℕ
   pub number : Option ℕ
 
--- two sides afterwards: what they hold, and whether each is still true
+-- two sides afterwards: what they hold, and whether each is still faithful
 pub record After : Type 1 where
   pub held : Both
   pub local_true : Type 0
@@ -174,7 +174,7 @@ pub record ReportsDone (before : Before) (joined given : List Key) (report : Rep
   pub are_old : (key : Key) → IsIn old_keys key ↔
       (IsIn (given ++ map (λ l. l.key) left) key × IsOld before.number before.held.local before.held.peer key)
 
--- What two true sides come to, at a fault too: the keys joined, and with no fault the report
+-- What two faithful sides come to, at a fault too: the keys joined, and with no fault the report
 pub record Meets (before : Before) (after : After) (result : Result Report SyncFault) : Type 0 where
   pub joined : List Key
   pub given : List Key
@@ -234,12 +234,12 @@ pub record Course {L P A : Type 0} (s : Sides L P) (old : Asking L P) (new : Two
       (record { most = old.left.local; asked = asked_local; wanted = wanted_local; old = old.at.local; new = new.local }))
       (Blames s.peer
       (record { most = old.left.peer; asked = asked_peer; wanted = wanted_peer; old = old.at.peer; new = new.peer })))
-  -- whatever the other is, a true side changes by pushes of states that the other may give, and by nothing else
+  -- whatever the other is, a faithful side changes by pushes of states that the other may give, and by nothing else
   pub local_side : s.local.is_faithful old.at.local → Changes (s.local.is_faithful new.local) (Local Broken)
       s.peer.can_give (s.local.states old.at.local) (s.local.states new.local) result
   pub peer_side : s.peer.is_faithful old.at.peer → Changes (s.peer.is_faithful new.peer) (Peer Broken)
       s.local.can_give (s.peer.states old.at.peer) (s.peer.states new.peer) result
-  -- beside a side that answers nothing a true one keeps its states: beside a silent local side the peer, and the other way round
+  -- beside a side that answers nothing a faithful one keeps its states: beside a silent local side the peer, and the other way round
   pub beside_local : IsSilent s.local.follows s.local.can_answer old.at.local → s.peer.is_faithful old.at.peer →
       s.peer.is_faithful new.peer × (s.peer.states new.peer ≡ s.peer.states old.at.peer)
   pub beside_peer : IsSilent s.peer.follows s.peer.can_answer old.at.peer → s.local.is_faithful old.at.local →
@@ -255,11 +255,11 @@ pub record Session {L P : Type 0} (s : Sides L P) (most : ℕ) (old new : Two L 
   pub course : Course s (record { at = old; left = record { local = most; peer = most } }) new result
   -- with no fault both sides have answered
   pub answers : OnOk result (HaveAnswered s old new)
-  -- between two true sides states are joined, at a fault, too; with no fault all that differ, but those refused for a cause, where
+  -- between two faithful sides states are joined, at a fault, too; with no fault all that differ, but those refused for a cause, where
   -- SHA-256 tells the texts of both sides apart
   pub meets : s.local.is_faithful old.local → s.peer.is_faithful old.peer →
       Meets (before_of s old) (after_of s new) result
-  -- and few questions were made or wanted; so a 36 that a true side did not itself give means that this bound is above the budget
+  -- and few questions were made or wanted; so a 36 that a faithful side did not itself give means that this bound is above the budget
   pub few : s.local.is_faithful old.local → s.peer.is_faithful old.peer → (differing : List Key) →
       HasAllThatDiffer (s.local.states old.local) (s.peer.states old.peer) differing →
       AreFew (course.asked_local + course.wanted_local) (s.local.states old.local) differing

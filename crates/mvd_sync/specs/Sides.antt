@@ -73,7 +73,7 @@ is_of_question refusal = is_of_key refusal
 abbrev pub IsOfNoQuestion : Refusal → Type 0
 IsOfNoQuestion refusal = is_of_question refusal ≡ false
 
--- a true side stays true, with the states that it held
+-- a faithful side stays faithful, with the states that it held
 abbrev pub StaysFaithful : {S : Type 0} → (S → Type 0) → (S → States) → S → S → Type 0
 StaysFaithful is_faithful states old new = is_faithful old → is_faithful new × (states new ≡ states old)
 
@@ -88,7 +88,7 @@ pub record Inquiry (S : Type 0) : Type 0 where
   pub old : S
   pub new : S
 
--- it refused so on the way, and if it was true that is no refusal of one question alone (9, 10, 11, 14); or it gave what no true side
+-- it refused so on the way, and if it was faithful that is no refusal of one question alone (9, 10, 11, 14); or it gave what no faithful side
 -- gives (33); or all questions were made that it might be asked, and one more was wanted (36); or memory was refused
 pub data Blames {S : Type 0} (s : SideOf S) (a : Inquiry S) (refusal : Refusal) : Type 0 where
   of_side : HasRefused s.follows s.can_refuse a.old a.new refusal → (s.is_faithful a.old → is_of_question refusal ≡ false) →

@@ -65,7 +65,7 @@ abbrev pub told_all : List (List ℕ) → List Node → List Node → List (List
 told_all (path ∷ paths) (m ∷ mine) (t ∷ theirs) = told path m t ++ told_all paths mine theirs
 told_all paths mine theirs = []
 
--- ONE LEVEL: both sides were asked about these nodes, one question each, and told of their children; of two true sides these are
+-- ONE LEVEL: both sides were asked about these nodes, one question each, and told of their children; of two faithful sides these are
 -- the children that differ
 pub record Descends {L P : Type 0} (s : Sides L P) (paths : List (List ℕ)) (old new : Asking L P) (below : List (List ℕ)) : Type 0 where
   pub local_side : Reads s.local (length paths) (local_of old) (local_of new)

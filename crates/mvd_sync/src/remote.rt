@@ -56,7 +56,7 @@ fn refusal_in(reply: &Reply) -> Refusal
 }
 
 impl<L: Line> Remote<L> {
-    /// The site at the other end of a line, which is true if the line is and no reply is due.
+    /// The site at the other end of a line, which is faithful if the line is true and no reply is due.
     pub fn over(alloc: Global, line: L) -> Self
         ensures line { line_of result ≡ line }
         ensures goes_on { refused_of result ≡ None }

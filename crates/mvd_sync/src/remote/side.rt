@@ -37,7 +37,7 @@ impl<L: Line> Remote<L> {
 impl<L: Line> Peer for Remote<L> {
     ghost states = { λ remote. (far_of L.far remote).states };
 
-    // It is as true as the line.
+    // It is faithful where the line is true.
     ghost is_faithful = { IsTrueRemote L.is_true L.far };
 
     ghost can_give = { λ _ _. Unit {0} };

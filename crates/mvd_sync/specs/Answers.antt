@@ -29,12 +29,14 @@ pub record IsPage (after : Option (List ℕ)) (page : List PageEntry) (more : Bo
   pub ended : page ≡ [] → more ≡ false
 
 -- what a faithful side tells of a bucket after a key: so many of its entries as a page has, and whether there are more
-pub record IsPageOf (held : KeyDigests) (path : List ℕ) (after : Option (List ℕ)) (page : List PageEntry) (more : Bool) : Type 0 where
+pub record IsPageOf (held : KeyDigests) (path : List ℕ) (after : Option (List ℕ)) (page : List PageEntry)
+    (more : Bool) : Type 0 where
   pub is : page ≡ page_of held path after
   pub goes_on : more ≡ is_more_after_page held path after
 
 -- these are the first entries of a bucket after a key, and unless there is more all of them
-pub record IsListing (held : KeyDigests) (path : List ℕ) (after : Option (List ℕ)) (page : List PageEntry) (more : Bool) : Type 0 where
+pub record IsListing (held : KeyDigests) (path : List ℕ) (after : Option (List ℕ)) (page : List PageEntry)
+    (more : Bool) : Type 0 where
   pub later : List PageEntry
   pub is : entries (rest_of held path after) ≡ page ++ later
   pub ended : more ≡ false → later ≡ []
@@ -46,7 +48,8 @@ StartsAfter key (e ∷ es) = key_cmp key e.0 ≡ Less
 
 -- of two lists the lesser first key was taken, and from both where both begin with it: which have it, and whether it
 -- differs
-pub data TakesLesser (old : Two (List PageEntry) (List PageEntry)) (e : Entry) (new : Two (List PageEntry) (List PageEntry)) : Type 0 where
+pub data TakesLesser (old : Two (List PageEntry) (List PageEntry)) (e : Entry)
+    (new : Two (List PageEntry) (List PageEntry)) : Type 0 where
   of_first : (x : PageEntry) → old.local ≡ x ∷ new.local → old.peer ≡ new.peer → e.key ≡ x.0
       → e.mine ≡ true → e.theirs ≡ false → e.differs ≡ true → StartsAfter e.key old.peer → TakesLesser old e new
   of_second : (y : PageEntry) → old.local ≡ new.local → old.peer ≡ y ∷ new.peer → e.key ≡ y.0

@@ -1,5 +1,6 @@
 -- A window: its keys are asked for, and what each side lacks is pushed into it.
-use Rattle.std.specs.Prelude.{◌≡◌, ◌≤◌, ◌+◌, ◌*◌, ℕ, List, ◌++◌, length, map, filter_map, Option, Result, Vec, OnOk, MatchResult}
+use Rattle.std.specs.Prelude.{◌≡◌, ◌≤◌, ◌+◌, ◌*◌, ℕ, List, ◌++◌, length, map, filter_map, Option, Result, Vec, OnOk}
+use Rattle.std.specs.Prelude.{MatchResult}
 use Rattle.mvd_dots.specs.declared.refusals.Refusal.{Refusal}
 use Rattle.mvd_keys.specs.State.{State}
 use Rattle.mvd_site.specs.Held.{States, state_at}
@@ -36,11 +37,13 @@ pub record Carried {S : Type 0} (s : SideOf S) (name : Side) (before after : Lis
     (old new : OneAsking S) : Type 0 where
   pub told : List (Result (Unit {0}) Refusal)
   pub is : after ≡ noted name (map (taken_from name) before) told
-  pub answered : AllAnswered s (λ _ told. IsOfKey told) (TakesIn s (filter_map (pair_of name) before) told old.at new.at)
+  pub answered : AllAnswered s (λ _ told. IsOfKey told)
+      (TakesIn s (filter_map (pair_of name) before) told old.at new.at)
       (filter_map (pair_of name) before) told old new
 
 -- THE KEYS OF A WINDOW ARE EXCHANGED
-pub record ExchangesAll {L P A : Type 0} (s : Sides L P) (number : Option ℕ) (entries : List Entry) (old new : Asking L P)
+pub record ExchangesAll {L P A : Type 0} (s : Sides L P) (number : Option ℕ) (entries : List Entry)
+    (old new : Asking L P)
     (result : Result (Vec Meeting A) SyncFault) : Type 0 where
   pub course : Course s old new.at result
   pub spent : Spends s old new result course

@@ -1,5 +1,6 @@
 -- Questions to a side, of which no more are made than are left.
-use Rattle.std.specs.Prelude.{◌≡◌, ◌≢◌, ◌<◌, ◌≤◌, ◌+◌, ℕ, false, true, List, [], ◌∷◌, length, sum_by, take, Bool, ◌^◌, Option, Result, Ok, Err}
+use Rattle.std.specs.Prelude.{◌≡◌, ◌≢◌, ◌<◌, ◌≤◌, ◌+◌, ℕ, false, true, List, [], ◌∷◌, length, sum_by, take, Bool, ◌^◌}
+use Rattle.std.specs.Prelude.{Option, Result, Ok, Err}
 use Rattle.mvd_dots.specs.declared.refusals.Refusal.{Refusal}
 use Rattle.mvd_dots.specs.declared.refusals.Refusal.TheVariants.{Broken}
 use Rattle.mvd_keys.specs.State.{State}

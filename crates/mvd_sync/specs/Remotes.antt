@@ -94,7 +94,8 @@ AsksTruly line query old new result =
     × AnswersTruly query.as_reply before.most before.states query.request result after.states
 
 -- this of a window that went out over a true line, or of the requests of one that was refused the first were taken
-abbrev pub EndsTruly : {L V : Type 0} → Ghosts L → (ℕ → States → V → States → Type 0) → List Request → (old new : Remote L)
+abbrev pub EndsTruly : {L V : Type 0} → Ghosts L → (ℕ → States → V → States → Type 0) → List Request
+    → (old new : Remote L)
     → Result V Refusal → Type 0
 EndsTruly line Answered requests old new result =
     let before = far_of line.far old in
@@ -107,7 +108,8 @@ EndsTruly line Answered requests old new result =
 abbrev pub AsksAllTruly : {L A : Type 0} → Ghosts L → Queries A → (old new : Remote L)
     → Result (Vec (Result A Refusal) Global) Refusal → Type 0
 AsksAllTruly line queries old new result =
-    EndsTruly line (λ most before told after. SettleTruly queries.as_reply most before queries.requests told.items after)
+    EndsTruly line
+    (λ most before told after. SettleTruly queries.as_reply most before queries.requests told.items after)
     queries.requests old new result
 
 -- what came for a request over a true line is taken
@@ -116,7 +118,8 @@ TakesReply line old new told = line.is_true old.line → Took line.is_true line.
 
 -- A REMOTE SIDE REPLIES: the frame of the request went out, and the reply is the frame that came in, or else the
 -- refusal that tells why none did; and if the line is true, it is a reply of what is at its other end
-pub record RepliesFar {L : Type 0} (line : Ghosts L) (old new : Remote L) (request : Request) (reply : Reply) : Type 0 where
+pub record RepliesFar {L : Type 0} (line : Ghosts L) (old new : Remote L) (request : Request)
+    (reply : Reply) : Type 0 where
   pub told : Result Reply Refusal
   pub shown : reply ≡ shown_reply told
   pub asked : Asks (link_of line old) (link_of line new) request told

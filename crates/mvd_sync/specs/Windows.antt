@@ -1,10 +1,13 @@
 -- Many questions at once: one answer for each, in order, as if they were asked one after the other.
-use Rattle.std.specs.Prelude.{◌≡◌, ◌⊎◌, ◌<◌, ◌≤◌, ◌==◌, ℕ, Bool, true, false, List, [], ◌∷◌, length, Option, Some, None, Result, Ok, Err, take, IfOk, OnErr}
+use Rattle.std.specs.Prelude.{◌≡◌, ◌⊎◌, ◌<◌, ◌≤◌, ◌==◌, ℕ, Bool, true, false, List, [], ◌∷◌, length, Option, Some, None}
+use Rattle.std.specs.Prelude.{Result, Ok, Err, take, IfOk, OnErr}
 use Rattle.std.specs.FinMap.{get, len}
 use Rattle.std.specs.declared.alloc.Global.{Global}
 use Rattle.std.specs.declared.vec.Vec.{Vec}
 use Rattle.mvd_dots.specs.declared.refusals.Refusal.{Refusal}
-use Rattle.mvd_dots.specs.declared.refusals.Refusal.TheVariants.{BadBody, BadDefs, BadKind, BadPath, Broken, DotClash, FrameTooLong, Full, Memory, ReadFailed, StateTooLarge, TooManyRequests, Truncated, WriteFailed}
+use Rattle.mvd_dots.specs.declared.refusals.Refusal.TheVariants.{BadBody, BadDefs, BadKind, BadPath, Broken, DotClash}
+use Rattle.mvd_dots.specs.declared.refusals.Refusal.TheVariants.{FrameTooLong, Full, Memory, ReadFailed, StateTooLarge}
+use Rattle.mvd_dots.specs.declared.refusals.Refusal.TheVariants.{TooManyRequests, Truncated, WriteFailed}
 use Rattle.mvd_keys.specs.State.{State, clashes, join}
 use Rattle.mvd_keys.specs.Writes.{Key}
 use Rattle.mvd_tree.specs.HashTree.{KeyDigests, node_digest}
@@ -42,9 +45,12 @@ RefusesPage path refusal = is_of_key refusal ≡ false
 
 -- a node's digest and, above the buckets, those of its children
 abbrev pub IsNode : KeyDigests → List ℕ → Digests → Type 0
-IsNode held path d = (d.own ≡ node_digest held path) × (length path < 3 → d.children ≡ Some (children_digests held path)) × (3 ≤ length path → d.children ≡ None)
+IsNode held path d =
+    (d.own ≡ node_digest held path) × (length path < 3 → d.children ≡ Some (children_digests held path))
+    × (3 ≤ length path → d.children ≡ None)
 
--- how a side behaves: what it may be after so many questions, and what is so of it after it refused one, or answered one
+-- how a side behaves: what it may be after so many questions, and what is so of it after it refused one, or answered
+-- one
 pub record Manner (S : Type 0) : Type 1 where
   pub follows : ℕ → S → S → Type 0
   pub can_refuse : S → Refusal → Type 0
@@ -53,8 +59,8 @@ pub record Manner (S : Type 0) : Type 1 where
 abbrev pub manner : {S : Type 0} → (ℕ → S → S → Type 0) → (S → Refusal → Type 0) → (S → Type 0) → Manner S
 manner follows can_refuse can_answer = record { follows = follows; can_refuse = can_refuse; can_answer = can_answer }
 
--- what is to be said of the answers: those that any side may give; and of a side that was faithful, those that are right, and how it
--- may refuse
+-- what is to be said of the answers: those that any side may give; and of a side that was faithful, those that are
+-- right, and how it may refuse
 pub record Kind (Q A : Type 0) : Type 1 where
   pub may : Q → A → Type 0
   pub was_faithful : Type 0
@@ -79,7 +85,8 @@ abbrev pub for_pages : Type 0 → States → Kind (List ℕ × Option (List ℕ)
 for_pages was_faithful states = record {
   may = λ _ _. Unit {0};
   was_faithful = was_faithful;
-  right = λ q page. (page.0.items ≡ page_of (digests states) q.0 q.1) × (page.1 ≡ is_more_after_page (digests states) q.0 q.1);
+  right = λ q page. (page.0.items ≡ page_of (digests states) q.0 q.1)
+      × (page.1 ≡ is_more_after_page (digests states) q.0 q.1);
   refuses = λ q. RefusesPage q.0;
 }
 
@@ -104,9 +111,11 @@ for_states can_give was_faithful states = record {
 abbrev pub for_pushes : Kind (Key × State) (Unit {0})
 for_pushes = record { may = λ _ _. Unit {0}; was_faithful = ⊥; right = λ _ _. Unit {0}; refuses = λ _ _. Unit {0} }
 
--- Questions that were asked one after the other and answered so: as many as there are, each answer one that the side may
--- give, and right if it was faithful; each refusal one that it gave on the way, and of a faithful side one that its question may have
-pub record Asked {S Q A : Type 0} (m : Manner S) (kind : Kind Q A) (questions : List Q) (answers : List (Result A Refusal)) (old new : S) : Type 0 where
+-- Questions that were asked one after the other and answered so: as many as there are, each answer one that the side
+-- may give, and right if it was faithful; each refusal one that it gave on the way, and of a faithful side one that its
+-- question may have
+pub record Asked {S Q A : Type 0} (m : Manner S) (kind : Kind Q A) (questions : List Q)
+    (answers : List (Result A Refusal)) (old new : S) : Type 0 where
   pub count : m.follows (length questions) old new
   pub may : EachAnswer kind.may questions answers
   pub right : kind.was_faithful → EachAnswer kind.right questions answers
@@ -124,18 +133,21 @@ abbrev pub gets_of : {S : Type 0} → (Key → State → Type 0) → (S → Type
 gets_of can_give is_faithful states side = for_states can_give (is_faithful side) (states side)
 
 -- after Ok, the questions were asked one after the other and answered so
-abbrev pub AskedAll : {S Q A : Type 0} → Manner S → (S → Kind Q A) → List Q → S → S → Result (Vec (Result A Refusal) Global) Refusal → Type 0
+abbrev pub AskedAll : {S Q A : Type 0} → Manner S → (S → Kind Q A) → List Q → S → S
+    → Result (Vec (Result A Refusal) Global) Refusal → Type 0
 AskedAll m kind questions old new result = IfOk result (λ told. Asked m (kind old) questions told.items old new)
 
 -- Questions that came to an end: at most so many were made, and the side refused so, or memory was refused
-pub record Ends {S : Type 0} (follows : ℕ → S → S → Type 0) (can_refuse : S → Refusal → Type 0) (most : ℕ) (old new : S) (refusal : Refusal) : Type 0 where
+pub record Ends {S : Type 0} (follows : ℕ → S → S → Type 0) (can_refuse : S → Refusal → Type 0) (most : ℕ) (old new : S)
+    (refusal : Refusal) : Type 0 where
   pub count : Within follows most old new
   pub cause : HasRefused follows can_refuse old new refusal ⊎ (refusal ≡ Memory)
 
--- Why a side that takes at most so many keys, and holds these states, refuses a push: 9, 10 and 11 for these causes; never 14; any
--- other refusal needs none
+-- Why a side that takes at most so many keys, and holds these states, refuses a push: 9, 10 and 11 for these causes;
+-- never 14; any other refusal needs none
 abbrev pub CannotTake : ℕ → States → Key → State → Refusal → Type 0
-CannotTake most states key state StateTooLarge = (is_too_large state ≡ true) ⊎ (is_too_large (join (state_at states key) state) ≡ true)
+CannotTake most states key state StateTooLarge =
+    (is_too_large state ≡ true) ⊎ (is_too_large (join (state_at states key) state) ≡ true)
 CannotTake most states key state Full = (get states key ≡ None) × (most ≤ len states)
 CannotTake most states key state DotClash = clashes (state_at states key) state ≡ true
 CannotTake most states key state BadPath = ⊥
@@ -144,13 +156,16 @@ CannotTake most states key state refusal = Unit {0}
 -- States pushed one after the other, each taken, or refused for its cause
 abbrev pub Pushes : ℕ → States → List (Key × State) → List (Result (Unit {0}) Refusal) → States → Type 0
 Pushes most old [] [] new = new ≡ old
-Pushes most old (p ∷ ps) (Ok done ∷ ts) new = (clashes (state_at old p.0) p.1 ≡ false) × Pushes most (pushed old p.0 p.1) ps ts new
+Pushes most old (p ∷ ps) (Ok done ∷ ts) new =
+    (clashes (state_at old p.0) p.1 ≡ false) × Pushes most (pushed old p.0 p.1) ps ts new
 Pushes most old (p ∷ ps) (Err refusal ∷ ts) new = CannotTake most old p.0 p.1 refusal × Pushes most old ps ts new
 Pushes most old ps ts new = ⊥
 
 -- some first ones of the pushes, as `Pushes` says; and if the side is still faithful, it holds just that
 abbrev pub PushesFirst : Type 0 → ℕ → States → List (Key × State) → States → Type 0
-PushesFirst still most old ps new = (n : ℕ) × (ts : List (Result (Unit {0}) Refusal)) × (mid : States) × Pushes most old (take n ps) ts mid × (still → new ≡ mid)
+PushesFirst still most old ps new =
+    (n : ℕ) × (ts : List (Result (Unit {0}) Refusal)) × (mid : States) × Pushes most old (take n ps) ts mid
+    × (still → new ≡ mid)
 
 -- when a side is faithful, and what it holds then: its states, and how many keys at most
 pub record Holding (S : Type 0) : Type 1 where

@@ -1,9 +1,11 @@
 //! Questions to a side, of which no more are made than were given.
-ghost use Rattle.std.specs.Prelude.{◌≡◌, ◌≢◌, ◌+◌, ◌-◌, ◌<◌, ◌≤◌, ◌^◌, [], length, false, OnOk, IfOk, IfErr, IsTrue, ◌↔◌, ◌⊎◌, ◌++◌, All, Contains, Some, None, min};
+ghost use Rattle.std.specs.Prelude.{◌≡◌, ◌≢◌, ◌+◌, ◌-◌, ◌<◌, ◌≤◌, ◌^◌, [], length, false, OnOk, IfOk, IfErr, IsTrue};
+ghost use Rattle.std.specs.Prelude.{◌↔◌, ◌⊎◌, ◌++◌, All, Contains, Some, None, min};
 ghost use Rattle.mvd_site.specs.Answer.{digests};
 ghost use Rattle.mvd_site.specs.Held.{state_at};
 ghost use Rattle.mvd_sync.specs.Answers.{IsPage, IsPageOf};
-ghost use Rattle.mvd_sync.specs.Questions.{AllAnswered, AnswersEach, ComesToEnd, ForEach, IsInner, IsOfKey, IsWindow, Keeps, Takes, TakesIn, TakesInFirst, with_left, push_bytes};
+ghost use Rattle.mvd_sync.specs.Questions.{AllAnswered, AnswersEach, ComesToEnd, ForEach, IsInner, IsOfKey, IsWindow};
+ghost use Rattle.mvd_sync.specs.Questions.{Keeps, Takes, TakesIn, TakesInFirst, with_left, push_bytes};
 ghost use Rattle.mvd_sync.specs.Session.{Each};
 ghost use Rattle.mvd_sync.specs.PeerSides.{side_of};
 ghost use Rattle.mvd_sync.specs.Sides.{HasAnswered, is_of_key};
@@ -208,8 +210,8 @@ pub fn ask_pushes<P: Peer>(
         pairs.now told.items (with_left side.old left.old) (with_left side.new left.new)) }
     ensures ended { let s = side_of P.Peer in
         IfErr result
-        (λ refusal. ComesToEnd s (TakesInFirst s pairs.now side.old side.new refusal) (length pairs.now) (with_left side.old left.old)
-        side.new refusal) }
+        (λ refusal. ComesToEnd s (TakesInFirst s pairs.now side.old side.new refusal) (length pairs.now)
+        (with_left side.old left.old) side.new refusal) }
 {
     let mut told = Vec::with_capacity(side.alloc(), pairs.len())?;
     let mut rest = pairs;

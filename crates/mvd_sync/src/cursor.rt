@@ -1,5 +1,6 @@
 //! What a session has left of a side's page of a bucket.
-ghost use Rattle.std.specs.Prelude.{◌≡◌, ◌≢◌, ◌+◌, ◌-◌, ◌*◌, ◌≤◌, [], ◌∷◌, length, IfOk, IfErr, IfSome, IfNone, OnSome, ◌<◌, ◌^◌, OnOk, OnErr, MatchOption, option_copied, true, IsTrue, ◌↔◌};
+ghost use Rattle.std.specs.Prelude.{◌≡◌, ◌≢◌, ◌+◌, ◌-◌, ◌*◌, ◌≤◌, [], ◌∷◌, length, IfOk, IfErr, IfSome, IfNone, OnSome};
+ghost use Rattle.std.specs.Prelude.{◌<◌, ◌^◌, OnOk, OnErr, MatchOption, option_copied, true, IsTrue, ◌↔◌};
 ghost use Rattle.mvd_tree.specs.Page.{is_after};
 ghost use Rattle.mvd_sync.specs.Answers.{IsPage, Rises, TakesLesser, order_of_first};
 ghost use Rattle.mvd_sync.specs.Questions.{ComesToEnd, Fetches, Fills, Keeps, with_left};
@@ -93,7 +94,8 @@ impl Listing {
         requires { length path.now ≡ 3 }
         ensures told { let s = side_of P.Peer in
             IfOk result
-            (λ listing. Fetches s path.now (option_copied after.entry) listing (with_left side.old left.old) (with_left side.new left.new)) }
+            (λ listing. Fetches s path.now (option_copied after.entry) listing
+            (with_left side.old left.old) (with_left side.new left.new)) }
         ensures ended { let s = side_of P.Peer in
             IfErr result (ComesToEnd s (Keeps s side.old side.new) 1 (with_left side.old left.old) side.new) }
     {
@@ -125,7 +127,8 @@ impl Listing {
         requires { length path.now ≡ 3 }
         ensures filled { let s = side_of P.Peer in
             OnOk result
-            (Fills s path.now (option_copied after.entry) self.old self.new (with_left side.old left.old) (with_left side.new left.new)) }
+            (Fills s path.now (option_copied after.entry) self.old self.new
+            (with_left side.old left.old) (with_left side.new left.new)) }
         ensures ended { let s = side_of P.Peer in
             IfErr result (ComesToEnd s (Keeps s side.old side.new) 1 (with_left side.old left.old) side.new) }
         ensures needed { OnErr result ((self.old.0 ≡ []) × (self.old.1 ≡ true)) }

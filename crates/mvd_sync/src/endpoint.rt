@@ -7,8 +7,8 @@ use crate::line::Line;
 use crate::remote::Remote;
 use mvd_wire::{Reply, Request};
 
-/// Something that answers requests: a site of a world, a stored one, or one at the other end of a connection. What its replies mean
-/// is its own promise, and nothing here rests on it.
+/// Something that answers requests: a site of a world, a stored one, or one at the other end of a connection. What its
+/// replies mean is its own promise, and nothing here rests on it.
 pub trait Endpoint {
     /// What it may be after a request, and how it may have replied.
     ghost answers: { Self → Self → Request → Reply → Type 0 };

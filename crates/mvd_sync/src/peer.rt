@@ -1,5 +1,6 @@
 //! What a session asks of a side.
-ghost use Rattle.std.specs.Prelude.{◌≡◌, ◌≢◌, ◌<◌, ◌≤◌, ◌+◌, ℕ, List, Option, Result, length, true, false, IfOk, IfErr, OnOk, OnErr, Ok, Err, Some, None};
+ghost use Rattle.std.specs.Prelude.{◌≡◌, ◌≢◌, ◌<◌, ◌≤◌, ◌+◌, ℕ, List, Option, Result, length, true, false, IfOk, IfErr};
+ghost use Rattle.std.specs.Prelude.{OnOk, OnErr, Ok, Err, Some, None};
 ghost use Rattle.std.specs.Option.{option_copied};
 ghost use Rattle.mvd_dots.specs.declared.refusals.Refusal.{Refusal};
 ghost use Rattle.mvd_keys.specs.State.{State, clashes};
@@ -9,7 +10,8 @@ ghost use Rattle.mvd_tree.specs.Page.{children_digests, is_more_after_page, page
 ghost use Rattle.mvd_site.specs.Held.{AreHeld, States, state_at};
 ghost use Rattle.mvd_site.specs.Answer.{digests};
 ghost use Rattle.mvd_sync.specs.Sides.{IsOfNoQuestion, StaysFaithful};
-ghost use Rattle.mvd_sync.specs.Windows.{AskedAll, CannotTake, Ends, HasKeys, IsNode, IsPushed, Leaves, PushedAll, PushedSome, RefusesPage, TellsMore};
+ghost use Rattle.mvd_sync.specs.Windows.{AskedAll, CannotTake, Ends, HasKeys, IsNode, IsPushed, Leaves, PushedAll};
+ghost use Rattle.mvd_sync.specs.Windows.{PushedSome, RefusesPage, TellsMore};
 ghost use Rattle.mvd_sync.specs.Windows.{for_pushes, gets_of, holding, manner, nodes_of, pages_of};
 
 use crate::windows::{is_over, left_open, room_for};

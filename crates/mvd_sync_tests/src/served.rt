@@ -15,8 +15,8 @@ use mvd_wire::{Frame, Reply, Request, decode_request, encode_reply, read_frame};
 use std::alloc::Global;
 use std::collections::VecDeque;
 
-/// A line to a site that answers each request when it is sent, as a server does; the replies wait to be taken. It shows that a line
-/// can be true.
+/// A line to a site that answers each request when it is sent, as a server does; the replies wait to be taken. It shows
+/// that a line can be true.
 #[derive(Drop)]
 pub struct Served {
     alloc: Global,

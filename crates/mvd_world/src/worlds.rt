@@ -1,12 +1,14 @@
 //! A world of several sites, and the messages that they sent.
-ghost use Rattle.std.specs.Prelude.{◌≡◌, ◌≢◌, ◌≤◌, ◌<◌, ◌-◌, false, true, length, IfErr, IfOk, OnOk, OnErr, None, if◌then◌else◌, option_copied, [], ◌∷◌, ◌++◌};
+ghost use Rattle.std.specs.Prelude.{◌≡◌, ◌≢◌, ◌≤◌, ◌<◌, ◌-◌, false, true, length, IfErr, IfOk, OnOk, OnErr, None};
+ghost use Rattle.std.specs.Prelude.{if◌then◌else◌, option_copied, [], ◌∷◌, ◌++◌};
 ghost use Rattle.std.specs.List.{slice_get};
 ghost use Rattle.mvd_wire.specs.declared.reply.Reply.TheVariants.{Refused};
 ghost use Rattle.mvd_dots.specs.declared.refusals.Refusal.TheVariants.{Memory};
 ghost use Rattle.mvd_site.specs.Answer.{is_question};
 ghost use Rattle.mvd_world.specs.declared.steps.Step.TheVariants.{Receive, Send as Send_step};
 ghost use Rattle.mvd_world.specs.declared.steps.Outcome.TheVariants.{NoSuch, Replied};
-ghost use Rattle.mvd_world.specs.Machine.{Answers, IsOwn, Meets, Receives, Takes, is_numbered, is_write, may_be, nothing_yet, setting_of};
+ghost use Rattle.mvd_world.specs.Machine.{Answers, IsOwn, Meets, Receives, Takes, is_numbered, is_write, may_be};
+ghost use Rattle.mvd_world.specs.Machine.{nothing_yet, setting_of};
 ghost use Rattle.mvd_world.specs.Worlds.{AreShort, IsWorld, KnownChangesNothing, Leads, StaysTheSame, Steps};
 
 use crate::sessions::sync_at;
@@ -70,7 +72,8 @@ impl World {
         ensures machine { Steps self.old self.new step.now result }
         // A message that has nothing new for its site leaves the very same world.
         ensures same { StaysTheSame self.old self.new step.now }
-        // So does one of which the site already knows each write; it is done, or memory was refused, or the site says that it is broken.
+        // So does one of which the site already knows each write; it is done, or memory was refused, or the site says
+        // that it is broken.
         ensures known { KnownChangesNothing self.old self.new step.now result }
         // No message comes to be longer than a state may be.
         ensures short { AreShort self.old → AreShort self.new }

@@ -1,8 +1,10 @@
 //! Many questions over a link: all frames out, then all replies in.
-ghost use Rattle.std.specs.Prelude.{◌≡◌, ◌≢◌, Err, List, ℕ, Result as Spelled, [], None, Some, OnOk, OnErr, IfOk, IfErr, MatchResult, All};
+ghost use Rattle.std.specs.Prelude.{◌≡◌, ◌≢◌, Err, List, ℕ, Result as Spelled, [], None, Some, OnOk, OnErr, IfOk};
+ghost use Rattle.std.specs.Prelude.{IfErr, MatchResult, All};
 ghost use Rattle.mvd_dots.specs.declared.refusals.Refusal.TheVariants.{Memory};
 ghost use Rattle.mvd_wire.specs.Codec.{Gives};
-ghost use Rattle.mvd_sync.specs.LinkWindows.{Answered, AsksAll, IsOfKind, RefusesAll, TakesTurn, TakeTurns, TurnBreaks, and_frame, frames_of};
+ghost use Rattle.mvd_sync.specs.LinkWindows.{Answered, AsksAll, IsOfKind, RefusesAll, TakesTurn, TakeTurns, TurnBreaks};
+ghost use Rattle.mvd_sync.specs.LinkWindows.{and_frame, frames_of};
 ghost use Rattle.mvd_sync.specs.Lines.{AreSpelled, DueTurn, DueTurns, KeepsMost};
 ghost use Rattle.mvd_sync.specs.Lines.{TellsAllTruly, TookTurns, line_of, refused_of};
 ghost use Rattle.mvd_sync.specs.Links.{ReadCause};

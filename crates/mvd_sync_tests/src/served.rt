@@ -40,7 +40,8 @@ impl Served {
 
     /// The reply of the site to a request.
     fn reply(&mut self, request: &Request) -> Reply
-        ensures truth { TrueReply self.old.site.config.max_keys self.old.site.states request.now result self.new.site.states }
+        ensures truth { TrueReply self.old.site.config.max_keys self.old.site.states
+            request.now result self.new.site.states }
         ensures fits { CanBeSent result }
         ensures most { self.new.site.config ≡ self.old.site.config }
         ensures held { AreHeld self.new.site.states }
@@ -56,7 +57,8 @@ impl Served {
     /// Answers the request of a frame.
     fn take(&mut self, frame: &Frame) -> Result<(), Refusal>
         ensures truth { (request : Request) → SpellsRequest request frame.now.kind frame.now.payload.items →
-            TakesOne (far_at self.old.site self.old.waiting.items) request (far_at self.new.site self.new.waiting.items) result }
+            TakesOne (far_at self.old.site self.old.waiting.items) request
+            (far_at self.new.site self.new.waiting.items) result }
         ensures most { self.new.site.config ≡ self.old.site.config }
         ensures held { AreHeld self.old.site.states → AreHeld self.new.site.states }
     {

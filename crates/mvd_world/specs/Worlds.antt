@@ -1,6 +1,7 @@
 -- What a world stands for: sets of writes, by which its sites and messages are what the machine says.
 use Rattle.std.specs.Prelude.{◌≡◌, ◌⊎◌, ◌+◌, ◌-◌, ℕ, Bool, true, false, List, ◌++◌, map, length, Some, Result}
-use Rattle.std.specs.Prelude.{slice_set, IfOk, ⊤}
+use Rattle.std.specs.Prelude.{Option, None, Vec, if◌then◌else◌, slice_set, IfOk, ⊤}
+use Rattle.std.specs.declared.alloc.Global.{Global}
 use Rattle.std.specs.List.{AllByRecursion, slice_get, Contains}
 use Rattle.mvd_keys.specs.State.{join}
 use Rattle.mvd_keys.specs.Writes.{Key, SameWrites, Stands, Write, state}
@@ -29,6 +30,11 @@ pub record IsSiteOf (setting : Setting) (knowledge : Knowledge) (number : ℕ) (
   pub config : setting.configs number ≡ Some site.config
   pub broken : site.broken ≡ knowledge.broken number
   pub stands : SiteStands site (knowledge.known number)
+
+-- the site of this number, if there is one
+abbrev pub site_at : World → ℕ → Option SiteValue
+site_at world number =
+    if is_numbered (length world.sites.items) number then slice_get world.sites.items (number - 1) else None
 
 -- a message as it is kept
 abbrev pub message_of : Sending → Message
@@ -140,10 +146,11 @@ pub record AreAlike (a b : SiteValue) : Type 0 where
   pub answers : (request : Request) → is_question request ≡ true
       → answer_from a.config a.states request ≡ answer_from b.config b.states request
 
--- these steps with these outcomes, from nothing known, lead to sets that the world stands for, and of which this holds
-abbrev pub Leads_to : Setting → World → List Step → List Outcome → (Knowledge → Type 0) → Type 0
-Leads_to setting world steps outcomes Holds =
-    (end : Knowledge) × (Runs setting nothing_yet steps outcomes end × (IsWorld setting world end × Holds end))
+-- a run of these steps, which is a world and their outcomes: from nothing known it leads to sets that the world stands
+-- for, and of the world and them this holds
+abbrev pub LeadTo : Setting → List Step → World × Vec Outcome Global → (World → Knowledge → Type 0) → Type 0
+LeadTo setting steps done Holds = (end : Knowledge)
+    × (Runs setting nothing_yet steps done.1.items end × (IsWorld setting done.0 end × Holds done.0 end))
 
 -- each site that is not broken stands for what it knows, which is a part of what was made
 abbrev pub StandForKnown : World → Knowledge → Type 0

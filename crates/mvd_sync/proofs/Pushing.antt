@@ -10,7 +10,7 @@ use Rattle.mvd_keys.specs.Writes.{Key}
 use Rattle.mvd_sync.specs.Questions.{AllAnswered, ComesToEnd, ForEach, IsOfKey, TakesIn, TakesInFirst, with_left}
 use Rattle.mvd_sync.specs.Sides.{HasAnswered, HasRefused, SideOf, is_of_key, is_of_question, of_memory, of_questions, of_side}
 use Rattle.mvd_sync.specs.Windows.{EachAnswer, EachTold, Ends, Pushes, PushesFirst}
-use Rattle.mvd_sync.proofs.Answering.{told_at}
+use Rattle.mvd_sync.proofs.Answering.{told_in}
 use Rattle.mvd_sync.proofs.Compose.{ends_for_memory, refused_later}
 use Rattle.mvd_sync.proofs.ManyPushes.{first_later, pushes-append, pushes_apart}
 use Rattle.mvd_sync.proofs.Positions.{AskedBy, BlamesBy}
@@ -45,10 +45,6 @@ as_many M [] (Err e ∷ ts) h = absurd h
 as_many M (q ∷ qs) [] h = absurd h
 as_many M (q ∷ qs) (Ok a ∷ ts) h = ap suc (as_many M qs ts h.1)
 as_many M (q ∷ qs) (Err e ∷ ts) h = ap suc (as_many M qs ts h)
-
--- a refusal that was told
-pub told_in : {A : Type 0} (P : Type 0) (T : Refusal → Type 0) (ts : List (Result A Refusal)) (refusal : Refusal) → EachTold P T ts → Contains ts (Err refusal) → T refusal
-told_in P T ts refusal h in_it = (told_at P T ts in_it.0 (Err refusal) h in_it.1 (sym in_it.2)).0
 
 -- ---- pushes so far
 

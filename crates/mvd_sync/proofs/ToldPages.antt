@@ -1,5 +1,5 @@
 -- A page that a faithful side tells rises.
-use Rattle.std.proofs.Common.{◌≡◌, ◌<◌, get_or, ℕ, zero, suc, Bool, true, false, cond, ◌&&◌, List, [], ◌∷◌, take, length, refl, sym, ap, ◌∙◌, Some, None, Option}
+use Rattle.std.proofs.Common.{◌≡◌, ℕ, zero, suc, Bool, true, false, cond, ◌&&◌, List, [], ◌∷◌, take, length, refl, sym, ap, ◌∙◌, Some, None, Option}
 use Rattle.std.specs.Prelude.{T, nat_lt}
 use Rattle.std.specs.Ordering.{nat_cmp, is_eq}
 use Rattle.std.specs.Cmp.{tied_itself}
@@ -7,13 +7,13 @@ use Rattle.std.specs.Cmp.Lexicographic.{slice_cmp, nat_list_cmp_total}
 use Rattle.std.specs.FinMap.{get, entries, entries_sorted, get-entries, find, is_sorted}
 use Rattle.mvd_tree.specs.HashTree.{KeyDigests, is_under}
 use Rattle.mvd_tree.specs.Page.{is_after, is_more_after_page, page_of, rest_of}
-use Rattle.std.specs.Prelude.{Result, Ok}
+use Rattle.std.specs.Prelude.{Contains, Result, Ok}
 use Rattle.std.specs.declared.vec.Vec.{Vec}
 use Rattle.std.specs.declared.alloc.Global.{Global}
 use Rattle.mvd_dots.specs.declared.refusals.Refusal.{Refusal}
 use Rattle.mvd_sync.specs.Answers.{IsPage, IsPageOf, ListingValue, PageEntry, Rises}
 use Rattle.mvd_sync.specs.Windows.{EachAnswer}
-use Rattle.mvd_sync.proofs.Answering.{IsListingOf, answer_at, each_all}
+use Rattle.mvd_sync.proofs.Answering.{IsListingOf, answer_in, each_all}
 use Rattle.mvd_sync.proofs.Rest.{get-rest}
 
 front : (a b : Bool) → T (a && b) → T a
@@ -85,9 +85,12 @@ abbrev pub TellsPage : KeyDigests → Asking → Told → Type 0
 TellsPage held q page = (page.0.items ≡ page_of held q.0 q.1) × (page.1 ≡ is_more_after_page held q.0 q.1)
 
 -- it tells no page that is none
-pub not_bad : (held : KeyDigests) (qs : List Asking) (ts : List (Result Told Refusal)) (n : ℕ) (page : Told) → EachAnswer (TellsPage held) qs ts → n < length ts → Ok page ≡ get_or ts n (Ok page) → (IsPage None page.0.items page.1 → ⊥) → ⊥
-not_bad held qs ts n page right low at bad =
-    bad (answer_at (TellsPage held) (λ _. Unit {0}) (λ p. IsPage None p.0.items p.1) (λ q p _ told. page_from_first q.1 p.0.items p.1 (told_page held q.0 q.1 p.0.items p.1 told.0 told.1)) qs ts n page (each_all qs) right low at)
+pub not_bad : (held : KeyDigests) (qs : List Asking) (ts : List (Result Told Refusal)) (page : Told)
+    → EachAnswer (TellsPage held) qs ts → Contains ts (Ok page) → (IsPage None page.0.items page.1 → ⊥) → ⊥
+not_bad held qs ts page right here bad =
+    bad (answer_in (TellsPage held) (λ _. Unit {0}) (λ p. IsPage None p.0.items p.1)
+    (λ q p _ told. page_from_first q.1 p.0.items p.1 (told_page held q.0 q.1 p.0.items p.1 told.0 told.1))
+    qs ts page (each_all qs) right here)
 
 -- and what is made of its page is this page
 pub listing_right : (held : KeyDigests) (q : Asking) (page : Told) (listing : ListingValue) → TellsPage held q page → IsListingOf page listing → IsPageOf held q.0 q.1 listing.0 listing.1

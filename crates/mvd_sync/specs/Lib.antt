@@ -10,6 +10,7 @@ pub mod Windows
 pub mod Answers
 pub mod Walk
 pub mod Questions
+pub mod Made
 pub mod Exchanges
 pub mod Buckets
 pub mod Meetings

@@ -11,6 +11,7 @@ ghost use Rattle.mvd_sync.specs.PeerSides.{side_of};
 ghost use Rattle.mvd_sync.specs.Sides.{HasAnswered, is_of_key};
 
 use crate::cursor::Listing;
+use crate::made::{Made, made_all};
 use crate::peer::Peer;
 use mvd_dots::Refusal;
 use mvd_keys::{Key, KeyState, Path};
@@ -62,15 +63,18 @@ pub struct Node {
     pub children: [[u8; 32]; 16],
 }
 
-/// The digests of a node above the buckets; without children they are 33.
-fn inner(digests: Digests) -> Result<Node, Refusal>
-    ensures node { IfOk result (λ node. (node.own ≡ digests.own) × (digests.children ≡ Some node.children)) }
-    ensures none { IfErr result (λ refusal. (refusal ≡ Refusal.BadBody) × (digests.children ≡ None)) }
-{
-    let own = digests.own;
-    match digests.children {
-        Some(children) => Ok(Node { own, children }),
-        None => Err(Refusal::BadBody),
+/// Digests without children are of no node above the buckets.
+impl Made<Digests> for Node {
+    ghost is_of = { λ digests node. (node.own ≡ digests.own) × (digests.children ≡ Some node.children) };
+
+    ghost is_none = { λ digests. digests.children ≡ None };
+
+    fn made(answer: Digests) -> Result<Self, Refusal> {
+        let own = answer.own;
+        match answer.children {
+            Some(children) => Ok(Node { own, children }),
+            None => Err(Refusal::BadBody),
+        }
     }
 }
 
@@ -92,10 +96,7 @@ pub fn ask_nodes<P: Peer>(
 {
     let taken = take(left, paths.len());
     let told = side.nodes(&paths[..taken])?;
-    let mut nodes = Vec::with_capacity(side.alloc(), told.len())?;
-    for answer in told {
-        nodes.push(inner(answer?)?)?;
-    }
+    let nodes = made_all(side.alloc(), told)?;
     are_all(taken, paths.len())?;
     Ok(nodes)
 }
@@ -120,10 +121,7 @@ pub fn ask_pages<P: Peer>(
 {
     let taken = take(left, asked.len());
     let told = side.pages(&asked[..taken])?;
-    let mut listings = Vec::with_capacity(side.alloc(), told.len())?;
-    for answer in told {
-        listings.push(Listing::of_page(None, answer?)?)?;
-    }
+    let listings = made_all(side.alloc(), told)?;
     are_all(taken, asked.len())?;
     Ok(listings)
 }
@@ -146,10 +144,7 @@ pub fn ask_gets<P: Peer>(
 {
     let taken = take(left, keys.len());
     let told = side.get_all(&keys[..taken])?;
-    let mut states = Vec::with_capacity(side.alloc(), told.len())?;
-    for answer in told {
-        states.push(answer?)?;
-    }
+    let states = made_all(side.alloc(), told)?;
     are_all(taken, keys.len())?;
     Ok(states)
 }

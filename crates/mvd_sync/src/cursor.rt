@@ -9,6 +9,7 @@ ghost use Rattle.mvd_sync.specs.Sides.{two};
 
 use crate::asking::take_one;
 use crate::levels::is_same;
+use crate::made::Made;
 use crate::peer::{Page, Peer};
 use mvd_dots::Refusal;
 use mvd_keys::{Key, Path};
@@ -163,6 +164,18 @@ impl Listing {
             (None, Some(_)) => Some(Ordering::Greater),
             (Some(first), Some(second)) => Some(first.0.cmp(&second.0)),
         }
+    }
+}
+
+/// A page whose keys do not rise, or with more without a key, is none.
+impl Made<Page> for Listing {
+    ghost is_of = { λ page listing. (listing ≡ (page.0.items, page.1))
+        × IsPage None listing.0 listing.1 × (length listing.0 < 2 ^ 64) };
+
+    ghost is_none = { λ page. IsPage None page.0.items page.1 → ⊥ };
+
+    fn made(answer: Page) -> Result<Self, Refusal> {
+        Listing::of_page(None, answer)
     }
 }
 

@@ -6,7 +6,7 @@ use mvd_dots::Refusal;
 use mvd_keys::{Key, KeyState};
 use mvd_rows::Defs;
 use mvd_site::{Config, Site};
-use mvd_sync::{Duplex, Remote, SyncFault};
+use mvd_sync::{Duplex, Peer, Remote, SyncFault};
 use mvd_wire::{Request, decode_request};
 use std::alloc::Global;
 use std::test::Fail;

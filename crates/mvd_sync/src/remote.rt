@@ -1,6 +1,6 @@
 //! A site at the other end of a connection.
 mod answer;
-mod side;
+mod far_side;
 mod window;
 
 ghost use Rattle.std.specs.Prelude.{◌≡◌, ◌⊎◌, [], IfOk, None, Some, Ok};

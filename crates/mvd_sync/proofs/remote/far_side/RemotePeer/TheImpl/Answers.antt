@@ -12,7 +12,7 @@ use Rattle.mvd_sync.specs.Windows.{IsNode}
 use Rattle.mvd_sync.proofs.FarSides.{all_not_of_key, all_right, bucket_asks, get_asks, node_asks, on_ok, one_kept, one_not_of_key, one_right, push_cause, push_leaves, push_taken, pushes_not_of_key, still_so, window_first, window_kept, window_not_of_key, window_pushed}
 use Rattle.mvd_sync.proofs.OneByOne.{always}
 use Rattle.mvd_sync.proofs.RemoteSides.{link_asked, link_ends, link_told, one_answers, one_refuses}
-use Rattle.mvd_sync.proofs.remote.side.RemotePeer.TheImpl.Goals as goal
+use Rattle.mvd_sync.proofs.remote.far_side.RemotePeer.TheImpl.Goals as goal
 
 pub nodes-tells : goal.nodes-tells
 nodes-tells g c =

@@ -303,10 +303,8 @@ pub record MayStore (setting : Setting) (before : Knowledge) (step : Step) (outc
 pub record Reopens (setting : Setting) (before : Knowledge) (site : ℕ) (after : Knowledge) : Type 0 where
   pub there : is_site setting site ≡ true
   pub is : after ≡ record {
-    known = before.known;
-    broken = becomes before.broken site false;
-    messages = before.messages;
-    made = before.made;
+    known = before.known; broken = becomes before.broken site false;
+    messages = before.messages; made = before.made;
   }
 
 -- what happens to sites that are stored: a step with its outcome, or a site is opened again

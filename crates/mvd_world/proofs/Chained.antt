@@ -46,7 +46,7 @@ one_more setting steps step outcomes outcome old new so_far takes short =
 
 -- ---- what follows
 
-pub leads_to : (setting : Setting) (steps : List Step) (outcomes : List Outcome) (world : World) (Holds : Knowledge → Type 0) → SoFar setting steps outcomes world → ((end : Knowledge) → IsWorld setting world end → Holds end) 
+pub leads_to : (setting : Setting) (steps : List Step) (outcomes : List Outcome) (world : World) (Holds : Knowledge → Type 0) → SoFar setting steps outcomes world → ((end : Knowledge) → IsWorld setting world end → Holds end)
     → (end : Knowledge) × (Runs setting nothing_yet steps outcomes end × (IsWorld setting world end × Holds end))
 leads_to setting steps outcomes world Holds so_far follows = (so_far.end, (so_far.runs, (so_far.stands, follows so_far.end so_far.stands)))
 

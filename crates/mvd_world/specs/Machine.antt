@@ -302,10 +302,7 @@ pub record MayStore (setting : Setting) (before : Knowledge) (step : Step) (outc
 -- a site is opened again: it is whole, and knows what it has stored
 pub record Reopens (setting : Setting) (before : Knowledge) (site : ℕ) (after : Knowledge) : Type 0 where
   pub there : is_site setting site ≡ true
-  pub is : after ≡ record {
-    known = before.known; broken = becomes before.broken site false;
-    messages = before.messages; made = before.made;
-  }
+  pub is : after ≡ record before { broken = becomes before.broken site false }
 
 -- what happens to sites that are stored: a step with its outcome, or a site is opened again
 pub data Event : Type 0 where

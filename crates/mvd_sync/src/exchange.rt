@@ -129,7 +129,7 @@ fn carry<S: Peer>(
         IfErr result
         (λ refusal. ComesToEnd s (TakesInFirst s pairs side.old side.new refusal) (length pairs)
         (with_left side.old left.old) side.new refusal) }
-    ensures alone { IfErr result (λ _. filter_map (pair_of name) meetings.items ≡ [] → side.new ≡ side.old) }
+    ensures unasked { IfErr result (λ _. filter_map (pair_of name) meetings.items ≡ [] → side.new ≡ side.old) }
 {
     let (meetings, pairs) = match taken(alloc, meetings, name) {
         Ok(both) => both,

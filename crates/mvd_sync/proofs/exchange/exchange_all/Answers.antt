@@ -15,7 +15,7 @@ returns-in-Err-carry g c =
     let p = side_of g.P.Peer in
     ends_at_local l p c.args.number c.args.entries.items g.met.L.Peer.follows_on g.met.P.Peer.follows_on g.met.L.Peer.most_stays g.met.P.Peer.most_stays g.met.L.Peer.in_form g.met.P.Peer.in_form
     c.args.left.now c.plans.new.left c.args.local.now c.plans.new.local c.args.peer.now c.plans.new.peer c.in-Ok.meetings.items c.in-Ok.ensures.plans
-    _ c.carry.new.side c.in-Err-carry.refusal c.in-Err-carry.ensures.ended c.in-Err-carry.ensures.alone
+    _ c.carry.new.side c.in-Err-carry.refusal c.in-Err-carry.ensures.ended c.in-Err-carry.ensures.unasked
 
 pub returns-in-Err-carry-2 : goal.returns-in-Err-carry-2
 returns-in-Err-carry-2 g c =
@@ -23,7 +23,7 @@ returns-in-Err-carry-2 g c =
     let p = side_of g.P.Peer in
     ends_at_peer l p c.args.number c.args.entries.items g.met.L.Peer.follows_on g.met.P.Peer.follows_on g.met.L.Peer.most_stays g.met.P.Peer.most_stays g.met.L.Peer.in_form g.met.P.Peer.in_form
     c.args.left.now c.plans.new.left c.args.local.now c.plans.new.local c.args.peer.now c.plans.new.peer c.in-Ok.meetings.items c.in-Ok.ensures.plans
-    c.in-Ok-carry.meetings.items c.carry.new.left c.carry.new.side c.in-Ok-carry.ensures.told _ c.carry-2.new.side c.in-Err-carry-2.refusal c.in-Err-carry-2.ensures.ended c.in-Err-carry-2.ensures.alone
+    c.in-Ok-carry.meetings.items c.carry.new.left c.carry.new.side c.in-Ok-carry.ensures.told _ c.carry-2.new.side c.in-Err-carry-2.refusal c.in-Err-carry-2.ensures.ended c.in-Err-carry-2.ensures.unasked
 
 pub returns-in-Ok-carry-2 : goal.returns-in-Ok-carry-2
 returns-in-Ok-carry-2 g c =

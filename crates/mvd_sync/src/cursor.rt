@@ -1,6 +1,6 @@
 //! What a session has left of a side's page of a bucket.
 ghost use Rattle.std.specs.Prelude.{◌≡◌, ◌≢◌, ◌+◌, ◌-◌, ◌*◌, ◌≤◌, [], ◌∷◌, length, IfOk, IfErr, IfSome, IfNone, OnSome};
-ghost use Rattle.std.specs.Prelude.{◌<◌, ◌^◌, OnOk, OnErr, MatchOption, option_copied, true, IsTrue, ◌↔◌};
+ghost use Rattle.std.specs.Prelude.{None, ◌<◌, ◌^◌, OnOk, OnErr, MatchOption, option_copied, true, IsTrue, ◌↔◌};
 ghost use Rattle.mvd_tree.specs.Page.{is_after};
 ghost use Rattle.mvd_sync.specs.Answers.{IsPage, Rises, TakesLesser, order_of_first};
 ghost use Rattle.mvd_sync.specs.Questions.{ComesToEnd, Fetches, Fills, Keeps, with_left};

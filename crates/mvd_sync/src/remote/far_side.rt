@@ -1,6 +1,7 @@
 //! A site at the other end of a connection, as a side of a session.
 ghost use Rattle.std.specs.Prelude.{◌≡◌, IfOk, None, Some};
 ghost use Rattle.std.specs.Option.{option_copied};
+ghost use Rattle.mvd_dots.specs.declared.refusals.Refusal.{Refusal};
 ghost use Rattle.mvd_wire.specs.declared.request.Request.TheVariants.{Bucket};
 ghost use Rattle.mvd_wire.specs.Codec.{Gives};
 ghost use Rattle.mvd_wire.specs.Requests.{IsRequest, request_frame};

@@ -24,12 +24,6 @@ for_each_more P [] (t ∷ ts) q a h i = absurd h
 for_each_more P (p ∷ qs) [] q a h i = absurd h
 for_each_more P (p ∷ qs) (t ∷ ts) q a h i = (h.0, for_each_more P qs ts q a h.1 i)
 
-pub for_each-append : {Q A : Type 0} (P : Q → A → Type 0) (qs : List Q) (ts : List A) (ps : List Q) (us : List A) → ForEach P qs ts → ForEach P ps us → ForEach P (qs ++ ps) (ts ++ us)
-for_each-append P [] [] ps us h i = i
-for_each-append P [] (t ∷ ts) ps us h i = absurd h
-for_each-append P (q ∷ qs) [] ps us h i = absurd h
-for_each-append P (q ∷ qs) (t ∷ ts) ps us h i = (h.0, for_each-append P qs ts ps us h.1 i)
-
 -- what is so of each answer is so of what was made of it
 pub passed : {Q A B : Type 0} (M : Q → A → Type 0) (P : Type 0) (T : Refusal → Type 0) (R : A → B → Type 0) (N : Q → B → Type 0) → ((q : Q) (a : A) (b : B) → M q a → P → R a b → N q b)
     → (qs : List Q) (ts : List (Result A Refusal)) (bs : List B) → EachAnswer M qs ts → EachTold P T ts → ForEach (Passes R) ts bs → ForEach N qs bs

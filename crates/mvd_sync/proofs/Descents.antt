@@ -150,49 +150,6 @@ module _ {L P : Type 0} (l : SideOf L) (p : SideOf P)
     kept_peer = λ t. let k = q.kept t in keeps_on p peer peer1 peer2 k (e.kept_peer k.still);
   }
 
-  -- the local side came to an end, or the peer
-  pub local_ends : (questions : ℕ) (self : (s : P) → p.follows 0 s s) (left : Questions) (local local' : L) (peer : P) (refusal : Refusal) → ComesToEnd l (Keeps l local local') questions (with_left local left.local) local' refusal → ReadsEndBy l p (λ asked. asked ≤ questions) left local local' peer peer (Local refusal)
-  local_ends questions self left local local' peer refusal e = record {
-    asked_local = e.asked;
-    asked_peer = 0;
-    wanted_local = e.wanted;
-    wanted_peer = 0;
-    within = (e.within, omega arith);
-    few = (e.few, omega arith);
-    follows = (e.follows, self peer);
-    cause = e.cause;
-    kept_local = e.right;
-    kept_peer = λ t. record { still = t; states = refl };
-  }
-
-  pub peer_ends : (questions : ℕ) (self : (s : L) → l.follows 0 s s) (left : Questions) (local : L) (peer peer' : P) (refusal : Refusal) → ComesToEnd p (Keeps p peer peer') questions (with_left peer left.peer) peer' refusal → ReadsEndBy l p (λ asked. asked ≤ questions) left local local peer peer' (Peer refusal)
-  peer_ends questions self left local peer peer' refusal e = record {
-    asked_local = 0;
-    asked_peer = e.asked;
-    wanted_local = 0;
-    wanted_peer = e.wanted;
-    within = (omega arith, e.within);
-    few = (omega arith, e.few);
-    follows = (self local, e.follows);
-    cause = e.cause;
-    kept_local = λ t. record { still = t; states = refl };
-    kept_peer = e.right;
-  }
-
-  pub memory_ends : (self : (s : L) → l.follows 0 s s) (self' : (s : P) → p.follows 0 s s) (left : Questions) (local : L) (peer : P) (refusal : Refusal) → refusal ≡ Memory → ReadsEndBy l p (λ asked. asked ≤ 0) left local local peer peer (Local refusal)
-  memory_ends self self' left local peer refusal is = record {
-    asked_local = 0;
-    asked_peer = 0;
-    wanted_local = 0;
-    wanted_peer = 0;
-    within = (omega arith, omega arith);
-    few = (omega arith, omega arith);
-    follows = (self local, self' peer);
-    cause = of_memory is;
-    kept_local = λ t. record { still = t; states = refl };
-    kept_peer = λ t. record { still = t; states = refl };
-  }
-
   -- ---- a window more
 
   pub nothing_asked : (self : (s : L) → l.follows 0 s s) (self' : (s : P) → p.follows 0 s s) (left : Questions) (local : L) (peer : P) (below : List (List ℕ)) → below ≡ [] → DescendsBy l p [] left left local local peer peer below

@@ -70,9 +70,6 @@ no_pairs [] e = refl
 no_pairs (x ∷ xs) e = absurd (omega arith)
 
 module _ {S : Type 0} (s : SideOf S) (pairs : List Pair) (left : ℕ) (old : S) where
-  pub none_pushed : s.follows 0 old old → FrontPushed s pairs pairs [] left left old old
-  none_pushed self = record { done = []; whole = refl; spent = omega arith; follows = self; many = refl; took = λ t. (t, refl) }
-
   none_taken : (refusal : Refusal) → s.is_faithful old → TakesInFirst s pairs old old refusal
   none_taken refusal t = record { still = λ _. t; pushes = (0, [], s.states old, refl, λ _. refl) }
 

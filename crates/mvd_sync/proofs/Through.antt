@@ -99,9 +99,6 @@ module _ {L P A : Type 0} (l : SideOf L) (p : SideOf P) (number : Option ℕ) (a
     (first : FindsBy {A = Unit {0}} l p number a b done ps firsts1 asked_l1 asked_p1 local1 peer1 most_local most_peer before at (Ok (tt {0})))
     (result : Result A SyncFault)
     (second : FindsBy l p number a b (done ++ first.ends.goes_on.now) qs firsts2 asked_l2 asked_p2 local2 peer2 most_local most_peer at after result) where
-  found_both : List Entry
-  found_both = first.found ++ second.found
-
   keys_both : (length (before.waiting ++ (first.found ++ second.found)) ≡ length (before.waiting ++ first.found) + length second.found) × (length (at.waiting ++ second.found) ≡ length at.waiting + length second.found)
   keys_both = (
     ap length (sym (append_assoc before.waiting first.found second.found)) ∙ length-append (before.waiting ++ first.found) second.found,

@@ -38,11 +38,6 @@ turns_more_at kind all i why d replies us reply old mid new low at told before t
     let longer : take (i + 1) all ≡ take i all ++ why ∷ [] = take_more all i d low ∙ ap (λ x. take i all ++ x ∷ []) (sym at) in
     subst (λ (ns : List (Option Refusal)). TakeTurns kind ns us old new) (sym longer) (subst (λ (us : List (Result Reply Refusal)). TakeTurns kind (take i all ++ why ∷ []) us old new) (sym told) (turns_more kind (take i all) replies why reply old mid new before turn))
 
--- memory was refused for the reply that came
-pub breaks_for_memory : (kind : ℕ) (all : List (Option Refusal)) (i : ℕ) (why d : Option Refusal) (replies : List (Result Reply Refusal)) (reply : Result Reply Refusal) (old mid new : Option (List ℕ)) → i < length all → why ≡ get_or all i d → TakeTurns kind (take i all) replies old mid → TakesTurn kind why reply mid new → TurnBreaks kind all old new Memory
-breaks_for_memory kind all i why d replies reply old mid new low at before turn =
-    (i + 1, replies ++ reply ∷ [], new, turns_more_at kind all i why d replies (replies ++ reply ∷ []) reply old mid new low at refl before turn, of_reader (inr refl))
-
 -- ---- a window
 
 -- all were answered, and this was made of it

@@ -76,10 +76,6 @@ each_meeting : (P : List ℕ → Type 0) (ms : List Meeting) → Each P (meeting
 each_meeting P [] h = tt
 each_meeting P (m ∷ ms) h = (h.0, each_meeting P ms h.1)
 
-meeting_each : (P : List ℕ → Type 0) (ms : List Meeting) → Each (λ (m : Meeting). P m.key) ms → Each P (meeting_keys ms)
-meeting_each P [] h = tt
-meeting_each P (m ∷ ms) h = (h.0, meeting_each P ms h.1)
-
 each_ask : (P : List ℕ → Type 0) (side : Side) (ms : List Meeting) → Each (λ (m : Meeting). P m.key) ms → Each (λ (q : Ask). P q.0) (asks_of side ms)
 each_ask P side [] h = tt
 each_ask P side (m ∷ ms) h = (h.0, each_ask P side ms h.1)

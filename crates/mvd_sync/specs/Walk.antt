@@ -20,10 +20,6 @@ pub record DigestsTell (path : List ℕ) (a b : States) : Type 0 where
   pub keys : (key : Key) → IsTrue (is_under path key) → get (digests a) key ≡ get (digests b) key
       → get a key ≡ get b key
 
--- the key stands under a path
-abbrev pub IsBelow : List ℕ → Key → Type 0
-IsBelow path key = IsTrue (is_under path key)
-
 -- ---- questions that change nothing
 
 -- one of two sides, with the questions that are left for it

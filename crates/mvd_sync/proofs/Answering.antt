@@ -4,7 +4,7 @@ use Rattle.std.specs.Prelude.{Bool, ◌^◌, None, Some, Contains, Result, Ok, E
 use Rattle.std.specs.declared.vec.Vec.{Vec}
 use Rattle.std.specs.declared.alloc.Global.{Global}
 use Rattle.mvd_wire.specs.declared.reply.Digests.{Digests}
-use Rattle.mvd_sync.specs.Answers.{IsPage, ListingValue, PageEntry}
+use Rattle.mvd_sync.specs.Answers.{IsPage, ListingValue}
 use Rattle.mvd_sync.specs.declared.asking.Node.{Node}
 use Rattle.mvd_dots.specs.declared.refusals.Refusal.{Refusal}
 use Rattle.mvd_dots.specs.declared.refusals.Refusal.TheVariants.{BadPath, Memory, TooManyRequests}
@@ -177,7 +177,7 @@ module _ {S Q : Type 0} (s : SideOf S) (qs : List Q) (left left' taken : ℕ) (o
       let U = HasAnswered s.follows s.can_answer old new in
       let R = HasRefused s.follows s.can_refuse old new in
       let none : s.is_faithful old → is_of_question refusal ≡ false =
-          λ t. told_in (Unit {0}) (λ r. is_of_question r ≡ false) answers refusal (apart t) here in
+      λ t. told_in (Unit {0}) (λ r. is_of_question r ≡ false) answers refusal (apart t) here in
       ended_by T refusal count (of_side (told_in U R answers refusal told here) none) none then
   ended_making T IsNone answers refusal count told apart right then (inr (inr (bad, a, here, none))) =
       ended_by T refusal count (of_answer bad (λ t. right t a here none)) (λ _. ap is_of_question bad) then

@@ -1,15 +1,10 @@
 -- Paths below a path, and what equal digests mean there.
-use Rattle.std.proofs.Common.{◌≡◌, ℕ, zero, suc, ◌-◌, ◌<◌, ◌≤◌, true, false, ◌&&◌, ◌==◌, List, [], ◌∷◌, ◌++◌, length, get_or, refl, sym, ap, ◌∙◌, arith, length-append}
-use Rattle.std.specs.Prelude.{IsTrue, option_map}
-use Rattle.std.specs.Cmp.{nat_eq_equiv, unsigned_Decides}
-use Rattle.std.specs.FinMap.{get}
+use Rattle.std.proofs.Common.{◌≡◌, ℕ, zero, suc, ◌<◌, ◌≤◌, List, [], ◌∷◌, ◌++◌, length, get_or, refl, ap, ◌∙◌, arith}
+use Rattle.std.specs.Prelude.{IsTrue}
 use Rattle.mvd_site.specs.Held.{States}
-use Rattle.mvd_site.specs.Answer.{digests, spelled}
-use Rattle.mvd_tree.specs.HashTree.{path_of_key, begins, is_under, KeyDigests, digits, node_digest}
-use Rattle.mvd_tree.specs.States.{key_digest}
+use Rattle.mvd_site.specs.Answer.{digests}
+use Rattle.mvd_tree.specs.HashTree.{begins, KeyDigests, digits, node_digest}
 use Rattle.mvd_tree.specs.Hashed.{SameUnder}
-use Rattle.mvd_tree.proofs.Under.{digest_above-same, begins-less}
-use Rattle.mvd_tree.proofs.KeyDigests.{get-digests_of}
 use Rattle.std.proofs.lemmas.List.{get_or-map}
 use Rattle.mvd_tree.specs.Page.{children_digests}
 use Rattle.mvd_sync.specs.Walk.{DigestsTell}

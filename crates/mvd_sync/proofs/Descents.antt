@@ -1,15 +1,13 @@
 -- One level of the walk after the other.
-use Rattle.std.proofs.Common.{◌≡◌, ◌≢◌, ℕ, zero, suc, ◌+◌, ◌<◌, ◌≤◌, List, [], ◌∷◌, ◌++◌, length, take, get_or, refl, sym, ap, subst, ◌∙◌, arith, add-one, append_assoc, length-append, true, false}
+use Rattle.std.proofs.Common.{◌≡◌, ◌≢◌, ℕ, zero, suc, ◌+◌, ◌<◌, List, [], ◌∷◌, ◌++◌, length, take, get_or, refl, sym, ap, subst, ◌∙◌, arith, add-one, append_assoc, length-append, true, false}
 use Rattle.std.proofs.Math.Seq.{take-suc}
 use Rattle.std.proofs.lemmas.List.{append-nil, length-take}
-use Rattle.mvd_dots.specs.declared.refusals.Refusal.{Refusal}
-use Rattle.mvd_dots.specs.declared.refusals.Refusal.TheVariants.{Memory}
 use Rattle.mvd_site.specs.Answer.{digests}
 use Rattle.mvd_tree.specs.HashTree.{KeyDigests}
 use Rattle.mvd_sync.specs.Nodes.{differing_children}
-use Rattle.mvd_sync.specs.Questions.{AllAnswered, AnswersEach, ComesToEnd, ForEach, IsInner, Keeps, with_left}
+use Rattle.mvd_sync.specs.Questions.{AllAnswered, AnswersEach, ForEach, IsInner, with_left}
 use Rattle.mvd_sync.specs.Session.{Each}
-use Rattle.mvd_sync.specs.Sides.{HasAnswered, IsFaultOf, SideOf, of_memory}
+use Rattle.mvd_sync.specs.Sides.{HasAnswered, IsFaultOf, SideOf}
 use Rattle.mvd_sync.specs.Walk.{Reads, told, told_all}
 use Rattle.mvd_sync.specs.declared.asking.Node.{Node}
 use Rattle.mvd_sync.specs.declared.asking.Questions.{Questions}

@@ -1,12 +1,12 @@
 -- Pages that are asked for.
-use Rattle.std.proofs.Common.{◌≡◌, ℕ, ◌+◌, ◌<◌, ◌^◌, Bool, false, List, [], ◌∷◌, map, length, drop, get_or, Option, None, refl, sym, ap, subst, ◌∙◌, arith, length-drop}
+use Rattle.std.proofs.Common.{◌≡◌, ℕ, ◌+◌, ◌<◌, ◌^◌, false, List, [], ◌∷◌, map, length, drop, get_or, Option, None, refl, sym, ap, subst, ◌∙◌, arith, length-drop}
 use Rattle.std.proofs.lemmas.List.{drop-drop, get_or-drop, length-map}
 use Rattle.std.specs.Prelude.{IfErr, Result, Ok, Err}
 use Rattle.mvd_dots.specs.declared.refusals.Refusal.{Refusal}
 use Rattle.mvd_dots.specs.declared.refusals.Refusal.TheVariants.{BadBody}
 use Rattle.mvd_site.specs.Answer.{digests}
 use Rattle.mvd_tree.specs.HashTree.{KeyDigests}
-use Rattle.mvd_sync.specs.Answers.{IsPage, IsPageOf, ListingValue, PageEntry}
+use Rattle.mvd_sync.specs.Answers.{IsPage, IsPageOf, ListingValue}
 use Rattle.mvd_sync.specs.Buckets.{ArePages, IsSpent}
 use Rattle.mvd_sync.specs.Questions.{AllAnswered, AnswersEach, ComesToEnd, Fills, ForEach, Keeps, with_left}
 use Rattle.mvd_sync.specs.Session.{Each}

@@ -1,18 +1,14 @@
 -- Joins of the states of a key that two sides hold.
-use Rattle.std.proofs.Common.{◌≡◌, ℕ, not, true≢false, Bool, true, false, ◌&&◌, ◌==◌, List, refl, sym, ap, ◌∙◌, Some, None, Option}
-use Rattle.std.specs.Prelude.{unwrap_or, bytes_eq}
-use Rattle.std.proofs.lemmas.Slice.Eq.{bytes_eq-Decides}
+use Rattle.std.proofs.Common.{◌≡◌, ℕ, Bool, true, false, ◌&&◌, ◌==◌, List, refl, sym, ap, ◌∙◌, Some, None}
+use Rattle.std.specs.Prelude.{unwrap_or}
 use Rattle.std.specs.Cmp.{unsigned_Decides}
 use Rattle.std.specs.FinMap.{get, empty_of_len, len, len-empty}
-use Rattle.std.specs.FinSet.{contains}
 use Rattle.std.specs.FinSet as set
 use Rattle.mvd_dots.specs.Dot.{dot_cmp}
-use Rattle.mvd_keys.specs.State.{State, IsValid, Text, clashes, differ, empty_state, join}
+use Rattle.mvd_keys.specs.State.{State, IsValid, Text, clashes, empty_state, join}
 use Rattle.mvd_keys.specs.Writes.{is_empty}
-use Rattle.mvd_keys.proofs.Joins.{apart_at, join_commutes, join_groups, join_repeats}
+use Rattle.mvd_keys.proofs.Joins.{join_commutes, join_groups, join_repeats}
 use Rattle.mvd_keys.proofs.Lists.{IsValid-empty}
-use Rattle.mvd_keys.proofs.Sets.{never, same_document}
-use Rattle.mvd_keys.proofs.StatesOfWrites.{get-join, join_at}
 use Rattle.mvd_site.specs.Held.{AreHeld, States, state_at}
 use Rattle.mvd_sync.specs.Session.{is_nothing}
 

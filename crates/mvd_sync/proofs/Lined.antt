@@ -15,7 +15,7 @@ use Rattle.mvd_wire.specs.Requests.{IsRequest, request_frame}
 use Rattle.mvd_site.specs.Held.{States}
 use Rattle.mvd_sync.specs.LinkWindows.{Answers, Frames, and_frame, frames_after, frames_of}
 use Rattle.mvd_sync.specs.Lines.{AllToldTruly, AnswersTruly, AreFrames, AreSpelled, DueTurn, DueTurns, EndsOpen, Far, IsNext, IsSettled, IsSpelled, IsTaken, IsTrueRemote, MayTake, SettleTruly, SettlesTruly, TakesAll, TakesDue, TakesFirst, TellsAllTruly, ToldTruly, Took, TrueReplies, TrueReply, and_framed, framed}
-use Rattle.mvd_sync.specs.Links.{AsksFor, Link, ReadsReply, Refuses, Sends, answered_by}
+use Rattle.mvd_sync.specs.Links.{ReadsReply}
 use Rattle.mvd_sync.specs.Questions.{ForEach}
 use Rattle.mvd_sync.specs.Windows.{leaves_open}
 use Rattle.mvd_sync.specs.declared.remote.Remote.{Remote}

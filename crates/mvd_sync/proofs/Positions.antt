@@ -1,5 +1,5 @@
 -- The relations of a session, of sides, states and numbers one by one.
-use Rattle.std.specs.Prelude.{ℕ, Bool, List, Option, Result, Vec}
+use Rattle.std.specs.Prelude.{ℕ, List, Option, Result, Vec}
 use Rattle.mvd_dots.specs.declared.refusals.Refusal.{Refusal}
 use Rattle.mvd_keys.specs.Writes.{Key}
 use Rattle.mvd_site.specs.Held.{States}

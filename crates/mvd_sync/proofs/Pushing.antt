@@ -9,7 +9,7 @@ use Rattle.mvd_keys.specs.State.{State}
 use Rattle.mvd_keys.specs.Writes.{Key}
 use Rattle.mvd_sync.specs.Questions.{AllAnswered, ComesToEnd, ForEach, IsOfKey, TakesIn, TakesInFirst, with_left}
 use Rattle.mvd_sync.specs.Sides.{HasAnswered, HasRefused, SideOf, is_of_key, is_of_question, of_memory, of_questions, of_side}
-use Rattle.mvd_sync.specs.Windows.{EachAnswer, EachTold, Ends, Pushes, PushesFirst}
+use Rattle.mvd_sync.specs.Windows.{EachAnswer, Ends, Pushes, PushesFirst}
 use Rattle.mvd_sync.proofs.Answering.{told_in}
 use Rattle.mvd_sync.proofs.Compose.{ends_for_memory, refused_later}
 use Rattle.mvd_sync.proofs.ManyPushes.{first_later, pushes-append, pushes_apart}

@@ -1,5 +1,5 @@
 -- Windows over a link.
-use Rattle.std.proofs.Common.{◌≡◌, ◌⊎◌, inr, ℕ, ◌+◌, ◌<◌, List, [], ◌∷◌, ◌++◌, length, map, take, get_or, refl, sym, ap, subst, ◌∙◌}
+use Rattle.std.proofs.Common.{◌≡◌, ◌⊎◌, ℕ, ◌+◌, ◌<◌, List, [], ◌∷◌, ◌++◌, length, map, take, get_or, refl, sym, ap, subst, ◌∙◌}
 use Rattle.std.specs.Prelude.{Option, Result, Ok, Err, IfOk, IfErr, MatchResult, Contains}
 use Rattle.std.proofs.lemmas.List.{map-append, take_more}
 use Rattle.mvd_dots.specs.declared.refusals.Refusal.{Refusal}
@@ -8,8 +8,8 @@ use Rattle.mvd_wire.specs.declared.request.Request.{Request}
 use Rattle.mvd_wire.specs.declared.reply.Reply.{Reply}
 use Rattle.mvd_wire.specs.declared.reply.Reply.TheVariants.{Refused}
 use Rattle.mvd_wire.specs.Requests.{request_frame}
-use Rattle.mvd_sync.specs.LinkWindows.{Answered, Answers, AsksAll, Frames, RefusesAll, TakesTurn, TakeTurns, TurnBreaks, and_frame, frames_after, frames_of, of_answer}
-use Rattle.mvd_sync.specs.Links.{Link, of_reader}
+use Rattle.mvd_sync.specs.LinkWindows.{Answered, Answers, AsksAll, Frames, RefusesAll, TakesTurn, TakeTurns, and_frame, frames_after, frames_of, of_answer}
+use Rattle.mvd_sync.specs.Links.{Link}
 use Rattle.mvd_sync.specs.Questions.{ForEach}
 
 -- ---- what goes out

@@ -1,5 +1,5 @@
 -- The buckets that differ are gone over, and the keys that differ in them are exchanged.
-use Rattle.std.specs.Prelude.{◌≡◌, ◌≢◌, ◌<◌, ◌≤◌, ◌+◌, ◌*◌, ℕ, Bool, true, false, cond, List, [], ◌∷◌, ◌++◌, length}
+use Rattle.std.specs.Prelude.{◌≡◌, ◌≢◌, ◌<◌, ◌≤◌, ◌+◌, ◌*◌, ℕ, true, false, cond, List, [], ◌∷◌, ◌++◌, length}
 use Rattle.std.specs.Prelude.{Option, None, IsTrue, Result, OnOk, MatchResult}
 use Rattle.std.specs.FinMap.{entries, get}
 use Rattle.mvd_keys.specs.Writes.{Key}

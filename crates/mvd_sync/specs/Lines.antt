@@ -1,10 +1,8 @@
 -- A line to a far side: the frames of requests go out, and those of its replies come in. A true one is what a transport
 -- is that hands on what is written and what is read, where the far side is faithful.
 use Rattle.std.proofs.Common.{refl, ◌∙◌}
-use Rattle.std.specs.Prelude.{◌≡◌, ◌≢◌, ◌⊎◌, ℕ, Bool, true, false, List, [], ◌∷◌, ◌++◌, take, Option, Some, None}
-use Rattle.std.specs.Prelude.{IfSome, Result, Ok, Err, IfOk, IfErr, MatchResult}
-use Rattle.std.specs.declared.alloc.Global.{Global}
-use Rattle.std.specs.declared.vec.Vec.{Vec}
+use Rattle.std.specs.Prelude.{◌≡◌, ◌≢◌, ◌⊎◌, ℕ, true, false, List, [], ◌∷◌, ◌++◌, take, Option, Some, None}
+use Rattle.std.specs.Prelude.{IfSome, Result, Ok, Err, IfOk, IfErr}
 use Rattle.mvd_dots.specs.declared.refusals.Refusal.{Refusal}
 use Rattle.mvd_dots.specs.declared.refusals.Refusal.TheVariants.{Broken, Memory}
 use Rattle.mvd_keys.specs.State.{State}
@@ -21,8 +19,6 @@ use Rattle.mvd_wire.specs.Requests.{IsRequest, request_frame}
 use Rattle.mvd_wire.specs.Replies.{reply_of}
 use Rattle.mvd_site.specs.Answer.{digests}
 use Rattle.mvd_site.specs.Held.{States, state_at}
-use Rattle.mvd_sync.specs.LinkWindows.{AsksForAll}
-use Rattle.mvd_sync.specs.Links.{Asks, AsksFor, link}
 use Rattle.mvd_sync.specs.Sides.{Stays, is_of_question, stays_on}
 use Rattle.mvd_sync.specs.Windows.{CannotTake, IsNode, PageValue, RefusesPage, Takes, leaves_open}
 use Rattle.mvd_sync.specs.declared.remote.Remote.{Remote}
@@ -147,9 +143,10 @@ remote_follows_self far remote = (λ _. refl, refl)
 
 pub remote_follows_on : {L : Type 0} (far : L → Far) (old mid new : Remote L) → RemoteFollows far old mid
     → RemoteFollows far mid new → RemoteFollows far old new
-remote_follows_on {L} far old mid new p q =
-    (stays_on (λ (remote : Remote L). (refusal : Refusal) × (remote.refused ≡ Some refusal)) old mid new p.0 q.0,
-    q.1 ∙ p.1)
+remote_follows_on {L} far old mid new p q = (
+  stays_on (λ (remote : Remote L). (refusal : Refusal) × (remote.refused ≡ Some refusal)) old mid new p.0 q.0,
+  q.1 ∙ p.1,
+)
 
 -- a request was taken, or it was not
 abbrev pub MayTake : ℕ → States → Request → States → Type 0

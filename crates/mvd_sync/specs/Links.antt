@@ -48,7 +48,7 @@ answered_by Bye = 0xA3
 abbrev pub Receives : Option (List ℕ) → Option (List ℕ) → (FrameValue → Type 0) → Type 0
 Receives old new Came =
     (bytes : List ℕ) → old ≡ Some bytes → (frame : FrameValue) × (rest : List ℕ)
-        × (frame_at bytes ≡ Ok (Some frame, rest)) × (new ≡ Some rest) × Came frame
+    × (frame_at bytes ≡ Ok (Some frame, rest)) × (new ≡ Some rest) × Came frame
 
 -- just this frame went out, and just one frame came in, of which this holds
 pub record Exchanged (old new : Link) (sent : List ℕ) (Came : FrameValue → Type 0) : Type 0 where

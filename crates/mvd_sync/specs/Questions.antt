@@ -1,5 +1,5 @@
 -- Questions to a side, of which no more are made than are left.
-use Rattle.std.specs.Prelude.{◌≡◌, ◌≢◌, ◌<◌, ◌≤◌, ◌+◌, ℕ, false, true, List, [], ◌∷◌, length, sum_by, take, Bool, ◌^◌}
+use Rattle.std.specs.Prelude.{◌≡◌, ◌≢◌, ◌<◌, ◌≤◌, ◌+◌, ℕ, false, true, List, [], ◌∷◌, length, sum_by, take, ◌^◌}
 use Rattle.std.specs.Prelude.{Option, Result, Ok, Err}
 use Rattle.mvd_dots.specs.declared.refusals.Refusal.{Refusal}
 use Rattle.mvd_dots.specs.declared.refusals.Refusal.TheVariants.{Broken}
@@ -9,7 +9,7 @@ use Rattle.mvd_tree.specs.HashTree.{KeyDigests, node_digest}
 use Rattle.mvd_tree.specs.Page.{children_digests}
 use Rattle.mvd_wire.specs.Codecs.{spell_state}
 use Rattle.mvd_site.specs.Answer.{digests}
-use Rattle.mvd_sync.specs.Answers.{IsPage, IsPageOf, ListingValue, PageEntry}
+use Rattle.mvd_sync.specs.Answers.{IsPage, IsPageOf, ListingValue}
 use Rattle.mvd_sync.specs.Sides.{Blames, SideOf, is_of_key, is_of_question}
 use Rattle.mvd_sync.specs.Windows.{Pushes, PushesFirst}
 use Rattle.mvd_sync.specs.declared.asking.Node.{Node}

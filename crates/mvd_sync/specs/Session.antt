@@ -238,10 +238,18 @@ pub record Course {L P A : Type 0} (s : Sides L P) (old : Asking L P) (new : Two
   -- a fault has a cause
   pub cause : IfErr result (IsFaultOf
       (Blames s.local (record {
-        most = old.left.local; asked = asked_local; wanted = wanted_local; old = old.at.local; new = new.local;
+        most = old.left.local;
+        asked = asked_local;
+        wanted = wanted_local;
+        old = old.at.local;
+        new = new.local;
       }))
       (Blames s.peer (record {
-        most = old.left.peer; asked = asked_peer; wanted = wanted_peer; old = old.at.peer; new = new.peer;
+        most = old.left.peer;
+        asked = asked_peer;
+        wanted = wanted_peer;
+        old = old.at.peer;
+        new = new.peer;
       })))
   -- whatever the other is, a faithful side changes by pushes of states that the other may give, and by nothing else
   pub local_side : s.local.is_faithful old.at.local → Changes (s.local.is_faithful new.local) (Local Broken)

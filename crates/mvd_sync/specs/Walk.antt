@@ -47,10 +47,18 @@ pub record ReadsEnd {L P : Type 0} (s : Sides L P) (Few : ℕ → Type 0) (old :
   pub follows : s.local.follows asked_local old.at.local new.local × s.peer.follows asked_peer old.at.peer new.peer
   pub cause : IsFaultOf
       (Blames s.local (record {
-        most = old.left.local; asked = asked_local; wanted = wanted_local; old = old.at.local; new = new.local;
+        most = old.left.local;
+        asked = asked_local;
+        wanted = wanted_local;
+        old = old.at.local;
+        new = new.local;
       }))
       (Blames s.peer (record {
-        most = old.left.peer; asked = asked_peer; wanted = wanted_peer; old = old.at.peer; new = new.peer;
+        most = old.left.peer;
+        asked = asked_peer;
+        wanted = wanted_peer;
+        old = old.at.peer;
+        new = new.peer;
       })) fault
   pub kept_local : s.local.is_faithful old.at.local → Keeps s.local old.at.local new.local
   pub kept_peer : s.peer.is_faithful old.at.peer → Keeps s.peer old.at.peer new.peer

@@ -50,5 +50,7 @@ returns-clause-told g c =
     _ _ _ c.in_ok-are_all.ensures.all asked.count
     (passed _ _ _ IsSame _ (λ q a b may told is. (subst (g.P.Peer.can_give q) (sym is) may, told)) _ _ _
     asked.may asked.told made)
-    (λ t. (let k = c.get_all.ensures.kept t in record { still = k.0; states = k.1 },
-    passed _ _ _ IsSame _ (λ q a b right told is. is ∙ right) _ _ _ (asked.right t) asked.told made))
+    (λ t. (
+      let k = c.get_all.ensures.kept t in record { still = k.0; states = k.1 },
+      passed _ _ _ IsSame _ (λ q a b right told is. is ∙ right) _ _ _ (asked.right t) asked.told made,
+    ))

@@ -50,5 +50,7 @@ returns-clause-told g c =
     c.take-taken.ensures
     _ _ _ c.in_ok-are_all.ensures.all asked.count
     (passed _ _ _ IsNodeOf _ (λ q a b may told is. told) _ _ _ asked.may asked.told made)
-    (λ t. (let k = c.nodes.ensures.kept t in record { still = k.0; states = k.1 },
-    inner_right (digests (g.P.Peer.states c.args.side.now)) _ _ _ _ _ (each-take _ _ _ c.requires.inner) (asked.right t) asked.told made))
+    (λ t. (
+      let k = c.nodes.ensures.kept t in record { still = k.0; states = k.1 },
+      inner_right (digests (g.P.Peer.states c.args.side.now)) _ _ _ _ _ (each-take _ _ _ c.requires.inner) (asked.right t) asked.told made,
+    ))

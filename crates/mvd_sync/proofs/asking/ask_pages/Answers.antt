@@ -50,6 +50,8 @@ returns-clause-told g c =
     c.take-taken.ensures
     _ _ _ c.in_ok-are_all.ensures.all asked.count
     (passed _ _ _ IsListingOf _ (λ q a b may told is. (is.1, is.2, told)) _ _ _ asked.may asked.told made)
-    (λ t. (let k = c.pages.ensures.kept t in record { still = k.0; states = k.1 },
-    passed (TellsPage (digests (g.P.Peer.states c.args.side.now))) _ _ IsListingOf _
-    (λ q a b right told is. listing_right (digests (g.P.Peer.states c.args.side.now)) q a b right is) _ _ _ (asked.right t) asked.told made))
+    (λ t. (
+      let k = c.pages.ensures.kept t in record { still = k.0; states = k.1 },
+      passed (TellsPage (digests (g.P.Peer.states c.args.side.now))) _ _ IsListingOf _
+          (λ q a b right told is. listing_right (digests (g.P.Peer.states c.args.side.now)) q a b right is) _ _ _ (asked.right t) asked.told made,
+    ))

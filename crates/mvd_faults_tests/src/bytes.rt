@@ -1,8 +1,8 @@
 //! Bytes that are no request, or those of another.
 use super::replica_calls::{Bytes, CLASH, GET, PUT, ROOM, WIDE, new_replica, replies, served_on};
 use mvd_dots::Refusal;
-use mvd_replica::Replica;
 use mvd_frames::{decode_reply, read_frame};
+use mvd_replica::Replica;
 use mvd_wire::Frame;
 use sqlite::MemStore;
 use std::alloc::Global;

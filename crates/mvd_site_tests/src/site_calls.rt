@@ -1,12 +1,12 @@
 //! Calls of a site that no script makes, and the paths of keys.
 use mvd_dots::Refusal;
+use mvd_frames::{decode_request, encode_reply};
 use mvd_kept::{Kept, Work};
 use mvd_keys::Key;
 use mvd_rows::Defs;
 use mvd_site::{Config, Site, no_work};
 use mvd_start::Start;
 use mvd_tree::key_path;
-use mvd_frames::{decode_request, encode_reply};
 use mvd_wire::{Reply, Request};
 use std::alloc::Global;
 use std::test::Fail;

@@ -1,17 +1,18 @@
 -- What is made of the answers to many questions.
 use Rattle.std.proofs.Common.{◌≡◌, inl, inr, ℕ, zero, suc, ◌<◌, ◌≤◌, ◌==◌, ◌∙◌, List, [], ◌∷◌, ◌++◌, length, take, get_or, Option, refl, sym, subst, arith, ap, false, true≢false}
-use Rattle.std.specs.Prelude.{Bool, ◌^◌, None, Some, Result, Ok, Err}
+use Rattle.std.specs.Prelude.{Bool, ◌^◌, None, Some, Contains, Result, Ok, Err}
 use Rattle.std.specs.declared.vec.Vec.{Vec}
 use Rattle.std.specs.declared.alloc.Global.{Global}
 use Rattle.mvd_wire.specs.declared.reply.Digests.{Digests}
-use Rattle.mvd_sync.specs.Answers.{Entry, IsPage}
+use Rattle.mvd_sync.specs.Answers.{IsPage, ListingValue}
 use Rattle.mvd_sync.specs.declared.asking.Node.{Node}
 use Rattle.mvd_dots.specs.declared.refusals.Refusal.{Refusal}
 use Rattle.mvd_dots.specs.declared.refusals.Refusal.TheVariants.{BadPath, Memory, TooManyRequests}
 use Rattle.std.proofs.lemmas.List.{length-take-le, take_all}
-use Rattle.mvd_sync.specs.Questions.{AllAnswered, ComesToEnd, ForEach, Keeps, Takes, AnswersEach}
+use Rattle.mvd_sync.specs.Questions.{AllAnswered, AnswersEach, ComesToEnd, ForEach, Keeps, Takes, with_left}
 use Rattle.mvd_sync.specs.Session.{Each}
-use Rattle.mvd_sync.specs.Sides.{SideOf, of_memory, of_questions, of_side, is_of_question}
+use Rattle.mvd_sync.specs.Made.{EndsMaking, Passes}
+use Rattle.mvd_sync.specs.Sides.{HasAnswered, HasRefused, SideOf, is_of_question, of_answer, of_memory, of_questions, of_side}
 use Rattle.mvd_sync.specs.Windows.{EachAnswer, EachRefusal, EachTold, Ends, RefusesPage}
 use Rattle.mvd_sync.proofs.Positions.{BlamesBy}
 
@@ -22,17 +23,6 @@ for_each_more P [] [] q a h i = (i, tt)
 for_each_more P [] (t ∷ ts) q a h i = absurd h
 for_each_more P (p ∷ qs) [] q a h i = absurd h
 for_each_more P (p ∷ qs) (t ∷ ts) q a h i = (h.0, for_each_more P qs ts q a h.1 i)
-
-pub for_each-append : {Q A : Type 0} (P : Q → A → Type 0) (qs : List Q) (ts : List A) (ps : List Q) (us : List A) → ForEach P qs ts → ForEach P ps us → ForEach P (qs ++ ps) (ts ++ us)
-for_each-append P [] [] ps us h i = i
-for_each-append P [] (t ∷ ts) ps us h i = absurd h
-for_each-append P (q ∷ qs) [] ps us h i = absurd h
-for_each-append P (q ∷ qs) (t ∷ ts) ps us h i = (h.0, for_each-append P qs ts ps us h.1 i)
-
--- what was made of each answer that is no refusal
-abbrev pub Passes : {A B : Type 0} → (A → B → Type 0) → Result A Refusal → B → Type 0
-Passes R (Ok a) b = R a b
-Passes R (Err refusal) b = ⊥
 
 -- what is so of each answer is so of what was made of it
 pub passed : {Q A B : Type 0} (M : Q → A → Type 0) (P : Type 0) (T : Refusal → Type 0) (R : A → B → Type 0) (N : Q → B → Type 0) → ((q : Q) (a : A) (b : B) → M q a → P → R a b → N q b)
@@ -48,15 +38,20 @@ passed M P T R N f (q ∷ qs) (Ok a ∷ ts) (b ∷ bs) m p r = (f q a b m.0 p.0 
 passed M P T R N f (q ∷ qs) (Err e ∷ ts) (b ∷ bs) m p r = absurd r.0
 
 -- what was told at a place
-pub told_at : {A : Type 0} (P : Type 0) (T : Refusal → Type 0) (ts : List (Result A Refusal)) (n : ℕ) (a : Result A Refusal) → EachTold P T ts → n < length ts → a ≡ get_or ts n a → EachTold P T (a ∷ [])
+told_at : {A : Type 0} (P : Type 0) (T : Refusal → Type 0) (ts : List (Result A Refusal)) (n : ℕ) (a : Result A Refusal) → EachTold P T ts → n < length ts → a ≡ get_or ts n a → EachTold P T (a ∷ [])
 told_at P T [] n a h low e = absurd (omega arith)
 told_at P T (Ok x ∷ ts) zero a h low e = subst (λ a. EachTold P T (a ∷ [])) (sym e) (h.0, tt)
 told_at P T (Err x ∷ ts) zero a h low e = subst (λ a. EachTold P T (a ∷ [])) (sym e) (h.0, tt)
 told_at P T (Ok x ∷ ts) (suc n) a h low e = told_at P T ts n a h.1 (omega arith) e
 told_at P T (Err x ∷ ts) (suc n) a h low e = told_at P T ts n a h.1 (omega arith) e
 
+-- a refusal that was told
+pub told_in : {A : Type 0} (P : Type 0) (T : Refusal → Type 0) (ts : List (Result A Refusal)) (refusal : Refusal)
+    → EachTold P T ts → Contains ts (Err refusal) → T refusal
+told_in P T ts refusal h here = (told_at P T ts here.0 (Err refusal) h here.1 (sym here.2)).0
+
 -- an answer at a place, to a question of a sort
-pub answer_at : {Q A : Type 0} (M : Q → A → Type 0) (In : Q → Type 0) (N : A → Type 0) → ((q : Q) (a : A) → In q → M q a → N a)
+answer_at : {Q A : Type 0} (M : Q → A → Type 0) (In : Q → Type 0) (N : A → Type 0) → ((q : Q) (a : A) → In q → M q a → N a)
     → (qs : List Q) (ts : List (Result A Refusal)) (n : ℕ) (a : A) → Each In qs → EachAnswer M qs ts → n < length ts → Ok a ≡ get_or ts n (Ok a) → N a
 answer_at M In N f [] [] n a i h low e = absurd (omega arith)
 answer_at M In N f [] (Ok x ∷ ts) n a i h low e = absurd h
@@ -66,6 +61,11 @@ answer_at M In N f (q ∷ qs) (Ok x ∷ ts) zero a i h low e = f q a i.0 (subst 
 answer_at M In N f (q ∷ qs) (Err x ∷ ts) zero a i h low e = absurd (cc)
 answer_at M In N f (q ∷ qs) (Ok x ∷ ts) (suc n) a i h low e = answer_at M In N f qs ts n a i.1 h.1 (omega arith) e
 answer_at M In N f (q ∷ qs) (Err x ∷ ts) (suc n) a i h low e = answer_at M In N f qs ts n a i.1 h (omega arith) e
+
+pub answer_in : {Q A : Type 0} (M : Q → A → Type 0) (In : Q → Type 0) (N : A → Type 0)
+    → ((q : Q) (a : A) → In q → M q a → N a) → (qs : List Q) (ts : List (Result A Refusal)) (a : A)
+    → Each In qs → EachAnswer M qs ts → Contains ts (Ok a) → N a
+answer_in M In N f qs ts a i h here = answer_at M In N f qs ts here.0 a i h here.1 (sym here.2)
 
 pub each-take : {X : Type 0} (P : X → Type 0) (xs : List X) (n : ℕ) → Each P xs → Each P (take n xs)
 each-take P [] zero h = tt
@@ -103,7 +103,7 @@ no_page_told (q ∷ qs) (Err r ∷ ts) deep h = (page_apart q.0 r deep.0 h.0, no
 abbrev pub IsNodeOf : Digests → Node → Type 0
 IsNodeOf digests node = (node.own ≡ digests.own) × (digests.children ≡ Some node.children)
 
-abbrev pub IsListingOf : Vec (List ℕ × List ℕ) Global × Bool → List Entry × Bool → Type 0
+abbrev pub IsListingOf : Vec (List ℕ × List ℕ) Global × Bool → ListingValue → Type 0
 IsListingOf page listing = (listing ≡ (page.0.items, page.1)) × IsPage None listing.0 listing.1 × (length listing.0 < 2 ^ 64)
 
 -- ---- the end of some questions, of which as many were asked as were left
@@ -113,7 +113,7 @@ module _ {S Q : Type 0} (s : SideOf S) (qs : List Q) (left left' taken : ℕ) (o
   asked_is = let most = takes.most in length-take-le taken qs most
 
   -- so many were asked, and this is why no more are
-  pub ended_by : (T : Type 0) (refusal : Refusal) → s.follows (length (take taken qs)) old new → BlamesBy s left taken 0 old new refusal → (s.is_faithful old → is_of_question refusal ≡ false) → (s.is_faithful old → T) → ComesToEnd s T (length qs) left old new refusal
+  pub ended_by : (T : Type 0) (refusal : Refusal) → s.follows (length (take taken qs)) old new → BlamesBy s left taken 0 old new refusal → (s.is_faithful old → is_of_question refusal ≡ false) → (s.is_faithful old → T) → ComesToEnd s T (length qs) (with_left old left) new refusal
   ended_by T refusal follows why not_of_question then = record {
     asked = taken;
     wanted = 0;
@@ -126,7 +126,7 @@ module _ {S Q : Type 0} (s : SideOf S) (qs : List Q) (left left' taken : ℕ) (o
   }
 
   -- the call itself was refused
-  pub ended_within : (T : Type 0) (refusal : Refusal) → Ends s.follows s.can_refuse (length (take taken qs)) old new refusal → (s.is_faithful old → is_of_question refusal ≡ false) → (s.is_faithful old → T) → ComesToEnd s T (length qs) left old new refusal
+  pub ended_within : (T : Type 0) (refusal : Refusal) → Ends s.follows s.can_refuse (length (take taken qs)) old new refusal → (s.is_faithful old → is_of_question refusal ≡ false) → (s.is_faithful old → T) → ComesToEnd s T (length qs) (with_left old left) new refusal
   ended_within T refusal ends not_of_question then =
       let spent = takes.spent in
       let most = takes.most in
@@ -144,7 +144,7 @@ module _ {S Q : Type 0} (s : SideOf S) (qs : List Q) (left left' taken : ℕ) (o
       }
 
   -- no more were left
-  pub ended_few : (T : Type 0) (refusal : Refusal) → refusal ≡ TooManyRequests → taken < length qs → s.follows (length (take taken qs)) old new → (s.is_faithful old → T) → ComesToEnd s T (length qs) left old new refusal
+  pub ended_few : (T : Type 0) (refusal : Refusal) → refusal ≡ TooManyRequests → taken < length qs → s.follows (length (take taken qs)) old new → (s.is_faithful old → T) → ComesToEnd s T (length qs) (with_left old left) new refusal
   ended_few T refusal is few follows then =
       let spent = takes.spent in
       let none = takes.all few in
@@ -160,12 +160,31 @@ module _ {S Q : Type 0} (s : SideOf S) (qs : List Q) (left left' taken : ℕ) (o
       }
 
   -- memory was refused
-  pub ended_memory : (T : Type 0) (refusal : Refusal) → refusal ≡ Memory → s.follows (length (take taken qs)) old new → (s.is_faithful old → T) → ComesToEnd s T (length qs) left old new refusal
+  pub ended_memory : (T : Type 0) (refusal : Refusal) → refusal ≡ Memory → s.follows (length (take taken qs)) old new → (s.is_faithful old → T) → ComesToEnd s T (length qs) (with_left old left) new refusal
   ended_memory T refusal is follows then = ended_by T refusal follows (of_memory is) (λ _. ap is_of_question is) then
+
+  -- nothing was made of an answer
+  pub ended_making : {A : Type 0} (T : Type 0) (IsNone : A → Type 0) (answers : List (Result A Refusal)) (refusal : Refusal)
+      → s.follows (length (take taken qs)) old new
+      → EachTold (HasAnswered s.follows s.can_answer old new) (HasRefused s.follows s.can_refuse old new) answers
+      → (s.is_faithful old → EachTold (Unit {0}) (λ r. is_of_question r ≡ false) answers)
+      → (s.is_faithful old → (a : A) → Contains answers (Ok a) → IsNone a → ⊥)
+      → (s.is_faithful old → T) → EndsMaking IsNone answers refusal
+      → ComesToEnd s T (length qs) (with_left old left) new refusal
+  ended_making T IsNone answers refusal count told apart right then (inl memory) =
+      ended_memory T refusal memory count then
+  ended_making T IsNone answers refusal count told apart right then (inr (inl here)) =
+      let U = HasAnswered s.follows s.can_answer old new in
+      let R = HasRefused s.follows s.can_refuse old new in
+      let none : s.is_faithful old → is_of_question refusal ≡ false =
+      λ t. told_in (Unit {0}) (λ r. is_of_question r ≡ false) answers refusal (apart t) here in
+      ended_by T refusal count (of_side (told_in U R answers refusal told here) none) none then
+  ended_making T IsNone answers refusal count told apart right then (inr (inr (bad, a, here, none))) =
+      ended_by T refusal count (of_answer bad (λ t. right t a here none)) (λ _. ap is_of_question bad) then
 
   -- all were answered
   pub answered_all : {A : Type 0} (May Right : Q → A → Type 0) (answers : List A) → length qs ≤ taken → s.follows (length (take taken qs)) old new → ForEach May (take taken qs) answers → (s.is_faithful old → Keeps s old new × ForEach Right (take taken qs) answers)
-      → AllAnswered s May (AnswersEach s Right qs answers old new) qs answers left left' old new
+      → AllAnswered s May (AnswersEach s Right qs answers old new) qs answers (with_left old left) (with_left new left')
   answered_all May Right answers all follows may right =
       let whole : take taken qs ≡ qs = take_all taken qs all in
       let spent = takes.spent in

@@ -1,5 +1,5 @@
 -- One key after the other of a bucket, between two sides.
-use Rattle.std.proofs.Common.{◌≡◌, ℕ, ◌+◌, ◌*◌, ◌<◌, ◌≤◌, Bool, true, false, cond, ◌||◌, List, [], ◌∷◌, ◌++◌, length, refl, sym, ap, subst, ◌∙◌, arith, Some, None, Option, length-append, append_assoc}
+use Rattle.std.proofs.Common.{◌≡◌, ℕ, ◌+◌, ◌*◌, ◌<◌, ◌≤◌, true, false, cond, ◌||◌, List, [], ◌∷◌, ◌++◌, length, refl, sym, ap, subst, ◌∙◌, arith, Some, None, Option, length-append, append_assoc}
 use Rattle.std.specs.Prelude.{IsTrue, Result, Ok, Err}
 use Rattle.std.specs.FinMap.{get}
 use Rattle.std.proofs.lemmas.List.{append-nil}
@@ -8,12 +8,13 @@ use Rattle.mvd_site.specs.Answer.{digests}
 use Rattle.mvd_site.specs.Held.{States}
 use Rattle.mvd_tree.specs.HashTree.{is_under}
 use Rattle.mvd_tree.specs.Page.{is_after}
-use Rattle.mvd_sync.specs.Answers.{IsPageOf, TakesNext}
+use Rattle.mvd_sync.specs.Questions.{with_left}
+use Rattle.mvd_sync.specs.Answers.{IsPageOf, ListingValue, TakesLesser}
 use Rattle.mvd_sync.specs.Buckets.{AreElsewhere, ArePages, held_in, waits_if}
 use Rattle.mvd_sync.specs.Exchanges.{AreNext, Counts, Done, Exchanging, keys_done, keys_next}
 use Rattle.mvd_sync.specs.Nodes.{has_below}
 use Rattle.mvd_sync.specs.Session.{Each}
-use Rattle.mvd_sync.specs.Sides.{SideOf}
+use Rattle.mvd_sync.specs.Sides.{SideOf, two}
 use Rattle.mvd_sync.specs.Walk.{Reads}
 use Rattle.mvd_sync.specs.declared.cursor.Entry.{Entry}
 use Rattle.mvd_sync.specs.declared.asking.Questions.{Questions}
@@ -61,8 +62,8 @@ module _ {L P : Type 0} (l : SideOf L) (p : SideOf P) where
 
 -- ---- how far a bucket is gone over
 
--- between two true sides
-pub record AtKey {L P : Type 0} (l : SideOf L) (p : SideOf P) (number : Option ℕ) (a b : States) (done : List Done) (path : List ℕ) (mine theirs : List (Key × List ℕ) × Bool) (asked_l asked_p : ℕ) (local' : L) (peer' : P) (most_local most_peer : ℕ) (before after : Exchanging) : Type 0 where
+-- between two faithful sides
+pub record AtKey {L P : Type 0} (l : SideOf L) (p : SideOf P) (number : Option ℕ) (a b : States) (done : List Done) (path : List ℕ) (mine theirs : ListingValue) (asked_l asked_p : ℕ) (local' : L) (peer' : P) (most_local most_peer : ℕ) (before after : Exchanging) : Type 0 where
   pub upto : Option (List ℕ)
   pub found : List Entry
   pub pages_local : ℕ
@@ -72,7 +73,7 @@ pub record AtKey {L P : Type 0} (l : SideOf L) (p : SideOf P) (number : Option �
   pub fewer : (asked_l + 2 * length after.waiting ≤ pages_local + 2 * length (before.waiting ++ found)) × (asked_p + 2 * length after.waiting ≤ pages_peer + 2 * length (before.waiting ++ found))
 
 -- and of any two sides
-pub record OverBucket {L P : Type 0} (l : SideOf L) (p : SideOf P) (path : List ℕ) (first second mine theirs : List (Key × List ℕ) × Bool) (left left' : Questions) (local local' : L) (peer peer' : P) (before after : Exchanging) : Type 0 where
+pub record OverBucket {L P : Type 0} (l : SideOf L) (p : SideOf P) (path : List ℕ) (first second mine theirs : ListingValue) (left left' : Questions) (local local' : L) (peer peer' : P) (before after : Exchanging) : Type 0 where
   pub goes : GoesBy l p left left' local local' peer peer' before after (Ok (tt {0}))
   pub meets : l.is_faithful local → p.is_faithful peer → (a b : States) (done : List Done) → SoFarBy (l.most_keys local) (p.most_keys peer) before.number a b (l.states local) (p.states peer) done → Counts done before
       → AreNext a b done before.waiting → AreElsewhere (path ∷ []) (keys_done done ++ keys_next before.waiting) → IsPageOf (digests a) path None first.0 first.1 → IsPageOf (digests b) path None second.0 second.1
@@ -91,7 +92,7 @@ one_held : (a : States) (path : List ℕ) (n : ℕ) → n ≤ held_at a path →
 one_held a path n h = omega (arith, h)
 
 -- the filled listings, and what was exchanged before them
-pub record Filled {L P : Type 0} (l : SideOf L) (p : SideOf P) (number : Option ℕ) (a b : States) (done : List Done) (path : List ℕ) (mine theirs : List (Key × List ℕ) × Bool) (e : Entry) (asked_l asked_p : ℕ) (local' : L) (peer' : P) (most_local most_peer : ℕ) (before at : Exchanging) : Type 0 where
+pub record Filled {L P : Type 0} (l : SideOf L) (p : SideOf P) (number : Option ℕ) (a b : States) (done : List Done) (path : List ℕ) (mine theirs : ListingValue) (e : Entry) (asked_l asked_p : ℕ) (local' : L) (peer' : P) (most_local most_peer : ℕ) (before at : Exchanging) : Type 0 where
   pub found : List Entry
   pub pages_local : ℕ
   pub pages_peer : ℕ
@@ -99,11 +100,11 @@ pub record Filled {L P : Type 0} (l : SideOf L) (p : SideOf P) (number : Option 
   pub goes_on : GoesOnBy l p number a b done (before.waiting ++ found) local' peer' most_local most_peer at
   pub fewer : (asked_l + 2 * length at.waiting ≤ pages_local + 2 * length (before.waiting ++ found)) × (asked_p + 2 * length at.waiting ≤ pages_peer + 2 * length (before.waiting ++ found))
 
-module _ {L P : Type 0} (l : SideOf L) (p : SideOf P) (number : Option ℕ) (a b : States) (done : List Done) (path : List ℕ) (mine theirs mine1 theirs1 mine2 theirs2 : List (Key × List ℕ) × Bool) (asked_l asked_p : ℕ) (local1 local2 : L) (peer1 peer2 : P) (most_local most_peer : ℕ) (before at : Exchanging)
+module _ {L P : Type 0} (l : SideOf L) (p : SideOf P) (number : Option ℕ) (a b : States) (done : List Done) (path : List ℕ) (mine theirs mine1 theirs1 mine2 theirs2 : ListingValue) (asked_l asked_p : ℕ) (local1 local2 : L) (peer1 peer2 : P) (most_local most_peer : ℕ) (before at : Exchanging)
     (here : AtKey l p number a b done path mine theirs asked_l asked_p local1 peer1 most_local most_peer before at)
     (mine_more : mine.0 ≡ [] → mine.1 ≡ false) (theirs_more : theirs.0 ≡ [] → theirs.1 ≡ false)
     (elsewhere : AreElsewhere (path ∷ []) (keys_done done ++ keys_next before.waiting))
-    (e : Entry) (takes : TakesNext mine.0 theirs.0 e.key e.mine e.theirs e.differs mine1.0 theirs1.0) (same_more : (mine1.1 ≡ mine.1) × (theirs1.1 ≡ theirs.1)) where
+    (e : Entry) (takes : TakesLesser (two mine.0 theirs.0) e (two mine1.0 theirs1.0)) (same_more : (mine1.1 ≡ mine.1) × (theirs1.1 ≡ theirs.1)) where
   taken : Gone a b done before.waiting path (Some e.key) mine1 theirs1 (here.found ++ waits_if e) here.pages_local here.pages_peer
   taken = gone_next a b done before.waiting path here.upto mine theirs here.found here.pages_local here.pages_peer here.gone mine_more theirs_more (not_under path (keys_done done ++ keys_next before.waiting) elsewhere) e mine1 theirs1 takes same_more.0 same_more.1
 
@@ -163,7 +164,7 @@ module _ {L P : Type 0} (l : SideOf L) (p : SideOf P) (number : Option ℕ) (a b
 module _ {L P : Type 0} (l : SideOf L) (p : SideOf P)
     (stays : (n : ℕ) (old new : L) → l.follows n old new → l.most_keys new ≡ l.most_keys old)
     (stays' : (n : ℕ) (old new : P) → p.follows n old new → p.most_keys new ≡ p.most_keys old)
-    (a b : States) (done : List Done) (path : List ℕ) (mine theirs : List (Key × List ℕ) × Bool) (e : Entry) (asked_l asked_p : ℕ) (local local2 local3 : L) (peer peer2 peer3 : P) (n m : ℕ) (before at after : Exchanging)
+    (a b : States) (done : List Done) (path : List ℕ) (mine theirs : ListingValue) (e : Entry) (asked_l asked_p : ℕ) (local local2 local3 : L) (peer peer2 peer3 : P) (n m : ℕ) (before at after : Exchanging)
     (follows : l.follows n local local2 × p.follows m peer peer2) (same : at.number ≡ before.number)
     (f : Filled l p before.number a b done path mine theirs e asked_l asked_p local2 peer2 (l.most_keys local) (p.most_keys peer) before at)
     (left left' : Questions) {A : Type 0} (result : Result A SyncFault) (s : SettlesBy l p e left left' local2 local3 peer2 peer3 at after result) where
@@ -203,7 +204,7 @@ module _ {L P : Type 0} (l : SideOf L) (p : SideOf P)
 module _ {L P : Type 0} (l : SideOf L) (p : SideOf P)
     (stays : (n : ℕ) (old new : L) → l.follows n old new → l.most_keys new ≡ l.most_keys old)
     (stays' : (n : ℕ) (old new : P) → p.follows n old new → p.most_keys new ≡ p.most_keys old)
-    (a b : States) (done : List Done) (path : List ℕ) (mine theirs : List (Key × List ℕ) × Bool) (e : Entry) (asked_l asked_p : ℕ) (local local2 local3 : L) (peer peer2 peer3 : P) (n m : ℕ) (before at after : Exchanging)
+    (a b : States) (done : List Done) (path : List ℕ) (mine theirs : ListingValue) (e : Entry) (asked_l asked_p : ℕ) (local local2 local3 : L) (peer peer2 peer3 : P) (n m : ℕ) (before at after : Exchanging)
     (follows : l.follows n local local2 × p.follows m peer peer2) (same : at.number ≡ before.number)
     (f : Filled l p before.number a b done path mine theirs e asked_l asked_p local2 peer2 (l.most_keys local) (p.most_keys peer) before at)
     (left left' : Questions) where
@@ -241,7 +242,7 @@ module _ {L P : Type 0} (l : SideOf L) (p : SideOf P)
 
 -- ---- the bucket
 
-module _ {L P : Type 0} (l : SideOf L) (p : SideOf P) (path : List ℕ) (first second : List (Key × List ℕ) × Bool) where
+module _ {L P : Type 0} (l : SideOf L) (p : SideOf P) (path : List ℕ) (first second : ListingValue) where
   pub over_begins : (self : (s : L) → l.follows 0 s s) (self' : (s : P) → p.follows 0 s s) (left : Questions) (local : L) (peer : P) (before : Exchanging) → OverBucket l p path first second first second left left local local peer peer before before
   unfolding goes_nowhere goes_of_reads
   over_begins self self' left local peer before = record {
@@ -259,7 +260,7 @@ module _ {L P : Type 0} (l : SideOf L) (p : SideOf P) (path : List ℕ) (first s
 
   module _ (on : (m n : ℕ) (old mid new : L) → l.follows m old mid → l.follows n mid new → l.follows (m + n) old new)
       (on' : (m n : ℕ) (old mid new : P) → p.follows m old mid → p.follows n mid new → p.follows (m + n) old new)
-      (mine theirs : List (Key × List ℕ) × Bool) (left left1 : Questions) (local local1 : L) (peer peer1 : P) (before at : Exchanging)
+      (mine theirs : ListingValue) (left left1 : Questions) (local local1 : L) (peer peer1 : P) (before at : Exchanging)
       (over : OverBucket l p path first second mine theirs left left1 local local1 peer peer1 before at)
       (mine_more : mine.0 ≡ [] → mine.1 ≡ false) (theirs_more : theirs.0 ≡ [] → theirs.1 ≡ false) where
     -- no key is left
@@ -285,7 +286,7 @@ module _ {L P : Type 0} (l : SideOf L) (p : SideOf P) (path : List ℕ) (first s
           };
     }
 
-    module _ (e : Entry) (mine1 theirs1 : List (Key × List ℕ) × Bool) (takes : TakesNext mine.0 theirs.0 e.key e.mine e.theirs e.differs mine1.0 theirs1.0) (same_more : (mine1.1 ≡ mine.1) × (theirs1.1 ≡ theirs.1)) where
+    module _ (e : Entry) (mine1 theirs1 : ListingValue) (takes : TakesLesser (two mine.0 theirs.0) e (two mine1.0 theirs1.0)) (same_more : (mine1.1 ≡ mine.1) × (theirs1.1 ≡ theirs.1)) where
       pub over_unfilled : (left2 : Questions) (local2 : L) (peer2 : P) (fault : SyncFault) → FillEndsBy l p mine1 theirs1 left1 local1 local2 peer1 peer2 fault
           → GoesThroughBy {A = Unit {0}} l p (λ a b. ArePages (digests a) (path ∷ []) (first ∷ []) × ArePages (digests b) (path ∷ []) (second ∷ [])) (path ∷ []) 0 left left2 local local2 peer peer2 before at (Err fault)
       unfolding goes_on goes_of_end
@@ -298,12 +299,12 @@ module _ {L P : Type 0} (l : SideOf L) (p : SideOf P) (path : List ℕ) (first s
 
       module _ (stays : (n : ℕ) (old new : L) → l.follows n old new → l.most_keys new ≡ l.most_keys old)
           (stays' : (n : ℕ) (old new : P) → p.follows n old new → p.most_keys new ≡ p.most_keys old)
-          (mine2 theirs2 : List (Key × List ℕ) × Bool) (left2 left3 : Questions) (local2 local3 : L) (peer2 peer3 : P) (after : Exchanging)
+          (mine2 theirs2 : ListingValue) (left2 left3 : Questions) (local2 local3 : L) (peer2 peer3 : P) (after : Exchanging)
           (f : FillsBothBy l p path (Some e.key) mine1 mine2 theirs1 theirs2 left1 left2 local1 local2 peer1 peer2) where
-        reads_local : Reads l f.local_side.asked left1.local left2.local local1 local2
+        reads_local : Reads l f.local_side.asked (with_left local1 left1.local) (with_left local2 left2.local)
         reads_local = record { spent = f.local_side.spent; follows = f.local_side.follows; kept = f.local_side.kept }
 
-        reads_peer : Reads p f.peer_side.asked left1.peer left2.peer peer1 peer2
+        reads_peer : Reads p f.peer_side.asked (with_left peer1 left1.peer) (with_left peer2 left2.peer)
         reads_peer = record { spent = f.peer_side.spent; follows = f.peer_side.follows; kept = f.peer_side.kept }
 
         -- with the questions that filled them

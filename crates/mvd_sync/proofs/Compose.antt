@@ -2,7 +2,7 @@
 use Rattle.std.proofs.Common.{◌≡◌, ℕ, ◌+◌, ◌≤◌, ◌∙◌, arith, ap}
 use Rattle.mvd_dots.specs.declared.refusals.Refusal.{Refusal}
 use Rattle.mvd_dots.specs.declared.refusals.Refusal.TheVariants.{Memory}
-use Rattle.mvd_sync.specs.Questions.{ComesToEnd, Keeps}
+use Rattle.mvd_sync.specs.Questions.{ComesToEnd, Keeps, with_left}
 use Rattle.mvd_sync.specs.Sides.{HasAnswered, HasRefused, Reaches, SideOf, of_answer, of_memory, of_questions, of_side, is_of_question}
 use Rattle.mvd_sync.proofs.Positions.{BlamesBy}
 
@@ -27,7 +27,7 @@ module _ {S : Type 0} (s : SideOf S) (on : (m n : ℕ) (old mid new : S) → s.f
     blames_later asked wanted refusal (of_memory e) = of_memory e
 
     -- questions that came to an end after others
-    pub ends_later : (T U : Type 0) (questions : ℕ) (refusal : Refusal) → (s.is_faithful old → T → U) → ComesToEnd s T questions left' mid new refusal → ComesToEnd s U (n + questions) left old new refusal
+    pub ends_later : (T U : Type 0) (questions : ℕ) (refusal : Refusal) → (s.is_faithful old → T → U) → ComesToEnd s T questions (with_left mid left') new refusal → ComesToEnd s U (n + questions) (with_left old left) new refusal
     ends_later T U questions refusal then e = record {
       asked = n + e.asked;
       wanted = e.wanted;
@@ -40,7 +40,7 @@ module _ {S : Type 0} (s : SideOf S) (on : (m n : ℕ) (old mid new : S) → s.f
     }
 
 -- memory was refused after some questions
-pub ends_for_memory : {S : Type 0} (s : SideOf S) (T : Type 0) (questions left left' n : ℕ) (old new : S) (refusal : Refusal) → left ≡ left' + n → n ≤ questions → s.follows n old new → (s.is_faithful old → T) → refusal ≡ Memory → ComesToEnd s T questions left old new refusal
+pub ends_for_memory : {S : Type 0} (s : SideOf S) (T : Type 0) (questions left left' n : ℕ) (old new : S) (refusal : Refusal) → left ≡ left' + n → n ≤ questions → s.follows n old new → (s.is_faithful old → T) → refusal ≡ Memory → ComesToEnd s T questions (with_left old left) new refusal
 ends_for_memory s T questions left left' n old new refusal spent few follows then is = record {
   asked = n;
   wanted = 0;

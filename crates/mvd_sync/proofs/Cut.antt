@@ -216,7 +216,7 @@ module _ (a b : States) where
           peer_side = λ _. joined_on b y y' given more_given (old.peer_side tt) peer_met apart_given;
         }
 
--- a side that said that it is broken need not be true any more
+-- a side that said that it is broken need not be faithful any more
 pub joins_if : (T U : Type 0) (a b x y x' y' : States) (joined given : List (List ℕ)) → (T → x' ≡ x) → (U → y' ≡ y) → JoinsBy T U a b x y joined given → JoinsBy T U a b x' y' joined given
 joins_if T U a b x y x' y' joined given e f j = record {
   part = j.part;

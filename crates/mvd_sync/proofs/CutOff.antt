@@ -1,4 +1,4 @@
--- A window between two true sides that was cut off while a side took of it.
+-- A window between two faithful sides that was cut off while a side took of it.
 use Rattle.std.proofs.Common.{◌≡◌, ◌≢◌, ◌⊎◌, ℕ, Bool, true, false, cond, ◌||◌, List, [], ◌∷◌, ◌++◌, map, filter, filter_map, refl, sym, ap, subst, ◌∙◌, Some, None, Option, true≢false}
 use Rattle.std.specs.Prelude.{Result, IfSome, MatchBool, take}
 use Rattle.std.specs.Ordering.{nat_cmp, eq_by_cmp}

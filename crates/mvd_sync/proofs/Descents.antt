@@ -1,15 +1,13 @@
 -- One level of the walk after the other.
-use Rattle.std.proofs.Common.{◌≡◌, ◌≢◌, ℕ, zero, suc, ◌+◌, ◌<◌, ◌≤◌, List, [], ◌∷◌, ◌++◌, length, take, get_or, refl, sym, ap, subst, ◌∙◌, arith, add-one, append_assoc, length-append, true, false}
+use Rattle.std.proofs.Common.{◌≡◌, ◌≢◌, ℕ, zero, suc, ◌+◌, ◌<◌, List, [], ◌∷◌, ◌++◌, length, take, get_or, refl, sym, ap, subst, ◌∙◌, arith, add-one, append_assoc, length-append, true, false}
 use Rattle.std.proofs.Math.Seq.{take-suc}
 use Rattle.std.proofs.lemmas.List.{append-nil, length-take}
-use Rattle.mvd_dots.specs.declared.refusals.Refusal.{Refusal}
-use Rattle.mvd_dots.specs.declared.refusals.Refusal.TheVariants.{Memory}
 use Rattle.mvd_site.specs.Answer.{digests}
 use Rattle.mvd_tree.specs.HashTree.{KeyDigests}
 use Rattle.mvd_sync.specs.Nodes.{differing_children}
-use Rattle.mvd_sync.specs.Questions.{AllAnswered, ComesToEnd, ForEach, IsInner, Keeps, AnswersEach}
+use Rattle.mvd_sync.specs.Questions.{AllAnswered, AnswersEach, ForEach, IsInner, with_left}
 use Rattle.mvd_sync.specs.Session.{Each}
-use Rattle.mvd_sync.specs.Sides.{HasAnswered, IsFaultOf, SideOf, of_memory}
+use Rattle.mvd_sync.specs.Sides.{HasAnswered, IsFaultOf, SideOf}
 use Rattle.mvd_sync.specs.Walk.{Reads, told, told_all}
 use Rattle.mvd_sync.specs.declared.asking.Node.{Node}
 use Rattle.mvd_sync.specs.declared.asking.Questions.{Questions}
@@ -113,14 +111,14 @@ some_answered T (q ∷ qs) (t ∷ ts) e h = e.0
 -- ---- questions after questions
 
 -- questions of one side, and then more
-pub reads_on : {S : Type 0} (s : SideOf S) (on : (m n : ℕ) (old mid new : S) → s.follows m old mid → s.follows n mid new → s.follows (m + n) old new) (m n left mid left' : ℕ) (old at new : S) → Reads s m left mid old at → Reads s n mid left' at new → Reads s (m + n) left left' old new
+pub reads_on : {S : Type 0} (s : SideOf S) (on : (m n : ℕ) (old mid new : S) → s.follows m old mid → s.follows n mid new → s.follows (m + n) old new) (m n left mid left' : ℕ) (old at new : S) → Reads s m (with_left old left) (with_left at mid) → Reads s n (with_left at mid) (with_left new left') → Reads s (m + n) (with_left old left) (with_left new left')
 reads_on s on m n left mid left' old at new p q = record {
   spent = let e = p.spent in let f = q.spent in omega (arith, e, f);
   follows = on m n old at new p.follows q.follows;
   kept = λ t. let k = p.kept t in keeps_on s old at new k (q.kept k.still);
 }
 
-pub reads_of : {S Q A : Type 0} (s : SideOf S) (May Right : Q → A → Type 0) (qs : List Q) (ts : List A) (left left' : ℕ) (old new : S) → AllAnswered s May (AnswersEach s Right qs ts old new) qs ts left left' old new → Reads s (length qs) left left' old new
+pub reads_of : {S Q A : Type 0} (s : SideOf S) (May Right : Q → A → Type 0) (qs : List Q) (ts : List A) (left left' : ℕ) (old new : S) → AllAnswered s May (AnswersEach s Right qs ts old new) qs ts (with_left old left) (with_left new left') → Reads s (length qs) (with_left old left) (with_left new left')
 reads_of s May Right qs ts left left' old new a = record { spent = a.spent; follows = a.follows; kept = λ t. (a.right t).kept }
 
 module _ {L P : Type 0} (l : SideOf L) (p : SideOf P)
@@ -129,13 +127,13 @@ module _ {L P : Type 0} (l : SideOf L) (p : SideOf P)
   sums : (a b c : ℕ) → a + (b + c) ≡ (a + b) + c
   sums a b c = omega arith
 
-  fault_later : (left mid : Questions) (n m : ℕ) (local local1 local2 : L) (peer peer1 peer2 : P) → Reads l n left.local mid.local local local1 → Reads p m left.peer mid.peer peer peer1 → (i j v w : ℕ) (fault : SyncFault)
+  fault_later : (left mid : Questions) (n m : ℕ) (local local1 local2 : L) (peer peer1 peer2 : P) → Reads l n (with_left local left.local) (with_left local1 mid.local) → Reads p m (with_left peer left.peer) (with_left peer1 mid.peer) → (i j v w : ℕ) (fault : SyncFault)
       → IsFaultOf (BlamesBy l mid.local i v local1 local2) (BlamesBy p mid.peer j w peer1 peer2) fault → IsFaultOf (BlamesBy l left.local (n + i) v local local2) (BlamesBy p left.peer (m + j) w peer peer2) fault
   fault_later left mid n m local local1 local2 peer peer1 peer2 r q i j v w (Local refusal) h = blames_later l on left.local mid.local n local local1 local2 r.spent r.follows (λ t. (r.kept t).still) i v refusal h
   fault_later left mid n m local local1 local2 peer peer1 peer2 r q i j v w (Peer refusal) h = blames_later p on' left.peer mid.peer m peer peer1 peer2 q.spent q.follows (λ t. (q.kept t).still) j w refusal h
 
   -- a walk that came to an end after questions
-  pub end_later : (Few Most : ℕ → Type 0) (left mid : Questions) (n m : ℕ) (local local1 local2 : L) (peer peer1 peer2 : P) (fault : SyncFault) → Reads l n left.local mid.local local local1 → Reads p m left.peer mid.peer peer peer1 → ((i : ℕ) → Few i → Most (n + i)) → ((i : ℕ) → Few i → Most (m + i))
+  pub end_later : (Few Most : ℕ → Type 0) (left mid : Questions) (n m : ℕ) (local local1 local2 : L) (peer peer1 peer2 : P) (fault : SyncFault) → Reads l n (with_left local left.local) (with_left local1 mid.local) → Reads p m (with_left peer left.peer) (with_left peer1 mid.peer) → ((i : ℕ) → Few i → Most (n + i)) → ((i : ℕ) → Few i → Most (m + i))
       → ReadsEndBy l p Few mid local1 local2 peer1 peer2 fault → ReadsEndBy l p Most left local local2 peer peer2 fault
   end_later Few Most left mid n m local local1 local2 peer peer1 peer2 fault r q f f' e = record {
     asked_local = n + e.asked_local;
@@ -148,49 +146,6 @@ module _ {L P : Type 0} (l : SideOf L) (p : SideOf P)
     cause = fault_later left mid n m local local1 local2 peer peer1 peer2 r q e.asked_local e.asked_peer e.wanted_local e.wanted_peer fault e.cause;
     kept_local = λ t. let k = r.kept t in keeps_on l local local1 local2 k (e.kept_local k.still);
     kept_peer = λ t. let k = q.kept t in keeps_on p peer peer1 peer2 k (e.kept_peer k.still);
-  }
-
-  -- the local side came to an end, or the peer
-  pub local_ends : (questions : ℕ) (self : (s : P) → p.follows 0 s s) (left : Questions) (local local' : L) (peer : P) (refusal : Refusal) → ComesToEnd l (Keeps l local local') questions left.local local local' refusal → ReadsEndBy l p (λ asked. asked ≤ questions) left local local' peer peer (Local refusal)
-  local_ends questions self left local local' peer refusal e = record {
-    asked_local = e.asked;
-    asked_peer = 0;
-    wanted_local = e.wanted;
-    wanted_peer = 0;
-    within = (e.within, omega arith);
-    few = (e.few, omega arith);
-    follows = (e.follows, self peer);
-    cause = e.cause;
-    kept_local = e.right;
-    kept_peer = λ t. record { still = t; states = refl };
-  }
-
-  pub peer_ends : (questions : ℕ) (self : (s : L) → l.follows 0 s s) (left : Questions) (local : L) (peer peer' : P) (refusal : Refusal) → ComesToEnd p (Keeps p peer peer') questions left.peer peer peer' refusal → ReadsEndBy l p (λ asked. asked ≤ questions) left local local peer peer' (Peer refusal)
-  peer_ends questions self left local peer peer' refusal e = record {
-    asked_local = 0;
-    asked_peer = e.asked;
-    wanted_local = 0;
-    wanted_peer = e.wanted;
-    within = (omega arith, e.within);
-    few = (omega arith, e.few);
-    follows = (self local, e.follows);
-    cause = e.cause;
-    kept_local = λ t. record { still = t; states = refl };
-    kept_peer = e.right;
-  }
-
-  pub memory_ends : (self : (s : L) → l.follows 0 s s) (self' : (s : P) → p.follows 0 s s) (left : Questions) (local : L) (peer : P) (refusal : Refusal) → refusal ≡ Memory → ReadsEndBy l p (λ asked. asked ≤ 0) left local local peer peer (Local refusal)
-  memory_ends self self' left local peer refusal is = record {
-    asked_local = 0;
-    asked_peer = 0;
-    wanted_local = 0;
-    wanted_peer = 0;
-    within = (omega arith, omega arith);
-    few = (omega arith, omega arith);
-    follows = (self local, self' peer);
-    cause = of_memory is;
-    kept_local = λ t. record { still = t; states = refl };
-    kept_peer = λ t. record { still = t; states = refl };
   }
 
   -- ---- a window more
@@ -206,8 +161,8 @@ module _ {L P : Type 0} (l : SideOf L) (p : SideOf P)
 
   module _ (done window : List (List ℕ)) (left mid left' : Questions) (local local1 local2 : L) (peer peer1 peer2 : P) (below : List (List ℕ)) (mine theirs : List Node)
       (before : DescendsBy l p done left mid local local1 peer peer1 below)
-      (first : AllAnswered l (λ _ _. HasAnswered l.follows l.can_answer local1 local2) (AnswersEach l (IsInner (digests (l.states local1))) window mine local1 local2) window mine mid.local left'.local local1 local2)
-      (second : AllAnswered p (λ _ _. HasAnswered p.follows p.can_answer peer1 peer2) (AnswersEach p (IsInner (digests (p.states peer1))) window theirs peer1 peer2) window theirs mid.peer left'.peer peer1 peer2) where
+      (first : AllAnswered l (λ _ _. HasAnswered l.follows l.can_answer local1 local2) (AnswersEach l (IsInner (digests (l.states local1))) window mine local1 local2) window mine (with_left local1 mid.local) (with_left local2 left'.local))
+      (second : AllAnswered p (λ _ _. HasAnswered p.follows p.can_answer peer1 peer2) (AnswersEach p (IsInner (digests (p.states peer1))) window theirs peer1 peer2) window theirs (with_left peer1 mid.peer) (with_left peer2 left'.peer)) where
     answers_more : (ds : List (List ℕ)) → ds ≡ done → ds ++ window ≢ [] → HaveAnsweredBy l p local local2 peer peer2
     answers_more [] e some = (
       answered_later l on local local1 local2 (length done, before.local_side.follows) (some_answered (HasAnswered l.follows l.can_answer local1 local2) window mine first.may some),
@@ -225,8 +180,8 @@ module _ {L P : Type 0} (l : SideOf L) (p : SideOf P)
         let both_l = reads_on l on (length done) (length window) left.local mid.local left'.local local local1 local2 before.local_side (reads_of l (λ _ _. HasAnswered l.follows l.can_answer local1 local2) (IsInner (digests (l.states local1))) window mine mid.local left'.local local1 local2 first) in
         let both_p = reads_on p on' (length done) (length window) left.peer mid.peer left'.peer peer peer1 peer2 before.peer_side (reads_of p (λ _ _. HasAnswered p.follows p.can_answer peer1 peer2) (IsInner (digests (p.states peer1))) window theirs mid.peer left'.peer peer1 peer2 second) in
         record {
-          local_side = subst (λ n. Reads l n left.local left'.local local local2) (sym long) both_l;
-          peer_side = subst (λ n. Reads p n left.peer left'.peer peer peer2) (sym long) both_p;
+          local_side = subst (λ n. Reads l n (with_left local left.local) (with_left local2 left'.local)) (sym long) both_l;
+          peer_side = subst (λ n. Reads p n (with_left peer left.peer) (with_left peer2 left'.peer)) (sym long) both_p;
           answers = answers_more done refl;
           longer = λ n e. Each-append (λ path. length path ≡ n + 1) below (told_all window mine theirs) (before.longer n (Each-left (λ path. length path ≡ n) done window e)) (long_told_all n window mine theirs (Each-right (λ path. length path ≡ n) done window e));
           is = λ u v.

@@ -11,7 +11,7 @@ use Rattle.mvd_site.specs.Held.{AreHeld, States}
 use Rattle.mvd_sync.specs.Carries.{Carried}
 use Rattle.mvd_sync.specs.Exchanges.{Done, IsHeldByEither, keys_next}
 use Rattle.mvd_sync.specs.Meetings.{done_of, held_keys, noted, pair_of, taken_from}
-use Rattle.mvd_sync.specs.Questions.{ComesToEnd, ForEach, IsOfKey, Keeps, TakesFirst, TakesIn}
+use Rattle.mvd_sync.specs.Questions.{ComesToEnd, ForEach, IsOfKey, Keeps, TakesIn, TakesInFirst, with_left}
 use Rattle.mvd_sync.specs.Session.{ComesByPushes, Each}
 use Rattle.mvd_sync.specs.Sides.{IsSilent, SideOf}
 use Rattle.mvd_sync.specs.Windows.{Pushes}
@@ -94,7 +94,7 @@ module _ {L P : Type 0} (l : SideOf L) (p : SideOf P) (number : Option ℕ) (ent
     no_pulls silent = pulls l p number entries left left1 local local1 peer peer1 ms plan (λ _ _. ⊥) (λ k s h. silent_gives p.follows p.can_answer peer peer1 (p.can_give k s) silent h)
 
     -- the local side came to an end
-    pub ends_at_local : {A : Type 0} → (left' : Questions) (local2 : L) (refusal : Refusal) → ComesToEnd l (TakesFirst l pairs_l local1 local2 refusal) (length pairs_l) left1.local local1 local2 refusal → (pairs_l ≡ [] → local2 ≡ local1)
+    pub ends_at_local : {A : Type 0} → (left' : Questions) (local2 : L) (refusal : Refusal) → ComesToEnd l (TakesInFirst l pairs_l local1 local2 refusal) (length pairs_l) (with_left local1 left1.local) local2 refusal → (pairs_l ≡ [] → local2 ≡ local1)
         → ExchangesAllBy {A = A} l p number entries left left' local local2 peer peer1 (Err (Local refusal))
     ends_at_local {A} left' local2 refusal e alone = record {
       course = record {
@@ -138,7 +138,7 @@ module _ {L P : Type 0} (l : SideOf L) (p : SideOf P) (number : Option ℕ) (ent
     }
 
     -- the local side took what it was to take
-    module _ (ms1 : List Meeting) (left2 : ℕ) (local2 : L) (c : Carried l AtLocal ms ms1 left1.local left2 local1 local2) where
+    module _ (ms1 : List Meeting) (left2 : ℕ) (local2 : L) (c : Carried l AtLocal ms ms1 (with_left local1 left1.local) (with_left local2 left2)) where
       abbrev after : List Meeting
       after = noted AtLocal (map (taken_from AtLocal) ms) c.told
 
@@ -190,10 +190,10 @@ module _ {L P : Type 0} (l : SideOf L) (p : SideOf P) (number : Option ℕ) (ent
       beside_l t silent = ((took_l t).still, pushed_none (l.states local) (l.states local2) (comes_l (λ _ _. ⊥) (no_pulls silent) t))
 
       -- the peer came to an end
-      pub ends_at_peer : {A : Type 0} → (left' : Questions) (peer2 : P) (refusal : Refusal) → ComesToEnd p (TakesFirst p (filter_map (pair_of AtPeer) ms1) peer1 peer2 refusal) (length (filter_map (pair_of AtPeer) ms1)) left1.peer peer1 peer2 refusal
+      pub ends_at_peer : {A : Type 0} → (left' : Questions) (peer2 : P) (refusal : Refusal) → ComesToEnd p (TakesInFirst p (filter_map (pair_of AtPeer) ms1) peer1 peer2 refusal) (length (filter_map (pair_of AtPeer) ms1)) (with_left peer1 left1.peer) peer2 refusal
           → (filter_map (pair_of AtPeer) ms1 ≡ [] → peer2 ≡ peer1) → ExchangesAllBy {A = A} l p number entries left left' local local2 peer peer2 (Err (Peer refusal))
       ends_at_peer {A} left' peer2 refusal e' alone =
-          let e : ComesToEnd p (TakesFirst p pairs_p peer1 peer2 refusal) (length pairs_p) left1.peer peer1 peer2 refusal = subst (λ qs. ComesToEnd p (TakesFirst p qs peer1 peer2 refusal) (length qs) left1.peer peer1 peer2 refusal) same_pairs e' in
+          let e : ComesToEnd p (TakesInFirst p pairs_p peer1 peer2 refusal) (length pairs_p) (with_left peer1 left1.peer) peer2 refusal = subst (λ qs. ComesToEnd p (TakesInFirst p qs peer1 peer2 refusal) (length qs) (with_left peer1 left1.peer) peer2 refusal) same_pairs e' in
           record {
             course = record {
               asked_local = asked_l;
@@ -235,10 +235,10 @@ module _ {L P : Type 0} (l : SideOf L) (p : SideOf P) (number : Option ℕ) (ent
           }
 
       -- the peer took what it was to take, too
-      pub all_done : {A : Type 0} → Each IsHeldByEither entries → (left' : Questions) (peer2 : P) (made : Vec Meeting A) → left'.local ≡ left2 → Carried p AtPeer ms1 made.items left1.peer left'.peer peer1 peer2
+      pub all_done : {A : Type 0} → Each IsHeldByEither entries → (left' : Questions) (peer2 : P) (made : Vec Meeting A) → left'.local ≡ left2 → Carried p AtPeer ms1 made.items (with_left peer1 left1.peer) (with_left peer2 left'.peer)
           → ExchangesAllBy {A = A} l p number entries left left' local local2 peer peer2 (Ok made)
       all_done {A} held left' peer2 made same_left d' =
-          let d : Carried p AtPeer after made.items left1.peer left'.peer peer1 peer2 = subst (λ m. Carried p AtPeer m made.items left1.peer left'.peer peer1 peer2) c.is d' in
+          let d : Carried p AtPeer after made.items (with_left peer1 left1.peer) (with_left peer2 left'.peer) = subst (λ m. Carried p AtPeer m made.items (with_left peer1 left1.peer) (with_left peer2 left'.peer)) c.is d' in
           let took_p : p.is_faithful peer → TakesIn p pairs_p d.told peer1 peer2 = λ t. d.answered.right (keep_p t).still in
           let comes_p : (C : List ℕ → State → Type 0) → Each (λ q. C q.0 q.1 × Rattle.mvd_keys.specs.State.IsValid q.1) pairs_p → (t : p.is_faithful peer) → ComesByPushes C (p.states peer) (p.states peer2)
           = λ C good t. subst (λ m. ComesByPushes C m (p.states peer2)) (keep_p t).states (comes_all p C pairs_p good peer1 peer2 d.told (took_p t)) in

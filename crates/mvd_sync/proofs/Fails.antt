@@ -3,7 +3,7 @@ use Rattle.std.proofs.Common.{◌≡◌, ℕ, ◌+◌, ◌-◌, ◌≤◌, List,
 use Rattle.std.proofs.lemmas.List.{length-drop, length-take, take-append-drop, take_all}
 use Rattle.mvd_dots.specs.declared.refusals.Refusal.{Refusal}
 use Rattle.mvd_dots.specs.declared.refusals.Refusal.TheVariants.{Memory}
-use Rattle.mvd_sync.specs.Questions.{ComesToEnd, Keeps}
+use Rattle.mvd_sync.specs.Questions.{ComesToEnd, Keeps, with_left}
 use Rattle.mvd_sync.specs.Sides.{SideOf, of_memory}
 use Rattle.mvd_sync.specs.Walk.{Reads}
 use Rattle.mvd_sync.specs.declared.asking.Questions.{Questions}
@@ -12,8 +12,8 @@ use Rattle.mvd_sync.proofs.Compose.{blames_later, keeps_on}
 use Rattle.mvd_sync.proofs.Positions.{ReadsEndBy}
 
 module _ {L P : Type 0} (l : SideOf L) (p : SideOf P) (most n m left_l left_p : ℕ) (left : Questions) (local local1 : L) (peer peer1 : P)
-    (first : Reads l n left.local left_l local local1) (second : Reads p m left.peer left_p peer peer1) (few_l : n ≤ most) (few_p : m ≤ most) (refusal : Refusal) where
-  pub local_fails : (on : (m n : ℕ) (old mid new : L) → l.follows m old mid → l.follows n mid new → l.follows (m + n) old new) (k : ℕ) (local2 : L) → n + k ≤ most → ComesToEnd l (Keeps l local1 local2) k left_l local1 local2 refusal
+    (first : Reads l n (with_left local left.local) (with_left local1 left_l)) (second : Reads p m (with_left peer left.peer) (with_left peer1 left_p)) (few_l : n ≤ most) (few_p : m ≤ most) (refusal : Refusal) where
+  pub local_fails : (on : (m n : ℕ) (old mid new : L) → l.follows m old mid → l.follows n mid new → l.follows (m + n) old new) (k : ℕ) (local2 : L) → n + k ≤ most → ComesToEnd l (Keeps l local1 local2) k (with_left local1 left_l) local2 refusal
       → ReadsEndBy l p (λ asked. asked ≤ most) left local local2 peer peer1 (Local refusal)
   local_fails on k local2 small e = record {
     asked_local = n + e.asked;
@@ -28,7 +28,7 @@ module _ {L P : Type 0} (l : SideOf L) (p : SideOf P) (most n m left_l left_p : 
     kept_peer = second.kept;
   }
 
-  pub peer_fails : (on : (m n : ℕ) (old mid new : P) → p.follows m old mid → p.follows n mid new → p.follows (m + n) old new) (k : ℕ) (peer2 : P) → m + k ≤ most → ComesToEnd p (Keeps p peer1 peer2) k left_p peer1 peer2 refusal
+  pub peer_fails : (on : (m n : ℕ) (old mid new : P) → p.follows m old mid → p.follows n mid new → p.follows (m + n) old new) (k : ℕ) (peer2 : P) → m + k ≤ most → ComesToEnd p (Keeps p peer1 peer2) k (with_left peer1 left_p) peer2 refusal
       → ReadsEndBy l p (λ asked. asked ≤ most) left local local1 peer peer2 (Peer refusal)
   peer_fails on k peer2 small e = record {
     asked_local = n;

@@ -1,4 +1,4 @@
--- A site at the other end of a true line, as a true side.
+-- A site at the other end of a true line, as a faithful side.
 use Rattle.std.proofs.Common.{◌≡◌, ◌≢◌, inl, inr, ℕ, zero, suc, ◌+◌, true, false, List, [], ◌∷◌, length, map, take, Option, refl, sym, ap, subst, ◌∙◌, arith}
 use Rattle.std.proofs.lemmas.Bool.Decides.{nat_tests}
 use Rattle.std.specs.Prelude.{Result, Ok, Err, IfOk, IfErr, OnOk, OnErr, MatchResult, nat_le, if◌then◌else◌}
@@ -281,7 +281,7 @@ module _ (most : ℕ) where
     pushes_not_of_key (Ok v) h = tt
     pushes_not_of_key (Err refusal) h = open_not_of_key refusal h.0
 
--- a side that is still true is so, however it refused
+-- a side that is still faithful is so, however it refused
 pub still_so : {V : Type 0} (still : Type 0) (result : Result V Refusal) → still → IfErr result (λ refusal. refusal ≢ Broken → still)
 still_so still (Ok v) t = tt
 still_so still (Err refusal) t = λ _. t

@@ -1,14 +1,14 @@
 -- Pages that are asked for.
-use Rattle.std.proofs.Common.{◌≡◌, ℕ, ◌+◌, ◌<◌, ◌^◌, Bool, false, List, [], ◌∷◌, map, length, drop, get_or, Option, None, refl, sym, ap, subst, ◌∙◌, arith, length-drop}
+use Rattle.std.proofs.Common.{◌≡◌, ℕ, ◌+◌, ◌<◌, ◌^◌, false, List, [], ◌∷◌, map, length, drop, get_or, Option, None, refl, sym, ap, subst, ◌∙◌, arith, length-drop}
 use Rattle.std.proofs.lemmas.List.{drop-drop, get_or-drop, length-map}
 use Rattle.std.specs.Prelude.{IfErr, Result, Ok, Err}
 use Rattle.mvd_dots.specs.declared.refusals.Refusal.{Refusal}
 use Rattle.mvd_dots.specs.declared.refusals.Refusal.TheVariants.{BadBody}
 use Rattle.mvd_site.specs.Answer.{digests}
 use Rattle.mvd_tree.specs.HashTree.{KeyDigests}
-use Rattle.mvd_sync.specs.Answers.{Entry, IsPage, IsPageOf}
+use Rattle.mvd_sync.specs.Answers.{IsPage, IsPageOf, ListingValue}
 use Rattle.mvd_sync.specs.Buckets.{ArePages, IsSpent}
-use Rattle.mvd_sync.specs.Questions.{AllAnswered, ComesToEnd, Fills, ForEach, Keeps, AnswersEach}
+use Rattle.mvd_sync.specs.Questions.{AllAnswered, AnswersEach, ComesToEnd, Fills, ForEach, Keeps, with_left}
 use Rattle.mvd_sync.specs.Session.{Each}
 use Rattle.mvd_sync.specs.Sides.{SideOf, of_answer, of_side, is_of_question}
 use Rattle.mvd_sync.specs.Walk.{Reads}
@@ -17,9 +17,9 @@ use Rattle.mvd_sync.specs.declared.report.SyncFault.TheVariants.{Local, Peer}
 use Rattle.mvd_sync.proofs.Descents.{Each-at, answers_long}
 use Rattle.mvd_sync.proofs.Positions.{FillEndsBy}
 
--- a page that no true side tells
+-- a page that no faithful side tells
 pub page_refused : {S X : Type 0} (s : SideOf S) (IsTold : Type 0) (result : Result X Refusal) (left left' : ℕ) (old new : S) → left ≡ left' + 1 → s.follows 1 old new → (s.is_faithful old → Keeps s old new) → (s.is_faithful old → IsTold)
-    → IfErr result (λ refusal. (refusal ≡ BadBody) × (IsTold → ⊥)) → IfErr result (ComesToEnd s (Keeps s old new) 1 left old new)
+    → IfErr result (λ refusal. (refusal ≡ BadBody) × (IsTold → ⊥)) → IfErr result (ComesToEnd s (Keeps s old new) 1 (with_left old left) new)
 page_refused s IsTold (Ok page) left left' old new spent follows kept told bad = tt
 page_refused s IsTold (Err refusal) left left' old new spent follows kept told bad = record {
   asked = 1;
@@ -34,7 +34,7 @@ page_refused s IsTold (Err refusal) left left' old new spent follows kept told b
 
 -- it was refused
 pub one_refused : {S : Type 0} (s : SideOf S) (left left' : ℕ) (old new : S) (refusal : Refusal) → left ≡ left' + 1 → s.follows 1 old new → s.follows 0 new new → s.can_refuse new refusal → (s.is_faithful old → is_of_question refusal ≡ false) → (s.is_faithful old → Keeps s old new)
-    → ComesToEnd s (Keeps s old new) 1 left old new refusal
+    → ComesToEnd s (Keeps s old new) 1 (with_left old left) new refusal
 one_refused s left left' old new refusal spent follows self told not_of_question kept = record {
   asked = 1;
   wanted = 0;
@@ -46,9 +46,9 @@ one_refused s left left' old new refusal spent follows self told not_of_question
   right = kept;
 }
 
-module _ {L P : Type 0} (l : SideOf L) (p : SideOf P) (path : List ℕ) (after : Option (List ℕ)) (mine theirs : List Entry × Bool) (left : Questions) (local : L) (peer : P) where
+module _ {L P : Type 0} (l : SideOf L) (p : SideOf P) (path : List ℕ) (after : Option (List ℕ)) (mine theirs : ListingValue) (left : Questions) (local : L) (peer : P) where
   -- the local listing was not filled
-  pub local_unfilled : (self : (s : P) → p.follows 0 s s) (local' : L) (refusal : Refusal) → ComesToEnd l (Keeps l local local') 1 left.local local local' refusal → IsSpent mine → FillEndsBy l p mine theirs left local local' peer peer (Local refusal)
+  pub local_unfilled : (self : (s : P) → p.follows 0 s s) (local' : L) (refusal : Refusal) → ComesToEnd l (Keeps l local local') 1 (with_left local left.local) local' refusal → IsSpent mine → FillEndsBy l p mine theirs left local local' peer peer (Local refusal)
   local_unfilled self local' refusal e spent = record {
     ends = record {
       asked_local = e.asked;
@@ -66,7 +66,7 @@ module _ {L P : Type 0} (l : SideOf L) (p : SideOf P) (path : List ℕ) (after :
   }
 
   -- or the peer's was not, after it
-  pub peer_unfilled : (mine' : List Entry × Bool) (left_l : ℕ) (local' : L) (peer' : P) (refusal : Refusal) → Fills l path after mine mine' left.local left_l local local' → ComesToEnd p (Keeps p peer peer') 1 left.peer peer peer' refusal → IsSpent theirs → FillEndsBy l p mine theirs left local local' peer peer' (Peer refusal)
+  pub peer_unfilled : (mine' : ListingValue) (left_l : ℕ) (local' : L) (peer' : P) (refusal : Refusal) → Fills l path after mine mine' (with_left local left.local) (with_left local' left_l) → ComesToEnd p (Keeps p peer peer') 1 (with_left peer left.peer) peer' refusal → IsSpent theirs → FillEndsBy l p mine theirs left local local' peer peer' (Peer refusal)
   peer_unfilled mine' left_l local' peer' refusal f e spent = record {
     ends = record {
       asked_local = f.asked;
@@ -111,28 +111,28 @@ pages_deep paths asked deep is = subst (Each (λ (q : List ℕ × Option (List �
     first_deep (path ∷ paths) deep = (deep.0, first_deep paths deep.1)
 
 -- what a page has, whoever told it
-abbrev pub IsGoodPage : List Entry × Bool → Type 0
+abbrev pub IsGoodPage : ListingValue → Type 0
 IsGoodPage page = (page.0 ≡ [] → page.1 ≡ false) × (length page.0 < 2 ^ 64)
 
 module _ {S : Type 0} (s : SideOf S) (held : KeyDigests) (T : Type 0) where
-  good_pages : (paths : List (List ℕ)) (pages : List (List Entry × Bool)) → ForEach {Q = List ℕ × Option (List ℕ)} (λ q page. IsPage None page.0 page.1 × (length page.0 < 2 ^ 64) × T) (map (λ path. (path, None)) paths) pages → Each IsGoodPage pages
+  good_pages : (paths : List (List ℕ)) (pages : List ListingValue) → ForEach {Q = List ℕ × Option (List ℕ)} (λ q page. IsPage None page.0 page.1 × (length page.0 < 2 ^ 64) × T) (map (λ path. (path, None)) paths) pages → Each IsGoodPage pages
   good_pages [] [] h = tt
   good_pages [] (x ∷ pages) h = absurd h
   good_pages (q ∷ paths) [] h = absurd h
   good_pages (q ∷ paths) (x ∷ pages) h = ((h.0.0.ended, h.0.1), good_pages paths pages h.1)
 
-  first_told : (paths : List (List ℕ)) (pages : List (List Entry × Bool)) → ForEach {Q = List ℕ × Option (List ℕ)} (λ q page. IsPageOf held q.0 q.1 page.0 page.1) (map (λ path. (path, None)) paths) pages → ArePages held paths pages
+  first_told : (paths : List (List ℕ)) (pages : List ListingValue) → ForEach {Q = List ℕ × Option (List ℕ)} (λ q page. IsPageOf held q.0 q.1 page.0 page.1) (map (λ path. (path, None)) paths) pages → ArePages held paths pages
   first_told [] [] h = tt
   first_told [] (x ∷ pages) h = absurd h
   first_told (q ∷ paths) [] h = absurd h
   first_told (q ∷ paths) (x ∷ pages) h = (h.0, first_told paths pages h.1)
 
-module _ {S : Type 0} (s : SideOf S) (T : Type 0) (paths : List (List ℕ)) (asked : List (List ℕ × Option (List ℕ))) (pages : List (List Entry × Bool)) (left left' : ℕ) (old new : S) (is : asked ≡ map (λ path. (path, None)) paths)
-    (h : AllAnswered s (λ q page. IsPage None page.0 page.1 × (length page.0 < 2 ^ 64) × T) (AnswersEach s (λ q page. IsPageOf (digests (s.states old)) q.0 q.1 page.0 page.1) asked pages old new) asked pages left left' old new) where
+module _ {S : Type 0} (s : SideOf S) (T : Type 0) (paths : List (List ℕ)) (asked : List (List ℕ × Option (List ℕ))) (pages : List ListingValue) (left left' : ℕ) (old new : S) (is : asked ≡ map (λ path. (path, None)) paths)
+    (h : AllAnswered s (λ q page. IsPage None page.0 page.1 × (length page.0 < 2 ^ 64) × T) (AnswersEach s (λ q page. IsPageOf (digests (s.states old)) q.0 q.1 page.0 page.1) asked pages old new) asked pages (with_left old left) (with_left new left')) where
   as_long : length asked ≡ length paths
   as_long = ap length is ∙ length-map paths (λ path. (path, None))
 
-  pub pages_read : Reads s (length paths) left left' old new
+  pub pages_read : Reads s (length paths) (with_left old left) (with_left new left')
   pages_read = record {
     spent = let a = h.spent in let n = as_long in omega (arith, a, n);
     follows = subst (λ n. s.follows n old new) as_long h.follows;

@@ -4,6 +4,7 @@ use Rattle.std.specs.Prelude.{IfErr, OnOk, Result, Ok, Err}
 use Rattle.mvd_keys.specs.State.{State}
 use Rattle.mvd_keys.specs.Writes.{Key}
 use Rattle.mvd_site.specs.Held.{States}
+use Rattle.mvd_sync.specs.Questions.{with_left}
 use Rattle.mvd_sync.specs.Exchanges.{Exchanging}
 use Rattle.mvd_sync.specs.Session.{Changes}
 use Rattle.mvd_sync.specs.Sides.{IsFaultOf, IsSilent, SideOf}
@@ -104,7 +105,7 @@ module _ {L P : Type 0} (l : SideOf L) (p : SideOf P) where
   }
 
   -- questions that change nothing
-  unfoldable pub goes_of_reads : {A : Type 0} (x : A) (n m : ℕ) (left left' : Questions) (local local' : L) (peer peer' : P) (e : Exchanging) → Reads l n left.local left'.local local local' → Reads p m left.peer left'.peer peer peer'
+  unfoldable pub goes_of_reads : {A : Type 0} (x : A) (n m : ℕ) (left left' : Questions) (local local' : L) (peer peer' : P) (e : Exchanging) → Reads l n (with_left local left.local) (with_left local' left'.local) → Reads p m (with_left peer left.peer) (with_left peer' left'.peer)
       → GoesBy l p left left' local local' peer peer' e e (Ok x)
   goes_of_reads x n m left left' local local' peer peer' e r q = record {
     course = record {

@@ -15,7 +15,8 @@ use Rattle.mvd_tree.proofs.Under.{keys_same}
 use Rattle.mvd_tree.specs.HashTree.{KeyDigests, is_under}
 use Rattle.mvd_tree.specs.Page.{is_after, rest_of}
 use Rattle.mvd_tree.specs.States.{key_digest}
-use Rattle.mvd_sync.specs.Answers.{IsListing, IsPageOf, TakesNext}
+use Rattle.mvd_sync.specs.Sides.{two}
+use Rattle.mvd_sync.specs.Answers.{IsListing, IsPageOf, ListingValue, TakesLesser}
 use Rattle.mvd_sync.specs.Buckets.{IsSpent, waits_if}
 use Rattle.mvd_sync.specs.Exchanges.{AreNext, Done, IsNext, keys_done, keys_next}
 use Rattle.mvd_sync.specs.Session.{AreDistinct, Each, IsIn, is_member}
@@ -61,12 +62,12 @@ abbrev pub held_at : States → List ℕ → ℕ
 held_at a path = length (entries (rest_of (digests a) path None))
 
 -- Behind so many further pages, each for a thousand keys: as many more keys are left after the page, if it goes on
-pub record AreCounted (a : States) (path : List ℕ) (after : Option (List ℕ)) (listing : List (Key × List ℕ) × Bool) (pages : ℕ) : Type 0 where
+pub record AreCounted (a : States) (path : List ℕ) (after : Option (List ℕ)) (listing : ListingValue) (pages : ℕ) : Type 0 where
   pub listed : IsListing (digests a) path after listing.0 listing.1
   pub many : 1000 * pages ≤ held_at a path
   pub more : listing.1 ≡ true → 1000 * (pages + 1) + length listed.later ≤ held_at a path
 
-pub first_counted : (a : States) (path : List ℕ) (listing : List (Key × List ℕ) × Bool) → IsPageOf (digests a) path None listing.0 listing.1 → AreCounted a path None listing 0
+pub first_counted : (a : States) (path : List ℕ) (listing : ListingValue) → IsPageOf (digests a) path None listing.0 listing.1 → AreCounted a path None listing 0
 first_counted a path listing h =
     let listed = listing_of_page (digests a) path None listing.0 listing.1 h in
     record {
@@ -81,7 +82,7 @@ first_counted a path listing h =
     }
 
 -- a further page
-pub next_counted : (a : States) (path : List ℕ) (after : Option (List ℕ)) (old new : List (Key × List ℕ) × Bool) (pages : ℕ) → AreCounted a path after old pages → IsSpent old → IsPageOf (digests a) path after new.0 new.1 → AreCounted a path after new (pages + 1)
+pub next_counted : (a : States) (path : List ℕ) (after : Option (List ℕ)) (old new : ListingValue) (pages : ℕ) → AreCounted a path after old pages → IsSpent old → IsPageOf (digests a) path after new.0 new.1 → AreCounted a path after new (pages + 1)
 next_counted a path after old new pages c spent h =
     let listed = listing_of_page (digests a) path after new.0 new.1 h in
     let before = c.more spent.1 in
@@ -99,13 +100,13 @@ next_counted a path after old new pages c spent h =
     }
 
 -- one more page, if it was needed
-pub counted_fill : (a : States) (path : List ℕ) (after : Option (List ℕ)) (old new : List (Key × List ℕ) × Bool) (pages asked : ℕ) → AreCounted a path after old pages → asked ≤ 1 → (1 ≤ asked → IsSpent old) → (asked ≡ 0 → new ≡ old) → (1 ≤ asked → IsPageOf (digests a) path after new.0 new.1) → AreCounted a path after new (pages + asked)
+pub counted_fill : (a : States) (path : List ℕ) (after : Option (List ℕ)) (old new : ListingValue) (pages asked : ℕ) → AreCounted a path after old pages → asked ≤ 1 → (1 ≤ asked → IsSpent old) → (asked ≡ 0 → new ≡ old) → (1 ≤ asked → IsPageOf (digests a) path after new.0 new.1) → AreCounted a path after new (pages + asked)
 counted_fill a path after old new pages zero c one needed same page = subst (λ listing. AreCounted a path after listing (pages + 0)) (sym (same refl)) (subst (AreCounted a path after old) (omega arith) c)
 counted_fill a path after old new pages (suc zero) c one needed same page = next_counted a path after old new pages c (needed (omega arith)) (page (omega arith))
 counted_fill a path after old new pages (suc (suc n)) c one needed same page = absurd (omega (arith, one))
 
 -- so many pages, and one that could not be had
-pub counted_more : (a : States) (path : List ℕ) (after : Option (List ℕ)) (listing : List (Key × List ℕ) × Bool) (pages asked : ℕ) → AreCounted a path after listing pages → asked ≤ 1 → (1 ≤ asked → IsSpent listing) → 1000 * (pages + asked) ≤ held_at a path
+pub counted_more : (a : States) (path : List ℕ) (after : Option (List ℕ)) (listing : ListingValue) (pages asked : ℕ) → AreCounted a path after listing pages → asked ≤ 1 → (1 ≤ asked → IsSpent listing) → 1000 * (pages + asked) ≤ held_at a path
 counted_more a path after listing pages zero c one needed = let many = c.many in omega (arith, many)
 counted_more a path after listing pages (suc zero) c one needed = let more = c.more (needed (omega arith)).1 in omega (arith, more)
 counted_more a path after listing pages (suc (suc n)) c one needed = absurd (omega (arith, one))
@@ -117,14 +118,14 @@ abbrev pub IsPast : List ℕ → Option (List ℕ) → Key → Type 0
 IsPast path upto key = IsTrue (is_under path key) → is_after upto key ≡ true → ⊥
 
 -- Up to this key a bucket is gone over, and these keys were found to differ; behind so many further pages of each side
-pub record Gone (a b : States) (done : List Done) (waiting : List Entry) (path : List ℕ) (upto : Option (List ℕ)) (mine theirs : List (Key × List ℕ) × Bool) (found : List Entry) (i j : ℕ) : Type 0 where
+pub record Gone (a b : States) (done : List Done) (waiting : List Entry) (path : List ℕ) (upto : Option (List ℕ)) (mine theirs : ListingValue) (found : List Entry) (i j : ℕ) : Type 0 where
   pub first : AreCounted a path upto mine i
   pub second : AreCounted b path upto theirs j
   pub below : Each (λ e. IsTrue (is_under path e.key) × (is_after upto e.key ≡ false)) found
   pub next : AreNext a b done (waiting ++ found)
   pub all : (key : Key) → IsTrue (is_under path key) → is_after upto key ≡ false → get (digests a) key ≢ get (digests b) key → IsIn (keys_next found) key
 
-pub gone_begins : (a b : States) (done : List Done) (waiting : List Entry) (path : List ℕ) (mine theirs : List (Key × List ℕ) × Bool) → AreNext a b done waiting → IsPageOf (digests a) path None mine.0 mine.1 → IsPageOf (digests b) path None theirs.0 theirs.1 → Gone a b done waiting path None mine theirs [] 0 0
+pub gone_begins : (a b : States) (done : List Done) (waiting : List Entry) (path : List ℕ) (mine theirs : ListingValue) → AreNext a b done waiting → IsPageOf (digests a) path None mine.0 mine.1 → IsPageOf (digests b) path None theirs.0 theirs.1 → Gone a b done waiting path None mine theirs [] 0 0
 gone_begins a b done waiting path mine theirs next p q = record {
   first = first_counted a path mine p;
   second = first_counted b path theirs q;
@@ -170,14 +171,14 @@ none_held key o a at none =
           absurd (cc)
     ] refl
 
-module _ (a b : States) (done : List Done) (waiting : List Entry) (path : List ℕ) (upto : Option (List ℕ)) (mine theirs : List (Key × List ℕ) × Bool) (found : List Entry) (i j : ℕ)
+module _ (a b : States) (done : List Done) (waiting : List Entry) (path : List ℕ) (upto : Option (List ℕ)) (mine theirs : ListingValue) (found : List Entry) (i j : ℕ)
     (gone : Gone a b done waiting path upto mine theirs found i j)
     (mine_more : mine.0 ≡ [] → mine.1 ≡ false) (theirs_more : theirs.0 ≡ [] → theirs.1 ≡ false)
     (elsewhere : Each (λ key. is_under path key ≡ false) (keys_done done ++ keys_next waiting))
-    (e : Entry) (mine' theirs' : List (Key × List ℕ) × Bool) (takes : TakesNext mine.0 theirs.0 e.key e.mine e.theirs e.differs mine'.0 theirs'.0)
+    (e : Entry) (mine' theirs' : ListingValue) (takes : TakesLesser (two mine.0 theirs.0) e (two mine'.0 theirs'.0))
     (same_more : mine'.1 ≡ mine.1) (same_more' : theirs'.1 ≡ theirs.1) where
   both_heads : Heads (digests a) (digests b) path upto e.key e.mine e.theirs e.differs (mine'.0 ++ gone.first.listed.later) (theirs'.0 ++ gone.second.listed.later)
-  both_heads = heads (digests a) (digests b) path upto e.key e.mine e.theirs e.differs mine.0 theirs.0 mine'.0 theirs'.0 mine.1 theirs.1 gone.first.listed gone.second.listed mine_more theirs_more takes
+  both_heads = heads (digests a) (digests b) path upto e mine.0 theirs.0 mine'.0 theirs'.0 mine.1 theirs.1 gone.first.listed gone.second.listed mine_more theirs_more takes
 
   at_first : get (digests a) e.key ≡ both_heads.first
   at_first = at_head (digests a) path upto e.key both_heads.first (mine'.0 ++ gone.first.listed.later) both_heads.mine both_heads.below both_heads.next
@@ -290,7 +291,7 @@ none_left : (m : KeyDigests) (path : List ℕ) (upto : Option (List ℕ)) → en
 none_left m path upto e key u h = sym (get-rest m path upto key ∙ ap (λ x. cond x (get m key) None) (λ i. u i && h i)) ∙ get-entries (rest_of m path upto) key ∙ ap (find (slice_cmp nat_cmp) key) e
 
 -- all keys of the bucket that differ are found
-pub gone_ends : (a b : States) (done : List Done) (waiting : List Entry) (path : List ℕ) (upto : Option (List ℕ)) (mine theirs : List (Key × List ℕ) × Bool) (found : List Entry) (i j : ℕ) → Gone a b done waiting path upto mine theirs found i j
+pub gone_ends : (a b : States) (done : List Done) (waiting : List Entry) (path : List ℕ) (upto : Option (List ℕ)) (mine theirs : ListingValue) (found : List Entry) (i j : ℕ) → Gone a b done waiting path upto mine theirs found i j
     → (mine.0 ≡ [] → mine.1 ≡ false) → (theirs.0 ≡ [] → theirs.1 ≡ false) → mine.0 ≡ [] → theirs.0 ≡ [] → (key : Key) → IsTrue (is_under path key) → get (digests a) key ≢ get (digests b) key → IsIn (keys_next found) key
 gone_ends a b done waiting path upto mine theirs found i j gone mine_more theirs_more p q key u differ =
     let first = gone.first.listed in

@@ -4,7 +4,7 @@ use Rattle.std.specs.Prelude.{Result, IfSome, is_some}
 use Rattle.std.specs.List.{cons_option}
 use Rattle.mvd_dots.specs.declared.refusals.Refusal.{Refusal}
 use Rattle.mvd_keys.specs.State.{IsValid, State}
-use Rattle.mvd_sync.specs.Meetings.{ArePlans, Meets, clash, first_if, has, held_keys, is_held, meet, noted, pair_of, rest_if, taken_from, wanted}
+use Rattle.mvd_sync.specs.Meetings.{ArePlans, Trades, clash, first_if, has, held_keys, is_held, meet, noted, pair_of, rest_if, taken_from, wanted}
 use Rattle.mvd_sync.specs.Questions.{ForEach}
 use Rattle.mvd_sync.specs.Session.{Each}
 use Rattle.mvd_sync.specs.declared.cursor.Entry.{Entry}
@@ -27,12 +27,12 @@ next_given P side e es states each =
 
 -- ---- what is to be taken was given
 
-pull_is : (P : State → Type 0) (own other pull give : Option State) (refused : Option (Side × Refusal)) → Meets own other pull give refused → IfSome other P → IfSome pull P
+pull_is : (P : State → Type 0) (own other pull give : Option State) (refused : Option (Side × Refusal)) → Trades own other pull give refused → IfSome other P → IfSome pull P
 pull_is P own other pull give refused (clash h p g r) i = subst (λ o. IfSome o P) (sym p) tt
 pull_is P own other pull give refused (meet h p g r) i = subst (λ o. IfSome o P) (sym p) i
 pull_is P own other pull give refused (has h p g j r) i = subst (λ o. IfSome o P) (sym p) i
 
-give_is : (P : State → Type 0) (own other pull give : Option State) (refused : Option (Side × Refusal)) → Meets own other pull give refused → IfSome own P → IfSome give P
+give_is : (P : State → Type 0) (own other pull give : Option State) (refused : Option (Side × Refusal)) → Trades own other pull give refused → IfSome own P → IfSome give P
 give_is P own other pull give refused (clash h p g r) i = subst (λ o. IfSome o P) (sym g) tt
 give_is P own other pull give refused (meet h p g r) i = subst (λ o. IfSome o P) (sym g) i
 give_is P own other pull give refused (has h p g j r) i = subst (λ o. IfSome o P) (sym g) tt

@@ -1,6 +1,6 @@
 -- Nodes above the buckets.
-use Rattle.std.proofs.Common.{◌≡◌, ℕ, ◌<◌, List, [], ◌∷◌, length, get_or, Some, None, ◌∙◌}
-use Rattle.std.specs.Prelude.{Result, Ok, Err}
+use Rattle.std.proofs.Common.{◌≡◌, ℕ, ◌<◌, List, [], ◌∷◌, length, Some, None, ◌∙◌}
+use Rattle.std.specs.Prelude.{Contains, Result, Ok, Err}
 use Rattle.mvd_dots.specs.declared.refusals.Refusal.{Refusal}
 use Rattle.mvd_tree.specs.HashTree.{KeyDigests}
 use Rattle.mvd_tree.specs.Page.{children_digests}
@@ -9,12 +9,16 @@ use Rattle.mvd_sync.specs.Questions.{ForEach, IsInner}
 use Rattle.mvd_sync.specs.Session.{Each}
 use Rattle.mvd_sync.specs.Windows.{EachAnswer, EachTold, IsNode}
 use Rattle.mvd_sync.specs.declared.asking.Node.{Node}
-use Rattle.mvd_sync.proofs.Answering.{IsNodeOf, Passes, answer_at}
+use Rattle.mvd_sync.proofs.Answering.{IsNodeOf, answer_in}
+use Rattle.mvd_sync.specs.Made.{Passes}
 
--- a true side does not leave the children out
-pub not_without : (held : KeyDigests) (paths : List (List ℕ)) (ts : List (Result Digests Refusal)) (n : ℕ) (d : Digests) → Each (λ path. length path < 3) paths → EachAnswer (IsNode held) paths ts → n < length ts → Ok d ≡ get_or ts n (Ok d) → d.children ≡ None → ⊥
-not_without held paths ts n d short right low at none =
-    answer_at (IsNode held) (λ path. length path < 3) (λ d. d.children ≡ None → ⊥) (λ q a inner node e. let p : a.children ≡ Some (children_digests held q) = node.1 inner in absurd (cc)) paths ts n d short right low at none
+-- a faithful side does not leave the children out
+pub not_without : (held : KeyDigests) (paths : List (List ℕ)) (ts : List (Result Digests Refusal)) (d : Digests)
+    → Each (λ path. length path < 3) paths → EachAnswer (IsNode held) paths ts → Contains ts (Ok d) → d.children ≡ None → ⊥
+not_without held paths ts d short right here none =
+    answer_in (IsNode held) (λ path. length path < 3) (λ d. d.children ≡ None → ⊥)
+    (λ q a inner node e. let p : a.children ≡ Some (children_digests held q) = node.1 inner in absurd (cc))
+    paths ts d short right here none
 
 -- what was made of right digests is right
 pub inner_right : (held : KeyDigests) (P : Type 0) (T : Refusal → Type 0) (paths : List (List ℕ)) (ts : List (Result Digests Refusal)) (nodes : List Node) → Each (λ path. length path < 3) paths → EachAnswer (IsNode held) paths ts → EachTold P T ts → ForEach (Passes IsNodeOf) ts nodes → ForEach (IsInner held) paths nodes

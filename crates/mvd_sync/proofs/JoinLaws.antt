@@ -1,18 +1,14 @@
 -- Joins of the states of a key that two sides hold.
-use Rattle.std.proofs.Common.{◌≡◌, ℕ, not, true≢false, Bool, true, false, ◌&&◌, ◌==◌, List, refl, sym, ap, ◌∙◌, Some, None, Option}
-use Rattle.std.specs.Prelude.{unwrap_or, bytes_eq}
-use Rattle.std.proofs.lemmas.Slice.Eq.{bytes_eq-Decides}
+use Rattle.std.proofs.Common.{◌≡◌, ℕ, Bool, true, false, ◌&&◌, ◌==◌, List, refl, sym, ap, ◌∙◌, Some, None}
+use Rattle.std.specs.Prelude.{unwrap_or}
 use Rattle.std.specs.Cmp.{unsigned_Decides}
 use Rattle.std.specs.FinMap.{get, empty_of_len, len, len-empty}
-use Rattle.std.specs.FinSet.{contains}
 use Rattle.std.specs.FinSet as set
 use Rattle.mvd_dots.specs.Dot.{dot_cmp}
-use Rattle.mvd_keys.specs.State.{State, IsValid, Text, clashes, differ, empty_state, join}
+use Rattle.mvd_keys.specs.State.{State, IsValid, Text, clashes, empty_state, join}
 use Rattle.mvd_keys.specs.Writes.{is_empty}
-use Rattle.mvd_keys.proofs.Joins.{apart_at, join_commutes, join_groups, join_repeats}
+use Rattle.mvd_keys.proofs.Joins.{join_commutes, join_groups, join_repeats}
 use Rattle.mvd_keys.proofs.Lists.{IsValid-empty}
-use Rattle.mvd_keys.proofs.Sets.{never, same_document}
-use Rattle.mvd_keys.proofs.StatesOfWrites.{get-join, join_at}
 use Rattle.mvd_site.specs.Held.{AreHeld, States, state_at}
 use Rattle.mvd_sync.specs.Session.{is_nothing}
 
@@ -42,25 +38,6 @@ pub join_absorbs : (s t : State) → IsValid s → IsValid t → clashes s t ≡
 join_absorbs s t p q apart =
     let turned = join_commutes s t p q apart in
     sym (join_groups t s t q p q) ∙ ap (λ u. join u t) (sym turned) ∙ join_groups s t t p q q ∙ ap (join s) (join_repeats t q)
-
-documents_same : (x y : Text) → differ (Some x) (Some y) ≡ false → x ≡ y
-documents_same x y h =
-    elim (bytes_eq x y) as (λ b. bytes_eq x y ≡ b → not b ≡ false → x ≡ y) [
-      | true ↦ λ e _. (bytes_eq-Decides x y).0 e
-      | false ↦ λ _ no. absurd (true≢false no)
-    ] refl h
-
-apart_again : (f g : Option Text) (c e : Bool) → differ f g ≡ false → differ g (join_at f c g e) ≡ false
-apart_again f None c e h = refl
-apart_again None (Some y) true e h = refl
-apart_again None (Some y) false e h = same_document y y refl
-apart_again (Some x) (Some y) c e h = same_document y x (sym (documents_same x y h))
-
--- and does not clash
-pub no_clash_again : (s t : State) → clashes s t ≡ false → clashes t (join s t) ≡ false
-unfolding clashes
-no_clash_again s t apart =
-    never _ _ (λ q. ap (differ (get t.siblings q)) (get-join s t q) ∙ apart_again (get s.siblings q) (get t.siblings q) (contains s.context q) (contains t.context q) (apart_at s t apart q))
 
 -- nothing is written in the empty state
 pub nothing_empty : is_nothing empty_state ≡ true

@@ -82,10 +82,6 @@ module _ (most_local most_peer : ℕ) (a b a' b' : States) where
   came_met number key (Some (AtLocal, refusal)) h = tt
   came_met number key (Some (AtPeer, refusal)) h = h.0
 
-  given_joined : (refused : Option (Side × Refusal)) (P : Type 0) → P → MatchBool (is_given refused) P (Unit {0})
-  given_joined None P h = h
-  given_joined (Some r) P h = tt
-
   each_of : (number : Option ℕ) (P : Done → Type 0) → ((d : Done) → CameToBy most_local most_peer number a b a' b' d.key d.refused → P d) → (ds : List Done) → Each (IsDoneBy most_local most_peer number a b a' b') ds → Each P ds
   each_of number P f ds each = Each-weaker (IsDoneBy most_local most_peer number a b a' b') P (λ d h. f d h.came) ds each
 

@@ -15,7 +15,7 @@ use Rattle.mvd_wire.specs.Requests.{IsRequest, request_frame}
 use Rattle.mvd_site.specs.Held.{States}
 use Rattle.mvd_sync.specs.LinkWindows.{Answers, Frames, and_frame, frames_after, frames_of}
 use Rattle.mvd_sync.specs.Lines.{AllToldTruly, AnswersTruly, AreFrames, AreSpelled, DueTurn, DueTurns, EndsOpen, Far, IsNext, IsSettled, IsSpelled, IsTaken, IsTrueRemote, MayTake, SettleTruly, SettlesTruly, TakesAll, TakesDue, TakesFirst, TellsAllTruly, ToldTruly, Took, TrueReplies, TrueReply, and_framed, framed}
-use Rattle.mvd_sync.specs.Links.{AsksFor, Link, ReadsReply, Refuses, Sends, answered_by}
+use Rattle.mvd_sync.specs.Links.{ReadsReply}
 use Rattle.mvd_sync.specs.Questions.{ForEach}
 use Rattle.mvd_sync.specs.Windows.{leaves_open}
 use Rattle.mvd_sync.specs.declared.remote.Remote.{Remote}
@@ -189,10 +189,6 @@ pub window_answered : {A V : Type 0} (X : Type 0) (as_reply : A → Reply) (item
 window_answered X as_reply items most old new qs ts (Ok v) told e s ended = settled as_reply most old new qs ts (items v) told.0 e s
 window_answered X as_reply items most old new qs ts (Err refusal) told e s ended = (open_end refusal ended, told.1)
 
--- nothing was sent
-pub none_sent : (most : ℕ) (old : States) (qs : List Request) (refusal : Refusal) → leaves_open refusal ≡ true → EndsOpen most old qs refusal old
-none_sent most old qs refusal e = (e, (0, [], refl))
-
 -- ---- a remote side
 
 module _ {L : Type 0} (is_true : L → Type 0) (far : L → Far) (remote : Remote L) where
@@ -280,29 +276,6 @@ one_broke is_true far as_reply new old line q refusal result same now gives why 
 pub none_asked : {A : Type 0} (as_reply : A → Reply) (most : ℕ) (old : States) (q : Request) (refusal : Refusal) → leaves_open refusal ≡ true → AnswersTruly as_reply most old q (Err refusal) old
 none_asked as_reply most old q refusal e = inr (inr (e, inl refl))
 
--- the request has no frame, or memory was refused for it
-pub not_encoded : {A V : Type 0} (as_reply : A → Reply) (view : V → List ℕ) (most : ℕ) (old : States) (q : Request) (refusal : Refusal) → Gives view (Err refusal) (request_frame q) → AnswersTruly as_reply most old q (Err refusal) old
-not_encoded as_reply view most old q refusal why = elim (is_memory refusal) [
-  | inl memory ↦ none_asked as_reply most old q refusal (ap leaves_open memory)
-  | inr other ↦ inr (inl (why other, refl))
-]
-
 -- a reply that accepts nothing is a refusal
 pub told_none : {A : Type 0} (as_reply : A → Reply) (most : ℕ) (old new : States) (q : Request) (reply : Reply) (refusal : Refusal) → TrueReply most old q reply new → reply ≡ Refused refusal → AnswersTruly as_reply most old q (Err refusal) new
 told_none as_reply most old new q reply refusal h e = inl (subst (λ (r : Reply). TrueReply most old q r new) e h)
-
--- there was no reply
-pub no_answer : {A B : Type 0} (as_reply : A → Reply) (as_reply' : B → Reply) (most : ℕ) (old new : States) (q : Request) (refusal : Refusal) → AnswersTruly as_reply most old q (Err refusal) new → AnswersTruly as_reply' most old q (Err refusal) new
-no_answer as_reply as_reply' most old new q refusal h = h
-
--- what is made of the reply to a question
-pub answered_for : {A : Type 0} (as_reply : A → Reply) (most : ℕ) (old new : States) (q : Request) (reply : Reply) (made : Result A Refusal) → TrueReply most old q reply new → IfOk made (λ a. reply ≡ as_reply a) → IfErr made (λ refusal. reply ≡ Refused refusal) → AnswersTruly as_reply most old q made new
-answered_for as_reply most old new q reply (Ok a) h e f = subst (λ (r : Reply). TrueReply most old q r new) e h
-answered_for as_reply most old new q reply (Err refusal) h e f = told_none as_reply most old new q reply refusal h f
-
-pub asked_for : {A : Type 0} (as_reply : A → Reply) (q : Request) (frame : List ℕ) (kind : ℕ) (old new : Link) (reply : Reply) (made : Result A Refusal) → request_frame q ≡ Ok frame → answered_by q ≡ kind → Sends old new frame kind (Ok reply) → IfOk made (λ a. reply ≡ as_reply a) → IfErr made (λ refusal. reply ≡ Refused refusal) → AsksFor as_reply q old new made
-asked_for as_reply q frame kind old new reply (Ok a) is same sends e f = (frame, is, subst (λ (r : Reply). Sends old new frame (answered_by q) (Ok r)) e (subst (λ k. Sends old new frame k (Ok reply)) (sym same) sends))
-asked_for as_reply q frame kind old new reply (Err refusal) is same sends e f = inr (frame, is, subst (λ (r : Reply). Sends old new frame (answered_by q) (Ok r)) f (subst (λ k. Sends old new frame k (Ok reply)) (sym same) sends))
-
-pub asked_none : {A : Type 0} (as_reply : A → Reply) (q : Request) (frame : List ℕ) (kind : ℕ) (old new : Link) (refusal : Refusal) → request_frame q ≡ Ok frame → answered_by q ≡ kind → Sends old new frame kind (Err refusal) → Refuses old new q refusal
-asked_none as_reply q frame kind old new refusal is same sends = inl (inr (frame, is, subst (λ k. Sends old new frame k (Err refusal)) (sym same) sends))

@@ -28,7 +28,7 @@ pub one_push : (most : ℕ) (mid new : States) (p : Key × State) (a : Told) →
 one_push most mid new p (Ok done) is apart same why = (apart, is)
 one_push most mid new p (Err refusal) is apart same why = (why, same)
 
--- a side that did not say that it is broken is still true
+-- a side that did not say that it is broken is still faithful
 pub still_true : (F E : Type 0) (a : Told) → OnOk a (F × E) → IfErr a (λ refusal. refusal ≢ Broken → F) → (a ≡ Err Broken → ⊥) → F
 still_true F E (Ok done) ok err whole = ok.0
 still_true F E (Err refusal) ok err whole = err (λ e. whole (ap Err e))

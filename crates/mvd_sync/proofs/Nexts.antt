@@ -47,7 +47,7 @@ module _ (done now : List Done) (next waiting more : List Entry) (is : keys_next
     each = Each-append (IsNext a b) next more before (Each-right (IsNext a b) waiting more all.each);
   }
 
--- ---- between two true sides
+-- ---- between two faithful sides
 
 module _ {L P : Type 0} (l : SideOf L) (p : SideOf P) (number : Option ℕ) (a b : States) (done : List Done) (most_local most_peer : ℕ) where
   -- at the beginning all of them wait

@@ -94,10 +94,6 @@ module _ {S : Type 0} (follows : ℕ → S → S → Type 0) (can_refuse : S →
   pub answered_now : (old mid new : S) → Reaches follows old mid → Reaches follows mid new → can_answer new → HasAnswered follows can_answer old new
   answered_now old mid new p q is = (new, (p.0 + q.0, on p.0 q.0 old mid new p.1 q.1), is, (0, self new))
 
-  -- no question was made for want of memory
-  pub none_made : (most : ℕ) (old : S) (refusal : Refusal) → refusal ≡ Memory → Ends follows can_refuse most old old refusal
-  none_made most old refusal is = record { count = (0, omega arith, self old); cause = inr is }
-
   -- and one was the last
   module _ (most n : ℕ) (old mid new : S) (before : follows n old mid) (step : follows 1 mid new) (few : n + 1 ≤ most) where
     pub last_made : (refusal : Refusal) → can_refuse new refusal ⊎ (refusal ≡ Memory) → Ends follows can_refuse most old new refusal

@@ -4,9 +4,9 @@ use Rattle.std.proofs.lemmas.List.{length-map}
 use Rattle.mvd_dots.specs.declared.refusals.Refusal.{Refusal}
 use Rattle.mvd_dots.specs.declared.refusals.Refusal.TheVariants.{Memory}
 use Rattle.mvd_keys.specs.State.{State}
-use Rattle.mvd_sync.specs.Carries.{Gives}
+use Rattle.mvd_sync.specs.Carries.{GivesStates}
 use Rattle.mvd_sync.specs.Meetings.{held_keys, is_held}
-use Rattle.mvd_sync.specs.Questions.{ComesToEnd, Keeps}
+use Rattle.mvd_sync.specs.Questions.{ComesToEnd, Keeps, with_left}
 use Rattle.mvd_sync.specs.Sides.{SideOf, of_memory}
 use Rattle.mvd_sync.specs.declared.cursor.Entry.{Entry}
 use Rattle.mvd_sync.specs.declared.asking.Questions.{Questions}
@@ -28,7 +28,7 @@ held_short name es =
     omega (arith, n, m)
 
 module _ {L P : Type 0} (l : SideOf L) (p : SideOf P) (entries : List Entry) (left : Questions) (local local' : L) (peer peer' : P) (refusal : Refusal) where
-  pub ends_at_local : ComesToEnd l (Keeps l local local') (length (held_keys AtLocal entries)) left.local local local' refusal → p.follows 0 peer peer → ReadsEndBy l p (λ asked. asked ≤ length entries) left local local' peer peer (Local refusal)
+  pub ends_at_local : ComesToEnd l (Keeps l local local') (length (held_keys AtLocal entries)) (with_left local left.local) local' refusal → p.follows 0 peer peer → ReadsEndBy l p (λ asked. asked ≤ length entries) left local local' peer peer (Local refusal)
   ends_at_local e self =
       let short = held_short AtLocal entries in
       record {
@@ -44,7 +44,7 @@ module _ {L P : Type 0} (l : SideOf L) (p : SideOf P) (entries : List Entry) (le
         kept_peer = λ t. record { still = t; states = refl };
       }
 
-  pub ends_at_peer : (mine : List State) (left' : ℕ) → Gives l AtLocal entries mine left.local left' local local' → ComesToEnd p (Keeps p peer peer') (length (held_keys AtPeer entries)) left.peer peer peer' refusal → ReadsEndBy l p (λ asked. asked ≤ length entries) left local local' peer peer' (Peer refusal)
+  pub ends_at_peer : (mine : List State) (left' : ℕ) → GivesStates l AtLocal entries mine (with_left local left.local) (with_left local' left') → ComesToEnd p (Keeps p peer peer') (length (held_keys AtPeer entries)) (with_left peer left.peer) peer' refusal → ReadsEndBy l p (λ asked. asked ≤ length entries) left local local' peer peer' (Peer refusal)
   ends_at_peer mine left' given e =
       let short = held_short AtLocal entries in
       let short' = held_short AtPeer entries in
@@ -61,7 +61,7 @@ module _ {L P : Type 0} (l : SideOf L) (p : SideOf P) (entries : List Entry) (le
         kept_peer = e.right;
       }
 
-  pub ends_for_memory : (mine theirs : List State) (left' left'' : ℕ) → Gives l AtLocal entries mine left.local left' local local' → Gives p AtPeer entries theirs left.peer left'' peer peer' → refusal ≡ Memory → ReadsEndBy l p (λ asked. asked ≤ length entries) left local local' peer peer' (Local refusal)
+  pub ends_for_memory : (mine theirs : List State) (left' left'' : ℕ) → GivesStates l AtLocal entries mine (with_left local left.local) (with_left local' left') → GivesStates p AtPeer entries theirs (with_left peer left.peer) (with_left peer' left'') → refusal ≡ Memory → ReadsEndBy l p (λ asked. asked ≤ length entries) left local local' peer peer' (Local refusal)
   ends_for_memory mine theirs left' left'' given given' is = record {
     asked_local = length (held_keys AtLocal entries);
     asked_peer = length (held_keys AtPeer entries);

@@ -44,9 +44,6 @@ plans_more number e es mine theirs mine' theirs' own other r m ms o o' t t' plan
     let both = at (first_if e.mine mine) (first_if e.theirs theirs) o t in
     (both.0, both.1, subst (λ v. ArePlans number es (rest_if e.mine mine) v ms) t' (subst (λ v. ArePlans number es v theirs' ms) o' more))
 
-pub plans_none : (number : Option ℕ) (mine theirs : List State) → ArePlans number [] mine theirs []
-plans_none number mine theirs = tt
-
 key_taken : (side : Side) (m : Meeting) → (taken_from side m).key ≡ m.key
 key_taken AtLocal m = refl
 key_taken AtPeer m = refl

@@ -1,8 +1,9 @@
 -- The relations of a session, of sides, states and numbers one by one.
-use Rattle.std.specs.Prelude.{ℕ, Bool, List, Option, Result, Vec}
+use Rattle.std.specs.Prelude.{ℕ, List, Option, Result, Vec}
 use Rattle.mvd_dots.specs.declared.refusals.Refusal.{Refusal}
 use Rattle.mvd_keys.specs.Writes.{Key}
 use Rattle.mvd_site.specs.Held.{States}
+use Rattle.mvd_sync.specs.Answers.{ListingValue}
 use Rattle.mvd_sync.specs.Buckets.{FillEnds, FillsBoth, Finds, Goes, GoesOnWithin, GoesOver, GoesThrough, Settles, SettlesAll, reading}
 use Rattle.mvd_sync.specs.Carries.{ExchangesAll, Planned}
 use Rattle.mvd_sync.specs.Exchanges.{CameTo, Done, Exchanges, Exchanging, GoesOn, IsDone, JoinsSome, SoFar, Stand, moment}
@@ -119,15 +120,15 @@ abbrev pub GoesOverBy : {L P A : Type 0} → SideOf L → SideOf P → List (Lis
 GoesOverBy l p paths firsts left left' local local' peer peer' before after =
     GoesOver (sides l p) (record { paths = paths; firsts = firsts }) (moment local peer left before) (moment local' peer' left' after)
 
-abbrev pub FillsBothBy : {L P : Type 0} → SideOf L → SideOf P → List ℕ → Option (List ℕ) → (mine mine' theirs theirs' : List (Key × List ℕ) × Bool) (left left' : Questions) (local local' : L) (peer peer' : P) → Type 0
+abbrev pub FillsBothBy : {L P : Type 0} → SideOf L → SideOf P → List ℕ → Option (List ℕ) → (mine mine' theirs theirs' : ListingValue) (left left' : Questions) (local local' : L) (peer peer' : P) → Type 0
 FillsBothBy l p path after mine mine' theirs theirs' left left' local local' peer peer' =
     FillsBoth (sides l p) path after (reading local peer left mine theirs) (reading local' peer' left' mine' theirs')
 
-abbrev pub FillEndsBy : {L P : Type 0} → SideOf L → SideOf P → (mine theirs : List (Key × List ℕ) × Bool) (left : Questions) (local local' : L) (peer peer' : P) → SyncFault → Type 0
+abbrev pub FillEndsBy : {L P : Type 0} → SideOf L → SideOf P → (mine theirs : ListingValue) (left : Questions) (local local' : L) (peer peer' : P) → SyncFault → Type 0
 FillEndsBy l p mine theirs left local local' peer peer' = FillEnds (sides l p) (reading local peer left mine theirs) (two local' peer')
 
 -- ---- windows
 
 abbrev pub AskedBy : {S Q A : Type 0} → (ℕ → S → S → Type 0) → (S → Refusal → Type 0) → (S → Type 0) → (May Right : Q → A → Type 0) → (Q → Refusal → Type 0) → Type 0 → List Q → List (Result A Refusal) → (old new : S) → Type 0
-AskedBy follows can_refuse can_answer May Right Refuses was_true =
-    Asked (manner follows can_refuse can_answer) (record { may = May; was_true = was_true; right = Right; refuses = Refuses })
+AskedBy follows can_refuse can_answer May Right Refuses was_faithful =
+    Asked (manner follows can_refuse can_answer) (record { may = May; was_faithful = was_faithful; right = Right; refuses = Refuses })

@@ -7,10 +7,10 @@ use Rattle.mvd_dots.specs.declared.refusals.Refusal.{Refusal}
 use Rattle.mvd_dots.specs.declared.refusals.Refusal.TheVariants.{Broken, Memory, TooManyRequests}
 use Rattle.mvd_keys.specs.State.{State}
 use Rattle.mvd_keys.specs.Writes.{Key}
-use Rattle.mvd_sync.specs.Questions.{AllAnswered, ComesToEnd, ForEach, IsOfKey, TakesFirst, TakesIn}
+use Rattle.mvd_sync.specs.Questions.{AllAnswered, ComesToEnd, ForEach, IsOfKey, TakesIn, TakesInFirst, with_left}
 use Rattle.mvd_sync.specs.Sides.{HasAnswered, HasRefused, SideOf, is_of_key, is_of_question, of_memory, of_questions, of_side}
-use Rattle.mvd_sync.specs.Windows.{EachAnswer, EachTold, Ends, Pushes, PushesFirst}
-use Rattle.mvd_sync.proofs.Answering.{told_at}
+use Rattle.mvd_sync.specs.Windows.{EachAnswer, Ends, Pushes, PushesFirst}
+use Rattle.mvd_sync.proofs.Answering.{told_in}
 use Rattle.mvd_sync.proofs.Compose.{ends_for_memory, refused_later}
 use Rattle.mvd_sync.proofs.ManyPushes.{first_later, pushes-append, pushes_apart}
 use Rattle.mvd_sync.proofs.Positions.{AskedBy, BlamesBy}
@@ -46,10 +46,6 @@ as_many M (q ∷ qs) [] h = absurd h
 as_many M (q ∷ qs) (Ok a ∷ ts) h = ap suc (as_many M qs ts h.1)
 as_many M (q ∷ qs) (Err e ∷ ts) h = ap suc (as_many M qs ts h)
 
--- a refusal that was told
-pub told_in : {A : Type 0} (P : Type 0) (T : Refusal → Type 0) (ts : List (Result A Refusal)) (refusal : Refusal) → EachTold P T ts → Contains ts (Err refusal) → T refusal
-told_in P T ts refusal h in_it = (told_at P T ts in_it.0 (Err refusal) h in_it.1 (sym in_it.2)).0
-
 -- ---- pushes so far
 
 -- the first pairs were pushed, and the rest were not
@@ -74,18 +70,15 @@ no_pairs [] e = refl
 no_pairs (x ∷ xs) e = absurd (omega arith)
 
 module _ {S : Type 0} (s : SideOf S) (pairs : List Pair) (left : ℕ) (old : S) where
-  pub none_pushed : s.follows 0 old old → FrontPushed s pairs pairs [] left left old old
-  none_pushed self = record { done = []; whole = refl; spent = omega arith; follows = self; many = refl; took = λ t. (t, refl) }
-
-  none_taken : (refusal : Refusal) → s.is_faithful old → TakesFirst s pairs old old refusal
+  none_taken : (refusal : Refusal) → s.is_faithful old → TakesInFirst s pairs old old refusal
   none_taken refusal t = record { still = λ _. t; pushes = (0, [], s.states old, refl, λ _. refl) }
 
   -- memory was refused before the first
-  pub ended_first : (refusal : Refusal) → s.follows 0 old old → refusal ≡ Memory → ComesToEnd s (TakesFirst s pairs old old refusal) (length pairs) left old old refusal
+  pub ended_first : (refusal : Refusal) → s.follows 0 old old → refusal ≡ Memory → ComesToEnd s (TakesInFirst s pairs old old refusal) (length pairs) (with_left old left) old refusal
   ended_first refusal self is = ends_for_memory s _ (length pairs) left left 0 old old refusal (omega arith) (omega arith) self (none_taken refusal) is
 
   -- all were
-  pub all_pushed : (told : List Told) (left' : ℕ) (new : S) → FrontPushed s pairs [] told left left' old new → All IsOfKey told → AllAnswered s (λ _ told. IsOfKey told) (TakesIn s pairs told old new) pairs told left left' old new
+  pub all_pushed : (told : List Told) (left' : ℕ) (new : S) → FrontPushed s pairs [] told left left' old new → All IsOfKey told → AllAnswered s (λ _ told. IsOfKey told) (TakesIn s pairs told old new) pairs told (with_left old left) (with_left new left')
   all_pushed told left' new f of_key =
       let is : f.done ≡ pairs = sym (f.whole ∙ append-nil f.done) in
       record {
@@ -96,7 +89,7 @@ module _ {S : Type 0} (s : SideOf S) (pairs : List Pair) (left : ℕ) (old : S) 
       }
 
   -- and the last answer, or what was made of it, ended them
-  pub ended_after : (rest : List Pair) (told : List Told) (left' : ℕ) (new : S) (refusal : Refusal) (f : FrontPushed s pairs rest told left left' old new) → BlamesBy s left (length f.done) 0 old new refusal → (s.is_faithful old → is_of_question refusal ≡ false) → ComesToEnd s (TakesFirst s pairs old new refusal) (length pairs) left old new refusal
+  pub ended_after : (rest : List Pair) (told : List Told) (left' : ℕ) (new : S) (refusal : Refusal) (f : FrontPushed s pairs rest told left left' old new) → BlamesBy s left (length f.done) 0 old new refusal → (s.is_faithful old → is_of_question refusal ≡ false) → ComesToEnd s (TakesInFirst s pairs old new refusal) (length pairs) (with_left old left) new refusal
   ended_after rest told left' new refusal f why not_of_question =
       let longer : length pairs ≡ length f.done + length rest = ap length f.whole ∙ length-append f.done rest in
       record {
@@ -121,11 +114,11 @@ module _ {S : Type 0} (s : SideOf S) (pairs : List Pair) (left : ℕ) (old : S) 
             };
       }
 
-  pub ended_for_memory : (rest : List Pair) (told : List Told) (left' : ℕ) (new : S) (refusal : Refusal) → FrontPushed s pairs rest told left left' old new → refusal ≡ Memory → ComesToEnd s (TakesFirst s pairs old new refusal) (length pairs) left old new refusal
+  pub ended_for_memory : (rest : List Pair) (told : List Told) (left' : ℕ) (new : S) (refusal : Refusal) → FrontPushed s pairs rest told left left' old new → refusal ≡ Memory → ComesToEnd s (TakesInFirst s pairs old new refusal) (length pairs) (with_left old left) new refusal
   ended_for_memory rest told left' new refusal f is = ended_after rest told left' new refusal f (of_memory is) (λ _. ap is_of_question is)
 
   -- no question was left
-  pub ended_for_want : (rest : List Pair) (told : List Told) (left' : ℕ) (new : S) (refusal : Refusal) → FrontPushed s pairs rest told left left' old new → refusal ≡ TooManyRequests → left' ≡ 0 → 1 ≤ length rest → ComesToEnd s (TakesFirst s pairs old new refusal) (length pairs) left old new refusal
+  pub ended_for_want : (rest : List Pair) (told : List Told) (left' : ℕ) (new : S) (refusal : Refusal) → FrontPushed s pairs rest told left left' old new → refusal ≡ TooManyRequests → left' ≡ 0 → 1 ≤ length rest → ComesToEnd s (TakesInFirst s pairs old new refusal) (length pairs) (with_left old left) new refusal
   ended_for_want rest told left' new refusal f is none more =
       let longer : length pairs ≡ length f.done + length rest = ap length f.whole ∙ length-append f.done rest in
       let spent = f.spent in
@@ -179,7 +172,7 @@ module _ {S : Type 0} (s : SideOf S) (on : (m n : ℕ) (old mid new : S) → s.f
     pub ended_told : {May Right : Pair → Unit {0} → Type 0} {Refuses : Pair → Refusal → Type 0} {T : Type 0} (refusal : Refusal) → AskedBy s.follows s.can_refuse s.can_answer May Right Refuses T (take taken rest) answers mid new
         → (s.is_faithful mid → s.is_faithful new × Pushes (s.most_keys mid) (s.states mid) (take taken rest) answers (s.states new))
         → (refusal ≡ Memory) ⊎ (Contains answers (Err refusal) × (is_of_key refusal ≡ false))
-        → ComesToEnd s (TakesFirst s pairs old new refusal) (length pairs) left old new refusal
+        → ComesToEnd s (TakesInFirst s pairs old new refusal) (length pairs) (with_left old left) new refusal
     ended_told refusal asked pushes why =
         let f = front_on asked pushes in
         elim why [
@@ -194,7 +187,7 @@ module _ {S : Type 0} (s : SideOf S) (on : (m n : ℕ) (old mid new : S) → s.f
     -- the call was refused
     pub ended_call : (refusal : Refusal) → Ends s.follows s.can_refuse (length (take taken rest)) mid new refusal → (s.is_faithful mid → is_of_question refusal ≡ false) → (s.is_faithful mid → refusal ≢ Broken → s.is_faithful new)
         → (s.is_faithful mid → PushesFirst (s.is_faithful new) (s.most_keys mid) (s.states mid) (take taken rest) (s.states new))
-        → ComesToEnd s (TakesFirst s pairs old new refusal) (length pairs) left old new refusal
+        → ComesToEnd s (TakesInFirst s pairs old new refusal) (length pairs) (with_left old left) new refusal
     ended_call refusal ends not_of_question unbroken first =
         let few = ends.count.1 in
         let n = many in

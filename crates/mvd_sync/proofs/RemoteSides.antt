@@ -101,7 +101,7 @@ module _ {S : Type 0} (refused : S → Option Refusal) (Follows : S → S → Ty
       pub link_asked : (Was → MatchResult result (λ v. Settles (items v)) E) → IfOk result (λ v. AskedBy (λ _. Follows) Refuses Goes May Right Apart Was qs (items v) old new)
       link_asked truth = asked_at result asked truth
 
-    -- nothing is said of one that was true
+    -- nothing is said of one that was faithful
     pub link_told : (May Right : Q → A → Type 0) (Apart : Q → Refusal → Type 0) → ((q : Q) (a : A) → May q a) → IfOk result (λ v. AskedBy (λ _. Follows) Refuses Goes May Right Apart ⊥ qs (items v) old new)
     link_told May Right Apart free = ok_of _ result asked (λ v. answered_so May Right Apart ⊥ free (items v) (λ never. absurd never) (λ never. absurd never))
 

@@ -14,7 +14,9 @@ use Rattle.std.specs.FinMap.Entries.{below_all}
 use Rattle.mvd_tree.specs.HashTree.{KeyDigests, is_under}
 use Rattle.mvd_tree.proofs.Under.{keys_same}
 use Rattle.mvd_tree.specs.Page.{is_after, rest_of}
-use Rattle.mvd_sync.specs.Answers.{Entry, IsListing, StartsAfter, TakesNext, of_first, of_second, of_both}
+use Rattle.mvd_sync.specs.Answers.{IsListing, PageEntry, StartsAfter, TakesLesser, of_first, of_second, of_both}
+use Rattle.mvd_sync.specs.Sides.{two}
+use Rattle.mvd_sync.specs.declared.cursor.Entry.{Entry}
 
 -- ---- the order of keys
 
@@ -50,7 +52,7 @@ after_trans (Some b) k q h l = ap is_lt (nat_list_cmp_total.trans b k q (lt-true
 
 -- ---- lists of entries in order
 
-found_after : (k : List ℕ) (t : List Entry) (q : List ℕ) → T (below_all (slice_cmp nat_cmp) k t) → (slice_cmp nat_cmp k q ≡ Less → ⊥) → find (slice_cmp nat_cmp) q t ≡ None
+found_after : (k : List ℕ) (t : List PageEntry) (q : List ℕ) → T (below_all (slice_cmp nat_cmp) k t) → (slice_cmp nat_cmp k q ≡ Less → ⊥) → find (slice_cmp nat_cmp) q t ≡ None
 found_after k [] q h never = refl
 found_after k (f ∷ t) q h never =
     elim (eq_by_cmp (slice_cmp nat_cmp) q f.0) as (λ b. eq_by_cmp (slice_cmp nat_cmp) q f.0 ≡ b → cond b (Some f.1) (find (slice_cmp nat_cmp) q t) ≡ None) [
@@ -58,7 +60,7 @@ found_after k (f ∷ t) q h never =
       | false ↦ λ _. found_after k t q (back _ _ h) never
     ] refl
 
-below_later : (x k : List ℕ) (t : List Entry) → slice_cmp nat_cmp x k ≡ Less → T (below_all (slice_cmp nat_cmp) k t) → T (below_all (slice_cmp nat_cmp) x t)
+below_later : (x k : List ℕ) (t : List PageEntry) → slice_cmp nat_cmp x k ≡ Less → T (below_all (slice_cmp nat_cmp) k t) → T (below_all (slice_cmp nat_cmp) x t)
 below_later x k [] l h = tt
 below_later x k (f ∷ t) l h = both _ _ (subst (λ o. T (is_lt o)) (sym (nat_list_cmp_total.trans x k f.0 l (is_lt-Less (slice_cmp nat_cmp k f.0) (front _ _ h)))) tt) (below_later x k t l (back _ _ h))
 
@@ -73,25 +75,25 @@ none_of true o = refl
 none_of false o = refl
 
 -- the key's entry, if there is one, and then the others
-abbrev pub with_head : List ℕ → Option (List ℕ) → List Entry → List Entry
+abbrev pub with_head : List ℕ → Option (List ℕ) → List PageEntry → List PageEntry
 with_head k None t = t
 with_head k (Some digest) t = (k, digest) ∷ t
 
 -- after b there is nothing before k, this digest or none at k, and then t
-pub record HeadIs (m : KeyDigests) (path : List ℕ) (b : Option (List ℕ)) (k : List ℕ) (digest : Option (List ℕ)) (t : List Entry) : Type 0 where
+pub record HeadIs (m : KeyDigests) (path : List ℕ) (b : Option (List ℕ)) (k : List ℕ) (digest : Option (List ℕ)) (t : List PageEntry) : Type 0 where
   pub is : entries (rest_of m path b) ≡ with_head k digest t
   pub after : T (below_all (slice_cmp nat_cmp) k t)
   pub sorted : T (is_sorted (slice_cmp nat_cmp) t)
 
-found-with_head : (k : List ℕ) (digest : Option (List ℕ)) (t : List Entry) (q : List ℕ) → eq_by_cmp (slice_cmp nat_cmp) q k ≡ false → find (slice_cmp nat_cmp) q (with_head k digest t) ≡ find (slice_cmp nat_cmp) q t
+found-with_head : (k : List ℕ) (digest : Option (List ℕ)) (t : List PageEntry) (q : List ℕ) → eq_by_cmp (slice_cmp nat_cmp) q k ≡ false → find (slice_cmp nat_cmp) q (with_head k digest t) ≡ find (slice_cmp nat_cmp) q t
 found-with_head k None t q other = refl
 found-with_head k (Some digest) t q other = ap (λ b. cond b (Some digest) (find (slice_cmp nat_cmp) q t)) other
 
-found_at_head : (k : List ℕ) (digest : Option (List ℕ)) (t : List Entry) → T (below_all (slice_cmp nat_cmp) k t) → find (slice_cmp nat_cmp) k (with_head k digest t) ≡ digest
+found_at_head : (k : List ℕ) (digest : Option (List ℕ)) (t : List PageEntry) → T (below_all (slice_cmp nat_cmp) k t) → find (slice_cmp nat_cmp) k (with_head k digest t) ≡ digest
 found_at_head k None t h = found_after k t k h (λ l. let e : Equal ≡ Less = sym (tied_itself nat_list_cmp_total k) ∙ l in absurd (cc))
 found_at_head k (Some digest) t h = ap (λ o. cond (is_eq o) (Some digest) (find (slice_cmp nat_cmp) k t)) (tied_itself nat_list_cmp_total k)
 
-module _ (m : KeyDigests) (path : List ℕ) (b : Option (List ℕ)) (k : List ℕ) (digest : Option (List ℕ)) (t : List Entry) (head : HeadIs m path b k digest t) where
+module _ (m : KeyDigests) (path : List ℕ) (b : Option (List ℕ)) (k : List ℕ) (digest : Option (List ℕ)) (t : List PageEntry) (head : HeadIs m path b k digest t) where
   pub found_rest : (q : List ℕ) → get (rest_of m path b) q ≡ find (slice_cmp nat_cmp) q (with_head k digest t)
   found_rest q = get-entries (rest_of m path b) q ∙ ap (find (slice_cmp nat_cmp) q) head.is
 
@@ -125,7 +127,7 @@ module _ (m : KeyDigests) (path : List ℕ) (b : Option (List ℕ)) (k : List �
 -- ---- from the listing of a side
 
 -- the taken entry is the first of what is left
-head_taken : (m : KeyDigests) (path : List ℕ) (b : Option (List ℕ)) (k : List ℕ) (xs xs' later : List Entry) (e : Entry) → entries (rest_of m path b) ≡ xs ++ later → xs ≡ e ∷ xs' → k ≡ e.0 → HeadIs m path b k (Some e.1) (xs' ++ later)
+head_taken : (m : KeyDigests) (path : List ℕ) (b : Option (List ℕ)) (k : List ℕ) (xs xs' later : List PageEntry) (e : PageEntry) → entries (rest_of m path b) ≡ xs ++ later → xs ≡ e ∷ xs' → k ≡ e.0 → HeadIs m path b k (Some e.1) (xs' ++ later)
 head_taken m path b k xs xs' later e is p same =
     let all : entries (rest_of m path b) ≡ e ∷ (xs' ++ later) = is ∙ ap (λ ys. ys ++ later) p in
     let sorted : T (is_sorted (slice_cmp nat_cmp) (e ∷ (xs' ++ later))) = subst (λ ys. T (is_sorted (slice_cmp nat_cmp) ys)) all (entries_sorted (rest_of m path b)) in
@@ -136,7 +138,7 @@ head_taken m path b k xs xs' later e is p same =
     }
 
 -- a later entry is the first of what is left
-head_left : (m : KeyDigests) (path : List ℕ) (b : Option (List ℕ)) (k : List ℕ) (ys later : List Entry) → entries (rest_of m path b) ≡ ys ++ later → StartsAfter k ys → (ys ≡ [] → later ≡ []) → HeadIs m path b k None (ys ++ later)
+head_left : (m : KeyDigests) (path : List ℕ) (b : Option (List ℕ)) (k : List ℕ) (ys later : List PageEntry) → entries (rest_of m path b) ≡ ys ++ later → StartsAfter k ys → (ys ≡ [] → later ≡ []) → HeadIs m path b k None (ys ++ later)
 head_left m path b k [] later is starts ended =
     let none = ended refl in
     record { is = is; after = subst (λ ys. T (below_all (slice_cmp nat_cmp) k ys)) (sym none) tt; sorted = subst (λ ys. T (is_sorted (slice_cmp nat_cmp) ys)) (sym none) tt }
@@ -154,13 +156,13 @@ kept_by_and true false o x e = absurd (cc)
 kept_by_and false b o x e = absurd (cc)
 
 -- a key that is left stands under the path, after b
-head_where : (m : KeyDigests) (path : List ℕ) (b : Option (List ℕ)) (k : List ℕ) (digest : List ℕ) (t : List Entry) → HeadIs m path b k (Some digest) t → IsTrue (is_under path k) × (is_after b k ≡ true)
+head_where : (m : KeyDigests) (path : List ℕ) (b : Option (List ℕ)) (k : List ℕ) (digest : List ℕ) (t : List PageEntry) → HeadIs m path b k (Some digest) t → IsTrue (is_under path k) × (is_after b k ≡ true)
 head_where m path b k digest t head =
     kept_by_and (is_under path k) (is_after b k) (get m k) digest
     (sym (get-rest m path b k) ∙ found_rest m path b k (Some digest) t head k ∙ found_at_head k (Some digest) t head.after)
 
 -- both sides, as the next key is taken
-pub record Heads (m n : KeyDigests) (path : List ℕ) (b : Option (List ℕ)) (k : List ℕ) (has has' differs : Bool) (t u : List Entry) : Type 0 where
+pub record Heads (m n : KeyDigests) (path : List ℕ) (b : Option (List ℕ)) (k : List ℕ) (has has' differs : Bool) (t u : List PageEntry) : Type 0 where
   pub first : Option (List ℕ)
   pub second : Option (List ℕ)
   pub mine : HeadIs m path b k first t
@@ -179,18 +181,18 @@ stable xs ys h =
       | false ↦ λ e. absurd (h (λ s. let t : pointwise nat_eq xs ys ≡ true = (bytes_eq-Decides xs ys).1 s in cc))
     ] refl
 
-pub heads : (m n : KeyDigests) (path : List ℕ) (b : Option (List ℕ)) (k : List ℕ) (has has' differs : Bool) (xs ys xs' ys' : List Entry) (more more' : Bool)
+pub heads : (m n : KeyDigests) (path : List ℕ) (b : Option (List ℕ)) (e : Entry) (xs ys xs' ys' : List PageEntry) (more more' : Bool)
     → (p : IsListing m path b xs more) → (q : IsListing n path b ys more') → (xs ≡ [] → more ≡ false) → (ys ≡ [] → more' ≡ false)
-    → TakesNext xs ys k has has' differs xs' ys' → Heads m n path b k has has' differs (xs' ++ p.later) (ys' ++ q.later)
-heads m n path b k has has' differs xs ys xs' ys' more more' p q ended ended' (of_first e is same key mine_is theirs_is sure starts) =
-    let mine = head_taken m path b k xs xs' p.later e p.is is key in
-    let theirs = head_left n path b k ys q.later q.is starts (λ none. q.ended (ended' none)) in
-    let at = head_where m path b k e.1 (xs' ++ p.later) mine in
+    → TakesLesser (two xs ys) e (two xs' ys') → Heads m n path b e.key e.mine e.theirs e.differs (xs' ++ p.later) (ys' ++ q.later)
+heads m n path b e xs ys xs' ys' more more' p q ended ended' (of_first x is same key mine_is theirs_is sure starts) =
+    let mine = head_taken m path b e.key xs xs' p.later x p.is is key in
+    let theirs = head_left n path b e.key ys q.later q.is starts (λ none. q.ended (ended' none)) in
+    let at = head_where m path b e.key x.1 (xs' ++ p.later) mine in
     record {
-      first = Some e.1;
+      first = Some x.1;
       second = None;
       mine = mine;
-      theirs = subst (λ zs. HeadIs n path b k None (zs ++ q.later)) same theirs;
+      theirs = subst (λ zs. HeadIs n path b e.key None (zs ++ q.later)) same theirs;
       no_first = λ no. absurd (true≢false (sym mine_is ∙ no));
       no_second = λ _. refl;
       differ = λ _ h. absurd (cc);
@@ -198,15 +200,15 @@ heads m n path b k has has' differs xs ys xs' ys' more more' p q ended ended' (o
       below = at.0;
       next = at.1;
     }
-heads m n path b k has has' differs xs ys xs' ys' more more' p q ended ended' (of_second f same is key mine_is theirs_is sure starts) =
-    let mine = head_left m path b k xs p.later p.is starts (λ none. p.ended (ended none)) in
-    let theirs = head_taken n path b k ys ys' q.later f q.is is key in
-    let at = head_where n path b k f.1 (ys' ++ q.later) theirs in
+heads m n path b e xs ys xs' ys' more more' p q ended ended' (of_second y same is key mine_is theirs_is sure starts) =
+    let mine = head_left m path b e.key xs p.later p.is starts (λ none. p.ended (ended none)) in
+    let theirs = head_taken n path b e.key ys ys' q.later y q.is is key in
+    let at = head_where n path b e.key y.1 (ys' ++ q.later) theirs in
     record {
       first = None;
-      second = Some f.1;
+      second = Some y.1;
       theirs = theirs;
-      mine = subst (λ zs. HeadIs m path b k None (zs ++ p.later)) same mine;
+      mine = subst (λ zs. HeadIs m path b e.key None (zs ++ p.later)) same mine;
       no_first = λ _. refl;
       no_second = λ no. absurd (true≢false (sym theirs_is ∙ no));
       differ = λ _ h. absurd (cc);
@@ -214,19 +216,19 @@ heads m n path b k has has' differs xs ys xs' ys' more more' p q ended ended' (o
       below = at.0;
       next = at.1;
     }
-heads m n path b k has has' differs xs ys xs' ys' more more' p q ended ended' (of_both e f is is' key key' mine_is theirs_is h) =
-    let mine = head_taken m path b k xs xs' p.later e p.is is key in
-    let theirs = head_taken n path b k ys ys' q.later f q.is is' key' in
-    let at = head_where m path b k e.1 (xs' ++ p.later) mine in
+heads m n path b e xs ys xs' ys' more more' p q ended ended' (of_both x y is is' key key' mine_is theirs_is h) =
+    let mine = head_taken m path b e.key xs xs' p.later x p.is is key in
+    let theirs = head_taken n path b e.key ys ys' q.later y q.is is' key' in
+    let at = head_where m path b e.key x.1 (xs' ++ p.later) mine in
     record {
-      first = Some e.1;
-      second = Some f.1;
+      first = Some x.1;
+      second = Some y.1;
       mine = mine;
       theirs = theirs;
       no_first = λ no. absurd (true≢false (sym mine_is ∙ no));
       no_second = λ no. absurd (true≢false (sym theirs_is ∙ no));
       differ = λ sure s. h.0 sure (cc);
-      same = λ never. ap Some (stable e.1 f.1 (λ other. let sure : differs ≡ true = h.1 other in cc));
+      same = λ never. ap Some (stable x.1 y.1 (λ other. let sure : e.differs ≡ true = h.1 other in cc));
       below = at.0;
       next = at.1;
     }

@@ -9,7 +9,7 @@ use Rattle.mvd_keys.specs.State.{IsValid, State}
 use Rattle.mvd_site.specs.Held.{States}
 use Rattle.mvd_sync.specs.Exchanges.{IsHeldByEither, keys_next}
 use Rattle.mvd_sync.specs.Meetings.{ArePlans, held_keys, is_held, noted, pair_of, rest_if, taken_from}
-use Rattle.mvd_sync.specs.Questions.{ForEach, TakesFirst, TakesIn}
+use Rattle.mvd_sync.specs.Questions.{ForEach, TakesInFirst, TakesIn}
 use Rattle.mvd_sync.specs.Session.{Changes, ComesByPushes, Each, pushed_all}
 use Rattle.mvd_sync.specs.Sides.{HasAnswered, IsSilent, SideOf}
 use Rattle.mvd_sync.specs.declared.cursor.Entry.{Entry}
@@ -89,7 +89,7 @@ module _ {S : Type 0} (s : SideOf S) (C : List ℕ → State → Type 0) (pairs 
   pub comes_all : (told : List (Result (Unit {0}) Refusal)) → TakesIn s pairs told old new → ComesByPushes C (s.states old) (s.states new)
   comes_all told t = comes_by C (s.most_keys old) (s.states old) pairs told (s.states new) good t.pushes
 
-  pub comes_first : (refusal : Refusal) → TakesFirst s pairs old new refusal → s.is_faithful new → ComesByPushes C (s.states old) (s.states new)
+  pub comes_first : (refusal : Refusal) → TakesInFirst s pairs old new refusal → s.is_faithful new → ComesByPushes C (s.states old) (s.states new)
   comes_first refusal t still =
       let f = t.pushes in
       subst (ComesByPushes C (s.states old)) (sym (f.4 still)) (comes_by C (s.most_keys old) (s.states old) (take f.0 pairs) f.1 f.2 (each_first (λ p. C p.0 p.1 × IsValid p.1) f.0 pairs good) f.3)

@@ -1,5 +1,5 @@
 -- Buckets after buckets.
-use Rattle.std.proofs.Common.{◌≡◌, ◌≢◌, inl, inr, ℕ, zero, suc, ◌+◌, ◌<◌, ◌≤◌, Bool, true, false, ◌||◌, List, [], ◌∷◌, ◌++◌, get_or, length, refl, sym, ap, subst, ◌∙◌, arith, None, Option, length-append, append_assoc, true≢false}
+use Rattle.std.proofs.Common.{◌≡◌, ◌≢◌, inl, inr, ℕ, zero, suc, ◌+◌, ◌<◌, ◌≤◌, true, false, ◌||◌, List, [], ◌∷◌, ◌++◌, get_or, length, refl, sym, ap, subst, ◌∙◌, arith, None, Option, length-append, append_assoc, true≢false}
 use Rattle.std.specs.Prelude.{IsTrue, Result, Ok, Err, MatchResult}
 use Rattle.std.specs.FinMap.{get}
 use Rattle.std.specs.Ordering.{nat_cmp, eq_by_cmp}
@@ -10,7 +10,8 @@ use Rattle.mvd_keys.specs.Writes.{Key}
 use Rattle.mvd_site.specs.Answer.{digests}
 use Rattle.mvd_site.specs.Held.{States}
 use Rattle.mvd_tree.specs.HashTree.{KeyDigests, is_under, path_of_key}
-use Rattle.mvd_sync.specs.Answers.{IsPageOf}
+use Rattle.mvd_sync.specs.Questions.{with_left}
+use Rattle.mvd_sync.specs.Answers.{IsPageOf, ListingValue}
 use Rattle.mvd_sync.specs.Buckets.{AreElsewhere, ArePages, held_in}
 use Rattle.mvd_sync.specs.Exchanges.{AreNext, Done, Exchanging, keys_done, keys_next}
 use Rattle.mvd_sync.specs.Nodes.{has_below}
@@ -98,9 +99,6 @@ module _ {L P A : Type 0} (l : SideOf L) (p : SideOf P) (number : Option ℕ) (a
     (first : FindsBy {A = Unit {0}} l p number a b done ps firsts1 asked_l1 asked_p1 local1 peer1 most_local most_peer before at (Ok (tt {0})))
     (result : Result A SyncFault)
     (second : FindsBy l p number a b (done ++ first.ends.goes_on.now) qs firsts2 asked_l2 asked_p2 local2 peer2 most_local most_peer at after result) where
-  found_both : List Entry
-  found_both = first.found ++ second.found
-
   keys_both : (length (before.waiting ++ (first.found ++ second.found)) ≡ length (before.waiting ++ first.found) + length second.found) × (length (at.waiting ++ second.found) ≡ length at.waiting + length second.found)
   keys_both = (
     ap length (sym (append_assoc before.waiting first.found second.found)) ∙ length-append (before.waiting ++ first.found) second.found,
@@ -242,7 +240,7 @@ module _ {L P : Type 0} (l : SideOf L) (p : SideOf P)
 
   -- ---- a window
 
-  pages_then : (a a' : States) (paths : List (List ℕ)) (pages : List (List (Key × List ℕ) × Bool)) → ((q : Key) → IsTrue (has_below paths q) → get a' q ≡ get a q) → ArePages (digests a') paths pages → ArePages (digests a) paths pages
+  pages_then : (a a' : States) (paths : List (List ℕ)) (pages : List ListingValue) → ((q : Key) → IsTrue (has_below paths q) → get a' q ≡ get a q) → ArePages (digests a') paths pages → ArePages (digests a) paths pages
   pages_then a a' [] [] same h = tt
   pages_then a a' [] (x ∷ pages) same h = absurd h
   pages_then a a' (q ∷ paths) [] same h = absurd h
@@ -258,8 +256,8 @@ module _ {L P : Type 0} (l : SideOf L) (p : SideOf P)
       so.rest q (no_member Other (keys_done done) (Each-left Other (keys_done done) waiting elsewhere) q (λ none. true≢false (sym h ∙ none)))
 
   -- the first pages were told by both, and their buckets gone over
-  pub window_through : {A : Type 0} (paths : List (List ℕ)) (mine theirs : List (List (Key × List ℕ) × Bool)) (n : ℕ) (left mid left' : Questions) (local local1 local2 : L) (peer peer1 peer2 : P) (before after : Exchanging) (result : Result A SyncFault)
-      → Reads l n left.local mid.local local local1 → Reads p n left.peer mid.peer peer peer1
+  pub window_through : {A : Type 0} (paths : List (List ℕ)) (mine theirs : List ListingValue) (n : ℕ) (left mid left' : Questions) (local local1 local2 : L) (peer peer1 peer2 : P) (before after : Exchanging) (result : Result A SyncFault)
+      → Reads l n (with_left local left.local) (with_left local1 mid.local) → Reads p n (with_left peer left.peer) (with_left peer1 mid.peer)
       → (l.is_faithful local → ArePages (digests (l.states local)) paths mine) → (p.is_faithful peer → ArePages (digests (p.states peer)) paths theirs)
       → GoesThroughBy l p (λ a b. ArePages (digests a) paths mine × ArePages (digests b) paths theirs) paths 0 mid left' local1 local2 peer1 peer2 before after result
       → GoesOverBy l p paths n left left' local local2 peer peer2 before after result
@@ -332,7 +330,7 @@ module _ {L P : Type 0} (l : SideOf L) (p : SideOf P)
 
 -- ---- one bucket of several
 
-pub page_at : (held : KeyDigests) (paths : List (List ℕ)) (pages : List (List (Key × List ℕ) × Bool)) (i : ℕ) (path : List ℕ) (page : List (Key × List ℕ) × Bool) → ArePages held paths pages → i < length paths → path ≡ get_or paths i path → page ≡ get_or pages i page → ArePages held (path ∷ []) (page ∷ [])
+pub page_at : (held : KeyDigests) (paths : List (List ℕ)) (pages : List ListingValue) (i : ℕ) (path : List ℕ) (page : ListingValue) → ArePages held paths pages → i < length paths → path ≡ get_or paths i path → page ≡ get_or pages i page → ArePages held (path ∷ []) (page ∷ [])
 page_at held [] pages i path page h low e f = absurd (omega (arith, low))
 page_at held (q ∷ paths) [] i path page h low e f = absurd h
 page_at held (q ∷ paths) (x ∷ pages) zero path page h low e f = (subst (λ x. IsPageOf held path None x.0 x.1) (sym f) (subst (λ q. IsPageOf held q None x.0 x.1) (sym e) h.0), tt)

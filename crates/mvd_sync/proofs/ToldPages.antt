@@ -1,5 +1,5 @@
--- A page that a true side tells rises.
-use Rattle.std.proofs.Common.{◌≡◌, ◌<◌, get_or, ℕ, zero, suc, Bool, true, false, cond, ◌&&◌, List, [], ◌∷◌, take, length, refl, sym, ap, ◌∙◌, Some, None, Option}
+-- A page that a faithful side tells rises.
+use Rattle.std.proofs.Common.{◌≡◌, ℕ, zero, suc, Bool, true, false, cond, ◌&&◌, List, [], ◌∷◌, take, length, refl, sym, ap, ◌∙◌, Some, None, Option}
 use Rattle.std.specs.Prelude.{T, nat_lt}
 use Rattle.std.specs.Ordering.{nat_cmp, is_eq}
 use Rattle.std.specs.Cmp.{tied_itself}
@@ -7,13 +7,13 @@ use Rattle.std.specs.Cmp.Lexicographic.{slice_cmp, nat_list_cmp_total}
 use Rattle.std.specs.FinMap.{get, entries, entries_sorted, get-entries, find, is_sorted}
 use Rattle.mvd_tree.specs.HashTree.{KeyDigests, is_under}
 use Rattle.mvd_tree.specs.Page.{is_after, is_more_after_page, page_of, rest_of}
-use Rattle.std.specs.Prelude.{Result, Ok}
+use Rattle.std.specs.Prelude.{Contains, Result, Ok}
 use Rattle.std.specs.declared.vec.Vec.{Vec}
 use Rattle.std.specs.declared.alloc.Global.{Global}
 use Rattle.mvd_dots.specs.declared.refusals.Refusal.{Refusal}
-use Rattle.mvd_sync.specs.Answers.{Entry, IsPage, IsPageOf, Rises}
+use Rattle.mvd_sync.specs.Answers.{IsPage, IsPageOf, ListingValue, PageEntry, Rises}
 use Rattle.mvd_sync.specs.Windows.{EachAnswer}
-use Rattle.mvd_sync.proofs.Answering.{IsListingOf, answer_at, each_all}
+use Rattle.mvd_sync.proofs.Answering.{IsListingOf, answer_in, each_all}
 use Rattle.mvd_sync.proofs.Rest.{get-rest}
 
 front : (a b : Bool) → T (a && b) → T a
@@ -28,11 +28,11 @@ sure : (b : Bool) → T b → b ≡ true
 sure true h = refl
 sure false h = absurd h
 
-sorted_rises : (e : Entry) (es : List Entry) → T (is_sorted (slice_cmp nat_cmp) (e ∷ es)) → Rises (Some e.0) es
+sorted_rises : (e : PageEntry) (es : List PageEntry) → T (is_sorted (slice_cmp nat_cmp) (e ∷ es)) → Rises (Some e.0) es
 sorted_rises e [] h = tt
 sorted_rises e (f ∷ es) h = (sure _ (front _ _ (front _ _ h)), sorted_rises f es (back _ _ h))
 
-rises-take : (after : Option (List ℕ)) (n : ℕ) (es : List Entry) → Rises after es → Rises after (take n es)
+rises-take : (after : Option (List ℕ)) (n : ℕ) (es : List PageEntry) → Rises after es → Rises after (take n es)
 rises-take after zero [] h = tt
 rises-take after (suc n) [] h = tt
 rises-take after zero (e ∷ es) h = tt
@@ -46,19 +46,19 @@ found_after held path after k digest found =
       | true ↦ elim (is_after after k) as (λ b. cond b (get held k) None ≡ Some digest → b ≡ true) [ true ↦ λ _. refl | false ↦ λ e. absurd (cc) ]
     ] (sym (get-rest held path after k) ∙ found)
 
-rises_of : (held : KeyDigests) (path : List ℕ) (after : Option (List ℕ)) (es : List Entry) → entries (rest_of held path after) ≡ es → T (is_sorted (slice_cmp nat_cmp) es) → Rises after es
+rises_of : (held : KeyDigests) (path : List ℕ) (after : Option (List ℕ)) (es : List PageEntry) → entries (rest_of held path after) ≡ es → T (is_sorted (slice_cmp nat_cmp) es) → Rises after es
 rises_of held path after [] is h = tt
 rises_of held path after (e ∷ es) is h = (
   found_after held path after e.0 e.1 (get-entries (rest_of held path after) e.0 ∙ ap (find (slice_cmp nat_cmp) e.0) is ∙ ap (λ o. cond (is_eq o) (Some e.1) (find (slice_cmp nat_cmp) e.0 es)) (tied_itself nat_list_cmp_total e.0)),
   sorted_rises e es h,
 )
 
-no_more : (es : List Entry) → take 1000 es ≡ [] → nat_lt 1000 (length es) ≡ false
+no_more : (es : List PageEntry) → take 1000 es ≡ [] → nat_lt 1000 (length es) ≡ false
 no_more [] e = refl
 no_more (x ∷ es) e = absurd (cc)
 
 -- such a page may be told
-pub told_page : (held : KeyDigests) (path : List ℕ) (after : Option (List ℕ)) (page : List Entry) (more : Bool) → page ≡ page_of held path after → more ≡ is_more_after_page held path after → IsPage after page more
+pub told_page : (held : KeyDigests) (path : List ℕ) (after : Option (List ℕ)) (page : List PageEntry) (more : Bool) → page ≡ page_of held path after → more ≡ is_more_after_page held path after → IsPage after page more
 told_page held path after page more p m =
     let es = entries (rest_of held path after) in
     let whole = rises_of held path after es refl (entries_sorted (rest_of held path after)) in
@@ -68,7 +68,7 @@ told_page held path after page more p m =
     }
 
 -- also as one that comes after no key
-pub page_from_first : (after : Option (List ℕ)) (page : List Entry) (more : Bool) → IsPage after page more → IsPage None page more
+pub page_from_first : (after : Option (List ℕ)) (page : List PageEntry) (more : Bool) → IsPage after page more → IsPage None page more
 page_from_first after [] more h = record { rises = tt; ended = h.ended }
 page_from_first after (e ∷ es) more h = record { rises = (refl, h.rises.1); ended = h.ended }
 
@@ -80,15 +80,18 @@ Told = Vec (List ℕ × List ℕ) Global × Bool
 abbrev pub Asking : Type 0
 Asking = List ℕ × Option (List ℕ)
 
--- what a true side tells of a bucket after a key
+-- what a faithful side tells of a bucket after a key
 abbrev pub TellsPage : KeyDigests → Asking → Told → Type 0
 TellsPage held q page = (page.0.items ≡ page_of held q.0 q.1) × (page.1 ≡ is_more_after_page held q.0 q.1)
 
 -- it tells no page that is none
-pub not_bad : (held : KeyDigests) (qs : List Asking) (ts : List (Result Told Refusal)) (n : ℕ) (page : Told) → EachAnswer (TellsPage held) qs ts → n < length ts → Ok page ≡ get_or ts n (Ok page) → (IsPage None page.0.items page.1 → ⊥) → ⊥
-not_bad held qs ts n page right low at bad =
-    bad (answer_at (TellsPage held) (λ _. Unit {0}) (λ p. IsPage None p.0.items p.1) (λ q p _ told. page_from_first q.1 p.0.items p.1 (told_page held q.0 q.1 p.0.items p.1 told.0 told.1)) qs ts n page (each_all qs) right low at)
+pub not_bad : (held : KeyDigests) (qs : List Asking) (ts : List (Result Told Refusal)) (page : Told)
+    → EachAnswer (TellsPage held) qs ts → Contains ts (Ok page) → (IsPage None page.0.items page.1 → ⊥) → ⊥
+not_bad held qs ts page right here bad =
+    bad (answer_in (TellsPage held) (λ _. Unit {0}) (λ p. IsPage None p.0.items p.1)
+    (λ q p _ told. page_from_first q.1 p.0.items p.1 (told_page held q.0 q.1 p.0.items p.1 told.0 told.1))
+    qs ts page (each_all qs) right here)
 
 -- and what is made of its page is this page
-pub listing_right : (held : KeyDigests) (q : Asking) (page : Told) (listing : List Entry × Bool) → TellsPage held q page → IsListingOf page listing → IsPageOf held q.0 q.1 listing.0 listing.1
+pub listing_right : (held : KeyDigests) (q : Asking) (page : Told) (listing : ListingValue) → TellsPage held q page → IsListingOf page listing → IsPageOf held q.0 q.1 listing.0 listing.1
 listing_right held q page listing told is = record { is = ap (λ l. l.0) is.0 ∙ told.0; goes_on = ap (λ l. l.1) is.0 ∙ told.1 }

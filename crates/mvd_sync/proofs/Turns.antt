@@ -1,5 +1,5 @@
 -- Windows over a link.
-use Rattle.std.proofs.Common.{◌≡◌, ◌⊎◌, inr, ℕ, ◌+◌, ◌<◌, List, [], ◌∷◌, ◌++◌, length, map, take, get_or, refl, sym, ap, subst, ◌∙◌}
+use Rattle.std.proofs.Common.{◌≡◌, ◌⊎◌, ℕ, ◌+◌, ◌<◌, List, [], ◌∷◌, ◌++◌, length, map, take, get_or, refl, sym, ap, subst, ◌∙◌}
 use Rattle.std.specs.Prelude.{Option, Result, Ok, Err, IfOk, IfErr, MatchResult, Contains}
 use Rattle.std.proofs.lemmas.List.{map-append, take_more}
 use Rattle.mvd_dots.specs.declared.refusals.Refusal.{Refusal}
@@ -8,8 +8,8 @@ use Rattle.mvd_wire.specs.declared.request.Request.{Request}
 use Rattle.mvd_wire.specs.declared.reply.Reply.{Reply}
 use Rattle.mvd_wire.specs.declared.reply.Reply.TheVariants.{Refused}
 use Rattle.mvd_wire.specs.Requests.{request_frame}
-use Rattle.mvd_sync.specs.LinkWindows.{Answered, Answers, AsksAll, Frames, RefusesAll, TakesTurn, TakeTurns, TurnBreaks, and_frame, frames_after, frames_of, of_answer}
-use Rattle.mvd_sync.specs.Links.{Link, of_reader}
+use Rattle.mvd_sync.specs.LinkWindows.{Answered, Answers, AsksAll, Frames, RefusesAll, TakesTurn, TakeTurns, and_frame, frames_after, frames_of, of_answer}
+use Rattle.mvd_sync.specs.Links.{Link}
 use Rattle.mvd_sync.specs.Questions.{ForEach}
 
 -- ---- what goes out
@@ -37,11 +37,6 @@ pub turns_more_at : (kind : ℕ) (all : List (Option Refusal)) (i : ℕ) (why d 
 turns_more_at kind all i why d replies us reply old mid new low at told before turn =
     let longer : take (i + 1) all ≡ take i all ++ why ∷ [] = take_more all i d low ∙ ap (λ x. take i all ++ x ∷ []) (sym at) in
     subst (λ (ns : List (Option Refusal)). TakeTurns kind ns us old new) (sym longer) (subst (λ (us : List (Result Reply Refusal)). TakeTurns kind (take i all ++ why ∷ []) us old new) (sym told) (turns_more kind (take i all) replies why reply old mid new before turn))
-
--- memory was refused for the reply that came
-pub breaks_for_memory : (kind : ℕ) (all : List (Option Refusal)) (i : ℕ) (why d : Option Refusal) (replies : List (Result Reply Refusal)) (reply : Result Reply Refusal) (old mid new : Option (List ℕ)) → i < length all → why ≡ get_or all i d → TakeTurns kind (take i all) replies old mid → TakesTurn kind why reply mid new → TurnBreaks kind all old new Memory
-breaks_for_memory kind all i why d replies reply old mid new low at before turn =
-    (i + 1, replies ++ reply ∷ [], new, turns_more_at kind all i why d replies (replies ++ reply ∷ []) reply old mid new low at refl before turn, of_reader (inr refl))
 
 -- ---- a window
 

@@ -1,5 +1,5 @@
 -- The walk from the root to the buckets, level by level.
-use Rattle.std.proofs.Common.{◌≡◌, ◌≢◌, ℕ, zero, suc, ◌+◌, ◌*◌, ◌-◌, ◌<◌, ◌≤◌, true, List, [], ◌∷◌, length, refl, sym, ap, subst, ◌∙◌, arith}
+use Rattle.std.proofs.Common.{◌≡◌, ◌≢◌, ℕ, zero, suc, ◌+◌, ◌*◌, ◌-◌, ◌<◌, ◌≤◌, true, List, [], length, refl, sym, subst, ◌∙◌, arith}
 use Rattle.std.specs.Prelude.{IsTrue}
 use Rattle.std.specs.FinMap.{get}
 use Rattle.std.specs.List.{filter, flat_map}
@@ -9,6 +9,7 @@ use Rattle.mvd_site.specs.Held.{AreHeld, States}
 use Rattle.mvd_tree.proofs.Apart.{same_state, same_states_under}
 use Rattle.mvd_tree.specs.HashTree.{is_under}
 use Rattle.mvd_tree.specs.Hashed.{HashesTellApart}
+use Rattle.mvd_sync.specs.Questions.{with_left}
 use Rattle.mvd_sync.specs.Nodes.{children_of, differing_children, differs_at, has_below}
 use Rattle.mvd_sync.specs.Session.{AreDistinct, Each, HasAllThatDiffer}
 use Rattle.mvd_sync.specs.Sides.{SideOf}
@@ -39,9 +40,6 @@ pub record AreNodes (a b : States) (n : ℕ) (paths : List (List ℕ)) : Type 0 
   pub distinct : AreDistinct paths
   pub differ : 1 ≤ n → Each (λ path. IsTrue (differs_at (digests a) (digests b) path)) paths
   pub whole : HashesTellApart spelled a b → (key : List ℕ) → get a key ≢ get b key → IsTrue (has_below paths key)
-
-pub at_root : (a b : States) → AreNodes a b 0 ([] ∷ [])
-at_root a b = record { distinct = (refl, tt); differ = λ some. absurd (omega (arith, some)); whole = λ _ key _. refl }
 
 pub level_below : (a b : States) (n : ℕ) (paths : List (List ℕ)) → AreHeld a → AreHeld b → n < 3 → AreLong n paths → AreNodes a b n paths → AreNodes a b (n + 1) (differing_children (digests a) (digests b) paths)
 level_below a b n paths p q low long at =
@@ -75,8 +73,8 @@ few_end (suc (suc (suc n))) asked paths more most low a b = absurd (omega (arith
 -- it has come so many levels down
 pub record Walks {L P : Type 0} (l : SideOf L) (p : SideOf P) (n : ℕ) (left left' : Questions) (local local' : L) (peer peer' : P) (paths : List (List ℕ)) : Type 0 where
   pub asked : ℕ
-  pub local_side : Reads l asked left.local left'.local local local'
-  pub peer_side : Reads p asked left.peer left'.peer peer peer'
+  pub local_side : Reads l asked (with_left local left.local) (with_left local' left'.local)
+  pub peer_side : Reads p asked (with_left peer left.peer) (with_left peer' left'.peer)
   pub answers : 1 ≤ n → HaveAnsweredBy l p local local' peer peer'
   pub some : n ≡ 0 → paths ≢ []
   pub long : AreLong n paths
@@ -84,18 +82,6 @@ pub record Walks {L P : Type 0} (l : SideOf L) (p : SideOf P) (n : ℕ) (left le
   pub few : AreFewForBy l p local peer (λ most. asked + length paths ≤ 1 + n * most)
 
 module _ {L P : Type 0} (l : SideOf L) (p : SideOf P) where
-  pub walk_begins : (self : (s : L) → l.follows 0 s s) (self' : (s : P) → p.follows 0 s s) (left : Questions) (local : L) (peer : P) (paths : List (List ℕ)) → paths ≡ [] ∷ [] → Walks l p 0 left left local local peer peer paths
-  walk_begins self self' left local peer paths root = record {
-    asked = 0;
-    local_side = record { spent = omega arith; follows = self local; kept = λ t. record { still = t; states = refl } };
-    peer_side = record { spent = omega arith; follows = self' peer; kept = λ t. record { still = t; states = refl } };
-    answers = λ h. absurd (omega (arith, h));
-    some = λ _ none. let e : [] ∷ [] ≡ [] = sym root ∙ none in absurd (cc);
-    long = subst (AreLong 0) (sym root) (refl, tt);
-    right = λ t u. subst (AreNodes (l.states local) (p.states peer) 0) (sym root) (at_root (l.states local) (p.states peer));
-    few = λ t u keys all. let one : length paths ≡ 1 = ap length root in omega (arith, one);
-  }
-
   module _ (on : (m n : ℕ) (old mid new : L) → l.follows m old mid → l.follows n mid new → l.follows (m + n) old new)
       (on' : (m n : ℕ) (old mid new : P) → p.follows m old mid → p.follows n mid new → p.follows (m + n) old new)
       (n : ℕ) (low : n < 3) (left mid : Questions) (local local1 : L) (peer peer1 : P) (paths : List (List ℕ)) (w : Walks l p n left mid local local1 peer peer1 paths) where
@@ -149,20 +135,4 @@ module _ {L P : Type 0} (l : SideOf L) (p : SideOf P) where
     deep = subst (λ n. AreLong n paths) e w.long;
     right = λ t u. let r = w.right t u in record { distinct = r.distinct; differ = r.differ (omega (arith, e)); whole = r.whole };
     few = λ t u keys all. subst (λ n. w.asked + length paths ≤ 1 + n * length keys) e (w.few t u keys all);
-  }
-
-  -- memory was refused before any question
-  pub no_walk : (self : (s : L) → l.follows 0 s s) (self' : (s : P) → p.follows 0 s s) (left : Questions) (local : L) (peer : P) (fault : SyncFault) → ReadsEndBy l p (λ asked. asked ≤ 0) left local local peer peer fault
-      → ReadsEndBy l p (λ asked. AreFewForBy l p local peer (λ most. asked ≤ 1 + 2 * most)) left local local peer peer fault
-  no_walk self self' left local peer fault e = record {
-    asked_local = e.asked_local;
-    asked_peer = e.asked_peer;
-    wanted_local = e.wanted_local;
-    wanted_peer = e.wanted_peer;
-    within = e.within;
-    few = ((λ t u keys all. let few = e.few.0 in omega (arith, few)), (λ t u keys all. let few = e.few.1 in omega (arith, few)));
-    follows = e.follows;
-    cause = e.cause;
-    kept_local = e.kept_local;
-    kept_peer = e.kept_peer;
   }

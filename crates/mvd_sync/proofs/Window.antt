@@ -1,4 +1,4 @@
--- What becomes of the keys of a window between two true sides.
+-- What becomes of the keys of a window between two faithful sides.
 use Rattle.std.proofs.Common.{◌≡◌, ◌≢◌, ◌⊎◌, inl, inr, ◌↔◌, ℕ, true, false, cond, List, [], ◌∷◌, map, filter, filter_map, refl, sym, ap, subst, ◌∙◌, Some, None, Option, option_map, true≢false}
 use Rattle.std.specs.Prelude.{Result, Ok, Err, is_some}
 use Rattle.std.specs.List.{cons_option}
@@ -10,7 +10,7 @@ use Rattle.mvd_keys.proofs.Joins.{clashes_turned, join_commutes, join_empty_left
 use Rattle.mvd_site.specs.Answer.{is_too_large}
 use Rattle.mvd_site.specs.Held.{States, state_at}
 use Rattle.mvd_sync.specs.Exchanges.{IsNext, keys_next}
-use Rattle.mvd_sync.specs.Meetings.{ArePlans, Meets, clash, first_if, has, held_keys, is_held, meet, noted, or_empty, pair_of, refusal_of, rest_if, taken_from, wanted}
+use Rattle.mvd_sync.specs.Meetings.{ArePlans, Trades, clash, first_if, has, held_keys, is_held, meet, noted, or_empty, pair_of, refusal_of, rest_if, taken_from, wanted}
 use Rattle.mvd_sync.specs.Olds.{HasUnseen}
 use Rattle.mvd_sync.specs.Questions.{ForEach, IsOfKey}
 use Rattle.mvd_sync.specs.Session.{AreTooMany, CannotMeet, Each}
@@ -63,7 +63,7 @@ give_of : (own : Option State) (t : State) → IsGive (or_empty own) t own
 give_of None t = inr (refl, join_empty_left t)
 give_of (Some s) t = inl refl
 
-plan_of : (own other : Option State) (m : Meeting) → Meets own other m.pull m.give m.refused → Plan (or_empty own) (or_empty other) m
+plan_of : (own other : Option State) (m : Meeting) → Trades own other m.pull m.give m.refused → Plan (or_empty own) (or_empty other) m
 plan_of own other m (clash h p g r) = clashing h r
 plan_of own other m (meet h p g r) = meeting r h (subst (IsPull (or_empty own) (or_empty other)) (sym p) (pull_of (or_empty own) other)) (subst (IsGive (or_empty own) (or_empty other)) (sym g) (give_of own (or_empty other)))
 plan_of own other m (has h p g j r) = meeting r h (subst (IsPull (or_empty own) (or_empty other)) (sym p) (pull_of (or_empty own) other)) (inr (g, j))

@@ -1,4 +1,4 @@
--- A window that was exchanged between two true sides.
+-- A window that was exchanged between two faithful sides.
 use Rattle.std.proofs.Common.{◌≡◌, ◌≢◌, ◌⊎◌, inl, inr, ◌↔◌, ℕ, Bool, true, false, ◌||◌, List, [], ◌∷◌, ◌++◌, map, filter_map, refl, sym, ap, subst, ◌∙◌, Some, None, Option, true≢false}
 use Rattle.std.specs.Prelude.{Result, is_some}
 use Rattle.std.proofs.lemmas.List.{map-append}
@@ -76,10 +76,6 @@ each_meeting : (P : List ℕ → Type 0) (ms : List Meeting) → Each P (meeting
 each_meeting P [] h = tt
 each_meeting P (m ∷ ms) h = (h.0, each_meeting P ms h.1)
 
-meeting_each : (P : List ℕ → Type 0) (ms : List Meeting) → Each (λ (m : Meeting). P m.key) ms → Each P (meeting_keys ms)
-meeting_each P [] h = tt
-meeting_each P (m ∷ ms) h = (h.0, meeting_each P ms h.1)
-
 each_ask : (P : List ℕ → Type 0) (side : Side) (ms : List Meeting) → Each (λ (m : Meeting). P m.key) ms → Each (λ (q : Ask). P q.0) (asks_of side ms)
 each_ask P side [] h = tt
 each_ask P side (m ∷ ms) h = (h.0, each_ask P side ms h.1)
@@ -143,7 +139,7 @@ not_after ks js k d h =
       | false ↦ λ _. refl
     ] refl
 
--- A WINDOW between two true sides
+-- A WINDOW between two faithful sides
 module _ (ml mp : ℕ) (number : Option ℕ) (a b x y x' y' : States) (done : List Done) (es : List Entry) (mine theirs : List State) (ms : List Meeting) (told told' : List (Result (Unit {0}) Refusal))
     (so : SoFarBy ml mp number a b x y done) (next : AreNext a b done es) (held_a : AreHeld x) (held_b : AreHeld y) (none : is_too_large empty_state ≡ false)
     (p : ForEach (IsState x) (held_keys AtLocal es) mine) (q : ForEach (IsState y) (held_keys AtPeer es) theirs) (plans : ArePlans number es mine theirs ms) where

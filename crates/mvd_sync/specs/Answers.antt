@@ -4,47 +4,61 @@ use Rattle.std.specs.declared.cmp.Ordering.TheVariants.{Less, Greater}
 use Rattle.std.specs.Prelude.{IsTrue, ◌↔◌, ◌≢◌, ◌≡◌, ℕ, Bool, true, false, List, [], ◌∷◌, ◌++◌, Option, Some, None}
 use Rattle.std.specs.FinMap.{entries}
 use Rattle.mvd_keys.specs.Key.{key_cmp}
+use Rattle.mvd_keys.specs.Writes.{Key}
 use Rattle.mvd_tree.specs.HashTree.{KeyDigests}
 use Rattle.mvd_tree.specs.Page.{is_after, is_more_after_page, page_of, rest_of}
+use Rattle.mvd_sync.specs.Sides.{Two}
+use Rattle.mvd_sync.specs.declared.cursor.Entry.{Entry}
 
--- an entry of a bucket: a key and its digest
-abbrev pub Entry : Type 0
-Entry = List ℕ × List ℕ
+-- an entry of a page: a key and its digest
+abbrev pub PageEntry : Type 0
+PageEntry = Key × List ℕ
+
+-- what is left of a page, and whether the bucket goes on after it
+abbrev pub ListingValue : Type 0
+ListingValue = List PageEntry × Bool
 
 -- the keys of a page strictly rise, from after a key on
-abbrev pub Rises : Option (List ℕ) → List Entry → Type 0
+abbrev pub Rises : Option (List ℕ) → List PageEntry → Type 0
 Rises after [] = Unit {0}
 Rises after (e ∷ es) = IsTrue (is_after after e.0) × Rises (Some e.0) es
 
--- a page that a true side may tell: its keys rise, and there are more only after a key
-pub record IsPage (after : Option (List ℕ)) (page : List Entry) (more : Bool) : Type 0 where
+-- a page that a faithful side may tell: its keys rise, and there are more only after a key
+pub record IsPage (after : Option (List ℕ)) (page : List PageEntry) (more : Bool) : Type 0 where
   pub rises : Rises after page
   pub ended : page ≡ [] → more ≡ false
 
--- what a true side tells of a bucket after a key: so many of its entries as a page has, and whether there are more
-pub record IsPageOf (held : KeyDigests) (path : List ℕ) (after : Option (List ℕ)) (page : List Entry) (more : Bool) : Type 0 where
+-- what a faithful side tells of a bucket after a key: so many of its entries as a page has, and whether there are more
+pub record IsPageOf (held : KeyDigests) (path : List ℕ) (after : Option (List ℕ)) (page : List PageEntry)
+    (more : Bool) : Type 0 where
   pub is : page ≡ page_of held path after
   pub goes_on : more ≡ is_more_after_page held path after
 
 -- these are the first entries of a bucket after a key, and unless there is more all of them
-pub record IsListing (held : KeyDigests) (path : List ℕ) (after : Option (List ℕ)) (page : List Entry) (more : Bool) : Type 0 where
-  pub later : List Entry
+pub record IsListing (held : KeyDigests) (path : List ℕ) (after : Option (List ℕ)) (page : List PageEntry)
+    (more : Bool) : Type 0 where
+  pub later : List PageEntry
   pub is : entries (rest_of held path after) ≡ page ++ later
   pub ended : more ≡ false → later ≡ []
 
 -- the first entry of a list comes after a key
-abbrev pub StartsAfter : List ℕ → List Entry → Type 0
+abbrev pub StartsAfter : List ℕ → List PageEntry → Type 0
 StartsAfter key [] = Unit {0}
 StartsAfter key (e ∷ es) = key_cmp key e.0 ≡ Less
 
--- of two lists the lesser first key was taken, and from both where both begin with it: which have it, and whether it differs
-pub data TakesNext (xs ys : List Entry) (key : List ℕ) (mine theirs differs : Bool) (xs' ys' : List Entry) : Type 0 where
-  of_first : (e : Entry) → xs ≡ e ∷ xs' → ys ≡ ys' → key ≡ e.0 → mine ≡ true → theirs ≡ false → differs ≡ true → StartsAfter key ys → TakesNext xs ys key mine theirs differs xs' ys'
-  of_second : (f : Entry) → xs ≡ xs' → ys ≡ f ∷ ys' → key ≡ f.0 → mine ≡ false → theirs ≡ true → differs ≡ true → StartsAfter key xs → TakesNext xs ys key mine theirs differs xs' ys'
-  of_both : (e f : Entry) → xs ≡ e ∷ xs' → ys ≡ f ∷ ys' → key ≡ e.0 → key ≡ f.0 → mine ≡ true → theirs ≡ true → (IsTrue differs ↔ (e.1 ≢ f.1)) → TakesNext xs ys key mine theirs differs xs' ys'
+-- of two lists the lesser first key was taken, and from both where both begin with it: which have it, and whether it
+-- differs
+pub data TakesLesser (old : Two (List PageEntry) (List PageEntry)) (e : Entry)
+    (new : Two (List PageEntry) (List PageEntry)) : Type 0 where
+  of_first : (x : PageEntry) → old.local ≡ x ∷ new.local → old.peer ≡ new.peer → e.key ≡ x.0
+      → e.mine ≡ true → e.theirs ≡ false → e.differs ≡ true → StartsAfter e.key old.peer → TakesLesser old e new
+  of_second : (y : PageEntry) → old.local ≡ new.local → old.peer ≡ y ∷ new.peer → e.key ≡ y.0
+      → e.mine ≡ false → e.theirs ≡ true → e.differs ≡ true → StartsAfter e.key old.local → TakesLesser old e new
+  of_both : (x y : PageEntry) → old.local ≡ x ∷ new.local → old.peer ≡ y ∷ new.peer → e.key ≡ x.0 → e.key ≡ y.0
+      → e.mine ≡ true → e.theirs ≡ true → (IsTrue e.differs ↔ (x.1 ≢ y.1)) → TakesLesser old e new
 
 -- the order of the first keys of two lists, where one has a key
-abbrev pub order_of_first : List Entry → List Entry → Option Ordering
+abbrev pub order_of_first : List PageEntry → List PageEntry → Option Ordering
 order_of_first [] [] = None
 order_of_first (e ∷ es) [] = Some Less
 order_of_first [] (f ∷ fs) = Some Greater

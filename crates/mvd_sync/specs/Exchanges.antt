@@ -1,11 +1,14 @@
 -- How keys are exchanged, one window after another.
-use Rattle.std.specs.Prelude.{◌≡◌, ◌≢◌, ◌<◌, ◌≤◌, ◌+◌, ◌*◌, ◌↔◌, ℕ, Bool, true, false, not, List, ◌++◌, length, map, take, filter, filter_map, Option, Some, None, is_some, option_map, Result, OnOk, MatchResult}
+use Rattle.std.specs.Prelude.{◌≡◌, ◌≢◌, ◌<◌, ◌≤◌, ◌+◌, ◌*◌, ◌↔◌, ℕ, Bool, true, false, not, List, ◌++◌, length, map}
+use Rattle.std.specs.Prelude.{take, filter, filter_map, Option, Some, None, is_some, option_map, Result, OnOk}
+use Rattle.std.specs.Prelude.{MatchResult}
 use Rattle.std.specs.FinMap.{get}
 use Rattle.mvd_dots.specs.declared.refusals.Refusal.{Refusal}
 use Rattle.mvd_keys.specs.State.{join}
 use Rattle.mvd_keys.specs.Writes.{Key}
 use Rattle.mvd_site.specs.Held.{States, state_at}
-use Rattle.mvd_sync.specs.Session.{After, AreDistinct, Asking, Before, Both, CanMeet, CannotMeet, Course, Differ, Each, IsOld, Joins, after_of, asking, both, both_of, is_member}
+use Rattle.mvd_sync.specs.Session.{After, AreDistinct, Asking, Before, Both, CanMeet, CannotMeet, Course, Differ, Each}
+use Rattle.mvd_sync.specs.Session.{IsOld, Joins, after_of, asking, both, both_of, is_member}
 use Rattle.mvd_sync.specs.Sides.{Sides, Two}
 use Rattle.mvd_sync.specs.declared.cursor.Entry.{Entry}
 use Rattle.mvd_sync.specs.declared.asking.Questions.{Questions}
@@ -64,7 +67,7 @@ left_of d = option_map (left_as d.key) d.refused
 abbrev pub left_keys : List Done → List Left
 left_keys ds = filter_map left_of ds
 
--- ---- between two true sides
+-- ---- between two faithful sides
 
 -- what became of the states of a key
 abbrev pub CameTo : (before : Before) (now : Both) → Key → Option (Side × Refusal) → Type 0
@@ -104,7 +107,8 @@ pub record Adds (now : List Done) (before after : Exchanging) : Type 0 where
   pub waiting : after.waiting ≡ before.waiting
   pub keys : after.keys ≡ before.keys + length (given_keys now)
   pub refused : after.refused ≡ before.refused + length (left_keys now)
-  pub first_refused : length before.first_refused ≤ 100 → after.first_refused ≡ take 100 (before.first_refused ++ left_keys now)
+  pub first_refused : length before.first_refused ≤ 100
+      → after.first_refused ≡ take 100 (before.first_refused ++ left_keys now)
   pub older : after.older ≡ before.older + length (filter (λ d. d.is_old) now)
 
 -- a key whose states differ, and which a side lacks where its page does not tell it
@@ -167,16 +171,19 @@ abbrev pub IsHeldByEither : Entry → Type 0
 IsHeldByEither e = (e.mine ≡ false → e.theirs ≡ true)
 
 -- the questions that were made are taken from those that were left, and no more were wanted
-abbrev pub Spends : {L P A : Type 0} (s : Sides L P) (old new : Asking L P) (result : Result A SyncFault) → Course s old new.at result → Type 0
+abbrev pub Spends : {L P A : Type 0} (s : Sides L P) (old new : Asking L P) (result : Result A SyncFault)
+    → Course s old new.at result → Type 0
 Spends s old new result course = OnOk result ((old.left.local ≡ new.left.local + course.asked_local)
     × (old.left.peer ≡ new.left.peer + course.asked_peer))
 
 -- SOME OF THESE KEYS ARE EXCHANGED, or all, and the others wait
-pub record Exchanges {L P A : Type 0} (s : Sides L P) (next : List Entry) (old new : Moment L P) (result : Result A SyncFault) : Type 0 where
+pub record Exchanges {L P A : Type 0} (s : Sides L P) (next : List Entry) (old new : Moment L P)
+    (result : Result A SyncFault) : Type 0 where
   pub course : Course s old.now new.now.at result
   pub spent : Spends s old.now new.now result course
   -- two for each key at most
-  pub few : (course.asked_local + course.wanted_local ≤ 2 * length next) × (course.asked_peer + course.wanted_peer ≤ 2 * length next)
+  pub few : (course.asked_local + course.wanted_local ≤ 2 * length next)
+      × (course.asked_peer + course.wanted_peer ≤ 2 * length next)
   pub fewer : OnOk result (((course.asked_local + course.wanted_local) + 2 * length new.work.waiting ≤ 2 * length next)
       × ((course.asked_peer + course.wanted_peer) + 2 * length new.work.waiting ≤ 2 * length next))
   pub calm : OnOk result ((course.wanted_local ≡ 0) × (course.wanted_peer ≡ 0))
@@ -185,8 +192,9 @@ pub record Exchanges {L P A : Type 0} (s : Sides L P) (next : List Entry) (old n
       ≤ old.work.keys + old.work.refused + old.now.left.local + old.now.left.peer)
   pub short : length next ≤ 1000 → OnOk result (length new.work.waiting < 1000)
   pub same : new.work.number ≡ old.work.number
-  -- between two true sides
-  pub meets : s.local.is_faithful old.now.at.local → s.peer.is_faithful old.now.at.peer → (a b : States) (done : List Done) →
+  -- between two faithful sides
+  pub meets : s.local.is_faithful old.now.at.local → s.peer.is_faithful old.now.at.peer
+      → (a b : States) (done : List Done) →
       SoFar (began s old.work.number (both a b) old.now.at) (both_of s old.now.at) done → Counts done old.work →
       AreNext a b done next → MatchResult result
       (λ _. GoesOn (stand_at s old (both a b) done next) (after_of s new.now.at) new.work)

@@ -1,6 +1,7 @@
 pub mod Links
 pub mod LinkWindows
 pub mod Lines
+pub mod Remotes
 pub mod Olds
 pub mod Session
 pub mod Sides
@@ -9,6 +10,7 @@ pub mod Windows
 pub mod Answers
 pub mod Walk
 pub mod Questions
+pub mod Made
 pub mod Exchanges
 pub mod Buckets
 pub mod Meetings

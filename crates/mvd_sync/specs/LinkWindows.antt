@@ -1,5 +1,6 @@
 -- Many questions over a connection: all their frames go out, and then a reply comes in for each.
-use Rattle.std.specs.Prelude.{◌≡◌, ◌⊎◌, ◌<◌, ℕ, List, [], ◌∷◌, ◌++◌, take, Option, Some, None, Result, Ok, Err, Contains, MatchResult}
+use Rattle.std.specs.Prelude.{◌≡◌, ◌⊎◌, ◌<◌, ℕ, List, [], ◌∷◌, ◌++◌, take, Option, Some, None, Result, Ok, Err}
+use Rattle.std.specs.Prelude.{Contains, MatchResult}
 use Rattle.std.specs.Io.KnownBytes.{Appends}
 use Rattle.std.specs.declared.alloc.Global.{Global}
 use Rattle.std.specs.declared.vec.Vec.{Vec}
@@ -12,7 +13,7 @@ use Rattle.mvd_wire.specs.declared.reply.Reply.TheVariants.{Refused}
 use Rattle.mvd_wire.specs.Frames.{AppendsFront, FrameValue}
 use Rattle.mvd_wire.specs.Replies.{kind_of}
 use Rattle.mvd_wire.specs.Requests.{request_frame}
-use Rattle.mvd_sync.specs.Links.{GoesOn, Link, ReadCause, Receives, TellsReply, TellsNone}
+use Rattle.mvd_sync.specs.Links.{IsUp, Link, ReadCause, Receives, TellsReply, TellsNone}
 use Rattle.mvd_sync.specs.Questions.{ForEach}
 
 -- ---- what goes out
@@ -40,20 +41,25 @@ abbrev pub ToldBy : ℕ → Result Reply Refusal → FrameValue → Type 0
 ToldBy kind (Ok reply) frame = TellsReply kind reply frame
 ToldBy kind (Err refusal) frame = TellsNone kind refusal frame × (number_of refusal < 30)
 
--- in its turn a request is answered by the next frame that comes in; one that has no frame is refused so, and nothing is read
+-- in its turn a request is answered by the next frame that comes in; one that has no frame is refused so, and nothing
+-- is read
 abbrev pub TakesTurn : ℕ → Option Refusal → Result Reply Refusal → Option (List ℕ) → Option (List ℕ) → Type 0
 TakesTurn kind None told old new = Receives old new (ToldBy kind told)
 TakesTurn kind (Some refusal) told old new = (told ≡ Err refusal) × (new ≡ old)
 
 -- each in its turn
-abbrev pub TakeTurns : ℕ → List (Option Refusal) → List (Result Reply Refusal) → Option (List ℕ) → Option (List ℕ) → Type 0
+abbrev pub TakeTurns : ℕ → List (Option Refusal) → List (Result Reply Refusal) → Option (List ℕ) → Option (List ℕ)
+    → Type 0
 TakeTurns kind [] [] old new = new ≡ old
-TakeTurns kind (none ∷ nones) (told ∷ replies) old new = (mid : Option (List ℕ)) × TakesTurn kind none told old mid × TakeTurns kind nones replies mid new
+TakeTurns kind (none ∷ nones) (told ∷ replies) old new =
+    (mid : Option (List ℕ)) × TakesTurn kind none told old mid × TakeTurns kind nones replies mid new
 TakeTurns kind nones replies old new = ⊥
 
 -- after the first came in the next broke the link
 abbrev pub TurnBreaks : ℕ → List (Option Refusal) → Option (List ℕ) → Option (List ℕ) → Refusal → Type 0
-TurnBreaks kind nones old new refusal = (n : ℕ) × (replies : List (Result Reply Refusal)) × (mid : Option (List ℕ)) × TakeTurns kind (take n nones) replies old mid × ReadCause mid new kind refusal
+TurnBreaks kind nones old new refusal =
+    (n : ℕ) × (replies : List (Result Reply Refusal)) × (mid : Option (List ℕ))
+    × TakeTurns kind (take n nones) replies old mid × ReadCause mid new kind refusal
 
 -- ---- a window
 
@@ -61,7 +67,7 @@ TurnBreaks kind nones old new refusal = (n : ℕ) × (replies : List (Result Rep
 pub record Answered (kind : ℕ) (frames : Frames) (replies : List (Result Reply Refusal)) (old new : Link) : Type 0 where
   pub wrote : Appends old.output new.output frames.0
   pub read : TakeTurns kind frames.1 replies old.input new.input
-  pub goes_on : GoesOn new
+  pub goes_on : IsUp new
 
 -- an answer is what a reply tells
 abbrev pub Answers : {A : Type 0} → (A → Reply) → Result Reply Refusal → Result A Refusal → Type 0
@@ -69,7 +75,8 @@ Answers as_reply reply (Ok answer) = reply ≡ Ok (as_reply answer)
 Answers as_reply reply (Err refusal) = (reply ≡ Ok (Refused refusal)) ⊎ (reply ≡ Err refusal)
 
 -- A WINDOW WAS ANSWERED so
-pub record AsksAll {A : Type 0} (as_reply : A → Reply) (kind : ℕ) (frames : Frames) (told : List (Result A Refusal)) (old new : Link) : Type 0 where
+pub record AsksAll {A : Type 0} (as_reply : A → Reply) (kind : ℕ) (frames : Frames) (told : List (Result A Refusal))
+    (old new : Link) : Type 0 where
   pub replies : List (Result Reply Refusal)
   pub answered : Answered kind frames replies old new
   pub tells : ForEach (Answers as_reply) replies told
@@ -79,17 +86,22 @@ pub data RefusesAll (kind : ℕ) (frames : Frames) (old new : Link) (refusal : R
   -- nothing was sent
   of_none : new ≡ old → (old.refused ≡ Some refusal) ⊎ (refusal ≡ Memory) → RefusesAll kind frames old new refusal
   -- the writer failed after a front of the frames, and nothing was read
-  of_write : refusal ≡ WriteFailed → AppendsFront old.output new.output frames.0 → new.input ≡ old.input → new.refused ≡ Some refusal → RefusesAll kind frames old new refusal
+  of_write : refusal ≡ WriteFailed → AppendsFront old.output new.output frames.0 → new.input ≡ old.input
+      → new.refused ≡ Some refusal → RefusesAll kind frames old new refusal
   -- a reply broke the link
-  of_read : Appends old.output new.output frames.0 → TurnBreaks kind frames.1 old.input new.input refusal → new.refused ≡ Some refusal → RefusesAll kind frames old new refusal
+  of_read : Appends old.output new.output frames.0 → TurnBreaks kind frames.1 old.input new.input refusal
+      → new.refused ≡ Some refusal → RefusesAll kind frames old new refusal
   -- all were answered, and one by that the side is broken, or memory was refused
-  of_answer : (replies : List (Result Reply Refusal)) → Answered kind frames replies old new → (refusal ≡ Memory) ⊎ ((refusal ≡ Broken) × (Contains replies (Ok (Refused Broken)) ⊎ Contains replies (Err Broken)))
+  of_answer : (replies : List (Result Reply Refusal)) → Answered kind frames replies old new → (refusal ≡ Memory)
+      ⊎ ((refusal ≡ Broken) × (Contains replies (Ok (Refused Broken)) ⊎ Contains replies (Err Broken)))
       → RefusesAll kind frames old new refusal
 
 -- what many questions for answers give, whose replies are of this kind
-abbrev pub AsksForAll : {A : Type 0} → (A → Reply) → ℕ → List Request → Link → Link → Result (Vec (Result A Refusal) Global) Refusal → Type 0
+abbrev pub AsksForAll : {A : Type 0} → (A → Reply) → ℕ → List Request → Link → Link
+    → Result (Vec (Result A Refusal) Global) Refusal → Type 0
 AsksForAll as_reply kind requests old new result =
-    MatchResult result (λ told. AsksAll as_reply kind (frames_of requests) told.items old new) (RefusesAll kind (frames_of requests) old new)
+    MatchResult result (λ told. AsksAll as_reply kind (frames_of requests) told.items old new)
+    (RefusesAll kind (frames_of requests) old new)
 
 -- a reply of a kind that was asked for, or a refusal
 abbrev pub IsOfKind : ℕ → Result Reply Refusal → Type 0

@@ -3,9 +3,11 @@ use Rattle.std.specs.Prelude.{◌≡◌, ◌≢◌, ◌⊎◌, ◌<◌, ◌≤�
 use Rattle.std.specs.Io.KnownBytes.{Appends}
 use Rattle.mvd_dots.specs.Refusal.{number_of}
 use Rattle.mvd_dots.specs.declared.refusals.Refusal.{Refusal}
-use Rattle.mvd_dots.specs.declared.refusals.Refusal.TheVariants.{BadKind, FrameTooLong, Memory, ReadFailed, Truncated, WriteFailed}
+use Rattle.mvd_dots.specs.declared.refusals.Refusal.TheVariants.{BadKind, FrameTooLong, Memory, ReadFailed, Truncated}
+use Rattle.mvd_dots.specs.declared.refusals.Refusal.TheVariants.{WriteFailed}
 use Rattle.mvd_wire.specs.declared.request.Request.{Request}
-use Rattle.mvd_wire.specs.declared.request.Request.TheVariants.{Get, Put, Delete, Find, Row, Rows, Node, Bucket, Push, Range, Bye}
+use Rattle.mvd_wire.specs.declared.request.Request.TheVariants.{Get, Put, Delete, Find, Row, Rows, Node, Bucket, Push}
+use Rattle.mvd_wire.specs.declared.request.Request.TheVariants.{Range, Bye}
 use Rattle.mvd_wire.specs.declared.reply.Reply.{Reply}
 use Rattle.mvd_wire.specs.declared.reply.Reply.TheVariants.{Refused}
 use Rattle.mvd_wire.specs.Frames.{AppendsFront, FrameValue, frame_at}
@@ -21,11 +23,12 @@ pub record Link : Type 0 where
 
 -- the link of a remote side, by what is known of the bytes that its line has still to give and that it took
 abbrev pub link : {L : Type 0} → (L → Option (List ℕ)) → (L → Option (List ℕ)) → Remote L → Link
-link remaining contents remote = record { input = remaining remote.line; output = contents remote.line; refused = remote.refused }
+link remaining contents remote =
+    record { input = remaining remote.line; output = contents remote.line; refused = remote.refused }
 
--- the link goes on
-abbrev pub GoesOn : Link → Type 0
-GoesOn link = link.refused ≡ None
+-- the link is up: it has not refused
+abbrev pub IsUp : Link → Type 0
+IsUp link = link.refused ≡ None
 
 -- the kind byte of the replies that accept a request
 abbrev pub answered_by : Request → ℕ
@@ -44,7 +47,8 @@ answered_by Bye = 0xA3
 -- just one frame came in, of which this holds
 abbrev pub Receives : Option (List ℕ) → Option (List ℕ) → (FrameValue → Type 0) → Type 0
 Receives old new Came =
-    (bytes : List ℕ) → old ≡ Some bytes → (frame : FrameValue) × (rest : List ℕ) × (frame_at bytes ≡ Ok (Some frame, rest)) × (new ≡ Some rest) × Came frame
+    (bytes : List ℕ) → old ≡ Some bytes → (frame : FrameValue) × (rest : List ℕ)
+    × (frame_at bytes ≡ Ok (Some frame, rest)) × (new ≡ Some rest) × Came frame
 
 -- just this frame went out, and just one frame came in, of which this holds
 pub record Exchanged (old new : Link) (sent : List ℕ) (Came : FrameValue → Type 0) : Type 0 where
@@ -53,11 +57,14 @@ pub record Exchanged (old new : Link) (sent : List ℕ) (Came : FrameValue → T
 
 -- the frame spells the reply, which is of the kind that was asked for, or a refusal
 abbrev pub TellsReply : ℕ → Reply → FrameValue → Type 0
-TellsReply kind reply frame = ((frame.kind ≡ kind) ⊎ (frame.kind ≡ 0xEE)) × (reply_of frame.kind frame.payload ≡ Ok reply)
+TellsReply kind reply frame =
+    ((frame.kind ≡ kind) ⊎ (frame.kind ≡ 0xEE)) × (reply_of frame.kind frame.payload ≡ Ok reply)
 
--- the frame is of the kind that was asked for, or a refusal, and spells no reply, for this reason, unless memory was refused
+-- the frame is of the kind that was asked for, or a refusal, and spells no reply, for this reason, unless memory was
+-- refused
 abbrev pub TellsNone : ℕ → Refusal → FrameValue → Type 0
-TellsNone kind refusal frame = ((frame.kind ≡ kind) ⊎ (frame.kind ≡ 0xEE)) × (refusal ≢ Memory → reply_of frame.kind frame.payload ≡ Err refusal)
+TellsNone kind refusal frame =
+    ((frame.kind ≡ kind) ⊎ (frame.kind ≡ 0xEE)) × (refusal ≢ Memory → reply_of frame.kind frame.payload ≡ Err refusal)
 
 -- the frame is of another kind than was asked for, and no refusal
 abbrev pub IsOther : ℕ → FrameValue → Type 0
@@ -76,7 +83,8 @@ pub data ReadCause (old new : Option (List ℕ)) (kind : ℕ) (refusal : Refusal
   -- the reader failed, or memory was refused for what it gave
   of_reader : (refusal ≡ ReadFailed) ⊎ (refusal ≡ Memory) → ReadCause old new kind refusal
   of_end : refusal ≡ Truncated → HadLeft old EndsEarly → ReadCause old new kind refusal
-  of_length : refusal ≡ FrameTooLong → HadLeft old (λ bytes. frame_at bytes ≡ Err FrameTooLong) → ReadCause old new kind refusal
+  of_length : refusal ≡ FrameTooLong → HadLeft old (λ bytes. frame_at bytes ≡ Err FrameTooLong)
+      → ReadCause old new kind refusal
   of_kind : refusal ≡ BadKind → Receives old new (IsOther kind) → ReadCause old new kind refusal
   -- the frame that came spells no reply
   of_body : 30 ≤ number_of refusal → Receives old new (TellsNone kind refusal) → ReadCause old new kind refusal
@@ -84,31 +92,39 @@ pub data ReadCause (old new : Option (List ℕ)) (kind : ℕ) (refusal : Refusal
 -- how the reading of a reply of this kind ends, and whether the link refuses from now on
 abbrev pub ReadsReply : Option (List ℕ) → Option (List ℕ) → ℕ → Option Refusal → Result Reply Refusal → Type 0
 ReadsReply old new kind refused (Ok reply) = Receives old new (TellsReply kind reply) × (refused ≡ None)
-ReadsReply old new kind refused (Err refusal) = (ReadCause old new kind refusal × (refused ≡ Some refusal)) ⊎ (Receives old new (TellsNone kind refusal) × (refused ≡ None) × (number_of refusal < 30))
+ReadsReply old new kind refused (Err refusal) =
+    (ReadCause old new kind refusal × (refused ≡ Some refusal))
+    ⊎ (Receives old new (TellsNone kind refusal) × (refused ≡ None) × (number_of refusal < 30))
 
 -- why a link breaks with this refusal
-pub data Cause (old new : Link) (sent : List ℕ) (kind : ℕ) (refusal : Refusal) : Type 0 where
+pub data BreakCause (old new : Link) (sent : List ℕ) (kind : ℕ) (refusal : Refusal) : Type 0 where
   -- the writer failed after a front of the frame, and nothing was read
-  of_write : refusal ≡ WriteFailed → AppendsFront old.output new.output sent → new.input ≡ old.input → Cause old new sent kind refusal
-  of_read : Appends old.output new.output sent → ReadCause old.input new.input kind refusal → Cause old new sent kind refusal
+  of_write : refusal ≡ WriteFailed → AppendsFront old.output new.output sent → new.input ≡ old.input
+      → BreakCause old new sent kind refusal
+  of_read : Appends old.output new.output sent → ReadCause old.input new.input kind refusal
+      → BreakCause old new sent kind refusal
 
 -- the link itself refuses, from now on
 pub record Breaks (old new : Link) (sent : List ℕ) (kind : ℕ) (refusal : Refusal) : Type 0 where
-  pub cause : Cause old new sent kind refusal
+  pub cause : BreakCause old new sent kind refusal
   pub kept : new.refused ≡ Some refusal
 
 -- how the sending of a frame over a link that goes on ends, where a reply of this kind is asked for
 abbrev pub Sends : Link → Link → List ℕ → ℕ → Result Reply Refusal → Type 0
-Sends old new sent kind (Ok reply) = Exchanged old new sent (TellsReply kind reply) × GoesOn new
-Sends old new sent kind (Err refusal) = Breaks old new sent kind refusal ⊎ (Exchanged old new sent (TellsNone kind refusal) × GoesOn new × (number_of refusal < 30))
+Sends old new sent kind (Ok reply) = Exchanged old new sent (TellsReply kind reply) × IsUp new
+Sends old new sent kind (Err refusal) =
+    Breaks old new sent kind refusal
+    ⊎ (Exchanged old new sent (TellsNone kind refusal) × IsUp new × (number_of refusal < 30))
 
 -- nothing was sent: the link had refused before, or the request has no frame, or memory was refused for it
 abbrev pub SendsNothing : Link → Link → Request → Refusal → Type 0
-SendsNothing old new request refusal = (new ≡ old) × ((old.refused ≡ Some refusal) ⊎ (refusal ≢ Memory → request_frame request ≡ Err refusal))
+SendsNothing old new request refusal =
+    (new ≡ old) × ((old.refused ≡ Some refusal) ⊎ (refusal ≢ Memory → request_frame request ≡ Err refusal))
 
 -- the frame of the request was sent
 abbrev pub SendsFrame : Link → Link → Request → Result Reply Refusal → Type 0
-SendsFrame old new request told = (frame : List ℕ) × (request_frame request ≡ Ok frame) × Sends old new frame (answered_by request) told
+SendsFrame old new request told =
+    (frame : List ℕ) × (request_frame request ≡ Ok frame) × Sends old new frame (answered_by request) told
 
 -- what a question gives
 abbrev pub Asks : Link → Link → Request → Result Reply Refusal → Type 0
@@ -121,7 +137,9 @@ Refuses old new request refusal = Asks old new request (Err refusal) ⊎ SendsFr
 
 -- what a question for an answer gives: a reply that tells it, or a refusal
 abbrev pub AsksFor : {A : Type 0} → (A → Reply) → Request → Link → Link → Result A Refusal → Type 0
-AsksFor as_reply request old new result = MatchResult result (λ answer. SendsFrame old new request (Ok (as_reply answer))) (λ refusal. Refuses old new request refusal)
+AsksFor as_reply request old new result =
+    MatchResult result (λ answer. SendsFrame old new request (Ok (as_reply answer)))
+    (λ refusal. Refuses old new request refusal)
 
 -- a link that has refused refuses so again, and stays as it is
 abbrev pub StaysRefused : {L A : Type 0} → Remote L → Remote L → Result A Refusal → Type 0

@@ -1,5 +1,6 @@
 -- The keys of a window: what each side is to take of them, and what became of it.
-use Rattle.std.specs.Prelude.{◌≡◌, ℕ, Bool, true, false, cond, List, [], ◌∷◌, map, filter, Option, Some, None, is_some, option_map, unwrap_or, Result, Err, IfSome, ◌↔◌}
+use Rattle.std.specs.Prelude.{◌≡◌, ℕ, Bool, true, false, cond, List, [], ◌∷◌, map, filter, Option, Some, None, is_some}
+use Rattle.std.specs.Prelude.{option_map, unwrap_or, Result, Err, IfSome, ◌↔◌}
 use Rattle.mvd_dots.specs.declared.refusals.Refusal.{Refusal}
 use Rattle.mvd_dots.specs.declared.refusals.Refusal.TheVariants.{DotClash}
 use Rattle.mvd_keys.specs.State.{IsValid, State, clashes, empty_state, join}
@@ -26,17 +27,21 @@ held_keys side es = map (λ e. e.key) (filter (is_held side) es)
 abbrev pub or_empty : Option State → State
 or_empty s = unwrap_or s empty_state
 
--- each side takes the other's state, if it has one, but the peer none that it has; states that clash are refused at the local side
-pub data Meets (own other pull give : Option State) (refused : Option (Side × Refusal)) : Type 0 where
-  clash : clashes (or_empty own) (or_empty other) ≡ true → pull ≡ None → give ≡ None → refused ≡ Some (AtLocal, DotClash) → Meets own other pull give refused
-  meet : clashes (or_empty own) (or_empty other) ≡ false → pull ≡ other → give ≡ own → refused ≡ None → Meets own other pull give refused
-  has : clashes (or_empty own) (or_empty other) ≡ false → pull ≡ other → give ≡ None → join (or_empty own) (or_empty other) ≡ or_empty other → refused ≡ None → Meets own other pull give refused
+-- each side takes the other's state, if it has one, but the peer none that it has; states that clash are refused at the
+-- local side
+pub data Trades (own other pull give : Option State) (refused : Option (Side × Refusal)) : Type 0 where
+  clash : clashes (or_empty own) (or_empty other) ≡ true → pull ≡ None → give ≡ None
+      → refused ≡ Some (AtLocal, DotClash) → Trades own other pull give refused
+  meet : clashes (or_empty own) (or_empty other) ≡ false → pull ≡ other → give ≡ own → refused ≡ None
+      → Trades own other pull give refused
+  has : clashes (or_empty own) (or_empty other) ≡ false → pull ≡ other → give ≡ None
+      → join (or_empty own) (or_empty other) ≡ or_empty other → refused ≡ None → Trades own other pull give refused
 
 pub record IsPlan (key : Key) (is_old : Bool) (own other : Option State) (m : Meeting) : Type 0 where
   pub of_key : m.key ≡ key
   pub told_old : m.is_old ≡ is_old
   pub fresh : m.asked ≡ false
-  pub meets : Meets own other m.pull m.give m.refused
+  pub meets : Trades own other m.pull m.give m.refused
   pub pull_valid : IfSome m.pull IsValid
   pub give_valid : IfSome m.give IsValid
 
@@ -84,7 +89,8 @@ refusal_of side refused told = refused
 -- the answers are of the meetings that were asked, in their order
 abbrev pub noted : Side → List Meeting → List (Result (Unit {0}) Refusal) → List Meeting
 noted side [] told = []
-noted side (m ∷ ms) told = record m { refused = refusal_of side m.refused (first_if m.asked told) } ∷ noted side ms (rest_if m.asked told)
+noted side (m ∷ ms) told =
+    record m { refused = refusal_of side m.refused (first_if m.asked told) } ∷ noted side ms (rest_if m.asked told)
 
 abbrev pub done_of : Meeting → Done
 done_of m = record { key = m.key; is_old = m.is_old; refused = m.refused }

@@ -22,4 +22,6 @@ has_below paths key = list_any (λ path. is_under path key) paths
 
 -- what is told of a node by its own digests and those of its children: the children that differ, if it differs
 abbrev pub told_children : List ℕ → List ℕ × List (List ℕ) → List ℕ × List (List ℕ) → List (List ℕ)
-told_children path mine theirs = cond (bytes_eq mine.0 theirs.0) [] (map (λ d. path ++ d ∷ []) (filter (λ d. not (bytes_eq (slice_index_or mine.1 d []) (slice_index_or theirs.1 d []))) digits))
+told_children path mine theirs = cond (bytes_eq mine.0 theirs.0) []
+    (map (λ d. path ++ d ∷ [])
+    (filter (λ d. not (bytes_eq (slice_index_or mine.1 d []) (slice_index_or theirs.1 d []))) digits))

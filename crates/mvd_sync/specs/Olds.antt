@@ -7,4 +7,5 @@ use Rattle.mvd_keys.specs.State.{State}
 -- the second state has seen a dot of this site that the first has not
 abbrev pub HasUnseen : Option ℕ → State → State → Type 0
 HasUnseen None mine theirs = ⊥
-HasUnseen (Some site) mine theirs = (dot : DotValue) × (dot.site ≡ site) × (contains theirs.context dot ≡ true) × (contains mine.context dot ≡ false)
+HasUnseen (Some site) mine theirs =
+    (dot : DotValue) × (dot.site ≡ site) × (contains theirs.context dot ≡ true) × (contains mine.context dot ≡ false)

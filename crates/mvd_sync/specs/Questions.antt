@@ -1,5 +1,6 @@
 -- Questions to a side, of which no more are made than are left.
-use Rattle.std.specs.Prelude.{◌≡◌, ◌≢◌, ◌<◌, ◌≤◌, ◌+◌, ℕ, false, true, List, [], ◌∷◌, length, sum_by, take, Bool, ◌^◌, Option, Result, Ok, Err}
+use Rattle.std.specs.Prelude.{◌≡◌, ◌≢◌, ◌<◌, ◌≤◌, ◌+◌, ℕ, false, true, List, [], ◌∷◌, length, sum_by, take, ◌^◌}
+use Rattle.std.specs.Prelude.{Option, Result, Ok, Err}
 use Rattle.mvd_dots.specs.declared.refusals.Refusal.{Refusal}
 use Rattle.mvd_dots.specs.declared.refusals.Refusal.TheVariants.{Broken}
 use Rattle.mvd_keys.specs.State.{State}
@@ -8,12 +9,20 @@ use Rattle.mvd_tree.specs.HashTree.{KeyDigests, node_digest}
 use Rattle.mvd_tree.specs.Page.{children_digests}
 use Rattle.mvd_wire.specs.Codecs.{spell_state}
 use Rattle.mvd_site.specs.Answer.{digests}
-use Rattle.mvd_sync.specs.Answers.{Entry, IsPage, IsPageOf}
+use Rattle.mvd_sync.specs.Answers.{IsPage, IsPageOf, ListingValue}
 use Rattle.mvd_sync.specs.Sides.{Blames, SideOf, is_of_key, is_of_question}
 use Rattle.mvd_sync.specs.Windows.{Pushes, PushesFirst}
 use Rattle.mvd_sync.specs.declared.asking.Node.{Node}
 
 -- ---- what is left
+
+-- a side, and the questions that are left for it
+pub record OneAsking (S : Type 0) : Type 0 where
+  pub at : S
+  pub left : ℕ
+
+abbrev pub with_left : {S : Type 0} → S → ℕ → OneAsking S
+with_left at left = record { at = at; left = left }
 
 -- as many as were wanted, or all that were left, are taken
 pub record Takes (left left' wanted taken : ℕ) : Type 0 where
@@ -29,27 +38,29 @@ ForEach P [] [] = Unit {0}
 ForEach P (q ∷ qs) (a ∷ ts) = P q a × ForEach P qs ts
 ForEach P qs ts = ⊥
 
--- ALL WERE ANSWERED, each by what a side may answer, true or not, and taken from those that were left; and of a side that was true
--- this is so
-pub record AllAnswered {S Q A : Type 0} (s : SideOf S) (May : Q → A → Type 0) (True : Type 0) (questions : List Q) (answers : List A) (left left' : ℕ) (old new : S) : Type 0 where
-  pub spent : left ≡ left' + length questions
-  pub follows : s.follows (length questions) old new
+-- ALL WERE ANSWERED, each by what a side may answer, faithful or not, and taken from those that were left; and of a
+-- side that was faithful this is so
+pub record AllAnswered {S Q A : Type 0} (s : SideOf S) (May : Q → A → Type 0) (IfFaithful : Type 0)
+    (questions : List Q) (answers : List A) (old new : OneAsking S) : Type 0 where
+  pub spent : old.left ≡ new.left + length questions
+  pub follows : s.follows (length questions) old.at new.at
   pub may : ForEach May questions answers
-  pub right : s.is_faithful old → True
+  pub right : s.is_faithful old.at → IfFaithful
 
--- THEY CAME TO AN END: so many were made, and wanted, no more than there are, nor than were left, and this is why; and of a side that was true
--- this is so
-pub record ComesToEnd {S : Type 0} (s : SideOf S) (True : Type 0) (questions left : ℕ) (old new : S) (refusal : Refusal) : Type 0 where
+-- THEY CAME TO AN END: so many were made, and wanted, no more than there are, nor than were left, and this is why; and
+-- of a side that was faithful this is so
+pub record ComesToEnd {S : Type 0} (s : SideOf S) (IfFaithful : Type 0) (questions : ℕ) (old : OneAsking S) (new : S)
+    (refusal : Refusal) : Type 0 where
   pub asked : ℕ
   pub wanted : ℕ
   pub few : asked + wanted ≤ questions
-  pub within : asked ≤ left
-  pub follows : s.follows asked old new
-  pub cause : Blames s (record { most = left; asked = asked; wanted = wanted; old = old; new = new }) refusal
-  pub not_of_question : s.is_faithful old → is_of_question refusal ≡ false
-  pub right : s.is_faithful old → True
+  pub within : asked ≤ old.left
+  pub follows : s.follows asked old.at new
+  pub cause : Blames s (record { most = old.left; asked = asked; wanted = wanted; old = old.at; new = new }) refusal
+  pub not_of_question : s.is_faithful old.at → is_of_question refusal ≡ false
+  pub right : s.is_faithful old.at → IfFaithful
 
--- ---- what is so of a side that was true
+-- ---- what is so of a side that was faithful
 
 -- after questions that change nothing
 pub record Keeps {S : Type 0} (s : SideOf S) (old new : S) : Type 0 where
@@ -57,43 +68,50 @@ pub record Keeps {S : Type 0} (s : SideOf S) (old new : S) : Type 0 where
   pub states : s.states new ≡ s.states old
 
 -- and all of them were answered rightly
-pub record AnswersEach {S Q A : Type 0} (s : SideOf S) (Right : Q → A → Type 0) (questions : List Q) (answers : List A) (old new : S) : Type 0 where
+pub record AnswersEach {S Q A : Type 0} (s : SideOf S) (Right : Q → A → Type 0) (questions : List Q) (answers : List A)
+    (old new : S) : Type 0 where
   pub kept : Keeps s old new
   pub right : ForEach Right questions answers
 
 -- after pushes, each taken or refused for its cause
-pub record TakesIn {S : Type 0} (s : SideOf S) (pairs : List (Key × State)) (told : List (Result (Unit {0}) Refusal)) (old new : S) : Type 0 where
+pub record TakesIn {S : Type 0} (s : SideOf S) (pairs : List (Key × State)) (told : List (Result (Unit {0}) Refusal))
+    (old new : S) : Type 0 where
   pub still : s.is_faithful new
   pub pushes : Pushes (s.most_keys old) (s.states old) pairs told (s.states new)
 
 -- after pushes that came to an end, of which the first were made
-pub record TakesFirst {S : Type 0} (s : SideOf S) (pairs : List (Key × State)) (old new : S) (refusal : Refusal) : Type 0 where
+pub record TakesInFirst {S : Type 0} (s : SideOf S) (pairs : List (Key × State)) (old new : S)
+    (refusal : Refusal) : Type 0 where
   pub still : refusal ≢ Broken → s.is_faithful new
   pub pushes : PushesFirst (s.is_faithful new) (s.most_keys old) (s.states old) pairs (s.states new)
 
 -- ---- a listing
 
 -- A page of a bucket after a key was asked for
-pub record Fetches {S : Type 0} (s : SideOf S) (path : List ℕ) (after : Option (List ℕ)) (listing : List Entry × Bool) (left left' : ℕ) (old new : S) : Type 0 where
-  pub spent : left ≡ left' + 1
-  pub follows : s.follows 1 old new
+pub record Fetches {S : Type 0} (s : SideOf S) (path : List ℕ) (after : Option Key) (listing : ListingValue)
+    (old new : OneAsking S) : Type 0 where
+  pub spent : old.left ≡ new.left + 1
+  pub follows : s.follows 1 old.at new.at
   pub page : IsPage after listing.0 listing.1
   pub short : length listing.0 < 2 ^ 64
-  pub kept : s.is_faithful old → Keeps s old new
-  pub right : s.is_faithful old → IsPageOf (digests (s.states old)) path after listing.0 listing.1
+  pub kept : s.is_faithful old.at → Keeps s old.at new.at
+  pub right : s.is_faithful old.at → IsPageOf (digests (s.states old.at)) path after listing.0 listing.1
 
--- A listing of the keys of a bucket after a key was filled, by a question more where it had come to its end and there are more
-pub record Fills {S : Type 0} (s : SideOf S) (path : List ℕ) (after : Option (List ℕ)) (listing listing' : List Entry × Bool) (left left' : ℕ) (old new : S) : Type 0 where
+-- A listing of the keys of a bucket after a key was filled, by a question more where it had come to its end and there
+-- are more
+pub record Fills {S : Type 0} (s : SideOf S) (path : List ℕ) (after : Option Key) (listing listing' : ListingValue)
+    (old new : OneAsking S) : Type 0 where
   pub asked : ℕ
   pub one : asked ≤ 1
   pub needed : 1 ≤ asked → (listing.0 ≡ []) × (listing.1 ≡ true)
   pub same : asked ≡ 0 → listing' ≡ listing
-  pub spent : left ≡ left' + asked
-  pub follows : s.follows asked old new
+  pub spent : old.left ≡ new.left + asked
+  pub follows : s.follows asked old.at new.at
   pub short : length listing.0 < 2 ^ 64 → length listing'.0 < 2 ^ 64
   pub ended : listing'.0 ≡ [] → listing'.1 ≡ false
-  pub kept : s.is_faithful old → Keeps s old new
-  pub page : s.is_faithful old → 1 ≤ asked → IsPageOf (digests (s.states old)) path after listing'.0 listing'.1
+  pub kept : s.is_faithful old.at → Keeps s old.at new.at
+  pub page : s.is_faithful old.at → 1 ≤ asked →
+      IsPageOf (digests (s.states old.at)) path after listing'.0 listing'.1
 
 -- ---- answers
 

@@ -1,5 +1,7 @@
 -- What a session does to its two sides, and what it tells.
-use Rattle.std.specs.Prelude.{◌≡◌, ◌≢◌, ◌⊎◌, ◌<◌, ◌≤◌, ◌+◌, ◌*◌, ◌/◌, ℕ, ◌==◌, Bool, true, false, cond, ◌&&◌, ◌||◌, List, [], ◌∷◌, ◌++◌, length, map, take, Option, None, IsTrue, Result, IfOk, IfErr, OnOk, MatchBool, ◌↔◌}
+use Rattle.std.specs.Prelude.{◌≡◌, ◌≢◌, ◌⊎◌, ◌<◌, ◌≤◌, ◌+◌, ◌*◌, ◌/◌, ℕ, ◌==◌, Bool, true, false, cond, ◌&&◌, ◌||◌}
+use Rattle.std.specs.Prelude.{List, [], ◌∷◌, ◌++◌, length, map, take, Option, None, IsTrue, Result, IfOk, IfErr, OnOk}
+use Rattle.std.specs.Prelude.{MatchBool, ◌↔◌}
 use Rattle.std.specs.Ordering.{eq_by_cmp}
 use Rattle.std.specs.FinMap.{get, insert, len, remove}
 use Rattle.mvd_dots.specs.declared.refusals.Refusal.{Refusal}
@@ -51,8 +53,10 @@ pub record ComesByPushes (can_give : Key → State → Type 0) (old new : States
   pub valid : Each (λ p. IsValid p.1) pushes
   pub is : new ≡ pushed_all old pushes
 
--- a true side stays true, unless the fault is its own `Broken`; while it is true, its states come by pushes of what can be given
-pub record Changes {A : Type 0} (still_true : Type 0) (broken : SyncFault) (can_give : Key → State → Type 0) (old new : States) (result : Result A SyncFault) : Type 0 where
+-- a faithful side stays faithful, unless the fault is its own `Broken`; while it is faithful, its states come by pushes
+-- of what can be given
+pub record Changes {A : Type 0} (still_true : Type 0) (broken : SyncFault) (can_give : Key → State → Type 0)
+    (old new : States) (result : Result A SyncFault) : Type 0 where
   pub after_ok : OnOk result still_true
   pub after_fault : IfErr result (λ fault. fault ≢ broken → still_true)
   pub pushes : still_true → ComesByPushes can_give old new
@@ -90,7 +94,7 @@ pub record Before : Type 0 where
   pub most_peer : ℕ
   pub number : Option ℕ
 
--- two sides afterwards: what they hold, and whether each is still true
+-- two sides afterwards: what they hold, and whether each is still faithful
 pub record After : Type 1 where
   pub held : Both
   pub local_true : Type 0
@@ -103,7 +107,9 @@ pub record CanMeet (a b : States) (key : Key) : Type 0 where
 
 -- a side has the join of the two old states of these keys, and of all others its old states
 abbrev pub HasJoined : List Key → States → States → States → States → Type 0
-HasJoined keys a b old new = (key : Key) → MatchBool (is_member keys key) (state_at new key ≡ join (state_at a key) (state_at b key)) (get new key ≡ get old key)
+HasJoined keys a b old new =
+    (key : Key) → MatchBool (is_member keys key) (state_at new key ≡ join (state_at a key) (state_at b key))
+    (get new key ≡ get old key)
 
 -- the states of `joined` were joined on the local side, and those of `given`, which are some of these, on the peer
 pub record Joins (old : Both) (after : After) (joined given : List Key) : Type 0 where
@@ -156,9 +162,9 @@ Differ held key = get held.local key ≢ get held.peer key
 abbrev pub IsOld : Option ℕ → States → States → Key → Type 0
 IsOld number a b key = HasUnseen number (state_at a key) (state_at b key)
 
--- What a session with no fault tells: the keys that were exchanged (`given`) and those that were refused (`left`), each for its
--- cause; each of them differed, and where SHA-256 tells the texts of both sides apart they are all that did (`all`); and of how
--- many the local state was older than what the peer saw of it
+-- What a session with no fault tells: the keys that were exchanged (`given`) and those that were refused (`left`), each
+-- for its cause; each of them differed, and where SHA-256 tells the texts of both sides apart they are all that did
+-- (`all`); and of how many the local state was older than what the peer saw of it
 pub record ReportsDone (before : Before) (joined given : List Key) (report : Report) : Type 0 where
   pub left : List Left
   pub old_keys : List Key
@@ -174,7 +180,7 @@ pub record ReportsDone (before : Before) (joined given : List Key) (report : Rep
   pub are_old : (key : Key) → IsIn old_keys key ↔
       (IsIn (given ++ map (λ l. l.key) left) key × IsOld before.number before.held.local before.held.peer key)
 
--- What two true sides come to, at a fault too: the keys joined, and with no fault the report
+-- What two faithful sides come to, at a fault too: the keys joined, and with no fault the report
 pub record Meets (before : Before) (after : After) (result : Result Report SyncFault) : Type 0 where
   pub joined : List Key
   pub given : List Key
@@ -219,9 +225,10 @@ abbrev pub asking : {L P : Type 0} → L → P → Questions → Asking L P
 asking local peer left = record { at = two local peer; left = left }
 
 -- WHAT BECAME OF TWO SIDES by questions
-pub record Course {L P A : Type 0} (s : Sides L P) (old : Asking L P) (new : Two L P) (result : Result A SyncFault) : Type 0 where
-  -- Each side was asked so many questions, and is now what that many may make of it. `wanted` are questions that there was no
-  -- budget for: one where the fault is 36 for that cause, and else any number
+pub record Course {L P A : Type 0} (s : Sides L P) (old : Asking L P) (new : Two L P)
+    (result : Result A SyncFault) : Type 0 where
+  -- Each side was asked so many questions, and is now what that many may make of it. `wanted` are questions that there
+  -- was no budget for: one where the fault is 36 for that cause, and else any number
   pub asked_local : ℕ
   pub asked_peer : ℕ
   pub wanted_local : ℕ
@@ -230,16 +237,27 @@ pub record Course {L P A : Type 0} (s : Sides L P) (old : Asking L P) (new : Two
   pub follows : s.local.follows asked_local old.at.local new.local × s.peer.follows asked_peer old.at.peer new.peer
   -- a fault has a cause
   pub cause : IfErr result (IsFaultOf
-      (Blames s.local
-      (record { most = old.left.local; asked = asked_local; wanted = wanted_local; old = old.at.local; new = new.local }))
-      (Blames s.peer
-      (record { most = old.left.peer; asked = asked_peer; wanted = wanted_peer; old = old.at.peer; new = new.peer })))
-  -- whatever the other is, a true side changes by pushes of states that the other may give, and by nothing else
+      (Blames s.local (record {
+        most = old.left.local;
+        asked = asked_local;
+        wanted = wanted_local;
+        old = old.at.local;
+        new = new.local;
+      }))
+      (Blames s.peer (record {
+        most = old.left.peer;
+        asked = asked_peer;
+        wanted = wanted_peer;
+        old = old.at.peer;
+        new = new.peer;
+      })))
+  -- whatever the other is, a faithful side changes by pushes of states that the other may give, and by nothing else
   pub local_side : s.local.is_faithful old.at.local → Changes (s.local.is_faithful new.local) (Local Broken)
       s.peer.can_give (s.local.states old.at.local) (s.local.states new.local) result
   pub peer_side : s.peer.is_faithful old.at.peer → Changes (s.peer.is_faithful new.peer) (Peer Broken)
       s.local.can_give (s.peer.states old.at.peer) (s.peer.states new.peer) result
-  -- beside a side that answers nothing a true one keeps its states: beside a silent local side the peer, and the other way round
+  -- beside a side that answers nothing a faithful one keeps its states: beside a silent local side the peer, and the
+  -- other way round
   pub beside_local : IsSilent s.local.follows s.local.can_answer old.at.local → s.peer.is_faithful old.at.peer →
       s.peer.is_faithful new.peer × (s.peer.states new.peer ≡ s.peer.states old.at.peer)
   pub beside_peer : IsSilent s.peer.follows s.peer.can_answer old.at.peer → s.local.is_faithful old.at.local →
@@ -251,15 +269,17 @@ HaveAnswered s old new = HasAnswered s.local.follows s.local.can_answer old.loca
     × HasAnswered s.peer.follows s.peer.can_answer old.peer new.peer
 
 -- A SESSION of two sides, each asked at most so many questions
-pub record Session {L P : Type 0} (s : Sides L P) (most : ℕ) (old new : Two L P) (result : Result Report SyncFault) : Type 0 where
+pub record Session {L P : Type 0} (s : Sides L P) (most : ℕ) (old new : Two L P)
+    (result : Result Report SyncFault) : Type 0 where
   pub course : Course s (record { at = old; left = record { local = most; peer = most } }) new result
   -- with no fault both sides have answered
   pub answers : OnOk result (HaveAnswered s old new)
-  -- between two true sides states are joined, at a fault, too; with no fault all that differ, but those refused for a cause, where
-  -- SHA-256 tells the texts of both sides apart
+  -- between two faithful sides states are joined, at a fault, too; with no fault all that differ, but those refused for
+  -- a cause, where SHA-256 tells the texts of both sides apart
   pub meets : s.local.is_faithful old.local → s.peer.is_faithful old.peer →
       Meets (before_of s old) (after_of s new) result
-  -- and few questions were made or wanted; so a 36 that a true side did not itself give means that this bound is above the budget
+  -- and few questions were made or wanted; so a 36 that a faithful side did not itself give means that this bound is
+  -- above the budget
   pub few : s.local.is_faithful old.local → s.peer.is_faithful old.peer → (differing : List Key) →
       HasAllThatDiffer (s.local.states old.local) (s.peer.states old.peer) differing →
       AreFew (course.asked_local + course.wanted_local) (s.local.states old.local) differing

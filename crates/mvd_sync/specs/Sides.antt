@@ -2,7 +2,8 @@
 use Rattle.std.proofs.Common.{refl, sym, subst, ◌∙◌}
 use Rattle.std.specs.Prelude.{◌≡◌, ◌≤◌, ℕ, Bool, true, false, Option}
 use Rattle.mvd_dots.specs.declared.refusals.Refusal.{Refusal}
-use Rattle.mvd_dots.specs.declared.refusals.Refusal.TheVariants.{BadBody, BadPath, Broken, DotClash, Full, Memory, StateTooLarge, TooManyRequests}
+use Rattle.mvd_dots.specs.declared.refusals.Refusal.TheVariants.{BadBody, BadPath, Broken, DotClash, Full, Memory}
+use Rattle.mvd_dots.specs.declared.refusals.Refusal.TheVariants.{StateTooLarge, TooManyRequests}
 use Rattle.mvd_keys.specs.State.{State}
 use Rattle.mvd_keys.specs.Writes.{Key}
 use Rattle.mvd_site.specs.Held.{States}
@@ -21,18 +22,6 @@ pub record SideOf (S : Type 0) : Type 1 where
   pub can_answer : S → Type 0
   pub most_keys : S → ℕ
   pub number : S → Option ℕ
-
-abbrev pub side : {S : Type 0} → (S → States) → (S → Type 0) → (Key → State → Type 0) → (ℕ → S → S → Type 0) → (S → Refusal → Type 0) → (S → Type 0) → (S → ℕ) → (S → Option ℕ) → SideOf S
-side states is_faithful can_give follows can_refuse can_answer most_keys number = record {
-  states = states;
-  is_faithful = is_faithful;
-  can_give = can_give;
-  follows = follows;
-  can_refuse = can_refuse;
-  can_answer = can_answer;
-  most_keys = most_keys;
-  number = number;
-}
 
 -- the two sides of a session, as what is known of each
 pub record Sides (L P : Type 0) : Type 1 where
@@ -59,11 +48,13 @@ Within follows most old new = (n : ℕ) × (n ≤ most) × follows n old new
 
 -- on the way it answered a question
 abbrev pub HasAnswered : {S : Type 0} → (ℕ → S → S → Type 0) → (S → Type 0) → S → S → Type 0
-HasAnswered {S} follows can_answer old new = (mid : S) × Reaches follows old mid × can_answer mid × Reaches follows mid new
+HasAnswered {S} follows can_answer old new =
+    (mid : S) × Reaches follows old mid × can_answer mid × Reaches follows mid new
 
 -- on the way it refused a question so, as it was then
 abbrev pub HasRefused : {S : Type 0} → (ℕ → S → S → Type 0) → (S → Refusal → Type 0) → S → S → Refusal → Type 0
-HasRefused {S} follows can_refuse old new refusal = (mid : S) × Reaches follows old mid × can_refuse mid refusal × Reaches follows mid new
+HasRefused {S} follows can_refuse old new refusal =
+    (mid : S) × Reaches follows old mid × can_refuse mid refusal × Reaches follows mid new
 
 -- a side that answers nothing, and by no question comes to answer
 abbrev pub IsSilent : {S : Type 0} → (ℕ → S → S → Type 0) → (S → Type 0) → S → Type 0
@@ -85,9 +76,9 @@ is_of_question refusal = is_of_key refusal
 abbrev pub IsOfNoQuestion : Refusal → Type 0
 IsOfNoQuestion refusal = is_of_question refusal ≡ false
 
--- a true side stays true, with the states that it held
-abbrev pub StaysTrue : {S : Type 0} → (S → Type 0) → (S → States) → S → S → Type 0
-StaysTrue is_faithful states old new = is_faithful old → is_faithful new × (states new ≡ states old)
+-- a faithful side stays faithful, with the states that it held
+abbrev pub StaysFaithful : {S : Type 0} → (S → Type 0) → (S → States) → S → S → Type 0
+StaysFaithful is_faithful states old new = is_faithful old → is_faithful new × (states new ≡ states old)
 
 -- ---- why a session ends by a side
 
@@ -100,10 +91,12 @@ pub record Inquiry (S : Type 0) : Type 0 where
   pub old : S
   pub new : S
 
--- it refused so on the way, and if it was true that is no refusal of one question alone (9, 10, 11, 14); or it gave what no true side
--- gives (33); or all questions were made that it might be asked, and one more was wanted (36); or memory was refused
+-- it refused so on the way, and if it was faithful that is no refusal of one question alone (9, 10, 11, 14); or it gave
+-- what no faithful side gives (33); or all questions were made that it might be asked, and one more was wanted (36); or
+-- memory was refused
 pub data Blames {S : Type 0} (s : SideOf S) (a : Inquiry S) (refusal : Refusal) : Type 0 where
-  of_side : HasRefused s.follows s.can_refuse a.old a.new refusal → (s.is_faithful a.old → is_of_question refusal ≡ false) →
+  of_side : HasRefused s.follows s.can_refuse a.old a.new refusal
+      → (s.is_faithful a.old → is_of_question refusal ≡ false) →
       Blames s a refusal
   of_answer : refusal ≡ BadBody → (s.is_faithful a.old → ⊥) → Blames s a refusal
   of_questions : refusal ≡ TooManyRequests → a.asked ≡ a.most → a.wanted ≡ 1 → Blames s a refusal
@@ -120,7 +113,8 @@ IsFaultOf local peer (Peer refusal) = peer refusal
 abbrev pub Stays : {S : Type 0} → (S → Type 0) → S → S → Type 0
 Stays is_over old new = is_over old → new ≡ old
 
-pub stays_on : {S : Type 0} (is_over : S → Type 0) (old mid new : S) → Stays is_over old mid → Stays is_over mid new → Stays is_over old new
+pub stays_on : {S : Type 0} (is_over : S → Type 0) (old mid new : S) → Stays is_over old mid → Stays is_over mid new
+    → Stays is_over old new
 stays_on is_over old mid new p q h = q (subst is_over (sym (p h)) h) ∙ p h
 
 abbrev pub IsBroken : SiteValue → Type 0

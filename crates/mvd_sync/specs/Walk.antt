@@ -7,7 +7,7 @@ use Rattle.mvd_tree.specs.Hashed.{HashesTellApart, SameUnder}
 use Rattle.mvd_site.specs.Answer.{digests, spelled}
 use Rattle.mvd_site.specs.Held.{States}
 use Rattle.mvd_sync.specs.Nodes.{differing_children, differs_at, has_below, told_children}
-use Rattle.mvd_sync.specs.Questions.{Keeps}
+use Rattle.mvd_sync.specs.Questions.{Keeps, OneAsking, with_left}
 use Rattle.mvd_sync.specs.Session.{AreDistinct, Asking, Each, HasAllThatDiffer, HaveAnswered}
 use Rattle.mvd_sync.specs.Sides.{Blames, IsFaultOf, SideOf, Sides, Two}
 use Rattle.mvd_sync.specs.declared.asking.Node.{Node}
@@ -15,35 +15,51 @@ use Rattle.mvd_sync.specs.declared.report.SyncFault.{SyncFault}
 
 -- equal digests under a path mean equal states
 pub record DigestsTell (path : List ℕ) (a b : States) : Type 0 where
-  pub nodes : (below : List ℕ) → IsTrue (begins path below) → length below ≤ 3 → node_digest (digests a) below ≡ node_digest (digests b) below → SameUnder below a b
-  pub keys : (key : Key) → IsTrue (is_under path key) → get (digests a) key ≡ get (digests b) key → get a key ≡ get b key
-
--- the key stands under a path
-abbrev pub IsBelow : List ℕ → Key → Type 0
-IsBelow path key = IsTrue (is_under path key)
+  pub nodes : (below : List ℕ) → IsTrue (begins path below) → length below ≤ 3
+      → node_digest (digests a) below ≡ node_digest (digests b) below → SameUnder below a b
+  pub keys : (key : Key) → IsTrue (is_under path key) → get (digests a) key ≡ get (digests b) key
+      → get a key ≡ get b key
 
 -- ---- questions that change nothing
 
+-- one of two sides, with the questions that are left for it
+abbrev pub local_of : {L P : Type 0} → Asking L P → OneAsking L
+local_of a = with_left a.at.local a.left.local
+
+abbrev pub peer_of : {L P : Type 0} → Asking L P → OneAsking P
+peer_of a = with_left a.at.peer a.left.peer
+
 -- So many questions were made to a side, and taken from those that were left
-pub record Reads {S : Type 0} (s : SideOf S) (asked left left' : ℕ) (old new : S) : Type 0 where
-  pub spent : left ≡ left' + asked
-  pub follows : s.follows asked old new
-  pub kept : s.is_faithful old → Keeps s old new
+pub record Reads {S : Type 0} (s : SideOf S) (asked : ℕ) (old new : OneAsking S) : Type 0 where
+  pub spent : old.left ≡ new.left + asked
+  pub follows : s.follows asked old.at new.at
+  pub kept : s.is_faithful old.at → Keeps s old.at new.at
 
 -- They came to an end by a fault that has a cause: no more were made than were left, and so few
-pub record ReadsEnd {L P : Type 0} (s : Sides L P) (AreFew : ℕ → Type 0) (old : Asking L P) (new : Two L P) (fault : SyncFault) : Type 0 where
+pub record ReadsEnd {L P : Type 0} (s : Sides L P) (Few : ℕ → Type 0) (old : Asking L P) (new : Two L P)
+    (fault : SyncFault) : Type 0 where
   pub asked_local : ℕ
   pub asked_peer : ℕ
   pub wanted_local : ℕ
   pub wanted_peer : ℕ
   pub within : (asked_local ≤ old.left.local) × (asked_peer ≤ old.left.peer)
-  pub few : AreFew (asked_local + wanted_local) × AreFew (asked_peer + wanted_peer)
+  pub few : Few (asked_local + wanted_local) × Few (asked_peer + wanted_peer)
   pub follows : s.local.follows asked_local old.at.local new.local × s.peer.follows asked_peer old.at.peer new.peer
   pub cause : IsFaultOf
-      (Blames s.local
-      (record { most = old.left.local; asked = asked_local; wanted = wanted_local; old = old.at.local; new = new.local }))
-      (Blames s.peer
-      (record { most = old.left.peer; asked = asked_peer; wanted = wanted_peer; old = old.at.peer; new = new.peer })) fault
+      (Blames s.local (record {
+        most = old.left.local;
+        asked = asked_local;
+        wanted = wanted_local;
+        old = old.at.local;
+        new = new.local;
+      }))
+      (Blames s.peer (record {
+        most = old.left.peer;
+        asked = asked_peer;
+        wanted = wanted_peer;
+        old = old.at.peer;
+        new = new.peer;
+      })) fault
   pub kept_local : s.local.is_faithful old.at.local → Keeps s.local old.at.local new.local
   pub kept_peer : s.peer.is_faithful old.at.peer → Keeps s.peer old.at.peer new.peer
 
@@ -58,11 +74,12 @@ abbrev pub told_all : List (List ℕ) → List Node → List Node → List (List
 told_all (path ∷ paths) (m ∷ mine) (t ∷ theirs) = told path m t ++ told_all paths mine theirs
 told_all paths mine theirs = []
 
--- ONE LEVEL: both sides were asked about these nodes, one question each, and told of their children; of two true sides these are
--- the children that differ
-pub record Descends {L P : Type 0} (s : Sides L P) (paths : List (List ℕ)) (old new : Asking L P) (below : List (List ℕ)) : Type 0 where
-  pub local_side : Reads s.local (length paths) old.left.local new.left.local old.at.local new.at.local
-  pub peer_side : Reads s.peer (length paths) old.left.peer new.left.peer old.at.peer new.at.peer
+-- ONE LEVEL: both sides were asked about these nodes, one question each, and told of their children; of two faithful
+-- sides these are the children that differ
+pub record Descends {L P : Type 0} (s : Sides L P) (paths : List (List ℕ)) (old new : Asking L P)
+    (below : List (List ℕ)) : Type 0 where
+  pub local_side : Reads s.local (length paths) (local_of old) (local_of new)
+  pub peer_side : Reads s.peer (length paths) (peer_of old) (peer_of new)
   pub answers : paths ≢ [] → HaveAnswered s old.at new.at
   pub longer : (n : ℕ) → Each (λ path. length path ≡ n) paths → Each (λ path. length path ≡ n + 1) below
   pub is : s.local.is_faithful old.at.local → s.peer.is_faithful old.at.peer →
@@ -70,7 +87,8 @@ pub record Descends {L P : Type 0} (s : Sides L P) (paths : List (List ℕ)) (ol
 
 -- ---- all levels
 
--- The buckets that differ: each once, and where SHA-256 tells the texts of the two trees apart, each key that differs is in one
+-- The buckets that differ: each once, and where SHA-256 tells the texts of the two trees apart, each key that differs
+-- is in one
 pub record AreBuckets (a b : States) (buckets : List (List ℕ)) : Type 0 where
   pub distinct : AreDistinct buckets
   pub differ : Each (λ path. IsTrue (differs_at (digests a) (digests b) path)) buckets
@@ -81,12 +99,12 @@ abbrev pub AreFewFor : {L P : Type 0} → Sides L P → Two L P → (ℕ → Typ
 AreFewFor s at Few = s.local.is_faithful at.local → s.peer.is_faithful at.peer → (differing : List Key) →
     HasAllThatDiffer (s.local.states at.local) (s.peer.states at.peer) differing → Few (length differing)
 
--- THE WALK from the root: both sides were asked equally many questions, and these are the buckets that differ. The questions, and
--- one for each bucket, are at most one for the root and three for each key that differs
+-- THE WALK from the root: both sides were asked equally many questions, and these are the buckets that differ. The
+-- questions, and one for each bucket, are at most one for the root and three for each key that differs
 pub record FindsBuckets {L P : Type 0} (s : Sides L P) (old new : Asking L P) (buckets : List (List ℕ)) : Type 0 where
   pub asked : ℕ
-  pub local_side : Reads s.local asked old.left.local new.left.local old.at.local new.at.local
-  pub peer_side : Reads s.peer asked old.left.peer new.left.peer old.at.peer new.at.peer
+  pub local_side : Reads s.local asked (local_of old) (local_of new)
+  pub peer_side : Reads s.peer asked (peer_of old) (peer_of new)
   pub answers : HaveAnswered s old.at new.at
   pub deep : Each (λ path. length path ≡ 3) buckets
   pub right : s.local.is_faithful old.at.local → s.peer.is_faithful old.at.peer →

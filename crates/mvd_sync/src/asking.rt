@@ -1,14 +1,17 @@
 //! Questions to a side, of which no more are made than were given.
-ghost use Rattle.std.specs.Prelude.{◌≡◌, ◌≢◌, ◌+◌, ◌-◌, ◌<◌, ◌≤◌, ◌^◌, [], length, false, OnOk, IfOk, IfErr, IsTrue, ◌↔◌, ◌⊎◌, ◌++◌, All, Contains, Some, None, min};
+ghost use Rattle.std.specs.Prelude.{◌≡◌, ◌≢◌, ◌+◌, ◌-◌, ◌<◌, ◌≤◌, ◌^◌, [], length, false, OnOk, IfOk, IfErr, IsTrue};
+ghost use Rattle.std.specs.Prelude.{◌↔◌, ◌⊎◌, ◌++◌, All, Contains, Some, None, min};
 ghost use Rattle.mvd_site.specs.Answer.{digests};
 ghost use Rattle.mvd_site.specs.Held.{state_at};
 ghost use Rattle.mvd_sync.specs.Answers.{IsPage, IsPageOf};
-ghost use Rattle.mvd_sync.specs.Questions.{AllAnswered, ComesToEnd, ForEach, IsInner, IsOfKey, IsWindow, Keeps, Takes, TakesFirst, TakesIn, AnswersEach, push_bytes};
+ghost use Rattle.mvd_sync.specs.Questions.{AllAnswered, AnswersEach, ComesToEnd, ForEach, IsInner, IsOfKey, IsWindow};
+ghost use Rattle.mvd_sync.specs.Questions.{Keeps, Takes, TakesIn, TakesInFirst, with_left, push_bytes};
 ghost use Rattle.mvd_sync.specs.Session.{Each};
 ghost use Rattle.mvd_sync.specs.PeerSides.{side_of};
 ghost use Rattle.mvd_sync.specs.Sides.{HasAnswered, is_of_key};
 
 use crate::cursor::Listing;
+use crate::made::{Made, made_all};
 use crate::peer::Peer;
 use mvd_dots::Refusal;
 use mvd_keys::{Key, KeyState, Path};
@@ -60,15 +63,18 @@ pub struct Node {
     pub children: [[u8; 32]; 16],
 }
 
-/// The digests of a node above the buckets; without children they are 33.
-fn inner(digests: Digests) -> Result<Node, Refusal>
-    ensures node { IfOk result (λ node. (node.own ≡ digests.own) × (digests.children ≡ Some node.children)) }
-    ensures none { IfErr result (λ refusal. (refusal ≡ Refusal.BadBody) × (digests.children ≡ None)) }
-{
-    let own = digests.own;
-    match digests.children {
-        Some(children) => Ok(Node { own, children }),
-        None => Err(Refusal::BadBody),
+/// Digests without children are of no node above the buckets.
+impl Made<Digests> for Node {
+    ghost is_of = { λ digests node. (node.own ≡ digests.own) × (digests.children ≡ Some node.children) };
+
+    ghost is_none = { λ digests. digests.children ≡ None };
+
+    fn made(answer: Digests) -> Result<Self, Refusal> {
+        let own = answer.own;
+        match answer.children {
+            Some(children) => Ok(Node { own, children }),
+            None => Err(Refusal::BadBody),
+        }
     }
 }
 
@@ -83,17 +89,14 @@ pub fn ask_nodes<P: Peer>(
         IfOk result
         (λ nodes. AllAnswered s (λ _ _. HasAnswered P.follows P.can_answer side.old side.new)
         (AnswersEach s (IsInner (digests (P.states side.old))) paths.now nodes.items side.old side.new)
-        paths.now nodes.items left.old left.new side.old side.new) }
+        paths.now nodes.items (with_left side.old left.old) (with_left side.new left.new)) }
     ensures ended { let s = side_of P.Peer in
         IfErr result
-        (ComesToEnd s (Keeps s side.old side.new) (length paths.now) left.old side.old side.new) }
+        (ComesToEnd s (Keeps s side.old side.new) (length paths.now) (with_left side.old left.old) side.new) }
 {
     let taken = take(left, paths.len());
     let told = side.nodes(&paths[..taken])?;
-    let mut nodes = Vec::with_capacity(side.alloc(), told.len())?;
-    for answer in told {
-        nodes.push(inner(answer?)?)?;
-    }
+    let nodes = made_all(side.alloc(), told)?;
     are_all(taken, paths.len())?;
     Ok(nodes)
 }
@@ -111,17 +114,14 @@ pub fn ask_pages<P: Peer>(
         × HasAnswered P.follows P.can_answer side.old side.new)
         (AnswersEach s (λ q page. IsPageOf (digests (P.states side.old)) q.0 q.1 page.0 page.1)
         asked.now pages.items side.old side.new)
-        asked.now pages.items left.old left.new side.old side.new) }
+        asked.now pages.items (with_left side.old left.old) (with_left side.new left.new)) }
     ensures ended { let s = side_of P.Peer in
         IfErr result
-        (ComesToEnd s (Keeps s side.old side.new) (length asked.now) left.old side.old side.new) }
+        (ComesToEnd s (Keeps s side.old side.new) (length asked.now) (with_left side.old left.old) side.new) }
 {
     let taken = take(left, asked.len());
     let told = side.pages(&asked[..taken])?;
-    let mut listings = Vec::with_capacity(side.alloc(), told.len())?;
-    for answer in told {
-        listings.push(Listing::of_page(None, answer?)?)?;
-    }
+    let listings = made_all(side.alloc(), told)?;
     are_all(taken, asked.len())?;
     Ok(listings)
 }
@@ -137,17 +137,14 @@ pub fn ask_gets<P: Peer>(
         (λ states. AllAnswered s (λ key state. P.can_give key state
         × HasAnswered P.follows P.can_answer side.old side.new)
         (AnswersEach s (λ key state. state ≡ state_at (P.states side.old) key) keys.now states.items side.old side.new)
-        keys.now states.items left.old left.new side.old side.new) }
+        keys.now states.items (with_left side.old left.old) (with_left side.new left.new)) }
     ensures ended { let s = side_of P.Peer in
         IfErr result
-        (ComesToEnd s (Keeps s side.old side.new) (length keys.now) left.old side.old side.new) }
+        (ComesToEnd s (Keeps s side.old side.new) (length keys.now) (with_left side.old left.old) side.new) }
 {
     let taken = take(left, keys.len());
     let told = side.get_all(&keys[..taken])?;
-    let mut states = Vec::with_capacity(side.alloc(), told.len())?;
-    for answer in told {
-        states.push(answer?)?;
-    }
+    let states = made_all(side.alloc(), told)?;
     are_all(taken, keys.len())?;
     Ok(states)
 }
@@ -205,11 +202,11 @@ pub fn ask_pushes<P: Peer>(
         IfOk result
         (λ told. AllAnswered s (λ _ told. IsOfKey told)
         (TakesIn s pairs.now told.items side.old side.new)
-        pairs.now told.items left.old left.new side.old side.new) }
+        pairs.now told.items (with_left side.old left.old) (with_left side.new left.new)) }
     ensures ended { let s = side_of P.Peer in
         IfErr result
-        (λ refusal. ComesToEnd s (TakesFirst s pairs.now side.old side.new refusal) (length pairs.now) left.old
-        side.old side.new refusal) }
+        (λ refusal. ComesToEnd s (TakesInFirst s pairs.now side.old side.new refusal) (length pairs.now)
+        (with_left side.old left.old) side.new refusal) }
 {
     let mut told = Vec::with_capacity(side.alloc(), pairs.len())?;
     let mut rest = pairs;

@@ -1,5 +1,6 @@
 //! The keys that differ in the buckets.
-ghost use Rattle.std.specs.Prelude.{◌≡◌, ◌<◌, ◌≤◌, ◌+◌, ◌^◌, ◌++◌, ◌∷◌, [], length, map, Some, None, true, false, IfOk, IfErr, OnOk};
+ghost use Rattle.std.specs.Prelude.{◌≡◌, ◌<◌, ◌≤◌, ◌+◌, ◌^◌, ◌++◌, ◌∷◌, [], length, map, Some, None, true, false, IfOk};
+ghost use Rattle.std.specs.Prelude.{IfErr, OnOk};
 ghost use Rattle.mvd_site.specs.Answer.{digests};
 ghost use Rattle.mvd_sync.specs.Buckets.{ArePages, FillEnds, FillsBoth, GoesOver, GoesThrough, Settles, reading};
 ghost use Rattle.mvd_sync.specs.Exchanges.{IsHeldByEither, moment};
@@ -57,8 +58,8 @@ fn settle<L: Peer, P: Peer>(
     requires waiting { length exchange.old.waiting < 1000 }
     requires room { exchange.old.keys + exchange.old.refused + left.old.local + left.old.peer + 1000 < 2 ^ 64 }
     ensures { let s = sides_of L.Peer P.Peer in
-        Settles s entry (moment local.old peer.old left.old exchange.old) (moment local.new peer.new left.new exchange.new)
-        result }
+        Settles s entry (moment local.old peer.old left.old exchange.old)
+        (moment local.new peer.new left.new exchange.new) result }
 {
     if entry.differs {
         exchange.add(local, peer, left, entry)

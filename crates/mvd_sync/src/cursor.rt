@@ -1,12 +1,15 @@
 //! What a session has left of a side's page of a bucket.
-ghost use Rattle.std.specs.Prelude.{◌≡◌, ◌≢◌, ◌+◌, ◌-◌, ◌*◌, ◌≤◌, [], ◌∷◌, length, IfOk, IfErr, IfSome, IfNone, OnSome, ◌<◌, ◌^◌, OnOk, OnErr, MatchOption, option_copied, true, IsTrue, ◌↔◌};
+ghost use Rattle.std.specs.Prelude.{◌≡◌, ◌≢◌, ◌+◌, ◌-◌, ◌*◌, ◌≤◌, [], ◌∷◌, length, IfOk, IfErr, IfSome, IfNone, OnSome};
+ghost use Rattle.std.specs.Prelude.{None, ◌<◌, ◌^◌, OnOk, OnErr, MatchOption, option_copied, true, IsTrue, ◌↔◌};
 ghost use Rattle.mvd_tree.specs.Page.{is_after};
-ghost use Rattle.mvd_sync.specs.Answers.{IsPage, Rises, TakesNext, order_of_first};
-ghost use Rattle.mvd_sync.specs.Questions.{ComesToEnd, Fetches, Fills, Keeps};
+ghost use Rattle.mvd_sync.specs.Answers.{IsPage, Rises, TakesLesser, order_of_first};
+ghost use Rattle.mvd_sync.specs.Questions.{ComesToEnd, Fetches, Fills, Keeps, with_left};
 ghost use Rattle.mvd_sync.specs.PeerSides.{side_of};
+ghost use Rattle.mvd_sync.specs.Sides.{two};
 
 use crate::asking::take_one;
 use crate::levels::is_same;
+use crate::made::Made;
 use crate::peer::{Page, Peer};
 use mvd_dots::Refusal;
 use mvd_keys::{Key, Path};
@@ -92,9 +95,10 @@ impl Listing {
         requires { length path.now ≡ 3 }
         ensures told { let s = side_of P.Peer in
             IfOk result
-            (λ listing. Fetches s path.now (option_copied after.entry) listing left.old left.new side.old side.new) }
+            (λ listing. Fetches s path.now (option_copied after.entry) listing
+            (with_left side.old left.old) (with_left side.new left.new)) }
         ensures ended { let s = side_of P.Peer in
-            IfErr result (ComesToEnd s (Keeps s side.old side.new) 1 left.old side.old side.new) }
+            IfErr result (ComesToEnd s (Keeps s side.old side.new) 1 (with_left side.old left.old) side.new) }
     {
         match take_one(left) {
             Ok(()) => {}
@@ -124,9 +128,10 @@ impl Listing {
         requires { length path.now ≡ 3 }
         ensures filled { let s = side_of P.Peer in
             OnOk result
-            (Fills s path.now (option_copied after.entry) self.old self.new left.old left.new side.old side.new) }
+            (Fills s path.now (option_copied after.entry) self.old self.new
+            (with_left side.old left.old) (with_left side.new left.new)) }
         ensures ended { let s = side_of P.Peer in
-            IfErr result (ComesToEnd s (Keeps s side.old side.new) 1 left.old side.old side.new) }
+            IfErr result (ComesToEnd s (Keeps s side.old side.new) 1 (with_left side.old left.old) side.new) }
         ensures needed { OnErr result ((self.old.0 ≡ []) × (self.old.1 ≡ true)) }
     {
         if !self.is_spent() {
@@ -162,11 +167,23 @@ impl Listing {
     }
 }
 
+/// A page whose keys do not rise, or with more without a key, is none.
+impl Made<Page> for Listing {
+    ghost is_of = { λ page listing. (listing ≡ (page.0.items, page.1))
+        × IsPage None listing.0 listing.1 × (length listing.0 < 2 ^ 64) };
+
+    ghost is_none = { λ page. IsPage None page.0.items page.1 → ⊥ };
+
+    fn made(answer: Page) -> Result<Self, Refusal> {
+        Listing::of_page(None, answer)
+    }
+}
+
 /// Takes the lesser first key of two listings, from both where both begin with it.
 pub fn next(mine: &mut Listing, theirs: &mut Listing) -> Option<Entry>
     ensures none { IfNone result ((mine.old.0 ≡ []) × (theirs.old.0 ≡ [])) }
-    ensures next { IfSome result (λ e. TakesNext
-        mine.old.0 theirs.old.0 e.key e.mine e.theirs e.differs mine.new.0 theirs.new.0) }
+    ensures next { IfSome result (λ e.
+        TakesLesser (two mine.old.0 theirs.old.0) e (two mine.new.0 theirs.new.0)) }
     ensures fewer { OnSome result (length mine.new.0 + length theirs.new.0 < length mine.old.0 + length theirs.old.0) }
     ensures more { (mine.new.1 ≡ mine.old.1) × (theirs.new.1 ≡ theirs.old.1) }
 {

@@ -1,14 +1,14 @@
 //! What answers requests.
 ghost use Rattle.mvd_wire.specs.declared.reply.Reply.{Reply};
 ghost use Rattle.mvd_wire.specs.declared.request.Request.{Request};
-ghost use Rattle.mvd_sync.specs.Lines.{RepliesFar};
+ghost use Rattle.mvd_sync.specs.Remotes.{RepliesFar};
 
 use crate::line::Line;
 use crate::remote::Remote;
 use mvd_wire::{Reply, Request};
 
-/// Something that answers requests: a site of a world, a stored one, or one at the other end of a connection. What its replies mean
-/// is its own promise, and nothing here rests on it.
+/// Something that answers requests: a site of a world, a stored one, or one at the other end of a connection. What its
+/// replies mean is its own promise, and nothing here rests on it.
 pub trait Endpoint {
     /// What it may be after a request, and how it may have replied.
     ghost answers: { Self → Self → Request → Reply → Type 0 };
@@ -19,8 +19,7 @@ pub trait Endpoint {
 }
 
 impl<L: Line> Endpoint for Remote<L> {
-    ghost answers = { λ old new request reply.
-        RepliesFar L.remaining L.contents L.is_true L.far old new request reply };
+    ghost answers = { RepliesFar L.Line };
 
     fn ask(&mut self, request: Request) -> Reply {
         let told = Remote::ask(self, &request);

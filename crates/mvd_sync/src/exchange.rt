@@ -1,13 +1,14 @@
 //! The exchange of keys, one window after another.
-ghost use Rattle.std.specs.Prelude.{◌≡◌, ◌<◌, ◌+◌, ◌^◌, ◌++◌, ◌∷◌, [], length, map, filter_map, IfOk, IfErr, OnOk, cond, ◌≤◌, ◌↔◌, IsTrue};
+ghost use Rattle.std.specs.Prelude.{◌≡◌, ◌<◌, ◌+◌, ◌^◌, ◌++◌, ◌∷◌, [], length, map, filter_map, IfOk, IfErr, OnOk};
+ghost use Rattle.std.specs.Prelude.{cond, ◌≤◌, ◌↔◌, IsTrue};
 ghost use Rattle.mvd_sync.specs.Exchanges.{Adds, Exchanges, IsHeldByEither, moment};
 ghost use Rattle.mvd_sync.specs.Meetings.{done_of, held_keys, pair_of};
-ghost use Rattle.mvd_sync.specs.Questions.{ComesToEnd, Keeps, TakesFirst};
+ghost use Rattle.mvd_sync.specs.Questions.{ComesToEnd, Keeps, TakesInFirst, with_left};
 ghost use Rattle.mvd_sync.specs.Session.{Each, asking};
 ghost use Rattle.mvd_sync.specs.PeerSides.{side_of, sides_of};
 ghost use Rattle.mvd_sync.specs.Sides.{two};
 ghost use Rattle.mvd_sync.specs.Walk.{ReadsEnd};
-ghost use Rattle.mvd_sync.specs.Carries.{Carried, ExchangesAll, Gives, Planned};
+ghost use Rattle.mvd_sync.specs.Carries.{Carried, ExchangesAll, GivesStates, Planned};
 
 use crate::asking::{Questions, ask_gets, ask_pushes};
 use crate::cursor::Entry;
@@ -68,10 +69,12 @@ fn gives<S: Peer>(
     name: Side,
 ) -> Result<Vec<KeyState>, Refusal>
     ensures told { let s = side_of S.Peer in
-        IfOk result (λ states. Gives s name entries.now states.items left.old left.new side.old side.new) }
+        IfOk result (λ states. GivesStates s name entries.now states.items
+        (with_left side.old left.old) (with_left side.new left.new)) }
     ensures ended { let s = side_of S.Peer in
         IfErr result
-        (ComesToEnd s (Keeps s side.old side.new) (length (held_keys name entries.now)) left.old side.old side.new) }
+        (ComesToEnd s (Keeps s side.old side.new) (length (held_keys name entries.now))
+        (with_left side.old left.old) side.new) }
 {
     let asked = match keys_held(alloc, entries, name) {
         Ok(keys) => keys,
@@ -119,13 +122,14 @@ fn carry<S: Peer>(
     name: Side,
 ) -> Result<Vec<Meeting>, Refusal>
     ensures told { let s = side_of S.Peer in
-        IfOk result (λ after. Carried s name meetings.items after.items left.old left.new side.old side.new) }
+        IfOk result (λ after. Carried s name meetings.items after.items
+        (with_left side.old left.old) (with_left side.new left.new)) }
     ensures ended { let s = side_of S.Peer in
         let pairs = filter_map (pair_of name) meetings.items in
         IfErr result
-        (λ refusal. ComesToEnd s (TakesFirst s pairs side.old side.new refusal) (length pairs) left.old
-        side.old side.new refusal) }
-    ensures alone { IfErr result (λ _. filter_map (pair_of name) meetings.items ≡ [] → side.new ≡ side.old) }
+        (λ refusal. ComesToEnd s (TakesInFirst s pairs side.old side.new refusal) (length pairs)
+        (with_left side.old left.old) side.new refusal) }
+    ensures unasked { IfErr result (λ _. filter_map (pair_of name) meetings.items ≡ [] → side.new ≡ side.old) }
 {
     let (meetings, pairs) = match taken(alloc, meetings, name) {
         Ok(both) => both,

@@ -8,6 +8,7 @@ mod endpoint;
 mod exchange;
 mod levels;
 pub mod line;
+mod made;
 mod meetings;
 mod old;
 pub mod peer;

@@ -16,7 +16,7 @@ use std::io::{Read, Write};
 
 /// A line to a far side: the frames of requests go out, and those of its replies come in.
 ///
-/// A line is true where its far side is, and where it hands on what is sent to that and what that
+/// A line is true where its far side is faithful, and where it hands on what is sent to that and what that
 /// replies. Nothing else is said of a line that failed: the far side may have taken the first of the
 /// requests that went out.
 pub trait Line: Sized + Drop {

@@ -1,7 +1,8 @@
 //! The keys of a window: what each side is to take of them, and how they were refused.
 ghost use Rattle.std.specs.Prelude.{◌≡◌, map, filter_map, IfOk, OnOk, IfErr, None, Some, false, option_map, ◌++◌, []};
 ghost use Rattle.std.specs.List.{cons_option};
-ghost use Rattle.mvd_sync.specs.Meetings.{ArePlans, IsPlan, first_if, held_keys, is_held, noted, pair_of, rest_if, taken_from, wanted};
+ghost use Rattle.mvd_sync.specs.Meetings.{ArePlans, IsPlan, first_if, held_keys, is_held, noted, pair_of, rest_if};
+ghost use Rattle.mvd_sync.specs.Meetings.{taken_from, wanted};
 
 use crate::cursor::Entry;
 use crate::old::has_unseen;

@@ -1,5 +1,6 @@
 //! What a session asks of a side.
-ghost use Rattle.std.specs.Prelude.{◌≡◌, ◌≢◌, ◌<◌, ◌≤◌, ◌+◌, ℕ, List, Option, Result, length, true, false, IfOk, IfErr, OnOk, OnErr, Ok, Err, Some, None};
+ghost use Rattle.std.specs.Prelude.{◌≡◌, ◌≢◌, ◌<◌, ◌≤◌, ◌+◌, ℕ, List, Option, Result, length, true, false, IfOk, IfErr};
+ghost use Rattle.std.specs.Prelude.{OnOk, OnErr, Ok, Err, Some, None};
 ghost use Rattle.std.specs.Option.{option_copied};
 ghost use Rattle.mvd_dots.specs.declared.refusals.Refusal.{Refusal};
 ghost use Rattle.mvd_keys.specs.State.{State, clashes};
@@ -8,9 +9,10 @@ ghost use Rattle.mvd_tree.specs.HashTree.{node_digest};
 ghost use Rattle.mvd_tree.specs.Page.{children_digests, is_more_after_page, page_of};
 ghost use Rattle.mvd_site.specs.Held.{AreHeld, States, state_at};
 ghost use Rattle.mvd_site.specs.Answer.{digests};
-ghost use Rattle.mvd_sync.specs.Sides.{IsOfNoQuestion, StaysTrue};
-ghost use Rattle.mvd_sync.specs.Windows.{AskedAll, CannotTake, Ends, HasKeys, IsNode, IsPushed, Leaves, PushedAll, PushedSome, RefusesPage, TellsMore};
-ghost use Rattle.mvd_sync.specs.Windows.{for_pushes, gets_of, manner, nodes_of, pages_of};
+ghost use Rattle.mvd_sync.specs.Sides.{IsOfNoQuestion, StaysFaithful};
+ghost use Rattle.mvd_sync.specs.Windows.{AskedAll, CannotTake, Ends, HasKeys, IsNode, IsPushed, Leaves, PushedAll};
+ghost use Rattle.mvd_sync.specs.Windows.{PushedSome, RefusesPage, TellsMore};
+ghost use Rattle.mvd_sync.specs.Windows.{for_pushes, gets_of, holding, manner, nodes_of, pages_of};
 
 use crate::windows::{is_over, left_open, room_for};
 use mvd_dots::Refusal;
@@ -23,9 +25,9 @@ pub type Page = (Vec<(Key, [u8; 32])>, bool);
 
 /// A side of a session: something that holds key states, and is asked for them.
 ///
-/// A side that is true (`is_faithful`) answers each question from the states that it holds, or
+/// A side that is faithful answers each question from the states that it holds, or
 /// refuses it; what is pushed into it is joined to them, or refused, and then nothing is changed,
-/// unless the refusal is one that leaves open whether it was: 20, 22, or one from 30 on. It stays true
+/// unless the refusal is one that leaves open whether it was: 20, 22, or one from 30 on. It stays faithful
 /// unless it says that it is broken. A question is one call of `node`, `bucket`, `get` or `push`. Each
 /// of these has a call for many questions: one answer for each, in order, as if they were asked one
 /// after the other. A refusal in that list has changed nothing. An `Err` is of the whole call: the
@@ -34,19 +36,19 @@ pub trait Peer {
     /// The key states that it holds.
     ghost states: { Self → States };
 
-    /// Whether it is true to them.
+    /// Whether it is faithful to them.
     ghost is_faithful: { Self → Type 0 };
 
-    /// What it may give as the state of a key, true or not.
+    /// What it may give as the state of a key, faithful or not.
     ghost can_give: { Key → State → Type 0 };
 
-    /// The second may be what the first is after so many questions, true or not.
+    /// The second may be what the first is after so many questions, faithful or not.
     ghost follows: { ℕ → Self → Self → Type 0 };
 
-    /// What the side after it may have refused a question with, true or not.
+    /// What the side after it may have refused a question with, faithful or not.
     ghost can_refuse: { Self → Refusal → Type 0 };
 
-    /// What is so of it after it answered a question, true or not.
+    /// What is so of it after it answered a question, faithful or not.
     ghost can_answer: { Self → Type 0 };
 
     /// How many keys it holds at most.
@@ -64,7 +66,7 @@ pub trait Peer {
 
     /// The digest of a node and, above the buckets, those of its sixteen children.
     fn node(&mut self, path: &Path) -> Result<Digests, Refusal>
-        ensures kept { StaysTrue is_faithful states self.old self.new }
+        ensures kept { StaysFaithful is_faithful states self.old self.new }
         ensures answer { is_faithful self.old → IfOk result (IsNode (digests (states self.old)) path.now) }
         ensures not_of_question { is_faithful self.old → IfErr result IsOfNoQuestion }
         ensures follows { follows 1 self.old self.new }
@@ -73,7 +75,7 @@ pub trait Peer {
 
     /// A page of a bucket after a key.
     fn bucket(&mut self, path: &Path, after: Option<&Key>) -> Result<Page, Refusal>
-        ensures kept { StaysTrue is_faithful states self.old self.new }
+        ensures kept { StaysFaithful is_faithful states self.old self.new }
         ensures page { is_faithful self.old →
             IfOk result (HasKeys (states self.old) path.now (option_copied after.entry)) }
         ensures more { is_faithful self.old →
@@ -85,7 +87,7 @@ pub trait Peer {
 
     /// The state of a key, which is the empty one where the key is not held.
     fn get(&mut self, key: &Key) -> Result<KeyState, Refusal>
-        ensures kept { StaysTrue is_faithful states self.old self.new }
+        ensures kept { StaysFaithful is_faithful states self.old self.new }
         ensures answer { is_faithful self.old → IfOk result (λ state. state ≡ state_at (states self.old) key.now) }
         ensures given { IfOk result (λ state. can_give key.now state) }
         ensures not_of_question { is_faithful self.old → IfErr result IsOfNoQuestion }
@@ -96,7 +98,7 @@ pub trait Peer {
     /// Joins a state to that of a key.
     fn push(&mut self, key: &Key, state: &KeyState) -> Result<(), Refusal>
         ensures ok { is_faithful self.old →
-            OnOk result (IsPushed is_faithful states key.now state.now self.old self.new) }
+            OnOk result (IsPushed (holding is_faithful states most_keys) key.now state.now self.old self.new) }
         ensures apart { is_faithful self.old →
             OnOk result (clashes (state_at (states self.old) key.now) state.now ≡ false) }
         ensures refused { is_faithful self.old →
@@ -111,7 +113,7 @@ pub trait Peer {
 
     /// The digests of several nodes.
     fn nodes(&mut self, paths: &[Path]) -> Result<Vec<Result<Digests, Refusal>>, Refusal>
-        ensures kept { StaysTrue is_faithful states self.old self.new }
+        ensures kept { StaysFaithful is_faithful states self.old self.new }
         ensures told { AskedAll (manner follows can_refuse can_answer)
             (nodes_of is_faithful states) paths.now self.old self.new result }
         ensures ended { IfErr result (Ends follows can_refuse (length paths.now) self.old self.new) }
@@ -133,7 +135,7 @@ pub trait Peer {
         &mut self,
         asked: &[(Path, Option<Key>)],
     ) -> Result<Vec<Result<Page, Refusal>>, Refusal>
-        ensures kept { StaysTrue is_faithful states self.old self.new }
+        ensures kept { StaysFaithful is_faithful states self.old self.new }
         ensures told { AskedAll (manner follows can_refuse can_answer)
             (pages_of is_faithful states) asked.now self.old self.new result }
         ensures ended { IfErr result (Ends follows can_refuse (length asked.now) self.old self.new) }
@@ -152,7 +154,7 @@ pub trait Peer {
 
     /// The states of several keys.
     fn get_all(&mut self, keys: &[Key]) -> Result<Vec<Result<KeyState, Refusal>>, Refusal>
-        ensures kept { StaysTrue is_faithful states self.old self.new }
+        ensures kept { StaysFaithful is_faithful states self.old self.new }
         ensures told { AskedAll (manner follows can_refuse can_answer)
             (gets_of can_give is_faithful states) keys.now self.old self.new result }
         ensures ended { IfErr result (Ends follows can_refuse (length keys.now) self.old self.new) }
@@ -173,12 +175,12 @@ pub trait Peer {
     fn push_all(&mut self, pairs: &[(Key, KeyState)]) -> Result<Vec<Result<(), Refusal>>, Refusal>
         ensures told { AskedAll (manner follows can_refuse can_answer)
             (λ _. for_pushes) pairs.now self.old self.new result }
-        ensures pushes { PushedAll is_faithful most_keys states pairs.now self.old self.new result }
+        ensures pushes { PushedAll (holding is_faithful states most_keys) pairs.now self.old self.new result }
         ensures ended { IfErr result (Ends follows can_refuse (length pairs.now) self.old self.new) }
         ensures not_of_question { is_faithful self.old → IfErr result IsOfNoQuestion }
         ensures unbroken { is_faithful self.old →
             IfErr result (λ refusal. refusal ≢ Refusal.Broken → is_faithful self.new) }
-        ensures first { PushedSome is_faithful most_keys states pairs.now self.old self.new result }
+        ensures first { PushedSome (holding is_faithful states most_keys) pairs.now self.old self.new result }
     {
         let mut told = room_for(self.alloc(), pairs.len())?;
         for (key, state) in pairs {
@@ -191,7 +193,7 @@ pub trait Peer {
         Ok(told)
     }
 
-    /// A true side holds keys and states in form.
+    /// A faithful side holds keys and states in form.
     ghost in_form: { (side : Self) → is_faithful side → AreHeld (states side) };
 
     /// After no question a side follows itself.

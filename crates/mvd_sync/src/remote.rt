@@ -1,28 +1,24 @@
 //! A site at the other end of a connection.
 mod answer;
+mod far_side;
 mod window;
-mod window_calls;
 
-ghost use Rattle.std.specs.Prelude.{◌≡◌, ◌⊎◌, [], IfOk, None, Some, Ok, map};
+ghost use Rattle.std.specs.Prelude.{◌≡◌, ◌⊎◌, [], IfOk, None, Some, Ok};
 ghost use Rattle.mvd_dots.specs.declared.refusals.Refusal.{Refusal};
 ghost use Rattle.mvd_wire.specs.declared.request.Request.{Request};
-ghost use Rattle.mvd_wire.specs.declared.request.Request.TheVariants.{Get, Node, Bucket, Push, Bye};
 ghost use Rattle.mvd_wire.specs.declared.reply.Reply.TheVariants.{Refused};
-ghost use Rattle.mvd_sync.specs.Lines.{AsksAllOver, AsksAllTruly, AsksOver, AsksTruly, IsTrueRemote, KeepsMost, RemoteFollows, TakesNext};
-ghost use Rattle.mvd_sync.specs.Lines.{as_digests, as_done, as_page, as_state, far_of, line_of, refused_of, remote_follows_on, remote_follows_self};
-ghost use Rattle.mvd_sync.specs.Links.{Asks, AsksFor, ReadsReply, Sends, StaysRefused, answered_by, link};
+ghost use Rattle.mvd_sync.specs.Lines.{IsTrueRemote, KeepsMost, line_of, refused_of};
+ghost use Rattle.mvd_sync.specs.Links.{Asks, ReadsReply, Sends, StaysRefused, answered_by};
+ghost use Rattle.mvd_sync.specs.Remotes.{AsksOver, AsksTruly, TakesReply, any_query, bye_query, link_of, query};
 ghost use Rattle.mvd_wire.specs.Codec.{Gives};
 ghost use Rattle.mvd_wire.specs.Replies.{kind_of};
 ghost use Rattle.mvd_wire.specs.Requests.{IsRequest, request_frame};
-ghost use Rattle.std.specs.Option.{option_copied};
 
 use crate::line::Line;
-use crate::peer::{Page, Peer};
 use answer::Answer;
 use mvd_dots::Refusal;
-use mvd_keys::{Key, KeyState, Path};
-use mvd_frames::{decode_reply, encode_bucket, encode_bye, encode_get, encode_node, encode_push, encode_request};
-use mvd_wire::{Digests, Reply, Request};
+use mvd_frames::{decode_reply, encode_bye, encode_request};
+use mvd_wire::{Reply, Request};
 use std::alloc::Global;
 
 /// A site that is asked over a line. What it holds is known as far as the line is true; of a reader
@@ -61,7 +57,7 @@ fn refusal_in(reply: &Reply) -> Refusal
 }
 
 impl<L: Line> Remote<L> {
-    /// The site at the other end of a line, which is true if the line is and no reply is due.
+    /// The site at the other end of a line, which is faithful if the line is true and no reply is due.
     pub fn over(alloc: Global, line: L) -> Self
         ensures line { line_of result ≡ line }
         ensures goes_on { refused_of result ≡ None }
@@ -103,7 +99,7 @@ impl<L: Line> Remote<L> {
         ensures of_kind { IfOk result (λ reply. (kind_of reply ≡ kind) ⊎ (kind_of reply ≡ 0xEE)) }
         ensures unsent { L.contents (line_of self.new) ≡ L.contents (line_of self.old) }
         ensures most { KeepsMost L.far self.old self.new }
-        ensures truth { TakesNext L.is_true L.far self.old self.new result }
+        ensures truth { TakesReply L.Line self.old self.new result }
     {
         let came = match self.line.receive(self.alloc) {
             Ok(Some(came)) => came,
@@ -127,12 +123,11 @@ impl<L: Line> Remote<L> {
     /// Sends a frame, and reads the reply, which is of this kind or a refusal.
     fn send(&mut self, frame: &[u8], kind: u8) -> Result<Reply, Refusal>
         requires { refused_of self.old ≡ None }
-        ensures sends { Sends (link L.remaining L.contents self.old) (link L.remaining L.contents self.new)
-            frame.now kind result }
+        ensures sends { Sends (link_of L.Line self.old) (link_of L.Line self.new) frame.now kind result }
         ensures of_kind { IfOk result (λ reply. (kind_of reply ≡ kind) ⊎ (kind_of reply ≡ 0xEE)) }
         ensures most { KeepsMost L.far self.old self.new }
         ensures truth { (request : Request) → IsRequest request → request_frame request ≡ Ok frame.now →
-            AsksTruly L.is_true L.far (λ reply. reply) request self.old self.new result }
+            AsksTruly L.Line (any_query request) self.old self.new result }
     {
         match self.line.send(frame) {
             Ok(()) => self.read(kind),
@@ -144,11 +139,10 @@ impl<L: Line> Remote<L> {
     /// the reply. After a refusal of the link itself, 30 to 35, or 20 while a frame is read, every later
     /// question is refused so.
     pub fn ask(&mut self, request: &Request) -> Result<Reply, Refusal>
-        ensures asked { Asks (link L.remaining L.contents self.old) (link L.remaining L.contents self.new)
-            request.now result }
+        ensures asked { Asks (link_of L.Line self.old) (link_of L.Line self.new) request.now result }
         ensures stays { StaysRefused self.old self.new result }
         ensures most { KeepsMost L.far self.old self.new }
-        ensures truth { AsksTruly L.is_true L.far (λ reply. reply) request.now self.old self.new result }
+        ensures truth { AsksTruly L.Line (any_query request.now) self.old self.new result }
     {
         if let Some(refusal) = self.refused {
             return Err(refusal);
@@ -159,32 +153,20 @@ impl<L: Line> Remote<L> {
         }
     }
 
-    /// The digest of a node, and those of its children.
-    pub fn node(&mut self, path: &Path) -> Result<Digests, Refusal>
-        ensures asked { AsksOver L.remaining L.contents as_digests
-            (Node path.now) self.old self.new result }
+    /// Sends the frame of a question for such an answer, and reads that, or tells why the question has no frame.
+    fn ask_for<A: Answer>(&mut self, frame: Result<Vec<u8>, Refusal>) -> Result<A, Refusal>
+        ensures asked { (request : Request) → answered_by request ≡ A.of_kind →
+            Gives (λ v. v.items) frame (request_frame request) →
+            AsksOver L.Line (query request A.as_reply) self.old self.new result }
         ensures stays { StaysRefused self.old self.new result }
         ensures most { KeepsMost L.far self.old self.new }
-        ensures truth { AsksTruly L.is_true L.far as_digests
-            (Node path.now) self.old self.new result }
+        ensures truth { (request : Request) → IfOk frame (λ _. IsRequest request) →
+            Gives (λ v. v.items) frame (request_frame request) →
+            AsksTruly L.Line (query request A.as_reply) self.old self.new result }
     {
         if let Some(refusal) = self.refused {
             return Err(refusal);
         }
-        self.ask_for(encode_node(self.alloc, path))
-    }
-
-    /// Sends the frame of a question for such an answer, and reads that, or tells why the question has no frame.
-    fn ask_for<A: Answer>(&mut self, frame: Result<Vec<u8>, Refusal>) -> Result<A, Refusal>
-        requires { refused_of self.old ≡ None }
-        ensures asked { (request : Request) → answered_by request ≡ A.of_kind →
-            Gives (λ v. v.items) frame (request_frame request) → AsksFor A.as_reply request
-            (link L.remaining L.contents self.old) (link L.remaining L.contents self.new) result }
-        ensures most { KeepsMost L.far self.old self.new }
-        ensures truth { (request : Request) → IfOk frame (λ _. IsRequest request) →
-            Gives (λ v. v.items) frame (request_frame request) →
-            AsksTruly L.is_true L.far A.as_reply request self.old self.new result }
-    {
         let frame = match frame {
             Ok(frame) => frame,
             Err(refusal) => return Err(refusal),
@@ -195,202 +177,13 @@ impl<L: Line> Remote<L> {
         }
     }
 
-    fn bucket_frame(&self, path: &Path, after: Option<&Key>) -> Result<Vec<u8>, Refusal>
-        ensures exact { Gives (λ v. v.items) result (request_frame (Bucket path.now (option_copied after.entry))) }
-        ensures fits { IfOk result (λ _. IsRequest (Bucket path.now (option_copied after.entry))) }
-    {
-        let after = match after {
-            Some(key) => Some(key.copy(self.alloc)?),
-            None => None,
-        };
-        encode_bucket(self.alloc, path, &after)
-    }
-
-    /// A page of a bucket after a key, and whether more are left.
-    pub fn bucket(&mut self, path: &Path, after: Option<&Key>) -> Result<Page, Refusal>
-        ensures asked { AsksOver L.remaining L.contents as_page
-            (Bucket path.now (option_copied after.entry)) self.old self.new result }
-        ensures stays { StaysRefused self.old self.new result }
-        ensures most { KeepsMost L.far self.old self.new }
-        ensures truth { AsksTruly L.is_true L.far as_page
-            (Bucket path.now (option_copied after.entry)) self.old self.new result }
-    {
-        if let Some(refusal) = self.refused {
-            return Err(refusal);
-        }
-        self.ask_for(self.bucket_frame(path, after))
-    }
-
-    /// The state that the site has of a key.
-    pub fn get(&mut self, key: &Key) -> Result<KeyState, Refusal>
-        ensures asked { AsksOver L.remaining L.contents as_state
-            (Get key.now) self.old self.new result }
-        ensures stays { StaysRefused self.old self.new result }
-        ensures most { KeepsMost L.far self.old self.new }
-        ensures truth { AsksTruly L.is_true L.far as_state
-            (Get key.now) self.old self.new result }
-    {
-        if let Some(refusal) = self.refused {
-            return Err(refusal);
-        }
-        self.ask_for(encode_get(self.alloc, key))
-    }
-
-    /// Joins a state to the one that the site has of a key.
-    pub fn push(&mut self, key: &Key, state: &KeyState) -> Result<(), Refusal>
-        ensures asked { AsksOver L.remaining L.contents as_done
-            (Push key.now state.now) self.old self.new result }
-        ensures stays { StaysRefused self.old self.new result }
-        ensures most { KeepsMost L.far self.old self.new }
-        ensures truth { AsksTruly L.is_true L.far as_done
-            (Push key.now state.now) self.old self.new result }
-    {
-        if let Some(refusal) = self.refused {
-            return Err(refusal);
-        }
-        self.ask_for(encode_push(self.alloc, key, state))
-    }
-
     /// Ends the connection.
     pub fn bye(&mut self) -> Result<(), Refusal>
-        ensures asked { AsksOver L.remaining L.contents as_done
-            (Bye) self.old self.new result }
+        ensures asked { AsksOver L.Line bye_query self.old self.new result }
         ensures stays { StaysRefused self.old self.new result }
         ensures most { KeepsMost L.far self.old self.new }
-        ensures truth { AsksTruly L.is_true L.far as_done
-            (Bye) self.old self.new result }
+        ensures truth { AsksTruly L.Line bye_query self.old self.new result }
     {
-        if let Some(refusal) = self.refused {
-            return Err(refusal);
-        }
         self.ask_for(encode_bye(self.alloc))
-    }
-}
-
-impl<L: Line> Peer for Remote<L> {
-    ghost states = { λ remote. (far_of L.far remote).states };
-
-    // It is as true as the line.
-    ghost is_faithful = { IsTrueRemote L.is_true L.far };
-
-    ghost can_give = { λ _ _. Unit {0} };
-
-    // A link that refuses stays as it is.
-    ghost follows = { λ _. RemoteFollows L.far };
-
-    // Where the link itself refuses, it refuses so.
-    ghost can_refuse = { λ remote refusal. (own : Refusal) → refused_of remote ≡ Some own → refusal ≡ own };
-
-    ghost can_answer = { λ remote. refused_of remote ≡ None };
-
-    ghost most_keys = { λ remote. (far_of L.far remote).most };
-
-    ghost number = { λ _. None };
-
-    ghost in_form = { λ remote truth. L.in_form (line_of remote) truth.line };
-
-    ghost follows_self = { λ remote. remote_follows_self L.far remote };
-
-    ghost follows_on = { λ _ _. remote_follows_on L.far };
-
-    ghost most_stays = { λ _ _ _ follows. follows.1 };
-
-    fn alloc(&self) -> Global {
-        self.alloc
-    }
-
-    fn number(&self) -> Option<u32> {
-        None
-    }
-
-    fn node(&mut self, path: &Path) -> Result<Digests, Refusal>
-        ensures asked { AsksOver L.remaining L.contents as_digests
-            (Node path.now) self.old self.new result }
-        ensures stays { StaysRefused self.old self.new result }
-        ensures most { KeepsMost L.far self.old self.new }
-        ensures truth { AsksTruly L.is_true L.far as_digests
-            (Node path.now) self.old self.new result }
-    {
-        Remote::node(self, path)
-    }
-
-    fn bucket(&mut self, path: &Path, after: Option<&Key>) -> Result<Page, Refusal>
-        ensures asked { AsksOver L.remaining L.contents as_page
-            (Bucket path.now (option_copied after.entry)) self.old self.new result }
-        ensures stays { StaysRefused self.old self.new result }
-        ensures most { KeepsMost L.far self.old self.new }
-        ensures truth { AsksTruly L.is_true L.far as_page
-            (Bucket path.now (option_copied after.entry)) self.old self.new result }
-    {
-        Remote::bucket(self, path, after)
-    }
-
-    fn get(&mut self, key: &Key) -> Result<KeyState, Refusal>
-        ensures asked { AsksOver L.remaining L.contents as_state
-            (Get key.now) self.old self.new result }
-        ensures stays { StaysRefused self.old self.new result }
-        ensures most { KeepsMost L.far self.old self.new }
-        ensures truth { AsksTruly L.is_true L.far as_state
-            (Get key.now) self.old self.new result }
-    {
-        Remote::get(self, key)
-    }
-
-    fn push(&mut self, key: &Key, state: &KeyState) -> Result<(), Refusal>
-        ensures asked { AsksOver L.remaining L.contents as_done
-            (Push key.now state.now) self.old self.new result }
-        ensures stays { StaysRefused self.old self.new result }
-        ensures most { KeepsMost L.far self.old self.new }
-        ensures truth { AsksTruly L.is_true L.far as_done
-            (Push key.now state.now) self.old self.new result }
-    {
-        Remote::push(self, key, state)
-    }
-
-    fn nodes(&mut self, paths: &[Path]) -> Result<Vec<Result<Digests, Refusal>>, Refusal>
-        ensures asked { AsksAllOver L.remaining L.contents as_digests 0xA7
-            (map (λ path. Node path) paths.now) self.old self.new result }
-        ensures stays { StaysRefused self.old self.new result }
-        ensures most { KeepsMost L.far self.old self.new }
-        ensures truth { AsksAllTruly L.is_true L.far as_digests
-            (map (λ path. Node path) paths.now) self.old self.new result }
-    {
-        Remote::nodes(self, paths)
-    }
-
-    fn pages(
-        &mut self,
-        asked: &[(Path, Option<Key>)],
-    ) -> Result<Vec<Result<Page, Refusal>>, Refusal>
-        ensures asked { AsksAllOver L.remaining L.contents as_page 0xA8
-            (map (λ q. Bucket q.0 q.1) asked.now) self.old self.new result }
-        ensures stays { StaysRefused self.old self.new result }
-        ensures most { KeepsMost L.far self.old self.new }
-        ensures truth { AsksAllTruly L.is_true L.far as_page
-            (map (λ q. Bucket q.0 q.1) asked.now) self.old self.new result }
-    {
-        Remote::pages(self, asked)
-    }
-
-    fn get_all(&mut self, keys: &[Key]) -> Result<Vec<Result<KeyState, Refusal>>, Refusal>
-        ensures asked { AsksAllOver L.remaining L.contents as_state 0xA1
-            (map (λ key. Get key) keys.now) self.old self.new result }
-        ensures stays { StaysRefused self.old self.new result }
-        ensures most { KeepsMost L.far self.old self.new }
-        ensures truth { AsksAllTruly L.is_true L.far as_state
-            (map (λ key. Get key) keys.now) self.old self.new result }
-    {
-        Remote::get_all(self, keys)
-    }
-
-    fn push_all(&mut self, pairs: &[(Key, KeyState)]) -> Result<Vec<Result<(), Refusal>>, Refusal>
-        ensures asked { AsksAllOver L.remaining L.contents as_done 0xA3
-            (map (λ pair. Push pair.0 pair.1) pairs.now) self.old self.new result }
-        ensures stays { StaysRefused self.old self.new result }
-        ensures most { KeepsMost L.far self.old self.new }
-        ensures truth { AsksAllTruly L.is_true L.far as_done
-            (map (λ pair. Push pair.0 pair.1) pairs.now) self.old self.new result }
-    {
-        Remote::push_all(self, pairs)
     }
 }

@@ -15,9 +15,9 @@ use std::alloc::Global;
 /// The most questions that a session asks a side.
 pub const MOST_QUESTIONS: u64 = 10_000_000;
 
-/// Compares two sides from the root, level by level, and exchanges what differs, with at most so many questions to each side; one
-/// more would end it as that side's 36. Keys whose pushes are refused with 9, 10 or 11 are left. It stops at any other refusal,
-/// and the pushes already made stay.
+/// Compares two sides from the root, level by level, and exchanges what differs, with at most so many questions to each
+/// side; one more would end it as that side's 36. Keys whose pushes are refused with 9, 10 or 11 are left. It stops at
+/// any other refusal, and the pushes already made stay.
 pub fn sync_within<L: Peer, P: Peer>(
     alloc: Global,
     local: &mut L,

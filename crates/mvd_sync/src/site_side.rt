@@ -11,7 +11,7 @@ use mvd_site::Site;
 use mvd_wire::Digests;
 use std::alloc::Global;
 
-/// A site is true to the states of its keys as long as it is not broken; that they are in form holds of any site
+/// A site is faithful to the states of its keys as long as it is not broken; that they are in form holds of any site
 /// (`Site::key_count`). A question to its hash tree looks at no state.
 impl Peer for Site {
     ghost states = { λ site. site.states };

@@ -285,10 +285,6 @@ module _ (old mid new : Far) (requests : List Request) (bytes : List ℕ) (came 
 pub queued : (old new : SiteValue) (was waits : List Reply) (q x : Request) (reply : Reply) → x ≡ q → TrueReply old.config.max_keys old.states x reply new.states → waits ≡ was ++ reply ∷ [] → TakesOne (far_at old was) q (far_at new waits) (Ok tt)
 queued old new was waits q x reply e t w = (reply, subst (λ (y : Request). TrueReply old.config.max_keys old.states y reply new.states) e t, w)
 
--- there was no memory for that
-pub not_queued : (old new : SiteValue) (was waits : List Reply) (q x : Request) (reply : Reply) (refusal : Refusal) → x ≡ q → TrueReply old.config.max_keys old.states x reply new.states → TakesOne (far_at old was) q (far_at new waits) (Err refusal)
-not_queued old new was waits q x reply refusal e t = inr (reply, subst (λ (y : Request). TrueReply old.config.max_keys old.states y reply new.states) e t)
-
 -- ---- a reply that is taken
 
 page_is : {X : Type 0} (xs : List X) (kind : ℕ) (payload bytes : List ℕ) → within_page xs (framed kind payload) ≡ Ok bytes → framed kind payload ≡ Ok bytes

@@ -12,5 +12,6 @@ far_at site waiting = record { states = site.states; due = waiting; most = site.
 
 -- its reply waits, or there was no memory for that
 abbrev pub TakesOne : Far → Request → Far → Result (Unit {0}) Refusal → Type 0
-TakesOne old request new (Ok done) = (reply : Reply) × TrueReply old.most old.states request reply new.states × (new.due ≡ old.due ++ reply ∷ [])
+TakesOne old request new (Ok done) =
+    (reply : Reply) × TrueReply old.most old.states request reply new.states × (new.due ≡ old.due ++ reply ∷ [])
 TakesOne old request new (Err refusal) = MayTake old.most old.states request new.states

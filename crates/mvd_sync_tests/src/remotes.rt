@@ -3,11 +3,11 @@ use crate::peers::{Counting, written};
 use crate::served::Served;
 use crate::two_sites::meet;
 use mvd_dots::Refusal;
+use mvd_frames::decode_request;
 use mvd_keys::{Key, KeyState};
 use mvd_rows::Defs;
 use mvd_site::{Config, Site};
-use mvd_sync::{Duplex, Remote, SyncFault};
-use mvd_frames::decode_request;
+use mvd_sync::{Duplex, Peer, Remote, SyncFault};
 use mvd_wire::Request;
 use std::alloc::Global;
 use std::test::Fail;
@@ -241,7 +241,8 @@ fn takes_all_but_one(remote: &mut Link, pushes: &[(Key, KeyState)]) -> Result<bo
     Ok(told.as_slice() == answers.as_slice() && remote.bye() == Ok(()))
 }
 
-/// Whether a window of three pushes is written whole, its three replies are read though one of them refuses, and a Bye is answered.
+/// Whether a window of three pushes is written whole, its three replies are read though one of them refuses, and a Bye
+/// is answered.
 fn stays_in_step(alloc: Global) -> Result<bool, Refusal> {
     let replies = [
         0, 0, 0, 1, 0xA3, 0, 0, 0, 2, 0xEE, 0x0B, 0, 0, 0, 1, 0xA3, 0, 0, 0, 1, 0xA3,

@@ -9,15 +9,15 @@ ghost use Rattle.mvd_wire.specs.Replies.{CanBeSent};
 ghost use Rattle.mvd_wire.specs.Requests.{SpellsRequest};
 
 use mvd_dots::Refusal;
+use mvd_frames::{decode_request, encode_reply, read_frame};
 use mvd_site::Site;
 use mvd_sync::Line;
-use mvd_frames::{decode_request, encode_reply, read_frame};
 use mvd_wire::{Frame, Reply, Request};
 use std::alloc::Global;
 use std::collections::VecDeque;
 
-/// A line to a site that answers each request when it is sent, as a server does; the replies wait to be taken. It shows that a line
-/// can be true.
+/// A line to a site that answers each request when it is sent, as a server does; the replies wait to be taken. It shows
+/// that a line can be true.
 #[derive(Drop)]
 pub struct Served {
     alloc: Global,
@@ -41,7 +41,8 @@ impl Served {
 
     /// The reply of the site to a request.
     fn reply(&mut self, request: &Request) -> Reply
-        ensures truth { TrueReply self.old.site.config.max_keys self.old.site.states request.now result self.new.site.states }
+        ensures truth { TrueReply self.old.site.config.max_keys self.old.site.states
+            request.now result self.new.site.states }
         ensures fits { CanBeSent result }
         ensures most { self.new.site.config ≡ self.old.site.config }
         ensures held { AreHeld self.new.site.states }
@@ -57,7 +58,8 @@ impl Served {
     /// Answers the request of a frame.
     fn take(&mut self, frame: &Frame) -> Result<(), Refusal>
         ensures truth { (request : Request) → SpellsRequest request frame.now.kind frame.now.payload.items →
-            TakesOne (far_at self.old.site self.old.waiting.items) request (far_at self.new.site self.new.waiting.items) result }
+            TakesOne (far_at self.old.site self.old.waiting.items) request
+            (far_at self.new.site self.new.waiting.items) result }
         ensures most { self.new.site.config ≡ self.old.site.config }
         ensures held { AreHeld self.old.site.states → AreHeld self.new.site.states }
     {

@@ -41,7 +41,8 @@ fn holds(alloc: Global, number: u32, max_keys: u32, trial: Trial) -> Result<bool
     holds_with(&mut one, number, max_keys, trial)
 }
 
-/// How many keys were exchanged, where none was refused and none was older than what the peer saw; else a number of no session.
+/// How many keys were exchanged, where none was refused and none was older than what the peer saw; else a number of no
+/// session.
 fn keys_of(report: &Report) -> u64 {
     if report.refused == 0 && report.old == 0 && report.first_refused.as_slice().is_empty() {
         report.keys
@@ -95,7 +96,8 @@ fn ended_within(
     meet_within(alloc, local, peer, questions) == wanted
 }
 
-/// Whether a key that one side alone holds takes five questions: three nodes, a page, and a get or a push. Then one is enough.
+/// Whether a key that one side alone holds takes five questions: three nodes, a page, and a get or a push. Then one is
+/// enough.
 fn five_are_enough(alloc: Global, one: &mut Counting, two: &mut Counting) -> bool {
     let few = Err(SyncFault::Local(Refusal::TooManyRequests));
     ended_within(alloc, one, two, 1, few)

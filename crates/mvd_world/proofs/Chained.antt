@@ -8,7 +8,7 @@ use Rattle.mvd_world.specs.declared.steps.Step.{Step}
 use Rattle.mvd_world.specs.declared.steps.Outcome.{Outcome}
 use Rattle.mvd_world.specs.declared.worlds.World.{World}
 use Rattle.mvd_world.specs.Machine.{IsNoClash, Knowledge, MayStep, Runs, Setting, nothing_yet}
-use Rattle.mvd_world.specs.Worlds.{AlikeWhereSame, AreShort, IsWorld, Leads_to, StandForKnown, Steps}
+use Rattle.mvd_world.specs.Worlds.{AlikeWhereSame, AreShort, IsWorld, StandForKnown, Steps}
 use Rattle.mvd_world.proofs.Apart.{agree_within, step_apart}
 
 runs_push : (setting : Setting) (before middle after : Knowledge) (steps : List Step) (step : Step) (outcomes : List Outcome) (outcome : Outcome) → Runs setting before steps outcomes middle → MayStep setting middle step outcome after →
@@ -46,7 +46,8 @@ one_more setting steps step outcomes outcome old new so_far takes short =
 
 -- ---- what follows
 
-pub leads_to : (setting : Setting) (steps : List Step) (outcomes : List Outcome) (world : World) (Holds : Knowledge → Type 0) → SoFar setting steps outcomes world → ((end : Knowledge) → IsWorld setting world end → Holds end) → Leads_to setting world steps outcomes Holds
+pub leads_to : (setting : Setting) (steps : List Step) (outcomes : List Outcome) (world : World) (Holds : Knowledge → Type 0) → SoFar setting steps outcomes world → ((end : Knowledge) → IsWorld setting world end → Holds end)
+    → (end : Knowledge) × (Runs setting nothing_yet steps outcomes end × (IsWorld setting world end × Holds end))
 leads_to setting steps outcomes world Holds so_far follows = (so_far.end, (so_far.runs, (so_far.stands, follows so_far.end so_far.stands)))
 
 pub stand : (setting : Setting) (world : World) (end : Knowledge) → IsWorld setting world end → StandForKnown world end

@@ -23,7 +23,7 @@ use Rattle.mvd_site.specs.Sites.{SiteStands, SiteValue}
 use Rattle.mvd_site.proofs.OfTheSet.{states_of-stands}
 use Rattle.mvd_site.proofs.Steps.{state_at-stands}
 use Rattle.mvd_sync.specs.Session.{AreFew, CanMeet, HasAllThatDiffer, HasJoined, IsIn, is_member}
-use Rattle.mvd_sync.specs.Sides.{IsBroken, IsFaultOf, SideOf, SiteFollows, SiteRefuses, Stays, is_of_question, is_site_refusal, of_answer, of_memory, of_questions, of_side, side, tells_broken}
+use Rattle.mvd_sync.specs.Sides.{IsBroken, IsFaultOf, SideOf, SiteFollows, SiteRefuses, Stays, is_of_question, is_site_refusal, of_answer, of_memory, of_questions, of_side, tells_broken}
 use Rattle.mvd_sync.specs.declared.report.Report.{Report}
 use Rattle.mvd_sync.specs.declared.report.SyncFault.{SyncFault}
 use Rattle.mvd_sync.specs.declared.report.SyncFault.TheVariants.{Local, Peer}
@@ -98,7 +98,16 @@ stands_from m W form same = record {
 
 -- a site as a side of a session
 abbrev pub site_side : SideOf SiteValue
-site_side = side (λ (s : SiteValue). s.states) (λ s. (s.broken ≡ false) × AreHeld s.states) (λ _ _. Unit {0}) (λ _. SiteFollows) SiteRefuses (λ s. s.broken ≡ false) (λ s. s.config.max_keys) (λ s. Some s.config.site)
+site_side = record {
+  states = λ s. s.states;
+  is_faithful = λ s. (s.broken ≡ false) × AreHeld s.states;
+  can_give = λ _ _. Unit {0};
+  follows = λ _. SiteFollows;
+  can_refuse = SiteRefuses;
+  can_answer = λ s. s.broken ≡ false;
+  most_keys = λ s. s.config.max_keys;
+  number = λ s. Some s.config.site;
+}
 
 -- the state of a key that was joined, or is as it was
 chosen : (t : Bool) (old new : States) (key : Key) (s : State) → MatchBool t (state_at new key ≡ s) (get new key ≡ get old key) → state_at new key ≡ cond t s (state_at old key)

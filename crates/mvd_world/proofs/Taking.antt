@@ -35,9 +35,6 @@ numbered count number h =
     let high : number ≤ count = let e = both.1 in grind (arith, nat_tests) in
     (low, high)
 
-pub two_numbers : (a b : ℕ) → not (a == b) ≡ true → a ≢ b
-two_numbers a b h same = true≢false (sym h ∙ ap not (eq-eqb a b same))
-
 -- the same, of a step that is known to be this one
 pub step_as : (old new : World) (step is : Step) (outcome : Outcome) → step ≡ is → may_be (is_numbered (length old.sites.items)) (length old.messages.items) step ≡ true → Leads old new (λ setting before after. Takes setting before is outcome after) → Steps old new step outcome
 step_as old new step is outcome same may leads =

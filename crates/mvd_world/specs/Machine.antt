@@ -1,6 +1,8 @@
--- Sites that write, are asked, send each other states of keys and hold sessions, as a machine over sets of writes: what is
--- lost, repeated or comes out of order is a matter of which steps are taken, and no map of states is kept in it.
-use Rattle.std.specs.Prelude.{◌≡◌, ◌⊎◌, ℕ, Bool, true, false, not, ◌&&◌, ◌||◌, ◌==◌, nat_lt, nat_le, ◌-◌, if◌then◌else◌, List, [], ◌∷◌, ◌++◌, length, filter, is_some, Contains, MatchBool, Option, Some, None, Result, Ok, Err, ◌≢◌, IfOk, IfErr, ⊤}
+-- Sites that write, are asked, send each other states of keys and hold sessions, as a machine over sets of writes: what
+-- is lost, repeated or comes out of order is a matter of which steps are taken, and no map of states is kept in it.
+use Rattle.std.specs.Prelude.{◌≡◌, ◌⊎◌, ℕ, Bool, true, false, not, ◌&&◌, ◌||◌, ◌==◌, nat_lt, nat_le, ◌-◌, if◌then◌else◌}
+use Rattle.std.specs.Prelude.{List, [], ◌∷◌, ◌++◌, length, filter, is_some, Contains, MatchBool, Option, Some, None}
+use Rattle.std.specs.Prelude.{Result, Ok, Err, ◌≢◌, IfOk, IfErr, ⊤}
 use Rattle.std.specs.List.{slice_get}
 use Rattle.mvd_dots.specs.Dot.{DotValue}
 use Rattle.mvd_dots.specs.Context.{DotSet}
@@ -53,7 +55,8 @@ abbrev pub site_or : ℕ → Option ConfigValue → ℕ
 site_or number None = number
 site_or number (Some config) = config.site
 
-pub site_where : (there : Bool) (mine config : ConfigValue) → config_where there mine ≡ Some config → mine.site ≡ config.site
+pub site_where : (there : Bool) (mine config : ConfigValue) → config_where there mine ≡ Some config
+    → mine.site ≡ config.site
 site_where true mine config is = λ i. site_or mine.site (is i)
 site_where false mine config is = λ i. site_or mine.site (is i)
 
@@ -117,7 +120,8 @@ may_be there messages (Session local peer) = there local && (there peer && not (
 
 -- A write or a question: the site replies as one site does (its answer, or 20, or 22), and learns of what the request
 -- added, which is made now
-pub record Answers (setting : Setting) (before : Knowledge) (site : ℕ) (request : Request) (reply : Reply) (after : Knowledge) : Type 0 where
+pub record Answers (setting : Setting) (before : Knowledge) (site : ℕ) (request : Request) (reply : Reply)
+    (after : Knowledge) : Type 0 where
   pub config : ConfigValue
   pub setup : setting.configs site ≡ Some config
   pub broken : Bool
@@ -153,13 +157,15 @@ received Done writes = writes
 received reply writes = []
 
 -- A message comes: the site replies as to a push of its state, and learns of its writes if it accepts them
-pub record Receives (setting : Setting) (before : Knowledge) (site message : ℕ) (reply : Reply) (after : Knowledge) : Type 0 where
+pub record Receives (setting : Setting) (before : Knowledge) (site message : ℕ) (reply : Reply)
+    (after : Knowledge) : Type 0 where
   pub config : ConfigValue
   pub setup : setting.configs site ≡ Some config
   pub broken : Bool
   pub sending : Sending
   pub sent : slice_get before.messages (message - 1) ≡ Some sending
-  pub replies : MayReply config (before.known site) (before.broken site) (Push sending.key (state sending.key sending.writes)) reply broken
+  pub replies : MayReply config (before.known site) (before.broken site)
+      (Push sending.key (state sending.key sending.writes)) reply broken
   pub is : after ≡ record {
     known = learns before.known site (received reply sending.writes);
     broken = becomes before.broken site broken;
@@ -167,8 +173,8 @@ pub record Receives (setting : Setting) (before : Knowledge) (site message : ℕ
     made = before.made;
   }
 
--- what two sites know after a session: the local site has learnt of the peer's writes of the keys that were joined, and the
--- peer of the local site's writes, after that, of those that were given to it
+-- what two sites know after a session: the local site has learnt of the peer's writes of the keys that were joined, and
+-- the peer of the local site's writes, after that, of those that were given to it
 abbrev pub met : (ℕ → List Write) → ℕ → ℕ → List Key → List Key → ℕ → List Write
 met known local peer joined given =
     let first : ℕ → List Write = learns known local (writes_in joined (known peer)) in
@@ -184,15 +190,19 @@ ToldAtOnce false false joined result = ⊤
 ToldAtOnce false true joined result = (result ≡ Err (Peer Broken)) × (joined ≡ [])
 ToldAtOnce true peer_was joined result = (result ≡ Err (Local Broken)) × (joined ≡ [])
 
--- Why a session of two sites that held `a` and `b` ends by the one that held `held`, and is broken afterwards or not: by a
--- refusal of the site that is not of one question alone, which is 20 or 22; or all questions were made to it and one more
--- was wanted, which are many only where many keys differ
+-- Why a session of two sites that held `a` and `b` ends by the one that held `held`, and is broken afterwards or not:
+-- by a refusal of the site that is not of one question alone, which is 20 or 22; or all questions were made to it and
+-- one more was wanted, which are many only where many keys differ
 pub data MayFail (a b held : States) (broken : Bool) (refusal : Refusal) : Type 0 where
-  it_refused : is_site_refusal refusal ≡ true → is_of_question refusal ≡ false → broken ≡ tells_broken refusal → MayFail a b held broken refusal
-  all_asked : refusal ≡ TooManyRequests → ((differing : List Key) → HasAllThatDiffer a b differing → AreFew 10000001 held differing) → MayFail a b held broken refusal
+  it_refused : is_site_refusal refusal ≡ true → is_of_question refusal ≡ false → broken ≡ tells_broken refusal
+      → MayFail a b held broken refusal
+  all_asked : refusal ≡ TooManyRequests
+      → ((differing : List Key) → HasAllThatDiffer a b differing → AreFew 10000001 held differing)
+      → MayFail a b held broken refusal
 
 abbrev pub FailsFor : States → States → Bool → Bool → Result Report SyncFault → Type 0
-FailsFor a b local_broken peer_broken result = IfErr result (IsFaultOf (MayFail a b a local_broken) (MayFail a b b peer_broken))
+FailsFor a b local_broken peer_broken result =
+    IfErr result (IsFaultOf (MayFail a b a local_broken) (MayFail a b b peer_broken))
 
 -- two sites that know these writes, as a session begins; the local one has this number
 abbrev pub two_sites : (mine theirs : ConfigValue) → ℕ → (V W : List Write) → Before
@@ -203,9 +213,11 @@ two_sites mine theirs number V W = record {
   number = Some number;
 }
 
--- A session of two sites: the states of some keys, which differ and do not clash, are joined on the local site, and those of
--- a part of them on the peer. With no fault these and the refused keys are all that differ, each refused for its cause
-pub record Meets (setting : Setting) (before : Knowledge) (local peer : ℕ) (result : Result Report SyncFault) (after : Knowledge) : Type 0 where
+-- A session of two sites: the states of some keys, which differ and do not clash, are joined on the local site, and
+-- those of a part of them on the peer. With no fault these and the refused keys are all that differ, each refused for
+-- its cause
+pub record Meets (setting : Setting) (before : Knowledge) (local peer : ℕ) (result : Result Report SyncFault)
+    (after : Knowledge) : Type 0 where
   pub mine : ConfigValue
   pub theirs : ConfigValue
   pub setup : setting.configs local ≡ Some mine
@@ -213,7 +225,8 @@ pub record Meets (setting : Setting) (before : Knowledge) (local peer : ℕ) (re
   pub joined : List Key
   pub given : List Key
   pub part : (key : Key) → IsIn given key → IsIn joined key
-  pub meet : (key : Key) → IsIn joined key → CanMeet (states_of (before.known local)) (states_of (before.known peer)) key
+  pub meet : (key : Key) → IsIn joined key
+      → CanMeet (states_of (before.known local)) (states_of (before.known peer)) key
   pub tells : IfOk result
       (ReportsDone (two_sites mine theirs local (before.known local) (before.known peer)) joined given)
   pub local_broken : Bool
@@ -243,7 +256,8 @@ Takes setting before step outcome after = ⊥
 -- any step: one that may not be is answered so, and changes nothing
 abbrev pub MayStep : Setting → Knowledge → Step → Outcome → Knowledge → Type 0
 MayStep setting before step outcome after =
-    MatchBool (may_be (is_site setting) (length before.messages) step) (Takes setting before step outcome after) ((outcome ≡ NoSuch) × (after ≡ before))
+    MatchBool (may_be (is_site setting) (length before.messages) step) (Takes setting before step outcome after)
+    ((outcome ≡ NoSuch) × (after ≡ before))
 
 -- steps with their outcomes, one after the other
 abbrev pub Runs : Setting → Knowledge → List Step → List Outcome → Knowledge → Type 0
@@ -254,9 +268,10 @@ Runs setting before steps outcomes after = ⊥
 
 -- ---- sites that break and are opened again
 
--- A change that its site has stored, although the reply is that the site is broken: when it is opened again it knows what
--- its answer would have added, a put with the dot that it minted
-pub record Stores (setting : Setting) (before : Knowledge) (site : ℕ) (request : Request) (added made : List Write) (after : Knowledge) : Type 0 where
+-- A change that its site has stored, although the reply is that the site is broken: when it is opened again it knows
+-- what its answer would have added, a put with the dot that it minted
+pub record Stores (setting : Setting) (before : Knowledge) (site : ℕ) (request : Request) (added made : List Write)
+    (after : Knowledge) : Type 0 where
   pub config : ConfigValue
   pub setup : setting.configs site ≡ Some config
   pub changes : Changes config (before.known site) request
@@ -270,13 +285,16 @@ pub record Stores (setting : Setting) (before : Knowledge) (site : ℕ) (request
 
 -- a write is made by that, and a message is known; what a session had stored when it ended is among what it joined
 abbrev pub IsStored : Setting → Knowledge → Step → Knowledge → Type 0
-IsStored setting before (Written_at site request) after = (added : List Write) × Stores setting before site request added (before.made ++ added) after
-IsStored setting before (Receive site message) after = (sending : Sending) × (slice_get before.messages (message - 1) ≡ Some sending)
+IsStored setting before (Written_at site request) after =
+    (added : List Write) × Stores setting before site request added (before.made ++ added) after
+IsStored setting before (Receive site message) after =
+    (sending : Sending) × (slice_get before.messages (message - 1) ≡ Some sending)
     × Stores setting before site (Push sending.key (state sending.key sending.writes)) sending.writes before.made after
 IsStored setting before step after = ⊥
 
 -- the step was told that its site is broken, and was stored
-pub record MayStore (setting : Setting) (before : Knowledge) (step : Step) (outcome : Outcome) (after : Knowledge) : Type 0 where
+pub record MayStore (setting : Setting) (before : Knowledge) (step : Step) (outcome : Outcome)
+    (after : Knowledge) : Type 0 where
   pub may : may_be (is_site setting) (length before.messages) step ≡ true
   pub told : outcome ≡ Replied (Refused Broken)
   pub stored : IsStored setting before step after
@@ -284,7 +302,7 @@ pub record MayStore (setting : Setting) (before : Knowledge) (step : Step) (outc
 -- a site is opened again: it is whole, and knows what it has stored
 pub record Reopens (setting : Setting) (before : Knowledge) (site : ℕ) (after : Knowledge) : Type 0 where
   pub there : is_site setting site ≡ true
-  pub is : after ≡ record { known = before.known; broken = becomes before.broken site false; messages = before.messages; made = before.made }
+  pub is : after ≡ record before { broken = becomes before.broken site false }
 
 -- what happens to sites that are stored: a step with its outcome, or a site is opened again
 pub data Event : Type 0 where
@@ -292,13 +310,15 @@ pub data Event : Type 0 where
   Reopened : ℕ → Event
 
 abbrev pub MayHappen : Setting → Knowledge → Event → Knowledge → Type 0
-MayHappen setting before (Stepped step outcome) after = MayStep setting before step outcome after ⊎ MayStore setting before step outcome after
+MayHappen setting before (Stepped step outcome) after =
+    MayStep setting before step outcome after ⊎ MayStore setting before step outcome after
 MayHappen setting before (Reopened site) after = Reopens setting before site after
 
 -- events, one after the other
 abbrev pub Happen : Setting → Knowledge → List Event → Knowledge → Type 0
 Happen setting before [] after = after ≡ before
-Happen setting before (event ∷ events) after = (between : Knowledge) × MayHappen setting before event between × Happen setting between events after
+Happen setting before (event ∷ events) after =
+    (between : Knowledge) × MayHappen setting before event between × Happen setting between events after
 
 -- steps with their outcomes, as events
 abbrev pub events_of : List Step → List Outcome → List Event
@@ -312,20 +332,25 @@ told_put site key seen document dot = Stepped (Written_at site (Put key seen doc
 
 -- two puts of one key, at different places among the events, were told different dots
 abbrev pub HaveOwnDots : List Event → Type 0
-HaveOwnDots events = (i j site other_site : ℕ) (key : Key) (seen other_seen : DotSet) (document other : Text) (dot other_dot : DotValue) →
-    i ≢ j → slice_get events i ≡ Some (told_put site key seen document dot) → slice_get events j ≡ Some (told_put other_site key other_seen other other_dot) → dot ≢ other_dot
+HaveOwnDots events =
+    (i j site other_site : ℕ) (key : Key) (seen other_seen : DotSet) (document other : Text) (dot other_dot : DotValue)
+    → i ≢ j → slice_get events i ≡ Some (told_put site key seen document dot)
+    → slice_get events j ≡ Some (told_put other_site key other_seen other other_dot) → dot ≢ other_dot
 
 -- ---- what holds of a world at every step
 
 -- no two puts of one key have one dot: two such are one put
 abbrev pub OnePutPerDot : List Write → Type 0
 OnePutPerDot made = (key : Key) (dot : DotValue) (seen also_seen : DotSet) (document other : Text) →
-    Contains made (Wrote key dot seen document) → Contains made (Wrote key dot also_seen other) → (seen ≡ also_seen) × (document ≡ other)
+    Contains made (Wrote key dot seen document) → Contains made (Wrote key dot also_seen other)
+    → (seen ≡ also_seen) × (document ≡ other)
 
--- what is known or sent was made, each dot is of one put, and each site knows its own puts, also once it is opened again
+-- what is known or sent was made, each dot is of one put, and each site knows its own puts, also once it is opened
+-- again
 pub record IsSound (world : Knowledge) : Type 0 where
   pub known : (site : ℕ) (write : Write) → Contains (world.known site) write → Contains world.made write
-  pub sent : (sending : Sending) (write : Write) → Contains world.messages sending → Contains sending.writes write → Contains world.made write
+  pub sent : (sending : Sending) (write : Write) → Contains world.messages sending → Contains sending.writes write
+      → Contains world.made write
   pub of_key : (sending : Sending) → Contains world.messages sending → AreOf sending.key sending.writes
   pub one_put : OnePutPerDot world.made
   pub own : (key : Key) (dot : DotValue) (seen : DotSet) (document : Text) →

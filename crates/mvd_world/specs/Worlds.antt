@@ -1,5 +1,7 @@
 -- What a world stands for: sets of writes, by which its sites and messages are what the machine says.
-use Rattle.std.specs.Prelude.{◌≡◌, ◌⊎◌, ◌+◌, ◌-◌, ℕ, Bool, true, false, List, ◌++◌, map, length, Some, Result, slice_set, IfOk, ⊤}
+use Rattle.std.specs.Prelude.{◌≡◌, ◌⊎◌, ◌+◌, ◌-◌, ℕ, Bool, true, false, List, ◌++◌, map, length, Some, Result}
+use Rattle.std.specs.Prelude.{Option, None, Vec, if◌then◌else◌, slice_set, IfOk, ⊤}
+use Rattle.std.specs.declared.alloc.Global.{Global}
 use Rattle.std.specs.List.{AllByRecursion, slice_get, Contains}
 use Rattle.mvd_keys.specs.State.{join}
 use Rattle.mvd_keys.specs.Writes.{Key, SameWrites, Stands, Write, state}
@@ -20,7 +22,8 @@ use Rattle.mvd_world.specs.declared.steps.Outcome.{Outcome}
 use Rattle.mvd_world.specs.declared.steps.Outcome.TheVariants.{Replied}
 use Rattle.mvd_world.specs.declared.worlds.Message.{Message}
 use Rattle.mvd_world.specs.declared.worlds.World.{World}
-use Rattle.mvd_world.specs.Machine.{BreaksBy, FailsFor, IsSound, Knowledge, MayStep, Runs, Sending, Setting, ToldAtOnce, is_numbered, is_site, may_be, nothing_yet, two_sites, writes_in}
+use Rattle.mvd_world.specs.Machine.{BreaksBy, FailsFor, IsSound, Knowledge, MayStep, Runs, Sending, Setting, ToldAtOnce}
+use Rattle.mvd_world.specs.Machine.{is_numbered, is_site, may_be, nothing_yet, two_sites, writes_in}
 
 -- the site of this number, with what it was set up with, and the writes that its states stand for unless it is broken
 pub record IsSiteOf (setting : Setting) (knowledge : Knowledge) (number : ℕ) (site : SiteValue) : Type 0 where
@@ -28,13 +31,19 @@ pub record IsSiteOf (setting : Setting) (knowledge : Knowledge) (number : ℕ) (
   pub broken : site.broken ≡ knowledge.broken number
   pub stands : SiteStands site (knowledge.known number)
 
+-- the site of this number, if there is one
+abbrev pub site_at : World → ℕ → Option SiteValue
+site_at world number =
+    if is_numbered (length world.sites.items) number then slice_get world.sites.items (number - 1) else None
+
 -- a message as it is kept
 abbrev pub message_of : Sending → Message
 message_of sending = record { key = sending.key; state = state sending.key sending.writes }
 
 -- sites numbered from 1
 abbrev pub AreSites : Setting → Knowledge → List SiteValue → Type 0
-AreSites setting knowledge sites = (index : ℕ) (site : SiteValue) → slice_get sites index ≡ Some site → IsSiteOf setting knowledge (index + 1) site
+AreSites setting knowledge sites =
+    (index : ℕ) (site : SiteValue) → slice_get sites index ≡ Some site → IsSiteOf setting knowledge (index + 1) site
 
 -- just the sites that there are
 abbrev pub AreAll : Setting → List SiteValue → Type 0
@@ -49,7 +58,9 @@ pub record IsWorld (setting : Setting) (world : World) (knowledge : Knowledge) :
 
 -- from whatever sets the world stood for, it comes to stand for sets of which this holds
 abbrev pub Leads : World → World → (Setting → Knowledge → Knowledge → Type 0) → Type 0
-Leads old new Tells = (setting : Setting) (before : Knowledge) → IsWorld setting old before → (after : Knowledge) × (Tells setting before after × IsWorld setting new after)
+Leads old new Tells =
+    (setting : Setting) (before : Knowledge) → IsWorld setting old before
+    → (after : Knowledge) × (Tells setting before after × IsWorld setting new after)
 
 -- a step of the world is one of the machine
 abbrev pub Steps : World → World → Step → Outcome → Type 0
@@ -59,12 +70,14 @@ Steps old new step outcome = Leads old new (λ setting before after. MayStep set
 
 -- unless it is broken, the message's state joined to the site's is the site's
 abbrev pub HasNothingNew : SiteValue → Message → Type 0
-HasNothingNew site message = site.broken ≡ false → join (state_at site.states message.key) message.state ≡ state_at site.states message.key
+HasNothingNew site message =
+    site.broken ≡ false → join (state_at site.states message.key) message.state ≡ state_at site.states message.key
 
 -- where a message has nothing new for its site, the world is the very same afterwards
 abbrev pub StaysTheSame : World → World → Step → Type 0
 StaysTheSame old new (Receive number message) = (site : SiteValue) (sent : Message) →
-    slice_get old.sites.items (number - 1) ≡ Some site → slice_get old.messages.items (message - 1) ≡ Some sent → HasNothingNew site sent → new ≡ old
+    slice_get old.sites.items (number - 1) ≡ Some site → slice_get old.messages.items (message - 1) ≡ Some sent
+    → HasNothingNew site sent → new ≡ old
 StaysTheSame old new step = ⊤
 
 -- the message was sent, and the site knows each write that it stands for
@@ -84,7 +97,8 @@ AcceptsAgain true outcome = outcome ≡ Replied (Refused Broken)
 
 -- A message that the site already knows, whatever sets the world stood for: the world is the very same afterwards
 abbrev pub KnownChangesNothing : World → World → Step → Outcome → Type 0
-KnownChangesNothing old new (Receive site message) outcome = (setting : Setting) (before : Knowledge) → IsWorld setting old before →
+KnownChangesNothing old new (Receive site message) outcome =
+    (setting : Setting) (before : Knowledge) → IsWorld setting old before →
     may_be (is_site setting) (length before.messages) (Receive site message) ≡ true → KnowsMessage before site message →
     (new ≡ old) × (AreShort old → AcceptsAgain (before.broken site) outcome)
 KnownChangesNothing old new step outcome = ⊤
@@ -92,7 +106,8 @@ KnownChangesNothing old new step outcome = ⊤
 -- ---- a session of two sites
 
 -- what a session does to two sites, from writes that each stood for
-pub record SitesMeet (V W : List Write) (local peer local' peer' : SiteValue) (result : Result Report SyncFault) : Type 0 where
+pub record SitesMeet (V W : List Write) (local peer local' peer' : SiteValue)
+    (result : Result Report SyncFault) : Type 0 where
   pub joined : List Key
   pub given : List Key
   pub part : (key : Key) → IsIn given key → IsIn joined key
@@ -107,7 +122,8 @@ pub record SitesMeet (V W : List Write) (local peer local' peer' : SiteValue) (r
 
 -- the same, whatever they stood for
 abbrev pub Exchange : SiteValue → SiteValue → SiteValue → SiteValue → Result Report SyncFault → Type 0
-Exchange local peer local' peer' result = (V W : List Write) → SiteStands local V → SiteStands peer W → SitesMeet V W local peer local' peer' result
+Exchange local peer local' peer' result =
+    (V W : List Write) → SiteStands local V → SiteStands peer W → SitesMeet V W local peer local' peer' result
 
 -- two sites of a list meet, and the others are as they were
 pub record TwoMeet (old new : List SiteValue) (local peer : ℕ) (result : Result Report SyncFault) : Type 0 where
@@ -127,18 +143,25 @@ pub record TwoMeet (old new : List SiteValue) (local peer : ℕ) (result : Resul
 -- two sites give equal answers to each question
 pub record AreAlike (a b : SiteValue) : Type 0 where
   pub states : a.states ≡ b.states
-  pub answers : (request : Request) → is_question request ≡ true → answer_from a.config a.states request ≡ answer_from b.config b.states request
+  pub answers : (request : Request) → is_question request ≡ true
+      → answer_from a.config a.states request ≡ answer_from b.config b.states request
 
--- these steps with these outcomes, from nothing known, lead to sets that the world stands for, and of which this holds
-abbrev pub Leads_to : Setting → World → List Step → List Outcome → (Knowledge → Type 0) → Type 0
-Leads_to setting world steps outcomes Holds = (end : Knowledge) × (Runs setting nothing_yet steps outcomes end × (IsWorld setting world end × Holds end))
+-- a run of these steps, which is a world and their outcomes: from nothing known it leads to sets that the world stands
+-- for, and of the world and them this holds
+abbrev pub LeadTo : Setting → List Step → World × Vec Outcome Global → (World → Knowledge → Type 0) → Type 0
+LeadTo setting steps done Holds = (end : Knowledge)
+    × (Runs setting nothing_yet steps done.1.items end × (IsWorld setting done.0 end × Holds done.0 end))
 
 -- each site that is not broken stands for what it knows, which is a part of what was made
 abbrev pub StandForKnown : World → Knowledge → Type 0
-StandForKnown world end = (index : ℕ) (site : SiteValue) → slice_get world.sites.items index ≡ Some site → site.broken ≡ false →
-    Stands site.states (end.known (index + 1)) × ((write : Write) → Contains (end.known (index + 1)) write → Contains end.made write)
+StandForKnown world end =
+    (index : ℕ) (site : SiteValue) → slice_get world.sites.items index ≡ Some site → site.broken ≡ false →
+    Stands site.states (end.known (index + 1))
+    × ((write : Write) → Contains (end.known (index + 1)) write → Contains end.made write)
 
 -- two sites that are not broken, have equal definitions and know the same writes, are alike
 abbrev pub AlikeWhereSame : World → Knowledge → Type 0
-AlikeWhereSame world end = (i j : ℕ) (a b : SiteValue) → slice_get world.sites.items i ≡ Some a → slice_get world.sites.items j ≡ Some b → a.broken ≡ false → b.broken ≡ false →
+AlikeWhereSame world end =
+    (i j : ℕ) (a b : SiteValue) → slice_get world.sites.items i ≡ Some a → slice_get world.sites.items j ≡ Some b
+    → a.broken ≡ false → b.broken ≡ false →
     a.config.defs ≡ b.config.defs → SameWrites (end.known (i + 1)) (end.known (j + 1)) → AreAlike a b

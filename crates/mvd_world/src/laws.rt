@@ -6,7 +6,8 @@ ghost use Rattle.mvd_site.specs.Answer.{answer, is_question};
 ghost use Rattle.mvd_site.specs.Config.{ConfigValue};
 ghost use Rattle.mvd_world.specs.declared.steps.Step.{Step};
 ghost use Rattle.mvd_world.specs.declared.steps.Outcome.{Outcome};
-ghost use Rattle.mvd_world.specs.Machine.{Event, Happen, HaveOwnDots, IsNoClash, IsSound, Knowledge, MayHappen, MayStep, Runs, Setting, Stepped, events_of, nothing_yet};
+ghost use Rattle.mvd_world.specs.Machine.{Event, Happen, HaveOwnDots, IsNoClash, IsSound, Knowledge, MayHappen};
+ghost use Rattle.mvd_world.specs.Machine.{MayStep, Runs, Setting, Stepped, events_of, nothing_yet};
 
 /// Whatever is lost, repeated or reordered, whatever contexts the authors hand in, and whatever keys a session joins.
 pub fn every_schedule()

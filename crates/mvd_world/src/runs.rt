@@ -3,7 +3,7 @@ ghost use Rattle.std.specs.Prelude.{◌≡◌, ◌≤◌, ◌<◌, IfErr, IfOk, 
 ghost use Rattle.std.specs.List.{AllByRecursion};
 ghost use Rattle.mvd_dots.specs.declared.refusals.Refusal.TheVariants.{Memory};
 ghost use Rattle.mvd_world.specs.Machine.{HaveOwnDots, IsNoClash, OnePutPerDot, events_of, setting_of};
-ghost use Rattle.mvd_world.specs.Worlds.{AlikeWhereSame, AreShort, Leads_to, StandForKnown};
+ghost use Rattle.mvd_world.specs.Worlds.{AlikeWhereSame, AreShort, LeadTo, StandForKnown};
 
 use crate::steps::{Outcome, Step};
 use crate::worlds::World;
@@ -25,15 +25,19 @@ pub fn run_world(
     requires high { max_keys ≤ 1000000 }
 
     // The steps with their outcomes are the machine's, and the world stands for the sets that they lead to.
-    ensures happened { IfOk result (λ done. Leads_to (setting_of count max_keys defs) done.0 steps.now done.1.items (λ _. ⊤)) }
+    ensures happened { let s = setting_of count max_keys defs in
+        IfOk result (λ done. LeadTo s steps.now done (λ _ _. ⊤)) }
     // No two puts made share a dot.
-    ensures one_put { IfOk result (λ done. Leads_to (setting_of count max_keys defs) done.0 steps.now done.1.items (λ end. OnePutPerDot end.made)) }
+    ensures one_put { let s = setting_of count max_keys defs in
+        IfOk result (λ done. LeadTo s steps.now done (λ _ end. OnePutPerDot end.made)) }
     // Two puts of one key, at different steps, are told different dots.
     ensures dots { IfOk result (λ done. HaveOwnDots (events_of steps.now done.1.items)) }
     // Each site that is not broken stands for what it knows, and that was made.
-    ensures stand { IfOk result (λ done. Leads_to (setting_of count max_keys defs) done.0 steps.now done.1.items (StandForKnown done.0)) }
+    ensures stand { let s = setting_of count max_keys defs in
+        IfOk result (λ done. LeadTo s steps.now done StandForKnown) }
     // Sites with equal definitions, as all have here, that know the same writes give equal answers to each question.
-    ensures alike { IfOk result (λ done. Leads_to (setting_of count max_keys defs) done.0 steps.now done.1.items (AlikeWhereSame done.0)) }
+    ensures alike { let s = setting_of count max_keys defs in
+        IfOk result (λ done. LeadTo s steps.now done AlikeWhereSame) }
     // No answer and no session is refused for a clash.
     ensures apart { IfOk result (λ done. AllByRecursion IsNoClash done.1.items) }
     // No message is longer than a state may be.

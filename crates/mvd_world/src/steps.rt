@@ -29,6 +29,7 @@ pub enum Outcome {
     Met(Report),
     /// The session ended with a fault.
     Failed(SyncFault),
-    /// There is no such site or message, or the two sites are one, or the request is of another sort. Nothing was changed.
+    /// There is no such site or message, or the two sites are one, or the request is of another sort. Nothing was
+    /// changed.
     NoSuch,
 }

@@ -1,13 +1,14 @@
 //! A world of several sites, and the messages that they sent.
-ghost use Rattle.std.specs.Prelude.{◌≡◌, ◌≢◌, ◌≤◌, ◌<◌, ◌-◌, false, true, length, IfErr, IfOk, OnOk, OnErr, None, if◌then◌else◌, option_copied, [], ◌∷◌, ◌++◌};
-ghost use Rattle.std.specs.List.{slice_get};
+ghost use Rattle.std.specs.Prelude.{◌≡◌, ◌≢◌, ◌≤◌, ◌<◌, ◌-◌, false, true, length, IfErr, IfOk, OnOk, OnErr, None};
+ghost use Rattle.std.specs.Prelude.{option_copied, [], ◌∷◌, ◌++◌};
 ghost use Rattle.mvd_wire.specs.declared.reply.Reply.TheVariants.{Refused};
 ghost use Rattle.mvd_dots.specs.declared.refusals.Refusal.TheVariants.{Memory};
 ghost use Rattle.mvd_site.specs.Answer.{is_question};
 ghost use Rattle.mvd_world.specs.declared.steps.Step.TheVariants.{Receive, Send as Send_step};
 ghost use Rattle.mvd_world.specs.declared.steps.Outcome.TheVariants.{NoSuch, Replied};
-ghost use Rattle.mvd_world.specs.Machine.{Answers, IsOwn, Meets, Receives, Takes, is_numbered, is_write, may_be, nothing_yet, setting_of};
-ghost use Rattle.mvd_world.specs.Worlds.{AreShort, IsWorld, KnownChangesNothing, Leads, StaysTheSame, Steps};
+ghost use Rattle.mvd_world.specs.Machine.{Answers, IsOwn, Meets, Receives, Takes, is_numbered, is_write, may_be};
+ghost use Rattle.mvd_world.specs.Machine.{nothing_yet, setting_of};
+ghost use Rattle.mvd_world.specs.Worlds.{AreShort, IsWorld, KnownChangesNothing, Leads, StaysTheSame, Steps, site_at};
 
 use crate::sessions::sync_at;
 use crate::steps::{Outcome, Step};
@@ -59,7 +60,7 @@ impl World {
 
     /// The site of this number, if there is one.
     pub fn site(&self, number: u32) -> Option<&Site>
-        ensures { option_copied result ≡ (if is_numbered (length self.now.sites.items) number then slice_get self.now.sites.items (number - 1) else None) }
+        ensures { option_copied result ≡ site_at self.now number }
     {
         let index = number.checked_sub(1)?;
         self.sites.get(index as usize)
@@ -70,13 +71,14 @@ impl World {
         ensures machine { Steps self.old self.new step.now result }
         // A message that has nothing new for its site leaves the very same world.
         ensures same { StaysTheSame self.old self.new step.now }
-        // So does one of which the site already knows each write; it is done, or memory was refused, or the site says that it is broken.
+        // So does one of which the site already knows each write; it is done, or memory was refused, or the site says
+        // that it is broken.
         ensures known { KnownChangesNothing self.old self.new step.now result }
         // No message comes to be longer than a state may be.
         ensures short { AreShort self.old → AreShort self.new }
         // Where there is no such step, it is told, and the world is the very same.
-        ensures none { may_be (is_numbered (length self.old.sites.items)) (length self.old.messages.items) step.now ≡ false
-            → (result ≡ NoSuch) × (self.new ≡ self.old) }
+        ensures none { may_be (is_numbered (length self.old.sites.items)) (length self.old.messages.items) step.now
+            ≡ false → (result ≡ NoSuch) × (self.new ≡ self.old) }
     {
         if !self.may_be(step) {
             return Outcome::NoSuch;
@@ -121,7 +123,8 @@ impl World {
         requires some { 1 ≤ site }
         requires within { site ≤ length self.old.sites.items }
         requires own { IsOwn request.now }
-        ensures leads { Leads self.old self.new (λ setting before after. Answers setting before site request.now result after) }
+        ensures leads { Leads self.old self.new (λ setting before after.
+            Answers setting before site request.now result after) }
         ensures short { AreShort self.old → AreShort self.new }
     {
         let site = &mut self.sites[site as usize - 1];
@@ -132,7 +135,8 @@ impl World {
     fn send(&mut self, site: u32, key: &Key) -> Outcome
         requires some { 1 ≤ site }
         requires within { site ≤ length self.old.sites.items }
-        ensures leads { Leads self.old self.new (λ setting before after. Takes setting before (Send_step site key.now) result after) }
+        ensures leads { Leads self.old self.new (λ setting before after.
+            Takes setting before (Send_step site key.now) result after) }
         ensures short { AreShort self.old → AreShort self.new }
     {
         let sender = &self.sites[site as usize - 1];
@@ -150,7 +154,8 @@ impl World {
     /// The state of the key becomes the last message.
     fn append(&mut self, key: &Key, state: KeyState) -> Result<(), Refusal>
         ensures sites { self.new.sites.items ≡ self.old.sites.items }
-        ensures ok { OnOk result (self.new.messages.items ≡ self.old.messages.items ++ record { key = key.now; state = state } ∷ []) }
+        ensures ok { OnOk result (self.new.messages.items
+            ≡ self.old.messages.items ++ record { key = key.now; state = state } ∷ []) }
         ensures memory { IfErr result (λ refusal. refusal ≡ Memory) }
         ensures err { OnErr result (self.new.messages.items ≡ self.old.messages.items) }
     {
@@ -165,7 +170,8 @@ impl World {
         requires within { site ≤ length self.old.sites.items }
         requires some_message { 1 ≤ message }
         requires within_messages { message ≤ length self.old.messages.items }
-        ensures leads { Leads self.old self.new (λ setting before after. Receives setting before site message result after) }
+        ensures leads { Leads self.old self.new (λ setting before after.
+            Receives setting before site message result after) }
         ensures same { StaysTheSame self.old self.new (Receive site message) }
         ensures known { KnownChangesNothing self.old self.new (Receive site message) (Replied result) }
         ensures short { AreShort self.old → AreShort self.new }

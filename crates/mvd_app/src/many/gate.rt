@@ -3,13 +3,13 @@ use super::metrics::{Counts, Now};
 use super::talks::{feed, sent};
 use http::StatusCode;
 use mvd_dots::Refusal;
+use mvd_frames::{decode_reply, encode_request, read_frame};
 use mvd_host::Host;
 use mvd_http::{
     Answer, Content, Methods, PAGE, Question, push_root, refused_response, response_of,
 };
 use mvd_replica::Replica;
 use mvd_web::{Asked, WebConnection};
-use mvd_frames::{decode_reply, encode_request, read_frame};
 use mvd_wire::Reply;
 use sqlite::Alter;
 use std::alloc::Global;

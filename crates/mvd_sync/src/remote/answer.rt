@@ -103,8 +103,8 @@ impl Answer for () {
     }
 }
 
-/// What a reply tells, or why it is none. A side that tells that it is broken refuses the whole window, and so does want of memory
-/// for a reply.
+/// What a reply tells, or why it is none. A side that tells that it is broken refuses the whole window, and so does
+/// want of memory for a reply.
 fn answer_of<A: Answer>(reply: Result<Reply, Refusal>) -> Result<Result<A, Refusal>, Refusal>
     requires { IsOfKind A.of_kind reply }
     ensures told { IfOk result (Answers A.as_reply reply) }

@@ -1,11 +1,14 @@
 //! Many questions over a link: all frames out, then all replies in.
-ghost use Rattle.std.specs.Prelude.{◌≡◌, ◌≢◌, Err, List, ℕ, Result as Spelled, [], None, Some, OnOk, OnErr, IfOk, IfErr, MatchResult, All};
+ghost use Rattle.std.specs.Prelude.{◌≡◌, ◌≢◌, Err, List, ℕ, Result as Spelled, [], None, Some, OnOk, OnErr, IfOk};
+ghost use Rattle.std.specs.Prelude.{IfErr, MatchResult, All};
 ghost use Rattle.mvd_dots.specs.declared.refusals.Refusal.TheVariants.{Memory};
 ghost use Rattle.mvd_wire.specs.Codec.{Gives};
-ghost use Rattle.mvd_sync.specs.LinkWindows.{Answered, AsksAll, IsOfKind, RefusesAll, TakesTurn, TakeTurns, TurnBreaks, and_frame, frames_of};
-ghost use Rattle.mvd_sync.specs.Lines.{AreSpelled, AsksAllTruly, DueTurn, DueTurns, EndsTruly, KeepsMost};
+ghost use Rattle.mvd_sync.specs.LinkWindows.{Answered, AsksAll, IsOfKind, RefusesAll, TakesTurn, TakeTurns, TurnBreaks};
+ghost use Rattle.mvd_sync.specs.LinkWindows.{and_frame, frames_of};
+ghost use Rattle.mvd_sync.specs.Lines.{AreSpelled, DueTurn, DueTurns, KeepsMost};
 ghost use Rattle.mvd_sync.specs.Lines.{TellsAllTruly, TookTurns, line_of, refused_of};
-ghost use Rattle.mvd_sync.specs.Links.{ReadCause, link};
+ghost use Rattle.mvd_sync.specs.Links.{ReadCause};
+ghost use Rattle.mvd_sync.specs.Remotes.{AsksAllTruly, EndsTruly, link_of, queries};
 ghost use Rattle.mvd_wire.specs.declared.request.Request.{Request};
 ghost use Rattle.mvd_dots.specs.declared.refusals.Refusal.{Refusal as Cause};
 
@@ -131,14 +134,12 @@ impl<L: Line> Remote<L> {
     ) -> Result<Vec<Result<Reply, Refusal>>, Refusal>
         requires { refused_of self.old ≡ None }
         ensures sent { MatchResult result
-            (λ replies. Answered kind window.now replies.items
-            (link L.remaining L.contents self.old) (link L.remaining L.contents self.new))
-            (RefusesAll kind window.now
-            (link L.remaining L.contents self.old) (link L.remaining L.contents self.new)) }
+            (λ replies. Answered kind window.now replies.items (link_of L.Line self.old) (link_of L.Line self.new))
+            (RefusesAll kind window.now (link_of L.Line self.old) (link_of L.Line self.new)) }
         ensures of_kind { IfOk result (λ replies. All (IsOfKind kind) replies.items) }
         ensures most { KeepsMost L.far self.old self.new }
         ensures truth { (requests : List Request) → window.now ≡ frames_of requests → AreSpelled requests →
-            EndsTruly L.is_true L.far (λ most before told. TellsAllTruly most before requests told.items)
+            EndsTruly L.Line (λ most before told. TellsAllTruly most before requests told.items)
             requests self.old self.new result }
     {
         let mut replies = room_for(self.alloc, window.nones.len())?;
@@ -159,12 +160,11 @@ impl<L: Line> Remote<L> {
         requires { refused_of self.old ≡ None }
         ensures asked { MatchResult result
             (λ told. AsksAll A.as_reply A.of_kind window.now told.items
-            (link L.remaining L.contents self.old) (link L.remaining L.contents self.new))
-            (RefusesAll A.of_kind window.now
-            (link L.remaining L.contents self.old) (link L.remaining L.contents self.new)) }
+            (link_of L.Line self.old) (link_of L.Line self.new))
+            (RefusesAll A.of_kind window.now (link_of L.Line self.old) (link_of L.Line self.new)) }
         ensures most { KeepsMost L.far self.old self.new }
         ensures truth { (requests : List Request) → window.now ≡ frames_of requests → AreSpelled requests →
-            AsksAllTruly L.is_true L.far A.as_reply requests self.old self.new result }
+            AsksAllTruly L.Line (queries requests A.as_reply A.of_kind) self.old self.new result }
     {
         let replies = self.send_all(window, A::kind())?;
         answers(self.alloc, replies)

@@ -1,67 +1,56 @@
-use Rattle.std.proofs.Common.{◌≡◌, ◌∙◌, ◌∷◌, ◌++◌, [], List, length, refl, sym, subst, rules, false, take}
-use Rattle.std.specs.Prelude.{Result, Ok, Err}
-use Rattle.std.proofs.lemmas.Iterator.Adapters.{YieldsList-from_vec}
-use Rattle.std.proofs.lemmas.Iterator.Consumers.{YieldsList-end, YieldsList-turn}
-use Rattle.std.proofs.lemmas.List.{map-id}
-use Rattle.mvd_dots.specs.declared.refusals.Refusal.{Refusal}
+use Rattle.std.proofs.Common.{◌≡◌, ◌∙◌, sym, subst, take}
 use Rattle.mvd_keys.specs.State.{State}
-use Rattle.mvd_sync.specs.Questions.{ForEach}
-use Rattle.mvd_sync.specs.Sides.{HasAnswered, HasRefused, of_side, side, is_of_question}
-use Rattle.mvd_sync.specs.Windows.{EachTold}
-use Rattle.mvd_sync.proofs.Answering.{Passes, answered_all, ended_by, ended_few, ended_memory, ended_within, for_each_more, none_told, passed, told_at}
-use Rattle.mvd_sync.proofs.OneByOne.{at_err, at_err_same}
+use Rattle.mvd_sync.specs.PeerSides.{side_of}
+use Rattle.mvd_sync.proofs.Answering.{answered_all, ended_few, ended_making, ended_within, none_told, passed}
+use Rattle.mvd_sync.proofs.OneByOne.{at_err_same}
 use Rattle.mvd_sync.proofs.asking.ask_gets.Goals as goal
+
+abbrev IsSame : State → State → Type 0
+IsSame told state = state ≡ told
 
 pub returns-in_err-told-clause-ended : goal.returns-in_err-told-clause-ended
 returns-in_err-told-clause-ended g c =
-    let s = side g.P.Peer.states g.P.Peer.is_faithful g.P.Peer.can_give g.P.Peer.follows g.P.Peer.can_refuse g.P.Peer.can_answer g.P.Peer.most_keys g.P.Peer.number in
-    at_err_same _ _ _ c.in_err-told.field-0.0 c.from_residual.ensures (λ e is. cc) (ended_within s c.args.keys.now c.args.left.now c.take-taken.new.left c.take-taken.result c.args.side.now c.get_all.new.self c.take-taken.ensures _ _ c.in_err-told.ensures.ended c.in_err-told.ensures.not_of_question (λ t. let k = c.get_all.ensures.kept t in record { still = k.0; states = k.1 }))
-
-pub returns-in_err-answer-clause-ended : goal.returns-in_err-answer-clause-ended
-returns-in_err-answer-clause-ended g c =
-    let s = side g.P.Peer.states g.P.Peer.is_faithful g.P.Peer.can_give g.P.Peer.follows g.P.Peer.can_refuse g.P.Peer.can_answer g.P.Peer.most_keys g.P.Peer.number in
-    let asked = c.in_ok-told.ensures.told in
-    let road = YieldsList-from_vec {s = c.into_iter-answer-iterator.result} c.in_ok-told.told.items (search rules) (search rules) in
-    let turn = YieldsList-turn road c.loop-answer.yielded c.loop-answer.answer-iterator c.loop-answer.yielded_by c.next.result c.next.new.self c.in-Some.answer c.in-Some.is c.next.ensures.steps in
-    let U = HasAnswered g.P.Peer.follows g.P.Peer.can_answer c.args.side.now c.get_all.new.self in
-    let R = HasRefused g.P.Peer.follows g.P.Peer.can_refuse c.args.side.now c.get_all.new.self in
-    let was : c.in-Some.answer ≡ Err c.in_err-answer.field-0.0 = c.in_err-answer.was in
-    let told = subst (λ (a : Result State Refusal). EachTold U R (a ∷ [])) was (told_at U R c.in_ok-told.told.items (length c.loop-answer.yielded) c.in-Some.answer asked.told turn.0 turn.1) in
-    let apart : g.P.Peer.is_faithful c.args.side.now → is_of_question c.in_err-answer.field-0.0 ≡ false = λ t. (subst (λ (a : Result State Refusal). EachTold (Unit {0}) (λ r. is_of_question r ≡ false) (a ∷ [])) was (told_at (Unit {0}) (λ r. is_of_question r ≡ false) c.in_ok-told.told.items (length c.loop-answer.yielded) c.in-Some.answer (none_told (take c.take-taken.result c.args.keys.now) c.in_ok-told.told.items (asked.not_of_question t)) turn.0 turn.1)).0 in
-    at_err_same _ _ _ c.in_err-answer.field-0.0 c.from_residual-in_err-answer.ensures (λ e is. cc) (ended_by s c.args.keys.now c.args.left.now c.take-taken.new.left c.take-taken.result c.args.side.now c.get_all.new.self c.take-taken.ensures _ _ asked.count (of_side told.0 apart) apart (λ t. let k = c.get_all.ensures.kept t in record { still = k.0; states = k.1 }))
-
-pub loop-answer-preserved : goal.loop-answer-preserved
-loop-answer-preserved g c =
-    let R : State → State → Type 0 = λ a b. b ≡ a in
-    let was : c.in-Some.answer ≡ Ok c.in_ok-answer.field-0 = c.in_ok-answer.was in
-    subst (λ (us : List State). ForEach (Passes R) (c.loop-answer.yielded ++ c.in-Some.answer ∷ []) us) (sym c.in_ok-push.ensures.items)
-    (for_each_more (Passes R) c.loop-answer.yielded c.loop-answer.states.items c.in-Some.answer c.in_ok-answer.field-0 c.loop-answer.invariant (subst (λ (a : Result State Refusal). Passes R a c.in_ok-answer.field-0) (sym was) refl))
-
-pub returns-in_err-push-clause-ended : goal.returns-in_err-push-clause-ended
-returns-in_err-push-clause-ended g c =
-    let s = side g.P.Peer.states g.P.Peer.is_faithful g.P.Peer.can_give g.P.Peer.follows g.P.Peer.can_refuse g.P.Peer.can_answer g.P.Peer.most_keys g.P.Peer.number in
-    at_err _ _ _ c.from_residual-in_err-push.ensures (λ e memory. ended_memory s c.args.keys.now c.args.left.now c.take-taken.new.left c.take-taken.result c.args.side.now c.get_all.new.self c.take-taken.ensures _ e memory c.in_ok-told.ensures.told.count (λ t. let k = c.get_all.ensures.kept t in record { still = k.0; states = k.1 }))
+    let s = side_of g.P.Peer in
+    at_err_same _ _ _ c.in_err-told.field-0.0 c.from_residual.ensures (λ e is. cc)
+    (ended_within s c.args.keys.now c.args.left.now c.take-taken.new.left c.take-taken.result c.args.side.now c.get_all.new.self
+    c.take-taken.ensures
+    _ _ c.in_err-told.ensures.ended c.in_err-told.ensures.not_of_question
+    (λ t. let k = c.get_all.ensures.kept t in record { still = k.0; states = k.1 }))
 
 pub returns-in_err-states-clause-ended : goal.returns-in_err-states-clause-ended
 returns-in_err-states-clause-ended g c =
-    let s = side g.P.Peer.states g.P.Peer.is_faithful g.P.Peer.can_give g.P.Peer.follows g.P.Peer.can_refuse g.P.Peer.can_answer g.P.Peer.most_keys g.P.Peer.number in
-    at_err _ _ _ c.from_residual-in_err-states.ensures (λ e memory. ended_memory s c.args.keys.now c.args.left.now c.take-taken.new.left c.take-taken.result c.args.side.now c.get_all.new.self c.take-taken.ensures _ e memory c.in_ok-told.ensures.told.count (λ t. let k = c.get_all.ensures.kept t in record { still = k.0; states = k.1 }))
+    let s = side_of g.P.Peer in
+    let asked = c.in_ok-told.ensures.told in
+    let answers = c.in_ok-told.told.items in
+    at_err_same _ _ _ c.in_err-states.field-0.0 c.from_residual-in_err-states.ensures (λ e is. cc)
+    (ended_making s c.args.keys.now c.args.left.now c.take-taken.new.left c.take-taken.result c.args.side.now c.get_all.new.self
+    c.take-taken.ensures
+    _ (λ (s : State). ⊥) answers _ asked.count asked.told
+    (λ t. none_told (take c.take-taken.result c.args.keys.now) answers (asked.not_of_question t))
+    (λ t a here none. none)
+    (λ t. let k = c.get_all.ensures.kept t in record { still = k.0; states = k.1 }) c.in_err-states.ensures.ended)
 
 pub returns-in_err-are_all-clause-ended : goal.returns-in_err-are_all-clause-ended
 returns-in_err-are_all-clause-ended g c =
-    let s = side g.P.Peer.states g.P.Peer.is_faithful g.P.Peer.can_give g.P.Peer.follows g.P.Peer.can_refuse g.P.Peer.can_answer g.P.Peer.most_keys g.P.Peer.number in
+    let s = side_of g.P.Peer in
     let few = c.in_err-are_all.ensures.few in
     at_err_same _ _ _ c.in_err-are_all.field-0.0 c.from_residual-in_err-are_all.ensures (λ e is. cc)
-    (ended_few s c.args.keys.now c.args.left.now c.take-taken.new.left c.take-taken.result c.args.side.now c.get_all.new.self c.take-taken.ensures _ _ few.0 few.1 c.in_ok-told.ensures.told.count (λ t. let k = c.get_all.ensures.kept t in record { still = k.0; states = k.1 }))
+    (ended_few s c.args.keys.now c.args.left.now c.take-taken.new.left c.take-taken.result c.args.side.now c.get_all.new.self
+    c.take-taken.ensures
+    _ _ few.0 few.1 c.in_ok-told.ensures.told.count
+    (λ t. let k = c.get_all.ensures.kept t in record { still = k.0; states = k.1 }))
 
 pub returns-clause-told : goal.returns-clause-told
 returns-clause-told g c =
-    let s = side g.P.Peer.states g.P.Peer.is_faithful g.P.Peer.can_give g.P.Peer.follows g.P.Peer.can_refuse g.P.Peer.can_answer g.P.Peer.most_keys g.P.Peer.number in
+    let s = side_of g.P.Peer in
     let asked = c.in_ok-told.ensures.told in
-    let road = YieldsList-from_vec {s = c.into_iter-answer-iterator.result} c.in_ok-told.told.items (search rules) (search rules) in
-    let end = YieldsList-end road c.loop-answer.yielded c.loop-answer.answer-iterator c.loop-answer.yielded_by c.next.result c.next.new.self c.in-None.is c.next.ensures.steps in
-    let R : State → State → Type 0 = λ a b. b ≡ a in
-    let made = subst (λ (ts : List (Result State Refusal)). ForEach (Passes R) ts c.loop-answer.states.items) (sym (map-id c.loop-answer.yielded) ∙ end.0) c.loop-answer.invariant in
-    answered_all s c.args.keys.now c.args.left.now c.take-taken.new.left c.take-taken.result c.args.side.now c.get_all.new.self c.take-taken.ensures _ _ _ c.in_ok-are_all.ensures.all asked.count
-    (passed _ _ _ R _ (λ q a b may told is. (subst (g.P.Peer.can_give q) (sym is) may, told)) _ _ _ asked.may asked.told made)
-    (λ t. (let k = c.get_all.ensures.kept t in record { still = k.0; states = k.1 }, passed _ _ _ R _ (λ q a b right told is. is ∙ right) _ _ _ (asked.right t) asked.told made))
+    let made = c.in_ok-states.ensures.made in
+    answered_all s c.args.keys.now c.args.left.now c.take-taken.new.left c.take-taken.result c.args.side.now c.get_all.new.self
+    c.take-taken.ensures
+    _ _ _ c.in_ok-are_all.ensures.all asked.count
+    (passed _ _ _ IsSame _ (λ q a b may told is. (subst (g.P.Peer.can_give q) (sym is) may, told)) _ _ _
+    asked.may asked.told made)
+    (λ t. (
+      let k = c.get_all.ensures.kept t in record { still = k.0; states = k.1 },
+      passed _ _ _ IsSame _ (λ q a b right told is. is ∙ right) _ _ _ (asked.right t) asked.told made,
+    ))

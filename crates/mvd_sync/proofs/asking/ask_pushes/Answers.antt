@@ -6,19 +6,19 @@ use Rattle.mvd_dots.specs.declared.refusals.Refusal.{Refusal}
 use Rattle.mvd_keys.specs.State.{State}
 use Rattle.mvd_keys.specs.Writes.{Key}
 use Rattle.mvd_sync.specs.Questions.{IsOfKey}
-use Rattle.mvd_sync.specs.Sides.{side}
+use Rattle.mvd_sync.specs.PeerSides.{side_of}
 use Rattle.mvd_sync.proofs.OneByOne.{at_err, at_err_same}
 use Rattle.mvd_sync.proofs.Pushing.{FrontPushed, all_pushed, ended_call, ended_first, ended_for_want, ended_told, front_on, front_rest, no_pairs}
 use Rattle.mvd_sync.proofs.asking.ask_pushes.Goals as goal
 
 pub returns-in_err-told-clause-ended : goal.returns-in_err-told-clause-ended
 returns-in_err-told-clause-ended g c =
-    let s = side g.P.Peer.states g.P.Peer.is_faithful g.P.Peer.can_give g.P.Peer.follows g.P.Peer.can_refuse g.P.Peer.can_answer g.P.Peer.most_keys g.P.Peer.number in
+    let s = side_of g.P.Peer in
     at_err _ _ _ c.from_residual.ensures (λ e memory. ended_first s c.args.pairs.now c.args.left.now c.args.side.now e (g.met.P.Peer.follows_self c.args.side.now) memory)
 
 pub returns-in_err-answers-clause-ended : goal.returns-in_err-answers-clause-ended
 returns-in_err-answers-clause-ended g c =
-    let s = side g.P.Peer.states g.P.Peer.is_faithful g.P.Peer.can_give g.P.Peer.follows g.P.Peer.can_refuse g.P.Peer.can_answer g.P.Peer.most_keys g.P.Peer.number in
+    let s = side_of g.P.Peer in
     let low : c.take-taken.result ≤ length c.loop-rest.rest.now = omega arith in
     at_err_same _ _ _ c.in_err-answers.field-0.0 c.from_residual-in_err-answers.ensures (λ e is. cc)
     (ended_call s g.met.P.Peer.follows_on g.met.P.Peer.most_stays c.args.pairs.now c.loop-rest.rest.now c.loop-rest.told.items [] c.args.left.now c.loop-rest.left c.take-taken.new.left c.take-taken.result c.args.side.now c.loop-rest.side c.push_all.new.self c.loop-rest.invariant.front c.take-taken.ensures.spent low
@@ -26,7 +26,7 @@ returns-in_err-answers-clause-ended g c =
 
 pub returns-in_err-add_told-clause-ended : goal.returns-in_err-add_told-clause-ended
 returns-in_err-add_told-clause-ended g c =
-    let s = side g.P.Peer.states g.P.Peer.is_faithful g.P.Peer.can_give g.P.Peer.follows g.P.Peer.can_refuse g.P.Peer.can_answer g.P.Peer.most_keys g.P.Peer.number in
+    let s = side_of g.P.Peer in
     let low : c.take-taken.result ≤ length c.loop-rest.rest.now = omega arith in
     at_err_same _ _ _ c.in_err-add_told.field-0.0 c.from_residual-in_err-add_told.ensures (λ e is. cc)
     (ended_told s g.met.P.Peer.follows_on g.met.P.Peer.most_stays c.args.pairs.now c.loop-rest.rest.now c.loop-rest.told.items c.in_ok-answers.answers.items c.args.left.now c.loop-rest.left c.take-taken.new.left c.take-taken.result c.args.side.now c.loop-rest.side c.push_all.new.self c.loop-rest.invariant.front c.take-taken.ensures.spent low
@@ -34,7 +34,7 @@ returns-in_err-add_told-clause-ended g c =
 
 pub returns-in_err-are_all-clause-ended : goal.returns-in_err-are_all-clause-ended
 returns-in_err-are_all-clause-ended g c =
-    let s = side g.P.Peer.states g.P.Peer.is_faithful g.P.Peer.can_give g.P.Peer.follows g.P.Peer.can_refuse g.P.Peer.can_answer g.P.Peer.most_keys g.P.Peer.number in
+    let s = side_of g.P.Peer in
     let low : c.take-taken.result ≤ length c.loop-rest.rest.now = omega arith in
     let front = front_on s g.met.P.Peer.follows_on g.met.P.Peer.most_stays c.args.pairs.now c.loop-rest.rest.now c.loop-rest.told.items c.in_ok-answers.answers.items c.args.left.now c.loop-rest.left c.take-taken.new.left c.take-taken.result c.args.side.now c.loop-rest.side c.push_all.new.self c.loop-rest.invariant.front c.take-taken.ensures.spent low c.in_ok-answers.ensures.told c.in_ok-answers.ensures.pushes in
     let few = c.in_err-are_all.ensures.few in
@@ -45,7 +45,7 @@ returns-in_err-are_all-clause-ended g c =
 
 pub loop-rest-preserved : goal.loop-rest-preserved
 loop-rest-preserved g c =
-    let s = side g.P.Peer.states g.P.Peer.is_faithful g.P.Peer.can_give g.P.Peer.follows g.P.Peer.can_refuse g.P.Peer.can_answer g.P.Peer.most_keys g.P.Peer.number in
+    let s = side_of g.P.Peer in
     let low : c.take-taken.result ≤ length c.loop-rest.rest.now = omega arith in
     let front = front_on s g.met.P.Peer.follows_on g.met.P.Peer.most_stays c.args.pairs.now c.loop-rest.rest.now c.loop-rest.told.items c.in_ok-answers.answers.items c.args.left.now c.loop-rest.left c.take-taken.new.left c.take-taken.result c.args.side.now c.loop-rest.side c.push_all.new.self c.loop-rest.invariant.front c.take-taken.ensures.spent low c.in_ok-answers.ensures.told c.in_ok-answers.ensures.pushes in
     record {
@@ -55,7 +55,7 @@ loop-rest-preserved g c =
 
 pub returns-clause-told : goal.returns-clause-told
 returns-clause-told g c =
-    let s = side g.P.Peer.states g.P.Peer.is_faithful g.P.Peer.can_give g.P.Peer.follows g.P.Peer.can_refuse g.P.Peer.can_answer g.P.Peer.most_keys g.P.Peer.number in
+    let s = side_of g.P.Peer in
     let none : length c.loop-rest.rest.now ≡ 0 = grind arith in
     all_pushed s c.args.pairs.now c.args.left.now c.args.side.now c.loop-rest.told.items c.loop-rest.left c.loop-rest.side
     (subst (λ (xs : List (Key × State)). FrontPushed s c.args.pairs.now xs c.loop-rest.told.items c.args.left.now c.loop-rest.left c.args.side.now c.loop-rest.side) (no_pairs c.loop-rest.rest.now none) c.loop-rest.invariant.front)

@@ -1,14 +1,14 @@
 use Rattle.std.proofs.Common.{length}
 use Rattle.std.specs.Prelude.{All}
 use Rattle.mvd_sync.specs.Questions.{IsOfKey}
-use Rattle.mvd_sync.specs.Sides.{side}
+use Rattle.mvd_sync.specs.PeerSides.{side_of}
 use Rattle.mvd_sync.proofs.Pushing.{FrontPushed}
 use Rattle.mvd_sync.proofs.asking.ask_pushes.Given as goal
 
 -- the pairs before the rest were pushed, and each answer is of its key
 abbrev pub invariant-loop-rest : goal.invariant-loop-rest
 invariant-loop-rest g l = record {
-  front : FrontPushed (side g.P.Peer.states g.P.Peer.is_faithful g.P.Peer.can_give g.P.Peer.follows g.P.Peer.can_refuse g.P.Peer.can_answer g.P.Peer.most_keys g.P.Peer.number) l.pairs l.rest l.told.items l.fn.left l.left l.fn.side l.side;
+  front : FrontPushed (side_of g.P.Peer) l.pairs l.rest l.told.items l.fn.left l.left l.fn.side l.side;
   of_key : All IsOfKey l.told.items;
 }
 

@@ -4,7 +4,7 @@ use Rattle.std.specs.Cmp.{unsigned_Decides}
 use Rattle.std.proofs.lemmas.List.{take-append-drop}
 use Rattle.mvd_site.specs.Held.{States}
 use Rattle.mvd_sync.specs.Session.{Each}
-use Rattle.mvd_sync.specs.Sides.{side}
+use Rattle.mvd_sync.specs.PeerSides.{side_of}
 use Rattle.mvd_sync.proofs.Descents.{Each-right, Each-take}
 use Rattle.mvd_sync.proofs.Fails.{window_moves}
 use Rattle.mvd_sync.proofs.Pages.{no_entries}
@@ -14,14 +14,14 @@ use Rattle.mvd_sync.proofs.bucket_walk.exchange_buckets.Goals as goal
 
 pub loop-rest-init : goal.loop-rest-init
 loop-rest-init g c =
-    let l = side g.L.Peer.states g.L.Peer.is_faithful g.L.Peer.can_give g.L.Peer.follows g.L.Peer.can_refuse g.L.Peer.can_answer g.L.Peer.most_keys g.L.Peer.number in
-    let p = side g.P.Peer.states g.P.Peer.is_faithful g.P.Peer.can_give g.P.Peer.follows g.P.Peer.can_refuse g.P.Peer.can_answer g.P.Peer.most_keys g.P.Peer.number in
+    let l = side_of g.L.Peer in
+    let p = side_of g.P.Peer in
     ([], refl, through_none l p (λ a b. Unit {0}) g.met.L.Peer.follows_self g.met.P.Peer.follows_self c.args.left.now c.args.local.now c.args.peer.now c.args.exchange.now)
 
 pub returns-in-Err : goal.returns-in-Err
 returns-in-Err g c =
-    let l = side g.L.Peer.states g.L.Peer.is_faithful g.L.Peer.can_give g.L.Peer.follows g.L.Peer.can_refuse g.L.Peer.can_answer g.L.Peer.most_keys g.L.Peer.number in
-    let p = side g.P.Peer.states g.P.Peer.is_faithful g.P.Peer.can_give g.P.Peer.follows g.P.Peer.can_refuse g.P.Peer.can_answer g.P.Peer.most_keys g.P.Peer.number in
+    let l = side_of g.L.Peer in
+    let p = side_of g.P.Peer in
     let at = c.loop-rest.invariant in
     let done = at.0 in
     let n = c.min-count.result in
@@ -37,8 +37,8 @@ returns-in-Err g c =
 
 pub loop-rest-preserved : goal.loop-rest-preserved
 loop-rest-preserved g c =
-    let l = side g.L.Peer.states g.L.Peer.is_faithful g.L.Peer.can_give g.L.Peer.follows g.L.Peer.can_refuse g.L.Peer.can_answer g.L.Peer.most_keys g.L.Peer.number in
-    let p = side g.P.Peer.states g.P.Peer.is_faithful g.P.Peer.can_give g.P.Peer.follows g.P.Peer.can_refuse g.P.Peer.can_answer g.P.Peer.most_keys g.P.Peer.number in
+    let l = side_of g.L.Peer in
+    let p = side_of g.P.Peer in
     let at = c.loop-rest.invariant in
     let done = at.0 in
     let n = c.min-count.result in
@@ -52,8 +52,8 @@ loop-rest-preserved g c =
 
 pub returns : goal.returns
 returns g c =
-    let l = side g.L.Peer.states g.L.Peer.is_faithful g.L.Peer.can_give g.L.Peer.follows g.L.Peer.can_refuse g.L.Peer.can_answer g.L.Peer.most_keys g.L.Peer.number in
-    let p = side g.P.Peer.states g.P.Peer.is_faithful g.P.Peer.can_give g.P.Peer.follows g.P.Peer.can_refuse g.P.Peer.can_answer g.P.Peer.most_keys g.P.Peer.number in
+    let l = side_of g.L.Peer in
+    let p = side_of g.P.Peer in
     let at = c.loop-rest.invariant in
     let none = no_entries c.loop-rest.rest.now ((unsigned_Decides (length c.loop-rest.rest.now) 0).0 (sym c.is_empty.ensures ∙ c.loop-rest-test.false)) in
     let all : c.args.paths.now ≡ at.0 = at.1 ∙ ap (λ xs. at.0 ++ xs) none ∙ append-nil at.0 in

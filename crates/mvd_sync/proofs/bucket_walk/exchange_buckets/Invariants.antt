@@ -1,6 +1,6 @@
 use Rattle.std.proofs.Common.{◌≡◌, ℕ, List, ◌++◌, length}
 use Rattle.std.specs.Prelude.{Ok}
-use Rattle.mvd_sync.specs.Sides.{side}
+use Rattle.mvd_sync.specs.PeerSides.{side_of}
 use Rattle.mvd_sync.proofs.Positions.{GoesOverBy}
 use Rattle.mvd_sync.proofs.bucket_walk.exchange_buckets.Given as goal
 
@@ -10,8 +10,6 @@ decreases-loop-rest g l = length l.rest
 -- the buckets before the rest are gone over
 abbrev pub invariant-loop-rest : goal.invariant-loop-rest
 invariant-loop-rest g l =
-    let L = g.L.Peer in
-    let P = g.P.Peer in
-    let local = side L.states L.is_faithful L.can_give L.follows L.can_refuse L.can_answer L.most_keys L.number in
-    let peer = side P.states P.is_faithful P.can_give P.follows P.can_refuse P.can_answer P.most_keys P.number in
+    let local = side_of g.L.Peer in
+    let peer = side_of g.P.Peer in
     (done : List (List ℕ)) × (l.paths ≡ done ++ l.rest) × GoesOverBy local peer done (length done) l.fn.left l.left l.fn.local l.local l.fn.peer l.peer l.fn.exchange l.exchange (Ok (tt {0}))

@@ -1,6 +1,8 @@
 use Rattle.std.proofs.Common.{◌≡◌, ℕ, List, map, length, Option, None, refl, ap, ◌∙◌, arith}
 use Rattle.std.proofs.lemmas.List.{length-map}
-use Rattle.mvd_sync.specs.Sides.{HasAnswered, SideOf, side}
+use Rattle.mvd_sync.specs.Questions.{with_left}
+use Rattle.mvd_sync.specs.PeerSides.{side_of}
+use Rattle.mvd_sync.specs.Sides.{HasAnswered, SideOf}
 use Rattle.mvd_sync.specs.Walk.{Reads}
 use Rattle.mvd_sync.specs.declared.asking.Questions.{Questions}
 use Rattle.mvd_sync.proofs.Fails.{local_fails, memory_fails, peer_fails}
@@ -8,7 +10,7 @@ use Rattle.mvd_sync.proofs.Fetching.{pages_deep, pages_good, pages_long, pages_r
 use Rattle.mvd_sync.proofs.Through.{window_ends, window_through}
 use Rattle.mvd_sync.proofs.bucket_walk.exchange_window.Goals as goal
 
-nothing_read : {S : Type 0} (s : SideOf S) (self : (x : S) → s.follows 0 x x) (left : ℕ) (at : S) → Reads s 0 left left at at
+nothing_read : {S : Type 0} (s : SideOf S) (self : (x : S) → s.follows 0 x x) (left : ℕ) (at : S) → Reads s 0 (with_left at left) (with_left at left)
 nothing_read s self left at = record { spent = omega arith; follows = self at; kept = λ t. record { still = t; states = refl } }
 
 as_long : (paths : List (List ℕ)) (asked : List (List ℕ × Option (List ℕ))) → asked ≡ map (λ path. (path, None)) paths → length asked ≡ length paths
@@ -16,8 +18,8 @@ as_long paths asked is = ap length is ∙ length-map paths (λ path. (path, None
 
 pub returns-in-Err : goal.returns-in-Err
 returns-in-Err g c =
-    let l = side g.L.Peer.states g.L.Peer.is_faithful g.L.Peer.can_give g.L.Peer.follows g.L.Peer.can_refuse g.L.Peer.can_answer g.L.Peer.most_keys g.L.Peer.number in
-    let p = side g.P.Peer.states g.P.Peer.is_faithful g.P.Peer.can_give g.P.Peer.follows g.P.Peer.can_refuse g.P.Peer.can_answer g.P.Peer.most_keys g.P.Peer.number in
+    let l = side_of g.L.Peer in
+    let p = side_of g.P.Peer in
     let r = nothing_read l g.met.L.Peer.follows_self c.args.left.now.local c.args.local.now in
     let q = nothing_read p g.met.P.Peer.follows_self c.args.left.now.peer c.args.peer.now in
     let most = length c.args.paths.now in
@@ -26,8 +28,8 @@ returns-in-Err g c =
 
 pub returns-in-Err-ask_pages : goal.returns-in-Err-ask_pages
 returns-in-Err-ask_pages g c =
-    let l = side g.L.Peer.states g.L.Peer.is_faithful g.L.Peer.can_give g.L.Peer.follows g.L.Peer.can_refuse g.L.Peer.can_answer g.L.Peer.most_keys g.L.Peer.number in
-    let p = side g.P.Peer.states g.P.Peer.is_faithful g.P.Peer.can_give g.P.Peer.follows g.P.Peer.can_refuse g.P.Peer.can_answer g.P.Peer.most_keys g.P.Peer.number in
+    let l = side_of g.L.Peer in
+    let p = side_of g.P.Peer in
     let r = nothing_read l g.met.L.Peer.follows_self c.args.left.now.local c.args.local.now in
     let q = nothing_read p g.met.P.Peer.follows_self c.args.left.now.peer c.args.peer.now in
     let most = length c.args.paths.now in
@@ -37,8 +39,8 @@ returns-in-Err-ask_pages g c =
 
 pub returns-in-Err-ask_pages-2 : goal.returns-in-Err-ask_pages-2
 returns-in-Err-ask_pages-2 g c =
-    let l = side g.L.Peer.states g.L.Peer.is_faithful g.L.Peer.can_give g.L.Peer.follows g.L.Peer.can_refuse g.L.Peer.can_answer g.L.Peer.most_keys g.L.Peer.number in
-    let p = side g.P.Peer.states g.P.Peer.is_faithful g.P.Peer.can_give g.P.Peer.follows g.P.Peer.can_refuse g.P.Peer.can_answer g.P.Peer.most_keys g.P.Peer.number in
+    let l = side_of g.L.Peer in
+    let p = side_of g.P.Peer in
     let r = nothing_read l g.met.L.Peer.follows_self c.args.left.now.local c.args.local.now in
     let q = nothing_read p g.met.P.Peer.follows_self c.args.left.now.peer c.args.peer.now in
     let most = length c.args.paths.now in
@@ -50,8 +52,8 @@ returns-in-Err-ask_pages-2 g c =
 
 pub go_over_all-requires-clause-lengths : goal.go_over_all-requires-clause-lengths
 go_over_all-requires-clause-lengths g c =
-    let l = side g.L.Peer.states g.L.Peer.is_faithful g.L.Peer.can_give g.L.Peer.follows g.L.Peer.can_refuse g.L.Peer.can_answer g.L.Peer.most_keys g.L.Peer.number in
-    let p = side g.P.Peer.states g.P.Peer.is_faithful g.P.Peer.can_give g.P.Peer.follows g.P.Peer.can_refuse g.P.Peer.can_answer g.P.Peer.most_keys g.P.Peer.number in
+    let l = side_of g.L.Peer in
+    let p = side_of g.P.Peer in
     let is = c.deref.ensures.value ∙ c.in-Ok.ensures.asked in
     let T = HasAnswered l.follows l.can_answer c.args.local.now c.ask_pages.new.side in
     let is' = c.deref-2.ensures.value ∙ c.in-Ok.ensures.asked in
@@ -60,24 +62,24 @@ go_over_all-requires-clause-lengths g c =
 
 pub go_over_all-requires-clause-mine : goal.go_over_all-requires-clause-mine
 go_over_all-requires-clause-mine g c =
-    let l = side g.L.Peer.states g.L.Peer.is_faithful g.L.Peer.can_give g.L.Peer.follows g.L.Peer.can_refuse g.L.Peer.can_answer g.L.Peer.most_keys g.L.Peer.number in
-    let p = side g.P.Peer.states g.P.Peer.is_faithful g.P.Peer.can_give g.P.Peer.follows g.P.Peer.can_refuse g.P.Peer.can_answer g.P.Peer.most_keys g.P.Peer.number in
+    let l = side_of g.L.Peer in
+    let p = side_of g.P.Peer in
     let is = c.deref.ensures.value ∙ c.in-Ok.ensures.asked in
     let T = HasAnswered l.follows l.can_answer c.args.local.now c.ask_pages.new.side in
     pages_good l T c.args.paths.now c.deref.result.now c.in-Ok-ask_pages.pages.items c.args.left.now.local c.ask_pages.new.left c.args.local.now c.ask_pages.new.side is c.in-Ok-ask_pages.ensures.told
 
 pub go_over_all-requires-clause-theirs : goal.go_over_all-requires-clause-theirs
 go_over_all-requires-clause-theirs g c =
-    let l = side g.L.Peer.states g.L.Peer.is_faithful g.L.Peer.can_give g.L.Peer.follows g.L.Peer.can_refuse g.L.Peer.can_answer g.L.Peer.most_keys g.L.Peer.number in
-    let p = side g.P.Peer.states g.P.Peer.is_faithful g.P.Peer.can_give g.P.Peer.follows g.P.Peer.can_refuse g.P.Peer.can_answer g.P.Peer.most_keys g.P.Peer.number in
+    let l = side_of g.L.Peer in
+    let p = side_of g.P.Peer in
     let is' = c.deref-2.ensures.value ∙ c.in-Ok.ensures.asked in
     let U = HasAnswered p.follows p.can_answer c.args.peer.now c.ask_pages-2.new.side in
     pages_good p U c.args.paths.now c.deref-2.result.now c.in-Ok-ask_pages-2.pages.items c.args.left.now.peer c.ask_pages-2.new.left c.args.peer.now c.ask_pages-2.new.side is' c.in-Ok-ask_pages-2.ensures.told
 
 pub returns : goal.returns
 returns g c =
-    let l = side g.L.Peer.states g.L.Peer.is_faithful g.L.Peer.can_give g.L.Peer.follows g.L.Peer.can_refuse g.L.Peer.can_answer g.L.Peer.most_keys g.L.Peer.number in
-    let p = side g.P.Peer.states g.P.Peer.is_faithful g.P.Peer.can_give g.P.Peer.follows g.P.Peer.can_refuse g.P.Peer.can_answer g.P.Peer.most_keys g.P.Peer.number in
+    let l = side_of g.L.Peer in
+    let p = side_of g.P.Peer in
     let is = c.deref.ensures.value ∙ c.in-Ok.ensures.asked in
     let T = HasAnswered l.follows l.can_answer c.args.local.now c.ask_pages.new.side in
     let is' = c.deref-2.ensures.value ∙ c.in-Ok.ensures.asked in

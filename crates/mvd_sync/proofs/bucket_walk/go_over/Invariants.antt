@@ -1,5 +1,5 @@
 use Rattle.std.proofs.Common.{◌≡◌, ◌<◌, length, ◌+◌, ◌*◌, ◌^◌, [], false}
-use Rattle.mvd_sync.specs.Sides.{side}
+use Rattle.mvd_sync.specs.PeerSides.{side_of}
 use Rattle.mvd_sync.proofs.Bucket.{OverBucket}
 use Rattle.mvd_sync.proofs.bucket_walk.go_over.Given as goal
 
@@ -9,10 +9,8 @@ decreases-loop-entry g l = 2 ^ 64 * l.left.local + length l.mine.0 + (2 ^ 64 * l
 -- how far the bucket is gone over; an entry is there, unless none is left
 abbrev pub invariant-loop-entry : goal.invariant-loop-entry
 invariant-loop-entry g l =
-    let L = g.L.Peer in
-    let P = g.P.Peer in
-    let local = side L.states L.is_faithful L.can_give L.follows L.can_refuse L.can_answer L.most_keys L.number in
-    let peer = side P.states P.is_faithful P.can_give P.follows P.can_refuse P.can_answer P.most_keys P.number in
+    let local = side_of g.L.Peer in
+    let peer = side_of g.P.Peer in
     record {
       over : OverBucket local peer l.path l.fn.mine l.fn.theirs l.mine l.theirs l.fn.left l.left l.fn.local l.local l.fn.peer l.peer l.fn.exchange l.exchange;
       mine : (l.mine.0 ≡ [] → l.mine.1 ≡ false) × (length l.mine.0 < 2 ^ 64);

@@ -4,7 +4,7 @@ use Rattle.std.proofs.lemmas.List.{take-append-drop, take_all}
 use Rattle.mvd_site.specs.Answer.{digests}
 use Rattle.mvd_site.specs.Held.{States}
 use Rattle.mvd_sync.specs.Buckets.{ArePages}
-use Rattle.mvd_sync.specs.Sides.{side}
+use Rattle.mvd_sync.specs.PeerSides.{side_of}
 use Rattle.mvd_sync.proofs.Descents.{Each-at, one_taken}
 use Rattle.mvd_sync.proofs.Fetching.{IsGoodPage, first_left, page_left, rest_left, some_left}
 use Rattle.mvd_sync.proofs.Through.{page_at, through_cut, through_none, through_on}
@@ -13,8 +13,8 @@ use Rattle.mvd_sync.proofs.bucket_walk.go_over_all.Goals as goal
 
 pub loop-path-init : goal.loop-path-init
 loop-path-init g c =
-    let l = side g.L.Peer.states g.L.Peer.is_faithful g.L.Peer.can_give g.L.Peer.follows g.L.Peer.can_refuse g.L.Peer.can_answer g.L.Peer.most_keys g.L.Peer.number in
-    let p = side g.P.Peer.states g.P.Peer.is_faithful g.P.Peer.can_give g.P.Peer.follows g.P.Peer.can_refuse g.P.Peer.can_answer g.P.Peer.most_keys g.P.Peer.number in
+    let l = side_of g.L.Peer in
+    let p = side_of g.P.Peer in
     record {
       over = through_none l p (λ a b. ArePages (digests a) c.args.paths.now c.args.mine.items × ArePages (digests b) c.args.paths.now c.args.theirs.items) g.met.L.Peer.follows_self g.met.P.Peer.follows_self c.args.left.now c.args.local.now c.args.peer.now c.args.exchange.now;
       mine = refl;
@@ -48,8 +48,8 @@ go_over-requires-clause-room g c =
 
 pub returns-in-Err : goal.returns-in-Err
 returns-in-Err g c =
-    let l = side g.L.Peer.states g.L.Peer.is_faithful g.L.Peer.can_give g.L.Peer.follows g.L.Peer.can_refuse g.L.Peer.can_answer g.L.Peer.most_keys g.L.Peer.number in
-    let p = side g.P.Peer.states g.P.Peer.is_faithful g.P.Peer.can_give g.P.Peer.follows g.P.Peer.can_refuse g.P.Peer.can_answer g.P.Peer.most_keys g.P.Peer.number in
+    let l = side_of g.L.Peer in
+    let p = side_of g.P.Peer in
     let at = c.loop-path.invariant in
     let i = c.loop-path.path-index in
     let paths = c.args.paths.now in
@@ -68,8 +68,8 @@ returns-in-Err g c =
 
 pub loop-path-preserved : goal.loop-path-preserved
 loop-path-preserved g c =
-    let l = side g.L.Peer.states g.L.Peer.is_faithful g.L.Peer.can_give g.L.Peer.follows g.L.Peer.can_refuse g.L.Peer.can_answer g.L.Peer.most_keys g.L.Peer.number in
-    let p = side g.P.Peer.states g.P.Peer.is_faithful g.P.Peer.can_give g.P.Peer.follows g.P.Peer.can_refuse g.P.Peer.can_answer g.P.Peer.most_keys g.P.Peer.number in
+    let l = side_of g.L.Peer in
+    let p = side_of g.P.Peer in
     let at = c.loop-path.invariant in
     let i = c.loop-path.path-index in
     let paths = c.args.paths.now in
@@ -90,8 +90,8 @@ loop-path-preserved g c =
 
 pub returns : goal.returns
 returns g c =
-    let l = side g.L.Peer.states g.L.Peer.is_faithful g.L.Peer.can_give g.L.Peer.follows g.L.Peer.can_refuse g.L.Peer.can_answer g.L.Peer.most_keys g.L.Peer.number in
-    let p = side g.P.Peer.states g.P.Peer.is_faithful g.P.Peer.can_give g.P.Peer.follows g.P.Peer.can_refuse g.P.Peer.can_answer g.P.Peer.most_keys g.P.Peer.number in
+    let l = side_of g.L.Peer in
+    let p = side_of g.P.Peer in
     let at = c.loop-path.invariant in
     let all : take c.loop-path.path-index c.args.paths.now ≡ c.args.paths.now = take_all c.loop-path.path-index c.args.paths.now c.loop-path-test.false in
     subst (λ qs. GoesThroughBy l p (λ a b. ArePages (digests a) c.args.paths.now c.args.mine.items × ArePages (digests b) c.args.paths.now c.args.theirs.items) qs 0 c.args.left.now c.loop-path.left c.args.local.now c.loop-path.local c.args.peer.now c.loop-path.peer c.args.exchange.now c.loop-path.exchange (Ok (tt {0}))) all at.over

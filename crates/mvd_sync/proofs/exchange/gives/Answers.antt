@@ -2,14 +2,15 @@ use Rattle.std.proofs.Common.{◌≡◌, ◌∙◌, subst}
 use Rattle.std.specs.Prelude.{IfOk}
 use Rattle.mvd_site.specs.Held.{state_at}
 use Rattle.mvd_sync.specs.Meetings.{held_keys}
-use Rattle.mvd_sync.specs.Questions.{AllAnswered, AnswersEach}
-use Rattle.mvd_sync.specs.Sides.{HasAnswered, side as side_of}
+use Rattle.mvd_sync.specs.Questions.{AllAnswered, AnswersEach, with_left}
+use Rattle.mvd_sync.specs.PeerSides.{side_of}
+use Rattle.mvd_sync.specs.Sides.{HasAnswered}
 use Rattle.mvd_sync.proofs.exchange.gives.Goals as goal
 
 pub returns-clause-told : goal.returns-clause-told
 returns-clause-told g c =
-    let s = side_of g.S.Peer.states g.S.Peer.is_faithful g.S.Peer.can_give g.S.Peer.follows g.S.Peer.can_refuse g.S.Peer.can_answer g.S.Peer.most_keys g.S.Peer.number in
+    let s = side_of g.S.Peer in
     let old = c.args.side.now in
     let new = c.ask_gets.new.side in
     let e : c.deref.result.now ≡ held_keys c.args.name c.args.entries.now = c.deref.ensures.value ∙ c.in-Ok.ensures.held in
-    subst (λ ks. IfOk c.ask_gets.result (λ states. AllAnswered s (λ key state. s.can_give key state × HasAnswered s.follows s.can_answer old new) (AnswersEach s (λ key state. state ≡ state_at (s.states old) key) ks states.items old new) ks states.items c.args.left.now c.ask_gets.new.left old new)) e c.ask_gets.ensures.told
+    subst (λ ks. IfOk c.ask_gets.result (λ states. AllAnswered s (λ key state. s.can_give key state × HasAnswered s.follows s.can_answer old new) (AnswersEach s (λ key state. state ≡ state_at (s.states old) key) ks states.items old new) ks states.items (with_left old c.args.left.now) (with_left new c.ask_gets.new.left))) e c.ask_gets.ensures.told

@@ -1,5 +1,5 @@
 use Rattle.std.proofs.Common.{◌≡◌, ℕ, List, ◌++◌, length}
-use Rattle.mvd_sync.specs.Sides.{side}
+use Rattle.mvd_sync.specs.PeerSides.{side_of}
 use Rattle.mvd_sync.proofs.Positions.{DescendsBy}
 use Rattle.mvd_sync.proofs.levels.descend.Given as goal
 
@@ -8,8 +8,6 @@ decreases-loop-rest g l = length l.rest
 
 abbrev pub invariant-loop-rest : goal.invariant-loop-rest
 invariant-loop-rest g l =
-    let L = g.L.Peer in
-    let P = g.P.Peer in
-    let local = side L.states L.is_faithful L.can_give L.follows L.can_refuse L.can_answer L.most_keys L.number in
-    let peer = side P.states P.is_faithful P.can_give P.follows P.can_refuse P.can_answer P.most_keys P.number in
+    let local = side_of g.L.Peer in
+    let peer = side_of g.P.Peer in
     (done : List (List ℕ)) × (l.paths ≡ done ++ l.rest) × DescendsBy local peer done l.fn.left l.left l.fn.local l.local l.fn.peer l.peer l.below.items

@@ -1,20 +1,20 @@
 use Rattle.std.proofs.Common.{◌≡◌, ◌∙◌, ℕ, List, ap, length, subst, sym}
 use Rattle.mvd_sync.specs.Session.{Each}
-use Rattle.mvd_sync.specs.Sides.{side as side_of}
+use Rattle.mvd_sync.specs.PeerSides.{side_of}
 use Rattle.mvd_sync.proofs.HeldFew.{held_few}
 use Rattle.mvd_sync.proofs.Sessions.{begins_with, over_at, session_all, session_buckets, session_exchanges, session_walks}
 use Rattle.mvd_sync.proofs.session.sync_within.Goals as goal
 
 pub returns-in-Err : goal.returns-in-Err
 returns-in-Err g c =
-    let l = side_of g.L.Peer.states g.L.Peer.is_faithful g.L.Peer.can_give g.L.Peer.follows g.L.Peer.can_refuse g.L.Peer.can_answer g.L.Peer.most_keys g.L.Peer.number in
-    let p = side_of g.P.Peer.states g.P.Peer.is_faithful g.P.Peer.can_give g.P.Peer.follows g.P.Peer.can_refuse g.P.Peer.can_answer g.P.Peer.most_keys g.P.Peer.number in
+    let l = side_of g.L.Peer in
+    let p = side_of g.P.Peer in
     record { session = session_walks l p c.args.questions c.args.local.now c.differing_buckets.new.local c.args.peer.now c.differing_buckets.new.peer c.in-Err.fault c.in-Err.ensures.ended }
 
 pub returns-in-Err-exchange_buckets : goal.returns-in-Err-exchange_buckets
 returns-in-Err-exchange_buckets g c =
-    let l = side_of g.L.Peer.states g.L.Peer.is_faithful g.L.Peer.can_give g.L.Peer.follows g.L.Peer.can_refuse g.L.Peer.can_answer g.L.Peer.most_keys g.L.Peer.number in
-    let p = side_of g.P.Peer.states g.P.Peer.is_faithful g.P.Peer.can_give g.P.Peer.follows g.P.Peer.can_refuse g.P.Peer.can_answer g.P.Peer.most_keys g.P.Peer.number in
+    let l = side_of g.L.Peer in
+    let p = side_of g.P.Peer in
     let start = c.new-exchanging.ensures ∙ ap begins_with c.number-number.ensures in
     record {
       session = session_buckets l p g.met.L.Peer.follows_on g.met.P.Peer.follows_on g.met.L.Peer.most_stays g.met.P.Peer.most_stays g.met.L.Peer.in_form g.met.P.Peer.in_form held_few c.args.questions
@@ -24,8 +24,8 @@ returns-in-Err-exchange_buckets g c =
 
 pub returns : goal.returns
 returns g c =
-    let l = side_of g.L.Peer.states g.L.Peer.is_faithful g.L.Peer.can_give g.L.Peer.follows g.L.Peer.can_refuse g.L.Peer.can_answer g.L.Peer.most_keys g.L.Peer.number in
-    let p = side_of g.P.Peer.states g.P.Peer.is_faithful g.P.Peer.can_give g.P.Peer.follows g.P.Peer.can_refuse g.P.Peer.can_answer g.P.Peer.most_keys g.P.Peer.number in
+    let l = side_of g.L.Peer in
+    let p = side_of g.P.Peer in
     let start = c.new-exchanging.ensures ∙ ap begins_with c.number-number.ensures in
     record {
       session = session_exchanges l p g.met.L.Peer.follows_on g.met.P.Peer.follows_on g.met.L.Peer.most_stays g.met.P.Peer.most_stays g.met.L.Peer.in_form g.met.P.Peer.in_form held_few c.args.questions
@@ -36,8 +36,8 @@ returns g c =
 
 pub returns-in-Ok-exchange : goal.returns-in-Ok-exchange
 returns-in-Ok-exchange g c =
-    let l = side_of g.L.Peer.states g.L.Peer.is_faithful g.L.Peer.can_give g.L.Peer.follows g.L.Peer.can_refuse g.L.Peer.can_answer g.L.Peer.most_keys g.L.Peer.number in
-    let p = side_of g.P.Peer.states g.P.Peer.is_faithful g.P.Peer.can_give g.P.Peer.follows g.P.Peer.can_refuse g.P.Peer.can_answer g.P.Peer.most_keys g.P.Peer.number in
+    let l = side_of g.L.Peer in
+    let p = side_of g.P.Peer in
     let start = c.new-exchanging.ensures ∙ ap begins_with c.number-number.ensures in
     record {
       session = session_all l p g.met.L.Peer.follows_on g.met.P.Peer.follows_on g.met.L.Peer.most_stays g.met.P.Peer.most_stays g.met.L.Peer.in_form g.met.P.Peer.in_form held_few c.args.questions

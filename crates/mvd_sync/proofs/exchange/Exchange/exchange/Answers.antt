@@ -1,14 +1,14 @@
 use Rattle.std.proofs.Common.{◌∙◌, ap, subst, map}
 use Rattle.mvd_sync.specs.Exchanges.{Adds, Exchanging}
 use Rattle.mvd_sync.specs.Meetings.{done_of}
-use Rattle.mvd_sync.specs.Sides.{side as side_of}
+use Rattle.mvd_sync.specs.PeerSides.{side_of}
 use Rattle.mvd_sync.proofs.Exchanging.{exchanges_all, exchanges_end, exchanges_memory, none_waits, window_at}
 use Rattle.mvd_sync.proofs.exchange.Exchange.exchange.Goals as goal
 
 pub returns-in-Err-clause-exchanges : goal.returns-in-Err-clause-exchanges
 returns-in-Err-clause-exchanges g c =
-    let l = side_of g.L.Peer.states g.L.Peer.is_faithful g.L.Peer.can_give g.L.Peer.follows g.L.Peer.can_refuse g.L.Peer.can_answer g.L.Peer.most_keys g.L.Peer.number in
-    let p = side_of g.P.Peer.states g.P.Peer.is_faithful g.P.Peer.can_give g.P.Peer.follows g.P.Peer.can_refuse g.P.Peer.can_answer g.P.Peer.most_keys g.P.Peer.number in
+    let l = side_of g.L.Peer in
+    let p = side_of g.P.Peer in
     let entries = ap (λ v. v.items) c.replace-entries.ensures.value ∙ ap (λ (v : Exchanging). v.waiting) c.self.view_is in
     let number = ap (λ (v : Exchanging). v.number) c.self.view_is in
     exchanges_end l p c.args.self.now.waiting c.args.left.now c.exchange_all.new.left c.args.local.now c.exchange_all.new.local c.args.peer.now c.exchange_all.new.peer c.args.self.now _ c.in-Err.fault number
@@ -16,8 +16,8 @@ returns-in-Err-clause-exchanges g c =
 
 pub returns-in-Ok-tell-clause-exchanges : goal.returns-in-Ok-tell-clause-exchanges
 returns-in-Ok-tell-clause-exchanges g c =
-    let l = side_of g.L.Peer.states g.L.Peer.is_faithful g.L.Peer.can_give g.L.Peer.follows g.L.Peer.can_refuse g.L.Peer.can_answer g.L.Peer.most_keys g.L.Peer.number in
-    let p = side_of g.P.Peer.states g.P.Peer.is_faithful g.P.Peer.can_give g.P.Peer.follows g.P.Peer.can_refuse g.P.Peer.can_answer g.P.Peer.most_keys g.P.Peer.number in
+    let l = side_of g.L.Peer in
+    let p = side_of g.P.Peer in
     let entries = ap (λ v. v.items) c.replace-entries.ensures.value ∙ ap (λ (v : Exchanging). v.waiting) c.self.view_is in
     let number = ap (λ (v : Exchanging). v.number) c.self.view_is in
     let none = ap (λ v. v.items) c.replace-entries.ensures.after ∙ c.new.ensures.items in
@@ -27,8 +27,8 @@ returns-in-Ok-tell-clause-exchanges g c =
 
 pub returns-in-Err-tell-clause-exchanges : goal.returns-in-Err-tell-clause-exchanges
 returns-in-Err-tell-clause-exchanges g c =
-    let l = side_of g.L.Peer.states g.L.Peer.is_faithful g.L.Peer.can_give g.L.Peer.follows g.L.Peer.can_refuse g.L.Peer.can_answer g.L.Peer.most_keys g.L.Peer.number in
-    let p = side_of g.P.Peer.states g.P.Peer.is_faithful g.P.Peer.can_give g.P.Peer.follows g.P.Peer.can_refuse g.P.Peer.can_answer g.P.Peer.most_keys g.P.Peer.number in
+    let l = side_of g.L.Peer in
+    let p = side_of g.P.Peer in
     let entries = ap (λ v. v.items) c.replace-entries.ensures.value ∙ ap (λ (v : Exchanging). v.waiting) c.self.view_is in
     let number = ap (λ (v : Exchanging). v.number) c.self.view_is in
     exchanges_memory l p c.args.self.now.waiting c.args.left.now c.exchange_all.new.left c.args.local.now c.exchange_all.new.local c.args.peer.now c.exchange_all.new.peer c.args.self.now c.tell.new.self c.in-Ok.meetings

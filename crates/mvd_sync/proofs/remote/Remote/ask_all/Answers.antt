@@ -1,14 +1,14 @@
 use Rattle.std.proofs.Common.{ℕ, subst}
 use Rattle.mvd_sync.specs.LinkWindows.{Answered}
-use Rattle.mvd_sync.specs.Links.{link}
+use Rattle.mvd_sync.specs.Remotes.{link_of}
 use Rattle.mvd_sync.proofs.Lined.{window_answered}
 use Rattle.mvd_sync.proofs.Turns.{all_answered}
 use Rattle.mvd_sync.proofs.remote.Remote.ask_all.Goals as goal
 
 pub returns-clause-asked : goal.returns-clause-asked
 returns-clause-asked g c =
-    let old = link g.L.Line.remaining g.L.Line.contents c.args.self.now in
-    let new = link g.L.Line.remaining g.L.Line.contents c.send_all.new.self in
+    let old = link_of g.L.Line c.args.self.now in
+    let new = link_of g.L.Line c.send_all.new.self in
     all_answered g.A.Answer.as_reply (λ v. v.items) g.A.Answer.of_kind c.args.window.now c.in_ok-replies.replies.items old new c.answers.result
     (subst (λ (kind : ℕ). Answered kind c.args.window.now c.in_ok-replies.replies.items old new) c.kind.ensures c.in_ok-replies.ensures.sent) c.answers.ensures.told c.answers.ensures.ended
 

@@ -2,7 +2,7 @@ use Rattle.mvd_wire.specs.declared.request.Request.TheVariants.{Bucket}
 use Rattle.mvd_wire.specs.Requests.{request_frame}
 use Rattle.mvd_sync.proofs.Lined.{spelled_more}
 use Rattle.mvd_sync.proofs.Turns.{frames_more}
-use Rattle.mvd_sync.proofs.remote.Remote.pages.Goals as goal
+use Rattle.mvd_sync.proofs.remote.far_side.RemotePeer.pages.Goals as goal
 
 pub loop-path-preserved : goal.loop-path-preserved
 loop-path-preserved g c = record {

@@ -2,7 +2,7 @@ use Rattle.mvd_wire.specs.declared.request.Request.TheVariants.{Node}
 use Rattle.mvd_wire.specs.Requests.{request_frame}
 use Rattle.mvd_sync.proofs.Lined.{spelled_more}
 use Rattle.mvd_sync.proofs.Turns.{frames_more}
-use Rattle.mvd_sync.proofs.remote.Remote.nodes.Goals as goal
+use Rattle.mvd_sync.proofs.remote.far_side.RemotePeer.nodes.Goals as goal
 
 pub loop-path-preserved : goal.loop-path-preserved
 loop-path-preserved g c = record {

@@ -2,7 +2,7 @@ use Rattle.mvd_wire.specs.declared.request.Request.TheVariants.{Push}
 use Rattle.mvd_wire.specs.Requests.{request_frame}
 use Rattle.mvd_sync.proofs.Lined.{spelled_more}
 use Rattle.mvd_sync.proofs.Turns.{frames_more}
-use Rattle.mvd_sync.proofs.remote.Remote.push_all.Goals as goal
+use Rattle.mvd_sync.proofs.remote.far_side.RemotePeer.push_all.Goals as goal
 
 pub loop-key-preserved : goal.loop-key-preserved
 loop-key-preserved g c = record {

@@ -2,7 +2,7 @@ use Rattle.std.proofs.Common.{◌≡◌, map, take}
 use Rattle.mvd_wire.specs.declared.request.Request.TheVariants.{Push}
 use Rattle.mvd_sync.specs.LinkWindows.{frames_of}
 use Rattle.mvd_sync.specs.Lines.{AreSpelled}
-use Rattle.mvd_sync.proofs.remote.Remote.push_all.Given as goal
+use Rattle.mvd_sync.proofs.remote.far_side.RemotePeer.push_all.Given as goal
 
 -- the frames of the first requests
 abbrev pub invariant-loop-key : goal.invariant-loop-key

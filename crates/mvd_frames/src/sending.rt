@@ -18,7 +18,10 @@ use crate::spelled_lists::{write_optional, write_page};
 use mvd_docs::{Document, Field, Term, ViewName};
 use mvd_dots::{Context, Dot, Refusal};
 use mvd_keys::{Key, KeyState, Path, Place};
-use mvd_wire::{FRAME_LIMIT, PAGE_LIMIT, STATE_LIMIT, Digests, Reply, Request, RowValue, state_length, write_context, write_document, write_key, write_state};
+use mvd_wire::{
+    Digests, FRAME_LIMIT, PAGE_LIMIT, Reply, Request, RowValue, STATE_LIMIT, state_length,
+    write_context, write_document, write_key, write_state,
+};
 use std::alloc::{AllocError, Global};
 
 /// The head of a frame: a place for its length, and the kind byte.

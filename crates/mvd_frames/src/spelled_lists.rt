@@ -7,7 +7,7 @@ ghost use Rattle.mvd_wire.specs.Rows.{flag, item_count, item_of, items, page, pa
 
 use crate::spelled::Spelled;
 use mvd_dots::Refusal;
-use mvd_wire::{PAGE_LIMIT, Items, byte_at, u16_at, write_len16};
+use mvd_wire::{Items, PAGE_LIMIT, byte_at, u16_at, write_len16};
 use std::alloc::{AllocError, Global};
 
 /// 00, or 01 and a value.

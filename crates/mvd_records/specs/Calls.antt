@@ -31,13 +31,15 @@ OfHeld old new P = (was : Contents) → IsSound new → Holds old.committed was 
 abbrev pub SameCommit : State → State → Type 0
 SameCommit old new = new.committed ≡ old.committed
 
--- the trees are those of a database in which what was held is changed so, and which lists its schema and obeys it
+-- the store was open, and the trees are those of a database in which what was held is changed so, and which lists its
+-- schema and obeys it
 abbrev pub LeavesChange : (Contents → Contents → Type 0) → State → Trees → Type 0
-LeavesChange Change s trees = (was : Contents) → IsTrue s.is_open → Holds s.committed was →
-    (now : Contents) × Change was now × (db : Database) × IsDatabase db × Holds db now × (trees ≡ db.trees)
+LeavesChange Change s trees = IsTrue s.is_open × ((was : Contents) → Holds s.committed was →
+    (now : Contents) × Change was now × (db : Database) × IsDatabase db × Holds db now × (trees ≡ db.trees))
 
 -- A change of what is held: Ok makes it. A crash leaves what it could leave before the call, or the change, all of it;
--- also after an error, since the store may fail once the change is on its disk
+-- also after an error, since the store may fail once the change is on its disk. Of a store that was shut it leaves
+-- nothing new
 pub record Commits {A : Type 0} (Change : Contents → Contents → Type 0) (old : State) (result : Result A Refusal)
     (new : State) : Type 0 where
   pub before : IsSound new → IsSound old

@@ -8,12 +8,12 @@ use Rattle.sqlite.specs.Tree.{Trees}
 use Rattle.sqlite.specs.State.{HasCleanDisk, IsUnchanged, KeepsCommit, State, Survives}
 use Rattle.sqlite.proofs.StateLemmas.{survives_then, survives_weaker}
 use Rattle.mvd_dots.specs.declared.refusals.Refusal.{Refusal}
-use Rattle.mvd_dots.specs.declared.refusals.Refusal.TheVariants.{Damaged, Memory, Store}
+use Rattle.mvd_dots.specs.declared.refusals.Refusal.TheVariants.{Damaged, Memory, SiteMismatch, Store}
 use Rattle.mvd_records.specs.declared.loading.StateTable.{StateTable}
 use Rattle.mvd_records.specs.declared.loading.StateTable.TheVariants.{Version1, Version2}
 use Rattle.mvd_records.specs.States.{States}
 use Rattle.mvd_records.specs.Pairs.{Pair, entries_of, rises}
-use Rattle.mvd_records.specs.Records.{EndsMove, HasNone, HoldsRecords, IsSound, IsWhole, Leaves, MovesState, OnlyReads, SavesState, SavesStates, new_states, old_states, states_at, with_pairs}
+use Rattle.mvd_records.specs.Records.{EndsMove, HasNone, HoldsRecords, IsOurs, IsSound, IsWhole, Leaves, LeavesMade, LeavesOpened, LeavesRefused, LeavesUnmade, MovesState, OnlyReads, OpensRecords, SavesState, SavesStates, new_states, old_states, states_at, with_pairs}
 use Rattle.mvd_records.specs.Contents.{Contents, EndsMoves, Holds, MovesKey, SetsStates, map_of}
 use Rattle.mvd_records.specs.Calls.{Commits, LeavesChange, Loads}
 use Rattle.mvd_records.proofs.Calls.{same_commit, sound_before}
@@ -97,6 +97,33 @@ commits P C old mid new (Err e) follows found before done survives = record {
   done = λ _ _ _. tt;
   survives = survives_found P C old mid new follows found survives;
 }
+
+-- ---- an opening of one
+
+made_as : (site : ℕ) (old mid : State) (trees : Trees) → IsUnchanged old mid → LeavesMade mid site trees → LeavesMade old site trees
+made_as site old mid trees same leaves _ ours =
+    let is = same.0.committed_is in
+    let it = leaves same.0.is_open (subst IsOurs (sym is) ours) in
+    (it.0, it.1, it.2, subst (λ (d : Database). OpensRecords it.1 site d it.0) is it.3, it.4)
+
+unmade_as : (e : Refusal) (site : ℕ) (old mid : State) (trees : Trees) → IsUnchanged old mid → LeavesUnmade e mid site trees → LeavesUnmade e old site trees
+unmade_as SiteMismatch site old mid trees same leaves = leaves
+unmade_as Store site old mid trees same leaves = made_as site old mid trees same leaves
+unmade_as _ site old mid trees same leaves = leaves
+
+module _ (site : ℕ) (old mid new : State) (found : IsFound old mid) where
+  pub made_found : Survives mid new (LeavesMade mid site) → Survives old new (LeavesOpened old site)
+  made_found it = survives_then _ _ _ _ _ _ (λ _ _ none. absurd none) (λ clean trees leaves. (
+      let same = found.same (omega (arith, it.clean, clean)) in
+      (same.0.was_open, made_as site old mid trees same leaves))) found.nothing it
+
+pub unmade_found : (e : Refusal) (site : ℕ) (old mid new : State) → IsFound old mid → Survives mid new (LeavesUnmade e mid site) → Survives old new (LeavesRefused e old site)
+unmade_found e site old mid new found it = survives_then _ _ _ _ _ _ (λ _ _ none. absurd none) (λ clean trees leaves. (
+    let same = found.same (omega (arith, it.clean, clean)) in
+    (same.0.was_open, unmade_as e site old mid trees same leaves))) found.nothing it
+
+pub none_made : (e : Refusal) (old new : State) (site : ℕ) → Survives old new (λ _. ⊥) → Survives old new (LeavesRefused e old site)
+none_made e old new site nothing = survives_weaker _ _ _ _ (λ _ _ none. absurd none) nothing
 
 -- ---- a call on a store that was found shut
 

@@ -1,6 +1,6 @@
 -- What each call of the records does: one relation for a call, over what it was called on and with, what it returned,
 -- and what it left.
-use Rattle.std.specs.Prelude.{◌≡◌, ◌⊎◌, ℕ, List, [], ◌∷◌, Vec, Result, Ok, Err, IsTrue, OnOk, OnErr, IfOk, IfErr}
+use Rattle.std.specs.Prelude.{◌≡◌, ◌⊎◌, false, ℕ, List, [], ◌∷◌, Vec, Result, Ok, Err, IsTrue, OnOk, OnErr, IfOk, IfErr}
 use Rattle.std.specs.Prelude.{IfSome, MatchResult, Option}
 use Rattle.std.specs.FinMap.{entries, is_sorted}
 use Rattle.std.specs.declared.alloc.Global.{Global}
@@ -109,6 +109,8 @@ pub record IsOpened (store : State) (site : ℕ) (records : Seen) : Type 0 where
   pub before : IsSound records.store → IsSound store
   pub opened : IsSound records.store → IsOurs store.committed →
       OpensRecords records.version site store.committed records.store.committed
+  -- no transaction is under way
+  pub autocommit : records.store.in_transaction ≡ false
   pub survives : Survives store records.store (LeavesOpened store site)
   -- another program's database is never made one of ours
   pub own : ¬ HoldsForeign store

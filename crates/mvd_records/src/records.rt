@@ -50,6 +50,9 @@ impl<S: Alter> Records<S> {
         if foreign::is_foreign(&conn) {
             return Err((Refusal::Damaged, conn));
         }
+        if !statements::is_open(&mut conn) {
+            return Err((Refusal::Store, conn));
+        }
         match open::open(&mut conn, site) {
             Ok(version) => Ok(Records {
                 alloc,

@@ -12,6 +12,7 @@ use Rattle.mvd_site.specs.Sites.{SiteValue}
 use Rattle.mvd_site.proofs.Outcomes.{memory_or_not}
 use Rattle.mvd_site.proofs.Pushes.{refusal_is}
 use Rattle.mvd_site.proofs.Steps.{Stands-nothing}
+use Rattle.mvd_replica.specs.Whole.{leaves_self}
 use Rattle.mvd_replica.specs.Turns.{Event, IsToldElse, MayTell, RepliesOne, Turn}
 use Rattle.mvd_replica.proofs.Positions.{TakesTurns, TurnsFollow}
 use Rattle.mvd_replica.proofs.Batched.{TakesTurns-none, TurnsFollow-append}
@@ -73,7 +74,7 @@ still_one site asked refusal exact = record {
 still_follows : (turn : Turn) (site : SiteValue) (s : State) → TurnsFollow (turn ∷ []) site site s s
 still_follows turn site s =
     let none : TurnsFollow [] site site s s = (TakesTurns-none site s).follows in
-    record { site = none.site; sound = none.sound; holds = none.holds; stays = none.stays; stored = λ _ _ whole broken. absurd (true≢false (sym broken ∙ whole)); clean = none.clean; shut = none.shut }
+    record { site = none.site; sound = none.sound; holds = none.holds; stays = none.stays; stored = λ _ _ whole broken. absurd (true≢false (sym broken ∙ whole)); clean = none.clean; shut = none.shut; leaves = leaves_self _ _ tt }
 
 still_turn : (site : SiteValue) (s : State) (asked : Result Request Refusal) (refusal : Refusal) → (refusal ≢ Memory → asked ≡ Err refusal) → Serves (record { asked = asked; reply = Refused refusal } ∷ []) site site s s
 still_turn site s asked refusal exact =

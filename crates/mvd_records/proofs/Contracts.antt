@@ -1,21 +1,22 @@
 -- The relation of each call, from what its clauses on databases say.
-use Rattle.std.proofs.Common.{◌≡◌, ◌⊎◌, ℕ, List, [], ◌∷◌, Vec, Some, Result, Ok, Err, IfOk, IfErr, OnOk, refl, ap, subst, subst₂, ◌∙◌}
+use Rattle.std.proofs.Common.{◌≡◌, ◌⊎◌, inr, ℕ, List, [], ◌∷◌, Vec, Some, Result, Ok, Err, IfOk, IfErr, OnErr, OnOk, arith, refl, sym, ap, subst, subst₂, ◌∙◌}
 use Rattle.std.specs.Prelude.{IsTrue}
 use Rattle.std.specs.FinMap.{entries, get, insert, remove}
 use Rattle.std.specs.declared.alloc.Global.{Global}
 use Rattle.sqlite.specs.Effect.{Database}
 use Rattle.sqlite.specs.Tree.{Trees}
-use Rattle.sqlite.specs.State.{HasCleanDisk, State, Survives}
-use Rattle.sqlite.proofs.StateLemmas.{survives_weaker}
+use Rattle.sqlite.specs.State.{HasCleanDisk, IsUnchanged, KeepsCommit, State, Survives}
+use Rattle.sqlite.proofs.StateLemmas.{survives_then, survives_weaker}
 use Rattle.mvd_dots.specs.declared.refusals.Refusal.{Refusal}
-use Rattle.mvd_dots.specs.declared.refusals.Refusal.TheVariants.{Damaged, Memory, Store}
+use Rattle.mvd_dots.specs.declared.refusals.Refusal.TheVariants.{Damaged, Memory, SiteMismatch, Store}
 use Rattle.mvd_records.specs.declared.loading.StateTable.{StateTable}
 use Rattle.mvd_records.specs.declared.loading.StateTable.TheVariants.{Version1, Version2}
 use Rattle.mvd_records.specs.States.{States}
 use Rattle.mvd_records.specs.Pairs.{Pair, entries_of, rises}
-use Rattle.mvd_records.specs.Records.{EndsMove, HasNone, HoldsRecords, IsSound, IsWhole, Leaves, MovesState, OnlyReads, SavesState, SavesStates, new_states, old_states, states_at, with_pairs}
+use Rattle.mvd_records.specs.Records.{EndsMove, HasNone, HoldsRecords, IsOurs, IsSound, IsWhole, Leaves, LeavesMade, LeavesOpened, LeavesRefused, LeavesUnmade, MovesState, OnlyReads, OpensRecords, SavesState, SavesStates, new_states, old_states, states_at, with_pairs}
 use Rattle.mvd_records.specs.Contents.{Contents, EndsMoves, Holds, MovesKey, SetsStates, map_of}
 use Rattle.mvd_records.specs.Calls.{Commits, LeavesChange, Loads}
+use Rattle.mvd_records.proofs.Calls.{same_commit, sound_before}
 use Rattle.mvd_records.proofs.Checked.{if_ok}
 use Rattle.mvd_records.proofs.PairLemmas.{pairs_sorted}
 
@@ -28,24 +29,110 @@ abbrev pub Follows : Change → (Contents → Contents → Type 0) → Type 0
 Follows P C =
     (was : Contents) (a b : Database) → Holds a was → P was.version was.site a b → (now : Contents) × C was now × Holds b now
 
-pub left : (P : Change) (C : Contents → Contents → Type 0) (s : State) (trees : Trees) → Follows P C → Leaves s (λ version site db. P version site s.committed db) trees → LeavesChange C s trees
-left P C s trees follows leaves was is_open holds =
+-- ---- a call on a store that was found open
+
+-- an open store is as it was, and nothing is committed yet
+pub record IsFound (old mid : State) : Type 0 where
+  pub same : HasCleanDisk mid → IsUnchanged old mid
+  pub nothing : Survives old mid (λ _. ⊥)
+
+module _ (old mid new : State) (found : IsFound old mid) where
+  pub before_found : (IsSound new → IsSound mid) → IsSound new → IsSound old
+  before_found before sound =
+      let it = before sound in
+      record { clean = omega (arith, found.nothing.clean, it.clean); is_open = (found.same it.clean).0.was_open }
+
+  pub commit_found : (IsSound new → IsSound mid) → IsSound new → mid.committed ≡ old.committed
+  commit_found before sound = (found.same (before sound).clean).0.committed_is
+
+  -- what was held was held then
+  pub held_found : (IsSound new → IsSound mid) → (was : Contents) → IsSound new → Holds old.committed was → Holds mid.committed was
+  held_found before was sound holds = subst (λ (d : Database). Holds d was) (sym (commit_found before sound)) holds
+
+  pub same_found : {A : Type 0} (result : Result A Refusal) → (IsSound new → IsSound mid) →
+      (IsSound new → OnErr result (new.committed ≡ mid.committed)) → IsSound new → OnErr result (new.committed ≡ old.committed)
+  same_found result before same sound =
+      subst (λ (d : Database). OnErr result (new.committed ≡ d)) (commit_found before sound) (same sound)
+
+pub left : (P : Change) (C : Contents → Contents → Type 0) (s : State) (trees : Trees) → Follows P C → IsTrue s.is_open →
+    Leaves s (λ version site db. P version site s.committed db) trees → LeavesChange C s trees
+left P C s trees follows is_open leaves = (
+  is_open,
+  λ was holds. (
     let it = leaves was.version was.site is_open holds.records in
     let now = follows was s.committed it.0 holds it.2 in
-    (now.0, now.1, it.0, it.1, now.2, it.3)
+    (now.0, now.1, it.0, it.1, now.2, it.3)),
+)
 
-pub commits : {A : Type 0} (P : Change) (C : Contents → Contents → Type 0) (old new : State) (result : Result A Refusal) → Follows P C → (IsSound new → IsSound old)
-    → ((version site : ℕ) → IsSound new → HoldsRecords version site old.committed → OnOk result (P version site old.committed new.committed))
-    → Survives old new (Leaves old (λ version site db. P version site old.committed db)) → Commits C old result new
-commits P C old new (Ok x) follows before done survives = record {
-  before = before;
-  done = λ was sound holds. follows was old.committed new.committed holds (done was.version was.site sound holds.records);
-  survives = survives_weaker _ _ _ _ (λ _ trees leaves. left P C old trees follows leaves) survives;
+-- what a crash leaves of a store that was found open is left of it as it was before
+leaves_as : (P : Change) (old mid : State) (trees : Trees) → IsUnchanged old mid →
+    Leaves mid (λ version site db. P version site mid.committed db) trees → Leaves old (λ version site db. P version site old.committed db) trees
+leaves_as P old mid trees same leaves version site _ holds =
+    let is = same.0.committed_is in
+    let it = leaves version site same.0.is_open (subst (HoldsRecords version site) (sym is) holds) in
+    (it.0, it.1, subst (λ (d : Database). P version site d it.0) is it.2, it.3)
+
+pub survives_found : (P : Change) (C : Contents → Contents → Type 0) (old mid new : State) → Follows P C → IsFound old mid →
+    Survives mid new (Leaves mid (λ version site db. P version site mid.committed db)) → Survives old new (LeavesChange C old)
+survives_found P C old mid new follows found it =
+    survives_then _ _ _ _ _ _ (λ _ _ none. absurd none) (λ clean trees leaves. (
+      let early : HasCleanDisk mid = omega (arith, it.clean, clean) in
+      let same = found.same early in
+      left P C old trees follows same.0.was_open (leaves_as P old mid trees same leaves))) found.nothing it
+
+pub commits : {A : Type 0} (P : Change) (C : Contents → Contents → Type 0) (old mid new : State) (result : Result A Refusal) →
+    Follows P C → IsFound old mid → (IsSound new → IsSound mid)
+    → ((version site : ℕ) → IsSound new → HoldsRecords version site mid.committed → OnOk result (P version site mid.committed new.committed))
+    → Survives mid new (Leaves mid (λ version site db. P version site mid.committed db)) → Commits C old result new
+commits P C old mid new (Ok x) follows found before done survives = record {
+  before = before_found old mid new found before;
+  done = λ was sound holds. (
+    let is = commit_found old mid new found before sound in
+    let it = done was.version was.site sound (subst (HoldsRecords was.version was.site) (sym is) holds.records) in
+    follows was old.committed new.committed holds (subst (λ (d : Database). P was.version was.site d new.committed) is it));
+  survives = survives_found P C old mid new follows found survives;
 }
-commits P C old new (Err e) follows before done survives = record {
-  before = before;
+commits P C old mid new (Err e) follows found before done survives = record {
+  before = before_found old mid new found before;
   done = λ _ _ _. tt;
-  survives = survives_weaker _ _ _ _ (λ _ trees leaves. left P C old trees follows leaves) survives;
+  survives = survives_found P C old mid new follows found survives;
+}
+
+-- ---- an opening of one
+
+made_as : (site : ℕ) (old mid : State) (trees : Trees) → IsUnchanged old mid → LeavesMade mid site trees → LeavesMade old site trees
+made_as site old mid trees same leaves _ ours =
+    let is = same.0.committed_is in
+    let it = leaves same.0.is_open (subst IsOurs (sym is) ours) in
+    (it.0, it.1, it.2, subst (λ (d : Database). OpensRecords it.1 site d it.0) is it.3, it.4)
+
+unmade_as : (e : Refusal) (site : ℕ) (old mid : State) (trees : Trees) → IsUnchanged old mid → LeavesUnmade e mid site trees → LeavesUnmade e old site trees
+unmade_as SiteMismatch site old mid trees same leaves = leaves
+unmade_as Store site old mid trees same leaves = made_as site old mid trees same leaves
+unmade_as _ site old mid trees same leaves = leaves
+
+module _ (site : ℕ) (old mid new : State) (found : IsFound old mid) where
+  pub made_found : Survives mid new (LeavesMade mid site) → Survives old new (LeavesOpened old site)
+  made_found it = survives_then _ _ _ _ _ _ (λ _ _ none. absurd none) (λ clean trees leaves. (
+      let same = found.same (omega (arith, it.clean, clean)) in
+      (same.0.was_open, made_as site old mid trees same leaves))) found.nothing it
+
+pub unmade_found : (e : Refusal) (site : ℕ) (old mid new : State) → IsFound old mid → Survives mid new (LeavesUnmade e mid site) → Survives old new (LeavesRefused e old site)
+unmade_found e site old mid new found it = survives_then _ _ _ _ _ _ (λ _ _ none. absurd none) (λ clean trees leaves. (
+    let same = found.same (omega (arith, it.clean, clean)) in
+    (same.0.was_open, unmade_as e site old mid trees same leaves))) found.nothing it
+
+pub none_made : (e : Refusal) (old new : State) (site : ℕ) → Survives old new (λ _. ⊥) → Survives old new (LeavesRefused e old site)
+none_made e old new site nothing = survives_weaker _ _ _ _ (λ _ _ none. absurd none) nothing
+
+-- ---- a call on a store that was found shut
+
+pub commits_none : {A : Type 0} (C : Contents → Contents → Type 0) (old new : State) (e : Refusal) → (HasCleanDisk new → KeepsCommit old new) →
+    Survives old new (λ _. ⊥) → Commits {A = A} C old (Err e) new
+commits_none C old new e kept nothing = record {
+  before = sound_before old new nothing.clean kept;
+  done = λ _ _ _. tt;
+  survives = survives_weaker _ _ _ _ (λ _ _ none. absurd none) nothing;
 }
 
 pub on_ok_and : {A E : Type 0} (result : Result A E) (P Q : Type 0) → P → OnOk result Q → OnOk result (P × Q)
@@ -107,24 +194,42 @@ at_table Version2 db it holds = holds.new_is
 of_maps : (table : StateTable) (P : States → States → States → Type 0) (db : Database) (it : Contents) → Holds db it → P (states_at table db) (old_states db) (new_states db) → P (map_of table it) it.old_map it.new_map
 of_maps table P db it holds p = subst (λ (m : States). P m it.old_map it.new_map) (at_table table db it holds) (subst₂ (λ (o n : States). P (states_at table db) o n) holds.old_is holds.new_is p)
 
-pub loads : (table : StateTable) (version : ℕ) (old new : State) (result : Result (Vec Pair Global) Refusal) → OnlyReads old new
-    → ((marked site : ℕ) → IsSound new → HoldsRecords marked site old.committed → IfOk result (λ pairs. entries_of pairs.items ≡ entries (states_at table old.committed)))
+pub loads : (table : StateTable) (version : ℕ) (old mid new : State) (result : Result (Vec Pair Global) Refusal) → IsFound old mid → OnlyReads mid new
+    → ((marked site : ℕ) → IsSound new → HoldsRecords marked site mid.committed → IfOk result (λ pairs. entries_of pairs.items ≡ entries (states_at table mid.committed)))
     → IfOk result (λ pairs. rises (entries_of pairs.items))
-    → ((marked site : ℕ) → IsSound new → HoldsRecords marked site old.committed → OnOk result (IsWhole version (states_at table old.committed) (old_states old.committed) (new_states old.committed)))
-    → ((marked site : ℕ) → IsSound new → HoldsRecords marked site old.committed → IfErr result (λ e. e ≡ Damaged → ¬ IsWhole version (states_at table old.committed) (old_states old.committed) (new_states old.committed)))
+    → ((marked site : ℕ) → IsSound new → HoldsRecords marked site mid.committed → OnOk result (IsWhole version (states_at table mid.committed) (old_states mid.committed) (new_states mid.committed)))
+    → ((marked site : ℕ) → IsSound new → HoldsRecords marked site mid.committed → IfErr result (λ e. e ≡ Damaged → ¬ IsWhole version (states_at table mid.committed) (old_states mid.committed) (new_states mid.committed)))
     → IfErr result (λ e. (e ≡ Damaged) ⊎ ((e ≡ Memory) ⊎ (e ≡ Store)))
     → (HasCleanDisk new → OnOk result (IsTrue new.is_open))
     → Loads table (record { version = version; store = old }) result (record { version = version; store = new })
-loads table version old new result reads loaded rising whole damaged refusal stays = record {
-  before = reads.before;
-  loaded = λ was sound holds. of_maps table (λ m _ _. IfOk result (λ pairs. entries_of pairs.items ≡ entries m)) old.committed was holds (loaded was.version was.site sound holds.records);
-  rising = rising;
-  sorted = if_ok result _ _ (λ pairs up. pairs_sorted pairs.items up) rising;
-  whole = λ was sound holds. of_maps table (λ m o n. OnOk result (IsWhole version m o n)) old.committed was holds (whole was.version was.site sound holds.records);
-  damaged = λ was sound holds. of_maps table (λ m o n. IfErr result (λ e. e ≡ Damaged → ¬ IsWhole version m o n)) old.committed was holds (damaged was.version was.site sound holds.records);
-  refusal = refusal;
-  unchanged = λ was sound holds. reads.unchanged was.version was.site sound holds.records;
-  stays_open = stays;
-  survives = survives_weaker _ _ _ _ (λ _ trees leaves. left (λ _ _ _ _. ⊥) (λ _ _. ⊥) old trees (λ _ _ _ _ none. absurd none) leaves) reads.survives;
+loads table version old mid new result found reads loaded rising whole damaged refusal stays =
+    let there = held_found old mid new found reads.before in
+    record {
+      before = before_found old mid new found reads.before;
+      loaded = λ was sound holds. (let h = there was sound holds in of_maps table (λ m _ _. IfOk result (λ pairs. entries_of pairs.items ≡ entries m)) mid.committed was h (loaded was.version was.site sound h.records));
+      rising = rising;
+      sorted = if_ok result _ _ (λ pairs up. pairs_sorted pairs.items up) rising;
+      whole = λ was sound holds. (let h = there was sound holds in of_maps table (λ m o n. OnOk result (IsWhole version m o n)) mid.committed was h (whole was.version was.site sound h.records));
+      damaged = λ was sound holds. (let h = there was sound holds in of_maps table (λ m o n. IfErr result (λ e. e ≡ Damaged → ¬ IsWhole version m o n)) mid.committed was h (damaged was.version was.site sound h.records));
+      refusal = refusal;
+      unchanged = λ was sound holds. reads.unchanged was.version was.site sound (there was sound holds).records ∙ commit_found old mid new found reads.before sound;
+      stays_open = stays;
+      survives = survives_found (λ _ _ _ _. ⊥) (λ _ _. ⊥) old mid new (λ _ _ _ _ none. absurd none) found reads.survives;
+      version = refl;
+    }
+
+pub loads_none : (table : StateTable) (version : ℕ) (old new : State) → (HasCleanDisk new → KeepsCommit old new) → Survives old new (λ _. ⊥) →
+    Loads table (record { version = version; store = old }) (Err Store) (record { version = version; store = new })
+loads_none table version old new kept nothing = record {
+  before = sound_before old new nothing.clean kept;
+  loaded = λ _ _ _. tt;
+  rising = tt;
+  sorted = tt;
+  whole = λ _ _ _. tt;
+  damaged = λ _ _ _ is. absurd (let e : Store ≡ Damaged = is in cc);
+  refusal = inr (inr refl);
+  unchanged = λ _ sound _. same_commit old new kept sound;
+  stays_open = λ _. tt;
+  survives = survives_weaker _ _ _ _ (λ _ _ none. absurd none) nothing;
   version = refl;
 }

@@ -1,5 +1,5 @@
 -- What the relation of each call says of databases.
-use Rattle.std.proofs.Common.{◌≡◌, ℕ, List, [], ◌∷◌, Result, Ok, Err, IfErr, OnErr, OnOk, Vec, IfOk, refl, sym, subst}
+use Rattle.std.proofs.Common.{◌≡◌, IsTrue, ℕ, List, [], ◌∷◌, Result, Ok, Err, IfErr, OnErr, OnOk, Vec, IfOk, refl, sym, subst}
 use Rattle.std.specs.FinMap.{entries}
 use Rattle.std.specs.declared.alloc.Global.{Global}
 use Rattle.sqlite.specs.Effect.{Database}
@@ -43,10 +43,10 @@ module _ {A : Type 0} (C : Contents → Contents → Type 0) (P : Change) (gives
       on_ok_map result _ _ (λ d. gives version site old.committed new.committed d.0 d.1 d.2)
       (it.done (contents_of version site old.committed) sound (holds_all version site old.committed holds))
 
-  pub survives_of : Survives old new (Leaves old (λ version site db. P version site old.committed db))
-  survives_of = survives_weaker _ _ _ _ (λ _ trees left version site is_open holds. (
-      let d = left (contents_of version site old.committed) is_open (holds_all version site old.committed holds) in
-      (d.2, d.3, gives version site old.committed d.2 d.0 d.1 d.4, d.5))) it.survives
+  pub survives_of : Survives old new (λ trees. IsTrue old.is_open × Leaves old (λ version site db. P version site old.committed db) trees)
+  survives_of = survives_weaker _ _ _ _ (λ _ trees left. (left.0, λ version site is_open holds. (
+      let d = left.1 (contents_of version site old.committed) (holds_all version site old.committed holds) in
+      (d.2, d.3, gives version site old.committed d.2 d.0 d.1 d.4, d.5)))) it.survives
 
 sets_gives : (pairs : List (List ℕ × List ℕ)) →
     Gives (SetsStates pairs) (λ version site a b. HoldsRecords version site b × SavesStates a b pairs)
@@ -95,8 +95,8 @@ module _ {A : Type 0} (old new : Seen) (pairs : List (List ℕ × List ℕ)) (re
       OnOk result (SavesStates old.store.committed new.store.committed pairs)
   all_saved version site sound holds = on_ok_map result _ _ (λ d. d.1) (sets version site sound holds)
 
-  pub all_survive : Survives old.store new.store (Leaves old.store (λ version site db.
-      HoldsRecords version site db × SavesStates old.store.committed db pairs))
+  pub all_survive : Survives old.store new.store (λ trees. IsTrue old.store.is_open × Leaves old.store (λ version site db.
+      HoldsRecords version site db × SavesStates old.store.committed db pairs) trees)
   all_survive = survives_of (SetsStates pairs) _ (sets_gives pairs) old.store new.store result it.commits
 
 module _ {A : Type 0} (old new : Seen) (key state : List ℕ) (result : Result A Refusal)
@@ -106,8 +106,8 @@ module _ {A : Type 0} (old new : Seen) (key state : List ℕ) (result : Result A
   saves_saved version site sound holds = on_ok_map result _ _ (λ d. d.1)
       (done_of (SetsStates ((key, state) ∷ [])) _ (set_gives key state) old.store new.store result it.commits version site sound holds)
 
-  pub saves_survives : Survives old.store new.store (Leaves old.store (λ version site db.
-      HoldsRecords version site db × SavesState old.store.committed db key state))
+  pub saves_survives : Survives old.store new.store (λ trees. IsTrue old.store.is_open × Leaves old.store (λ version site db.
+      HoldsRecords version site db × SavesState old.store.committed db key state) trees)
   saves_survives = survives_of (SetsStates ((key, state) ∷ [])) _ (set_gives key state) old.store new.store result it.commits
 
 -- ---- move_key
@@ -131,8 +131,8 @@ module _ {A : Type 0} (old new : Seen) (key state : List ℕ) (result : Result A
       IfErr result (λ e. e ≡ Damaged → LacksKey (old_states old.store.committed) key)
   moves_damaged version site sound holds = it.damaged (contents_of version site old.store.committed) sound (holds_all version site old.store.committed holds)
 
-  pub moves_survives : Survives old.store new.store (Leaves old.store (λ version site db.
-      HoldsRecords version site db × MovesState old.store.committed db key state))
+  pub moves_survives : Survives old.store new.store (λ trees. IsTrue old.store.is_open × Leaves old.store (λ version site db.
+      HoldsRecords version site db × MovesState old.store.committed db key state) trees)
   moves_survives = survives_of (MovesKey key state) _ (moves_gives key state) old.store new.store result it.commits
 
 -- ---- finish
@@ -150,7 +150,8 @@ module _ {A : Type 0} (old new : Seen) (result : Result A Refusal) (it : Finishe
       OnErr result (SameCommit old.store new.store)
   finishes_unchanged version site sound holds = it.unchanged (contents_of version site old.store.committed) sound (holds_all version site old.store.committed holds)
 
-  pub finishes_survives : Survives old.store new.store (Leaves old.store (λ _ site db. EndsMove site old.store.committed db))
+  pub finishes_survives : Survives old.store new.store (λ trees. IsTrue old.store.is_open ×
+      Leaves old.store (λ _ site db. EndsMove site old.store.committed db) trees)
   finishes_survives =
       survives_of EndsMoves (λ _ site a b. EndsMove site a b) ends_gives old.store new.store result it.commits
 
@@ -166,7 +167,7 @@ module _ (table : StateTable) (old new : Seen) (result : Result (Vec Pair Global
     before = it.before;
     unchanged = λ version site sound holds. it.unchanged (contents_of version site old.store.committed) sound (holds_all version site old.store.committed holds);
     survives = survives_weaker _ _ _ _ (λ _ trees left version site is_open holds.
-        absurd ((left (contents_of version site old.store.committed) is_open (holds_all version site old.store.committed holds)).1)) it.survives;
+        absurd ((left.1 (contents_of version site old.store.committed) (holds_all version site old.store.committed holds)).1)) it.survives;
   }
 
   pub loads_entries : (version site : ℕ) → IsSound new.store → HoldsRecords version site old.store.committed →

@@ -12,7 +12,7 @@ use Rattle.sqlite.proofs.InsideLemmas.{keeps_then, unchanged_keeps}
 use Rattle.sqlite.proofs.StateLemmas.{survives_then}
 use Rattle.sqlite.proofs.Callers.{survives_begin}
 use Rattle.mvd_records.proofs.Calls.{sound_before}
-use Rattle.mvd_records.specs.Records.{StaysInside, IsSound, IsSettled, IsOurs, HoldsRecords, OpensRecords, MovesState, Leaves, LeavesOpened}
+use Rattle.mvd_records.specs.Records.{StaysInside, IsSound, IsSettled, IsOurs, HoldsRecords, OpensRecords, MovesState, Leaves, LeavesMade}
 
 module _ {S : Type 0} (g : Ghosts S) (old mid : Held S) where
   abbrev pub begun : State
@@ -48,7 +48,7 @@ module _ {S : Type 0} (g : Ghosts S) (old mid : Held S) where
 
   -- what a crash may leave of the commit
   pub leaves : (site version : ℕ) → IsSettled (state g old) → (IsTrue begun.in_transaction → IsOurs begun.now → OpensRecords version site begun.now (state g mid).now)
-      → (IsTrue begun.in_transaction → IsOurs begun.now → IsDatabase begun.now → IsDatabase (state g mid).now) → (db : Trees) → db ≡ (state g mid).now.trees → LeavesOpened (state g old) site db
+      → (IsTrue begun.in_transaction → IsOurs begun.now → IsDatabase begun.now → IsDatabase (state g mid).now) → (db : Trees) → db ≡ (state g mid).now.trees → LeavesMade (state g old) site db
   leaves site version settled opened sound db is was ours =
       ((state g mid).now, version, sound refl (subst IsOurs (sym (settled.settled was)) ours) (settled.live was).0, opened_mid site version settled was ours opened, is)
 

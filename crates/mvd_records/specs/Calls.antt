@@ -1,6 +1,6 @@
 -- What each call of the records does: one relation for a call, over what it was called on and with, what it returned,
 -- and what it left.
-use Rattle.std.specs.Prelude.{◌≡◌, ◌⊎◌, ℕ, List, [], ◌∷◌, Vec, Result, Ok, Err, IsTrue, OnOk, OnErr, IfOk, IfErr}
+use Rattle.std.specs.Prelude.{◌≡◌, ◌⊎◌, false, ℕ, List, [], ◌∷◌, Vec, Result, Ok, Err, IsTrue, OnOk, OnErr, IfOk, IfErr}
 use Rattle.std.specs.Prelude.{IfSome, MatchResult, Option}
 use Rattle.std.specs.FinMap.{entries, is_sorted}
 use Rattle.std.specs.declared.alloc.Global.{Global}
@@ -31,13 +31,15 @@ OfHeld old new P = (was : Contents) → IsSound new → Holds old.committed was 
 abbrev pub SameCommit : State → State → Type 0
 SameCommit old new = new.committed ≡ old.committed
 
--- the trees are those of a database in which what was held is changed so, and which lists its schema and obeys it
+-- the store was open, and the trees are those of a database in which what was held is changed so, and which lists its
+-- schema and obeys it
 abbrev pub LeavesChange : (Contents → Contents → Type 0) → State → Trees → Type 0
-LeavesChange Change s trees = (was : Contents) → IsTrue s.is_open → Holds s.committed was →
-    (now : Contents) × Change was now × (db : Database) × IsDatabase db × Holds db now × (trees ≡ db.trees)
+LeavesChange Change s trees = IsTrue s.is_open × ((was : Contents) → Holds s.committed was →
+    (now : Contents) × Change was now × (db : Database) × IsDatabase db × Holds db now × (trees ≡ db.trees))
 
 -- A change of what is held: Ok makes it. A crash leaves what it could leave before the call, or the change, all of it;
--- also after an error, since the store may fail once the change is on its disk
+-- also after an error, since the store may fail once the change is on its disk. Of a store that was shut it leaves
+-- nothing new
 pub record Commits {A : Type 0} (Change : Contents → Contents → Type 0) (old : State) (result : Result A Refusal)
     (new : State) : Type 0 where
   pub before : IsSound new → IsSound old
@@ -107,6 +109,8 @@ pub record IsOpened (store : State) (site : ℕ) (records : Seen) : Type 0 where
   pub before : IsSound records.store → IsSound store
   pub opened : IsSound records.store → IsOurs store.committed →
       OpensRecords records.version site store.committed records.store.committed
+  -- no transaction is under way
+  pub autocommit : records.store.in_transaction ≡ false
   pub survives : Survives store records.store (LeavesOpened store site)
   -- another program's database is never made one of ours
   pub own : ¬ HoldsForeign store

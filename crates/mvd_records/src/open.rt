@@ -1,5 +1,5 @@
 //! Opening the records: the tables and the marks, in one transaction.
-ghost use Rattle.std.specs.Prelude.{◌≡◌, ◌≤◌, ◌<◌, ◌^◌, [], map, codes, MatchOption, MatchResult, IsTrue, IfErr};
+ghost use Rattle.std.specs.Prelude.{◌≡◌, ◌≤◌, ◌<◌, ◌^◌, [], map, codes, MatchOption, MatchResult, IsTrue, IfErr, false};
 ghost use Rattle.std.specs.Prelude.{IfOk, OnOk, OnErr, Err};
 ghost use Rattle.sqlite.specs.Effect.{IsDatabase};
 ghost use Rattle.sqlite.specs.Held.{state};
@@ -8,7 +8,7 @@ ghost use Rattle.mvd_records.specs.States.{AreMarks, IsMark, first_two};
 ghost use Rattle.mvd_records.specs.Tables.{all_tables, meta_tree};
 ghost use Rattle.mvd_records.specs.Records.{IsSettled, IsSound, IsOurs, HasTables, HoldsRecords, OpensRecords};
 ghost use Rattle.mvd_records.specs.Records.{KeepsStates, KeepsRows, Ran, StaysInside, TellsVersion, TellsMarks};
-ghost use Rattle.mvd_records.specs.Records.{LeavesOpened, LeavesRefused, IsOpenRefusal, marks_of};
+ghost use Rattle.mvd_records.specs.Records.{LeavesMade, LeavesUnmade, IsOpenRefusal, marks_of};
 
 use crate::statements::is_settled;
 use mvd_dots::Refusal;
@@ -245,9 +245,10 @@ pub fn open<S: Alter>(conn: &mut Connection<S>, site: u32) -> Result<u32, Refusa
     ensures refusal { IfErr result IsOpenRefusal }
     ensures unchanged { IsSound (state S.Store conn.new) →
         OnErr result ((state S.Store conn.new).committed ≡ (state S.Store conn.old).committed) }
+    ensures autocommit { OnOk result ((state S.Store conn.new).in_transaction ≡ false) }
     ensures survives { MatchResult result (λ _. Survives (state S.Store conn.old) (state S.Store conn.new)
-        (LeavesOpened (state S.Store conn.old) site)) (λ e. Survives (state S.Store conn.old) (state S.Store conn.new)
-        (LeavesRefused e (state S.Store conn.old) site)) }
+        (LeavesMade (state S.Store conn.old) site)) (λ e. Survives (state S.Store conn.old) (state S.Store conn.new)
+        (LeavesUnmade e (state S.Store conn.old) site)) }
 {
     if !is_settled(conn) {
         return Err(Refusal::Store);

@@ -50,6 +50,9 @@ impl<S: Alter> Records<S> {
         if foreign::is_foreign(&conn) {
             return Err((Refusal::Damaged, conn));
         }
+        if !statements::is_open(&mut conn) {
+            return Err((Refusal::Store, conn));
+        }
         match open::open(&mut conn, site) {
             Ok(version) => Ok(Records {
                 alloc,
@@ -75,6 +78,9 @@ impl<S: Alter> Records<S> {
         requires { self.old.version ≡ 2 }
         ensures { Saves (seen S.Store self.old) key.now bytes.now result (seen S.Store self.new) }
     {
+        if !statements::is_open(&mut self.conn) {
+            return Err(Refusal::Store);
+        }
         statements::save(&mut self.conn, key.text(), bytes)
     }
 
@@ -83,6 +89,9 @@ impl<S: Alter> Records<S> {
         requires { self.old.version ≡ 2 }
         ensures { SavesAll (seen S.Store self.old) (entries_of pairs.now) result (seen S.Store self.new) }
     {
+        if !statements::is_open(&mut self.conn) {
+            return Err(Refusal::Store);
+        }
         storing::save_all(&mut self.conn, pairs)
     }
 
@@ -91,6 +100,9 @@ impl<S: Alter> Records<S> {
     pub fn load_all(&mut self) -> Result<Vec<(Key, Vec<u8>)>, Refusal>
         ensures { Loads Version2 (seen S.Store self.old) result (seen S.Store self.new) }
     {
+        if !statements::is_open(&mut self.conn) {
+            return Err(Refusal::Store);
+        }
         loading::load(
             self.alloc,
             &mut self.conn,
@@ -104,6 +116,9 @@ impl<S: Alter> Records<S> {
     pub fn load_old(&mut self) -> Result<Vec<(Key, Vec<u8>)>, Refusal>
         ensures { Loads Version1 (seen S.Store self.old) result (seen S.Store self.new) }
     {
+        if !statements::is_open(&mut self.conn) {
+            return Err(Refusal::Store);
+        }
         loading::load(
             self.alloc,
             &mut self.conn,
@@ -116,6 +131,9 @@ impl<S: Alter> Records<S> {
     pub fn move_key(&mut self, key: &Key, bytes: &[u8]) -> Result<(), Refusal>
         ensures { Moves (seen S.Store self.old) key.now bytes.now result (seen S.Store self.new) }
     {
+        if !statements::is_open(&mut self.conn) {
+            return Err(Refusal::Store);
+        }
         moving::move_key(&mut self.conn, key.text(), bytes)
     }
 
@@ -123,6 +141,9 @@ impl<S: Alter> Records<S> {
     pub fn finish(&mut self) -> Result<(), Refusal>
         ensures { Finishes (seen S.Store self.old) result (seen S.Store self.new) }
     {
+        if !statements::is_open(&mut self.conn) {
+            return Err(Refusal::Store);
+        }
         match statements::finish(&mut self.conn) {
             Ok(()) => {
                 self.version = 2;

@@ -1,6 +1,6 @@
 ghost use Rattle.std.specs.Prelude.{◌≡◌, ◌≢◌, ◌⊎◌, [], IsTrue, IfErr, IfOk, MatchBool, OnOk, OnErr, not};
 ghost use Rattle.sqlite.specs.Held.{state};
-ghost use Rattle.sqlite.specs.State.{HasCleanDisk, KeepsCommit, Shown, Survives, CommitsShowing};
+ghost use Rattle.sqlite.specs.State.{HasCleanDisk, IsUnchanged, KeepsCommit, Shown, Survives, CommitsShowing};
 ghost use Rattle.sqlite.specs.Given.{IsPlain};
 ghost use Rattle.sqlite.specs.Listing.{understood};
 ghost use Rattle.mvd_records.specs.Records.{IsSettled, IsSound, HoldsRecords, SavesState, KeepsStates, EndsMove};
@@ -17,6 +17,17 @@ pub fn is_settled<S: Alter>(conn: &Connection<S>) -> bool
 {
     let _schema = conn.schema();
     conn.is_autocommit()
+}
+
+/// Whether the store is open. It compiles an empty statement: only an open store does, and it commits nothing.
+pub fn is_open<S: Alter>(conn: &mut Connection<S>) -> bool
+    ensures open { HasCleanDisk (state S.Store conn.new) → IsTrue result →
+        IsUnchanged (state S.Store conn.old) (state S.Store conn.new) }
+    ensures kept { HasCleanDisk (state S.Store conn.new) →
+        KeepsCommit (state S.Store conn.old) (state S.Store conn.new) }
+    ensures survives { Survives (state S.Store conn.old) (state S.Store conn.new) (λ _. ⊥) }
+{
+    conn.prepare("").is_ok()
 }
 
 /// Sets the state of one key.

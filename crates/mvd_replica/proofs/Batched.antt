@@ -21,9 +21,11 @@ use Rattle.mvd_sync.specs.Sides.{SiteFollows, site_follows_on, site_follows_self
 use Rattle.mvd_replica.specs.Batch.{AnswersOneFrom, AreAmong, HoldsLost, Loses}
 use Rattle.mvd_replica.specs.Kept.{HoldsSite, HoldsStates}
 use Rattle.mvd_replica.specs.Sides.{AnswersFromStored, HoldsBroken}
-use Rattle.mvd_replica.specs.Turns.{IsFirstBroken, IsToldElse, RepliesOne, Turn}
-use Rattle.mvd_replica.proofs.Positions.{AnswersAll, AnswersFront, ReplicaFollows, TakesTurns, TurnsFollow}
+use Rattle.mvd_replica.specs.Whole.{leaves_on, leaves_self, leaves_wider}
+use Rattle.mvd_replica.specs.Turns.{AreUndoneIn, IsFirstBroken, IsToldElse, LeavesTurns, RepliesOne, Turn}
+use Rattle.mvd_replica.proofs.Positions.{AnswersAll, AnswersFront, ReplicaFollows, TakesTurns, TurnsFollow, stored_site}
 use Rattle.mvd_replica.proofs.Breaking.{else_both, first_kept, first_later}
+use Rattle.mvd_replica.proofs.Leaving.{undone_later, undone_more}
 use Rattle.mvd_replica.proofs.Sides.{follows_by}
 use Rattle.mvd_replica.proofs.Replying.{AddsAt-Refused, AddsAt-Refused-none, HasChoice-append, MayTell-memory, Replies-append, Replies-one, StandsOn-append, StandsOn-one}
 use Rattle.sqlite.specs.Effect.{Database}
@@ -95,6 +97,9 @@ module _ (first second : List Turn) (old mid new : SiteValue) (before between af
     stored = lost_on mid.broken refl;
     clean = λ clean. p.clean (q.clean clean);
     shut = shut_on between.is_open refl;
+    leaves = leaves_on (AreUndoneIn (first ++ second)) (stored_site old before) (stored_site mid between) (stored_site new after)
+        (leaves_wider _ _ _ _ (undone_more first second) p.leaves) (leaves_wider _ _ _ _ (undone_later first second) q.leaves)
+        p.site.1 q.site.1 p.sound q.sound q.clean p.holds q.shut;
   }
 
 -- ---- both
@@ -122,6 +127,7 @@ still_follows turns site s = record {
   stored = λ _ _ whole broken. absurd (true≢false (sym broken ∙ whole));
   clean = λ clean. clean;
   shut = λ _ _. refl;
+  leaves = leaves_self (AreUndoneIn turns) (stored_site site s) tt;
 }
 
 -- no turn
@@ -186,8 +192,9 @@ lost_one request reply site db told holds = record {
 }
 
 pub TakesTurns-one : (old new : SiteValue) (before after : State) (request : Request) (reply : Reply) → AnswersOneFrom old new request reply → (new.broken ≡ true → reply ≡ Refused Broken) →
-    ReplicaFollows (λ asked. asked ≡ request) old new before after → TakesTurns (record { asked = Ok request; reply = reply } ∷ []) old new before after
-TakesTurns-one old new before after request reply one told follows =
+    ReplicaFollows (λ asked. asked ≡ request) old new before after → LeavesTurns (record { asked = Ok request; reply = reply } ∷ []) (stored_site old before) (stored_site new after) →
+    TakesTurns (record { asked = Ok request; reply = reply } ∷ []) old new before after
+TakesTurns-one old new before after request reply one told follows leaves =
     takes _ old new before after (new, one, refl) (record {
       site = follows.site;
       sound = follows.store.sound;
@@ -196,6 +203,7 @@ TakesTurns-one old new before after request reply one told follows =
       stored = λ sound holds whole broken. lost_one request reply new after.committed (told broken) (follows.store.stored sound holds whole broken);
       clean = follows.store.clean;
       shut = follows.store.shut;
+      leaves = leaves;
     })
 
 -- ---- requests
@@ -223,8 +231,9 @@ pub AnswersAll-answered : (old new : SiteValue) (before after : State) (request 
     (IsSound after → IsSound before) → (IsSound after → HoldsSite old before.committed → HoldsSite new after.committed) → (HasCleanDisk after → HasCleanDisk before) →
     (HasCleanDisk after → IsTrue after.is_open ⊎ (new ≡ old)) →
     (IsSound after → HoldsSite old before.committed → old.broken ≡ false → reply ≡ Refused Broken → HoldsStates old.config.site (after_from old.config old.states request) after.committed) →
+    LeavesTurns (record { asked = Ok request; reply = reply } ∷ []) (stored_site old before) (stored_site new after) →
     AnswersAll (request ∷ []) (reply ∷ []) old new before after
-AnswersAll-answered old new before after request reply states choice config fits told broken stays same sound holds clean taken stored =
+AnswersAll-answered old new before after request reply states choice config fits told broken stays same sound holds clean taken stored leaves =
     let from : AnswersOneFrom old new request reply = record {
       whole = states;
       broken = λ was. (broken (site_broken new old (stays was) ∙ was), stays was);
@@ -233,13 +242,20 @@ AnswersAll-answered old new before after request reply states choice config fits
       choice = choice;
     } in
     AnswersAll-one old new before after request reply from (TakesTurns-one old new before after request reply from broken
-    (follows_by old new request reply before after config stays same sound holds clean taken broken states stored))
+    (follows_by old new request reply before after config stays same sound holds clean taken broken states stored) leaves)
 
 -- ---- the first of some requests, and those after them
 
 length_replies : (requests : List Request) (replies : List Reply) (old new : SiteValue) (before after : State) → AnswersAll requests replies old new before after → length replies ≡ length requests
 length_replies requests replies old new before after all =
     ap length (sym all.told) ∙ length-map all.turns (λ (t : Turn). t.reply) ∙ sym (length-map all.turns (λ (t : Turn). t.asked)) ∙ ap length all.asked ∙ length-map requests (λ (r : Request). Ok r)
+
+-- at least one reply is added
+pub front_more : (requests : List Request) (told given : List Reply) (old new : SiteValue) (before after : State) → AnswersFront requests told given old new before after →
+    length told + 1 ≤ length given
+front_more requests told given old new before after it =
+    omega (arith, ap length it.appended, length-append told it.replies, it.some, it.within,
+    length_replies (take it.count requests) it.replies old new before after it.answers, length-take-le it.count requests it.within)
 
 -- as the code has what is left of them
 pub front_of : (requests : List Request) (n : ℕ) (told given : List Reply) (mid new : SiteValue) (between after : State) → n ≡ length told → AnswersFront (take (length requests - n) (drop n requests)) told given mid new between after →

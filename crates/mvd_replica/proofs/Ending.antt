@@ -16,10 +16,12 @@ use Rattle.mvd_frames.proofs.FramesRead.{no_frame_taken}
 use Rattle.mvd_replica.specs.declared.serving.Ended.{Ended}
 use Rattle.mvd_replica.specs.declared.serving.Ended.TheVariants as ended
 use Rattle.mvd_replica.specs.Sides.{replica_follows_self}
-use Rattle.mvd_replica.specs.Turns.{AreFrames, IsFirstBroken, Replies, StandsOn, Turn}
+use Rattle.mvd_replica.specs.Whole.{leaves_self}
+use Rattle.mvd_replica.specs.Turns.{AreFrames, IsFirstBroken, LeavesTurns, Replies, StandsOn, Turn}
 use Rattle.mvd_replica.specs.Served.{AtBye, AtEnd, AtRefusal, AtWriter, Stops, Went}
 use Rattle.mvd_replica.specs.Steps.{Ends, IsSent, RepliesTo}
-use Rattle.mvd_replica.proofs.Positions.{GoesOut, ReplicaFollows, conversation_at}
+use Rattle.mvd_replica.proofs.Leaving.{leaves_sent}
+use Rattle.mvd_replica.proofs.Positions.{GoesOut, ReplicaFollows, conversation_at, stored_site}
 use Rattle.std.proofs.KnownBytes.{Appends-nil}
 use Rattle.mvd_replica.proofs.Whole.{GoesOut-err}
 use Rattle.mvd_replica.proofs.Breaking.{follows_bye, follows_sent, told_sent}
@@ -40,6 +42,7 @@ at_end site store before after output came = record {
     goes_on = tt;
     told = λ _. tt;
     follows = replica_follows_self _;
+    leaves = leaves_self _ _ tt;
   };
   count = refl;
   read = λ bytes known.
@@ -74,6 +77,7 @@ at_refusal site store before after output out e fault came which wrote = record 
     goes_on = tt;
     told = λ _. tt;
     follows = replica_follows_self _;
+    leaves = leaves_self _ _ tt;
   };
   count = (refl, few e which);
   read = λ bytes known. (bytes, refl, told e bytes after which (came bytes known));
@@ -87,10 +91,10 @@ bye_stops before after frame came asked bytes known =
     (bytes, refl, (frame_value frame, p.0, p.2, asked, p.1))
 
 at_bye : (old site : SiteValue) (was store : State) (before after output out : Option (List ℕ)) (frame : Frame) (result : Result Ended Refusal) → Reads (option_map frame_value) before after (Ok (Some frame)) frame_at →
-    request_of frame.kind frame.payload.items ≡ Ok Bye → site ≡ old → ReplicaFollows (IsFirstBroken []) old site was store →
+    request_of frame.kind frame.payload.items ≡ Ok Bye → site ≡ old → ReplicaFollows (IsFirstBroken []) old site was store → LeavesTurns [] (stored_site old was) (stored_site site store) →
     GoesOut output out (reply_bytes (if site.broken then Refused Broken else Done)) (Err WriteFailed) result (Ok ended.Bye) →
     Ends (conversation_at old was before output) (conversation_at site store after out) result
-at_bye old site was store before after output out frame result came asked same follows wrote = record {
+at_bye old site was store before after output out frame result came asked same follows leaves wrote = record {
   turns = [];
   ending = AtBye;
   takes = record {
@@ -100,6 +104,7 @@ at_bye old site was store before after output out frame result came asked same f
     goes_on = tt;
     told = λ _. tt;
     follows = follows;
+    leaves = leaves;
   };
   count = refl;
   read = bye_stops before after frame came asked;
@@ -107,10 +112,11 @@ at_bye old site was store before after output out frame result came asked same f
 }
 
 goes_on : (old new : SiteValue) (was store : State) (before after output out : Option (List ℕ)) (frame : Frame) (reply sent : Reply) → Reads (option_map frame_value) before after (Ok (Some frame)) frame_at →
-    RepliesTo (request_of frame.kind frame.payload.items) old new reply → ReplicaFollows (λ request. request_of frame.kind frame.payload.items ≡ Ok request) old new was store → IsSent reply sent →
+    RepliesTo (request_of frame.kind frame.payload.items) old new reply → ReplicaFollows (λ request. request_of frame.kind frame.payload.items ≡ Ok request) old new was store →
+    LeavesTurns (record { asked = request_of frame.kind frame.payload.items; reply = reply } ∷ []) (stored_site old was) (stored_site new store) → IsSent reply sent →
     Appends output out (reply_bytes sent) →
     (turn : Turn) × Went (turn ∷ []) (conversation_at old was before output) (conversation_at new store after out)
-goes_on old new was store before after output out frame reply sent came replied follows is wrote =
+goes_on old new was store before after output out frame reply sent came replied follows leaves is wrote =
     let asked = request_of frame.kind frame.payload.items in
     let turn : Turn = record { asked = asked; reply = sent } in (
       turn,
@@ -122,6 +128,7 @@ goes_on old new was store before after output out frame reply sent came replied 
           goes_on = (replied.goes_on, tt);
           told = told_sent asked old new reply sent is replied;
           follows = follows_sent asked old new was store reply sent is replied follows;
+          leaves = leaves_sent asked reply sent (stored_site old was) (stored_site new store) is leaves;
         };
         config = replied.config;
         read = λ bytes known.
@@ -132,10 +139,11 @@ goes_on old new was store before after output out frame reply sent came replied 
     )
 
 at_writer : (old new : SiteValue) (was store : State) (before after output out : Option (List ℕ)) (frame : Frame) (reply sent : Reply) → Reads (option_map frame_value) before after (Ok (Some frame)) frame_at →
-    RepliesTo (request_of frame.kind frame.payload.items) old new reply → ReplicaFollows (λ request. request_of frame.kind frame.payload.items ≡ Ok request) old new was store → IsSent reply sent →
+    RepliesTo (request_of frame.kind frame.payload.items) old new reply → ReplicaFollows (λ request. request_of frame.kind frame.payload.items ≡ Ok request) old new was store →
+    LeavesTurns (record { asked = request_of frame.kind frame.payload.items; reply = reply } ∷ []) (stored_site old was) (stored_site new store) → IsSent reply sent →
     AppendsFront output out (reply_bytes sent) →
     Ends (conversation_at old was before output) (conversation_at new store after out) (Err WriteFailed)
-at_writer old new was store before after output out frame reply sent came replied follows is wrote =
+at_writer old new was store before after output out frame reply sent came replied follows leaves is wrote =
     let asked = request_of frame.kind frame.payload.items in
     let turn : Turn = record { asked = asked; reply = sent } in
     let same : reply_bytes sent ≡ (reply_bytes sent ++ []) ++ [] = sym (append-nil (reply_bytes sent)) ∙ sym (append-nil (reply_bytes sent ++ [])) in record {
@@ -148,6 +156,7 @@ at_writer old new was store before after output out frame reply sent came replie
         goes_on = (replied.goes_on, tt);
         told = told_sent asked old new reply sent is replied;
         follows = follows_sent asked old new was store reply sent is replied follows;
+          leaves = leaves_sent asked reply sent (stored_site old was) (stored_site new store) is leaves;
       };
       count = refl;
       read = λ bytes known.
@@ -165,18 +174,18 @@ last_is : (site : SiteValue) (broken : Bool) (bytes : List ℕ) → broken ≡ s
 last_is site broken bytes same is = is ∙ ap (λ b. reply_bytes (if b then Refused Broken else Done)) same
 
 pub at_bye_ok : (old site : SiteValue) (was store : State) (before after output out : Option (List ℕ)) (frame : Frame) (broken : Bool) (bytes : List ℕ) → Reads (option_map frame_value) before after (Ok (Some frame)) frame_at →
-    request_of frame.kind frame.payload.items ≡ Ok Bye → site ≡ old → ReplicaFollows (λ request. request_of frame.kind frame.payload.items ≡ Ok request) old site was store →
+    request_of frame.kind frame.payload.items ≡ Ok Bye → site ≡ old → ReplicaFollows (λ request. request_of frame.kind frame.payload.items ≡ Ok request) old site was store → LeavesTurns [] (stored_site old was) (stored_site site store) →
     broken ≡ site.broken → bytes ≡ reply_bytes (if broken then Refused Broken else Done) → Appends output out bytes →
     Ends (conversation_at old was before output) (conversation_at site store after out) (Ok ended.Bye)
-at_bye_ok old site was store before after output out frame broken bytes came asked same follows is last wrote =
-    at_bye old site was store before after output out frame (Ok ended.Bye) came asked same (follows_bye _ old site was store same follows) (inl (refl, subst (Appends output out) (last_is site broken bytes is last) wrote))
+at_bye_ok old site was store before after output out frame broken bytes came asked same follows leaves is last wrote =
+    at_bye old site was store before after output out frame (Ok ended.Bye) came asked same (follows_bye _ old site was store same follows) leaves (inl (refl, subst (Appends output out) (last_is site broken bytes is last) wrote))
 
 pub at_bye_failed : (old site : SiteValue) (was store : State) (before after output out : Option (List ℕ)) (frame : Frame) (broken : Bool) (bytes : List ℕ) (failed : Refusal) → Reads (option_map frame_value) before after (Ok (Some frame)) frame_at →
-    request_of frame.kind frame.payload.items ≡ Ok Bye → site ≡ old → ReplicaFollows (λ request. request_of frame.kind frame.payload.items ≡ Ok request) old site was store →
+    request_of frame.kind frame.payload.items ≡ Ok Bye → site ≡ old → ReplicaFollows (λ request. request_of frame.kind frame.payload.items ≡ Ok request) old site was store → LeavesTurns [] (stored_site old was) (stored_site site store) →
     broken ≡ site.broken → bytes ≡ reply_bytes (if broken then Refused Broken else Done) → failed ≡ WriteFailed → AppendsFront output out bytes →
     Ends (conversation_at old was before output) (conversation_at site store after out) (Err failed)
-at_bye_failed old site was store before after output out frame broken bytes failed came asked same follows is last why wrote =
-    at_bye old site was store before after output out frame (Err failed) came asked same (follows_bye _ old site was store same follows) (inr (ap (λ (r : Refusal). Err r) why, subst (AppendsFront output out) (last_is site broken bytes is last) wrote))
+at_bye_failed old site was store before after output out frame broken bytes failed came asked same follows leaves is last why wrote =
+    at_bye old site was store before after output out frame (Err failed) came asked same (follows_bye _ old site was store same follows) leaves (inr (ap (λ (r : Refusal). Err r) why, subst (AppendsFront output out) (last_is site broken bytes is last) wrote))
 
 appended : (output out : Option (List ℕ)) (bytes : List ℕ) → GoesOut {X = Result (Unit {0}) Refusal} output out bytes (Err WriteFailed) (Ok tt) (Ok tt) → Appends output out bytes
 appended output out bytes (inl h) = h.1
@@ -188,19 +197,21 @@ fronted output out bytes failed (inr h) = let is : ◌≡◌ {A = Result (Unit {
 
 pub goes_on_sent : (old new : SiteValue) (was store : State) (before after output out : Option (List ℕ)) (frame : Frame) (reply : Reply) → Reads (option_map frame_value) before after (Ok (Some frame)) frame_at →
     RepliesTo (request_of frame.kind frame.payload.items) old new reply → ReplicaFollows (λ request. request_of frame.kind frame.payload.items ≡ Ok request) old new was store →
+    LeavesTurns (record { asked = request_of frame.kind frame.payload.items; reply = reply } ∷ []) (stored_site old was) (stored_site new store) →
     ((sent : Reply) × IsSent reply sent × GoesOut {X = Result (Unit {0}) Refusal} output out (reply_bytes sent) (Err WriteFailed) (Ok tt) (Ok tt)) →
     (turn : Turn) × Went (turn ∷ []) (conversation_at old was before output) (conversation_at new store after out)
-goes_on_sent old new was store before after output out frame reply came replied follows sent =
-    goes_on old new was store before after output out frame reply sent.0 came replied follows sent.1 (appended output out (reply_bytes sent.0) sent.2)
+goes_on_sent old new was store before after output out frame reply came replied follows leaves sent =
+    goes_on old new was store before after output out frame reply sent.0 came replied follows leaves sent.1 (appended output out (reply_bytes sent.0) sent.2)
 
 pub at_writer_sent : (old new : SiteValue) (was store : State) (before after output out : Option (List ℕ)) (frame : Frame) (reply : Reply) (failed : Refusal) → Reads (option_map frame_value) before after (Ok (Some frame)) frame_at →
     RepliesTo (request_of frame.kind frame.payload.items) old new reply → ReplicaFollows (λ request. request_of frame.kind frame.payload.items ≡ Ok request) old new was store →
+    LeavesTurns (record { asked = request_of frame.kind frame.payload.items; reply = reply } ∷ []) (stored_site old was) (stored_site new store) →
     ((sent : Reply) × IsSent reply sent × GoesOut {X = Result (Unit {0}) Refusal} output out (reply_bytes sent) (Err WriteFailed) (Err failed) (Ok tt)) →
     Ends (conversation_at old was before output) (conversation_at new store after out) (Err failed)
-at_writer_sent old new was store before after output out frame reply failed came replied follows sent =
+at_writer_sent old new was store before after output out frame reply failed came replied follows leaves sent =
     let why : (failed ≡ WriteFailed) × AppendsFront output out (reply_bytes sent.0) = fronted output out (reply_bytes sent.0) failed sent.2 in
     subst (λ (r : Refusal). Ends (conversation_at old was before output) (conversation_at new store after out) (Err r)) (sym why.0)
-    (at_writer old new was store before after output out frame reply sent.0 came replied follows sent.1 why.1)
+    (at_writer old new was store before after output out frame reply sent.0 came replied follows leaves sent.1 why.1)
 
 -- a frame that was written, or a front of it
 pub goes_out : (output out : Option (List ℕ)) (bytes wanted : List ℕ) (result : Result (Unit {0}) Refusal) → bytes ≡ wanted → OnOk result (Appends output out bytes) → OnErr result (AppendsFront output out bytes) →

@@ -34,7 +34,7 @@ use Rattle.mvd_records.specs.Records.{IsOurs}
 use Rattle.mvd_replica.specs.File.{ClosesFile, HoldsAlone, HoldsFile, IsFoundIn}
 use Rattle.mvd_replica.specs.Kept.{HoldsStates}
 use Rattle.mvd_replica.specs.Opened.{OpensSite}
-use Rattle.mvd_replica.specs.Stops.{LeavesStates}
+use Rattle.mvd_replica.specs.Whole.{LeavesStates}
 use Rattle.mvd_replica.proofs.Follows.{just_these, ours_held}
 
 -- sound trees list one schema

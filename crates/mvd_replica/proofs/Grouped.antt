@@ -1,7 +1,7 @@
 -- Requests of one commit, as the code has them.
 use Rattle.std.proofs.Common.{◌≡◌, ◌∙◌, ℕ, ◌+◌, ◌<◌, arith, true, false, List, [], ◌∷◌, ◌++◌, None, Result, Ok, Err, refl, sym, ap, ap₂, subst, subst₂, inl, inr, true≢false, length, take, get_or, append-nil}
 use Rattle.std.proofs.lemmas.List.{map-append, take_more}
-use Rattle.std.specs.Prelude.{IfSome, OnOk}
+use Rattle.std.specs.Prelude.{IfSome, IsTrue, OnOk}
 use Rattle.std.specs.List.{AllByRecursion}
 use Rattle.mvd_dots.specs.declared.refusals.Refusal.{Refusal}
 use Rattle.mvd_dots.specs.declared.refusals.Refusal.TheVariants.{Broken}
@@ -14,7 +14,7 @@ use Rattle.mvd_records.specs.Calls.{SavesAll}
 use Rattle.mvd_records.specs.Contents.{Contents, Holds}
 use Rattle.mvd_records.specs.Pairs.{Pair, entries_of}
 use Rattle.mvd_records.specs.Seen.{Seen}
-use Rattle.mvd_records.specs.Records.{HoldsRecords, IsSound, SavesState, SavesStates, new_states, old_states, with_pairs}
+use Rattle.mvd_records.specs.Records.{HoldsRecords, IsSound, Leaves, SavesState, SavesStates, new_states, old_states, with_pairs}
 use Rattle.mvd_site.specs.Change.{ChangeValue, reply_of}
 use Rattle.mvd_site.specs.Config.{ConfigValue}
 use Rattle.mvd_site.specs.FromStates.{answer_from, change_from, with_change as with_changed}
@@ -29,6 +29,9 @@ use Rattle.mvd_site.proofs.Pushes.{refusal_is}
 use Rattle.mvd_site.proofs.Runs.{fitting}
 use Rattle.mvd_replica.specs.Groups.{ComesTo, IsApart, IsReply, IsSendable, MayJoin, StandTogether, pairs_in}
 use Rattle.sqlite.specs.Effect.{Database}
+use Rattle.sqlite.specs.State.{State as Shown, Survives}
+use Rattle.sqlite.proofs.StateLemmas.{survives_weaker}
+use Rattle.mvd_replica.specs.Shared.{LeavesPairs}
 use Rattle.mvd_replica.proofs.Grouping.{together_more}
 use Rattle.mvd_replica.proofs.Putting.{nothing_added}
 
@@ -109,6 +112,15 @@ store_many (Ok done) old new pairs group site saves same sound holds =
         saved = now.2.new_is ∙ ap (λ (k : Contents). k.new_map) now.1;
       }),
     )
+
+-- a crash leaves what it left before, or the pairs
+pub survives_one : (old new : Shown) (change : ChangeValue) (group : List Prepared) (key bytes : List ℕ) → key ≡ change.key → bytes ≡ spell_state change.state → group ≡ Change change ∷ [] →
+    Survives old new (λ trees. IsTrue old.is_open × Leaves old (λ version site db. HoldsRecords version site db × SavesState old.committed db key bytes) trees) →
+    Survives old new (LeavesPairs old (pairs_in group))
+survives_one old new change group key bytes key-is bytes-is alone it = survives_weaker _ _ _ _ (λ _ trees left. (left.0, λ version site is_open holds. (
+    let d = left.1 version site is_open holds in
+    let here : SavesState old.committed d.0 change.key (spell_state change.state) = subst₂ (SavesState old.committed d.0) key-is bytes-is d.2.1 in
+    (d.0, d.1, (d.2.0, subst (λ l. SavesStates old.committed d.0 (pairs_in l)) (sym alone) (record { old_same = here.old_same; saved = here.saved })), d.3)))) it
 
 pub store_none : (a : Database) (group : List Prepared) (site : ℕ) → pairs_in group ≡ [] → HoldsRecords 2 site a → HoldsRecords 2 site a × SavesStates a a (pairs_in group)
 store_none a group site none holds = (holds, subst (SavesStates a a) (sym none) (record { old_same = refl; saved = refl }))

@@ -7,6 +7,7 @@ pub mod Ending
 pub mod Loading
 pub mod Moving
 pub mod Sides
+pub mod Leaving
 pub mod Breaking
 pub mod Ordered
 pub mod Batching

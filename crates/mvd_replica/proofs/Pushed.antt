@@ -32,9 +32,10 @@ use Rattle.mvd_sync.proofs.Pushes.{more_pushes, no_pushes}
 use Rattle.mvd_sync.proofs.SiteSides.{is_broken, push_cause}
 use Rattle.mvd_replica.specs.Batch.{AnswersOneFrom, AreAmong, HoldsLost, TakesAllFrom, TakesFrom}
 use Rattle.mvd_replica.specs.Pushes.{push_of, told_of}
-use Rattle.mvd_replica.specs.Sides.{AnswersFromStored, HoldsBroken, HoldsPushed, IsPush, ReplicaRefuses}
-use Rattle.mvd_replica.specs.Turns.{Turn}
-use Rattle.mvd_replica.proofs.Positions.{AnswersAll, ReplicaFollows, SideFollows, TurnsFollow}
+use Rattle.mvd_replica.specs.Sides.{AnswersFromStored, ArePushes, HoldsBroken, HoldsPushed, IsPush, ReplicaRefuses}
+use Rattle.mvd_replica.specs.Whole.{leaves_wider}
+use Rattle.mvd_replica.specs.Turns.{AreUndoneIn, LeavesTurns, Turn}
+use Rattle.mvd_replica.proofs.Positions.{AnswersAll, ReplicaFollows, SideFollows, TurnsFollow, stored_site}
 use Rattle.mvd_replica.proofs.Batching.{whole_all}
 use Rattle.mvd_replica.proofs.Sides.{push_refuses, pushed_reply, stored_facts}
 use Rattle.sqlite.specs.Effect.{Database}
@@ -274,6 +275,12 @@ pushes_lost turns site db all it =
       holds = it.holds;
     }
 
+undone_pushes : (turns : List Turn) (requests : List Request) → AllByRecursion AsksPush turns → AreUndoneIn turns requests → ArePushes requests
+undone_pushes turns [] all undone = tt
+undone_pushes [] (request ∷ requests) all undone = absurd undone
+undone_pushes (turn ∷ turns) (request ∷ requests) all (inl here) = (all.0 request here.0.0, undone_pushes turns requests all.1 here.1)
+undone_pushes (turn ∷ turns) (request ∷ requests) all (inr later) = undone_pushes turns (request ∷ requests) all.1 later
+
 pub follows_pushes : (turns : List Turn) (old new : SiteValue) (before after : Shown) → AllByRecursion AsksPush turns → TurnsFollow turns old new before after → ComesByPushes (λ _ _. Unit {0}) old.states new.states → SideFollows old new before after
 follows_pushes turns old new before after all follows comes = record {
   site = follows.site;
@@ -286,6 +293,7 @@ follows_pushes turns old new before after all follows comes = record {
     shut = follows.shut;
   };
   comes = comes;
+  leaves = leaves_wider (AreUndoneIn turns) ArePushes _ _ (λ requests. undone_pushes turns requests all) follows.leaves;
 }
 
 one_lost : (key : Key) (s : State) (site : SiteValue) (db : Database) → HoldsBroken (λ asked. asked ≡ Push key s) site db → HoldsPushed site db
@@ -298,8 +306,9 @@ one_lost key s site db lost = record {
 }
 
 -- the same of one push
-pub follows_push : (key : Key) (s : State) (old new : SiteValue) (before after : Shown) → ReplicaFollows (λ asked. asked ≡ Push key s) old new before after → ComesByPushes (λ _ _. Unit {0}) old.states new.states → SideFollows old new before after
-follows_push key s old new before after follows comes = record {
+pub follows_push : (key : Key) (s : State) (old new : SiteValue) (before after : Shown) → ReplicaFollows (λ asked. asked ≡ Push key s) old new before after →
+    (reply : Reply) → LeavesTurns (record { asked = Ok (Push key s); reply = reply } ∷ []) (stored_site old before) (stored_site new after) → ComesByPushes (λ _ _. Unit {0}) old.states new.states → SideFollows old new before after
+follows_push key s old new before after follows reply leaves comes = record {
   site = follows.site;
   store = record {
     sound = follows.store.sound;
@@ -310,6 +319,8 @@ follows_push key s old new before after follows comes = record {
     shut = follows.store.shut;
   };
   comes = comes;
+  leaves = leaves_wider (AreUndoneIn (record { asked = Ok (Push key s); reply = reply } ∷ [])) ArePushes _ _
+      (λ requests. undone_pushes (record { asked = Ok (Push key s); reply = reply } ∷ []) requests ((λ request is. (key, s, the_push (key, s) (Ok (Push key s)) request refl is), tt))) leaves;
 }
 
 -- ---- what is answered at once

@@ -24,7 +24,8 @@ use Rattle.mvd_site.proofs.Prepare.{answers_from_answer, answers_from_breaking, 
 use Rattle.mvd_replica.specs.Batch.{AnswersOneFrom, AreAmong, Loses, TakesAllFrom, lost_requests}
 use Rattle.mvd_site.specs.Installs.{PutsAll, PutsIfWhole, PutsOne, broken_site, with_group, with_one, with_prepared}
 use Rattle.mvd_replica.specs.Groups.{AllComeTo, AreSendable, ComeInOrder, ComesTo, IsReply, IsSendable, pairs_in, reply_unstored}
-use Rattle.mvd_replica.specs.Sides.{AnswersFromStored, after_all}
+use Rattle.mvd_replica.specs.Sides.{AnswersFromStored}
+use Rattle.mvd_replica.specs.Whole.{after_all}
 use Rattle.mvd_replica.specs.Turns.{IsToldElse, Turn}
 use Rattle.mvd_replica.proofs.Replying.{AddsAt-Refused-none}
 use Rattle.mvd_replica.proofs.Batching.{told_turn}

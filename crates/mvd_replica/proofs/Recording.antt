@@ -1,5 +1,5 @@
 -- What the records are after requests of one commit.
-use Rattle.std.proofs.Common.{◌≡◌, ◌⊎◌, ◌∙◌, ℕ, true, false, List, [], ◌∷◌, map, refl, sym, subst, inl, inr, true≢false}
+use Rattle.std.proofs.Common.{◌≡◌, ◌⊎◌, ◌∙◌, ℕ, Bool, true, false, List, [], ◌∷◌, map, refl, sym, ap, subst, inl, inr, true≢false}
 use Rattle.std.specs.Prelude.{IsTrue}
 use Rattle.std.specs.FinMap.{insert}
 use Rattle.mvd_wire.specs.Codecs.{spell_state}
@@ -12,13 +12,18 @@ use Rattle.mvd_site.specs.Held.{States}
 use Rattle.mvd_kept.specs.declared.prepared.Prepared.{Prepared}
 use Rattle.mvd_kept.specs.declared.prepared.Prepared.TheVariants.{Answer, Change}
 use Rattle.mvd_site.specs.Sites.{SiteValue}
-use Rattle.mvd_replica.specs.Batch.{HoldsLost}
-use Rattle.mvd_site.specs.Installs.{PutsAll, with_group}
-use Rattle.mvd_replica.specs.Groups.{AllComeTo, AreSendable, ComeInOrder, pairs_in, reply_unstored}
+use Rattle.mvd_replica.specs.Batch.{HoldsLost, lost_requests}
+use Rattle.mvd_site.specs.Installs.{PutsAll, PutsIfWhole, PutsOne, with_group}
+use Rattle.mvd_replica.specs.Groups.{AllComeTo, AreSendable, ComeInOrder, IsSendable, pairs_in, reply_unstored}
 use Rattle.mvd_replica.specs.Kept.{AreSpelled, HoldsSite, HoldsStates, SpellStates}
-use Rattle.mvd_replica.proofs.Positions.{AnswersAll}
+use Rattle.mvd_replica.specs.Shared.{LeavesPairs}
+use Rattle.mvd_replica.specs.Whole.{after_all}
+use Rattle.mvd_replica.specs.Turns.{AreUndoneIn, LeavesTurns}
+use Rattle.mvd_replica.proofs.Leaving.{IsLast, LeavesAll, leaves_commit, lost_undone, undone_skip}
+use Rattle.mvd_replica.proofs.Positions.{AnswersAll, stored_site}
 use Rattle.mvd_replica.proofs.Storing.{spelled_insert, spelled_with}
-use Rattle.sqlite.specs.State.{HasCleanDisk, State}
+use Rattle.sqlite.specs.State.{HasCleanDisk, State, Survives}
+use Rattle.sqlite.specs.Tree.{Trees}
 use Rattle.mvd_replica.proofs.Batching.{config_all, takes}
 use Rattle.mvd_site.proofs.Installed.{states_end}
 use Rattle.mvd_replica.proofs.Putting.{AreOne, LostAt, asked_of, lost_end, one_put, one_unstored, still_end, takes_put, takes_unstored, told_of, turns_of}
@@ -38,10 +43,79 @@ spelled_group (r ∷ requests) (Answer reply ∷ group) m sendable fits = spelle
 spelled_group (r ∷ requests) (Change change ∷ group) m sendable fits =
     spelled_group requests group (insert m change.key change.state) sendable.1 (spelled_with m change.key change.state fits sendable.0.2)
 
+-- what was put in has spellings, also where the site broke
+spelled_one : (old mid : SiteValue) (request : Request) (prepared : Prepared) (reply : Reply) → IsSendable request prepared → PutsOne old mid prepared reply →
+    AreSpelled old.states → AreSpelled mid.states
+spelled_one old mid request (Answer told) reply sendable puts fits = subst (λ (s : SiteValue). AreSpelled s.states) (sym puts.1) fits
+spelled_one old mid request (Change change) reply sendable (inl puts) fits =
+    subst (λ (s : SiteValue). AreSpelled s.states) (sym puts.1) (spelled_with old.states change.key change.state fits sendable.2)
+spelled_one old mid request (Change change) reply sendable (inr puts) fits = subst (λ (s : SiteValue). AreSpelled s.states) (sym puts.1) fits
+
+spelled_next : (old mid : SiteValue) (request : Request) (prepared : Prepared) (reply : Reply) (was : Bool) → old.broken ≡ was → IsSendable request prepared →
+    PutsIfWhole old mid prepared reply → AreSpelled old.states → AreSpelled mid.states
+spelled_next old mid request prepared reply true was sendable puts fits = subst (λ (s : SiteValue). AreSpelled s.states) (sym (puts.broken was).1) fits
+spelled_next old mid request prepared reply false was sendable puts fits = spelled_one old mid request prepared reply sendable (puts.whole was) fits
+
+spelled_all : (requests : List Request) (group : List Prepared) (replies : List Reply) (old new : SiteValue) → AreSendable requests group → PutsAll old new group replies →
+    AreSpelled old.states → AreSpelled new.states
+spelled_all requests [] [] old new sendable all fits = subst (λ (s : SiteValue). AreSpelled s.states) (sym all) fits
+spelled_all requests [] (x ∷ replies) old new sendable all fits = absurd all
+spelled_all requests (p ∷ group) [] old new sendable all fits = absurd all
+spelled_all [] (p ∷ group) (x ∷ replies) old new sendable all fits = absurd sendable
+spelled_all (r ∷ requests) (p ∷ group) (x ∷ replies) old new sendable all fits =
+    spelled_all requests group replies all.0 new sendable.1 all.2 (spelled_next old all.0 r p x old.broken refl sendable.0 all.1 fits)
+
+-- ---- what they were to change
+
+abbrev pub changing : List Request → List Prepared → List Request
+changing requests [] = []
+changing [] (prepared ∷ group) = []
+changing (request ∷ requests) (Answer reply ∷ group) = changing requests group
+changing (request ∷ requests) (Change change ∷ group) = request ∷ changing requests group
+
+after_changing : (config : ConfigValue) (requests : List Request) (group : List Prepared) (m : States) → ComeInOrder config m requests group →
+    after_all config m (changing requests group) ≡ with_group m group
+after_changing config requests [] m ordered = refl
+after_changing config [] (prepared ∷ group) m ordered = absurd ordered
+after_changing config (request ∷ requests) (Answer reply ∷ group) m ordered = after_changing config requests group m ordered.1
+after_changing config (request ∷ requests) (Change change ∷ group) m ordered =
+    ap (λ n. after_all config n (changing requests group)) ordered.0.0.after ∙ after_changing config requests group (insert m change.key change.state) ordered.1
+
+none_changing : (requests : List Request) (group : List Prepared) → pairs_in group ≡ [] → changing requests group ≡ []
+none_changing requests [] none = refl
+none_changing [] (prepared ∷ group) none = refl
+none_changing (request ∷ requests) (Answer reply ∷ group) none = none_changing requests group none
+none_changing (request ∷ requests) (Change change ∷ group) none = absurd cc
+
+unstored_undone : (requests : List Request) (group : List Prepared) → AreSendable requests group →
+    AreUndoneIn (turns_of requests (map reply_unstored group)) (changing requests group)
+unstored_undone requests [] sendable = tt
+unstored_undone [] (prepared ∷ group) sendable = absurd sendable
+unstored_undone (request ∷ requests) (Answer reply ∷ group) sendable =
+    undone_skip _ (turns_of requests (map reply_unstored group)) (changing requests group) (unstored_undone requests group sendable.1)
+unstored_undone (request ∷ requests) (Change change ∷ group) sendable = inl ((refl, inl refl), unstored_undone requests group sendable.1)
+
+-- what a crash may leave of the commit
+module _ (requests : List Request) (group : List Prepared) (old : SiteValue) (before : State) (ordered : ComeInOrder old.config old.states requests group)
+    (sendable : AreSendable requests group) (fits : AreSpelled old.states) where
+  left_group : (trees : Trees) → LeavesPairs before (pairs_in group) trees → LeavesAll (stored_site old before) (changing requests group) trees
+  left_group trees left = (
+    left.0,
+    λ was holds. (
+      let d = left.1 2 old.config.site left.0 holds.records in
+      (d.0, d.1, subst (λ m. HoldsStates old.config.site m d.0) (sym (after_changing old.config requests group old.states ordered)) (record {
+        records = d.2.0;
+        alone = subst HasNone (sym d.2.1.old_same) holds.alone;
+        spelled = subst (λ m. SpellStates m (with_group old.states group)) (sym d.2.1.saved) (saved_spelled group (new_states before.committed) old.states (holds.spelled was));
+        fits = spelled_group requests group old.states sendable fits;
+      }), d.3)),
+  )
+
 module _ (requests : List Request) (group : List Prepared) (replies : List Reply) (old new : SiteValue) (before after : State) (was : old.broken ≡ false) (ordered : ComeInOrder old.config old.states requests group)
     (sendable : AreSendable requests group) (all : PutsAll old new group replies) (fits : AreSpelled old.states) (sound : IsSound after → IsSound before) (clean : HasCleanDisk after → HasCleanDisk before)
     (opened : HasCleanDisk after → IsTrue after.is_open ⊎ (pairs_in group ≡ []))
-    (saved : (site : ℕ) → IsSound after → HoldsRecords 2 site before.committed → HoldsRecords 2 site after.committed × SavesStates before.committed after.committed (pairs_in group)) where
+    (saved : (site : ℕ) → IsSound after → HoldsRecords 2 site before.committed → HoldsRecords 2 site after.committed × SavesStates before.committed after.committed (pairs_in group))
+    (last : IsLast after) (survives : Survives before after (LeavesPairs before (pairs_in group))) where
   config_put : new.config ≡ old.config
   config_put = config_all (turns_of requests replies) old new (takes_put requests group replies old new (λ _. ordered) sendable all)
 
@@ -78,6 +152,22 @@ module _ (requests : List Request) (group : List Prepared) (replies : List Reply
     | inr none ↦ still_end group replies old new was none all
   ]
 
+  taken_put : HasCleanDisk after → IsTrue after.is_open ⊎ (new ≡ old)
+  taken_put disk = elim (opened disk) [ inl is ↦ inl is | inr none ↦ inr (still_end group replies old new was none all) ]
+
+  none_put : HasCleanDisk after → after.is_open ≡ false → AreUndoneIn (turns_of requests replies) (changing requests group)
+  none_put disk shut = elim (opened disk) [
+    | inl is ↦ absurd (true≢false (sym is ∙ shut))
+    | inr none ↦ subst (AreUndoneIn (turns_of requests replies)) (sym (none_changing requests group none)) tt
+  ]
+
+  leaves_put : LeavesTurns (turns_of requests replies) (stored_site old before) (stored_site new after)
+  leaves_put =
+      leaves_commit (AreUndoneIn (turns_of requests replies)) tt (stored_site old before) (stored_site new after) (changing requests group) last was
+      (spelled_all requests group replies old new sendable all) (λ disk trees may. elim (survives.crash disk trees may) [ inl first ↦ inl first | inr made ↦ inr (left_group requests group old before ordered sendable fits trees made) ])
+      taken_put holds_put none_put
+      (λ real rest broken. (let it = lost_put real rest.holds broken in (lost_requests it.lost, lost_undone (turns_of requests replies) new after.committed it, it.holds)))
+
   -- the changes were stored
   pub answers_put : AnswersAll requests replies old new before after
   answers_put =
@@ -95,13 +185,16 @@ module _ (requests : List Request) (group : List Prepared) (replies : List Reply
           stored = λ real holds _ broken. lost_put real holds broken;
           clean = clean;
           shut = shut_put;
+          leaves = leaves_put;
         });
       }
 
 -- the store refused them
-pub answers_unstored : (requests : List Request) (group : List Prepared) (old : SiteValue) (before after : State) → old.broken ≡ false → AllComeTo old.config old.states requests group → AreSendable requests group →
-    (IsSound after → IsSound before) → (HasCleanDisk after → HasCleanDisk before) → (IsSound after → after.committed ≡ before.committed) → AnswersAll requests (map reply_unstored group) old old before after
-answers_unstored requests group old before after was each sendable sound clean same =
+pub answers_unstored : (requests : List Request) (group : List Prepared) (old : SiteValue) (before after : State) → old.broken ≡ false → AllComeTo old.config old.states requests group →
+    ComeInOrder old.config old.states requests group → AreSendable requests group → AreSpelled old.states →
+    (IsSound after → IsSound before) → (HasCleanDisk after → HasCleanDisk before) → (IsSound after → after.committed ≡ before.committed) →
+    IsLast after → Survives before after (LeavesPairs before (pairs_in group)) → AnswersAll requests (map reply_unstored group) old old before after
+answers_unstored requests group old before after was each ordered sendable fits sound clean same last survives =
     let one : AreOne requests (map reply_unstored group) = one_unstored requests group sendable in
     record {
       turns = turns_of requests (map reply_unstored group);
@@ -116,5 +209,9 @@ answers_unstored requests group old before after was each sendable sound clean s
         stored = λ real holds whole broken. absurd (true≢false (sym broken ∙ was));
         clean = clean;
         shut = λ _ _. refl;
+        leaves = leaves_commit (AreUndoneIn (turns_of requests (map reply_unstored group))) tt (stored_site old before) (stored_site old after) (changing requests group) last was
+            (λ spelled. spelled) (λ disk trees may. elim (survives.crash disk trees may) [ inl first ↦ inl first | inr made ↦ inr (left_group requests group old before ordered sendable fits trees made) ])
+            (λ _. inr refl) (λ real holds. subst (HoldsSite old) (sym (same real)) holds) (λ _ _. unstored_undone requests group sendable)
+            (λ _ _ broken. absurd (true≢false (sym broken ∙ was)));
       });
     }

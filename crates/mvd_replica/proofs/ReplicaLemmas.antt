@@ -1,5 +1,5 @@
 -- What follows from the relations of a replica's calls, and how a push comes by them.
-use Rattle.std.proofs.Common.{◌≡◌, ◌≢◌, ◌∙◌, true, false, Result, Ok, Err, refl, sym, ap, subst, inl, inr, true≢false}
+use Rattle.std.proofs.Common.{arith, ◌≡◌, ◌≢◌, ◌∙◌, [], ◌∷◌, true, false, Result, Ok, Err, refl, sym, ap, subst, inl, inr, true≢false}
 use Rattle.std.specs.Result.{IfErr, MatchResult, OnOk}
 use Rattle.mvd_dots.specs.declared.refusals.Refusal.{Refusal}
 use Rattle.mvd_dots.specs.declared.refusals.Refusal.TheVariants.{Broken, DotClash, Memory, Store}
@@ -20,9 +20,11 @@ use Rattle.sqlite_trees.specs.declared.store.Store.{Ghosts}
 use Rattle.mvd_replica.specs.declared.replica.Replica.{Replica}
 use Rattle.mvd_replica.specs.Batch.{AnswersOneFrom}
 use Rattle.mvd_replica.specs.Kept.{PutsIn}
-use Rattle.mvd_replica.specs.ReplicaCalls.{Answers, PushesState}
-use Rattle.mvd_replica.specs.Replicas.{KeepsCommit, committed_of, site_of, store_of, stored_of}
+use Rattle.mvd_replica.specs.ReplicaCalls.{Answers, CountsPut, PushesState}
+use Rattle.mvd_replica.specs.Replicas.{CountsUpTo, KeepsCommit, commits_of, committed_of, next_count, site_of, store_of, stored_of}
 use Rattle.mvd_replica.specs.Sides.{AnswersFromStored, replica_follows_self}
+use Rattle.mvd_replica.specs.Whole.{leaves_self}
+use Rattle.mvd_replica.specs.Turns.{LeavesTurns}
 use Rattle.mvd_replica.proofs.Positions.{ReplicaFollows}
 use Rattle.mvd_replica.proofs.Sides.{follows_by, pushed_reply, stored_facts}
 use Rattle.mvd_replica.proofs.Stops.{survives_self}
@@ -33,6 +35,14 @@ module _ (old new : SiteValue) (change : ChangeValue) (refusal : Refusal) where
   pub unput_config : PutsIn {A = Unit {0}} old new change (Err refusal) → new.config ≡ old.config
   unput_config (inl store) = ap (λ (s : SiteValue). s.config) store.1
   unput_config (inr broke) = ap (λ (s : SiteValue). s.config) broke.1
+
+  pub unput_states : PutsIn {A = Unit {0}} old new change (Err refusal) → new.states ≡ old.states
+  unput_states (inl store) = ap (λ (s : SiteValue). s.states) store.1
+  unput_states (inr broke) = ap (λ (s : SiteValue). s.states) broke.1
+
+  pub unput_memory : PutsIn {A = Unit {0}} old new change (Err refusal) → refusal ≢ Memory
+  unput_memory (inl store) is = let bad : Store ≡ Memory = sym store.0 ∙ is in cc
+  unput_memory (inr broke) is = let bad : Broken ≡ Memory = sym broke.0 ∙ is in cc
 
   pub unput_told : PutsIn {A = Unit {0}} old new change (Err refusal) → Refused refusal ≡ Refused Broken → new.broken ≡ true
   unput_told (inl store) is = absurd (let bad : Broken ≡ Store = sym (refusal_is refusal Broken is) ∙ store.0 in cc)
@@ -67,6 +77,15 @@ broken_is : (site : SiteValue) → site.broken ≡ true → site ≡ broken_site
 broken_is site broken = λ i. record { config = site.config; states = site.states; broken = broken i }
 
 module _ {S : Type 0} {g : Ghosts S} where
+  -- one commit more, or none
+  pub counts_put : {A : Type 0} (old : Replica S g) (result : Result A Refusal) (new : Replica S g) → CountsPut old result new → CountsUpTo 1 old new
+  counts_put old result new (inl it) = omega (arith, it.1)
+  counts_put old result new (inr it) = omega (arith, it.1)
+
+  pub counted_put : {A : Type 0} (old : Replica S g) (result : Result A Refusal) (new : Replica S g) → CountsPut old result new → result ≢ Err Store → commits_of new ≡ next_count (commits_of old)
+  counted_put old result new (inl it) other = absurd (other it.0)
+  counted_put old result new (inr it) other = it.1
+
   -- one request, as the site alone sees it
   pub answers_one : (old new : Replica S g) (request : Request) (reply : Reply) → Answers old request reply new → AnswersOneFrom (site_of old) (site_of new) request reply
   answers_one old new request reply it = record {
@@ -120,6 +139,7 @@ module _ {S : Type 0} {g : Ghosts S} where
         follows = answers_follow old new (Push key pushed) reply asked;
         stored = λ sound holds unbroken broke. asked.stored sound holds unbroken (is ∙ ap (λ (r : Result (Unit {0}) Refusal). push_reply r) broke);
         survives = asked.survives;
+        leaves = subst (λ (r : Reply). LeavesTurns (record { asked = Ok (Push key pushed); reply = r } ∷ []) (stored_of old) (stored_of new)) is asked.leaves;
       }
 
   -- one to a broken replica
@@ -140,6 +160,7 @@ module _ {S : Type 0} {g : Ghosts S} where
     follows = replica_follows_self (stored_of old);
     stored = λ sound holds whole is. absurd (true≢false (sym broken ∙ whole));
     survives = survives_self _ _;
+    leaves = leaves_self _ (stored_of old) tt;
   }
 
   -- one for which no request could be made
@@ -160,4 +181,5 @@ module _ {S : Type 0} {g : Ghosts S} where
     follows = replica_follows_self (stored_of old);
     stored = λ sound holds unbroken is. absurd (let bad : ◌≡◌ {A = Result (Unit {0}) Refusal} (Err Memory) (Err Broken) = ap (λ (r : Refusal). Err r) (sym memory) ∙ is in cc);
     survives = survives_self _ _;
+    leaves = leaves_self _ (stored_of old) tt;
   }

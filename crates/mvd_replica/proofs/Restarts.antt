@@ -12,15 +12,18 @@ use Rattle.mvd_site.specs.Sites.{SiteValue}
 use Rattle.mvd_replica.specs.Batch.{HoldsLost, lost_requests}
 use Rattle.mvd_replica.specs.File.{HoldsFile}
 use Rattle.mvd_replica.specs.Kept.{HoldsSite, HoldsStates}
-use Rattle.mvd_replica.specs.Restarts.{AddAll, AllAnswered, AreRuns, IsRun, Run}
-use Rattle.mvd_replica.specs.Sides.{HoldsBroken, after_all}
-use Rattle.mvd_replica.specs.Turns.{AllTold, Event, IsFirstBroken, IsToldBroken, IsToldElse, TellsTurns, Turn, known_after}
-use Rattle.mvd_replica.proofs.Positions.{ReplicaFollows, TurnsFollow}
+use Rattle.mvd_replica.specs.Restarts.{AddAll, AllAnswered, AreRuns, IsRun, LeavesWholeTurns, Run}
+use Rattle.mvd_replica.specs.Sides.{HoldsBroken}
+use Rattle.mvd_replica.specs.Whole.{after_all}
+use Rattle.mvd_replica.specs.Turns.{AllTold, Event, IsFirstBroken, IsToldBroken, IsToldElse, LeavesTurns, TellsTurns, Turn, known_after}
+use Rattle.mvd_replica.proofs.Positions.{ReplicaFollows, TurnsFollow, stored_site}
 use Rattle.mvd_replica.proofs.Follows.{ours_held}
+use Rattle.mvd_replica.proofs.Stops.{held_in_file}
 use Rattle.mvd_replica.proofs.Storing.{holds_states}
 use Rattle.sqlite.specs.Effect.{Database}
 use Rattle.sqlite.specs.Recovery.{Image}
 use Rattle.sqlite.specs.State.{State}
+use Rattle.sqlite_trees.specs.declared.store.Store.{Ghosts}
 
 -- states stand for what is known, and after requests for what these add as well
 pub all_stand : (config : ConfigValue) (states : States) (known : List Write) (requests : List Request) (added : List Write) → Stands states known →
@@ -103,6 +106,20 @@ all_answered f site image states known (run ∷ runs) file stands (from, number,
       ),
 )
 
+-- ---- what a stop leaves of turns
+
+pub left_stands : {S : Type 0} (g : Ghosts S) → LeavesWholeTurns g
+left_stands g turns old new before after known events trees leaves stands knows tells rest clean may =
+    let it = leaves.leaves clean rest trees may in (
+      it.undone,
+      it.are,
+      λ image added held adds. (
+        after_all new.config new.states it.undone,
+        held_in_file image new.config.site _ trees it.left held,
+        all_stand new.config new.states (known ++ known_after events) it.undone added (stands known events knows tells) adds,
+      ),
+    )
+
 -- ---- a connection as such turns
 
 -- the first of the turns whose request was told 22, with those before it and behind it
@@ -129,8 +146,9 @@ broken_lost turns site db it =
       holds = it.holds;
     }
 
-pub turns_follow : (turns : List Turn) (old new : SiteValue) (before after : State) → ReplicaFollows (IsFirstBroken turns) old new before after → TurnsFollow turns old new before after
-turns_follow turns old new before after it = record {
+pub turns_follow : (turns : List Turn) (old new : SiteValue) (before after : State) → ReplicaFollows (IsFirstBroken turns) old new before after →
+    LeavesTurns turns (stored_site old before) (stored_site new after) → TurnsFollow turns old new before after
+turns_follow turns old new before after it leaves = record {
   site = it.site;
   sound = it.store.sound;
   holds = it.store.holds;
@@ -138,4 +156,5 @@ turns_follow turns old new before after it = record {
   stored = λ sound holds whole broken. broken_lost turns new after.committed (it.store.stored sound holds whole broken);
   clean = it.store.clean;
   shut = it.store.shut;
+  leaves = leaves;
 }

@@ -13,7 +13,7 @@ use Rattle.sqlite.specs.State.{HasCleanDisk, IsLive, State, Survives}
 use Rattle.sqlite.specs.Tree.{Trees}
 use Rattle.sqlite.proofs.StateLemmas.{survives_weaker}
 use Rattle.mvd_replica.specs.Kept.{AreSpelled, HoldsStates}
-use Rattle.mvd_replica.specs.Stops.{HoldsWhatIsLeft, LeavesAnswered, LeavesChange, StopsBetween}
+use Rattle.mvd_replica.specs.Stops.{HoldsWhatIsLeft, LeavesAnswered, LeavesChange}
 use Rattle.mvd_replica.proofs.Storing.{stored_broken}
 
 -- nothing was called
@@ -37,25 +37,15 @@ held_in_file image site states trees left held = record {
 
 -- one key was saved, as a change of a site
 pub survives_change : (site : SiteValue) (change : ChangeValue) (old new : State) (key bytes : List ℕ) → key ≡ change.key → bytes ≡ spell_state change.state →
-    Survives old new (Leaves old (λ version number db. HoldsRecords version number db × SavesState old.committed db key bytes)) → Survives old new (LeavesChange site change old)
-survives_change site change old new key bytes key-is bytes-is it = survives_weaker _ _ _ _ (λ _ trees left is_open holds. (
-    let d = left 2 site.config.site is_open holds in
-    (d.0, d.1, d.2.0, subst₂ (SavesState old.committed d.0) key-is bytes-is d.2.1, d.3))) it
+    Survives old new (λ trees. IsTrue old.is_open × Leaves old (λ version number db. HoldsRecords version number db × SavesState old.committed db key bytes) trees) → Survives old new (LeavesChange site change old)
+survives_change site change old new key bytes key-is bytes-is it = survives_weaker _ _ _ _ (λ _ trees left. (left.0, λ holds. (
+    let d = left.1 2 site.config.site left.0 holds in
+    (d.0, d.1, d.2.0, subst₂ (SavesState old.committed d.0) key-is bytes-is d.2.1, d.3)))) it
 
 -- the change that answers a request was stored
 pub survives_answered : (site : SiteValue) (request : Request) (change : ChangeValue) (old new : State) →
     after_from site.config site.states request ≡ insert site.states change.key change.state → AreSpelled site.states → IsSpelled change.state →
     Survives old new (LeavesChange site change old) → Survives old new (LeavesAnswered site request old)
-survives_answered site request change old new is fits fit it = survives_weaker _ _ _ _ (λ _ trees left is_open whole holds. (
-    let d = left is_open holds.records in
-    (d.0, d.1, stored_broken site old.committed d.0 change _ whole is d.3 fits fit d.2 holds, d.4))) it
-
--- Where the store was open and held the states, a stop at the call leaves them, or those with the request's change. A store that is
--- open leaves just its last commit, by the law `settled` of each store.
-pub stopped : (site : SiteValue) (request : Request) (old new : State) → ((trees : Trees) → IsTrue old.is_open → old.may_leave trees → trees ≡ old.committed.trees) →
-    IsLive old → Survives old new (LeavesAnswered site request old) → HasCleanDisk new → IsTrue old.is_open → site.broken ≡ false → AreSpelled site.states → HoldsStates site.config.site site.states old.committed →
-    StopsBetween site.config.site site.states (after_from site.config site.states request) new.may_leave
-stopped site request old new settled live it clean is_open whole fits holds trees may = elim (it.crash clean trees may) [
-  | inl before ↦ inl (old.committed, (live is_open).1, holds, settled trees is_open before)
-  | inr after ↦ inr (after is_open whole (record { records = holds.records; alone = holds.alone; spelled = λ _. holds.spelled }))
-]
+survives_answered site request change old new is fits fit it = survives_weaker _ _ _ _ (λ _ trees left. (left.0, λ whole holds. (
+    let d = left.1 holds.records in
+    (d.0, d.1, stored_broken site old.committed d.0 change _ whole is d.3 fits fit d.2 holds, d.4)))) it

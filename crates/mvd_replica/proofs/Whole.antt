@@ -12,11 +12,13 @@ use Rattle.mvd_replica.specs.declared.serving.Ended.{Ended}
 use Rattle.mvd_replica.specs.declared.serving.TheConstants.{FRAMES_MAX}
 use Rattle.mvd_replica.specs.Replicas.{StoredSite}
 use Rattle.mvd_replica.specs.Sides.{replica_follows_self}
-use Rattle.mvd_replica.specs.Turns.{AreFrames, Turn}
+use Rattle.mvd_replica.specs.Whole.{leaves_on, leaves_self, leaves_wider}
+use Rattle.mvd_replica.specs.Turns.{AreFrames, AreUndoneIn, Turn}
 use Rattle.mvd_replica.specs.Served.{Conversation, Ending, AtBye, AtEnd, AtRefusal, AtWriter, Stops, IsCount, IsCutCount, Served, Takes, Went, frames_most, replies_bytes, last_bytes, result_of}
 use Rattle.mvd_replica.specs.Steps.{Ends, IsLastCount, TakesTurn}
 use Rattle.mvd_replica.proofs.Positions.{GoesOut, GoesOutAfter}
 use Rattle.mvd_replica.proofs.Breaking.{follows_both, told_both}
+use Rattle.mvd_replica.proofs.Leaving.{undone_later, undone_more}
 use Rattle.mvd_replica.proofs.Replying.{Replies-append, Replies-none, StandsOn-append, StandsOn-none, AreFrames-append, GoesOn-append, HasChoice-none, HasChoice-append}
 
 pub replies_bytes-append : (first second : List Turn) → replies_bytes (first ++ second) ≡ replies_bytes first ++ replies_bytes second
@@ -32,6 +34,7 @@ Went-none conversation = record {
     goes_on = tt;
     told = λ _. tt;
     follows = replica_follows_self conversation.stored;
+    leaves = leaves_self _ conversation.stored tt;
   };
   config = refl;
   read = λ bytes known. (bytes, known, refl);
@@ -46,6 +49,9 @@ Takes-append first second a b c config one other = record {
   goes_on = GoesOn-append first second one.goes_on other.goes_on;
   told = told_both first second a.site b.site c.site a.store b.store c.store one.follows other.follows one.told other.told;
   follows = follows_both first second a.site b.site c.site a.store b.store c.store one.follows other.follows one.told;
+  leaves = leaves_on (AreUndoneIn (first ++ second)) a b c
+      (leaves_wider _ _ a b (undone_more first second) one.leaves) (leaves_wider _ _ b c (undone_later first second) other.leaves)
+      one.follows.site.1 other.follows.site.1 one.follows.store.sound other.follows.store.sound other.follows.store.clean one.follows.store.holds other.follows.store.shut;
 }
 
 pub Went-append : (first second : List Turn) (a b c : Conversation) → Went first a b → Went second b c → Went (first ++ second) a c
@@ -116,6 +122,7 @@ Served-full turns a b output fault one full told = record {
     goes_on = one.takes.goes_on;
     told = one.takes.told;
     follows = one.takes.follows;
+    leaves = one.takes.leaves;
   };
   count = inr (full ∙ most, refl);
   read = λ bytes known.

@@ -20,10 +20,13 @@ put_reply (Err refusal) = reply.Refused refusal
 
 -- ---- a question
 
--- The reply that `answer` gives to a question, from the states that are held: 22 of a broken replica, and 20 where memory was refused
+-- the reply that `answer` gives to a question, from the states that are held: 22 of a broken replica
+abbrev pub question_told : SiteValue → Request → Reply
+question_told site request = unless_broken site.broken (reply.Refused Broken) (answer_from site.config site.states request)
+
+-- this reply, or 20 of a replica that is not broken, where memory was refused
 abbrev pub TellsAnswer : SiteValue → Request → Reply → Type 0
-TellsAnswer site request told =
-    (told ≡ unless_broken site.broken (reply.Refused Broken) (answer_from site.config site.states request)) ⊎ ((site.broken ≡ false) × (told ≡ reply.Refused Memory))
+TellsAnswer site request told = (told ≡ question_told site request) ⊎ ((site.broken ≡ false) × (told ≡ reply.Refused Memory))
 
 -- the reply to a question of a row that came to this
 abbrev pub row_told : Result RowValue Refusal → Reply

@@ -15,8 +15,9 @@ use Rattle.mvd_site.specs.Sites.{SiteValue}
 use Rattle.mvd_sync.specs.Sides.{SiteFollows}
 use Rattle.mvd_replica.specs.Kept.{HoldsSite, HoldsStates}
 use Rattle.mvd_replica.specs.Replicas.{StoredSite}
-use Rattle.mvd_replica.specs.Sides.{AnswersFromStored, after_all}
-use Rattle.mvd_replica.specs.Turns.{Event, IsFirstBroken, IsToldBroken, IsToldElse, Replies, StandsOn, TellsTurns, Turn}
+use Rattle.mvd_replica.specs.Sides.{AnswersFromStored}
+use Rattle.mvd_replica.specs.Whole.{after_all}
+use Rattle.mvd_replica.specs.Turns.{Event, IsFirstBroken, IsToldBroken, IsToldElse, LeavesTurns, Replies, StandsOn, TellsTurns, Turn}
 use Rattle.sqlite.specs.Effect.{Database}
 use Rattle.sqlite.specs.State.{HasCleanDisk}
 
@@ -74,7 +75,7 @@ pub record HoldsLost (turns : List Turn) (site : SiteValue) (db : Database) : Ty
 
 -- What turns do to a replica. It keeps its configuration, and once broken all of its site. If the store is sound now it was, and
 -- if it held the site it does; once the site is broken the store stays as it is, and if that came by these turns it holds what the
--- commit in hand was to change as well. A store that was shut takes no change.
+-- commit in hand was to change as well. A store that was shut takes no change. A stop leaves whole turns.
 pub record TurnsFollow (turns : List Turn) (old new : StoredSite) : Type 0 where
   pub site : SiteFollows old.site new.site
   pub sound : IsSound new.store → IsSound old.store
@@ -84,6 +85,7 @@ pub record TurnsFollow (turns : List Turn) (old new : StoredSite) : Type 0 where
       new.site.broken ≡ true → HoldsLost turns new.site new.store.committed
   pub clean : HasCleanDisk new.store → HasCleanDisk old.store
   pub shut : HasCleanDisk new.store → old.store.is_open ≡ false → new.site ≡ old.site
+  pub leaves : LeavesTurns turns old new
 
 -- ---- both
 

@@ -19,12 +19,12 @@ use Rattle.sqlite.specs.Tree.{Trees}
 use Rattle.sqlite.specs.WalReads.{AreClean}
 use Rattle.mvd_replica.specs.declared.file.FileFault.{FileFault}
 use Rattle.mvd_replica.specs.declared.replica.Replica.{Replica}
-use Rattle.mvd_replica.specs.File.{ClosesFile, OpensFile}
+use Rattle.mvd_replica.specs.File.{ClosesFile, HoldsFile, OpensFile}
 use Rattle.mvd_replica.specs.Kept.{HoldsSite, HoldsStates}
 use Rattle.mvd_replica.specs.Refused.{FailsFile}
-use Rattle.mvd_replica.specs.Replicas.{conn_of, site_of}
+use Rattle.mvd_replica.specs.Replicas.{conn_of, site_of, stored_of}
 use Rattle.mvd_replica.specs.Restored.{HasWrites, IsFresh}
-use Rattle.mvd_replica.specs.Stops.{LeavesStates}
+use Rattle.mvd_replica.specs.Whole.{IsAtRest, LeavesStates}
 
 module _ {D : Type 0} {g : Ghosts D} {f : store.Ghosts (FileStore D g)} where
   -- what the connection of a replica shows whose records stand in a file
@@ -47,6 +47,9 @@ module _ {D : Type 0} {g : Ghosts D} {f : store.Ghosts (FileStore D g)} where
         OpensFile image config (site_of replica) (file_database replica))
     -- and no failure has shut the store, where the disk has returned what was written
     pub is_open : IfOk result (λ replica. HasCleanDisk (file_of replica) → IsTrue (file_of replica).is_open)
+    -- then a stop leaves the states of a site that the file held
+    pub rests : IfOk result (λ replica. HasCleanDisk (file_of replica) → (number : ℕ) (states : States) →
+        HoldsFile image number states → IsAtRest (stored_of replica))
     -- a refusal has its cause in what the file and its log hold, in the disk, in want of memory, or in a program that has the
     -- file open
     pub refused : IfErr result (FailsFile image config)

@@ -6,6 +6,7 @@ pub mod File
 pub mod Refused
 pub mod FileCalls
 pub mod Programs
+pub mod Whole
 pub mod Stops
 pub mod Turns
 pub mod Served

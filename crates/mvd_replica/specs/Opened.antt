@@ -10,6 +10,7 @@ use Rattle.mvd_site.specs.Sites.{SiteValue}
 use Rattle.sqlite.specs.Effect.{Database}
 use Rattle.sqlite.specs.State.{HasCleanDisk, State}
 use Rattle.mvd_replica.specs.Kept.{HoldsSite}
+use Rattle.mvd_replica.specs.Whole.{IsAtRest}
 use Rattle.mvd_replica.specs.Stored.{AreDamaged, AreReadable, HasJust, HoldsTooMany, Resumes, SameStates}
 
 -- What was found is in order. The site holds just the states that the two maps of the database found spell, and so do the records
@@ -48,6 +49,8 @@ pub record IsOpened (config : ConfigValue) (store : State) (site : SiteValue) (a
   -- no failure has shut it, where the disk has returned what was written
   pub is_open : HasCleanDisk after → IsTrue after.is_open
   pub opened : OfOurs store after (OpensSite config store.committed site after.committed)
+  -- a stop then leaves its states
+  pub rests : OfOurs store after (IsAtRest (record { site = site; store = after }))
   -- another program's database is never made one of ours
   pub own : ¬ HoldsForeign store
 

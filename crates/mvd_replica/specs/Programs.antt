@@ -16,7 +16,7 @@ use Rattle.sqlite.specs.WalReads.{AreClean}
 use Rattle.mvd_replica.specs.File.{HoldsAlone, HoldsFile, IsFoundIn}
 use Rattle.mvd_replica.specs.Kept.{HoldsSite, HoldsStates}
 use Rattle.mvd_replica.specs.Replicas.{StoredSite}
-use Rattle.mvd_replica.specs.Sides.{after_all}
+use Rattle.mvd_replica.specs.Whole.{after_all}
 use Rattle.mvd_replica.specs.Stored.{AreReadable, HasJust}
 
 -- whatever writes the states stood for, they stand for these, and perhaps for more, also where the site is broken

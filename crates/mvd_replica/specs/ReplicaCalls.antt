@@ -1,7 +1,8 @@
 -- What each call of a replica does: one relation for a call, over the replica before it, what it was called with, what it returned,
 -- and the replica after it.
-use Rattle.std.specs.Prelude.{◌≡◌, ◌≢◌, Bool, false, true, ℕ, List, [], ◌++◌, length, Option, Vec, Result, Ok, Err, IfErr, IfOk, OnOk, MatchResult}
+use Rattle.std.specs.Prelude.{◌≡◌, ◌≢◌, ◌⊎◌, ◌≤◌, ◌+◌, Bool, false, true, ℕ, List, [], ◌∷◌, ◌++◌, length, Option, Vec, Result, Ok, Err, IfErr, IfOk, OnOk, MatchResult}
 use Rattle.std.specs.declared.alloc.Global.{Global}
+use Rattle.mvd_dots.specs.Answer.{IsAnswer}
 use Rattle.mvd_dots.specs.declared.refusals.Refusal.{Refusal}
 use Rattle.mvd_dots.specs.declared.refusals.Refusal.TheVariants.{Broken, Damaged, DotClash, Memory, Store}
 use Rattle.mvd_keys.specs.State.{IsValid, State, clashes, join}
@@ -23,6 +24,7 @@ use Rattle.mvd_site.specs.FromStates.{after_from, bucket_refusal, push_reply, un
 use Rattle.mvd_site.specs.Held.{state_at}
 use Rattle.mvd_site.specs.Installs.{broken_site}
 use Rattle.mvd_site.specs.Known.{Adds}
+use Rattle.mvd_site.specs.Prepared.{IsFrugal, is_refusal}
 use Rattle.mvd_site.specs.Sites.{SiteValue}
 use Rattle.sqlite.specs.Held.{Held, state}
 use Rattle.sqlite.specs.State.{IsLive, Survives}
@@ -31,10 +33,10 @@ use Rattle.mvd_replica.specs.declared.replica.Replica.{Replica}
 use Rattle.mvd_replica.specs.Batch.{AnswersAll, AnswersFront}
 use Rattle.mvd_replica.specs.Kept.{HoldsSite, HoldsStates, Stores}
 use Rattle.mvd_replica.specs.Opened.{IsOpened, IsRefused}
-use Rattle.mvd_replica.specs.Replicas.{KeepsCommit, RecordsFollow, TakesIfOpen, WasClean, WasSound, committed_of, conn_of, site_of, store_of, stored_of}
+use Rattle.mvd_replica.specs.Replicas.{CountsUpTo, KeepsCommit, RecordsFollow, TakesIfOpen, WasClean, WasSound, commits_of, committed_of, conn_of, next_count, site_of, store_of, stored_of}
 use Rattle.mvd_replica.specs.Sides.{AnswersFromStored, ReplicaFollows}
 use Rattle.mvd_replica.specs.Stops.{LeavesAnswered, LeavesChange}
-use Rattle.mvd_replica.specs.Turns.{AnswersStored}
+use Rattle.mvd_replica.specs.Turns.{AnswersStored, LeavesTurns}
 
 -- the request would change nothing
 abbrev pub ChangesNothing : SiteValue → Request → Type 0
@@ -49,6 +51,10 @@ node_told site path = unless_broken site.broken (Err Broken) (Ok (node_digests (
 -- the digest of the root, or 22 of a broken site
 abbrev pub root_told : SiteValue → Result (List ℕ) Refusal
 root_told site = unless_broken site.broken (Err Broken) (Ok (node_digest (digests site.states) []))
+
+-- this, or of a site that is not broken that memory was refused
+abbrev pub TellsRoot : SiteValue → Result (List ℕ) Refusal → Type 0
+TellsRoot site result = IsAnswer result (root_told site) × (site.broken ≡ true → result ≡ Err Broken)
 
 -- a page of a bucket's keys with their digests, after a key if one is given
 pub record TellsPage (site : SiteValue) (node : List ℕ) (after : Option Key) (result : Result (Vec (Key × List ℕ) Global × Bool) Refusal) : Type 0 where
@@ -82,6 +88,8 @@ module _ {S : Type 0} {g : Ghosts S} where
         (λ refused. IsRefused config (state g conn) refused.0 (state g refused.1))
     -- the connection to another program's database is given back as it was
     pub foreign : HoldsForeign (state g conn) → result ≡ Err (Damaged, conn)
+    -- no commit is counted yet
+    pub counts : IfOk result (λ replica. commits_of replica ≡ 0)
 
   -- the connection of a replica
   pub record GivesConnection (replica : Replica S g) (conn : Held S) : Type 0 where
@@ -112,6 +120,11 @@ module _ {S : Type 0} {g : Ghosts S} where
   StoresChange old change result new =
       (number : ℕ) → IsSound (store_of new) → HoldsRecords 2 number (committed_of old) → Stores (committed_of old) (committed_of new) change result
 
+  -- a commit is counted, unless the store refused it
+  abbrev pub CountsPut : {A : Type 0} → Replica S g → Result A Refusal → Replica S g → Type 0
+  CountsPut old result new =
+      ((result ≡ Err Store) × (commits_of new ≡ commits_of old)) ⊎ ((result ≢ Err Store) × (commits_of new ≡ next_count (commits_of old)))
+
   -- a change that the store refused leaves the last commit as it was
   abbrev pub UnlessStored : {A : Type 0} → Replica S g → Result A Refusal → Replica S g → Type 0
   UnlessStored old result new = IsSound (store_of new) → result ≡ Err Store → committed_of new ≡ committed_of old
@@ -134,6 +147,11 @@ module _ {S : Type 0} {g : Ghosts S} where
     pub config : (site_of new).config ≡ (site_of old).config
     -- the reply is not too long for its frame
     pub fits : CanBeSent reply
+    -- it counts one commit or none, and one for a change that is told done
+    pub counts : CountsUpTo 1 old new
+    pub counted : (ChangesNothing (site_of old) request → ⊥) → is_refusal reply ≡ false → commits_of new ≡ next_count (commits_of old)
+    -- a request that takes no memory is not told want of it
+    pub frugal : IsFrugal (site_of old).states request → reply ≢ Refused Memory
     -- where 22 is told, the site is broken
     pub told : reply ≡ Refused Broken → (site_of new).broken ≡ true
     -- and where the site is broken, 22 is told
@@ -160,6 +178,8 @@ module _ {S : Type 0} {g : Ghosts S} where
     pub stored : StoresThoughBroken old request (reply ≡ Refused Broken) new
     -- a crash leaves what it left before the call, or the states with the request's change
     pub survives : SurvivesRequest old request new
+    -- and so of a site at rest the states, and maybe the change where 21 or 22 is told
+    pub leaves : LeavesTurns (record { asked = Ok request; reply = reply } ∷ []) (stored_of old) (stored_of new)
 
   -- ---- push
 
@@ -173,6 +193,8 @@ module _ {S : Type 0} {g : Ghosts S} where
     pub keeps : (known added : List Write) → Stands (site_of old).states known → Adds request reply added → Stands (site_of new).states (known ++ added)
     -- and where the store is sound, the records follow the states
     pub follows : ReplicaFollows (λ asked. asked ≡ request) (stored_of old) (stored_of new)
+    -- a stop leaves the request whole
+    pub leaves : LeavesTurns (record { asked = Ok request; reply = reply } ∷ []) (stored_of old) (stored_of new)
 
   -- one push, with what it came to
   pub record PushesState (old : Replica S g) (key : Key) (pushed : State) (result : Result (Unit {0}) Refusal) (new : Replica S g) : Type 0 where
@@ -206,6 +228,8 @@ module _ {S : Type 0} {g : Ghosts S} where
     pub stored : StoresThoughBroken old (Push key pushed) (result ≡ Err Broken) new
     -- a crash leaves what it left before the call, or the states with the push
     pub survives : SurvivesRequest old (Push key pushed) new
+    -- and so of a site at rest the states, and maybe the push where 21 or 22 is told
+    pub leaves : LeavesTurns (record { asked = Ok (Push key pushed); reply = push_reply result } ∷ []) (stored_of old) (stored_of new)
 
   -- ---- answer_all
 
@@ -214,8 +238,14 @@ module _ {S : Type 0} {g : Ghosts S} where
       (new : Replica S g) : Type 0 where
     -- each request has its reply, as one turn after the other
     pub answers : IfOk result (λ replies. AnswersAll requests replies.items (stored_of old) (stored_of new))
+    -- it counts at most one commit for each request
+    pub counts : CountsUpTo (length requests) old new
     -- the call itself is refused for want of memory alone, and then nothing was done
     pub memory : IfErr result (λ refusal. (refusal ≡ Memory) × (new ≡ old))
+
+  -- it counts at most one commit for each reply more
+  abbrev pub CountsReplies : List Reply → List Reply → Replica S g → Replica S g → Type 0
+  CountsReplies before after old new = commits_of new + length before ≤ commits_of old + length after
 
   -- some of the requests, from the first on, whose replies stand behind those before
   abbrev pub AnswersSome : Replica S g → List Request → List Reply → List Reply → Replica S g → Type 0

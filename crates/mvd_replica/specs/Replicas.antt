@@ -1,5 +1,5 @@
 -- A replica as its callers see it: its views, and what a call may keep of them. Clauses speak of a replica by these words alone.
-use Rattle.std.specs.Prelude.{◌≡◌, ◌⊎◌, IsTrue}
+use Rattle.std.specs.Prelude.{◌≡◌, ◌⊎◌, ◌≤◌, ◌+◌, ◌^◌, ◌-◌, ℕ, IsTrue, min}
 use Rattle.mvd_records.specs.Records.{IsSound}
 use Rattle.mvd_site.specs.Sites.{SiteValue}
 use Rattle.sqlite.specs.Effect.{Database}
@@ -13,6 +13,10 @@ use Rattle.mvd_replica.specs.Kept.{HoldsSite}
 pub record StoredSite : Type 1 where
   pub site : SiteValue
   pub store : State
+
+-- the count with one more, up to the greatest number
+abbrev pub next_count : ℕ → ℕ
+next_count count = min (count + 1) (2 ^ 64 - 1)
 
 -- a site with a connection to its store
 abbrev pub stored_by : {S : Type 0} → Ghosts S → SiteValue → Held S → StoredSite
@@ -37,6 +41,10 @@ module _ {S : Type 0} {g : Ghosts S} where
   abbrev pub committed_of : Replica S g → Database
   committed_of replica = (state g replica.records.conn).committed
 
+  -- how many commits of changes it has counted since it was opened
+  abbrev pub commits_of : Replica S g → ℕ
+  commits_of replica = replica.commits
+
   -- its site with its store
   abbrev pub stored_of : Replica S g → StoredSite
   stored_of replica = stored_by g (site_of replica) (conn_of replica)
@@ -54,6 +62,10 @@ module _ {S : Type 0} {g : Ghosts S} where
   -- a change is taken only with the store open
   abbrev pub TakesIfOpen : Replica S g → Replica S g → Type 0
   TakesIfOpen old new = HasCleanDisk (store_of new) → IsTrue (store_of new).is_open ⊎ (site_of new ≡ site_of old)
+
+  -- it counts at most so many more
+  abbrev pub CountsUpTo : ℕ → Replica S g → Replica S g → Type 0
+  CountsUpTo most old new = commits_of new ≤ commits_of old + most
 
   -- the last commit is the same
   abbrev pub KeepsCommit : Replica S g → Replica S g → Type 0

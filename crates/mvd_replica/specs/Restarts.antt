@@ -7,23 +7,22 @@ use Rattle.mvd_wire.specs.declared.request.Request.{Request}
 use Rattle.mvd_records.specs.Records.{IsSound}
 use Rattle.mvd_site.specs.Answer.{answer}
 use Rattle.mvd_site.specs.Config.{ConfigValue}
-use Rattle.mvd_site.specs.FromStates.{after_from}
 use Rattle.mvd_site.specs.Held.{AreHeld, States}
 use Rattle.mvd_site.specs.Known.{Adds}
 use Rattle.mvd_site.specs.Sites.{SiteValue}
 use Rattle.mvd_replica.specs.Batch.{HoldsLost, TurnsFollow, lost_requests}
 use Rattle.mvd_replica.specs.File.{HoldsFile, OpensFile}
-use Rattle.mvd_replica.specs.declared.replica.Replica.{Replica}
 use Rattle.mvd_replica.specs.Kept.{HoldsSite, HoldsStates}
-use Rattle.mvd_replica.specs.ReplicaCalls.{Answers}
-use Rattle.mvd_replica.specs.Replicas.{StoredSite, committed_of, site_of, store_of, stored_by, stored_of}
+use Rattle.mvd_replica.specs.Replicas.{StoredSite, stored_by}
 use Rattle.mvd_replica.specs.Served.{Served}
 use Rattle.mvd_replica.specs.declared.serving.Ended.{Ended}
-use Rattle.mvd_replica.specs.Stops.{StopsBetween}
-use Rattle.mvd_replica.specs.Turns.{AllTold, Event, Replies, StandsOn, TellsTurns, Turn, known_after}
-use Rattle.sqlite.specs.Held.{Held}
+use Rattle.mvd_replica.specs.Turns.{AllTold, AreUndoneIn, Event, LeavesTurns, Replies, StandsOn, TellsTurns, Turn, known_after}
+use Rattle.mvd_replica.specs.Whole.{IsAtRest}
+use Rattle.sqlite.specs.Held.{Held, state}
+use Rattle.sqlite.specs.Files.{HoldsDatabase}
 use Rattle.sqlite.specs.Recovery.{Image}
 use Rattle.sqlite.specs.State.{HasCleanDisk, State}
+use Rattle.sqlite.specs.Tree.{Trees}
 use Rattle.sqlite_trees.specs.declared.store.Store.{Ghosts}
 
 -- One run: what the file held, the site and its connection as it was opened, the turns that it took, both at the end, and what the
@@ -96,14 +95,13 @@ ServesInRun {S} g =
     (record { stored = stored_by g new after; input = input'; output = output' }) result) →
     TurnsFollow it.turns (stored_by g old before) (stored_by g new after)
 
--- A stop in the middle of a call of `answer`, or before the next one: whatever turns came before, if the store was sound when the call
--- began, the files hold the states that all of them left, or these with the change of the request in hand, and nothing else.
--- `key_count` tells that the states are held ones.
+-- A stop after turns, or within the last of them (`LeavesTurns`): a file that holds what it leaves holds states that stand for all
+-- that was known, for what the turns added, and for what some requests add that were told 21 or 22, if for any
 abbrev pub LeavesWholeTurns : {S : Type 0} → Ghosts S → Type 0
 LeavesWholeTurns {S} g =
-    (turns : List Turn) (old mid new : Replica S g) (request : Request) (reply : Reply) →
-    TurnsFollow turns (stored_of old) (stored_of mid) → Answers mid request reply new →
-    HoldsSite (site_of old) (committed_of old) → IsSound (store_of mid) → HasCleanDisk (store_of new) →
-    (site_of mid).broken ≡ false → AreHeld (site_of mid).states →
-    StopsBetween (site_of mid).config.site (site_of mid).states (after_from (site_of mid).config (site_of mid).states request)
-    (store_of new).may_leave
+    (turns : List Turn) (old new : SiteValue) (before after : Held S) (known : List Write) (events : List Event) (trees : Trees) →
+    LeavesTurns turns (stored_by g old before) (stored_by g new after) → StandsOn old new turns → Stands old.states known →
+    TellsTurns events turns → IsAtRest (stored_by g old before) → HasCleanDisk (state g after) → (state g after).may_leave trees →
+    (undone : List Request) × AreUndoneIn turns undone × ((image : Image) (added : List Write) → ∥ HoldsDatabase image trees ∥₁ →
+    AddAll new.config (known ++ known_after events) undone added →
+    (states : States) × HoldsFile image new.config.site states × Stands states ((known ++ known_after events) ++ added))

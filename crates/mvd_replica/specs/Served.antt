@@ -14,7 +14,7 @@ use Rattle.mvd_replica.specs.declared.serving.Ended.{Ended}
 use Rattle.mvd_replica.specs.declared.serving.Ended.TheVariants as ended
 use Rattle.mvd_replica.specs.Replicas.{StoredSite, stored_of}
 use Rattle.mvd_replica.specs.Sides.{ReplicaFollows}
-use Rattle.mvd_replica.specs.Turns.{AreFrames, Event, GoesOn, IsFirstBroken, IsToldElse, Replies, StandsOn, TellsTurns, Turn}
+use Rattle.mvd_replica.specs.Turns.{AreFrames, Event, GoesOn, IsFirstBroken, IsToldElse, LeavesTurns, Replies, StandsOn, TellsTurns, Turn}
 use Rattle.sqlite_trees.specs.declared.store.Store.{Ghosts}
 
 -- a site with its store, between a reader and a writer: what is left to read, and what was written, where that is known
@@ -122,9 +122,10 @@ pub record Takes (turns : List Turn) (old new : StoredSite) : Type 0 where
   pub told : new.site.broken ≡ false → AllByRecursion IsToldElse turns
   -- the records follow
   pub follows : ReplicaFollows (IsFirstBroken turns) old new
+  -- a stop leaves whole turns
+  pub leaves : LeavesTurns turns old new
 
--- A connection, from its first frame to its end. A Bye, and what could not be read as a frame, are no turns. Of a crash on the way
--- nothing is said here, but of each request (`Answers.survives`)
+-- A connection, from its first frame to its end. A Bye, and what could not be read as a frame, are no turns
 pub record Served (old new : Conversation) (result : Result Ended Refusal) : Type 0 where
   -- what was asked, each with its reply, in order; and why it ended
   pub turns : List Turn

@@ -20,6 +20,7 @@ use Rattle.mvd_sync.proofs.Pushes.{more_pushes, no_pushes}
 use Rattle.mvd_sync.specs.Sides.{SiteFollows, SiteRefuses, site_follows_on, site_follows_self}
 use Rattle.mvd_replica.specs.Kept.{HoldsSite, HoldsStates}
 use Rattle.mvd_replica.specs.Replicas.{StoredSite}
+use Rattle.mvd_replica.specs.Whole.{LeavesWhole, after_all, leaves_on, leaves_self}
 use Rattle.sqlite.specs.Effect.{Database}
 use Rattle.sqlite.specs.State.{HasCleanDisk}
 
@@ -42,21 +43,20 @@ pub record HoldsBroken (asks : Request → Type 0) (site : SiteValue) (db : Data
   pub changes : after_from site.config site.states request ≢ site.states
   pub holds : HoldsStates site.config.site (after_from site.config site.states request) db
 
--- the states after these requests, one after the other
-abbrev pub after_all : ConfigValue → States → List Request → States
-after_all config states [] = states
-after_all config states (request ∷ requests) = after_all config (after_from config states request) requests
-
 -- the request pushes a state
 abbrev pub IsPush : Request → Type 0
 IsPush request = (key : Key) × (pushed : Keyed) × (request ≡ Push key pushed)
+
+-- the requests push states
+abbrev pub ArePushes : List Request → Type 0
+ArePushes = AllByRecursion IsPush
 
 -- the records hold what a broken site had, with the changes of pushes put in, those of one commit
 pub record HoldsPushed (site : SiteValue) (db : Database) : Type 0 where
   pub request : Request
   pub changes : after_from site.config site.states request ≢ site.states
   pub rest : List Request
-  pub are_pushes : AllByRecursion IsPush (request ∷ rest)
+  pub are_pushes : ArePushes (request ∷ rest)
   pub holds : HoldsStates site.config.site (after_all site.config site.states (request ∷ rest)) db
 
 -- What calls do to the store. If it is sound now it was, and if it held the site it does; once the site is broken it stays as it
@@ -132,12 +132,15 @@ pub record SideFollows (old new : StoredSite) : Type 0 where
   pub site : SiteFollows old.site new.site
   pub store : StoreFollows HoldsPushed old new
   pub comes : ComesByPushes (λ _ _. Unit {0}) old.site.states new.site.states
+  -- a stop leaves all that was taken, and of the pushes that were refused nothing, or what a commit was to change
+  pub leaves : LeavesWhole ArePushes old new
 
 pub side_follows_self : (stored : StoredSite) → SideFollows stored stored
 side_follows_self stored = record {
   site = site_follows_self stored.site;
   store = store_follows_self stored;
   comes = no_pushes _ _ _ refl;
+  leaves = leaves_self ArePushes stored tt;
 }
 
 pub side_follows_on : (old mid new : StoredSite) → SideFollows old mid → SideFollows mid new → SideFollows old new
@@ -145,6 +148,7 @@ side_follows_on old mid new p q = record {
   site = site_follows_on old.site mid.site new.site p.site q.site;
   store = store_follows_on HoldsPushed old mid new q.site.1 p.store q.store p.site.1;
   comes = more_pushes _ _ _ _ p.comes q.comes;
+  leaves = leaves_on ArePushes old mid new p.leaves q.leaves p.site.1 q.site.1 p.store.sound q.store.sound q.store.clean p.store.holds q.store.shut;
 }
 
 -- a replica, as it is after that, may have refused so: as a site does, or the store did

@@ -15,7 +15,7 @@ use Rattle.mvd_replica.specs.declared.replica.Replica.{Replica}
 use Rattle.mvd_replica.specs.declared.serving.Ended.{Ended}
 use Rattle.mvd_replica.specs.Replicas.{site_of, stored_of}
 use Rattle.mvd_replica.specs.Sides.{ReplicaFollows}
-use Rattle.mvd_replica.specs.Turns.{AddsAt, AreFrames, IsToldElse, RepliesOne, Turn}
+use Rattle.mvd_replica.specs.Turns.{AddsAt, AreFrames, IsToldElse, LeavesTurns, RepliesOne, Turn}
 use Rattle.mvd_replica.specs.Served.{AtBye, AtEnd, AtRefusal, AtWriter, Ending, GoesOut, Stops, Takes, Conversation, Went, last_bytes, replies_bytes, result_of}
 use Rattle.sqlite_trees.specs.declared.store.Store.{Ghosts}
 
@@ -66,6 +66,11 @@ IsLastCount count AtEnd = count ≡ 0
 IsLastCount count (AtRefusal refusal) = (count ≡ 0) × (refusal ≢ TooManyRequests)
 IsLastCount count AtWriter = count ≡ 1
 
+-- the turn of a frame, none where it is a Bye
+abbrev pub turns_at : Result Request Refusal → Option Reply → List Turn
+turns_at asked None = []
+turns_at asked (Some reply) = record { asked = asked; reply = reply } ∷ []
+
 -- the connection ends here
 pub record Ends (old new : Conversation) (result : Result Ended Refusal) : Type 0 where
   pub turns : List Turn
@@ -95,3 +100,7 @@ module _ {S : Type 0} {g : Ghosts S} where
   -- and its records follow
   abbrev pub FollowsFrame : Replica S g → Frame → Replica S g → Type 0
   FollowsFrame old frame new = ReplicaFollows (λ request. asked_in frame ≡ Ok request) (stored_of old) (stored_of new)
+
+  -- and a stop leaves it whole
+  abbrev pub LeavesFrame : Replica S g → Frame → Option Reply → Replica S g → Type 0
+  LeavesFrame old frame result new = LeavesTurns (turns_at (asked_in frame) result) (stored_of old) (stored_of new)

@@ -13,28 +13,21 @@ use Rattle.sqlite.specs.Recovery.{Image}
 use Rattle.sqlite.specs.State.{State}
 use Rattle.sqlite.specs.Tree.{Trees}
 use Rattle.mvd_replica.specs.File.{HoldsFile}
-use Rattle.mvd_replica.specs.Kept.{HoldsSite, HoldsStates}
+use Rattle.mvd_replica.specs.Kept.{HoldsSite}
+use Rattle.mvd_replica.specs.Whole.{LeavesStates}
 
--- the trees are those of a database that holds these states of a site, and which lists its schema and obeys it
-abbrev pub LeavesStates : ℕ → States → Trees → Type 0
-LeavesStates site states trees = (db : Database) × IsDatabase db × HoldsStates site states db × (trees ≡ db.trees)
-
--- the trees are those of the records with a change stored, if the records were a site's
+-- the store was open, and the trees are those of the records with a change stored, if the records were a site's
 abbrev pub LeavesChange : SiteValue → ChangeValue → State → Trees → Type 0
-LeavesChange site change s trees = IsTrue s.is_open → HoldsRecords 2 site.config.site s.committed →
+LeavesChange site change s trees = IsTrue s.is_open × (HoldsRecords 2 site.config.site s.committed →
     (db : Database) × IsDatabase db × HoldsRecords 2 site.config.site db
-    × SavesState s.committed db change.key (spell_state change.state) × (trees ≡ db.trees)
+    × SavesState s.committed db change.key (spell_state change.state) × (trees ≡ db.trees))
 
--- the trees hold the states with the request's change, if the records held the site's
+-- the store was open, and the trees hold the states with the request's change, if the records held the site's
 abbrev pub LeavesAnswered : SiteValue → Request → State → Trees → Type 0
-LeavesAnswered site request s trees = IsTrue s.is_open → site.broken ≡ false → HoldsSite site s.committed →
-    LeavesStates site.config.site (after_from site.config site.states request) trees
+LeavesAnswered site request s trees = IsTrue s.is_open × (site.broken ≡ false → HoldsSite site s.committed →
+    LeavesStates site.config.site (after_from site.config site.states request) trees)
 
 -- An image that holds what a stop left of a site holds the site's states, and so the next `open_file` finds just these
 abbrev pub HoldsWhatIsLeft : Type 0
 HoldsWhatIsLeft = (image : Image) (site : ℕ) (states : States) (trees : Trees) → LeavesStates site states trees →
     ∥ HoldsDatabase image trees ∥₁ → HoldsFile image site states
-
--- a stop leaves the states before the call or those after it, and nothing else
-abbrev pub StopsBetween : ℕ → States → States → (Trees → Type 0) → Type 0
-StopsBetween site before after may_leave = (trees : Trees) → may_leave trees → LeavesStates site before trees ⊎ LeavesStates site after trees

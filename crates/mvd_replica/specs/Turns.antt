@@ -1,5 +1,5 @@
 -- What a connection asked and was answered, frame by frame.
-use Rattle.std.specs.Prelude.{◌≡◌, ◌⊎◌, Bool, false, ℕ, List, [], ◌∷◌, ◌++◌, map, flat_map, Some, Result, Ok, Err}
+use Rattle.std.specs.Prelude.{◌≡◌, ◌⊎◌, Bool, false, ℕ, List, [], ◌∷◌, ◌++◌, map, flat_map, Some, Result, Ok, Err, ⊤}
 use Rattle.std.specs.List.{AllByRecursion}
 use Rattle.mvd_dots.specs.declared.refusals.Refusal.{Refusal}
 use Rattle.mvd_dots.specs.declared.refusals.Refusal.TheVariants.{Broken, Memory, Store}
@@ -13,6 +13,8 @@ use Rattle.mvd_wire.specs.Requests.{request_of}
 use Rattle.mvd_site.specs.Config.{ConfigValue}
 use Rattle.mvd_site.specs.Known.{Adds, Changes, MayReply}
 use Rattle.mvd_site.specs.Sites.{SiteStands, SiteValue}
+use Rattle.mvd_replica.specs.Replicas.{StoredSite}
+use Rattle.mvd_replica.specs.Whole.{LeavesWhole}
 
 -- the store refused a change, and the site is as it was
 pub record StoreRefused (config : ConfigValue) (known : List Write) (before : Bool) (request : Request) (reply : Reply) (after : Bool) : Type 0 where
@@ -106,6 +108,22 @@ IsToldElse turn = (request : Request) → ¬ IsToldBroken request turn
 abbrev pub IsFirstBroken : List Turn → Request → Type 0
 IsFirstBroken [] request = ⊥
 IsFirstBroken (turn ∷ turns) request = IsToldBroken request turn ⊎ (IsToldElse turn × IsFirstBroken turns request)
+
+-- the turn asked this request, and the store refused it, or it broke the site
+abbrev pub IsToldUndone : Request → Turn → Type 0
+IsToldUndone request turn = (turn.asked ≡ Ok request) × ((turn.reply ≡ Refused Store) ⊎ (turn.reply ≡ Refused Broken))
+
+-- some of the turns, in order, asked these requests, and each was told 21 or 22
+abbrev pub AreUndoneIn : List Turn → List Request → Type 0
+AreUndoneIn turns [] = ⊤
+AreUndoneIn [] (request ∷ requests) = ⊥
+AreUndoneIn (turn ∷ turns) (request ∷ requests) =
+    (IsToldUndone request turn × AreUndoneIn turns requests) ⊎ AreUndoneIn turns (request ∷ requests)
+
+-- What a stop leaves of a stored site after these turns: all that they were told done, and of what they were refused with 21 or 22
+-- nothing, or what a commit was to change
+abbrev pub LeavesTurns : List Turn → StoredSite → StoredSite → Type 0
+LeavesTurns turns old new = LeavesWhole (AreUndoneIn turns) old new
 
 -- the turn is no Bye
 abbrev pub GoesOn : Turn → Type 0

@@ -1,6 +1,6 @@
 //! Many requests at once, whose changes share commits.
 ghost use Rattle.std.specs.Prelude.{◌≡◌, ◌≤◌, ◌<◌, ◌+◌, length, vec_capacity};
-ghost use Rattle.mvd_replica.specs.ReplicaCalls.{AnswersEach, AnswersMany, AnswersSome};
+ghost use Rattle.mvd_replica.specs.ReplicaCalls.{AnswersEach, AnswersMany, AnswersSome, CountsReplies};
 
 use crate::groups::{counted, prepare_all, refuse_all, store_all};
 use crate::replica::Replica;
@@ -29,6 +29,7 @@ impl<S: Alter> Replica<S> {
         requires room { length replies.old.items + length requests.now ≤ vec_capacity replies.old }
         ensures answers { AnswersSome self.old requests.now replies.old.items replies.new.items self.new }
         ensures room { vec_capacity replies.new ≡ vec_capacity replies.old }
+        ensures counts { CountsReplies replies.old.items replies.new.items self.old self.new }
     {
         if self.site.is_broken() {
             return self.answer_each(requests, replies);
@@ -55,6 +56,7 @@ impl<S: Alter> Replica<S> {
         requires room { length replies.old.items + length requests.now ≤ vec_capacity replies.old }
         ensures answers { AnswersEach self.old requests.now replies.old.items replies.new.items self.new }
         ensures room { vec_capacity replies.new ≡ vec_capacity replies.old }
+        ensures counts { CountsReplies replies.old.items replies.new.items self.old self.new }
     {
         for request in requests {
             let reply = self.answer(request);

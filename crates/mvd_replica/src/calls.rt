@@ -1,12 +1,13 @@
 //! The calls of a program: each gives what it asks for, or the refusal.
-ghost use Rattle.std.specs.Prelude.{◌≡◌, true};
-ghost use Rattle.mvd_dots.specs.Answer.{IsAnswer};
+ghost use Rattle.std.specs.Prelude.{◌≡◌, ◌≢◌, true};
 ghost use Rattle.mvd_wire.specs.declared.request.Request.TheVariants.{Put, Delete, Find, Range, Row, Rows};
 ghost use Rattle.mvd_site.specs.Answer.{is_question, places_reply, rows_reply};
 ghost use Rattle.mvd_site.specs.FromStates.{push_reply};
+ghost use Rattle.mvd_site.specs.Prepared.{IsFrugal};
+ghost use Rattle.mvd_wire.specs.declared.reply.Reply.TheVariants.{Refused};
 ghost use Rattle.mvd_replica.specs.Asks.{ArePlaces, AreRows, IsDone, IsReplyTo, IsRow, IsWritten};
-ghost use Rattle.mvd_replica.specs.Asks.{TellsAnswer, put_reply, row_told};
-ghost use Rattle.mvd_replica.specs.ReplicaCalls.{Answers, ReplicaAnswers, root_told};
+ghost use Rattle.mvd_replica.specs.Asks.{TellsAnswer, put_reply, question_told, row_told};
+ghost use Rattle.mvd_replica.specs.ReplicaCalls.{Answers, ReplicaAnswers, TellsRoot};
 ghost use Rattle.mvd_replica.specs.Replicas.{site_of};
 
 use crate::replica::Replica;
@@ -86,7 +87,7 @@ impl<S: Alter> Replica<S> {
 
     /// One row of a view.
     pub fn row(&self, view: ViewName, term: Term) -> Result<RowValue, Refusal>
-        ensures { TellsAnswer (site_of self.now) (Row view term) (row_told result) }
+        ensures { row_told result ≡ question_told (site_of self.now) (Row view term) }
     {
         let request = Request::Row(view, term);
         let reply = self.look_up(&request);
@@ -106,7 +107,7 @@ impl<S: Alter> Replica<S> {
 
     /// The digest of the root of the hash tree: replicas with the same states have the same.
     pub fn root(&self) -> Result<[u8; 32], Refusal>
-        ensures { IsAnswer result (root_told (site_of self.now)) }
+        ensures { TellsRoot (site_of self.now) result }
     {
         if self.is_broken() {
             return Err(Refusal::Broken);
@@ -131,6 +132,7 @@ impl<S: Alter> Replica<S> {
         requires { is_question request.now ≡ true }
         ensures tells { TellsAnswer (site_of self.now) request.now result }
         ensures kind { IsReplyTo request.now result }
+        ensures frugal { IsFrugal (site_of self.now).states request.now → result ≢ Refused Refusal.Memory }
     {
         match self.site.prepare(request) {
             Ok(Prepared::Answer(reply)) => reply,

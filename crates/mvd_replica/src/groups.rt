@@ -7,7 +7,8 @@ ghost use Rattle.mvd_site.specs.Installs.{changes_in, is_change};
 ghost use Rattle.mvd_replica.specs.Groups.{ComesTo, IsApart, IsElsewhere, IsSendable, MayJoin, StandTogether};
 ghost use Rattle.mvd_replica.specs.Groups.{pairs_in, reply_unstored};
 ghost use Rattle.mvd_replica.specs.Restored.{WereSound};
-ghost use Rattle.mvd_replica.specs.Shared.{IsUnstored, StoresNone, StoresOpen, StoresPairs, WereClean};
+ghost use Rattle.mvd_replica.specs.Shared.{IsUnstored, StoresNone, StoresOpen, StoresPairs, SurvivesPairs};
+ghost use Rattle.mvd_replica.specs.Shared.{WereClean};
 
 use mvd_dots::Refusal;
 use mvd_keys::Key;
@@ -168,6 +169,7 @@ pub fn store_all<S: Alter>(
     ensures unchanged { StoresNone S.Store records.old result records.new }
     ensures refusal { IfErr result (IsUnstored records.old records.new) }
     ensures version { records.new.version ≡ records.old.version }
+    ensures survives { SurvivesPairs S.Store records.old (pairs_in group.now) records.new }
 {
     if group.len() == 1 {
         return match &group[0] {
@@ -183,7 +185,9 @@ pub fn store_all<S: Alter>(
 }
 
 /// A count of commits, with the one that stored these; there is none where no change is among them.
-pub fn counted(commits: u64, group: &[Prepared]) -> u64 {
+pub fn counted(commits: u64, group: &[Prepared]) -> u64
+    ensures { result ≤ commits + 1 }
+{
     for prepared in group {
         if let Prepared::Change(_) = prepared {
             return commits.saturating_add(1);

@@ -22,9 +22,8 @@ pub fn a_site_answers_across_restarts<S: Alter>()
     ensures connection { ServesInRun S.Store }
 {}
 
-/// A stop while `answer` has a request in hand, after any turns of connections or of rounds of many:
-/// what it leaves in the files are the states after all those turns, or these with what the request
-/// changes. Of a stop in the middle of `answer_all` it says nothing.
+/// A stop after any turns, of connections, of rounds of many or of requests at once, or in the middle of them: what it leaves in the
+/// files stands for all that the turns were told, and perhaps for what one commit was to change that was refused with 21 or 22.
 pub fn a_stop_leaves_whole_turns<S: Alter>()
     ensures turns { LeavesWholeTurns S.Store }
     // The next open finds what is left so.

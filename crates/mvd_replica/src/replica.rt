@@ -33,9 +33,9 @@ pub struct Replica<S: Alter> {
 impl<S: Alter> Replica<S> {
     ghost use Rattle.mvd_replica.specs.Kept.{PutsIn};
     ghost use Rattle.mvd_replica.specs.ReplicaCalls.{Answers, GivesConnection, OpensReplica, PushesState};
-    ghost use Rattle.mvd_replica.specs.ReplicaCalls.{KeepsRecords, StoresChange, SurvivesChange};
+    ghost use Rattle.mvd_replica.specs.ReplicaCalls.{CountsPut, KeepsRecords, StoresChange, SurvivesChange};
     ghost use Rattle.mvd_replica.specs.ReplicaCalls.{TellsPage, TellsState, UnlessStored, node_told};
-    ghost use Rattle.mvd_replica.specs.Replicas.{TakesIfOpen, WasClean, WasSound, site_of};
+    ghost use Rattle.mvd_replica.specs.Replicas.{TakesIfOpen, WasClean, WasSound, commits_of, site_of};
 
     /// The replica of a site, with the states that its records hold. Records of version 1 are moved to
     /// version 2 first, key by key. A refusal gives the connection back. Another program's database is
@@ -53,8 +53,9 @@ impl<S: Alter> Replica<S> {
         };
         match site_in(alloc, &mut records, config) {
             Ok(site) => {
-                // Here it is known that what is held has spellings.
+                // Here it is known that what is held has spellings, and that the database obeys its schema.
                 let _held = site.key_count();
+                let _version = records.version();
                 Ok(Replica {
                     alloc,
                     site,
@@ -83,7 +84,9 @@ impl<S: Alter> Replica<S> {
     }
 
     /// How many commits of changes were made since it was opened; it stays at the greatest number.
-    pub fn commits(&self) -> u64 {
+    pub fn commits(&self) -> u64
+        ensures { result ≡ commits_of self.now }
+    {
         self.commits
     }
 
@@ -115,6 +118,7 @@ impl<S: Alter> Replica<S> {
         ensures kept { KeepsRecords self.old self.new }
         ensures stored { StoresChange self.old change result self.new }
         ensures taken { TakesIfOpen self.old self.new }
+        ensures counts { CountsPut self.old result self.new }
         ensures clean { WasClean self.old self.new }
         ensures unchanged { UnlessStored self.old result self.new }
         ensures survives { SurvivesChange self.old change self.new }

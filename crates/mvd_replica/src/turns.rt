@@ -5,7 +5,7 @@ ghost use Rattle.mvd_wire.specs.declared.request.Request.TheVariants.{Bye};
 ghost use Rattle.mvd_wire.specs.declared.reply.Reply.TheVariants.{Done, Refused};
 ghost use Rattle.mvd_wire.specs.Replies.{CanBeSent, reply_bytes};
 ghost use Rattle.mvd_replica.specs.Served.{conversation_of};
-ghost use Rattle.mvd_replica.specs.Steps.{AnswersFrame, FollowsFrame, SendsReply, StopsWith, TakesTurn};
+ghost use Rattle.mvd_replica.specs.Steps.{AnswersFrame, FollowsFrame, LeavesFrame, SendsReply, StopsWith, TakesTurn};
 
 use crate::replica::Replica;
 use crate::serving::Ended;
@@ -65,6 +65,7 @@ fn is_bye(request: &Request) -> bool
 fn reply_to<S: Alter>(alloc: Global, replica: &mut Replica<S>, frame: &Frame) -> Option<Reply>
     ensures told { AnswersFrame replica.old frame.now result replica.new }
     ensures follows { FollowsFrame replica.old frame.now replica.new }
+    ensures leaves { LeavesFrame replica.old frame.now result replica.new }
 {
     let request = match decode_request(alloc, frame.kind, &frame.payload) {
         Ok(request) => request,

@@ -2,7 +2,7 @@ use Rattle.std.proofs.Common.{◌≡◌, subst, sym, refl, IsTrue, Err, rules, a
 use Rattle.sqlite.specs.Effect.{Database, IsDatabase}
 use Rattle.sqlite.specs.Held.{Held, state}
 use Rattle.sqlite.specs.State.{HasCleanDisk, KeepsCommit, Survives}
-use Rattle.mvd_records.specs.Records.{IsSettled, IsSound, IsOurs, OpensRecords, StaysInside, LeavesOpened, LeavesRefused, TellsVersion, marks_of}
+use Rattle.mvd_records.specs.Records.{IsSettled, IsSound, IsOurs, OpensRecords, StaysInside, LeavesMade, LeavesUnmade, TellsVersion, marks_of}
 use Rattle.mvd_records.proofs.Opened.{begun, undone, before_undone, committed_before, rolled_back, not_committed, survives_all, leaves, opened_mid}
 use Rattle.mvd_records.proofs.Calls.{same_commit}
 use Rattle.mvd_records.proofs.open.open.Given.{Over}
@@ -45,10 +45,10 @@ returns-in-Ok-commit-clause-survives g c =
     let stays = subst (λ (h : Held _). StaysInside (state g.S.Store h) (state g.S.Store mid)) begun c.prepare.ensures.stays in
     let opened = λ (clean : HasCleanDisk (state g.S.Store c.commit.new.self.0)). subst (λ (h : Held _). IsTrue (state g.S.Store h).in_transaction → IsOurs (state g.S.Store h).now → OpensRecords c.in-Ok.version c.args.site (state g.S.Store h).now (state g.S.Store mid).now) begun (c.in-Ok.ensures.opened (early clean)) in
     let sound = λ (clean : HasCleanDisk (state g.S.Store c.commit.new.self.0)). subst (λ (h : Held _). IsTrue (state g.S.Store h).in_transaction → IsOurs (state g.S.Store h).now → IsDatabase (state g.S.Store h).now → IsDatabase (state g.S.Store mid).now) begun (c.in-Ok.ensures.sound (early clean)) in
-    let whole = survives_all g.S.Store c.args.conn.now mid (state g.S.Store c.commit.new.self.0) _ (LeavesOpened old c.args.site) stays
+    let whole = survives_all g.S.Store c.args.conn.now mid (state g.S.Store c.commit.new.self.0) _ (LeavesMade old c.args.site) stays
     (λ clean db is. leaves g.S.Store c.args.conn.now mid c.args.site c.in-Ok.version settled (opened clean) (sound clean) db is) c.commit.ensures.survives in
     let same : c.commit.new.self.0 ≡ c.conn-2-1.given.0 = search rules in
-    subst (λ (h : Held _). Survives old (state g.S.Store h) (LeavesOpened old c.args.site)) same whole
+    subst (λ (h : Held _). Survives old (state g.S.Store h) (LeavesMade old c.args.site)) same whole
 
 pub returns-in-Err-commit-clause-survives : goal.returns-in-Err-commit-clause-survives
 returns-in-Err-commit-clause-survives g c =
@@ -60,10 +60,10 @@ returns-in-Err-commit-clause-survives g c =
     let stays = subst (λ (h : Held _). StaysInside (state g.S.Store h) (state g.S.Store mid)) begun c.prepare.ensures.stays in
     let opened = λ (clean : HasCleanDisk (state g.S.Store c.commit.new.self.0)). subst (λ (h : Held _). IsTrue (state g.S.Store h).in_transaction → IsOurs (state g.S.Store h).now → OpensRecords c.in-Ok.version c.args.site (state g.S.Store h).now (state g.S.Store mid).now) begun (c.in-Ok.ensures.opened (early clean)) in
     let sound = λ (clean : HasCleanDisk (state g.S.Store c.commit.new.self.0)). subst (λ (h : Held _). IsTrue (state g.S.Store h).in_transaction → IsOurs (state g.S.Store h).now → IsDatabase (state g.S.Store h).now → IsDatabase (state g.S.Store mid).now) begun (c.in-Ok.ensures.sound (early clean)) in
-    let whole = survives_all g.S.Store c.args.conn.now mid (state g.S.Store c.commit.new.self.0) _ (LeavesOpened old c.args.site) stays
+    let whole = survives_all g.S.Store c.args.conn.now mid (state g.S.Store c.commit.new.self.0) _ (LeavesMade old c.args.site) stays
     (λ clean db is. leaves g.S.Store c.args.conn.now mid c.args.site c.in-Ok.version settled (opened clean) (sound clean) db is) c.commit.ensures.survives in
     let same : c.commit.new.self.0 ≡ c.conn-2-1.given.0 = search rules in
-    subst (λ (h : Held _). Survives old (state g.S.Store h) (LeavesOpened old c.args.site)) same whole
+    subst (λ (h : Held _). Survives old (state g.S.Store h) (LeavesMade old c.args.site)) same whole
 
 -- ---- where the transaction is dropped, and where the commit fails
 
@@ -119,5 +119,5 @@ returns-in-Err-commit-clause-unchanged g c =
 pub returns-in-Err-clause-survives : goal.returns-in-Err-clause-survives
 returns-in-Err-clause-survives g c =
     let old = state g.S.Store c.args.conn.now in
-    subst (λ (h : Held _). Survives old (state g.S.Store h) (LeavesRefused c.in-Err.refusal old c.args.site)) (same_dropped g c)
+    subst (λ (h : Held _). Survives old (state g.S.Store h) (LeavesUnmade c.in-Err.refusal old c.args.site)) (same_dropped g c)
     (survives_all g.S.Store c.args.conn.now c.prepare.new.tx.conn.now _ (λ _. ⊥) _ (stays_dropped g c) (λ _ _ none. absurd none) c.drop-tx.ensures.survives)

@@ -1,8 +1,10 @@
-use Rattle.std.proofs.Common.{List, ℕ, ap₂, cond, Bool}
+use Rattle.std.proofs.Common.{List, ℕ, ap₂, cond, subst, sym, Bool}
 use Rattle.std.proofs.lemmas.Option.{IfSome_then}
 use Rattle.mvd_records.specs.Records.{IsSound}
 use Rattle.sqlite_disk.specs.Events.{Event, replay}
 use Rattle.sqlite.specs.Recovery.{Image}
+use Rattle.mvd_replica.specs.Kept.{HoldsStates}
+use Rattle.mvd_replica.proofs.Follows.{ours_held}
 use Rattle.mvd_replica.proofs.Files.{fails_opening, found_in, just_held}
 use Rattle.mvd_replica.proofs.file.open_file.Goals as goal
 
@@ -30,6 +32,11 @@ returns-in-Ok-open g c =
             own = λ foreign. it.own (record { foreign = foreign; autocommit = c.in-Ok.ensures.fresh.autocommit; is_open = was.is_open });
             just = just_held _ _ _ _ _ found (it.opened sound);
           });
+      rests = λ clean number states file. (
+          let sound : IsSound _ = record { clean = clean; is_open = it.is_open clean } in
+          let was = it.before sound in
+          let found = found_in _ _ (c.in-Ok.ensures.found was.clean) ((c.in-Ok.ensures.opened was.clean).1 was.is_open).1 in
+          it.rests sound (ours_held number states _ (subst (HoldsStates number states) (sym (found.holds file.db file.held)) file.holds)));
       refused = tt;
     }
 
@@ -39,6 +46,7 @@ returns-in-Err g c = record {
   stands = tt;
   opens = tt;
   is_open = tt;
+  rests = tt;
   refused = fails_opening _ c.args.config c.in-Err.error c.in-Err.ensures.named c.in-Err.left c.in-Err.ensures.unopened
       (IfSome_then c.in-Err.left c.in-Err.ensures.cause (λ left it. (
       let log = it.1 in
@@ -55,6 +63,7 @@ returns-in-Err-open g c =
       stands = tt;
       opens = tt;
       is_open = tt;
+      rests = tt;
       refused = (
         it.refusal,
         λ sound. (

@@ -1,8 +1,11 @@
-use Rattle.std.proofs.Common.{◌∙◌, ◌∷◌, [], ap}
+use Rattle.std.proofs.Common.{◌∙◌, ◌∷◌, [], ap, subst}
+use Rattle.sqlite.specs.Held.{state}
+use Rattle.sqlite.specs.State.{Survives}
 use Rattle.mvd_records.specs.Pairs.{entries_of}
 use Rattle.mvd_records.specs.Seen.{seen}
-use Rattle.mvd_records.proofs.Follows.{saves_kept, saves_saved}
-use Rattle.mvd_replica.proofs.Grouped.{one_only, store_many, store_one}
+use Rattle.mvd_records.proofs.Follows.{all_survive, saves_kept, saves_saved, saves_survives}
+use Rattle.mvd_replica.specs.Shared.{LeavesPairs}
+use Rattle.mvd_replica.proofs.Grouped.{one_only, store_many, store_one, survives_one}
 use Rattle.mvd_replica.proofs.groups.store_all.Goals as goal
 
 pub returns-clause-stored : goal.returns-clause-stored
@@ -14,3 +17,14 @@ pub returns-in-Change-clause-stored : goal.returns-in-Change-clause-stored
 returns-in-Change-clause-stored g c site sound holds =
     store_one c.save.result _ _ c.in-Change.change c.args.group.now c.key.result.now c.bytes.result.now site c.key.ensures c.bytes.ensures
     (one_only c.args.group.now c.index-group-0.result c.if-group-eq1.true c.index-group-0.is ∙ ap (λ p. p ∷ []) c.in-Change.is) (saves_kept _ _ _ c.save.result c.save.ensures 2 site sound holds) (saves_saved _ _ _ _ c.save.result c.save.ensures 2 site sound holds)
+
+pub returns-clause-survives : goal.returns-clause-survives
+returns-clause-survives g c =
+    subst (λ l. Survives (state g.S.Store c.args.records.now.conn) (state g.S.Store c.save_all.new.self.conn) (LeavesPairs (state g.S.Store c.args.records.now.conn) l))
+    (ap entries_of c.deref.ensures.value ∙ c.in_ok-pairs.ensures.pairs)
+    (all_survive (seen g.S.Store c.args.records.now) (seen g.S.Store c.save_all.new.self) (entries_of c.deref.result.now) c.save_all.result c.save_all.ensures)
+
+pub returns-in-Change-clause-survives : goal.returns-in-Change-clause-survives
+returns-in-Change-clause-survives g c =
+    survives_one _ _ c.in-Change.change c.args.group.now c.key.result.now c.bytes.result.now c.key.ensures c.bytes.ensures
+    (one_only c.args.group.now c.index-group-0.result c.if-group-eq1.true c.index-group-0.is ∙ ap (λ p. p ∷ []) c.in-Change.is) (saves_survives _ _ _ _ c.save.result c.save.ensures)

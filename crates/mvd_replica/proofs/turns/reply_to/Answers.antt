@@ -1,9 +1,12 @@
-use Rattle.std.proofs.Common.{◌≡◌, sym, ap, ◌∙◌}
+use Rattle.std.proofs.Common.{◌≡◌, [], ◌∷◌, sym, ap, subst, ◌∙◌}
 use Rattle.sqlite.specs.Held.{state}
 use Rattle.mvd_wire.specs.Requests.{request_of}
 use Rattle.mvd_replica.proofs.Answering.{asked_as, refused_frame, replied}
 use Rattle.mvd_replica.proofs.Sides.{follows_wider, follows_by}
+use Rattle.mvd_replica.specs.Replicas.{stored_of}
 use Rattle.mvd_replica.specs.Sides.{replica_follows_self}
+use Rattle.mvd_replica.specs.Whole.{leaves_self}
+use Rattle.mvd_replica.specs.Turns.{LeavesTurns}
 use Rattle.mvd_replica.proofs.turns.reply_to.Goals as goal
 
 pub returns-in-Err-clause-told : goal.returns-in-Err-clause-told
@@ -31,3 +34,14 @@ returns-clause-follows g c =
     (follows_by c.args.replica.now.site c.answer.new.self.site c.in-Ok.request c.answer.result (state g.S.Store c.args.replica.now.records.conn) (state g.S.Store c.answer.new.self.records.conn)
     c.answer.ensures.config (λ broken. ap (λ r. r.site) (c.answer.ensures.stays broken)) (λ broken. ap (λ r. (state g.S.Store r.records.conn).committed) (c.answer.ensures.stays broken))
     c.answer.ensures.before c.answer.ensures.records c.answer.ensures.clean c.answer.ensures.taken c.answer.ensures.broken c.answer.ensures.states c.answer.ensures.stored)
+
+pub returns-in-Err-clause-leaves : goal.returns-in-Err-clause-leaves
+returns-in-Err-clause-leaves g c = leaves_self _ _ tt
+
+pub returns-then-is_bye-clause-leaves : goal.returns-then-is_bye-clause-leaves
+returns-then-is_bye-clause-leaves g c = leaves_self _ _ tt
+
+pub returns-clause-leaves : goal.returns-clause-leaves
+returns-clause-leaves g c =
+    let same : request_of c.args.frame.now.kind c.args.frame.now.payload.items ≡ request_of c.args.frame.now.kind c.deref.result.now = ap (request_of c.args.frame.now.kind) (sym c.deref.ensures.value) in
+    subst (λ a. LeavesTurns (record { asked = a; reply = c.answer.result } ∷ []) (stored_of c.args.replica.now) (stored_of c.answer.new.self)) (sym (same ∙ c.in-Ok.ensures.exact)) c.answer.ensures.leaves

@@ -14,6 +14,7 @@ groups-init g c =
       answers = subst (λ l. AnswersAll (take (length l) c.args.requests.now) l site site store store) (sym none) (AnswersAll-none site store);
       within = omega (arith, ap length none);
       room = c.in_ok-replies.ensures.capacity;
+      few = omega arith;
     }
 
 pub groups-preserved : goal.groups-preserved
@@ -29,6 +30,7 @@ groups-preserved g c =
       within = front_within requests told given c.args.self.now.site c.groups.self.site c.answer_front.new.self.site (state g.S.Store c.args.self.now.records.conn) (state g.S.Store c.groups.self.records.conn)
           (state g.S.Store c.answer_front.new.self.records.conn) c.groups.invariant.within c.groups.invariant.answers front;
       room = omega (arith, c.groups.invariant.room, c.answer_front.ensures.room);
+      few = omega (arith, c.groups.invariant.few, c.answer_front.ensures.counts);
     }
 
 pub groups-smaller : goal.groups-smaller
@@ -46,5 +48,6 @@ pub returns : goal.returns
 returns g c = record {
   answers = subst (λ l. AnswersAll l c.groups.replies.items c.args.self.now.site c.groups.self.site (state g.S.Store c.args.self.now.records.conn) (state g.S.Store c.groups.self.records.conn))
       (take_all (length c.groups.replies.items) c.args.requests.now (omega (arith, c.groups-test.false, c.len.ensures, c.groups.replies.ok.0))) c.groups.invariant.answers;
+  counts = omega (arith, c.groups.invariant.few, c.groups.invariant.within);
   memory = tt;
 }

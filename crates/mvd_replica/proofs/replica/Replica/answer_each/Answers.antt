@@ -10,6 +10,7 @@ loop-request-init g c = record {
   answers = ([], sym (append-nil _), AnswersAll-none c.args.self.now.site (state g.S.Store c.args.self.now.records.conn));
   count = omega arith;
   room = refl;
+  few = omega arith;
 }
 
 pub push_reserved-requires : goal.push_reserved-requires
@@ -23,7 +24,7 @@ loop-request-preserved g c =
     let one = AnswersAll-answered c.loop-request.self.site c.answer-reply.new.self.site (state g.S.Store c.loop-request.self.records.conn) (state g.S.Store c.answer-reply.new.self.records.conn) c.request-item.result c.answer-reply.result
     c.answer-reply.ensures.states c.answer-reply.ensures.choice c.answer-reply.ensures.config c.answer-reply.ensures.fits c.answer-reply.ensures.told c.answer-reply.ensures.broken
     (λ broken. ap (λ r. r.site) (c.answer-reply.ensures.stays broken)) (λ broken. ap (λ r. (state g.S.Store r.records.conn).committed) (c.answer-reply.ensures.stays broken))
-    c.answer-reply.ensures.before c.answer-reply.ensures.records c.answer-reply.ensures.clean c.answer-reply.ensures.taken c.answer-reply.ensures.stored in
+    c.answer-reply.ensures.before c.answer-reply.ensures.records c.answer-reply.ensures.clean c.answer-reply.ensures.taken c.answer-reply.ensures.stored c.answer-reply.ensures.leaves in
     record {
       answers = (
         it.0 ++ c.answer-reply.result ∷ [],
@@ -34,6 +35,7 @@ loop-request-preserved g c =
       );
       count = grind (arith, length-append, c.push_reserved.ensures.items, c.loop-request.invariant.count);
       room = c.push_reserved.ensures.capacity ∙ c.loop-request.invariant.room;
+      few = omega (arith, c.loop-request.invariant.few, c.answer-reply.ensures.counts);
     }
 
 pub returns-clause-answers : goal.returns-clause-answers

@@ -1,4 +1,4 @@
-use Rattle.std.proofs.Common.{◌≡◌, ◌+◌, ◌++◌, List, length, take, vec_capacity}
+use Rattle.std.proofs.Common.{◌≡◌, ◌≤◌, ◌+◌, ◌++◌, List, length, take, vec_capacity}
 use Rattle.sqlite.specs.Held.{state}
 use Rattle.mvd_wire.specs.declared.reply.Reply.{Reply}
 use Rattle.mvd_replica.proofs.Positions.{AnswersAll}
@@ -11,4 +11,5 @@ invariant-loop-request g l = record {
       × AnswersAll (take l.request-index l.requests) told l.initial.self.site l.self.site (state g.S.Store l.initial.self.records.conn) (state g.S.Store l.self.records.conn);
   count : length l.replies.items ≡ length l.initial.replies.items + l.request-index;
   room : vec_capacity l.replies ≡ vec_capacity l.initial.replies;
+  few : l.self.commits ≤ l.initial.self.commits + l.request-index;
 }

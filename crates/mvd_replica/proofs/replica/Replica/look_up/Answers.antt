@@ -1,7 +1,10 @@
-use Rattle.std.proofs.Common.{◌≡◌, false, Ok, subst}
-use Rattle.mvd_site.specs.Prepared.{PreparesFrom}
+use Rattle.std.proofs.Common.{◌≡◌, false, true≢false, Ok, subst}
+use Rattle.mvd_dots.specs.declared.refusals.Refusal.TheVariants.{Memory}
+use Rattle.mvd_site.specs.Prepared.{IsReady, PreparesFrom}
 use Rattle.mvd_site.proofs.Outcomes.{whole_where_ok}
+use Rattle.mvd_site.proofs.Pushes.{refusal_is}
 use Rattle.mvd_replica.proofs.Asking.{tells_refusal, told_is, whole_tells}
+use Rattle.mvd_replica.proofs.ReplicaLemmas.{plain_no_refusal}
 use Rattle.mvd_replica.proofs.replica.Replica.look_up.Goals as goal
 
 pub returns-in-Ok-Answer-clause-tells : goal.returns-in-Ok-Answer-clause-tells
@@ -20,3 +23,11 @@ returns-in-Err-clause-tells g c =
 
 pub returns-in-Err-clause-kind : goal.returns-in-Err-clause-kind
 returns-in-Err-clause-kind g c = told_is _ _ _ (returns-in-Err-clause-tells g c)
+
+pub returns-in-Ok-Answer-clause-frugal : goal.returns-in-Ok-Answer-clause-frugal
+returns-in-Ok-Answer-clause-frugal g c _ is =
+    let plain = subst (λ p. IsReady c.args.self.now.site p) c.in-Ok-Answer.field-0-is c.in-Ok-Answer.ensures.ready in
+    true≢false (plain_no_refusal _ Memory plain.accepts is)
+
+pub returns-in-Err-clause-frugal : goal.returns-in-Err-clause-frugal
+returns-in-Err-clause-frugal g c frugal is = c.in-Err.ensures.frugal frugal (refusal_is c.in-Err.refusal Memory is)

@@ -1,8 +1,9 @@
-use Rattle.std.proofs.Common.{Ok, Err, inl, inr, sym, subst, ap}
+use Rattle.std.proofs.Common.{Ok, Err, inl, inr, refl, sym, subst, ap}
 use Rattle.mvd_dots.specs.declared.refusals.Refusal.TheVariants.{Damaged, SiteMismatch}
 use Rattle.sqlite.specs.Held.{state}
 use Rattle.mvd_records.specs.Records.{IsSound, TellsVersion, marks_of}
 use Rattle.mvd_replica.specs.Opened.{RefusesSite}
+use Rattle.mvd_replica.proofs.Leaving.{at_rest}
 use Rattle.mvd_replica.proofs.Loading.{holds_opened}
 use Rattle.mvd_replica.proofs.Moving.{same_kept, same_then, same_unchanged}
 use Rattle.mvd_replica.proofs.OpenRefusals.{open_not_full, read_no_mismatch, read_refusal}
@@ -16,6 +17,13 @@ returns-in-Ok-site_in g c = record {
     stands = c.in-Ok-site_in.ensures.stands;
     before = λ sound. c.in-Ok.ensures.before (c.in-Ok-site_in.ensures.before sound);
     is_open = c.in-Ok-site_in.ensures.stays_open;
+    rests = λ sound ours. (
+        let opened = c.in-Ok.ensures.opened (c.in-Ok-site_in.ensures.before sound) ours in
+        let both = c.in-Ok-site_in.ensures.holds c.site.result sound opened.holds in
+        let none = c.in-Ok-site_in.ensures.alone c.site.result sound opened.holds in
+        at_rest c.in-Ok-site_in.site _ (λ trees is_open may. g.met.S.Store.settled c.site_in.new.records.conn.store trees is_open may) c.version-version.ensures.live sound
+        c.in-Ok-site_in.ensures.config.1 c.key_count-held.ensures.held.spelled
+        (holds_opened c.in-Ok-site_in.site c.args.config c.site.result _ c.in-Ok-site_in.ensures.config.0 c.site.ensures.site both.0 none both.1));
     opened = λ sound ours. (
         let store = state g.S.Store c.args.conn in
         let opened = c.in-Ok.ensures.opened (c.in-Ok-site_in.ensures.before sound) ours in
@@ -31,6 +39,7 @@ returns-in-Ok-site_in g c = record {
     own = c.in-Ok.ensures.own;
   };
   foreign = λ foreign. absurd (c.in-Ok.ensures.own foreign);
+  counts = refl;
 }
 
 pub returns-in-Err : goal.returns-in-Err
@@ -54,6 +63,7 @@ returns-in-Err g c = record {
     untouched = λ sound is. c.in-Err.ensures.0.unchanged sound;
   };
   foreign = λ foreign. ap (λ r. Err r) (c.in-Err.ensures.1 foreign);
+  counts = tt;
 }
 
 pub returns-in-Err-site_in : goal.returns-in-Err-site_in
@@ -85,4 +95,5 @@ returns-in-Err-site_in g c = record {
     untouched = λ sound is. absurd (read_no_mismatch _ c.in-Err-site_in.ensures.refusal is);
   };
   foreign = λ foreign. absurd (c.in-Ok.ensures.own foreign);
+  counts = tt;
 }

@@ -1,14 +1,34 @@
-use Rattle.std.proofs.Common.{◌≡◌, ◌∙◌, ◌++◌, [], map, ap, refl, sym, subst, inl, arith, false, true≢false}
+use Rattle.std.proofs.Common.{◌≡◌, ◌∙◌, ◌++◌, [], List, map, ap, refl, sym, subst, inl, inr, arith, false, true≢false}
 use Rattle.sqlite.specs.Held.{state}
 use Rattle.mvd_sync.specs.Windows.{EachAnswer, EachTold, Pushes}
-use Rattle.mvd_sync.proofs.OneByOne.{on_err, told_still}
+use Rattle.mvd_sync.proofs.OneByOne.{at_err, on_err, told_still}
 use Rattle.mvd_replica.specs.declared.replica.Replica.{Replica}
 use Rattle.mvd_replica.specs.Batch.{AnswersAll}
 use Rattle.mvd_replica.specs.Pushes.{told_of}
+use Rattle.mvd_dots.specs.declared.refusals.Refusal.{Refusal}
+use Rattle.mvd_dots.specs.declared.refusals.Refusal.TheVariants.{Memory}
+use Rattle.mvd_keys.specs.State.{State}
+use Rattle.mvd_keys.specs.Writes.{Key}
 use Rattle.mvd_replica.specs.Replicas.{stored_of}
-use Rattle.mvd_replica.specs.Sides.{ReplicaRefuses, side_follows_self}
+use Rattle.mvd_replica.specs.SideCalls.{EndsWindow}
+use Rattle.sqlite_trees.specs.declared.store.Store.{Ghosts}
+use Rattle.mvd_replica.specs.Sides.{ReplicaRefuses, SideFollows, side_follows_self}
 use Rattle.mvd_replica.proofs.Pushed.{answered_each, answered_follow, answered_told}
 use Rattle.mvd_replica.proofs.side.ReplicaPeer.push_all.Goals as goal
+
+-- nothing was done, for want of memory
+ended_memory : {S : Type 0} {g : Ghosts S} (old new : Replica S g) (pairs : List (Key × State)) (e : Refusal) → new ≡ old → e ≡ Memory → EndsWindow old pairs new e
+ended_memory old new pairs e same is = record {
+  count = (0, omega arith, subst (λ (r : Replica _ _). SideFollows (stored_of old) (stored_of r)) (sym same) (side_follows_self _));
+  cause = inr is;
+}
+
+pub returns-in_err-told-clause-ended : goal.returns-in_err-told-clause-ended
+returns-in_err-told-clause-ended g c = at_err _ _ _ c.from_residual.ensures (λ e is. ended_memory c.args.self.now c.args.self.now c.args.pairs.now e refl is)
+
+pub returns-in_err-replies-clause-ended : goal.returns-in_err-replies-clause-ended
+returns-in_err-replies-clause-ended g c =
+    at_err _ _ _ c.from_residual-in_err-replies.ensures (λ e is. ended_memory c.args.self.now c.answer_all.new.self c.args.pairs.now e c.in_err-replies.ensures.memory.1 (is ∙ c.in_err-replies.ensures.memory.0))
 
 -- nothing was pushed
 pub returns-in_err-told-clause-first : goal.returns-in_err-told-clause-first

@@ -59,9 +59,9 @@ pub left : (P : Change) (C : Contents → Contents → Type 0) (s : State) (tree
 left P C s trees follows is_open leaves = (
   is_open,
   λ was holds. (
-    let it = leaves was.version was.site is_open holds.records in
-    let now = follows was s.committed it.0 holds it.2 in
-    (now.0, now.1, it.0, it.1, now.2, it.3)),
+      let it = leaves was.version was.site is_open holds.records in
+      let now = follows was s.committed it.0 holds it.2 in
+      (now.0, now.1, it.0, it.1, now.2, it.3)),
 )
 
 -- what a crash leaves of a store that was found open is left of it as it was before
@@ -76,9 +76,9 @@ pub survives_found : (P : Change) (C : Contents → Contents → Type 0) (old mi
     Survives mid new (Leaves mid (λ version site db. P version site mid.committed db)) → Survives old new (LeavesChange C old)
 survives_found P C old mid new follows found it =
     survives_then _ _ _ _ _ _ (λ _ _ none. absurd none) (λ clean trees leaves. (
-      let early : HasCleanDisk mid = omega (arith, it.clean, clean) in
-      let same = found.same early in
-      left P C old trees follows same.0.was_open (leaves_as P old mid trees same leaves))) found.nothing it
+    let early : HasCleanDisk mid = omega (arith, it.clean, clean) in
+    let same = found.same early in
+    left P C old trees follows same.0.was_open (leaves_as P old mid trees same leaves))) found.nothing it
 
 pub commits : {A : Type 0} (P : Change) (C : Contents → Contents → Type 0) (old mid new : State) (result : Result A Refusal) →
     Follows P C → IsFound old mid → (IsSound new → IsSound mid)
@@ -87,9 +87,9 @@ pub commits : {A : Type 0} (P : Change) (C : Contents → Contents → Type 0) (
 commits P C old mid new (Ok x) follows found before done survives = record {
   before = before_found old mid new found before;
   done = λ was sound holds. (
-    let is = commit_found old mid new found before sound in
-    let it = done was.version was.site sound (subst (HoldsRecords was.version was.site) (sym is) holds.records) in
-    follows was old.committed new.committed holds (subst (λ (d : Database). P was.version was.site d new.committed) is it));
+      let is = commit_found old mid new found before sound in
+      let it = done was.version was.site sound (subst (HoldsRecords was.version was.site) (sym is) holds.records) in
+      follows was old.committed new.committed holds (subst (λ (d : Database). P was.version was.site d new.committed) is it));
   survives = survives_found P C old mid new follows found survives;
 }
 commits P C old mid new (Err e) follows found before done survives = record {

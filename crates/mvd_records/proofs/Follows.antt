@@ -44,9 +44,12 @@ module _ {A : Type 0} (C : Contents → Contents → Type 0) (P : Change) (gives
       (it.done (contents_of version site old.committed) sound (holds_all version site old.committed holds))
 
   pub survives_of : Survives old new (λ trees. IsTrue old.is_open × Leaves old (λ version site db. P version site old.committed db) trees)
-  survives_of = survives_weaker _ _ _ _ (λ _ trees left. (left.0, λ version site is_open holds. (
-      let d = left.1 (contents_of version site old.committed) (holds_all version site old.committed holds) in
-      (d.2, d.3, gives version site old.committed d.2 d.0 d.1 d.4, d.5)))) it.survives
+  survives_of = survives_weaker _ _ _ _ (λ _ trees left. (
+    left.0,
+    λ version site is_open holds. (
+        let d = left.1 (contents_of version site old.committed) (holds_all version site old.committed holds) in
+        (d.2, d.3, gives version site old.committed d.2 d.0 d.1 d.4, d.5)),
+  )) it.survives
 
 sets_gives : (pairs : List (List ℕ × List ℕ)) →
     Gives (SetsStates pairs) (λ version site a b. HoldsRecords version site b × SavesStates a b pairs)

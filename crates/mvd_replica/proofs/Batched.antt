@@ -254,8 +254,15 @@ length_replies requests replies old new before after all =
 pub front_more : (requests : List Request) (told given : List Reply) (old new : SiteValue) (before after : State) → AnswersFront requests told given old new before after →
     length told + 1 ≤ length given
 front_more requests told given old new before after it =
-    omega (arith, ap length it.appended, length-append told it.replies, it.some, it.within,
-    length_replies (take it.count requests) it.replies old new before after it.answers, length-take-le it.count requests it.within)
+    omega (
+      arith,
+      ap length it.appended,
+      length-append told it.replies,
+      it.some,
+      it.within,
+      length_replies (take it.count requests) it.replies old new before after it.answers,
+      length-take-le it.count requests it.within,
+    )
 
 -- as the code has what is left of them
 pub front_of : (requests : List Request) (n : ℕ) (told given : List Reply) (mid new : SiteValue) (between after : State) → n ≡ length told → AnswersFront (take (length requests - n) (drop n requests)) told given mid new between after →

@@ -156,7 +156,7 @@ at_writer old new was store before after output out frame reply sent came replie
         goes_on = (replied.goes_on, tt);
         told = told_sent asked old new reply sent is replied;
         follows = follows_sent asked old new was store reply sent is replied follows;
-          leaves = leaves_sent asked reply sent (stored_site old was) (stored_site new store) is leaves;
+        leaves = leaves_sent asked reply sent (stored_site old was) (stored_site new store) is leaves;
       };
       count = refl;
       read = λ bytes known.

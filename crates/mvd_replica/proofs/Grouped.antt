@@ -117,10 +117,13 @@ store_many (Ok done) old new pairs group site saves same sound holds =
 pub survives_one : (old new : Shown) (change : ChangeValue) (group : List Prepared) (key bytes : List ℕ) → key ≡ change.key → bytes ≡ spell_state change.state → group ≡ Change change ∷ [] →
     Survives old new (λ trees. IsTrue old.is_open × Leaves old (λ version site db. HoldsRecords version site db × SavesState old.committed db key bytes) trees) →
     Survives old new (LeavesPairs old (pairs_in group))
-survives_one old new change group key bytes key-is bytes-is alone it = survives_weaker _ _ _ _ (λ _ trees left. (left.0, λ version site is_open holds. (
-    let d = left.1 version site is_open holds in
-    let here : SavesState old.committed d.0 change.key (spell_state change.state) = subst₂ (SavesState old.committed d.0) key-is bytes-is d.2.1 in
-    (d.0, d.1, (d.2.0, subst (λ l. SavesStates old.committed d.0 (pairs_in l)) (sym alone) (record { old_same = here.old_same; saved = here.saved })), d.3)))) it
+survives_one old new change group key bytes key-is bytes-is alone it = survives_weaker _ _ _ _ (λ _ trees left. (
+  left.0,
+  λ version site is_open holds. (
+      let d = left.1 version site is_open holds in
+      let here : SavesState old.committed d.0 change.key (spell_state change.state) = subst₂ (SavesState old.committed d.0) key-is bytes-is d.2.1 in
+      (d.0, d.1, (d.2.0, subst (λ l. SavesStates old.committed d.0 (pairs_in l)) (sym alone) (record { old_same = here.old_same; saved = here.saved })), d.3)),
+)) it
 
 pub store_none : (a : Database) (group : List Prepared) (site : ℕ) → pairs_in group ≡ [] → HoldsRecords 2 site a → HoldsRecords 2 site a × SavesStates a a (pairs_in group)
 store_none a group site none holds = (holds, subst (SavesStates a a) (sym none) (record { old_same = refl; saved = refl }))

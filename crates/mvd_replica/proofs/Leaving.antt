@@ -76,17 +76,17 @@ module _ (AreUndone : List Request → Type 0) (none : AreUndone []) (old new : 
       ] in
       elim broken as (λ b. new.site.broken ≡ b → LeavesDone AreUndone new trees) [
         | false ↦ λ whole. record {
-            undone = [];
-            are = none;
-            left = (new.store.committed, real, holds_states new.site new.store.committed whole (spells rest.fits) held, same);
-            none = λ _ _. refl;
-          }
+          undone = [];
+          are = none;
+          left = (new.store.committed, real, holds_states new.site new.store.committed whole (spells rest.fits) held, same);
+          none = λ _ _. refl;
+        }
         | true ↦ λ broke_now. (let it = broke sound rest broke_now in record {
-            undone = it.0;
-            are = it.1;
-            left = (new.store.committed, real, it.2, same);
-            none = λ _ whole. absurd (true≢false (sym broke_now ∙ whole));
-          })
+          undone = it.0;
+          are = it.1;
+          left = (new.store.committed, real, it.2, same);
+          none = λ _ whole. absurd (true≢false (sym broke_now ∙ whole));
+        })
       ] is
 
   left_shut : HasCleanDisk new.store → new.store.is_open ≡ false → IsAtRest old → (trees : Trees) → new.store.may_leave trees →
@@ -95,17 +95,17 @@ module _ (AreUndone : List Request → Type 0) (none : AreUndone []) (old new : 
       let same : new.site ≡ old.site = elim (taken clean) [ inl is_open ↦ absurd (true≢false (sym is_open ∙ is)) | inr same ↦ same ] in
       elim (crash clean trees may) [
         | inl before ↦ record {
-            undone = [];
-            are = none;
-            left = subst (λ (s : SiteValue). LeavesStates s.config.site s.states trees) (sym same) (rest.left trees before);
-            none = λ _ _. refl;
-          }
+          undone = [];
+          are = none;
+          left = subst (λ (s : SiteValue). LeavesStates s.config.site s.states trees) (sym same) (rest.left trees before);
+          none = λ _ _. refl;
+        }
         | inr after ↦ record {
-            undone = requests;
-            are = shut clean is;
-            left = subst (λ (s : SiteValue). LeavesStates s.config.site (after_all s.config s.states requests) trees) (sym same) (after.1 was rest.holds);
-            none = λ is_open _. absurd (true≢false (sym is_open ∙ is));
-          }
+          undone = requests;
+          are = shut clean is;
+          left = subst (λ (s : SiteValue). LeavesStates s.config.site (after_all s.config s.states requests) trees) (sym same) (after.1 was rest.holds);
+          none = λ is_open _. absurd (true≢false (sym is_open ∙ is));
+        }
       ]
 
   left_by : (is_open : Bool) → new.store.is_open ≡ is_open → HasCleanDisk new.store → IsAtRest old → (trees : Trees) → new.store.may_leave trees →

@@ -102,13 +102,17 @@ module _ (requests : List Request) (group : List Prepared) (old : SiteValue) (be
   left_group trees left = (
     left.0,
     λ was holds. (
-      let d = left.1 2 old.config.site left.0 holds.records in
-      (d.0, d.1, subst (λ m. HoldsStates old.config.site m d.0) (sym (after_changing old.config requests group old.states ordered)) (record {
-        records = d.2.0;
-        alone = subst HasNone (sym d.2.1.old_same) holds.alone;
-        spelled = subst (λ m. SpellStates m (with_group old.states group)) (sym d.2.1.saved) (saved_spelled group (new_states before.committed) old.states (holds.spelled was));
-        fits = spelled_group requests group old.states sendable fits;
-      }), d.3)),
+        let d = left.1 2 old.config.site left.0 holds.records in (
+          d.0,
+          d.1,
+          subst (λ m. HoldsStates old.config.site m d.0) (sym (after_changing old.config requests group old.states ordered)) (record {
+            records = d.2.0;
+            alone = subst HasNone (sym d.2.1.old_same) holds.alone;
+            spelled = subst (λ m. SpellStates m (with_group old.states group)) (sym d.2.1.saved) (saved_spelled group (new_states before.committed) old.states (holds.spelled was));
+            fits = spelled_group requests group old.states sendable fits;
+          }),
+          d.3,
+        )),
   )
 
 module _ (requests : List Request) (group : List Prepared) (replies : List Reply) (old new : SiteValue) (before after : State) (was : old.broken ≡ false) (ordered : ComeInOrder old.config old.states requests group)

@@ -38,14 +38,20 @@ held_in_file image site states trees left held = record {
 -- one key was saved, as a change of a site
 pub survives_change : (site : SiteValue) (change : ChangeValue) (old new : State) (key bytes : List ℕ) → key ≡ change.key → bytes ≡ spell_state change.state →
     Survives old new (λ trees. IsTrue old.is_open × Leaves old (λ version number db. HoldsRecords version number db × SavesState old.committed db key bytes) trees) → Survives old new (LeavesChange site change old)
-survives_change site change old new key bytes key-is bytes-is it = survives_weaker _ _ _ _ (λ _ trees left. (left.0, λ holds. (
-    let d = left.1 2 site.config.site left.0 holds in
-    (d.0, d.1, d.2.0, subst₂ (SavesState old.committed d.0) key-is bytes-is d.2.1, d.3)))) it
+survives_change site change old new key bytes key-is bytes-is it = survives_weaker _ _ _ _ (λ _ trees left. (
+  left.0,
+  λ holds. (
+      let d = left.1 2 site.config.site left.0 holds in
+      (d.0, d.1, d.2.0, subst₂ (SavesState old.committed d.0) key-is bytes-is d.2.1, d.3)),
+)) it
 
 -- the change that answers a request was stored
 pub survives_answered : (site : SiteValue) (request : Request) (change : ChangeValue) (old new : State) →
     after_from site.config site.states request ≡ insert site.states change.key change.state → AreSpelled site.states → IsSpelled change.state →
     Survives old new (LeavesChange site change old) → Survives old new (LeavesAnswered site request old)
-survives_answered site request change old new is fits fit it = survives_weaker _ _ _ _ (λ _ trees left. (left.0, λ whole holds. (
-    let d = left.1 holds.records in
-    (d.0, d.1, stored_broken site old.committed d.0 change _ whole is d.3 fits fit d.2 holds, d.4)))) it
+survives_answered site request change old new is fits fit it = survives_weaker _ _ _ _ (λ _ trees left. (
+  left.0,
+  λ whole holds. (
+      let d = left.1 holds.records in
+      (d.0, d.1, stored_broken site old.committed d.0 change _ whole is d.3 fits fit d.2 holds, d.4)),
+)) it

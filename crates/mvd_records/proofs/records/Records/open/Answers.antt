@@ -1,4 +1,4 @@
-use Rattle.std.proofs.Common.{◌≡◌, ◌∙◌, ◌⊎◌, false, true, true≢false, rules, refl, inl, inr, subst, sym, Err}
+use Rattle.std.proofs.Common.{◌∙◌, true≢false, rules, refl, inl, inr, subst, sym, Err}
 use Rattle.sqlite.specs.Effect.{Database}
 use Rattle.sqlite.specs.Held.{state}
 use Rattle.mvd_dots.specs.declared.refusals.Refusal.TheVariants.{Store}
@@ -58,8 +58,7 @@ returns-in-Err g c =
     let new = state g.S.Store c.open.new.conn in
     let found : IsFound old mid = record { same = λ clean. c.is_open.ensures.open clean c.if-not-is_open.false; nothing = c.is_open.ensures.survives } in
     let own = λ (holds : HoldsForeign old). (let no : ⊥ = true≢false (sym ((c.is_foreign.ensures holds.is_open).1 holds) ∙ c.if-is_foreign.false) in no) in
-    let is = commit_found old mid new found c.in-Err.ensures.before in
-    (
+    let is = commit_found old mid new found c.in-Err.ensures.before in (
       record {
         before = before_found old mid new found c.in-Err.ensures.before;
         refusal = c.in-Err.ensures.refusal;

@@ -116,7 +116,7 @@ returns-in-Ok g c =
     let states : AnswersFromStored old new request reply = inl from in
     let survives = survives_answered old request change before after prepared.after c.key_count-held.ensures.held.spelled c.state-state.ensures.spelled c.in-Ok.ensures.survives in
     let records = λ (sound : IsSound after) (holds : HoldsSite old before.committed). (
-        holds_put old new _ _ change whole c.in-Ok.ensures.site (c.in-Ok.ensures.stored old.config.site sound holds.records) (c.in-Ok.ensures.kept old.config.site sound holds.records) holds) in
+    holds_put old new _ _ change whole c.in-Ok.ensures.site (c.in-Ok.ensures.stored old.config.site sound holds.records) (c.in-Ok.ensures.kept old.config.site sound holds.records) holds) in
     record {
       answer = answers_unstored old new request reply
           (answers_by_change old new request change reply whole c.in-Ok.ensures.site ready.1.seen c.reply-reply.ensures
@@ -168,11 +168,11 @@ returns-in-Err-put_in g c =
     let states = refused_from old new request change refusal whole put prepared in
     let survives = survives_answered old request change before after prepared.after c.key_count-held.ensures.held.spelled c.state-state.ensures.spelled c.in-Err-put_in.ensures.survives in
     let records = λ (sound : IsSound after) (holds : HoldsSite old before.committed). (
-        holds_refused old new _ _ change refusal put (λ store. c.in-Err-put_in.ensures.unchanged sound (ap (λ (r : Refusal). Err r) store))
-        (c.in-Err-put_in.ensures.stored old.config.site sound holds.records) (c.in-Err-put_in.ensures.kept old.config.site sound holds.records) holds) in
+    holds_refused old new _ _ change refusal put (λ store. c.in-Err-put_in.ensures.unchanged sound (ap (λ (r : Refusal). Err r) store))
+    (c.in-Err-put_in.ensures.stored old.config.site sound holds.records) (c.in-Err-put_in.ensures.kept old.config.site sound holds.records) holds) in
     let stored = λ (sound : IsSound after) (holds : HoldsSite old before.committed) (_ : old.broken ≡ false) (is : Refused refusal ≡ Refused Broken). (
-        stored_broken old _ _ change (after_from old.config old.states request) whole prepared.after (c.in-Err-put_in.ensures.stored old.config.site sound holds.records (not_store refusal is))
-        c.key_count-held.ensures.held.spelled c.state-state.ensures.spelled (c.in-Err-put_in.ensures.kept old.config.site sound holds.records) holds) in
+    stored_broken old _ _ change (after_from old.config old.states request) whole prepared.after (c.in-Err-put_in.ensures.stored old.config.site sound holds.records (not_store refusal is))
+    c.key_count-held.ensures.held.spelled c.state-state.ensures.spelled (c.in-Err-put_in.ensures.kept old.config.site sound holds.records) holds) in
     record {
       answer = answers_refused old new request change refusal whole put
           (λ known stands. subst (λ p. Prepares old.config known request (Ok p)) c.in-Ok-Change.field-0-is (c.in-Ok-Change.ensures.answer whole known stands));

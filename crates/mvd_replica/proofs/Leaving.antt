@@ -1,5 +1,5 @@
 -- What a stop leaves after one commit.
-use Rattle.std.proofs.Common.{◌≡◌, ◌≢◌, ◌⊎◌, ◌∙◌, Bool, true, false, List, [], ◌∷◌, ◌++◌, Result, Ok, Err, refl, sym, ap, subst, inl, inr, true≢false}
+use Rattle.std.proofs.Common.{◌≡◌, ◌⊎◌, ◌∙◌, Bool, true, false, List, [], ◌∷◌, ◌++◌, Result, Ok, refl, sym, ap, subst, inl, inr, true≢false}
 use Rattle.std.specs.Prelude.{IsTrue, ℕ}
 use Rattle.mvd_dots.specs.declared.refusals.Refusal.{Refusal}
 use Rattle.mvd_dots.specs.declared.refusals.Refusal.TheVariants.{Broken, Store}
@@ -8,7 +8,6 @@ use Rattle.mvd_wire.specs.declared.reply.Reply.{Reply}
 use Rattle.mvd_wire.specs.declared.reply.Reply.TheVariants.{Refused}
 use Rattle.mvd_wire.specs.Replies.{is_short}
 use Rattle.mvd_records.specs.Records.{HoldsRecords, IsSound}
-use Rattle.mvd_records.specs.Tables.{all_tables}
 use Rattle.mvd_site.specs.FromStates.{Broke, after_from}
 use Rattle.mvd_site.specs.Held.{States}
 use Rattle.mvd_site.specs.Sites.{SiteValue}
@@ -22,7 +21,7 @@ use Rattle.mvd_replica.specs.Sides.{AnswersFromStored}
 use Rattle.mvd_replica.specs.Steps.{IsSent}
 use Rattle.mvd_replica.specs.Stops.{LeavesAnswered}
 use Rattle.mvd_replica.specs.Whole.{IsAtRest, LeavesDone, LeavesStates, LeavesWhole, after_all, leaves_wider}
-use Rattle.mvd_replica.specs.Turns.{AreUndoneIn, IsToldBroken, IsToldUndone, LeavesTurns, Turn}
+use Rattle.mvd_replica.specs.Turns.{AreUndoneIn, LeavesTurns, Turn}
 use Rattle.mvd_replica.proofs.Positions.{stored_site}
 use Rattle.mvd_replica.proofs.Sides.{broke_by}
 use Rattle.mvd_replica.proofs.Storing.{holds_states}

@@ -1,5 +1,5 @@
 -- What a stop leaves: the states before the call in hand, or those after it.
-use Rattle.std.proofs.Common.{◌≡◌, false, IsTrue, ℕ, List, refl, subst, subst₂, inl, inr, arith}
+use Rattle.std.proofs.Common.{◌≡◌, IsTrue, ℕ, List, refl, subst, subst₂, inl, arith}
 use Rattle.mvd_wire.specs.Codecs.{spell_state}
 use Rattle.mvd_wire.specs.declared.request.Request.{Request}
 use Rattle.mvd_records.specs.Records.{HoldsRecords, Leaves, SavesState}
@@ -9,10 +9,10 @@ use Rattle.mvd_site.specs.Held.{IsSpelled}
 use Rattle.mvd_site.specs.Sites.{SiteValue}
 use Rattle.std.specs.FinMap.{insert}
 use Rattle.sqlite.specs.Files.{HoldsDatabase}
-use Rattle.sqlite.specs.State.{HasCleanDisk, IsLive, State, Survives}
+use Rattle.sqlite.specs.State.{State, Survives}
 use Rattle.sqlite.specs.Tree.{Trees}
 use Rattle.sqlite.proofs.StateLemmas.{survives_weaker}
-use Rattle.mvd_replica.specs.Kept.{AreSpelled, HoldsStates}
+use Rattle.mvd_replica.specs.Kept.{AreSpelled}
 use Rattle.mvd_replica.specs.Stops.{HoldsWhatIsLeft, LeavesAnswered, LeavesChange}
 use Rattle.mvd_replica.proofs.Storing.{stored_broken}
 

@@ -2,7 +2,6 @@
 use Rattle.std.specs.Prelude.{◌≡◌, ℕ, List, [], ◌∷◌, ◌++◌, ⊤, false, true, Option, Result}
 use Rattle.mvd_dots.specs.declared.refusals.Refusal.{Refusal}
 use Rattle.mvd_keys.specs.Writes.{Stands, Write}
-use Rattle.mvd_wire.specs.declared.reply.Reply.{Reply}
 use Rattle.mvd_wire.specs.declared.request.Request.{Request}
 use Rattle.mvd_records.specs.Records.{IsSound}
 use Rattle.mvd_site.specs.Answer.{answer}
@@ -12,7 +11,7 @@ use Rattle.mvd_site.specs.Known.{Adds}
 use Rattle.mvd_site.specs.Sites.{SiteValue}
 use Rattle.mvd_replica.specs.Batch.{HoldsLost, TurnsFollow, lost_requests}
 use Rattle.mvd_replica.specs.File.{HoldsFile, OpensFile}
-use Rattle.mvd_replica.specs.Kept.{HoldsSite, HoldsStates}
+use Rattle.mvd_replica.specs.Kept.{HoldsStates}
 use Rattle.mvd_replica.specs.Replicas.{StoredSite, stored_by}
 use Rattle.mvd_replica.specs.Served.{Served}
 use Rattle.mvd_replica.specs.declared.serving.Ended.{Ended}

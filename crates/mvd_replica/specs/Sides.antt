@@ -1,6 +1,6 @@
 -- A stored site as a side of a session: what it does from its states, what of it no call changes, and what it refuses.
 use Rattle.std.proofs.Common.{refl, sym, subst, true≢false, ◌∙◌}
-use Rattle.std.specs.Prelude.{◌≡◌, ◌≢◌, ◌⊎◌, Bool, false, true, List, [], ◌∷◌}
+use Rattle.std.specs.Prelude.{◌≡◌, ◌≢◌, ◌⊎◌, Bool, false, true, List, ◌∷◌}
 use Rattle.std.specs.List.{AllByRecursion}
 use Rattle.mvd_dots.specs.declared.refusals.Refusal.{Refusal}
 use Rattle.mvd_dots.specs.declared.refusals.Refusal.TheVariants.{Store}
@@ -11,9 +11,8 @@ use Rattle.mvd_wire.specs.declared.request.Request.TheVariants.{Push}
 use Rattle.mvd_wire.specs.declared.reply.Reply.{Reply}
 use Rattle.mvd_wire.specs.declared.reply.Reply.TheVariants.{Refused}
 use Rattle.mvd_records.specs.Records.{IsSound}
-use Rattle.mvd_site.specs.Config.{ConfigValue}
 use Rattle.mvd_site.specs.FromStates.{AnswersFrom, after_from}
-use Rattle.mvd_site.specs.Held.{AreHeld, States}
+use Rattle.mvd_site.specs.Held.{AreHeld}
 use Rattle.mvd_site.specs.Sites.{SiteValue}
 use Rattle.mvd_sync.specs.Session.{ComesByPushes}
 use Rattle.mvd_sync.proofs.Pushes.{more_pushes, no_pushes}

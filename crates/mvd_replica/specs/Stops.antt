@@ -1,5 +1,5 @@
 -- What a stop in the middle of a call may leave of a site's states.
-use Rattle.std.specs.Prelude.{◌≡◌, ◌⊎◌, false, ℕ, IsTrue}
+use Rattle.std.specs.Prelude.{◌≡◌, false, ℕ, IsTrue}
 use Rattle.mvd_wire.specs.Codecs.{spell_state}
 use Rattle.mvd_wire.specs.declared.request.Request.{Request}
 use Rattle.mvd_records.specs.Records.{HoldsRecords, SavesState}

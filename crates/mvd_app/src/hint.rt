@@ -10,64 +10,141 @@ use sqlite::ErrorCode;
 use std::fmt;
 use std::io::{self, ErrorKind};
 use std::net::SocketAddr;
-use thiserror::Error;
 
 /// Where a fault came, and what to do about it. A file is named as the command line names it.
-#[derive(Debug, Clone, Copy, Error)]
+#[derive(Clone, Copy)]
 pub enum Hint<'a> {
-    #[error("standard input cannot be read")]
     NoInput,
-    #[error("standard input: docs/FORMATS.md lists the lines of a script, of which `sites N` is the first")]
     Script,
-    #[error("standard input: a line has two hexadecimal digits for each byte")]
     Hexadecimal,
-    #[error("an input is too long: docs/BEHAVIOUR.md tells how long each may be")]
     TooLong,
-    #[error("{0} cannot be read: --defs names a file of lines `index F` and `view V G S`")]
     NoDefs(&'a str),
-    #[error("{0}: a line is `index F` or `view V G S`, each but once, and at most 16 of either")]
     BadDefs(&'a str),
-    #[error("{0} is in use: end the program that has it open, or ask that one through its port")]
     InUse(&'a str),
-    #[error("{0} is no database of mvd, or damaged: name another file, or a copy of this one")]
     NoDatabase(&'a str),
-    #[error("{0}: {1}; see to its folder, its rights and the disk")]
     Unusable(&'a str, sqlite::Error),
-    #[error("{0} is the file of site {1}: name that site by --site, or another file")]
     OtherSite(&'a str, u32),
-    #[error("{0} is damaged, or of a later version of mvd: name another file, or a copy of this one")]
     Damaged(&'a str),
-    #[error("{0} is the file of another program: name another file")]
     Foreign(&'a str),
-    #[error("the file has no room for so many keys: raise --max-keys, up to 1000000")]
     Full,
-    #[error("{0} is in use: end the program that listens there, or name another port")]
     PortInUse(SocketAddr),
-    #[error("there is no right to listen at {0}: name another --port, of 1024 or more")]
     NoRight(SocketAddr),
-    #[error("{0}: {1}; --address names an address of this machine")]
     NoListener(SocketAddr, io::Error),
-    #[error("{0}: {1}; start `mvd serve` there, or name another --address and --port")]
     NoServer(SocketAddr, io::Error),
-    #[error("the connection with {0} broke: what was done before stays, so run this again")]
     Broken(SocketAddr),
-    #[error("the server at {0} refused it: what was done before stays")]
     Refused(SocketAddr),
-    #[error("{0} does not answer as mvd does: name another --address and --port, or bring both to one version")]
     NoPeer(SocketAddr),
-    #[error("two files wrote under one site's number: docs/USING.md tells what not to do with a copy")]
     Clash,
-    #[error("all other keys were exchanged; docs/USING.md tells what to do about a key that is refused")]
     Left,
 }
 
+impl Hint<'_> {
+    /// What is said before the file or the address that it names.
+    fn before(&self) -> &'static str {
+        match self {
+            Hint::NoRight(_) => "there is no right to listen at ",
+            Hint::Broken(_) => "the connection with ",
+            Hint::Refused(_) => "the server at ",
+            _ => "",
+        }
+    }
+
+    /// What is said behind that.
+    fn after(&self) -> &'static str {
+        match self {
+            Hint::NoInput => "standard input cannot be read",
+            Hint::Script => {
+                "standard input: docs/FORMATS.md lists the lines of a script, of which `sites N` is the first"
+            }
+            Hint::Hexadecimal => "standard input: a line has two hexadecimal digits for each byte",
+            Hint::TooLong => "an input is too long: docs/BEHAVIOUR.md tells how long each may be",
+            Hint::NoDefs(_) => {
+                " cannot be read: --defs names a file of lines `index F` and `view V G S`"
+            }
+            Hint::BadDefs(_) => {
+                ": a line is `index F` or `view V G S`, each but once, and at most 16 of either"
+            }
+            Hint::InUse(_) => {
+                " is in use: end the program that has it open, or ask that one through its port"
+            }
+            Hint::NoDatabase(_) => {
+                " is no database of mvd, or damaged: name another file, or a copy of this one"
+            }
+            Hint::Unusable(..) => "; see to its folder, its rights and the disk",
+            Hint::OtherSite(..) => ": name that site by --site, or another file",
+            Hint::Damaged(_) => {
+                " is damaged, or of a later version of mvd: name another file, or a copy of this one"
+            }
+            Hint::Foreign(_) => " is the file of another program: name another file",
+            Hint::Full => "the file has no room for so many keys: raise --max-keys, up to 1000000",
+            Hint::PortInUse(_) => {
+                " is in use: end the program that listens there, or name another port"
+            }
+            Hint::NoRight(_) => ": name another --port, of 1024 or more",
+            Hint::NoListener(..) => "; --address names an address of this machine",
+            Hint::NoServer(..) => "; start `mvd serve` there, or name another --address and --port",
+            Hint::Broken(_) => " broke: what was done before stays, so run this again",
+            Hint::Refused(_) => " refused it: what was done before stays",
+            Hint::NoPeer(_) => {
+                " does not answer as mvd does: name another --address and --port, or bring both to one version"
+            }
+            Hint::Clash => {
+                "two files wrote under one site's number: docs/USING.md tells what not to do with a copy"
+            }
+            Hint::Left => {
+                "all other keys were exchanged; docs/USING.md tells what to do about a key that is refused"
+            }
+        }
+    }
+
+    /// The file or the address, with what else is known of it.
+    fn name<W: fmt::Write>(&self, f: &mut fmt::Formatter<W>) -> fmt::Result {
+        match self {
+            Hint::NoDefs(file)
+            | Hint::BadDefs(file)
+            | Hint::InUse(file)
+            | Hint::NoDatabase(file)
+            | Hint::Damaged(file)
+            | Hint::Foreign(file) => f.write_str(file),
+            Hint::Unusable(file, error) => write!(f, "{file}: {error}"),
+            Hint::OtherSite(file, site) => write!(f, "{file} is the file of site {site}"),
+            Hint::PortInUse(address)
+            | Hint::NoRight(address)
+            | Hint::Broken(address)
+            | Hint::Refused(address)
+            | Hint::NoPeer(address) => write!(f, "{address}"),
+            Hint::NoListener(address, error) | Hint::NoServer(address, error) => {
+                write!(f, "{address}: {error}")
+            }
+            _ => Ok(()),
+        }
+    }
+}
+
+impl fmt::Display for Hint<'_> {
+    fn fmt<W: fmt::Write>(&self, f: &mut fmt::Formatter<W>) -> fmt::Result {
+        f.write_str(self.before())?;
+        self.name(f)?;
+        f.write_str(self.after())
+    }
+}
+
 /// That a file was older than what the other side saw of it, at so many keys, and what to do.
-#[derive(Debug, Clone, Copy, Error)]
-#[error("the file was older than what the server saw of it, keys {0}: if it was written since it was put back, docs/USING.md tells what to do with a copy")]
+#[derive(Clone, Copy)]
 pub struct Older(pub u64);
 
+impl fmt::Display for Older {
+    fn fmt<W: fmt::Write>(&self, f: &mut fmt::Formatter<W>) -> fmt::Result {
+        write!(
+            f,
+            "the file was older than what the server saw of it, keys {}: if it was written since it was put back, docs/USING.md tells what to do with a copy",
+            self.0
+        )
+    }
+}
+
 /// Why a command was stopped, and what there is to do about it where something is known.
-#[derive(Debug, Clone, Copy)]
+#[derive(Clone, Copy)]
 pub struct Stop<'a> {
     pub fault: Fault,
     pub hint: Option<Hint<'a>>,

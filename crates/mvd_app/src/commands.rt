@@ -14,10 +14,11 @@ use crate::hint::{Hint, Stop};
 use crate::looping::loop_run;
 use crate::many::{Terms, serve_run};
 use crate::output::Output;
-use crate::peer_commands::{refused_in, remote_shell_run, sync_run, tell_report};
+use crate::peer_commands::{remote_shell_run, sync_run, tell_report};
+use crate::refusing::unopened;
 use mvd_dots::Refusal;
 use mvd_input::{DEFS_MAX, Fault, Order, Setup, read_defs, read_input};
-use mvd_replica::{FileFault, Replica, open_file};
+use mvd_replica::{Replica, open_file};
 use mvd_rows::Defs;
 use mvd_script::{shell_run, sim};
 use mvd_site::Config;
@@ -125,24 +126,17 @@ fn run_stored<'a, S: Start>(
         Ok(replica) => replica,
         Err(fault) => return Err(unopened(db, fault)),
     };
-    work_on(rt, &mut replica, work)?;
+    if let Err(stop) = work_on(rt, &mut replica, work) {
+        drop(replica);
+        return Err(stop);
+    }
     if replica.is_broken() {
+        drop(replica);
         return Err(Stop::from(Refusal::Broken));
     }
     match closed(db, replica) {
         Ok(files) => Ok(Some(files)),
         Err(stop) => Err(stop),
-    }
-}
-
-/// Why a file was not opened as a site.
-fn unopened<'a, D: Disk + Drop>(db: &'a str, fault: FileFault<D>) -> Stop<'a> {
-    match fault {
-        FileFault::File(error, left) => {
-            drop(left);
-            Stop::in_file(db, error)
-        }
-        FileFault::Records(refusal, conn) => refused_in(db, refusal, conn),
     }
 }
 

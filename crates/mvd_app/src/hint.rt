@@ -67,7 +67,7 @@ pub enum Hint<'a> {
 pub struct Older(pub u64);
 
 /// Why a command was stopped, and what there is to do about it where something is known.
-#[derive(Debug, Clone, Copy)]
+#[derive(Clone, Copy)]
 pub struct Stop<'a> {
     pub fault: Fault,
     pub hint: Option<Hint<'a>>,

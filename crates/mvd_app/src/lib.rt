@@ -10,6 +10,7 @@ mod many;
 mod output;
 mod peer_commands;
 mod progress;
+mod refusing;
 
 pub use commands::run;
 pub use hint::{Hint, Stop};
@@ -17,4 +18,5 @@ pub use link::{Incoming, Link, Outgoing};
 pub use looping::loop_run;
 pub use many::{Terms, serve_run};
 pub use output::Output;
-pub use peer_commands::{remote_shell_run, replica_in, sync_run, tell_report};
+pub use peer_commands::{remote_shell_run, sync_run, tell_report};
+pub use refusing::refused_in;

@@ -85,26 +85,40 @@ fn answered<S: Read + Write + Drop>(
     server: S,
     config: Config,
 ) -> Result<Result<Ended, Refusal>, Refusal> {
-    let mut replica = in_memory(alloc, config)?;
     let Ok(mut server) = BufReader::new(alloc, server) else {
         return Err(Refusal::Memory);
     };
     let mut replies = Replies::new(alloc);
-    let ended = serve(alloc, &mut server, &mut replies, &mut replica);
-    drop(replica);
-    if let Some(refusal) = replies.refused {
-        return Err(refusal);
-    }
-    send(server, &replies.bytes)?;
+    let ended = served(alloc, &mut server, &mut replies, config)?;
+    send(server, &replies)?;
     Ok(ended)
 }
 
-/// Sends the replies and closes. What was left unread is read first: a stream that is closed with bytes unread may lose what it sent.
-fn send<S: Read + Write + Drop>(mut server: BufReader<S>, replies: &[u8]) -> Result<(), Refusal> {
+/// Serves a connection by a new replica, and gives how that ended.
+fn served<R: Read, W: Write>(
+    alloc: Global,
+    reader: &mut R,
+    writer: &mut W,
+    config: Config,
+) -> Result<Result<Ended, Refusal>, Refusal> {
+    let mut replica = in_memory(alloc, config)?;
+    let ended = serve(alloc, reader, writer, &mut replica);
+    drop(replica);
+    Ok(ended)
+}
+
+/// Sends the replies, unless there are too many, and closes. What was left unread is read first: a stream that is closed with bytes unread may lose what it sent.
+fn send<S: Read + Write + Drop>(
+    mut server: BufReader<S>,
+    replies: &Replies,
+) -> Result<(), Refusal> {
+    if let Some(refusal) = replies.refused {
+        return Err(refusal);
+    }
     if io::copy(&mut server, &mut io::sink()).is_err() {
         return Err(Refusal::ReadFailed);
     }
-    match server.get_mut().write_all(replies) {
+    match server.get_mut().write_all(&replies.bytes) {
         Ok(()) => Ok(()),
         Err(_) => Err(Refusal::WriteFailed),
     }
@@ -115,7 +129,10 @@ fn in_memory(alloc: Global, config: Config) -> Result<Replica<MemStore>, Refusal
     let conn = Connection::open_in_memory(alloc)?;
     match Replica::open(alloc, conn, config) {
         Ok(replica) => Ok(replica),
-        Err((refusal, _)) => Err(refusal),
+        Err((refusal, conn)) => {
+            drop(conn);
+            Err(refusal)
+        }
     }
 }
 

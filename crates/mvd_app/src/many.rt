@@ -71,16 +71,41 @@ pub fn serve_run<'a, N: Net + Clock + RandomSource, S: Alter + Drop, W: Write>(
     // However it ends, the site changed by turns alone, and its records follow.
     ensures served { IsServed replica.old replica.new }
 {
-    let mut server = match Server::new(rt, alloc, address, terms) {
-        Ok(server) => server,
-        Err(error) => return Err(Stop::unheard(address, error)),
+    let mut server = listening(rt, alloc, address, terms)?;
+    let served = server.serve_at::<N, S, W>(rt, alloc, replica, address, terms, writer);
+    drop(server);
+    Ok(served?)
+}
+
+/// A server that listens at an address, and for HTTP at its own port, if it serves that too.
+fn listening<'a, N: Net + Clock + RandomSource>(
+    rt: &N,
+    alloc: Global,
+    address: SocketAddr,
+    terms: Terms,
+) -> Result<Server, Stop<'a>> {
+    match Server::new(rt, alloc, address, terms) {
+        Ok(server) => with_web(rt, server, web_address(address, terms)),
+        Err(error) => Err(Stop::unheard(address, error)),
+    }
+}
+
+/// The same server, which listens at this address too, if there is one.
+fn with_web<'a, N: Net>(
+    rt: &N,
+    mut server: Server,
+    address: Option<SocketAddr>,
+) -> Result<Server, Stop<'a>> {
+    let Some(address) = address else {
+        return Ok(server);
     };
-    if let Some(address) = web_address(address, terms) {
-        if let Err(error) = server.open_web(rt, address) {
-            return Err(Stop::unheard(address, error));
+    match server.open_web(rt, address) {
+        Ok(()) => Ok(server),
+        Err(error) => {
+            drop(server);
+            Err(Stop::unheard(address, error))
         }
     }
-    Ok(server.serve_at::<N, S, W>(rt, alloc, replica, address, terms, writer)?)
 }
 
 impl Server {
@@ -92,16 +117,21 @@ impl Server {
     ) -> io::Result<Server> {
         let start = Instant::now(rt)?;
         let keys = RandomState::new(rt)?;
+        let ready = Vec::with_capacity(alloc, 2 * CLIENTS_MAX)?;
+        let next = Vec::with_capacity(alloc, 2 * CLIENTS_MAX)?;
+        let events = Events::with_capacity(alloc, CLIENTS_MAX + 2)?;
         let poll = Poll::new(rt)?;
         let frames = Door::new(rt, poll.registry(), address, Kind::Frames)?;
+        // It owns most, so it comes last: each value before it is let go where a later one fails.
+        let crowd = Crowd::new(alloc, keys, terms.conns, terms.idle)?;
         Ok(Server {
             poll,
-            events: Events::with_capacity(alloc, CLIENTS_MAX + 2)?,
+            events,
             frames,
             http: None,
-            crowd: Crowd::new(alloc, keys, terms.conns, terms.idle)?,
-            ready: Vec::with_capacity(alloc, 2 * CLIENTS_MAX)?,
-            next: Vec::with_capacity(alloc, 2 * CLIENTS_MAX)?,
+            crowd,
+            ready,
+            next,
             start,
         })
     }
@@ -126,15 +156,9 @@ impl Server {
     ) -> Result<(), Fault>
         ensures served { IsServed replica.old replica.new }
     {
-        let mut line = String::new(alloc);
-        writeln!(line, "listening {address}")?;
-        if let Some(address) = web_address(address, terms) {
-            writeln!(line, "listening http://{address}/")?;
-        }
-        tell(writer, &mut line)?;
+        tell_listening(alloc, address, terms, writer)?;
         self.serve(rt, replica, writer)?;
-        print_root(alloc, replica, &mut line)?;
-        tell(writer, &mut line)
+        tell_root(alloc, replica, writer)
     }
 
     /// Serves until all connections have ended.
@@ -227,6 +251,32 @@ impl Server {
         }
         tell(writer, &mut self.crowd.told)
     }
+}
+
+/// Tells where a server listens.
+fn tell_listening<W: Write>(
+    alloc: Global,
+    address: SocketAddr,
+    terms: Terms,
+    writer: &mut W,
+) -> Result<(), Fault> {
+    let mut line = String::new(alloc);
+    writeln!(line, "listening {address}")?;
+    if let Some(address) = web_address(address, terms) {
+        writeln!(line, "listening http://{address}/")?;
+    }
+    tell(writer, &mut line)
+}
+
+/// Tells the root digest.
+fn tell_root<S: Alter + Drop, W: Write>(
+    alloc: Global,
+    replica: &Replica<S>,
+    writer: &mut W,
+) -> Result<(), Fault> {
+    let mut line = String::new(alloc);
+    print_root(alloc, replica, &mut line)?;
+    tell(writer, &mut line)
 }
 
 /// The address at which HTTP is served, if it is.

@@ -4,9 +4,11 @@ ghost use Rattle.std.specs.Io.KnownBytes.{Appends};
 ghost use Rattle.mvd_app.specs.Reported.{Reports, refused_text, root_text, session_text};
 ghost use Rattle.mvd_app.specs.Stored.{FollowsPushed};
 ghost use Rattle.mvd_app.specs.Synced.{MeetsFar};
+ghost use Rattle.mvd_app.specs.Talked.{ShellsOver};
 ghost use Rattle.mvd_replica.specs.Replicas.{site_of};
 ghost use Rattle.mvd_replica.specs.Sides.{IsTrueSite};
-ghost use Rattle.mvd_sync.specs.Lines.{IsTrueRemote};
+ghost use Rattle.mvd_script.specs.Shell.{at};
+ghost use Rattle.mvd_sync.specs.Lines.{IsTrueRemote, RepliesFar};
 
 use crate::hint::{Hint, Older, Stop};
 use crate::link::Link;
@@ -15,41 +17,15 @@ use mvd_dots::Refusal;
 use mvd_input::Fault;
 use mvd_keys::Path;
 use mvd_print::print_keys;
-use mvd_replica::{Replica, is_foreign, owner_in};
+use mvd_replica::Replica;
 use mvd_script::{shell_run, tell};
-use mvd_site::Config;
 use mvd_sync::{Left, Line, Remote, Report, Side, SyncFault, sync};
-use sqlite::{Alter, Connection};
+use sqlite::Alter;
 use std::alloc::Global;
 use std::fmt::Write as Print;
 use std::io::{self, BufRead, Read, Write};
 use std::net::{Net, OpenStream, SocketAddr};
 use std::time::Duration;
-
-/// The replica of a site that the database of a file holds.
-pub fn replica_in<'a, S: Alter + Drop>(
-    alloc: Global,
-    conn: Connection<S>,
-    config: Config,
-    file: &'a str,
-) -> Result<Replica<S>, Stop<'a>> {
-    match Replica::open(alloc, conn, config) {
-        Ok(replica) => Ok(replica),
-        Err((refusal, conn)) => Err(refused_in(file, refusal, conn)),
-    }
-}
-
-/// Why the records of a file are refused: it is another program's, or another site's, which is named, or the refusal says it.
-pub fn refused_in<'a, S: Alter + Drop>(
-    file: &'a str,
-    refusal: Refusal,
-    mut conn: Connection<S>,
-) -> Stop<'a> {
-    if is_foreign(&conn) {
-        return Stop::in_foreign(file);
-    }
-    Stop::in_records(file, refusal, owner_in(&mut conn))
-}
 
 /// A stream to the server at an address, on which no read and no write waits for more than so many seconds.
 pub fn connected<N: Net>(rt: &N, address: SocketAddr, idle: u32) -> io::Result<N::Stream> {
@@ -216,14 +192,41 @@ pub fn remote_shell_run<'a, N: Net, R: BufRead, W: Write>(
     reader: &mut R,
     writer: &mut W,
 ) -> Result<(), Stop<'a>> {
-    let stream = match connected(rt, address, idle) {
-        Ok(stream) => stream,
-        Err(error) => return Err(Stop::unanswered(address, error)),
-    };
+    match connected(rt, address, idle) {
+        Ok(stream) => shell_stream(alloc, stream, address, reader, writer),
+        Err(error) => Err(Stop::unanswered(address, error)),
+    }
+}
+
+/// The same over a stream to that server.
+fn shell_stream<'a, T: Read + Write + Drop, R: BufRead, W: Write>(
+    alloc: Global,
+    stream: T,
+    address: SocketAddr,
+    reader: &mut R,
+    writer: &mut W,
+) -> Result<(), Stop<'a>> {
     let link = Link::new(alloc, stream)?;
-    let mut remote = Remote::new(alloc, link.incoming(alloc)?, link.outgoing());
-    if let Err(fault) = shell_run(alloc, &mut remote, reader, writer) {
-        return Err(Stop::in_input(fault, Hint::Script));
+    let incoming = link.incoming(alloc)?;
+    let mut remote = Remote::new(alloc, incoming, link.outgoing());
+    shell_over(alloc, &mut remote, address, reader, writer)
+}
+
+/// The same over a line to that server.
+pub fn shell_over<'a, L: Line, R: BufRead, W: Write>(
+    alloc: Global,
+    remote: &mut Remote<L>,
+    address: SocketAddr,
+    reader: &mut R,
+    writer: &mut W,
+) -> Result<(), Stop<'a>>
+    ensures shells { ShellsOver (RepliesFar L.remaining L.contents L.is_true L.far)
+        (at remote.old (R.remaining reader.old) (W.contents writer.old))
+        (at remote.new (R.remaining reader.new) (W.contents writer.new)) result }
+{
+    match shell_run(alloc, remote, reader, writer) {
+        Ok(()) => {}
+        Err(fault) => return Err(Stop::in_input(fault, Hint::Script)),
     }
     match remote.bye() {
         Ok(()) => Ok(()),

@@ -1,7 +1,7 @@
 //! What is told of a fault.
 ghost use Rattle.std.specs.Prelude.{◌<◌};
 
-use mvd_app::{Hint, Stop, replica_in};
+use mvd_app::{Hint, Stop, refused_in};
 use mvd_dots::Refusal;
 use mvd_input::Fault;
 use mvd_replica::Replica;
@@ -27,21 +27,41 @@ fn opened(
 ) -> Result<Replica<MemStore>, Stop<'static>>
     requires { 0 < site }
 {
-    let config = Config::new(site, 10, Defs::new(alloc));
-    replica_in(alloc, conn, config, "a.db")
+    match Replica::open(alloc, conn, Config::new(site, 10, Defs::new(alloc))) {
+        Ok(replica) => Ok(replica),
+        Err((refusal, mut conn)) => {
+            let stop = refused_in("a.db", refusal, &mut conn);
+            drop(conn);
+            Err(stop)
+        }
+    }
+}
+
+/// Whether this is told where a file is opened as that of a site.
+fn is_told(
+    alloc: Global,
+    conn: Connection<MemStore>,
+    site: u32,
+    wanted: &str,
+) -> Result<bool, AllocError>
+    requires { 0 < site }
+{
+    match opened(alloc, conn, site) {
+        Ok(replica) => {
+            drop(replica);
+            Ok(false)
+        }
+        Err(stop) => tells(alloc, &stop, wanted),
+    }
 }
 
 /// What is told where the file of site 7 is opened as that of another.
 fn told_to(alloc: Global, site: u32, wanted: &str) -> Result<bool, Fail>
     requires { 0 < site }
 {
-    let conn = Connection::open_in_memory(alloc)?;
-    let Ok(replica) = opened(alloc, conn, 7) else {
-        return Ok(false);
-    };
-    match opened(alloc, replica.into_connection(), site) {
-        Ok(_) => Ok(false),
-        Err(stop) => Ok(tells(alloc, &stop, wanted)?),
+    match opened(alloc, Connection::open_in_memory(alloc)?, 7) {
+        Ok(replica) => Ok(is_told(alloc, replica.into_connection(), site, wanted)?),
+        Err(_) => Ok(false),
     }
 }
 
@@ -60,13 +80,8 @@ fn run(conn: &mut Connection<MemStore>, sql: &str) -> bool {
 /// What is told where a file with such a table is opened.
 fn told_of(alloc: Global, table: &str, wanted: &str) -> Result<bool, Fail> {
     let mut conn = Connection::open_in_memory(alloc)?;
-    if !run(&mut conn, table) {
-        return Ok(false);
-    }
-    match opened(alloc, conn, 7) {
-        Ok(_) => Ok(false),
-        Err(stop) => Ok(tells(alloc, &stop, wanted)?),
-    }
+    let ran = run(&mut conn, table);
+    Ok(is_told(alloc, conn, 7, wanted)? && ran)
 }
 
 #[test]

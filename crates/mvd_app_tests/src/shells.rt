@@ -1,5 +1,4 @@
 //! Lines that are typed, and what they print.
-use mvd_app::replica_in;
 use mvd_dots::Refusal;
 use mvd_input::{Fault, read_defs};
 use mvd_replica::Replica;
@@ -15,9 +14,12 @@ fn in_memory(alloc: Global) -> Result<Replica<MemStore>, Fault> {
         return Err(Fault::Stopped(Refusal::Store));
     };
     let defs = read_defs(alloc, b"index city\nview v city n\n")?;
-    match replica_in(alloc, conn, Config::new(7, 2, defs), "a.db") {
+    match Replica::open(alloc, conn, Config::new(7, 2, defs)) {
         Ok(replica) => Ok(replica),
-        Err(stop) => Err(stop.fault),
+        Err((refusal, conn)) => {
+            drop(conn);
+            Err(Fault::Stopped(refusal))
+        }
     }
 }
 
@@ -25,7 +27,9 @@ fn printed(alloc: Global, lines: &[u8]) -> Result<Vec<u8>, Fault> {
     let mut replica = in_memory(alloc)?;
     let mut reader = lines;
     let mut out = Vec::new(alloc);
-    shell_run(alloc, &mut replica, &mut reader, &mut out)?;
+    let ended = shell_run(alloc, &mut replica, &mut reader, &mut out);
+    drop(replica);
+    ended?;
     Ok(out)
 }
 

@@ -46,16 +46,18 @@ impl Crowd {
         conns: Option<u32>,
         idle: u32,
     ) -> Result<Crowd, AllocError> {
+        let piece = Piece::new(alloc)?;
+        let told = String::with_capacity(alloc, PIECE)?;
         Ok(Crowd {
             talks: Talks::new(alloc, keys),
             counts: Counts::new(alloc),
             most: conns.map_or(u64::MAX, u64::from),
             clients: BTreeMap::new(alloc),
             timers: Timers::new(alloc),
-            piece: Piece::new(alloc)?,
+            piece,
             now: 0,
             idle: u64::from(idle).saturating_mul(1_000),
-            told: String::with_capacity(alloc, PIECE)?,
+            told,
         })
     }
 

@@ -1,0 +1,47 @@
+//! Why a file was not opened as a site.
+ghost use Rattle.std.specs.Prelude.{IsTrue};
+ghost use Rattle.mvd_app.specs.Refused.{TellsForeign, TellsOurs};
+ghost use Rattle.mvd_records.specs.Foreign.{HoldsForeign};
+ghost use Rattle.mvd_records.specs.Records.{OnlyReads};
+ghost use Rattle.sqlite.specs.Held.{state};
+
+use crate::hint::Stop;
+use mvd_dots::Refusal;
+use mvd_replica::{FileFault, is_foreign, owner_in};
+use sqlite::{Alter, Connection};
+use sqlite_disk::Disk;
+
+/// Why a file was not opened as a site.
+pub(crate) fn unopened<'a, D: Disk + Drop>(file: &'a str, fault: FileFault<D>) -> Stop<'a> {
+    match fault {
+        FileFault::File(error, left) => {
+            drop(left);
+            Stop::in_file(file, error)
+        }
+        FileFault::Records(refusal, mut conn) => {
+            let stop = refused_in(file, refusal, &mut conn);
+            drop(conn);
+            stop
+        }
+    }
+}
+
+/// Why the records of a file are refused: it is another program's, or another site's, or the refusal says it.
+pub fn refused_in<'a, S: Alter>(
+    file: &'a str,
+    refusal: Refusal,
+    conn: &mut Connection<S>,
+) -> Stop<'a>
+    ensures reads { OnlyReads (state S.Store conn.old) (state S.Store conn.new) }
+    // Another program's file is told as such, and stays as it is.
+    ensures foreign { HoldsForeign (state S.Store conn.old) → TellsForeign file.entry conn.old conn.new result }
+    // Of one of ours its marks are read.
+    ensures ours { IsTrue (state S.Store conn.old).is_open → ¬ HoldsForeign (state S.Store conn.old) →
+        TellsOurs file.entry refusal (state S.Store conn.old) (state S.Store conn.new) result }
+{
+    if is_foreign(conn) {
+        return Stop::in_foreign(file);
+    }
+    let owner = owner_in(conn);
+    Stop::in_records(file, refusal, owner)
+}

@@ -8,7 +8,8 @@ ghost use Rattle.mvd_app.specs.Talked.{ShellsOver};
 ghost use Rattle.mvd_replica.specs.Replicas.{site_of};
 ghost use Rattle.mvd_replica.specs.Sides.{IsTrueSite};
 ghost use Rattle.mvd_script.specs.Shell.{at};
-ghost use Rattle.mvd_sync.specs.Lines.{IsTrueRemote, RepliesFar};
+ghost use Rattle.mvd_sync.specs.Lines.{IsTrueRemote};
+ghost use Rattle.mvd_sync.specs.Remotes.{RepliesFar};
 
 use crate::hint::{Hint, Older, Stop};
 use crate::link::Link;
@@ -220,7 +221,7 @@ pub fn shell_over<'a, L: Line, R: BufRead, W: Write>(
     reader: &mut R,
     writer: &mut W,
 ) -> Result<(), Stop<'a>>
-    ensures shells { ShellsOver (RepliesFar L.remaining L.contents L.is_true L.far)
+    ensures shells { ShellsOver (RepliesFar L.Line)
         (at remote.old (R.remaining reader.old) (W.contents writer.old))
         (at remote.new (R.remaining reader.new) (W.contents writer.new)) result }
 {

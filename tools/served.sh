@@ -178,8 +178,7 @@ other=$(cksum <other.db)
 refused "another program's database" 1 "fault 17 Damaged" "other.db is the file of another program: name another file" \
   other.db serve --db other.db --site 2 --port "$port"
 same "its bytes" "$other" "$(cksum <other.db)"
-# The log that the open left beside it is empty, but for its head.
-rm -f other.db-wal
+same "no log beside it" "" "$(ls other.db-wal 2>/dev/null || :)"
 same "its journal and its rows" "delete a" "$(sqlite3 other.db 'PRAGMA journal_mode; SELECT title FROM note' | tr '\n' ' ' | sed 's/ $//')"
 seq 2000 >none.db
 refused "no database" 1 "fault 21 Store" "none.db is no database of mvd, or damaged: name another file, or a copy of this one" \

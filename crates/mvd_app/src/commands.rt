@@ -124,7 +124,7 @@ fn run_stored<'a, S: Start>(
     let config = config_in(rt, setup)?;
     let mut replica = match open_file(rt, db, start, config) {
         Ok(replica) => replica,
-        Err(fault) => return Err(unopened(db, fault)),
+        Err(fault) => return Err(unopened(rt, db, fault)),
     };
     if let Err(stop) = work_on(rt, &mut replica, work) {
         drop(replica);

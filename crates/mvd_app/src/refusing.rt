@@ -10,20 +10,44 @@ use mvd_dots::Refusal;
 use mvd_replica::{FileFault, is_foreign, owner_in};
 use sqlite::{Alter, Connection};
 use sqlite_disk::Disk;
+use std::{fs, io};
 
-/// Why a file was not opened as a site.
-pub(crate) fn unopened<'a, D: Disk + Drop>(file: &'a str, fault: FileFault<D>) -> Stop<'a> {
+/// Fewer bytes than a log with a page takes: 32 for its head, 24 for that of the page, and 512 for the page.
+const LEAST_LOG: u64 = 568;
+
+/// Why a file was not opened as a site. The open makes a log where there is none. It is removed while the file's lock is still
+/// held, so that nobody else has it open.
+pub(crate) fn unopened<'a, D: Disk + Drop>(
+    rt: &HostRuntime,
+    file: &'a str,
+    fault: FileFault<D>,
+) -> Stop<'a> {
     match fault {
         FileFault::File(error, left) => {
+            if left.is_some() {
+                let _ = remove_log(rt, file);
+            }
             drop(left);
             Stop::in_file(file, error)
         }
         FileFault::Records(refusal, mut conn) => {
             let stop = refused_in(file, refusal, &mut conn);
+            let _ = remove_log(rt, file);
             drop(conn);
             stop
         }
     }
+}
+
+/// Removes the log beside a file, where it holds no page.
+fn remove_log(rt: &HostRuntime, file: &str) -> io::Result<()> {
+    let mut log = String::new(rt.alloc());
+    log.push_str(file)?;
+    log.push_str("-wal")?;
+    if fs::metadata(rt, log.as_str())?.len() < LEAST_LOG {
+        fs::remove_file(rt, log.as_str())?;
+    }
+    Ok(())
 }
 
 /// Why the records of a file are refused: it is another program's, or another site's, or the refusal says it.

@@ -5,7 +5,7 @@ use Rattle.mvd_dots.specs.declared.refusals.Refusal.{Refusal}
 use Rattle.mvd_wire.specs.declared.request.Request.TheVariants.{Bye}
 use Rattle.mvd_wire.specs.declared.reply.Reply.TheVariants.{Done}
 use Rattle.mvd_site.specs.Held.{States}
-use Rattle.mvd_sync.specs.Lines.{AnswersTruly}
+use Rattle.mvd_remote.specs.Lines.{AnswersTruly}
 use Rattle.mvd_sync.specs.Session.{HasJoined}
 use Rattle.mvd_sync.specs.declared.report.Report.{Report}
 use Rattle.mvd_sync.specs.declared.report.SyncFault.{SyncFault}

@@ -2,10 +2,10 @@
 use Rattle.std.proofs.Common.{◌≡◌, ◌⊎◌, ℕ, List, Result, Ok, Err, inl, inr, sym, subst}
 use Rattle.std.specs.Result.{IfErr, IfOk}
 use Rattle.mvd_dots.specs.declared.refusals.Refusal.{Refusal}
-use Rattle.mvd_sync.specs.Sides.{HasAnswered, HasRefused}
-use Rattle.mvd_sync.specs.Windows.{Ends}
-use Rattle.mvd_sync.proofs.OneByOne.{told_still}
-use Rattle.mvd_sync.proofs.Positions.{AskedBy}
+use Rattle.mvd_peer.specs.Sides.{HasAnswered, HasRefused}
+use Rattle.mvd_peer.specs.Windows.{Ends}
+use Rattle.mvd_peer.proofs.OneByOne.{told_still}
+use Rattle.mvd_peer.proofs.OneByOne.{AskedBy}
 
 pub ok_as : {A : Type 0} {P Q : A → Type 0} (r : Result A Refusal) → IfOk r P → ((x : A) → P x → Q x) → IfOk r Q
 ok_as (Ok x) p f = f x p

@@ -3,9 +3,9 @@ use Rattle.std.specs.Prelude.{Some, Result}
 use Rattle.mvd_replica.specs.Replicas.{site_of}
 use Rattle.mvd_replica.specs.Sides.{IsTrueSite}
 use Rattle.mvd_replica.specs.declared.replica.Replica.{Replica}
-use Rattle.mvd_sync.specs.Lines.{Far, IsTrueRemote, far_of}
+use Rattle.mvd_remote.specs.Lines.{Far, IsTrueRemote, far_of}
 use Rattle.mvd_sync.specs.Session.{Meets}
-use Rattle.mvd_sync.specs.declared.remote.Remote.{Remote}
+use Rattle.mvd_remote.specs.declared.remote.Remote.{Remote}
 use Rattle.mvd_sync.specs.declared.report.Report.{Report}
 use Rattle.mvd_sync.specs.declared.report.SyncFault.{SyncFault}
 use Rattle.sqlite_trees.specs.declared.store.Store.{Ghosts}

@@ -3,7 +3,7 @@ ghost use Rattle.std.specs.Prelude.{◌≡◌};
 
 use mvd_dots::Refusal;
 use mvd_keys::{Key, KeyState, Path};
-use mvd_sync::{Page, Peer};
+use mvd_peer::{Page, Peer};
 use mvd_wire::Digests;
 use std::alloc::Global;
 use std::fmt::Write as Print;

@@ -8,7 +8,7 @@ use Rattle.mvd_wire.specs.declared.reply.Reply.{Reply}
 use Rattle.mvd_wire.specs.declared.reply.Reply.TheVariants.{Refused}
 use Rattle.mvd_wire.specs.Replies.{is_short}
 use Rattle.mvd_site.specs.Sites.{SiteValue}
-use Rattle.mvd_sync.specs.Sides.{SiteFollows}
+use Rattle.mvd_peer.specs.Sides.{SiteFollows}
 use Rattle.mvd_replica.specs.Sides.{replica_follows_on}
 use Rattle.mvd_replica.specs.Steps.{IsSent, RepliesTo}
 use Rattle.mvd_replica.specs.Turns.{IsFirstBroken, IsToldElse, Turn}

@@ -10,9 +10,9 @@ use Rattle.mvd_keys.specs.Writes.{Key, Stands, Write, is_empty, state, writes_fo
 use Rattle.mvd_site.proofs.Steps.{Stands-insert, Stands-same, state_at-stands}
 use Rattle.mvd_site.specs.Held.{States, state_at}
 use Rattle.mvd_site.specs.Sites.{SiteValue}
-use Rattle.mvd_sync.proofs.JoinLaws.{nothing_empty}
-use Rattle.mvd_sync.proofs.SiteSides.{not_nothing, removed_same}
-use Rattle.mvd_sync.specs.Session.{ComesByPushes, Each, is_nothing, pushed, pushed_all, put_state}
+use Rattle.mvd_peer.proofs.JoinLaws.{nothing_empty}
+use Rattle.mvd_peer.proofs.SiteSides.{not_nothing, removed_same}
+use Rattle.mvd_peer.specs.PushedStates.{ComesByPushes, Each, is_nothing, pushed, pushed_all, put_state}
 use Rattle.mvd_replica.specs.Programs.{KeepsWrites}
 use Rattle.mvd_replica.specs.Turns.{Event, StandsOn, TellsTurns, Turn, known_after}
 

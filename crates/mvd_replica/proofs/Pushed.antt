@@ -24,12 +24,12 @@ use Rattle.mvd_site.specs.Held.{AreHeld, States, state_at}
 use Rattle.mvd_site.specs.Prepared.{is_refusal}
 use Rattle.mvd_site.specs.Sites.{SiteValue}
 use Rattle.mvd_site.proofs.Pushes.{PushFacts, refusal_is}
-use Rattle.mvd_sync.specs.Session.{ComesByPushes, Each, is_nothing, put_state, pushed}
-use Rattle.mvd_sync.specs.Windows.{CannotTake, EachAnswer, EachTold, Pushes}
-use Rattle.mvd_sync.proofs.JoinLaws.{nothing_empty}
-use Rattle.mvd_sync.proofs.ManyPushes.{one_push, pushes-append}
-use Rattle.mvd_sync.proofs.Pushes.{more_pushes, no_pushes}
-use Rattle.mvd_sync.proofs.SiteSides.{is_broken, push_cause}
+use Rattle.mvd_peer.specs.PushedStates.{ComesByPushes, Each, is_nothing, put_state, pushed}
+use Rattle.mvd_peer.specs.Windows.{CannotTake, EachAnswer, EachTold, Pushes}
+use Rattle.mvd_peer.proofs.JoinLaws.{nothing_empty}
+use Rattle.mvd_peer.proofs.ManyPushes.{one_push, pushes-append}
+use Rattle.mvd_peer.proofs.Pushes.{more_pushes, no_pushes}
+use Rattle.mvd_peer.proofs.SiteSides.{is_broken, push_cause}
 use Rattle.mvd_replica.specs.Batch.{AnswersOneFrom, AreAmong, HoldsLost, TakesAllFrom, TakesFrom}
 use Rattle.mvd_replica.specs.Pushes.{push_of, told_of}
 use Rattle.mvd_replica.specs.Sides.{AnswersFromStored, ArePushes, HoldsBroken, HoldsPushed, IsPush, ReplicaRefuses}

@@ -20,10 +20,10 @@ use Rattle.mvd_site.specs.Answer.{is_too_large}
 use Rattle.mvd_site.proofs.Answered.{insert_differs, limited_cases}
 use Rattle.mvd_site.proofs.Prepare.{answers_from_breaking}
 use Rattle.mvd_site.proofs.Pushes.{PushFacts, push_facts, refusal_is}
-use Rattle.mvd_sync.specs.Sides.{SiteRefuses}
-use Rattle.mvd_sync.specs.Session.{ComesByPushes}
-use Rattle.mvd_sync.proofs.Pushes.{no_pushes}
-use Rattle.mvd_sync.proofs.SiteSides.{is_broken, push_refuses as site_push_refuses, put_is_pushed}
+use Rattle.mvd_peer.specs.Sides.{SiteRefuses}
+use Rattle.mvd_peer.specs.PushedStates.{ComesByPushes}
+use Rattle.mvd_peer.proofs.Pushes.{no_pushes}
+use Rattle.mvd_peer.proofs.SiteSides.{is_broken, push_refuses as site_push_refuses, put_is_pushed}
 use Rattle.mvd_records.specs.Records.{IsSound}
 use Rattle.sqlite.specs.State.{HasCleanDisk, State as Shown, Survives}
 use Rattle.mvd_site.specs.Installs.{broken_site}

@@ -7,8 +7,8 @@ use Rattle.mvd_keys.specs.State.{State, clashes}
 use Rattle.mvd_keys.specs.Writes.{Key}
 use Rattle.mvd_wire.specs.declared.reply.Reply.{Reply}
 use Rattle.mvd_site.specs.Held.{state_at}
-use Rattle.mvd_sync.specs.Session.{pushed}
-use Rattle.mvd_sync.specs.Windows.{Asked, CannotTake, Ends, Pushes, PushesFirst, for_pushes, manner}
+use Rattle.mvd_peer.specs.PushedStates.{pushed}
+use Rattle.mvd_peer.specs.Windows.{Asked, CannotTake, Ends, Pushes, PushesFirst, for_pushes, manner}
 use Rattle.sqlite_trees.specs.declared.store.Store.{Ghosts}
 use Rattle.mvd_replica.specs.declared.replica.Replica.{Replica}
 use Rattle.mvd_replica.specs.Batch.{AnswersAll}

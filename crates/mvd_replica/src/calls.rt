@@ -14,8 +14,8 @@ use crate::replica::Replica;
 use mvd_docs::{Document, Field, Term, ViewName};
 use mvd_dots::{Context, Dot, Refusal};
 use mvd_keys::{Key, Path, Place};
+use mvd_peer::Endpoint;
 use mvd_site::Prepared;
-use mvd_sync::Endpoint;
 use mvd_wire::{Items, Reply, Request, RowValue};
 use sqlite::Alter;
 

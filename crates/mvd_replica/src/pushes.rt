@@ -2,7 +2,7 @@
 ghost use Rattle.std.specs.Prelude.{◌≡◌, ◌≤◌, ◌+◌, ◌++◌, IfErr, IfOk, length, map, vec_capacity};
 ghost use Rattle.mvd_dots.specs.declared.refusals.Refusal.TheVariants.{Memory};
 ghost use Rattle.mvd_keys.specs.State.{IsValid};
-ghost use Rattle.mvd_sync.specs.Session.{Each};
+ghost use Rattle.mvd_peer.specs.PushedStates.{Each};
 ghost use Rattle.mvd_replica.specs.Pushes.{push_of, told_of};
 
 use crate::replica::{accepted, pushing};

@@ -5,13 +5,13 @@ ghost use Rattle.std.proofs.Common.{ap};
 ghost use Rattle.mvd_replica.specs.ReplicaCalls.{TellsPage, TellsState, node_told};
 ghost use Rattle.mvd_replica.specs.SideCalls.{EndsWindow, IsToldAlike, IsTrueUnlessBroken, IsWindowRefusal, PushesOnSide};
 ghost use Rattle.mvd_replica.specs.SideCalls.{PushesSome, PushesWindow, TellsWindow};
-ghost use Rattle.mvd_sync.specs.Sides.{IsOfNoQuestion};
+ghost use Rattle.mvd_peer.specs.Sides.{IsOfNoQuestion};
 
 use crate::pushes::{add_told, pushes_of};
 use crate::replica::Replica;
 use mvd_dots::Refusal;
 use mvd_keys::{Key, KeyState, Path};
-use mvd_sync::{Page, Peer};
+use mvd_peer::{Page, Peer};
 use mvd_wire::Digests;
 use sqlite::Alter;
 use std::alloc::Global;

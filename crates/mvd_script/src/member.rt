@@ -4,7 +4,7 @@ ghost use Rattle.mvd_script.specs.Script.{asked_step, reply_in};
 ghost use Rattle.mvd_script.specs.Staged.{MemberReplies};
 
 use mvd_dots::Refusal;
-use mvd_sync::Endpoint;
+use mvd_peer::Endpoint;
 use mvd_wire::{Reply, Request};
 use mvd_world::{Outcome, Step, World};
 

@@ -11,7 +11,7 @@ use crate::line_reader::read_line;
 use crate::talk::answer;
 use mvd_dots::Refusal;
 use mvd_input::{Fault, Typed, text_of, typed_of, write_out};
-use mvd_sync::Endpoint;
+use mvd_peer::Endpoint;
 use std::alloc::Global;
 use std::fmt::Write as Print;
 use std::io::{BufRead, Write};

@@ -7,8 +7,8 @@ use crate::printing::print_answer;
 use crate::text_requests::request_of;
 use mvd_dots::Refusal;
 use mvd_input::Ask;
+use mvd_peer::Endpoint;
 use mvd_print::print_refusal;
-use mvd_sync::Endpoint;
 use mvd_wire::{Reply, Request};
 use std::alloc::Global;
 

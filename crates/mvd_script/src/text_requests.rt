@@ -8,7 +8,7 @@ use mvd_docs::{Document, Field, Term, ViewName};
 use mvd_dots::{Context, Dot, Refusal};
 use mvd_input::Ask;
 use mvd_keys::{Key, Path, Place};
-use mvd_sync::Endpoint;
+use mvd_peer::Endpoint;
 use mvd_wire::{Reply, Request};
 use std::alloc::Global;
 

@@ -1,5 +1,5 @@
 -- What is made of the answers to many questions.
-use Rattle.std.proofs.Common.{◌≡◌, inl, inr, ℕ, zero, suc, ◌<◌, ◌≤◌, ◌==◌, ◌∙◌, List, [], ◌∷◌, ◌++◌, length, take, get_or, Option, refl, sym, subst, arith, ap, false, true≢false}
+use Rattle.std.proofs.Common.{◌≡◌, inl, inr, ℕ, zero, suc, ◌<◌, ◌≤◌, ◌==◌, ◌∙◌, List, [], ◌∷◌, length, take, get_or, Option, refl, sym, subst, arith, ap, false, true≢false}
 use Rattle.std.specs.Prelude.{Bool, ◌^◌, None, Some, Contains, Result, Ok, Err}
 use Rattle.std.specs.declared.vec.Vec.{Vec}
 use Rattle.std.specs.declared.alloc.Global.{Global}
@@ -9,20 +9,16 @@ use Rattle.mvd_sync.specs.declared.asking.Node.{Node}
 use Rattle.mvd_dots.specs.declared.refusals.Refusal.{Refusal}
 use Rattle.mvd_dots.specs.declared.refusals.Refusal.TheVariants.{BadPath, Memory, TooManyRequests}
 use Rattle.std.proofs.lemmas.List.{length-take-le, take_all}
-use Rattle.mvd_sync.specs.Questions.{AllAnswered, AnswersEach, ComesToEnd, ForEach, Keeps, Takes, with_left}
-use Rattle.mvd_sync.specs.Session.{Each}
+use Rattle.mvd_sync.specs.Questions.{AllAnswered, AnswersEach, ComesToEnd, Keeps, Takes, with_left}
+use Rattle.mvd_peer.specs.Windows.{ForEach}
+use Rattle.mvd_peer.specs.PushedStates.{Each}
 use Rattle.mvd_sync.specs.Made.{EndsMaking, Passes}
-use Rattle.mvd_sync.specs.Sides.{HasAnswered, HasRefused, SideOf, is_of_question, of_answer, of_memory, of_questions, of_side}
-use Rattle.mvd_sync.specs.Windows.{EachAnswer, EachRefusal, EachTold, Ends, RefusesPage}
+use Rattle.mvd_peer.specs.Sides.{HasAnswered, HasRefused, SideOf, is_of_question}
+use Rattle.mvd_sync.specs.Faults.{of_answer, of_memory, of_questions, of_side}
+use Rattle.mvd_peer.specs.Windows.{EachAnswer, EachRefusal, EachTold, Ends, RefusesPage}
 use Rattle.mvd_sync.proofs.Positions.{BlamesBy}
 
 -- ---- lists
-
-pub for_each_more : {Q A : Type 0} (P : Q → A → Type 0) (qs : List Q) (ts : List A) (q : Q) (a : A) → ForEach P qs ts → P q a → ForEach P (qs ++ q ∷ []) (ts ++ a ∷ [])
-for_each_more P [] [] q a h i = (i, tt)
-for_each_more P [] (t ∷ ts) q a h i = absurd h
-for_each_more P (p ∷ qs) [] q a h i = absurd h
-for_each_more P (p ∷ qs) (t ∷ ts) q a h i = (h.0, for_each_more P qs ts q a h.1 i)
 
 -- what is so of each answer is so of what was made of it
 pub passed : {Q A B : Type 0} (M : Q → A → Type 0) (P : Type 0) (T : Refusal → Type 0) (R : A → B → Type 0) (N : Q → B → Type 0) → ((q : Q) (a : A) (b : B) → M q a → P → R a b → N q b)

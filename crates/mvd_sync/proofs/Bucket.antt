@@ -13,8 +13,8 @@ use Rattle.mvd_sync.specs.Answers.{IsPageOf, ListingValue, TakesLesser}
 use Rattle.mvd_sync.specs.Buckets.{AreElsewhere, ArePages, held_in, waits_if}
 use Rattle.mvd_sync.specs.Exchanges.{AreNext, Counts, Done, Exchanging, keys_done, keys_next}
 use Rattle.mvd_sync.specs.Nodes.{has_below}
-use Rattle.mvd_sync.specs.Session.{Each}
-use Rattle.mvd_sync.specs.Sides.{SideOf, two}
+use Rattle.mvd_peer.specs.PushedStates.{Each}
+use Rattle.mvd_peer.specs.Sides.{SideOf, two}
 use Rattle.mvd_sync.specs.Walk.{Reads}
 use Rattle.mvd_sync.specs.declared.cursor.Entry.{Entry}
 use Rattle.mvd_sync.specs.declared.asking.Questions.{Questions}

@@ -5,8 +5,8 @@ use Rattle.mvd_dots.specs.declared.refusals.Refusal.{Refusal}
 use Rattle.mvd_dots.specs.declared.refusals.Refusal.TheVariants.{Memory}
 use Rattle.mvd_keys.specs.State.{State}
 use Rattle.mvd_sync.specs.Questions.{AllAnswered, ComesToEnd, IsOfKey, TakesIn, TakesInFirst, with_left}
-use Rattle.mvd_sync.specs.Sides.{SideOf}
-use Rattle.mvd_sync.specs.Windows.{Pushes}
+use Rattle.mvd_peer.specs.Sides.{SideOf}
+use Rattle.mvd_peer.specs.Windows.{Pushes}
 use Rattle.mvd_sync.proofs.Compose.{ends_for_memory}
 use Rattle.mvd_sync.proofs.Counting.{take_all}
 

@@ -3,7 +3,8 @@ use Rattle.std.proofs.Common.{◌≡◌, ℕ, ◌+◌, ◌≤◌, ◌∙◌, ari
 use Rattle.mvd_dots.specs.declared.refusals.Refusal.{Refusal}
 use Rattle.mvd_dots.specs.declared.refusals.Refusal.TheVariants.{Memory}
 use Rattle.mvd_sync.specs.Questions.{ComesToEnd, Keeps, with_left}
-use Rattle.mvd_sync.specs.Sides.{HasAnswered, HasRefused, Reaches, SideOf, of_answer, of_memory, of_questions, of_side, is_of_question}
+use Rattle.mvd_peer.specs.Sides.{HasAnswered, HasRefused, Reaches, SideOf, is_of_question}
+use Rattle.mvd_sync.specs.Faults.{of_answer, of_memory, of_questions, of_side}
 use Rattle.mvd_sync.proofs.Positions.{BlamesBy}
 
 module _ {S : Type 0} (s : SideOf S) (on : (m n : ℕ) (old mid new : S) → s.follows m old mid → s.follows n mid new → s.follows (m + n) old new) where

@@ -9,7 +9,8 @@ use Rattle.mvd_dots.specs.declared.refusals.Refusal.{Refusal}
 use Rattle.mvd_keys.specs.State.{State, join}
 use Rattle.mvd_tree.proofs.Under.{keys_same}
 use Rattle.mvd_site.specs.Held.{States, state_at}
-use Rattle.mvd_sync.specs.Session.{AreDistinct, CanMeet, Each, HasJoined, IsIn, is_member}
+use Rattle.mvd_sync.specs.Session.{AreDistinct, CanMeet, HasJoined, IsIn, is_member}
+use Rattle.mvd_peer.specs.PushedStates.{Each}
 use Rattle.mvd_sync.proofs.Keys.{is_member-append, or_left, or_right}
 use Rattle.mvd_sync.proofs.Taking.{Ask, EachTook, ask_keys, pairs_of, same_state}
 use Rattle.mvd_sync.proofs.Positions.{JoinsBy}

@@ -11,9 +11,11 @@ use Rattle.mvd_site.specs.Answer.{is_too_large}
 use Rattle.mvd_site.specs.Held.{AreHeld, States, state_at}
 use Rattle.mvd_sync.specs.Exchanges.{AreNext, Done, given_keys, is_given, joined_keys, keys_done, keys_next}
 use Rattle.mvd_sync.specs.Meetings.{ArePlans, done_of, held_keys, noted, pair_of, taken_from, wanted}
-use Rattle.mvd_sync.specs.Questions.{ForEach, IsOfKey}
-use Rattle.mvd_sync.specs.Session.{AreDistinct, CanMeet, Each, is_member}
-use Rattle.mvd_sync.specs.Windows.{Pushes}
+use Rattle.mvd_peer.specs.Windows.{ForEach}
+use Rattle.mvd_sync.specs.Questions.{IsOfKey}
+use Rattle.mvd_sync.specs.Session.{AreDistinct, CanMeet, is_member}
+use Rattle.mvd_peer.specs.PushedStates.{Each}
+use Rattle.mvd_peer.specs.Windows.{Pushes}
 use Rattle.mvd_sync.specs.declared.cursor.Entry.{Entry}
 use Rattle.mvd_sync.specs.declared.meetings.Meeting.{Meeting}
 use Rattle.mvd_sync.specs.declared.report.Side.{Side}
@@ -21,7 +23,7 @@ use Rattle.mvd_sync.specs.declared.report.Side.TheVariants.{Local as AtLocal, Pe
 use Rattle.mvd_sync.proofs.Cut.{IsAsk, IsMet, MakesJoin, cut, cut_each, cut_keys, cut_pairs, cut_some, joins_more, took_asked, took_at, took_each, took_keys}
 use Rattle.mvd_sync.proofs.Joined.{filtered, joins_of, member_at}
 use Rattle.mvd_sync.proofs.Keys.{Each-weaker, member_has}
-use Rattle.mvd_sync.proofs.Pushes.{tied}
+use Rattle.mvd_peer.proofs.Pushes.{tied}
 use Rattle.mvd_sync.proofs.Taking.{Ask, Phase, ask_keys, phase, same_state}
 use Rattle.mvd_sync.proofs.Window.{ArePlanned, IsPlanned, IsState, Pulled, Wants, Wants_peer, asked_keys, asks_of, included, it_has, left, mine as asks_mine, not_asked, nothing, pairs_same, theirs as asks_theirs, took, wants_local, wants_peer}
 use Rattle.mvd_sync.proofs.Windowed.{all_planned, distinct_keys, each_both, each_noted, facts, from_so_far, here, keys_noted, keys_of_done, local_phase, meeting_keys, not_after, pulled, same_x}

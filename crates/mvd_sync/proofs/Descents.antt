@@ -5,9 +5,11 @@ use Rattle.std.proofs.lemmas.List.{append-nil, length-take}
 use Rattle.mvd_site.specs.Answer.{digests}
 use Rattle.mvd_tree.specs.HashTree.{KeyDigests}
 use Rattle.mvd_sync.specs.Nodes.{differing_children}
-use Rattle.mvd_sync.specs.Questions.{AllAnswered, AnswersEach, ForEach, IsInner, with_left}
-use Rattle.mvd_sync.specs.Session.{Each}
-use Rattle.mvd_sync.specs.Sides.{HasAnswered, IsFaultOf, SideOf}
+use Rattle.mvd_sync.specs.Questions.{AllAnswered, AnswersEach, IsInner, with_left}
+use Rattle.mvd_peer.specs.Windows.{ForEach}
+use Rattle.mvd_peer.specs.PushedStates.{Each}
+use Rattle.mvd_peer.specs.Sides.{HasAnswered, SideOf}
+use Rattle.mvd_sync.specs.Faults.{IsFaultOf}
 use Rattle.mvd_sync.specs.Walk.{Reads, told, told_all}
 use Rattle.mvd_sync.specs.declared.asking.Node.{Node}
 use Rattle.mvd_sync.specs.declared.asking.Questions.{Questions}

@@ -11,10 +11,11 @@ use Rattle.mvd_site.specs.Held.{AreHeld, States}
 use Rattle.mvd_sync.specs.Carries.{Carried}
 use Rattle.mvd_sync.specs.Exchanges.{Done, IsHeldByEither, keys_next}
 use Rattle.mvd_sync.specs.Meetings.{done_of, held_keys, noted, pair_of, taken_from}
-use Rattle.mvd_sync.specs.Questions.{ComesToEnd, ForEach, IsOfKey, Keeps, TakesIn, TakesInFirst, with_left}
-use Rattle.mvd_sync.specs.Session.{ComesByPushes, Each}
-use Rattle.mvd_sync.specs.Sides.{IsSilent, SideOf}
-use Rattle.mvd_sync.specs.Windows.{Pushes}
+use Rattle.mvd_sync.specs.Questions.{ComesToEnd, IsOfKey, Keeps, TakesIn, TakesInFirst, with_left}
+use Rattle.mvd_peer.specs.Windows.{ForEach}
+use Rattle.mvd_peer.specs.PushedStates.{ComesByPushes, Each}
+use Rattle.mvd_peer.specs.Sides.{IsSilent, SideOf}
+use Rattle.mvd_peer.specs.Windows.{Pushes}
 use Rattle.mvd_sync.specs.declared.cursor.Entry.{Entry}
 use Rattle.mvd_sync.specs.declared.meetings.Meeting.{Meeting}
 use Rattle.mvd_sync.specs.declared.asking.Questions.{Questions}

@@ -1,7 +1,7 @@
 -- The keys that wait are exchanged, or one more waits.
 use Rattle.std.proofs.Common.{◌≡◌, ℕ, ◌+◌, ◌<◌, ◌≤◌, List, [], ◌∷◌, ◌++◌, length, map, refl, sym, ap, subst, ◌∙◌, arith, Option, length-append, ◌↔◌, Bool, true, false, true≢false, inl, inr}
 use Rattle.std.specs.Prelude.{Result, Ok, Err, Vec, is_some}
-use Rattle.std.proofs.lemmas.List.{append-nil, length-map, map-append}
+use Rattle.std.proofs.lemmas.List.{append-nil, length-map}
 use Rattle.mvd_dots.specs.declared.refusals.Refusal.{Refusal}
 use Rattle.mvd_dots.specs.declared.refusals.Refusal.TheVariants.{Broken, Memory}
 use Rattle.mvd_keys.specs.State.{State}
@@ -9,7 +9,8 @@ use Rattle.mvd_site.specs.Held.{States}
 use Rattle.mvd_sync.specs.Exchanges.{Adds, AreNext, Counts, Done, Exchanging, given_keys, keys_done, keys_next, left_keys}
 use Rattle.mvd_sync.specs.Meetings.{done_of}
 use Rattle.mvd_sync.specs.Session.{AreDistinct, Changes}
-use Rattle.mvd_sync.specs.Sides.{SideOf, of_memory}
+use Rattle.mvd_peer.specs.Sides.{SideOf}
+use Rattle.mvd_sync.specs.Faults.{of_memory}
 use Rattle.mvd_sync.specs.declared.cursor.Entry.{Entry}
 use Rattle.mvd_sync.specs.declared.meetings.Meeting.{Meeting}
 use Rattle.mvd_sync.specs.declared.asking.Questions.{Questions}

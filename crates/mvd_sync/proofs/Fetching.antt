@@ -8,9 +8,11 @@ use Rattle.mvd_site.specs.Answer.{digests}
 use Rattle.mvd_tree.specs.HashTree.{KeyDigests}
 use Rattle.mvd_sync.specs.Answers.{IsPage, IsPageOf, ListingValue}
 use Rattle.mvd_sync.specs.Buckets.{ArePages, IsSpent}
-use Rattle.mvd_sync.specs.Questions.{AllAnswered, AnswersEach, ComesToEnd, Fills, ForEach, Keeps, with_left}
-use Rattle.mvd_sync.specs.Session.{Each}
-use Rattle.mvd_sync.specs.Sides.{SideOf, of_answer, of_side, is_of_question}
+use Rattle.mvd_sync.specs.Questions.{AllAnswered, AnswersEach, ComesToEnd, Fills, Keeps, with_left}
+use Rattle.mvd_peer.specs.Windows.{ForEach}
+use Rattle.mvd_peer.specs.PushedStates.{Each}
+use Rattle.mvd_peer.specs.Sides.{SideOf, is_of_question}
+use Rattle.mvd_sync.specs.Faults.{of_answer, of_side}
 use Rattle.mvd_sync.specs.Walk.{Reads}
 use Rattle.mvd_sync.specs.declared.asking.Questions.{Questions}
 use Rattle.mvd_sync.specs.declared.report.SyncFault.TheVariants.{Local, Peer}

@@ -7,14 +7,15 @@ use Rattle.mvd_site.specs.Held.{States}
 use Rattle.mvd_sync.specs.Questions.{with_left}
 use Rattle.mvd_sync.specs.Exchanges.{Exchanging}
 use Rattle.mvd_sync.specs.Session.{Changes}
-use Rattle.mvd_sync.specs.Sides.{IsFaultOf, IsSilent, SideOf}
+use Rattle.mvd_sync.specs.Faults.{IsFaultOf}
+use Rattle.mvd_peer.specs.Sides.{IsSilent, SideOf}
 use Rattle.mvd_sync.specs.Walk.{Reads}
 use Rattle.mvd_sync.specs.declared.cursor.Entry.{Entry}
 use Rattle.mvd_sync.specs.declared.asking.Questions.{Questions}
 use Rattle.mvd_sync.specs.declared.report.SyncFault.{SyncFault}
 use Rattle.mvd_sync.specs.declared.report.SyncFault.TheVariants.{Local, Peer}
 use Rattle.mvd_sync.proofs.Compose.{blames_later}
-use Rattle.mvd_sync.proofs.Pushes.{more_pushes, no_pushes}
+use Rattle.mvd_peer.proofs.Pushes.{more_pushes, no_pushes}
 use Rattle.mvd_sync.proofs.Positions.{BlamesBy, CourseBy, ExchangesBy, GoesBy, ReadsEndBy}
 
 -- ---- results

@@ -15,17 +15,18 @@ use Rattle.mvd_tree.proofs.Under.{keys_same}
 use Rattle.mvd_tree.specs.HashTree.{KeyDigests, is_under}
 use Rattle.mvd_tree.specs.Page.{is_after, rest_of}
 use Rattle.mvd_tree.specs.States.{key_digest}
-use Rattle.mvd_sync.specs.Sides.{two}
+use Rattle.mvd_peer.specs.Sides.{two}
 use Rattle.mvd_sync.specs.Answers.{IsListing, IsPageOf, ListingValue, TakesLesser}
 use Rattle.mvd_sync.specs.Buckets.{IsSpent, waits_if}
 use Rattle.mvd_sync.specs.Exchanges.{AreNext, Done, IsNext, keys_done, keys_next}
-use Rattle.mvd_sync.specs.Session.{AreDistinct, Each, IsIn, is_member}
+use Rattle.mvd_sync.specs.Session.{AreDistinct, IsIn, is_member}
+use Rattle.mvd_peer.specs.PushedStates.{Each}
 use Rattle.mvd_sync.specs.declared.cursor.Entry.{Entry}
 use Rattle.mvd_sync.proofs.Keys.{Each-weaker, distinct-append, is_member-append}
 use Rattle.mvd_sync.proofs.Nexts.{keys_next-append}
 use Rattle.mvd_sync.proofs.Nodes.{Each-append}
 use Rattle.mvd_sync.proofs.Pages.{listing_of_page}
-use Rattle.mvd_sync.proofs.Pushes.{tied}
+use Rattle.mvd_peer.proofs.Pushes.{tied}
 use Rattle.mvd_sync.proofs.Rest.{Heads, after_trans, at_head, gap, get-rest, heads, left_after, lt-true}
 
 -- ---- what is left depends on the keys that are left

@@ -13,10 +13,11 @@ use Rattle.mvd_site.specs.Answer.{digests, spelled}
 use Rattle.mvd_site.specs.Held.{States}
 use Rattle.mvd_sync.specs.Buckets.{held_in}
 use Rattle.mvd_sync.specs.Nodes.{has_below}
-use Rattle.mvd_sync.specs.Session.{AreDistinct, Each, is_member}
+use Rattle.mvd_sync.specs.Session.{AreDistinct, is_member}
+use Rattle.mvd_peer.specs.PushedStates.{Each}
 use Rattle.mvd_sync.proofs.Keys.{Each-weaker, distinct-append, or_cases, or_left, or_right}
 use Rattle.mvd_sync.proofs.Nodes.{begins-one}
-use Rattle.mvd_sync.proofs.Pushes.{Each-append, tied}
+use Rattle.mvd_peer.proofs.Pushes.{Each-append, tied}
 use Rattle.mvd_sync.proofs.Rest.{get-rest}
 use Rattle.mvd_sync.proofs.Sessions.{few_keys}
 use Rattle.mvd_sync.proofs.Taking.{any_member, each_member, held_member, sorted_distinct}

@@ -5,9 +5,10 @@ use Rattle.mvd_dots.specs.declared.refusals.Refusal.{Refusal}
 use Rattle.mvd_tree.specs.HashTree.{KeyDigests}
 use Rattle.mvd_tree.specs.Page.{children_digests}
 use Rattle.mvd_wire.specs.declared.reply.Digests.{Digests}
-use Rattle.mvd_sync.specs.Questions.{ForEach, IsInner}
-use Rattle.mvd_sync.specs.Session.{Each}
-use Rattle.mvd_sync.specs.Windows.{EachAnswer, EachTold, IsNode}
+use Rattle.mvd_peer.specs.Windows.{ForEach}
+use Rattle.mvd_sync.specs.Questions.{IsInner}
+use Rattle.mvd_peer.specs.PushedStates.{Each}
+use Rattle.mvd_peer.specs.Windows.{EachAnswer, EachTold, IsNode}
 use Rattle.mvd_sync.specs.declared.asking.Node.{Node}
 use Rattle.mvd_sync.proofs.Answering.{IsNodeOf, answer_in}
 use Rattle.mvd_sync.specs.Made.{Passes}

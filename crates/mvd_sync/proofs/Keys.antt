@@ -5,7 +5,8 @@ use Rattle.std.specs.Cmp.{Equal-is}
 use Rattle.std.specs.Cmp.Lexicographic.{slice_cmp, nat_list_cmp_total}
 use Rattle.std.specs.FinMap.{get, insert, remove, get-insert, get-remove}
 use Rattle.mvd_keys.specs.State.{State, join}
-use Rattle.mvd_sync.specs.Session.{is_nothing, put_state, pushed, Each, is_member, AreDistinct}
+use Rattle.mvd_peer.specs.PushedStates.{is_nothing, put_state, pushed, Each}
+use Rattle.mvd_sync.specs.Session.{is_member, AreDistinct}
 use Rattle.mvd_site.specs.Held.{States, state_at}
 use Rattle.mvd_tree.proofs.Under.{keys_same}
 

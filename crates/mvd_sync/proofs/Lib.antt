@@ -1,14 +1,10 @@
 pub mod Positions
-pub mod JoinLaws
-pub mod Pushes
 pub mod Keys
 pub mod Below
 pub mod Nodes
 pub mod Descents
 pub mod Pages
 pub mod Rest
-pub mod OneByOne
-pub mod SiteSides
 pub mod Unseen
 pub mod Taking
 pub mod Plans
@@ -31,10 +27,8 @@ pub mod Joined
 pub mod Windowed
 pub mod Planning
 pub mod Handing
-pub mod ManyPushes
 pub mod Inner
 pub mod Pushing
-pub mod Turns
 pub mod Cut
 pub mod Stages
 pub mod CutOff
@@ -42,6 +36,3 @@ pub mod Exchanged
 pub mod Exchanging
 pub mod Telling
 pub mod Sessions
-pub mod RemoteSides
-pub mod Lined
-pub mod FarSides

@@ -6,8 +6,9 @@ use Rattle.std.proofs.lemmas.List.{map-append}
 use Rattle.mvd_keys.specs.Writes.{Key}
 use Rattle.mvd_site.specs.Held.{States}
 use Rattle.mvd_sync.specs.Exchanges.{AreNext, Counts, Done, Exchanging, IsNext, keys_done, keys_next}
-use Rattle.mvd_sync.specs.Session.{AreDistinct, Each}
-use Rattle.mvd_sync.specs.Sides.{SideOf}
+use Rattle.mvd_sync.specs.Session.{AreDistinct}
+use Rattle.mvd_peer.specs.PushedStates.{Each}
+use Rattle.mvd_peer.specs.Sides.{SideOf}
 use Rattle.mvd_sync.specs.declared.cursor.Entry.{Entry}
 use Rattle.mvd_sync.proofs.Descents.{Each-left, Each-right}
 use Rattle.mvd_sync.proofs.Keys.{no_member}

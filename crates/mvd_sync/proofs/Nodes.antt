@@ -17,7 +17,8 @@ use Rattle.mvd_tree.specs.HashTree.{KeyDigests, begins, digits, is_under, node_d
 use Rattle.mvd_tree.proofs.Bytes.{digits_small, place_length}
 use Rattle.mvd_tree.proofs.Lists.{begins-more}
 use Rattle.mvd_tree.proofs.Under.{digest_above-same}
-use Rattle.mvd_sync.specs.Session.{AreDistinct, Each, is_member}
+use Rattle.mvd_sync.specs.Session.{AreDistinct, is_member}
+use Rattle.mvd_peer.specs.PushedStates.{Each}
 use Rattle.mvd_sync.specs.Nodes.{children_of, differing_children, differs_at, has_below, told_children}
 use Rattle.mvd_keys.specs.Key.{key_cmp}
 use Rattle.mvd_tree.specs.Page.{children_digests}

@@ -11,7 +11,7 @@ use Rattle.mvd_tree.specs.HashTree.{KeyDigests}
 use Rattle.mvd_tree.proofs.Under.{keys_same}
 use Rattle.mvd_tree.specs.Page.{rest_of, page_of, is_more_after_page}
 use Rattle.mvd_sync.specs.Answers.{IsListing, IsPageOf, PageEntry, TakesLesser, of_first, of_second, of_both, order_of_first}
-use Rattle.mvd_sync.specs.Sides.{two}
+use Rattle.mvd_peer.specs.Sides.{two}
 use Rattle.mvd_sync.specs.declared.cursor.Entry.{Entry}
 
 -- ---- a page that was fetched

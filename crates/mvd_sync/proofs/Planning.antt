@@ -7,7 +7,8 @@ use Rattle.mvd_keys.specs.State.{State}
 use Rattle.mvd_sync.specs.Carries.{GivesStates}
 use Rattle.mvd_sync.specs.Meetings.{held_keys, is_held}
 use Rattle.mvd_sync.specs.Questions.{ComesToEnd, Keeps, with_left}
-use Rattle.mvd_sync.specs.Sides.{SideOf, of_memory}
+use Rattle.mvd_peer.specs.Sides.{SideOf}
+use Rattle.mvd_sync.specs.Faults.{of_memory}
 use Rattle.mvd_sync.specs.declared.cursor.Entry.{Entry}
 use Rattle.mvd_sync.specs.declared.asking.Questions.{Questions}
 use Rattle.mvd_sync.specs.declared.report.Side.{Side}

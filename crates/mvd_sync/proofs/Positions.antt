@@ -8,9 +8,9 @@ use Rattle.mvd_sync.specs.Buckets.{FillEnds, FillsBoth, Finds, Goes, GoesOnWithi
 use Rattle.mvd_sync.specs.Carries.{ExchangesAll, Planned}
 use Rattle.mvd_sync.specs.Exchanges.{CameTo, Done, Exchanges, Exchanging, GoesOn, IsDone, JoinsSome, SoFar, Stand, moment}
 use Rattle.mvd_sync.specs.Session.{After, Before, Course, HaveAnswered, Joins, Meets, ReportsDone, Session, after_of, asking, both}
-use Rattle.mvd_sync.specs.Sides.{Blames, SideOf, Sides, two}
+use Rattle.mvd_sync.specs.Faults.{Blames}
+use Rattle.mvd_peer.specs.Sides.{SideOf, Sides, two}
 use Rattle.mvd_sync.specs.Walk.{AreFewFor, Descends, FindsBuckets, ReadsEnd}
-use Rattle.mvd_sync.specs.Windows.{Asked, manner}
 use Rattle.mvd_sync.specs.declared.asking.Questions.{Questions}
 use Rattle.mvd_sync.specs.declared.cursor.Entry.{Entry}
 use Rattle.mvd_sync.specs.declared.meetings.Meeting.{Meeting}
@@ -126,9 +126,3 @@ FillsBothBy l p path after mine mine' theirs theirs' left left' local local' pee
 
 abbrev pub FillEndsBy : {L P : Type 0} → SideOf L → SideOf P → (mine theirs : ListingValue) (left : Questions) (local local' : L) (peer peer' : P) → SyncFault → Type 0
 FillEndsBy l p mine theirs left local local' peer peer' = FillEnds (sides l p) (reading local peer left mine theirs) (two local' peer')
-
--- ---- windows
-
-abbrev pub AskedBy : {S Q A : Type 0} → (ℕ → S → S → Type 0) → (S → Refusal → Type 0) → (S → Type 0) → (May Right : Q → A → Type 0) → (Q → Refusal → Type 0) → Type 0 → List Q → List (Result A Refusal) → (old new : S) → Type 0
-AskedBy follows can_refuse can_answer May Right Refuses was_faithful =
-    Asked (manner follows can_refuse can_answer) (record { may = May; was_faithful = was_faithful; right = Right; refuses = Refuses })

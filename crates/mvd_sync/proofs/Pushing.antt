@@ -7,13 +7,16 @@ use Rattle.mvd_dots.specs.declared.refusals.Refusal.{Refusal}
 use Rattle.mvd_dots.specs.declared.refusals.Refusal.TheVariants.{Broken, Memory, TooManyRequests}
 use Rattle.mvd_keys.specs.State.{State}
 use Rattle.mvd_keys.specs.Writes.{Key}
-use Rattle.mvd_sync.specs.Questions.{AllAnswered, ComesToEnd, ForEach, IsOfKey, TakesIn, TakesInFirst, with_left}
-use Rattle.mvd_sync.specs.Sides.{HasAnswered, HasRefused, SideOf, is_of_key, is_of_question, of_memory, of_questions, of_side}
-use Rattle.mvd_sync.specs.Windows.{EachAnswer, Ends, Pushes, PushesFirst}
+use Rattle.mvd_sync.specs.Questions.{AllAnswered, ComesToEnd, IsOfKey, TakesIn, TakesInFirst, with_left}
+use Rattle.mvd_peer.specs.Windows.{ForEach}
+use Rattle.mvd_peer.specs.Sides.{HasAnswered, HasRefused, SideOf, is_of_key, is_of_question}
+use Rattle.mvd_sync.specs.Faults.{of_memory, of_questions, of_side}
+use Rattle.mvd_peer.specs.Windows.{EachAnswer, Ends, Pushes, PushesFirst}
 use Rattle.mvd_sync.proofs.Answering.{told_in}
 use Rattle.mvd_sync.proofs.Compose.{ends_for_memory, refused_later}
-use Rattle.mvd_sync.proofs.ManyPushes.{first_later, pushes-append, pushes_apart}
-use Rattle.mvd_sync.proofs.Positions.{AskedBy, BlamesBy}
+use Rattle.mvd_peer.proofs.ManyPushes.{first_later, pushes-append, pushes_apart}
+use Rattle.mvd_peer.proofs.OneByOne.{AskedBy}
+use Rattle.mvd_sync.proofs.Positions.{BlamesBy}
 
 abbrev Told : Type 0
 Told = Result (Unit {0}) Refusal

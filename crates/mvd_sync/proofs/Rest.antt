@@ -15,7 +15,7 @@ use Rattle.mvd_tree.specs.HashTree.{KeyDigests, is_under}
 use Rattle.mvd_tree.proofs.Under.{keys_same}
 use Rattle.mvd_tree.specs.Page.{is_after, rest_of}
 use Rattle.mvd_sync.specs.Answers.{IsListing, PageEntry, StartsAfter, TakesLesser, of_first, of_second, of_both}
-use Rattle.mvd_sync.specs.Sides.{two}
+use Rattle.mvd_peer.specs.Sides.{two}
 use Rattle.mvd_sync.specs.declared.cursor.Entry.{Entry}
 
 -- ---- the order of keys

@@ -10,8 +10,9 @@ use Rattle.mvd_tree.proofs.Under.{keys_same}
 use Rattle.mvd_site.specs.Held.{AreHeld, States}
 use Rattle.mvd_sync.specs.Buckets.{held_in}
 use Rattle.mvd_sync.specs.Exchanges.{AreNext, Done, Exchanging, IsNext, given_keys, joined_keys, keys_done, keys_next}
-use Rattle.mvd_sync.specs.Session.{AreDistinct, AreFew, Each, HasAllThatDiffer, is_member}
-use Rattle.mvd_sync.specs.Sides.{HasAnswered, SideOf}
+use Rattle.mvd_sync.specs.Session.{AreDistinct, AreFew, HasAllThatDiffer, is_member}
+use Rattle.mvd_peer.specs.PushedStates.{Each}
+use Rattle.mvd_peer.specs.Sides.{HasAnswered, SideOf}
 use Rattle.mvd_sync.specs.declared.cursor.Entry.{Entry}
 use Rattle.mvd_sync.specs.declared.asking.Questions.{Questions}
 use Rattle.mvd_sync.specs.declared.report.Report.{Report}
@@ -19,7 +20,7 @@ use Rattle.mvd_sync.specs.declared.report.SyncFault.{SyncFault}
 use Rattle.mvd_sync.proofs.Compose.{answered_still}
 use Rattle.mvd_sync.proofs.Going.{course_done, course_ends, goes_of_end, goes_of_exchange, goes_of_reads, goes_on}
 use Rattle.mvd_sync.proofs.Joined.{joins_of, joins_some}
-use Rattle.mvd_sync.proofs.Keys.{Each-weaker, member_has}
+use Rattle.mvd_sync.proofs.Keys.{Each-weaker}
 use Rattle.mvd_sync.proofs.Telling.{tells_of}
 use Rattle.mvd_sync.proofs.Walks.{digests_differ}
 use Rattle.mvd_sync.proofs.Positions.{AreFewForBy, ExchangesBy, GoesOnWithinBy, FindsBucketsBy, FindsBy, GoesBy, GoesOnBy, GoesOverBy, JoinsSomeBy, MeetsBy, ReadsEndBy, SessionBy, SoFarBy}
@@ -66,7 +67,7 @@ few_keys (k ∷ ks) js d h =
     others [] none each = tt
     others (q ∷ qs) none each =
         let apart : tie q k ≡ false = by_bool (tie q k) (tie q k ≡ false)
-        (λ e. absurd (true≢false (sym (Rattle.mvd_sync.proofs.Pushes.tied k) ∙ ap (tie k) (sym (keys_same q k ((Equal-is _).0 e))) ∙ Rattle.mvd_sync.proofs.Keys.or_left (tie k q) (is_member qs k) none))) (λ e. e) in
+        (λ e. absurd (true≢false (sym (Rattle.mvd_peer.proofs.Pushes.tied k) ∙ ap (tie k) (sym (keys_same q k ((Equal-is _).0 e))) ∙ Rattle.mvd_sync.proofs.Keys.or_left (tie k q) (is_member qs k) none))) (λ e. e) in
         (without_keeps k q js apart each.0, others qs (Rattle.mvd_sync.proofs.Keys.or_right (tie k q) (is_member qs k) none) each.1)
 
 entry_keys : (P : List ℕ → Type 0) (es : List Entry) → Each (λ (e : Entry). P e.key) es → Each P (keys_next es)

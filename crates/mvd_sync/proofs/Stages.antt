@@ -1,6 +1,6 @@
 -- How a window ends: at the questions, at the local side's pushes, at the peer's, or with all done.
 use Rattle.std.proofs.Common.{◌≡◌, ◌≢◌, ℕ, ◌+◌, ◌≤◌, Bool, true, false, cond, List, [], ◌∷◌, length, map, filter, filter_map, refl, sym, ap, subst, ◌∙◌, arith, Some, None, Option}
-use Rattle.std.specs.Prelude.{Result, Ok, Err, IfErr, OnOk, Vec, is_some, take}
+use Rattle.std.specs.Prelude.{Result, Ok, Err, take}
 use Rattle.std.specs.List.{cons_option}
 use Rattle.std.proofs.lemmas.List.{length-map}
 use Rattle.mvd_dots.specs.declared.refusals.Refusal.{Refusal}
@@ -9,9 +9,11 @@ use Rattle.mvd_keys.specs.State.{IsValid, State}
 use Rattle.mvd_site.specs.Held.{States}
 use Rattle.mvd_sync.specs.Exchanges.{IsHeldByEither, keys_next}
 use Rattle.mvd_sync.specs.Meetings.{ArePlans, held_keys, is_held, noted, pair_of, rest_if, taken_from}
-use Rattle.mvd_sync.specs.Questions.{ForEach, TakesInFirst, TakesIn}
-use Rattle.mvd_sync.specs.Session.{Changes, ComesByPushes, Each, pushed_all}
-use Rattle.mvd_sync.specs.Sides.{HasAnswered, IsSilent, SideOf}
+use Rattle.mvd_peer.specs.Windows.{ForEach}
+use Rattle.mvd_sync.specs.Questions.{TakesInFirst, TakesIn}
+use Rattle.mvd_sync.specs.Session.{Changes}
+use Rattle.mvd_peer.specs.PushedStates.{ComesByPushes, Each, pushed_all}
+use Rattle.mvd_peer.specs.Sides.{HasAnswered, IsSilent, SideOf}
 use Rattle.mvd_sync.specs.declared.cursor.Entry.{Entry}
 use Rattle.mvd_sync.specs.declared.meetings.Meeting.{Meeting}
 use Rattle.mvd_sync.specs.declared.asking.Questions.{Questions}

@@ -15,10 +15,11 @@ use Rattle.mvd_keys.specs.State.{IsValid, State, clashes, empty_state, join}
 use Rattle.mvd_tree.proofs.Under.{keys_same}
 use Rattle.mvd_site.specs.Answer.{is_too_large}
 use Rattle.mvd_site.specs.Held.{States, state_at}
-use Rattle.mvd_sync.specs.Session.{AreDistinct, AreTooMany, ComesByPushes, Each, is_member, pushed, pushed_all}
-use Rattle.mvd_sync.specs.Windows.{CannotTake, Pushes}
+use Rattle.mvd_sync.specs.Session.{AreDistinct, AreTooMany, is_member}
+use Rattle.mvd_peer.specs.PushedStates.{ComesByPushes, Each, pushed, pushed_all}
+use Rattle.mvd_peer.specs.Windows.{CannotTake, Pushes}
 use Rattle.mvd_sync.proofs.Keys.{Each-weaker, get-pushed_other, or_left, or_right}
-use Rattle.mvd_sync.proofs.Pushes.{state-pushed, tied}
+use Rattle.mvd_peer.proofs.Pushes.{state-pushed, tied}
 
 -- ---- the pushes that were taken
 

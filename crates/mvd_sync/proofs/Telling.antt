@@ -13,7 +13,8 @@ use Rattle.mvd_tree.specs.Hashed.{HashesTellApart}
 use Rattle.mvd_site.specs.Answer.{spelled}
 use Rattle.mvd_site.specs.Held.{States}
 use Rattle.mvd_sync.specs.Exchanges.{Counts, Done, Exchanging, given_keys, is_given, is_joined, joined_keys, keys_done, left_keys, left_as}
-use Rattle.mvd_sync.specs.Session.{AreDistinct, CannotMeet, Each, IsIn, IsLeft, IsOld, is_member}
+use Rattle.mvd_sync.specs.Session.{AreDistinct, CannotMeet, IsIn, IsLeft, IsOld, is_member}
+use Rattle.mvd_peer.specs.PushedStates.{Each}
 use Rattle.mvd_sync.specs.declared.report.Report.{Report}
 use Rattle.mvd_sync.specs.declared.report.Left.{Left}
 use Rattle.mvd_sync.specs.declared.report.Side.{Side}
@@ -100,7 +101,7 @@ others : (d : Done) (ds : List Done) → AreDistinct (keys_done (d ∷ ds)) → 
 others d ds h ks [] sub each = tt
 others d ds h ks (e ∷ es) sub each =
     let joined : Done → Bool = λ (d : Done). is_joined d.refused in
-    let in_it : is_member (keys_done ds) e.key ≡ true = sub e.key (ap (λ b. b || is_member (keys_done es) e.key) (Rattle.mvd_sync.proofs.Pushes.tied e.key)) in
+    let in_it : is_member (keys_done ds) e.key ≡ true = sub e.key (ap (λ b. b || is_member (keys_done es) e.key) (Rattle.mvd_peer.proofs.Pushes.tied e.key)) in
     let apart : tie e.key d.key ≡ false = Rattle.mvd_sync.proofs.Taking.apart_of (keys_done ds) d.key e.key h.0 in_it in (
       elim (is_joined d.refused) as (λ b. is_member (keys_done (cond b (d ∷ filter joined ds) (filter joined ds))) e.key ≡ is_joined e.refused) [
         | true ↦ ap (λ b. b || is_member (joined_keys ds) e.key) apart ∙ each.0
@@ -116,7 +117,7 @@ joined_is (d ∷ ds) h =
     let own = d.key in
     let joined : Done → Bool = λ (d : Done). is_joined d.refused in (
       elim (is_joined d.refused) as (λ b. is_member (keys_done (cond b (d ∷ filter joined ds) (filter joined ds))) own ≡ b) [
-        | true ↦ ap (λ b. b || is_member (joined_keys ds) own) (Rattle.mvd_sync.proofs.Pushes.tied own)
+        | true ↦ ap (λ b. b || is_member (joined_keys ds) own) (Rattle.mvd_peer.proofs.Pushes.tied own)
         | false ↦ filtered joined own ds h.0
       ],
       others d ds h (keys_done ds) ds (λ k yes. yes) (joined_is ds h.1),

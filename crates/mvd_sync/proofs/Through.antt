@@ -15,8 +15,9 @@ use Rattle.mvd_sync.specs.Answers.{IsPageOf, ListingValue}
 use Rattle.mvd_sync.specs.Buckets.{AreElsewhere, ArePages, held_in}
 use Rattle.mvd_sync.specs.Exchanges.{AreNext, Done, Exchanging, keys_done, keys_next}
 use Rattle.mvd_sync.specs.Nodes.{has_below}
-use Rattle.mvd_sync.specs.Session.{AreDistinct, Each, IsIn, is_member}
-use Rattle.mvd_sync.specs.Sides.{SideOf}
+use Rattle.mvd_sync.specs.Session.{AreDistinct, IsIn, is_member}
+use Rattle.mvd_peer.specs.PushedStates.{Each}
+use Rattle.mvd_peer.specs.Sides.{SideOf}
 use Rattle.mvd_sync.specs.Walk.{Reads}
 use Rattle.mvd_sync.specs.declared.cursor.Entry.{Entry}
 use Rattle.mvd_sync.specs.declared.asking.Questions.{Questions}
@@ -28,7 +29,7 @@ use Rattle.mvd_sync.proofs.Joined.{joins_some}
 use Rattle.mvd_sync.proofs.Keys.{Each-weaker, is_member-append, no_member, or_cases, or_left, or_right}
 use Rattle.mvd_sync.proofs.Nexts.{goes_from, goes_further, keys_done-append, keys_next-append, were_next}
 use Rattle.mvd_sync.proofs.Nodes.{AreLong, Each-append, begins-one, or_first, or_second}
-use Rattle.mvd_sync.proofs.Pushes.{tied}
+use Rattle.mvd_peer.proofs.Pushes.{tied}
 use Rattle.mvd_sync.proofs.Positions.{FindsBy, GoesOnWithinBy, GoesOnBy, GoesOverBy, GoesThroughBy, JoinsSomeBy, ReadsEndBy, SoFarBy}
 
 -- ---- lists of buckets

@@ -12,7 +12,7 @@ use Rattle.std.specs.declared.vec.Vec.{Vec}
 use Rattle.std.specs.declared.alloc.Global.{Global}
 use Rattle.mvd_dots.specs.declared.refusals.Refusal.{Refusal}
 use Rattle.mvd_sync.specs.Answers.{IsPage, IsPageOf, ListingValue, PageEntry, Rises}
-use Rattle.mvd_sync.specs.Windows.{EachAnswer}
+use Rattle.mvd_peer.specs.Windows.{EachAnswer}
 use Rattle.mvd_sync.proofs.Answering.{IsListingOf, answer_in, each_all}
 use Rattle.mvd_sync.proofs.Rest.{get-rest}
 

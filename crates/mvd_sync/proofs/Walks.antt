@@ -11,8 +11,9 @@ use Rattle.mvd_tree.specs.HashTree.{is_under}
 use Rattle.mvd_tree.specs.Hashed.{HashesTellApart}
 use Rattle.mvd_sync.specs.Questions.{with_left}
 use Rattle.mvd_sync.specs.Nodes.{children_of, differing_children, differs_at, has_below}
-use Rattle.mvd_sync.specs.Session.{AreDistinct, Each, HasAllThatDiffer}
-use Rattle.mvd_sync.specs.Sides.{SideOf}
+use Rattle.mvd_sync.specs.Session.{AreDistinct, HasAllThatDiffer}
+use Rattle.mvd_peer.specs.PushedStates.{Each}
+use Rattle.mvd_peer.specs.Sides.{SideOf}
 use Rattle.mvd_sync.specs.Walk.{Reads}
 use Rattle.mvd_sync.specs.declared.asking.Questions.{Questions}
 use Rattle.mvd_sync.specs.declared.report.SyncFault.{SyncFault}

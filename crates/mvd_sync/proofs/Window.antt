@@ -12,9 +12,11 @@ use Rattle.mvd_site.specs.Held.{States, state_at}
 use Rattle.mvd_sync.specs.Exchanges.{IsNext, keys_next}
 use Rattle.mvd_sync.specs.Meetings.{ArePlans, Trades, clash, first_if, has, held_keys, is_held, meet, noted, or_empty, pair_of, refusal_of, rest_if, taken_from, wanted}
 use Rattle.mvd_sync.specs.Olds.{HasUnseen}
-use Rattle.mvd_sync.specs.Questions.{ForEach, IsOfKey}
-use Rattle.mvd_sync.specs.Session.{AreTooMany, CannotMeet, Each}
-use Rattle.mvd_sync.specs.Sides.{is_of_key}
+use Rattle.mvd_peer.specs.Windows.{ForEach}
+use Rattle.mvd_sync.specs.Questions.{IsOfKey}
+use Rattle.mvd_sync.specs.Session.{AreTooMany, CannotMeet}
+use Rattle.mvd_peer.specs.PushedStates.{Each}
+use Rattle.mvd_peer.specs.Sides.{is_of_key}
 use Rattle.mvd_sync.specs.declared.cursor.Entry.{Entry}
 use Rattle.mvd_sync.specs.declared.meetings.Meeting.{Meeting}
 use Rattle.mvd_sync.specs.declared.report.Side.{Side}

@@ -12,16 +12,18 @@ use Rattle.mvd_site.specs.Held.{AreHeld, States, state_at}
 use Rattle.mvd_sync.specs.Exchanges.{AreNext, Done, keys_done, keys_next}
 use Rattle.mvd_sync.specs.Meetings.{ArePlans, done_of, held_keys, noted, pair_of, rest_if, taken_from, wanted}
 use Rattle.mvd_sync.specs.Olds.{HasUnseen}
-use Rattle.mvd_sync.specs.Questions.{ForEach, IsOfKey}
-use Rattle.mvd_sync.specs.Session.{AreDistinct, Each, is_member}
-use Rattle.mvd_sync.specs.Windows.{Pushes}
+use Rattle.mvd_peer.specs.Windows.{ForEach}
+use Rattle.mvd_sync.specs.Questions.{IsOfKey}
+use Rattle.mvd_sync.specs.Session.{AreDistinct, is_member}
+use Rattle.mvd_peer.specs.PushedStates.{Each}
+use Rattle.mvd_peer.specs.Windows.{Pushes}
 use Rattle.mvd_sync.specs.declared.cursor.Entry.{Entry}
 use Rattle.mvd_sync.specs.declared.meetings.Meeting.{Meeting}
 use Rattle.mvd_sync.specs.declared.report.Side.{Side}
 use Rattle.mvd_sync.specs.declared.report.Side.TheVariants.{Local as AtLocal, Peer as AtPeer}
-use Rattle.mvd_sync.proofs.JoinLaws.{valid_at}
+use Rattle.mvd_peer.proofs.JoinLaws.{valid_at}
 use Rattle.mvd_sync.proofs.Keys.{Each-weaker, is_member-append, member_has, or_left, or_right}
-use Rattle.mvd_sync.proofs.Pushes.{Each-append, tied}
+use Rattle.mvd_peer.proofs.Pushes.{Each-append, tied}
 use Rattle.mvd_sync.proofs.Taking.{Ask, ComesFrom, Phase, apart_of, phase, same_state}
 use Rattle.mvd_sync.proofs.Window.{ArePlanned, IsPlanned, IsState, IsStill, MayTake, Plan, Pulled, asked_keys, asks_of, local_after, pairs_same, peer_after, planned}
 use Rattle.mvd_sync.proofs.Positions.{CameToBy, IsDoneBy, SoFarBy}

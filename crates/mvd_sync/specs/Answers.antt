@@ -7,7 +7,7 @@ use Rattle.mvd_keys.specs.Key.{key_cmp}
 use Rattle.mvd_keys.specs.Writes.{Key}
 use Rattle.mvd_tree.specs.HashTree.{KeyDigests}
 use Rattle.mvd_tree.specs.Page.{is_after, is_more_after_page, page_of, rest_of}
-use Rattle.mvd_sync.specs.Sides.{Two}
+use Rattle.mvd_peer.specs.Sides.{Two}
 use Rattle.mvd_sync.specs.declared.cursor.Entry.{Entry}
 
 -- an entry of a page: a key and its digest

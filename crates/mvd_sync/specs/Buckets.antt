@@ -11,10 +11,12 @@ use Rattle.mvd_sync.specs.Answers.{IsPageOf, ListingValue}
 use Rattle.mvd_sync.specs.Exchanges.{AreNext, Counts, Done, Exchanging, GoesOn, JoinsSome, Moment, SoFar, Spends, Stand}
 use Rattle.mvd_sync.specs.Exchanges.{began, keys_done, keys_next, stand_at}
 use Rattle.mvd_sync.specs.Nodes.{has_below}
-use Rattle.mvd_sync.specs.Questions.{Fills, ForEach}
-use Rattle.mvd_sync.specs.Session.{After, AreDistinct, Asking, Both, Course, Each, IsIn, after_of, asking, both}
+use Rattle.mvd_sync.specs.Questions.{Fills}
+use Rattle.mvd_peer.specs.Windows.{ForEach}
+use Rattle.mvd_sync.specs.Session.{After, AreDistinct, Asking, Both, Course, IsIn, after_of, asking, both}
+use Rattle.mvd_peer.specs.PushedStates.{Each}
 use Rattle.mvd_sync.specs.Session.{both_of}
-use Rattle.mvd_sync.specs.Sides.{Sides, Two, two}
+use Rattle.mvd_peer.specs.Sides.{Sides, Two, two}
 use Rattle.mvd_sync.specs.Walk.{ReadsEnd, local_of, peer_of}
 use Rattle.mvd_sync.specs.declared.cursor.Entry.{Entry}
 use Rattle.mvd_sync.specs.declared.asking.Questions.{Questions}

@@ -8,7 +8,7 @@ use Rattle.mvd_sync.specs.Exchanges.{AreNext, Done, JoinsSome, SoFar, Spends, be
 use Rattle.mvd_sync.specs.Meetings.{ArePlans, done_of, held_keys, noted, pair_of, taken_from}
 use Rattle.mvd_sync.specs.Questions.{AllAnswered, AnswersEach, IsOfKey, OneAsking, TakesIn}
 use Rattle.mvd_sync.specs.Session.{Asking, Course, after_of, both, both_of}
-use Rattle.mvd_sync.specs.Sides.{HasAnswered, SideOf, Sides}
+use Rattle.mvd_peer.specs.Sides.{HasAnswered, SideOf, Sides}
 use Rattle.mvd_sync.specs.Walk.{local_of, peer_of}
 use Rattle.mvd_sync.specs.declared.cursor.Entry.{Entry}
 use Rattle.mvd_sync.specs.declared.meetings.Meeting.{Meeting}

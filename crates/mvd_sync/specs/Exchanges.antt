@@ -7,9 +7,10 @@ use Rattle.mvd_dots.specs.declared.refusals.Refusal.{Refusal}
 use Rattle.mvd_keys.specs.State.{join}
 use Rattle.mvd_keys.specs.Writes.{Key}
 use Rattle.mvd_site.specs.Held.{States, state_at}
-use Rattle.mvd_sync.specs.Session.{After, AreDistinct, Asking, Before, Both, CanMeet, CannotMeet, Course, Differ, Each}
+use Rattle.mvd_sync.specs.Session.{After, AreDistinct, Asking, Before, Both, CanMeet, CannotMeet, Course, Differ}
+use Rattle.mvd_peer.specs.PushedStates.{Each}
 use Rattle.mvd_sync.specs.Session.{IsOld, Joins, after_of, asking, both, both_of, is_member}
-use Rattle.mvd_sync.specs.Sides.{Sides, Two}
+use Rattle.mvd_peer.specs.Sides.{Sides, Two}
 use Rattle.mvd_sync.specs.declared.cursor.Entry.{Entry}
 use Rattle.mvd_sync.specs.declared.asking.Questions.{Questions}
 use Rattle.mvd_sync.specs.declared.report.Left.{Left}

@@ -1,12 +1,6 @@
-pub mod Links
-pub mod LinkWindows
-pub mod Lines
-pub mod Remotes
 pub mod Olds
+pub mod Faults
 pub mod Session
-pub mod Sides
-pub mod PeerSides
-pub mod Windows
 pub mod Answers
 pub mod Walk
 pub mod Questions

@@ -1,5 +1,5 @@
 -- Questions to a side, of which no more are made than are left.
-use Rattle.std.specs.Prelude.{◌≡◌, ◌≢◌, ◌<◌, ◌≤◌, ◌+◌, ℕ, false, true, List, [], ◌∷◌, length, sum_by, take, ◌^◌}
+use Rattle.std.specs.Prelude.{◌≡◌, ◌≢◌, ◌<◌, ◌≤◌, ◌+◌, ℕ, false, true, List, [], length, sum_by, take, ◌^◌}
 use Rattle.std.specs.Prelude.{Option, Result, Ok, Err}
 use Rattle.mvd_dots.specs.declared.refusals.Refusal.{Refusal}
 use Rattle.mvd_dots.specs.declared.refusals.Refusal.TheVariants.{Broken}
@@ -10,8 +10,9 @@ use Rattle.mvd_tree.specs.Page.{children_digests}
 use Rattle.mvd_wire.specs.Codecs.{spell_state}
 use Rattle.mvd_site.specs.Answer.{digests}
 use Rattle.mvd_sync.specs.Answers.{IsPage, IsPageOf, ListingValue}
-use Rattle.mvd_sync.specs.Sides.{Blames, SideOf, is_of_key, is_of_question}
-use Rattle.mvd_sync.specs.Windows.{Pushes, PushesFirst}
+use Rattle.mvd_sync.specs.Faults.{Blames}
+use Rattle.mvd_peer.specs.Sides.{SideOf, is_of_key, is_of_question}
+use Rattle.mvd_peer.specs.Windows.{ForEach, Pushes, PushesFirst}
 use Rattle.mvd_sync.specs.declared.asking.Node.{Node}
 
 -- ---- what is left
@@ -31,12 +32,6 @@ pub record Takes (left left' wanted taken : ℕ) : Type 0 where
   pub all : taken < wanted → left' ≡ 0
 
 -- ---- many questions
-
--- each question with its answer
-abbrev pub ForEach : {Q A : Type 0} → (Q → A → Type 0) → List Q → List A → Type 0
-ForEach P [] [] = Unit {0}
-ForEach P (q ∷ qs) (a ∷ ts) = P q a × ForEach P qs ts
-ForEach P qs ts = ⊥
 
 -- ALL WERE ANSWERED, each by what a side may answer, faithful or not, and taken from those that were left; and of a
 -- side that was faithful this is so

@@ -1,19 +1,20 @@
 -- What a session does to its two sides, and what it tells.
-use Rattle.std.specs.Prelude.{◌≡◌, ◌≢◌, ◌⊎◌, ◌<◌, ◌≤◌, ◌+◌, ◌*◌, ◌/◌, ℕ, ◌==◌, Bool, true, false, cond, ◌&&◌, ◌||◌}
+use Rattle.std.specs.Prelude.{◌≡◌, ◌≢◌, ◌⊎◌, ◌<◌, ◌≤◌, ◌+◌, ◌*◌, ◌/◌, ℕ, Bool, true, false, ◌||◌}
 use Rattle.std.specs.Prelude.{List, [], ◌∷◌, ◌++◌, length, map, take, Option, None, IsTrue, Result, IfOk, IfErr, OnOk}
 use Rattle.std.specs.Prelude.{MatchBool, ◌↔◌}
 use Rattle.std.specs.Ordering.{eq_by_cmp}
-use Rattle.std.specs.FinMap.{get, insert, len, remove}
+use Rattle.std.specs.FinMap.{get, len}
 use Rattle.mvd_dots.specs.declared.refusals.Refusal.{Refusal}
 use Rattle.mvd_dots.specs.declared.refusals.Refusal.TheVariants.{Broken, DotClash, Full, StateTooLarge}
 use Rattle.mvd_keys.specs.Key.{key_cmp}
-use Rattle.mvd_keys.specs.State.{IsValid, State, clashes, join}
-use Rattle.mvd_keys.specs.Writes.{Key, is_empty}
+use Rattle.mvd_keys.specs.State.{State, clashes, join}
+use Rattle.mvd_keys.specs.Writes.{Key}
 use Rattle.mvd_tree.specs.Hashed.{HashesTellApart}
 use Rattle.mvd_site.specs.Answer.{is_too_large, spelled}
 use Rattle.mvd_site.specs.Held.{States, state_at}
 use Rattle.mvd_sync.specs.Olds.{HasUnseen}
-use Rattle.mvd_sync.specs.Sides.{Blames, HasAnswered, IsFaultOf, IsSilent, Sides, Two, two}
+use Rattle.mvd_sync.specs.Faults.{Blames, IsFaultOf}
+use Rattle.mvd_peer.specs.Sides.{HasAnswered, IsSilent, Sides, Two, two}
 use Rattle.mvd_sync.specs.declared.asking.Questions.{Questions}
 use Rattle.mvd_sync.specs.declared.report.Left.{Left}
 use Rattle.mvd_sync.specs.declared.report.Report.{Report}
@@ -21,37 +22,6 @@ use Rattle.mvd_sync.specs.declared.report.Side.{Side}
 use Rattle.mvd_sync.specs.declared.report.Side.TheVariants.{Local as AtLocal, Peer as AtPeer}
 use Rattle.mvd_sync.specs.declared.report.SyncFault.{SyncFault}
 use Rattle.mvd_sync.specs.declared.report.SyncFault.TheVariants.{Local, Peer}
-
--- ---- pushes into one side
-
--- nobody has written the key: no sibling, and an empty context
-abbrev pub is_nothing : State → Bool
-is_nothing s = (len s.siblings == 0) && is_empty s.context
-
--- the states with this one at the key; what nobody has written is not held
-unfoldable pub put_state : States → Key → State → States
-put_state states key state = cond (is_nothing state) (remove states key) (insert states key state)
-
--- the states after this one was pushed
-unfoldable pub pushed : States → Key → State → States
-pushed states key state = put_state states key (join (state_at states key) state)
-
--- after several pushes
-abbrev pub pushed_all : States → List (Key × State) → States
-pushed_all states [] = states
-pushed_all states (p ∷ ps) = pushed_all (pushed states p.0 p.1) ps
-
--- each member of a list
-abbrev pub Each : {X : Type 0} → (X → Type 0) → List X → Type 0
-Each P [] = Unit {0}
-Each P (x ∷ xs) = P x × Each P xs
-
--- the new states are the old ones after pushes of states in form that may be given for their keys
-pub record ComesByPushes (can_give : Key → State → Type 0) (old new : States) : Type 0 where
-  pub pushes : List (Key × State)
-  pub given : Each (λ p. can_give p.0 p.1) pushes
-  pub valid : Each (λ p. IsValid p.1) pushes
-  pub is : new ≡ pushed_all old pushes
 
 -- a faithful side stays faithful, unless the fault is its own `Broken`; while it is faithful, its states come by pushes
 -- of what can be given

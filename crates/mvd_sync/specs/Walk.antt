@@ -8,8 +8,10 @@ use Rattle.mvd_site.specs.Answer.{digests, spelled}
 use Rattle.mvd_site.specs.Held.{States}
 use Rattle.mvd_sync.specs.Nodes.{differing_children, differs_at, has_below, told_children}
 use Rattle.mvd_sync.specs.Questions.{Keeps, OneAsking, with_left}
-use Rattle.mvd_sync.specs.Session.{AreDistinct, Asking, Each, HasAllThatDiffer, HaveAnswered}
-use Rattle.mvd_sync.specs.Sides.{Blames, IsFaultOf, SideOf, Sides, Two}
+use Rattle.mvd_sync.specs.Session.{AreDistinct, Asking, HasAllThatDiffer, HaveAnswered}
+use Rattle.mvd_peer.specs.PushedStates.{Each}
+use Rattle.mvd_sync.specs.Faults.{Blames, IsFaultOf}
+use Rattle.mvd_peer.specs.Sides.{SideOf, Sides, Two}
 use Rattle.mvd_sync.specs.declared.asking.Node.{Node}
 use Rattle.mvd_sync.specs.declared.report.SyncFault.{SyncFault}
 

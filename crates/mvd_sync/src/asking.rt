@@ -1,20 +1,20 @@
 //! Questions to a side, of which no more are made than were given.
-ghost use Rattle.std.specs.Prelude.{◌≡◌, ◌≢◌, ◌+◌, ◌-◌, ◌<◌, ◌≤◌, ◌^◌, [], length, false, OnOk, IfOk, IfErr, IsTrue};
-ghost use Rattle.std.specs.Prelude.{◌↔◌, ◌⊎◌, ◌++◌, All, Contains, Some, None, min};
+ghost use Rattle.std.specs.Prelude.{◌≡◌, ◌+◌, ◌-◌, ◌<◌, ◌≤◌, ◌^◌, length, false, OnOk, IfOk, IfErr};
+ghost use Rattle.std.specs.Prelude.{◌⊎◌, ◌++◌, All, Contains, Some, None, min};
 ghost use Rattle.mvd_site.specs.Answer.{digests};
 ghost use Rattle.mvd_site.specs.Held.{state_at};
 ghost use Rattle.mvd_sync.specs.Answers.{IsPage, IsPageOf};
-ghost use Rattle.mvd_sync.specs.Questions.{AllAnswered, AnswersEach, ComesToEnd, ForEach, IsInner, IsOfKey, IsWindow};
+ghost use Rattle.mvd_sync.specs.Questions.{AllAnswered, AnswersEach, ComesToEnd, IsInner, IsOfKey, IsWindow};
 ghost use Rattle.mvd_sync.specs.Questions.{Keeps, Takes, TakesIn, TakesInFirst, with_left, push_bytes};
-ghost use Rattle.mvd_sync.specs.Session.{Each};
-ghost use Rattle.mvd_sync.specs.PeerSides.{side_of};
-ghost use Rattle.mvd_sync.specs.Sides.{HasAnswered, is_of_key};
+ghost use Rattle.mvd_peer.specs.PushedStates.{Each};
+ghost use Rattle.mvd_peer.specs.PeerSides.{side_of};
+ghost use Rattle.mvd_peer.specs.Sides.{HasAnswered, is_of_key};
 
 use crate::cursor::Listing;
 use crate::made::{Made, made_all};
-use crate::peer::Peer;
 use mvd_dots::Refusal;
 use mvd_keys::{Key, KeyState, Path};
+use mvd_peer::Peer;
 use mvd_wire::{Digests, state_length};
 
 /// How many questions each side may still be asked.

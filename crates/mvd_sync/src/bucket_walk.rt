@@ -1,21 +1,21 @@
 //! The keys that differ in the buckets.
-ghost use Rattle.std.specs.Prelude.{◌≡◌, ◌<◌, ◌≤◌, ◌+◌, ◌^◌, ◌++◌, ◌∷◌, [], length, map, Some, None, true, false, IfOk};
+ghost use Rattle.std.specs.Prelude.{◌≡◌, ◌<◌, ◌+◌, ◌^◌, ◌∷◌, [], length, map, Some, None, false, IfOk};
 ghost use Rattle.std.specs.Prelude.{IfErr, OnOk};
 ghost use Rattle.mvd_site.specs.Answer.{digests};
 ghost use Rattle.mvd_sync.specs.Buckets.{ArePages, FillEnds, FillsBoth, GoesOver, GoesThrough, Settles, reading};
 ghost use Rattle.mvd_sync.specs.Exchanges.{IsHeldByEither, moment};
-ghost use Rattle.mvd_sync.specs.Session.{Each};
-ghost use Rattle.mvd_sync.specs.PeerSides.{sides_of};
-ghost use Rattle.mvd_sync.specs.Sides.{two};
+ghost use Rattle.mvd_peer.specs.PushedStates.{Each};
+ghost use Rattle.mvd_peer.specs.PeerSides.{sides_of};
+ghost use Rattle.mvd_peer.specs.Sides.{two};
 
 use crate::asking::{Questions, ask_pages};
 use crate::cursor::{self, Entry, Listing};
 use crate::exchange::Exchange;
 use crate::levels::WINDOW;
-use crate::peer::Peer;
 use crate::report::SyncFault;
 use mvd_dots::Refusal;
 use mvd_keys::{Key, Path};
+use mvd_peer::Peer;
 use std::alloc::Global;
 
 /// Makes sure that both listings of a bucket have an entry after a key, unless none is left.

@@ -1,18 +1,18 @@
 //! What a session has left of a side's page of a bucket.
-ghost use Rattle.std.specs.Prelude.{◌≡◌, ◌≢◌, ◌+◌, ◌-◌, ◌*◌, ◌≤◌, [], ◌∷◌, length, IfOk, IfErr, IfSome, IfNone, OnSome};
+ghost use Rattle.std.specs.Prelude.{◌≡◌, ◌+◌, ◌-◌, ◌*◌, [], ◌∷◌, length, IfOk, IfErr, IfSome, IfNone, OnSome};
 ghost use Rattle.std.specs.Prelude.{None, ◌<◌, ◌^◌, OnOk, OnErr, MatchOption, option_copied, true, IsTrue, ◌↔◌};
 ghost use Rattle.mvd_tree.specs.Page.{is_after};
 ghost use Rattle.mvd_sync.specs.Answers.{IsPage, Rises, TakesLesser, order_of_first};
 ghost use Rattle.mvd_sync.specs.Questions.{ComesToEnd, Fetches, Fills, Keeps, with_left};
-ghost use Rattle.mvd_sync.specs.PeerSides.{side_of};
-ghost use Rattle.mvd_sync.specs.Sides.{two};
+ghost use Rattle.mvd_peer.specs.PeerSides.{side_of};
+ghost use Rattle.mvd_peer.specs.Sides.{two};
 
 use crate::asking::take_one;
 use crate::levels::is_same;
 use crate::made::Made;
-use crate::peer::{Page, Peer};
 use mvd_dots::Refusal;
 use mvd_keys::{Key, Path};
+use mvd_peer::{Page, Peer};
 use std::cmp::Ordering;
 use std::marker::Model;
 

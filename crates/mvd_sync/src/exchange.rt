@@ -4,19 +4,20 @@ ghost use Rattle.std.specs.Prelude.{cond, ◌≤◌, ◌↔◌, IsTrue};
 ghost use Rattle.mvd_sync.specs.Exchanges.{Adds, Exchanges, IsHeldByEither, moment};
 ghost use Rattle.mvd_sync.specs.Meetings.{done_of, held_keys, pair_of};
 ghost use Rattle.mvd_sync.specs.Questions.{ComesToEnd, Keeps, TakesInFirst, with_left};
-ghost use Rattle.mvd_sync.specs.Session.{Each, asking};
-ghost use Rattle.mvd_sync.specs.PeerSides.{side_of, sides_of};
-ghost use Rattle.mvd_sync.specs.Sides.{two};
+ghost use Rattle.mvd_peer.specs.PushedStates.{Each};
+ghost use Rattle.mvd_sync.specs.Session.{asking};
+ghost use Rattle.mvd_peer.specs.PeerSides.{side_of, sides_of};
+ghost use Rattle.mvd_peer.specs.Sides.{two};
 ghost use Rattle.mvd_sync.specs.Walk.{ReadsEnd};
 ghost use Rattle.mvd_sync.specs.Carries.{Carried, ExchangesAll, GivesStates, Planned};
 
 use crate::asking::{Questions, ask_gets, ask_pushes};
 use crate::cursor::Entry;
 use crate::meetings::{Meeting, keys_held, note, plan_all, taken};
-use crate::peer::Peer;
 use crate::report::{Left, Report, Side, SyncFault};
 use mvd_dots::Refusal;
 use mvd_keys::{Key, KeyState};
+use mvd_peer::Peer;
 use mvd_wire::Items;
 use std::alloc::Global;
 use std::marker::Model;
@@ -43,7 +44,7 @@ pub struct Exchange {
 
 impl Model for Exchange {
     ghost use Rattle.std.specs.Prelude.{◌≤◌, ◌+◌};
-    ghost use Rattle.mvd_sync.specs.Session.{Each};
+    ghost use Rattle.mvd_peer.specs.PushedStates.{Each};
     ghost use Rattle.mvd_sync.specs.Exchanges.{Exchanging, IsHeldByEither};
 
     ghost Value = { Exchanging };

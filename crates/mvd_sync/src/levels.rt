@@ -1,15 +1,16 @@
 //! The walk from the root to the buckets that differ, level by level.
 ghost use Rattle.std.specs.Prelude.{◌≡◌, ◌<◌, ◌≤◌, ◌+◌, ◌*◌, ◌++◌, ◌∷◌, [], ◌↔◌, length, IfOk, IfErr, OnOk, IsTrue};
-ghost use Rattle.mvd_sync.specs.Session.{Each, asking};
-ghost use Rattle.mvd_sync.specs.PeerSides.{sides_of};
-ghost use Rattle.mvd_sync.specs.Sides.{two};
+ghost use Rattle.mvd_peer.specs.PushedStates.{Each};
+ghost use Rattle.mvd_sync.specs.Session.{asking};
+ghost use Rattle.mvd_peer.specs.PeerSides.{sides_of};
+ghost use Rattle.mvd_peer.specs.Sides.{two};
 ghost use Rattle.mvd_sync.specs.Walk.{AreFewFor, Descends, FindsBuckets, ReadsEnd, told, told_all};
 
 use crate::asking::{Node, Questions, ask_nodes};
-use crate::peer::Peer;
 use crate::report::SyncFault;
 use mvd_dots::Refusal;
 use mvd_keys::Path;
+use mvd_peer::Peer;
 use std::alloc::Global;
 
 /// So many nodes or pages are asked for at once.

@@ -1,7 +1,7 @@
 //! What a session makes of the answers of a side.
 ghost use Rattle.std.specs.Prelude.{◌≡◌, IfOk, IfErr};
 ghost use Rattle.mvd_sync.specs.Made.{EndsMaking, Passes};
-ghost use Rattle.mvd_sync.specs.Questions.{ForEach};
+ghost use Rattle.mvd_peer.specs.Windows.{ForEach};
 
 use mvd_dots::Refusal;
 use mvd_keys::KeyState;

@@ -1,5 +1,5 @@
 //! Whether a local file is older than what its peers saw of it.
-ghost use Rattle.std.specs.Prelude.{◌≡◌, ℕ, ◌↔◌, IsTrue, IfSome, IfNone, unwrap_or, Some};
+ghost use Rattle.std.specs.Prelude.{ℕ, ◌↔◌, IsTrue, IfSome, IfNone, unwrap_or, Some};
 ghost use Rattle.std.specs.Option.{option_copied};
 ghost use Rattle.mvd_dots.specs.Context.{Holds, IsEntryAt};
 ghost use Rattle.mvd_dots.specs.Entry.{HasCounter, IsEntry};

@@ -1,15 +1,15 @@
 //! Sessions of two sides.
 ghost use Rattle.std.specs.Prelude.{◌≤◌};
 ghost use Rattle.mvd_sync.specs.Session.{Session};
-ghost use Rattle.mvd_sync.specs.PeerSides.{sides_of};
-ghost use Rattle.mvd_sync.specs.Sides.{two};
+ghost use Rattle.mvd_peer.specs.PeerSides.{sides_of};
+ghost use Rattle.mvd_peer.specs.Sides.{two};
 
 use crate::asking::Questions;
 use crate::bucket_walk::exchange_buckets;
 use crate::exchange::Exchange;
 use crate::levels::differing_buckets;
-use crate::peer::Peer;
 use crate::report::{Report, SyncFault};
+use mvd_peer::Peer;
 use std::alloc::Global;
 
 /// The most questions that a session asks a side.

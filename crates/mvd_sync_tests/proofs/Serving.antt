@@ -31,11 +31,11 @@ use Rattle.mvd_site.specs.Held.{AreHeld, States, state_at}
 use Rattle.mvd_site.specs.Known.{IsValidRequest}
 use Rattle.mvd_site.specs.Sites.{SiteValue}
 use Rattle.mvd_sync_tests.specs.Serving.{TakesOne, far_at}
-use Rattle.mvd_sync.specs.Lines.{AreFrames, Far, IsNext, TakesAll, TakesFirst, TrueReplies, TrueReply}
-use Rattle.mvd_sync.specs.Session.{pushed}
-use Rattle.mvd_sync.specs.Sides.{is_of_question}
-use Rattle.mvd_sync.specs.Windows.{CannotTake, RefusesPage}
-use Rattle.mvd_sync.proofs.SiteSides.{node_bucket, node_inner, node_own, push_cause, put_is_pushed}
+use Rattle.mvd_remote.specs.Lines.{AreFrames, Far, IsNext, TakesAll, TakesFirst, TrueReplies, TrueReply}
+use Rattle.mvd_peer.specs.PushedStates.{pushed}
+use Rattle.mvd_peer.specs.Sides.{is_of_question}
+use Rattle.mvd_peer.specs.Windows.{CannotTake, RefusesPage}
+use Rattle.mvd_peer.proofs.SiteSides.{node_bucket, node_inner, node_own, push_cause, put_is_pushed}
 
 -- ---- replies
 

@@ -4,7 +4,7 @@ use Rattle.mvd_dots.specs.declared.refusals.Refusal.{Refusal}
 use Rattle.mvd_wire.specs.declared.request.Request.{Request}
 use Rattle.mvd_wire.specs.declared.reply.Reply.{Reply}
 use Rattle.mvd_site.specs.Sites.{SiteValue}
-use Rattle.mvd_sync.specs.Lines.{Far, MayTake, TrueReply}
+use Rattle.mvd_remote.specs.Lines.{Far, MayTake, TrueReply}
 
 -- what is at the other end: a site, whose replies wait
 abbrev pub far_at : SiteValue → List Reply → Far

@@ -5,9 +5,9 @@ ghost use Rattle.std.specs.FinMap.{empty};
 use mvd_docs::Document;
 use mvd_dots::{Context, Refusal};
 use mvd_keys::{Key, KeyState, Path};
+use mvd_peer::{Page, Peer};
 use mvd_rows::Defs;
 use mvd_site::{Config, Site};
-use mvd_sync::{Page, Peer};
 use mvd_wire::{Digests, Reply, Request};
 use std::alloc::Global;
 

@@ -2,7 +2,7 @@
 ghost use Rattle.std.specs.Prelude.{◌≡◌, None, []};
 ghost use Rattle.mvd_site.specs.Held.{AreHeld};
 ghost use Rattle.mvd_site.specs.Known.{IsValidRequest};
-ghost use Rattle.mvd_sync.specs.Lines.{TrueReply};
+ghost use Rattle.mvd_remote.specs.Lines.{TrueReply};
 ghost use Rattle.mvd_sync_tests.specs.Serving.{TakesOne, far_at};
 ghost use Rattle.mvd_wire.specs.declared.request.Request.{Request};
 ghost use Rattle.mvd_wire.specs.Replies.{CanBeSent};
@@ -10,8 +10,8 @@ ghost use Rattle.mvd_wire.specs.Requests.{SpellsRequest};
 
 use mvd_dots::Refusal;
 use mvd_frames::{decode_request, encode_reply, read_frame};
+use mvd_remote::Line;
 use mvd_site::Site;
-use mvd_sync::Line;
 use mvd_wire::{Frame, Reply, Request};
 use std::alloc::Global;
 use std::collections::VecDeque;

@@ -2,7 +2,8 @@
 use crate::many_keys::ask_few;
 use crate::peers::{Asked, Counting};
 use mvd_dots::Refusal;
-use mvd_sync::{Peer, Report, Side, SyncFault, sync, sync_within};
+use mvd_peer::Peer;
+use mvd_sync::{Report, Side, SyncFault, sync, sync_within};
 use std::alloc::Global;
 use std::test::Fail;
 

@@ -18,8 +18,9 @@ use Rattle.mvd_site.proofs.Answered.{answered}
 use Rattle.mvd_site.proofs.Clashes.{clash_alone}
 use Rattle.mvd_site.proofs.OfTheSet.{states_of-stands}
 use Rattle.mvd_site.proofs.Steps.{state_at-stands}
-use Rattle.mvd_sync.specs.Session.{Before, CannotMeet, Each}
-use Rattle.mvd_sync.specs.Sides.{IsFaultOf}
+use Rattle.mvd_sync.specs.Session.{Before, CannotMeet}
+use Rattle.mvd_peer.specs.PushedStates.{Each}
+use Rattle.mvd_sync.specs.Faults.{IsFaultOf}
 use Rattle.mvd_sync.specs.declared.report.Left.{Left}
 use Rattle.mvd_sync.specs.declared.report.Report.{Report}
 use Rattle.mvd_sync.proofs.Answering.{each-take}

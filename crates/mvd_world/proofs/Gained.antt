@@ -23,13 +23,14 @@ use Rattle.mvd_site.specs.Sites.{SiteStands, SiteValue}
 use Rattle.mvd_site.proofs.OfTheSet.{states_of-stands}
 use Rattle.mvd_site.proofs.Steps.{state_at-stands}
 use Rattle.mvd_sync.specs.Session.{AreFew, CanMeet, HasAllThatDiffer, HasJoined, IsIn, is_member}
-use Rattle.mvd_sync.specs.Sides.{IsBroken, IsFaultOf, SideOf, SiteFollows, SiteRefuses, Stays, is_of_question, is_site_refusal, of_answer, of_memory, of_questions, of_side, tells_broken}
+use Rattle.mvd_peer.specs.Sides.{IsBroken, SideOf, SiteFollows, SiteRefuses, Stays, is_of_question, is_site_refusal, tells_broken}
+use Rattle.mvd_sync.specs.Faults.{IsFaultOf, of_answer, of_memory, of_questions, of_side}
 use Rattle.mvd_sync.specs.declared.report.Report.{Report}
 use Rattle.mvd_sync.specs.declared.report.SyncFault.{SyncFault}
 use Rattle.mvd_sync.specs.declared.report.SyncFault.TheVariants.{Local, Peer}
-use Rattle.mvd_sync.proofs.JoinLaws.{join_absorbs, valid_at}
+use Rattle.mvd_peer.proofs.JoinLaws.{join_absorbs, valid_at}
 use Rattle.mvd_sync.proofs.Positions.{BlamesBy, ReportsDoneBy, SessionBy}
-use Rattle.mvd_sync.proofs.SiteSides.{is_broken}
+use Rattle.mvd_peer.proofs.SiteSides.{is_broken}
 use Rattle.mvd_world.specs.Machine.{BreaksBy, FailsFor, MayFail, ToldAtOnce, all_asked, it_refused, writes_in}
 use Rattle.mvd_world.specs.Worlds.{Exchange}
 

@@ -24,7 +24,7 @@ use Rattle.mvd_site.specs.Sites.{SiteValue}
 use Rattle.mvd_site.proofs.Answered.{with_state-same}
 use Rattle.mvd_site.proofs.Lengths.{kept_empty}
 use Rattle.mvd_site.proofs.Steps.{state_at-stands, within-still}
-use Rattle.mvd_sync.proofs.SiteSides.{is_broken}
+use Rattle.mvd_peer.proofs.SiteSides.{is_broken}
 use Rattle.mvd_world.specs.declared.steps.Outcome.TheVariants.{Replied}
 use Rattle.mvd_world.specs.declared.steps.Step.TheVariants.{Receive}
 use Rattle.mvd_world.specs.declared.worlds.Message.{Message}

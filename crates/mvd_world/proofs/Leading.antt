@@ -26,7 +26,7 @@ use Rattle.mvd_site.specs.Sites.{AnswersOne, SiteStands, SiteValue}
 use Rattle.mvd_site.proofs.Answered.{after_stands, answered, changed_alike, with_state-same}
 use Rattle.mvd_site.proofs.Prepare.{Stands-none, refuses_all}
 use Rattle.mvd_site.proofs.Steps.{Adds-Refused, Stands-nothing, state_at-stands}
-use Rattle.mvd_sync.proofs.SiteSides.{is_broken}
+use Rattle.mvd_peer.proofs.SiteSides.{is_broken}
 use Rattle.mvd_sync.specs.Session.{ReportsDone}
 use Rattle.mvd_sync.specs.declared.report.Report.{Report}
 use Rattle.mvd_sync.specs.declared.report.SyncFault.{SyncFault}

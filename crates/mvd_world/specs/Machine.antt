@@ -20,8 +20,10 @@ use Rattle.mvd_site.specs.Config.{ConfigValue}
 use Rattle.mvd_site.specs.FromStates.{unless_broken}
 use Rattle.mvd_site.specs.Held.{States}
 use Rattle.mvd_site.specs.Known.{Adds, Changes, MayReply}
-use Rattle.mvd_sync.specs.Session.{AreFew, Before, CanMeet, Each, HasAllThatDiffer, IsIn, ReportsDone, is_member}
-use Rattle.mvd_sync.specs.Sides.{IsFaultOf, is_of_question, is_site_refusal, tells_broken}
+use Rattle.mvd_sync.specs.Session.{AreFew, Before, CanMeet, HasAllThatDiffer, IsIn, ReportsDone, is_member}
+use Rattle.mvd_peer.specs.PushedStates.{Each}
+use Rattle.mvd_sync.specs.Faults.{IsFaultOf}
+use Rattle.mvd_peer.specs.Sides.{is_of_question, is_site_refusal, tells_broken}
 use Rattle.mvd_sync.specs.declared.report.Report.{Report}
 use Rattle.mvd_sync.specs.declared.report.SyncFault.{SyncFault}
 use Rattle.mvd_sync.specs.declared.report.SyncFault.TheVariants.{Local, Peer}

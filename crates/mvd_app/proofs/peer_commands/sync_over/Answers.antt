@@ -1,6 +1,6 @@
 use Rattle.std.proofs.Common.{subst}
 use Rattle.std.specs.Prelude.{OnOk}
-use Rattle.mvd_sync.specs.Lines.{IsTrueRemote}
+use Rattle.mvd_remote.specs.Lines.{IsTrueRemote}
 use Rattle.mvd_app.proofs.Syncing.{after_bye, bye_keeps}
 use Rattle.mvd_app.proofs.peer_commands.sync_over.Goals as goal
 

@@ -1,6 +1,6 @@
 use Rattle.std.proofs.Common.{◌≡◌, map, take}
 use Rattle.mvd_keys.specs.State.{IsValid}
-use Rattle.mvd_sync.specs.Session.{Each}
+use Rattle.mvd_peer.specs.PushedStates.{Each}
 use Rattle.mvd_replica.specs.Pushes.{push_of}
 use Rattle.mvd_replica.proofs.pushes.pushes_of.Given as goal
 

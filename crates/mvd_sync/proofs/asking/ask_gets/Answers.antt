@@ -1,8 +1,8 @@
 use Rattle.std.proofs.Common.{◌≡◌, ◌∙◌, sym, subst, take}
 use Rattle.mvd_keys.specs.State.{State}
-use Rattle.mvd_sync.specs.PeerSides.{side_of}
+use Rattle.mvd_peer.specs.PeerSides.{side_of}
 use Rattle.mvd_sync.proofs.Answering.{answered_all, ended_few, ended_making, ended_within, none_told, passed}
-use Rattle.mvd_sync.proofs.OneByOne.{at_err_same}
+use Rattle.mvd_peer.proofs.OneByOne.{at_err_same}
 use Rattle.mvd_sync.proofs.asking.ask_gets.Goals as goal
 
 abbrev IsSame : State → State → Type 0

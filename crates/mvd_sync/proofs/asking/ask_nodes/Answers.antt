@@ -2,10 +2,10 @@ use Rattle.std.proofs.Common.{◌≡◌, take}
 use Rattle.std.specs.Prelude.{None}
 use Rattle.mvd_wire.specs.declared.reply.Digests.{Digests}
 use Rattle.mvd_site.specs.Answer.{digests}
-use Rattle.mvd_sync.specs.PeerSides.{side_of}
+use Rattle.mvd_peer.specs.PeerSides.{side_of}
 use Rattle.mvd_sync.proofs.Answering.{IsNodeOf, answered_all, each-take, ended_few, ended_making, ended_within, none_told, passed}
 use Rattle.mvd_sync.proofs.Inner.{inner_right, not_without}
-use Rattle.mvd_sync.proofs.OneByOne.{at_err_same}
+use Rattle.mvd_peer.proofs.OneByOne.{at_err_same}
 use Rattle.mvd_sync.proofs.asking.ask_nodes.Goals as goal
 
 pub returns-in_err-told-clause-ended : goal.returns-in_err-told-clause-ended

@@ -2,9 +2,9 @@ use Rattle.std.proofs.Common.{take}
 use Rattle.std.specs.Prelude.{None}
 use Rattle.mvd_site.specs.Answer.{digests}
 use Rattle.mvd_sync.specs.Answers.{IsPage}
-use Rattle.mvd_sync.specs.PeerSides.{side_of}
+use Rattle.mvd_peer.specs.PeerSides.{side_of}
 use Rattle.mvd_sync.proofs.Answering.{IsListingOf, answered_all, each-take, ended_few, ended_making, ended_within, no_page_told, passed}
-use Rattle.mvd_sync.proofs.OneByOne.{at_err_same}
+use Rattle.mvd_peer.proofs.OneByOne.{at_err_same}
 use Rattle.mvd_sync.proofs.ToldPages.{TellsPage, Told, listing_right, not_bad}
 use Rattle.mvd_sync.proofs.asking.ask_pages.Goals as goal
 

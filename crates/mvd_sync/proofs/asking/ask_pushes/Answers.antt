@@ -6,8 +6,8 @@ use Rattle.mvd_dots.specs.declared.refusals.Refusal.{Refusal}
 use Rattle.mvd_keys.specs.State.{State}
 use Rattle.mvd_keys.specs.Writes.{Key}
 use Rattle.mvd_sync.specs.Questions.{IsOfKey}
-use Rattle.mvd_sync.specs.PeerSides.{side_of}
-use Rattle.mvd_sync.proofs.OneByOne.{at_err, at_err_same}
+use Rattle.mvd_peer.specs.PeerSides.{side_of}
+use Rattle.mvd_peer.proofs.OneByOne.{at_err, at_err_same}
 use Rattle.mvd_sync.proofs.Pushing.{FrontPushed, all_pushed, ended_call, ended_first, ended_for_want, ended_told, front_on, front_rest, no_pairs}
 use Rattle.mvd_sync.proofs.asking.ask_pushes.Goals as goal
 

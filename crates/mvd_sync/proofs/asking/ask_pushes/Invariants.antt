@@ -1,7 +1,7 @@
 use Rattle.std.proofs.Common.{length}
 use Rattle.std.specs.Prelude.{All}
 use Rattle.mvd_sync.specs.Questions.{IsOfKey}
-use Rattle.mvd_sync.specs.PeerSides.{side_of}
+use Rattle.mvd_peer.specs.PeerSides.{side_of}
 use Rattle.mvd_sync.proofs.Pushing.{FrontPushed}
 use Rattle.mvd_sync.proofs.asking.ask_pushes.Given as goal
 

@@ -1,8 +1,8 @@
 use Rattle.std.proofs.Common.{◌≡◌, ℕ, List, map, length, Option, None, refl, ap, ◌∙◌, arith}
 use Rattle.std.proofs.lemmas.List.{length-map}
 use Rattle.mvd_sync.specs.Questions.{with_left}
-use Rattle.mvd_sync.specs.PeerSides.{side_of}
-use Rattle.mvd_sync.specs.Sides.{HasAnswered, SideOf}
+use Rattle.mvd_peer.specs.PeerSides.{side_of}
+use Rattle.mvd_peer.specs.Sides.{HasAnswered, SideOf}
 use Rattle.mvd_sync.specs.Walk.{Reads}
 use Rattle.mvd_sync.specs.declared.asking.Questions.{Questions}
 use Rattle.mvd_sync.proofs.Fails.{local_fails, memory_fails, peer_fails}

@@ -1,5 +1,5 @@
 use Rattle.std.proofs.Common.{Some}
-use Rattle.mvd_sync.specs.PeerSides.{side_of}
+use Rattle.mvd_peer.specs.PeerSides.{side_of}
 use Rattle.mvd_sync.proofs.Fetching.{local_unfilled, peer_unfilled}
 use Rattle.mvd_sync.proofs.bucket_walk.fill_both.Goals as goal
 

@@ -1,5 +1,5 @@
 use Rattle.std.proofs.Common.{arith}
-use Rattle.mvd_sync.specs.PeerSides.{side_of}
+use Rattle.mvd_peer.specs.PeerSides.{side_of}
 use Rattle.mvd_sync.proofs.Pages.{takes_shorter}
 use Rattle.mvd_sync.proofs.Bucket.{over_begins, over_ends, over_settles, over_unfilled, over_unsettled}
 use Rattle.mvd_sync.proofs.bucket_walk.go_over.Goals as goal

@@ -1,5 +1,5 @@
 use Rattle.std.proofs.Common.{◌≡◌, ◌<◌, length, ◌+◌, ◌*◌, ◌^◌, [], false}
-use Rattle.mvd_sync.specs.PeerSides.{side_of}
+use Rattle.mvd_peer.specs.PeerSides.{side_of}
 use Rattle.mvd_sync.proofs.Bucket.{OverBucket}
 use Rattle.mvd_sync.proofs.bucket_walk.go_over.Given as goal
 

@@ -4,7 +4,7 @@ use Rattle.std.proofs.lemmas.List.{take-append-drop, take_all}
 use Rattle.mvd_site.specs.Answer.{digests}
 use Rattle.mvd_site.specs.Held.{States}
 use Rattle.mvd_sync.specs.Buckets.{ArePages}
-use Rattle.mvd_sync.specs.PeerSides.{side_of}
+use Rattle.mvd_peer.specs.PeerSides.{side_of}
 use Rattle.mvd_sync.proofs.Descents.{Each-at, one_taken}
 use Rattle.mvd_sync.proofs.Fetching.{IsGoodPage, first_left, page_left, rest_left, some_left}
 use Rattle.mvd_sync.proofs.Through.{page_at, through_cut, through_none, through_on}

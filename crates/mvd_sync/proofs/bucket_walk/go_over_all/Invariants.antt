@@ -2,7 +2,7 @@ use Rattle.std.proofs.Common.{◌≡◌, drop, take}
 use Rattle.std.specs.Prelude.{Ok}
 use Rattle.mvd_site.specs.Answer.{digests}
 use Rattle.mvd_sync.specs.Buckets.{ArePages}
-use Rattle.mvd_sync.specs.PeerSides.{side_of}
+use Rattle.mvd_peer.specs.PeerSides.{side_of}
 use Rattle.mvd_sync.proofs.Positions.{GoesThroughBy}
 use Rattle.mvd_sync.proofs.bucket_walk.go_over_all.Given as goal
 

@@ -1,4 +1,4 @@
-use Rattle.mvd_sync.specs.PeerSides.{side_of}
+use Rattle.mvd_peer.specs.PeerSides.{side_of}
 use Rattle.mvd_sync.proofs.Bucket.{settles_by_exchange, settles_nothing}
 use Rattle.mvd_sync.proofs.bucket_walk.settle.Goals as goal
 

@@ -2,7 +2,7 @@ use Rattle.std.proofs.Common.{◌≡◌, ◌∙◌, filter_map, length, subst}
 use Rattle.std.specs.Prelude.{IfErr}
 use Rattle.mvd_sync.specs.Meetings.{pair_of}
 use Rattle.mvd_sync.specs.Questions.{ComesToEnd, TakesInFirst, with_left}
-use Rattle.mvd_sync.specs.PeerSides.{side_of}
+use Rattle.mvd_peer.specs.PeerSides.{side_of}
 use Rattle.mvd_sync.proofs.Carrying.{all_taken, nothing_taken, nothing_told}
 use Rattle.mvd_sync.proofs.exchange.carry.Goals as goal
 

@@ -1,5 +1,5 @@
 use Rattle.std.proofs.Common.{refl}
-use Rattle.mvd_sync.specs.PeerSides.{side_of}
+use Rattle.mvd_peer.specs.PeerSides.{side_of}
 use Rattle.mvd_sync.proofs.Exchanged.{all_done, ends_at_local, ends_at_peer, ends_at_plans}
 use Rattle.mvd_sync.proofs.exchange.exchange_all.Goals as goal
 

@@ -3,8 +3,8 @@ use Rattle.std.specs.Prelude.{IfOk}
 use Rattle.mvd_site.specs.Held.{state_at}
 use Rattle.mvd_sync.specs.Meetings.{held_keys}
 use Rattle.mvd_sync.specs.Questions.{AllAnswered, AnswersEach, with_left}
-use Rattle.mvd_sync.specs.PeerSides.{side_of}
-use Rattle.mvd_sync.specs.Sides.{HasAnswered}
+use Rattle.mvd_peer.specs.PeerSides.{side_of}
+use Rattle.mvd_peer.specs.Sides.{HasAnswered}
 use Rattle.mvd_sync.proofs.exchange.gives.Goals as goal
 
 pub returns-clause-told : goal.returns-clause-told

@@ -1,5 +1,5 @@
 use Rattle.std.proofs.Common.{◌≡◌, ℕ, List, ◌++◌, length}
-use Rattle.mvd_sync.specs.PeerSides.{side_of}
+use Rattle.mvd_peer.specs.PeerSides.{side_of}
 use Rattle.mvd_sync.proofs.Positions.{DescendsBy}
 use Rattle.mvd_sync.proofs.levels.descend.Given as goal
 

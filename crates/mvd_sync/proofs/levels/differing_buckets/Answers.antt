@@ -1,5 +1,5 @@
 use Rattle.std.proofs.Common.{arith, ◌≤◌, length, subst}
-use Rattle.mvd_sync.specs.PeerSides.{side_of}
+use Rattle.mvd_peer.specs.PeerSides.{side_of}
 use Rattle.mvd_sync.proofs.Walks.{walk_ends, walk_finds, walks_on}
 use Rattle.mvd_sync.proofs.Positions.{DescendsBy, ReadsEndBy}
 use Rattle.mvd_sync.proofs.levels.differing_buckets.Goals as goal

@@ -1,4 +1,4 @@
-use Rattle.mvd_sync.specs.PeerSides.{side_of}
+use Rattle.mvd_peer.specs.PeerSides.{side_of}
 use Rattle.mvd_sync.proofs.Walks.{Walks}
 use Rattle.mvd_sync.proofs.levels.differing_buckets.Given as goal
 

@@ -2,8 +2,8 @@ use Rattle.std.proofs.Common.{◌≡◌, ◌∷◌, ◌++◌, [], List, sym, sub
 use Rattle.std.specs.Prelude.{Result, Ok}
 use Rattle.mvd_dots.specs.declared.refusals.Refusal.{Refusal}
 use Rattle.mvd_sync.specs.Made.{Passes}
-use Rattle.mvd_sync.specs.Questions.{ForEach}
-use Rattle.mvd_sync.proofs.Answering.{for_each_more}
+use Rattle.mvd_peer.specs.Windows.{ForEach}
+use Rattle.mvd_peer.proofs.OneByOne.{for_each_more}
 use Rattle.mvd_sync.proofs.made.made_all.Goals as goal
 
 pub loop-answer-preserved : goal.loop-answer-preserved

@@ -1,5 +1,5 @@
 use Rattle.mvd_sync.specs.Made.{Passes}
-use Rattle.mvd_sync.specs.Questions.{ForEach}
+use Rattle.mvd_peer.specs.Windows.{ForEach}
 use Rattle.mvd_sync.proofs.made.made_all.Given as goal
 
 -- what was made of the first answers

@@ -1,6 +1,6 @@
 use Rattle.std.proofs.Common.{◌≡◌, ◌∙◌, ℕ, List, ap, length, subst, sym}
-use Rattle.mvd_sync.specs.Session.{Each}
-use Rattle.mvd_sync.specs.PeerSides.{side_of}
+use Rattle.mvd_peer.specs.PushedStates.{Each}
+use Rattle.mvd_peer.specs.PeerSides.{side_of}
 use Rattle.mvd_sync.proofs.HeldFew.{held_few}
 use Rattle.mvd_sync.proofs.Sessions.{begins_with, over_at, session_all, session_buckets, session_exchanges, session_walks}
 use Rattle.mvd_sync.proofs.session.sync_within.Goals as goal

@@ -1,5 +1,5 @@
 use Rattle.std.proofs.Common.{◌≡◌, rules, subst, sym}
-use Rattle.mvd_sync.proofs.ManyPushes.{leaves_same}
+use Rattle.mvd_peer.proofs.ManyPushes.{leaves_same}
 use Rattle.mvd_replica.specs.declared.replica.Replica.{Replica}
 use Rattle.mvd_replica.specs.Replicas.{stored_of}
 use Rattle.mvd_replica.specs.SideCalls.{KeepsSide}

@@ -4,7 +4,7 @@ use Rattle.mvd_dots.specs.declared.refusals.Refusal.{Refusal}
 use Rattle.mvd_site.specs.Config.{ConfigValue}
 use Rattle.mvd_site.specs.Held.{States}
 use Rattle.mvd_site.specs.Sites.{SiteValue}
-use Rattle.mvd_sync.proofs.SiteSides.{push_ok, push_refused, push_unbroken}
+use Rattle.mvd_peer.proofs.SiteSides.{push_ok, push_refused, push_unbroken}
 use Rattle.mvd_replica.proofs.Pushed.{cause_stored, follows_push}
 use Rattle.mvd_replica.proofs.Sides.{push_comes, push_refuses}
 use Rattle.mvd_replica.proofs.side.ReplicaPeer.push.Goals as goal

@@ -1,7 +1,7 @@
 use Rattle.std.proofs.Common.{◌≡◌, ◌∙◌, ◌++◌, [], List, map, ap, refl, sym, subst, inl, inr, arith, false, true≢false}
 use Rattle.sqlite.specs.Held.{state}
-use Rattle.mvd_sync.specs.Windows.{EachAnswer, EachTold, Pushes}
-use Rattle.mvd_sync.proofs.OneByOne.{at_err, on_err, told_still}
+use Rattle.mvd_peer.specs.Windows.{EachAnswer, EachTold, Pushes}
+use Rattle.mvd_peer.proofs.OneByOne.{at_err, on_err, told_still}
 use Rattle.mvd_replica.specs.declared.replica.Replica.{Replica}
 use Rattle.mvd_replica.specs.Batch.{AnswersAll}
 use Rattle.mvd_replica.specs.Pushes.{told_of}

@@ -1,7 +1,7 @@
 use Rattle.mvd_site.specs.Answer.{digests}
 use Rattle.std.proofs.Common.{option_copied}
 use Rattle.mvd_sync.specs.Answers.{IsPage}
-use Rattle.mvd_sync.specs.PeerSides.{side_of}
+use Rattle.mvd_peer.specs.PeerSides.{side_of}
 use Rattle.mvd_sync.proofs.Answering.{page_apart}
 use Rattle.mvd_sync.proofs.Fetching.{one_refused, page_refused}
 use Rattle.mvd_sync.proofs.ToldPages.{told_page}

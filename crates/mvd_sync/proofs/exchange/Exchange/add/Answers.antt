@@ -1,6 +1,6 @@
 use Rattle.std.proofs.Common.{◌++◌, ◌∷◌, [], ap, length}
 use Rattle.mvd_sync.specs.Exchanges.{Exchanging}
-use Rattle.mvd_sync.specs.PeerSides.{side_of}
+use Rattle.mvd_peer.specs.PeerSides.{side_of}
 use Rattle.mvd_sync.proofs.Exchanging.{exchanges_from, exchanges_later, exchanges_none, low_of}
 use Rattle.mvd_sync.proofs.exchange.Exchange.add.Goals as goal
 

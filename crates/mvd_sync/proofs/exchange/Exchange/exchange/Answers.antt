@@ -1,7 +1,7 @@
 use Rattle.std.proofs.Common.{◌∙◌, ap, subst, map}
 use Rattle.mvd_sync.specs.Exchanges.{Adds, Exchanging}
 use Rattle.mvd_sync.specs.Meetings.{done_of}
-use Rattle.mvd_sync.specs.PeerSides.{side_of}
+use Rattle.mvd_peer.specs.PeerSides.{side_of}
 use Rattle.mvd_sync.proofs.Exchanging.{exchanges_all, exchanges_end, exchanges_memory, none_waits, window_at}
 use Rattle.mvd_sync.proofs.exchange.Exchange.exchange.Goals as goal
 

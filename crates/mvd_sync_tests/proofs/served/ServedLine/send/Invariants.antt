@@ -1,7 +1,7 @@
 use Rattle.std.specs.Prelude.{◌≡◌, List}
 use Rattle.mvd_site.specs.Held.{AreHeld}
 use Rattle.mvd_wire.specs.declared.request.Request.{Request}
-use Rattle.mvd_sync.specs.Lines.{AreFrames}
+use Rattle.mvd_remote.specs.Lines.{AreFrames}
 use Rattle.mvd_sync_tests.specs.Serving.{far_at}
 use Rattle.mvd_sync_tests.proofs.Serving.{Went}
 use Rattle.mvd_sync_tests.proofs.served.ServedLine.send.Given as goal

@@ -1,0 +1,5 @@
+pub mod JoinLaws
+pub mod Pushes
+pub mod OneByOne
+pub mod SiteSides
+pub mod ManyPushes

@@ -1,0 +1,57 @@
+use Rattle.std.proofs.Common.{◌≡◌, ◌+◌, ◌∷◌, ◌++◌, [], inl, inr, refl}
+use Rattle.std.specs.Prelude.{Err}
+use Rattle.std.proofs.lemmas.Result.{IfErr-at_err}
+use Rattle.mvd_peer.proofs.OneByOne.{always, at_err, few_more, last_made, on_err, one_more_at}
+use Rattle.mvd_peer.proofs.ManyPushes.{left_same, not_broken, open_first, open_not_of_key, pushes_more, second_ok, still_true}
+use Rattle.mvd_peer.proofs.peer.Peer.push_all.Goals as goal
+
+pub returns-in_err-told-clause-first : goal.returns-in_err-told-clause-first
+returns-in_err-told-clause-first g c t = on_err _ _ c.from_residual.ensures (0, [], g.Self.Peer.states c.args.self.now, refl, λ _. refl)
+
+pub returns-in-Some-clause-ended : goal.returns-in-Some-clause-ended
+returns-in-Some-clause-ended g c =
+    let is : c.push-answer.result ≡ Err c.in-Some.refusal = c.in-Some.ensures.some.0 in
+    last_made g.Self.Peer.follows g.Self.Peer.can_refuse g.Self.Peer.can_answer g.met.Self.Peer.follows_self g.met.Self.Peer.follows_on _ _ _ _ _ c.loop-key.invariant.so_far.count c.push-answer.ensures.follows (few_more _ _ c.loop-key-test.true) c.in-Some.refusal (inl (IfErr-at_err _ is c.push-answer.ensures.refuses))
+
+pub returns-in-Some-clause-not_of_question : goal.returns-in-Some-clause-not_of_question
+returns-in-Some-clause-not_of_question g c t = open_not_of_key c.in-Some.refusal c.in-Some.ensures.some.1
+
+pub returns-in-Some-clause-unbroken : goal.returns-in-Some-clause-unbroken
+returns-in-Some-clause-unbroken g c t = IfErr-at_err _ c.in-Some.ensures.some.0 (c.push-answer.ensures.unbroken (c.loop-key.invariant.pushes t).0)
+
+pub returns-in-Some-clause-first : goal.returns-in-Some-clause-first
+returns-in-Some-clause-first g c t =
+    let before = c.loop-key.invariant.pushes t in
+    open_first _ _ _ _ _ _ _ _ _ c.loop-key.told.items c.in-Some.refusal c.loop-key-test.true c.loop-key-item.is (g.met.Self.Peer.most_stays _ _ _ c.loop-key.invariant.so_far.count) before.1 (IfErr-at_err _ c.in-Some.ensures.some.0 (c.push-answer.ensures.refused before.0))
+
+pub returns-in_err-push-clause-ended : goal.returns-in_err-push-clause-ended
+returns-in_err-push-clause-ended g c =
+    at_err _ _ _ c.from_residual-in_err-push.ensures (λ e memory. last_made g.Self.Peer.follows g.Self.Peer.can_refuse g.Self.Peer.can_answer g.met.Self.Peer.follows_self g.met.Self.Peer.follows_on _ _ _ _ _ c.loop-key.invariant.so_far.count c.push-answer.ensures.follows (few_more _ _ c.loop-key-test.true) e (inr memory))
+
+pub returns-in_err-push-clause-first : goal.returns-in_err-push-clause-first
+returns-in_err-push-clause-first g c t =
+    let before = c.loop-key.invariant.pushes t in
+    let u = still_true _ _ c.push-answer.result (c.push-answer.ensures.ok before.0) (c.push-answer.ensures.unbroken before.0) (not_broken _ c.in_default.ensures.none) in
+    on_err _ _ c.from_residual-in_err-push.ensures (
+      c.loop-key.key-index + 1,
+      c.loop-key.told.items ++ c.push-answer.result ∷ [],
+      g.Self.Peer.states c.push-answer.new.self,
+      pushes_more _ _ _ _ _ _ _ _ _ _ c.push-answer.result c.loop-key-test.true c.loop-key-item.is refl (g.met.Self.Peer.most_stays _ _ _ c.loop-key.invariant.so_far.count) before.1
+          (second_ok _ _ c.push-answer.result (c.push-answer.ensures.ok before.0)) (c.push-answer.ensures.apart before.0) (left_same _ _ _ _ c.push-answer.result (c.push-answer.ensures.refused before.0) c.in_default.ensures.none) (c.push-answer.ensures.cause before.0),
+      λ _. refl,
+    )
+
+pub loop-key-preserved : goal.loop-key-preserved
+loop-key-preserved g c =
+    let start = c.loop-key.invariant in
+    record {
+      pushes = λ t.
+          let before = start.pushes t in
+          let u = still_true _ _ c.push-answer.result (c.push-answer.ensures.ok before.0) (c.push-answer.ensures.unbroken before.0) (not_broken _ c.in_default.ensures.none) in (
+            u,
+            pushes_more _ _ _ _ _ _ _ _ _ _ c.push-answer.result c.loop-key-test.true c.loop-key-item.is c.in_ok-push.ensures.items (g.met.Self.Peer.most_stays _ _ _ start.so_far.count) before.1
+                (second_ok _ _ c.push-answer.result (c.push-answer.ensures.ok before.0)) (c.push-answer.ensures.apart before.0) (left_same _ _ _ _ c.push-answer.result (c.push-answer.ensures.refused before.0) c.in_default.ensures.none) (c.push-answer.ensures.cause before.0),
+          );
+      so_far = one_more_at g.Self.Peer.follows g.Self.Peer.can_refuse g.Self.Peer.can_answer g.met.Self.Peer.follows_self g.met.Self.Peer.follows_on _ _ _ _ _ _ _ _ c.loop-key-item.result _ _ _ c.loop-key-test.true c.loop-key-item.is c.in_ok-push.ensures.items start.so_far c.push-answer.ensures.follows
+          (always _) (λ never. absurd never) c.push-answer.ensures.refuses c.push-answer.ensures.answers (λ never. absurd never);
+    }

@@ -1,0 +1,4 @@
+pub mod PushedStates
+pub mod Sides
+pub mod PeerSides
+pub mod Windows

@@ -1,0 +1,4 @@
+pub mod Turns
+pub mod RemoteSides
+pub mod Lined
+pub mod FarSides

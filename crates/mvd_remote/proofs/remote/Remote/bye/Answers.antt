@@ -1,0 +1,6 @@
+use Rattle.mvd_wire.specs.declared.request.Request.TheVariants.{Bye}
+use Rattle.mvd_peer.proofs.OneByOne.{always}
+use Rattle.mvd_remote.proofs.remote.Remote.bye.Goals as goal
+
+pub returns-clause-truth : goal.returns-clause-truth
+returns-clause-truth g c = c.ask_for.ensures.truth Bye (always c.encode_bye.result) c.encode_bye.ensures

@@ -1,0 +1,26 @@
+use Rattle.std.proofs.Common.{◌≡◌, ◌∷◌, ◌++◌, [], List, arith, refl, sym, subst, ◌∙◌}
+use Rattle.std.specs.Prelude.{All, Result}
+use Rattle.std.proofs.lemmas.List.Elements.{All-push}
+use Rattle.mvd_dots.specs.declared.refusals.Refusal.{Refusal}
+use Rattle.mvd_wire.specs.declared.reply.Reply.{Reply}
+use Rattle.mvd_remote.specs.LinkWindows.{IsOfKind}
+use Rattle.mvd_remote.proofs.Lined.{due_more_at}
+use Rattle.mvd_remote.proofs.Turns.{turns_more_at}
+use Rattle.mvd_remote.proofs.remote.Remote.take_turns.Goals as goal
+
+pub loop-none-preserved : goal.loop-none-preserved
+loop-none-preserved g c =
+    let before = c.loop-none.invariant in
+    let items : c.push.new.self.items ≡ c.loop-none.replies.items ++ c.in_ok-reply.reply ∷ [] = grind arith in
+    record {
+      read = turns_more_at c.args.kind c.args.nones.now c.loop-none.none-index _ _ c.loop-none.replies.items c.push.new.self.items c.in_ok-reply.reply (g.L.Line.remaining c.args.self.now.line) (g.L.Line.remaining c.loop-none.self.line) (g.L.Line.remaining c.turn.new.self.line) c.loop-none-test.true refl items before.read c.in_ok-reply.ensures.told;
+      of_kind = subst (λ (us : List (Result Reply Refusal)). All (IsOfKind c.args.kind) us) (sym items) (All-push (IsOfKind c.args.kind) c.loop-none.replies.items c.in_ok-reply.reply before.of_kind c.in_ok-reply.ensures.of_kind);
+      goes_on = c.in_ok-reply.ensures.goes_on;
+      unsent = c.turn.ensures.unsent ∙ before.unsent;
+      most = c.turn.ensures.most ∙ before.most;
+      line = λ t. (c.turn.ensures.truth (before.line t)).line;
+      states = λ t. (c.turn.ensures.truth (before.line t)).states ∙ before.states t;
+      due = λ t.
+          due_more_at c.args.nones.now c.loop-none.none-index _ _ c.loop-none.replies.items c.push.new.self.items c.in_ok-reply.reply (g.L.Line.far c.args.self.now.line).due (g.L.Line.far c.loop-none.self.line).due (g.L.Line.far c.turn.new.self.line).due c.loop-none-test.true refl items (before.due t)
+          (c.in_ok-reply.ensures.truth (before.line t)).due;
+    }

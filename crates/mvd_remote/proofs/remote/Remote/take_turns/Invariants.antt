@@ -1,0 +1,18 @@
+use Rattle.std.proofs.Common.{◌≡◌, take}
+use Rattle.std.specs.Prelude.{All, None}
+use Rattle.mvd_remote.specs.LinkWindows.{IsOfKind, TakeTurns}
+use Rattle.mvd_remote.specs.Lines.{DueTurns}
+use Rattle.mvd_remote.proofs.remote.Remote.take_turns.Given as goal
+
+-- the first requests were answered in their turn
+abbrev pub invariant-loop-none : goal.invariant-loop-none
+invariant-loop-none g l = record {
+  read : TakeTurns l.kind (take l.none-index l.nones) l.replies.items (g.L.Line.remaining l.fn.self.line) (g.L.Line.remaining l.self.line);
+  of_kind : All (IsOfKind l.kind) l.replies.items;
+  goes_on : l.self.refused ≡ None;
+  unsent : g.L.Line.contents l.self.line ≡ g.L.Line.contents l.fn.self.line;
+  most : (g.L.Line.far l.self.line).most ≡ (g.L.Line.far l.fn.self.line).most;
+  line : g.L.Line.is_true l.fn.self.line → g.L.Line.is_true l.self.line;
+  states : g.L.Line.is_true l.fn.self.line → (g.L.Line.far l.self.line).states ≡ (g.L.Line.far l.fn.self.line).states;
+  due : g.L.Line.is_true l.fn.self.line → DueTurns (take l.none-index l.nones) l.replies.items (g.L.Line.far l.fn.self.line).due (g.L.Line.far l.self.line).due;
+}

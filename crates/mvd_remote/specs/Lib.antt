@@ -1,0 +1,4 @@
+pub mod Links
+pub mod LinkWindows
+pub mod Lines
+pub mod Remotes

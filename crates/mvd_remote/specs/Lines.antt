@@ -1,0 +1,277 @@
+-- A line to a far side: the frames of requests go out, and those of its replies come in. A true one is what a transport
+-- is that hands on what is written and what is read, where the far side is faithful.
+use Rattle.std.proofs.Common.{refl, ◌∙◌}
+use Rattle.std.specs.Prelude.{◌≡◌, ◌≢◌, ◌⊎◌, ℕ, true, false, List, [], ◌∷◌, ◌++◌, take, Option, Some, None}
+use Rattle.std.specs.Prelude.{IfSome, Result, Ok, Err, IfOk, IfErr}
+use Rattle.mvd_dots.specs.declared.refusals.Refusal.{Refusal}
+use Rattle.mvd_dots.specs.declared.refusals.Refusal.TheVariants.{Broken, Memory}
+use Rattle.mvd_keys.specs.State.{State}
+use Rattle.mvd_keys.specs.Writes.{Key}
+use Rattle.mvd_tree.specs.Page.{is_more_after_page, page_of}
+use Rattle.mvd_wire.specs.declared.frame.Frame.{Frame}
+use Rattle.mvd_wire.specs.declared.request.Request.{Request}
+use Rattle.mvd_wire.specs.declared.request.Request.TheVariants.{Get, Node, Bucket, Push, Bye}
+use Rattle.mvd_wire.specs.declared.reply.Digests.{Digests}
+use Rattle.mvd_wire.specs.declared.reply.Reply.{Reply}
+use Rattle.mvd_wire.specs.declared.reply.Reply.TheVariants.{State as Shown, Done, Digests as Told, Keys, Refused}
+use Rattle.mvd_wire.specs.Frames.{FrameValue, frame_value}
+use Rattle.mvd_wire.specs.Requests.{IsRequest, request_frame}
+use Rattle.mvd_wire.specs.Replies.{reply_of}
+use Rattle.mvd_site.specs.Answer.{digests}
+use Rattle.mvd_site.specs.Held.{States, state_at}
+use Rattle.mvd_peer.specs.Sides.{Stays, is_of_question, stays_on}
+use Rattle.mvd_peer.specs.Windows.{CannotTake, IsNode, PageValue, RefusesPage, Takes, leaves_open}
+use Rattle.mvd_remote.specs.declared.remote.Remote.{Remote}
+
+-- the far end: the key states that it holds once all that went out is answered, the replies that are still to be read,
+-- and how many keys it holds at most
+pub record Far : Type 0 where
+  pub states : States
+  pub due : List Reply
+  pub most : ℕ
+
+-- ---- what a faithful side replies
+
+-- a question was refused, and not for itself alone
+abbrev pub RefusesQuestion : States → Refusal → States → Type 0
+RefusesQuestion old refusal new = (is_of_question refusal ≡ false) × (new ≡ old)
+
+-- a push was refused for its cause, and not taken; or the side broke, and may hold it
+abbrev pub RefusesPush : ℕ → States → Key → State → Refusal → States → Type 0
+RefusesPush most old key state refusal new =
+    (CannotTake most old key state refusal × (new ≡ old)) ⊎ ((refusal ≡ Broken) × Takes old key state new)
+
+-- The reply of a faithful side to a request, from the states that it holds, and those that it holds then. Of requests
+-- that no session makes nothing is said.
+abbrev pub TrueReply : ℕ → States → Request → Reply → States → Type 0
+TrueReply most old (Get key) (Shown state) new = (state ≡ state_at old key) × (new ≡ old)
+TrueReply most old (Get key) (Refused refusal) new = RefusesQuestion old refusal new
+TrueReply most old (Get key) reply new = ⊥
+TrueReply most old (Node path) (Told node) new = IsNode (digests old) path node × (new ≡ old)
+TrueReply most old (Node path) (Refused refusal) new = RefusesQuestion old refusal new
+TrueReply most old (Node path) reply new = ⊥
+TrueReply most old (Bucket path after) (Keys page more) new =
+    (page ≡ page_of (digests old) path after) × (more ≡ is_more_after_page (digests old) path after) × (new ≡ old)
+TrueReply most old (Bucket path after) (Refused refusal) new = RefusesPage path refusal × (new ≡ old)
+TrueReply most old (Bucket path after) reply new = ⊥
+TrueReply most old (Push key state) Done new = Takes old key state new
+TrueReply most old (Push key state) (Refused refusal) new = RefusesPush most old key state refusal new
+TrueReply most old (Push key state) reply new = ⊥
+TrueReply most old Bye reply new = new ≡ old
+TrueReply most old request reply new = Unit {0}
+
+-- so to requests one after the other
+abbrev pub TrueReplies : ℕ → States → List Request → List Reply → States → Type 0
+TrueReplies most old [] [] new = new ≡ old
+TrueReplies most old (q ∷ qs) (r ∷ rs) new =
+    (mid : States) × TrueReply most old q r mid × TrueReplies most mid qs rs new
+TrueReplies most old qs rs new = ⊥
+
+-- ---- what goes out and what comes in
+
+-- the bytes are the frames of these requests
+abbrev pub AreFrames : List Request → List ℕ → Type 0
+AreFrames [] bytes = bytes ≡ []
+AreFrames (q ∷ qs) bytes =
+    (frame : List ℕ) × (rest : List ℕ) × IsRequest q × (request_frame q ≡ Ok frame) × (bytes ≡ frame ++ rest)
+    × AreFrames qs rest
+
+-- all of them are taken, and the replies to them are due after those that were
+pub record TakesAll (old : Far) (requests : List Request) (new : Far) : Type 0 where
+  pub replies : List Reply
+  pub are_true : TrueReplies old.most old.states requests replies new.states
+  pub due : new.due ≡ old.due ++ replies
+
+-- the first of them are taken
+abbrev pub TakesFirst : ℕ → States → List Request → States → Type 0
+TakesFirst most old requests new = (n : ℕ) × (replies : List Reply) × TrueReplies most old (take n requests) replies new
+
+-- frames of requests went out; where that failed, the first of them were taken
+abbrev pub GoesOut : Far → Far → List Request → Result (Unit {0}) Refusal → Type 0
+GoesOut old new requests (Ok done) = TakesAll old requests new
+GoesOut old new requests (Err refusal) = TakesFirst old.most old.states requests new.states
+
+-- what was sent over a line that is true, if these are frames of requests
+abbrev pub SendsTruly : {L : Type 0} → (L → Type 0) → (L → Far) → List ℕ → L → L → Result (Unit {0}) Refusal → Type 0
+SendsTruly is_true far bytes old new result =
+    is_true old → (requests : List Request) → AreFrames requests bytes
+    → is_true new × GoesOut (far old) (far new) requests result
+
+-- where a reply is due, the frame that came spells the first of them
+abbrev pub IsNext : List Reply → List Reply → FrameValue → Type 0
+IsNext [] left frame = Unit {0}
+IsNext (reply ∷ later) left frame = (reply_of frame.kind frame.payload ≡ Ok reply) × (left ≡ later)
+
+-- what came over a line that is true
+abbrev pub ReadsTruly : {L : Type 0} → (L → Type 0) → (L → Far) → L → L → Result (Option Frame) Refusal → Type 0
+ReadsTruly is_true far old new result = is_true old →
+    is_true new × ((far new).states ≡ (far old).states)
+    × IfOk result (λ came. IfSome came (λ frame. IsNext (far old).due (far new).due (frame_value frame)))
+
+-- ---- a remote side
+
+-- its line
+abbrev pub line_of : {L : Type 0} → Remote L → L
+line_of remote = remote.line
+
+-- what its link itself refuses with, once it does
+abbrev pub refused_of : {L : Type 0} → Remote L → Option Refusal
+refused_of remote = remote.refused
+
+-- what is at the other end of its line
+abbrev pub far_of : {L : Type 0} → (L → Far) → Remote L → Far
+far_of far remote = far remote.line
+
+-- the far side holds as many keys at most
+abbrev pub KeepsMost : {L : Type 0} → (L → Far) → Remote L → Remote L → Type 0
+KeepsMost far old new = (far_of far new).most ≡ (far_of far old).most
+
+-- over a true line: no reply is due, unless its link refuses, and then with a refusal that leaves open what was taken
+pub record IsTrueRemote {L : Type 0} (is_true : L → Type 0) (far : L → Far) (remote : Remote L) : Type 0 where
+  pub line : is_true remote.line
+  pub step : remote.refused ≡ None → (far remote.line).due ≡ []
+  pub own : (refusal : Refusal) → remote.refused ≡ Some refusal → leaves_open refusal ≡ true
+
+-- a link that refuses stays as it is, and the far side holds as many keys at most
+abbrev pub RemoteFollows : {L : Type 0} → (L → Far) → Remote L → Remote L → Type 0
+RemoteFollows {L} far old new =
+    Stays (λ (remote : Remote L). (refusal : Refusal) × (remote.refused ≡ Some refusal)) old new
+    × ((far new.line).most ≡ (far old.line).most)
+
+pub remote_follows_self : {L : Type 0} (far : L → Far) (remote : Remote L) → RemoteFollows far remote remote
+remote_follows_self far remote = (λ _. refl, refl)
+
+pub remote_follows_on : {L : Type 0} (far : L → Far) (old mid new : Remote L) → RemoteFollows far old mid
+    → RemoteFollows far mid new → RemoteFollows far old new
+remote_follows_on {L} far old mid new p q = (
+  stays_on (λ (remote : Remote L). (refusal : Refusal) × (remote.refused ≡ Some refusal)) old mid new p.0 q.0,
+  q.1 ∙ p.1,
+)
+
+-- a request was taken, or it was not
+abbrev pub MayTake : ℕ → States → Request → States → Type 0
+MayTake most old request new = (new ≡ old) ⊎ ((reply : Reply) × TrueReply most old request reply new)
+
+-- what a faithful side answers to a request, or why there is no answer: it refuses, or the request has no frame, or it
+-- is left open
+abbrev pub AnswersTruly : {A : Type 0} → (A → Reply) → ℕ → States → Request → Result A Refusal → States → Type 0
+AnswersTruly as_reply most old request (Ok answer) new = TrueReply most old request (as_reply answer) new
+AnswersTruly as_reply most old request (Err refusal) new =
+    TrueReply most old request (Refused refusal) new
+    ⊎ (((request_frame request ≡ Err refusal) × (new ≡ old))
+    ⊎ ((leaves_open refusal ≡ true) × MayTake most old request new))
+
+-- the replies that tell digests, a page, a state, and that it is done
+abbrev pub as_digests : Digests → Reply
+as_digests digests = Told digests
+
+abbrev pub as_page : PageValue → Reply
+as_page page = Keys page.0.items page.1
+
+abbrev pub as_state : State → Reply
+as_state state = Shown state
+
+abbrev pub as_done : Unit {0} → Reply
+as_done _ = Done
+
+-- what is shown of a question: the reply, or the refusal in its place
+abbrev pub shown_reply : Result Reply Refusal → Reply
+shown_reply (Ok reply) = reply
+shown_reply (Err refusal) = Refused refusal
+
+-- what a reply is taken as: what it tells, or that there is no memory for it
+abbrev pub IsTaken : Reply → Result Reply Refusal → Type 0
+IsTaken reply told = (told ≡ Ok reply) ⊎ (told ≡ Err Memory)
+
+-- where a reply is due, the first of them is taken
+abbrev pub TakesDue : List Reply → List Reply → Result Reply Refusal → Type 0
+TakesDue [] left told = Unit {0}
+TakesDue (reply ∷ later) left told = IsTaken reply told × (left ≡ later)
+
+-- what a remote side takes from a true line, unless it breaks
+pub record Took {L : Type 0} (is_true : L → Type 0) (far : L → Far) (old new : Remote L)
+    (told : Result Reply Refusal) : Type 0 where
+  pub line : is_true new.line
+  pub states : (far new.line).states ≡ (far old.line).states
+  pub due : new.refused ≡ None → TakesDue (far old.line).due (far new.line).due told
+  pub own : (refusal : Refusal) → new.refused ≡ Some refusal → leaves_open refusal ≡ true
+
+-- ---- a window
+
+-- in its turn a request takes the next reply due, if it has a frame
+abbrev pub DueTurn : Option Refusal → List Reply → List Reply → Result Reply Refusal → Type 0
+DueTurn None due left told = TakesDue due left told
+DueTurn (Some refusal) due left told = (told ≡ Err refusal) × (left ≡ due)
+
+-- each in its turn, as long as replies are due
+abbrev pub DueTurns : List (Option Refusal) → List (Result Reply Refusal) → List Reply → List Reply → Type 0
+DueTurns [] [] due left = left ≡ due
+DueTurns (None ∷ nones) (told ∷ replies) [] left = Unit {0}
+DueTurns (None ∷ nones) (told ∷ replies) (reply ∷ later) left = IsTaken reply told × DueTurns nones replies later left
+DueTurns (Some refusal ∷ nones) (told ∷ replies) due left = (told ≡ Err refusal) × DueTurns nones replies due left
+DueTurns nones replies due left = ⊥
+
+-- turns were taken over a true line, or the link broke
+pub record TookTurns {L V : Type 0} (is_true : L → Type 0) (far : L → Far) (Due : List Reply → List Reply → V → Type 0)
+    (old new : Remote L) (result : Result V Refusal) : Type 0 where
+  pub line : is_true new.line
+  pub states : (far new.line).states ≡ (far old.line).states
+  pub due : IfOk result (Due (far old.line).due (far new.line).due)
+  pub unsure : IfErr result (λ refusal. leaves_open refusal ≡ true)
+
+-- what is spelled by a frame
+abbrev pub IsSpelled : Request → Type 0
+IsSpelled request = IfOk (request_frame request) (λ _. IsRequest request)
+
+abbrev pub AreSpelled : List Request → Type 0
+AreSpelled [] = Unit {0}
+AreSpelled (q ∷ qs) = IsSpelled q × AreSpelled qs
+
+-- what a request was told in its turn: the reply, or why it has no frame, or that there is no memory for the reply
+abbrev pub ToldTruly : ℕ → States → Request → Result Reply Refusal → States → Type 0
+ToldTruly most old request (Ok reply) new = TrueReply most old request reply new
+ToldTruly most old request (Err refusal) new =
+    ((request_frame request ≡ Err refusal) × (new ≡ old))
+    ⊎ ((refusal ≡ Memory) × ((reply : Reply) × TrueReply most old request reply new))
+
+abbrev pub AllToldTruly : ℕ → States → List Request → List (Result Reply Refusal) → States → Type 0
+AllToldTruly most old [] [] new = new ≡ old
+AllToldTruly most old (q ∷ qs) (t ∷ ts) new =
+    (mid : States) × ToldTruly most old q t mid × AllToldTruly most mid qs ts new
+AllToldTruly most old qs ts new = ⊥
+
+-- those requests that have a frame
+abbrev pub and_framed : Request → Result (List ℕ) Refusal → List Request → List Request
+and_framed q (Ok frame) qs = q ∷ qs
+and_framed q (Err refusal) qs = qs
+
+abbrev pub framed : List Request → List Request
+framed [] = []
+framed (q ∷ qs) = and_framed q (request_frame q) (framed qs)
+
+-- one answer of a window that was answered; nothing is left open
+abbrev pub SettlesTruly : {A : Type 0} → (A → Reply) → ℕ → States → Request → Result A Refusal → States → Type 0
+SettlesTruly as_reply most old request (Ok answer) new = TrueReply most old request (as_reply answer) new
+SettlesTruly as_reply most old request (Err refusal) new =
+    ((refusal ≢ Broken) × TrueReply most old request (Refused refusal) new)
+    ⊎ ((request_frame request ≡ Err refusal) × (new ≡ old))
+
+abbrev pub SettleTruly : {A : Type 0} → (A → Reply) → ℕ → States → List Request → List (Result A Refusal) → States
+    → Type 0
+SettleTruly as_reply most old [] [] new = new ≡ old
+SettleTruly as_reply most old (q ∷ qs) (t ∷ ts) new =
+    (mid : States) × SettlesTruly as_reply most old q t mid × SettleTruly as_reply most mid qs ts new
+SettleTruly as_reply most old qs ts new = ⊥
+
+-- a window went out, and what was told in each turn is true
+abbrev pub TellsAllTruly : ℕ → States → List Request → List (Result Reply Refusal) → States → Type 0
+TellsAllTruly most old requests replies new =
+    AllToldTruly most old requests replies new × TakesFirst most old (framed requests) new
+
+-- a window was refused, and of its requests the first were taken
+abbrev pub EndsOpen : ℕ → States → List Request → Refusal → States → Type 0
+EndsOpen most old requests refusal new = (leaves_open refusal ≡ true) × TakesFirst most old (framed requests) new
+
+-- a reply was taken for what it tells, and the answer leaves nothing open
+abbrev pub IsSettled : {A : Type 0} → Result Reply Refusal → Result A Refusal → Type 0
+IsSettled reply answer = (reply ≢ Err Memory) × (answer ≢ Err Broken)

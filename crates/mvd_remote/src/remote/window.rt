@@ -1,0 +1,172 @@
+//! Many questions over a link: all frames out, then all replies in.
+ghost use Rattle.std.specs.Prelude.{◌≡◌, ◌≢◌, Err, List, ℕ, Result as Spelled, [], None, Some, OnOk, IfOk};
+ghost use Rattle.std.specs.Prelude.{IfErr, MatchResult, All};
+ghost use Rattle.mvd_dots.specs.declared.refusals.Refusal.TheVariants.{Memory};
+ghost use Rattle.mvd_wire.specs.Codec.{Gives};
+ghost use Rattle.mvd_remote.specs.LinkWindows.{Answered, AsksAll, IsOfKind, RefusesAll, TakesTurn, TakeTurns, TurnBreaks};
+ghost use Rattle.mvd_remote.specs.LinkWindows.{and_frame, frames_of};
+ghost use Rattle.mvd_remote.specs.Lines.{AreSpelled, DueTurn, DueTurns, KeepsMost};
+ghost use Rattle.mvd_remote.specs.Lines.{TellsAllTruly, TookTurns, line_of, refused_of};
+ghost use Rattle.mvd_remote.specs.Links.{ReadCause};
+ghost use Rattle.mvd_remote.specs.Remotes.{AsksAllTruly, EndsTruly, link_of, queries};
+ghost use Rattle.mvd_wire.specs.declared.request.Request.{Request};
+ghost use Rattle.mvd_dots.specs.declared.refusals.Refusal.{Refusal as Cause};
+
+use super::Remote;
+use super::answer::{Answer, answers};
+use crate::line::Line;
+use mvd_dots::Refusal;
+use mvd_peer::room_for;
+use mvd_wire::Reply;
+use std::alloc::Global;
+use std::marker::Model;
+
+/// The frames of a window.
+#[derive(Drop)]
+pub struct Window {
+    frames: Vec<u8>,
+    // For each request why it has no frame, if it has none.
+    nones: Vec<Option<Refusal>>,
+}
+
+impl Model for Window {
+    ghost use Rattle.std.specs.Prelude.{List, ℕ, Option};
+    ghost use Rattle.mvd_dots.specs.declared.refusals.Refusal.{Refusal as Cause};
+
+    ghost Value = { List ℕ × List (Option Cause) };
+
+    ghost view = { λ a. (a.frames.items, a.nones.items) };
+}
+
+impl Window {
+    /// A window of no request yet, and of so many soon.
+    pub fn new(alloc: Global, count: usize) -> Result<Self, Refusal>
+        ensures none { IfOk result (λ window. window ≡ ([], [])) }
+        ensures memory { IfErr result (λ refusal. refusal ≡ Memory) }
+    {
+        let frames = Vec::new(alloc);
+        let nones = Vec::with_capacity(alloc, count)?;
+        Ok(Window { frames, nones })
+    }
+
+    /// Adds the frame of a request, or why it has none; want of memory ends the window before anything is sent.
+    pub fn add(&mut self, frame: Result<Vec<u8>, Refusal>) -> Result<(), Refusal>
+        ensures added { (spelled : Spelled (List ℕ) Cause) → Gives (λ v. v.items) frame spelled →
+            OnOk result (self.new ≡ and_frame self.old spelled) }
+        ensures some { OnOk result (frame ≢ Err Memory) }
+        ensures memory { IfErr result (λ refusal. refusal ≡ Memory) }
+    {
+        match frame {
+            Ok(frame) => {
+                self.frames.extend_from_slice(&frame)?;
+                self.nones.push(None)?;
+            }
+            Err(Refusal::Memory) => return Err(Refusal::Memory),
+            Err(refusal) => self.nones.push(Some(refusal))?,
+        }
+        Ok(())
+    }
+}
+
+impl<L: Line> Remote<L> {
+    /// Answers a request in its turn: by the next reply, or by the refusal of its encoding.
+    fn turn(&mut self, none: Option<Refusal>, kind: u8) -> Result<Result<Reply, Refusal>, Refusal>
+        requires { refused_of self.old ≡ None }
+        ensures told { IfOk result
+            (λ told. TakesTurn kind none told (L.remaining (line_of self.old)) (L.remaining (line_of self.new))) }
+        ensures of_kind { IfOk result (IsOfKind kind) }
+        ensures goes_on { OnOk result (refused_of self.new ≡ None) }
+        ensures broke { IfErr result (λ refusal. ReadCause
+            (L.remaining (line_of self.old)) (L.remaining (line_of self.new))
+            kind refusal × (refused_of self.new ≡ Some refusal)) }
+        ensures unsent { L.contents (line_of self.new) ≡ L.contents (line_of self.old) }
+        ensures most { KeepsMost L.far self.old self.new }
+        ensures truth { L.is_true (line_of self.old) →
+            TookTurns L.is_true L.far (DueTurn none) self.old self.new result }
+    {
+        if let Some(refusal) = none {
+            return Ok(Err(refusal));
+        }
+        let reply = self.read(kind);
+        match self.refused {
+            Some(refusal) => Err(refusal),
+            None => Ok(reply),
+        }
+    }
+
+    /// Answers each request in its turn, also after one was refused.
+    fn take_turns(
+        &mut self,
+        nones: &[Option<Refusal>],
+        kind: u8,
+        replies: &mut Vec<Result<Reply, Refusal>>,
+    ) -> Result<(), Refusal>
+        requires goes_on { refused_of self.old ≡ None }
+        requires empty { replies.old.items ≡ [] }
+        ensures came { OnOk result
+            (TakeTurns kind nones.now replies.new.items
+            (L.remaining (line_of self.old)) (L.remaining (line_of self.new))) }
+        ensures of_kind { OnOk result (All (IsOfKind kind) replies.new.items) }
+        ensures goes_on { OnOk result (refused_of self.new ≡ None) }
+        ensures broke { IfErr result
+            (λ refusal. TurnBreaks kind nones.now
+            (L.remaining (line_of self.old)) (L.remaining (line_of self.new)) refusal
+            × (refused_of self.new ≡ Some refusal)) }
+        ensures unsent { L.contents (line_of self.new) ≡ L.contents (line_of self.old) }
+        ensures most { KeepsMost L.far self.old self.new }
+        ensures truth { L.is_true (line_of self.old) → TookTurns L.is_true L.far
+            (λ due left _. DueTurns nones.now replies.new.items due left) self.old self.new result }
+    {
+        for none in nones {
+            let reply = self.turn(*none, kind)?;
+            if replies.push(reply).is_err() {
+                return Err(self.breaks(Refusal::Memory));
+            }
+        }
+        Ok(())
+    }
+
+    /// Writes all frames of a window, and then answers each request in its turn.
+    fn send_all(
+        &mut self,
+        window: &Window,
+        kind: u8,
+    ) -> Result<Vec<Result<Reply, Refusal>>, Refusal>
+        requires { refused_of self.old ≡ None }
+        ensures sent { MatchResult result
+            (λ replies. Answered kind window.now replies.items (link_of L.Line self.old) (link_of L.Line self.new))
+            (RefusesAll kind window.now (link_of L.Line self.old) (link_of L.Line self.new)) }
+        ensures of_kind { IfOk result (λ replies. All (IsOfKind kind) replies.items) }
+        ensures most { KeepsMost L.far self.old self.new }
+        ensures truth { (requests : List Request) → window.now ≡ frames_of requests → AreSpelled requests →
+            EndsTruly L.Line (λ most before told. TellsAllTruly most before requests told.items)
+            requests self.old self.new result }
+    {
+        let mut replies = room_for(self.alloc, window.nones.len())?;
+        if let Err(refusal) = self.line.send(&window.frames) {
+            return Err(self.breaks(refusal));
+        }
+        match self.take_turns(&window.nones, kind, &mut replies) {
+            Ok(()) => Ok(replies),
+            Err(refusal) => Err(refusal),
+        }
+    }
+
+    /// Asks all questions of a window.
+    pub(super) fn ask_all<A: Answer>(
+        &mut self,
+        window: &Window,
+    ) -> Result<Vec<Result<A, Refusal>>, Refusal>
+        requires { refused_of self.old ≡ None }
+        ensures asked { MatchResult result
+            (λ told. AsksAll A.as_reply A.of_kind window.now told.items
+            (link_of L.Line self.old) (link_of L.Line self.new))
+            (RefusesAll A.of_kind window.now (link_of L.Line self.old) (link_of L.Line self.new)) }
+        ensures most { KeepsMost L.far self.old self.new }
+        ensures truth { (requests : List Request) → window.now ≡ frames_of requests → AreSpelled requests →
+            AsksAllTruly L.Line (queries requests A.as_reply A.of_kind) self.old self.new result }
+    {
+        let replies = self.send_all(window, A::kind())?;
+        answers(self.alloc, replies)
+    }
+}

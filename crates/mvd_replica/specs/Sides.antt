@@ -50,7 +50,7 @@ IsPush request = (key : Key) × (pushed : Keyed) × (request ≡ Push key pushed
 abbrev pub ArePushes : List Request → Type 0
 ArePushes = AllByRecursion IsPush
 
--- the records hold what a broken site had, with the changes of pushes put in, those of one commit
+-- the records hold what a broken site had, with the changes of some pushes put in, of which the first changed a state
 pub record HoldsPushed (site : SiteValue) (db : Database) : Type 0 where
   pub request : Request
   pub changes : after_from site.config site.states request ≢ site.states

@@ -120,8 +120,8 @@ AreUndoneIn [] (request ∷ requests) = ⊥
 AreUndoneIn (turn ∷ turns) (request ∷ requests) =
     (IsToldUndone request turn × AreUndoneIn turns requests) ⊎ AreUndoneIn turns (request ∷ requests)
 
--- What a stop leaves of a stored site after these turns: all that they were told done, and of what they were refused with 21 or 22
--- nothing, or what a commit was to change
+-- What a stop leaves of a stored site after these turns: all that they were told done, and what at most some of the requests were to
+-- change that were refused with 21 or 22
 abbrev pub LeavesTurns : List Turn → StoredSite → StoredSite → Type 0
 LeavesTurns turns old new = LeavesWhole (AreUndoneIn turns) old new
 

@@ -42,7 +42,7 @@ pub record LeavesDone (AreUndone : List Request → Type 0) (stored : StoredSite
 -- fails from there on.
 pub record LeavesWhole (AreUndone : List Request → Type 0) (old new : StoredSite) : Type 0 where
   pub fits : AreSpelled old.site.states → AreSpelled new.site.states
-  -- of a site that was at rest: its states, with all that was done, and of what was refused so nothing, or what a commit was to change
+  -- of a site that was at rest: its states, with all that was done, and what at most some refused requests were to change
   pub leaves : HasCleanDisk new.store → IsAtRest old → (trees : Trees) → new.store.may_leave trees → LeavesDone AreUndone new trees
   -- of a broken site, and of a store that was shut, nothing new
   pub still : HasCleanDisk new.store → (old.site.broken ≡ true) ⊎ (old.store.is_open ≡ false) → (trees : Trees) →

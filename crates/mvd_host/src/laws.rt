@@ -8,7 +8,7 @@ ghost use Rattle.sqlite.specs.Held.{Held, state};
 
 use sqlite::Alter;
 
-/// From a host without clients on, the turns of all rounds are those of one replica, one after the other. What each client asked
+/// From a new host on, the turns of all rounds are those of one replica, one after the other. What each client asked
 /// and was told are its own turns of that list, in order. That holds whatever comes between the rounds, and of a client that went
 /// it holds as it was when it went.
 pub fn rounds_are_one_list<S: Alter>()

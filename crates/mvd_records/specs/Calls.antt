@@ -31,15 +31,16 @@ OfHeld old new P = (was : Contents) → IsSound new → Holds old.committed was 
 abbrev pub SameCommit : State → State → Type 0
 SameCommit old new = new.committed ≡ old.committed
 
--- the store was open, and the trees are those of a database in which what was held is changed so, and which lists its
--- schema and obeys it
+-- the store was open, and, if it held records of ours, the trees are those of a database in which what was held is
+-- changed so, and which lists its schema and obeys it
 abbrev pub LeavesChange : (Contents → Contents → Type 0) → State → Trees → Type 0
 LeavesChange Change s trees = IsTrue s.is_open × ((was : Contents) → Holds s.committed was →
     (now : Contents) × Change was now × (db : Database) × IsDatabase db × Holds db now × (trees ≡ db.trees))
 
--- A change of what is held: Ok makes it. A crash leaves what it could leave before the call, or the change, all of it;
--- also after an error, since the store may fail once the change is on its disk. Of a store that was shut it leaves
--- nothing new
+-- A change of what is held: Ok makes it. On a clean disk a crash leaves what it could leave before the call, or the
+-- change, all of it; also after an error, since the store may fail once the change is on its disk. Of a store that was
+-- shut it leaves nothing new. After Ok it leaves the change alone, since a store that is open leaves its last commit
+-- (`settled` of the kit's trait `Store`)
 pub record Commits {A : Type 0} (Change : Contents → Contents → Type 0) (old : State) (result : Result A Refusal)
     (new : State) : Type 0 where
   pub before : IsSound new → IsSound old
@@ -117,7 +118,7 @@ pub record IsOpened (store : State) (site : ℕ) (records : Seen) : Type 0 where
 
 pub record IsRefused (store : State) (site : ℕ) (e : Refusal) (after : State) : Type 0 where
   pub before : IsSound after → IsSound store
-  -- 16, 17 or 21: 17 where the marks are none of ours, 16 where they are another site's
+  -- 16, 17 or 21; of a database of ours `told` says why it is 16 or 17
   pub refusal : IsOpenRefusal e
   pub told : IsSound after → IsOurs store.committed → TellsVersion (marks_of store.committed) site (Err e)
   pub unchanged : IsSound after → SameCommit store after

@@ -50,8 +50,8 @@ AreAmong [] turns = ⊤
 AreAmong (request ∷ requests) [] = ⊥
 AreAmong (request ∷ requests) (turn ∷ turns) = (IsToldBroken request turn × AreAmong requests turns) ⊎ AreAmong (request ∷ requests) turns
 
--- What a site that turns broke has lost: what the first request changes that was told 22, and what some of the later ones change,
--- those of the same commit
+-- What a site that turns broke has lost: what the first request changes that was told 22, and what some of the later ones change
+-- that were told so
 pub record Loses (turns : List Turn) (site : SiteValue) : Type 0 where
   pub before : List Turn
   pub broke : Turn
@@ -74,8 +74,8 @@ pub record HoldsLost (turns : List Turn) (site : SiteValue) (db : Database) : Ty
   pub holds : HoldsStates site.config.site (after_all site.config site.states (lost_requests lost)) db
 
 -- What turns do to a replica. It keeps its configuration, and once broken all of its site. If the store is sound now it was, and
--- if it held the site it does; once the site is broken the store stays as it is, and if that came by these turns it holds what the
--- commit in hand was to change as well. A store that was shut takes no change. A stop leaves whole turns.
+-- if it held the site it does; once the site is broken the store stays as it is, and if that came by these turns it holds what
+-- was lost as well. A store that was shut takes no change. A stop leaves whole turns.
 pub record TurnsFollow (turns : List Turn) (old new : StoredSite) : Type 0 where
   pub site : SiteFollows old.site new.site
   pub sound : IsSound new.store → IsSound old.store

@@ -1,6 +1,6 @@
 -- What opening a file as a site does, and what closing it does.
 use Rattle.std.specs.Prelude.{◌≡◌, false, ℕ, Result, IfErr, IfOk, IsTrue}
-use Rattle.mvd_records.specs.Records.{IsSound}
+use Rattle.mvd_records.specs.Records.{IsOurs, IsSound}
 use Rattle.mvd_site.specs.Config.{ConfigValue}
 use Rattle.mvd_site.specs.Held.{States}
 use Rattle.sqlite_disk.specs.declared.Disk.{Ghosts}
@@ -19,7 +19,7 @@ use Rattle.sqlite.specs.Tree.{Trees}
 use Rattle.sqlite.specs.WalReads.{AreClean}
 use Rattle.mvd_replica.specs.declared.file.FileFault.{FileFault}
 use Rattle.mvd_replica.specs.declared.replica.Replica.{Replica}
-use Rattle.mvd_replica.specs.File.{ClosesFile, HoldsFile, OpensFile}
+use Rattle.mvd_replica.specs.File.{ClosesFile, IsFoundIn, OpensFile}
 use Rattle.mvd_replica.specs.Kept.{HoldsSite, HoldsStates}
 use Rattle.mvd_replica.specs.Refused.{FailsFile}
 use Rattle.mvd_replica.specs.Replicas.{conn_of, site_of, stored_of}
@@ -47,9 +47,9 @@ module _ {D : Type 0} {g : Ghosts D} {f : store.Ghosts (FileStore D g)} where
         OpensFile image config (site_of replica) (file_database replica))
     -- and no failure has shut the store, where the disk has returned what was written
     pub is_open : IfOk result (λ replica. HasCleanDisk (file_of replica) → IsTrue (file_of replica).is_open)
-    -- then a stop leaves the states of a site that the file held
-    pub rests : IfOk result (λ replica. HasCleanDisk (file_of replica) → (number : ℕ) (states : States) →
-        HoldsFile image number states → IsAtRest (stored_of replica))
+    -- then, of new files and of files of ours in either version, a stop leaves the site's states
+    pub rests : IfOk result (λ replica. HasCleanDisk (file_of replica) →
+        (was : Database) × IsFoundIn image was × (IsOurs was → IsAtRest (stored_of replica)))
     -- a refusal has its cause in what the file and its log hold, in the disk, in want of memory, or in a program that has the
     -- file open
     pub refused : IfErr result (FailsFile image config)
@@ -82,7 +82,7 @@ module _ {D : Type 0} {g : Ghosts D} {f : store.Ghosts (FileStore D g)} where
   -- the files, or a refusal with the store
   pub record Closes (replica : Replica (FileStore D g) f) (result : Result (Files D) (Error × FileStore D g))
       : Type 0 where
-    -- Ok: the states are in both files
+    -- Ok: the file with its log, and the file alone, hold what the records held
     pub closed : IfOk result (ClosesInto replica)
-    -- a refusal harms no state
+    -- a refusal leaves no more than a crash could leave before the call
     pub failed : IfErr result (FailsClosing replica)

@@ -22,8 +22,8 @@ pub record OpensSite (config : ConfigValue) (was : Database) (site : SiteValue) 
   pub states : SameStates was now
 
 -- Why ours is not opened: 16 where the marks are another site's, 17 where the records are damaged, 10 where they hold too many
--- keys. 20 and 21 need no cause. The states stay; the records are as they were, or a part of the old keys is moved, and the next
--- open finds what this one did.
+-- keys. 20 and 21 need no cause. The states stay; the records are as they were, or they were made the site's and some old keys
+-- moved, and the next open finds what this one did.
 pub record RefusesSite (config : ConfigValue) (was : Database) (e : Refusal) (now : Database) : Type 0 where
   pub states : SameStates was now
   pub mismatch : e ≡ SiteMismatch → TellsVersion (marks_of was) config.site (Err SiteMismatch)

@@ -45,7 +45,7 @@ pub record HoldsMore {D : Type 0} (g : Ghosts D) (site : ℕ) (known : List Writ
   pub seen : HoldsAlone (image_of g files) site states
   pub left : (image : Image) → outcomes g files.log files.db image → HoldsAlone image site states
 
--- A PROGRAM'S RUN on a file loses no write. This database was found in the files, the empty one where they held none yet
+-- A PROGRAM'S RUN on a file loses no write that the file held. This database was found in the files, the empty one where they held none yet
 pub record KeepsFile {D : Type 0} (g : Ghosts D) (image : Image) (site : ℕ) (files : Files D) : Type 0 where
   pub was : Database
   pub found : IsFoundIn image was

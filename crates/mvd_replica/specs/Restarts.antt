@@ -69,8 +69,8 @@ AddAll config known (request ∷ requests) added =
     (first rest : List Write) × (added ≡ first ++ rest) × Adds request (answer config known request) first × AddAll config (known ++ first) requests rest
 
 -- In each run every reply is one that may be given from the writes known then, those of all runs before among them; and the last
--- file holds states that stand for all that is known. A run in which the site broke has stored what was lost: the changes of the
--- commit in hand, whose requests were told 22. Their writes are known to the runs after it.
+-- file holds states that stand for all that is known. A run in which the site broke has stored what was lost: the change of the
+-- first request that was told 22, and those of some later ones. Their writes are known to the runs after it.
 abbrev pub AllAnswered : {C : Type 0} → (C → State) → ℕ → List Write → Image → List (Run C) → Type 0
 AllAnswered f site known image [] = (states : States) × HoldsFile image site states × Stands states known
 AllAnswered f site known image (run ∷ runs) = (events : List Event) → TellsTurns events run.turns →

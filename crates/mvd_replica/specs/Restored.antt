@@ -93,7 +93,7 @@ module _ {S : Type 0} (g : Ghosts S) where
   abbrev pub LoadsFull : ConfigValue → RecordsValue S → Result SiteValue Refusal → RecordsValue S → Type 0
   LoadsFull config old result new = OfAny old new (λ db. IfErr result (λ e. e ≡ Full → HoldsTooMany config.max_keys db × InOrder 2 db))
 
-  -- 17 just where they are not in order
+  -- Ok only where they are in order, 17 only where they are not
   abbrev pub LoadsOrder : RecordsValue S → Result SiteValue Refusal → RecordsValue S → Type 0
   LoadsOrder old result new = OfAny old new (TellsOrder result 2)
 
@@ -135,7 +135,7 @@ module _ {S : Type 0} (g : Ghosts S) where
   FindsFull config old result new =
       OfTold old new (λ was now. IfErr result (λ e. e ≡ Full → HoldsTooMany config.max_keys now × InOrder old.version was))
 
-  -- 17 just where they were not in order
+  -- Ok only where they were in order, 17 only where they were not
   abbrev pub FindsOrder : RecordsValue S → Result SiteValue Refusal → RecordsValue S → Type 0
   FindsOrder old result new = OfTold old new (λ was _. TellsOrder result old.version was)
 

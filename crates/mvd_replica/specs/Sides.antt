@@ -131,7 +131,7 @@ pub record SideFollows (old new : StoredSite) : Type 0 where
   pub site : SiteFollows old.site new.site
   pub store : StoreFollows HoldsPushed old new
   pub comes : ComesByPushes (λ _ _. Unit {0}) old.site.states new.site.states
-  -- a stop leaves all that was taken, and of the pushes that were refused nothing, or what a commit was to change
+  -- a stop leaves all that was taken, and of the pushes that were refused nothing, or what some of them were to change
   pub leaves : LeavesWhole ArePushes old new
 
 pub side_follows_self : (stored : StoredSite) → SideFollows stored stored

@@ -34,7 +34,7 @@ impl<S: Alter> Endpoint for Replica<S> {
 }
 
 impl<S: Alter> Replica<S> {
-    /// Writes a document in place of the documents that were seen, and gives its dot. Once this returns, it is stored.
+    /// Writes a document in place of the documents that were seen, and gives its dot. After Ok it is stored, where the store is sound.
     pub fn put(&mut self, key: Key, seen: Context, document: Document) -> Result<Dot, Refusal>
         ensures { Answers self.old (Put key seen document) (put_reply result) self.new }
     {
@@ -44,7 +44,7 @@ impl<S: Alter> Replica<S> {
         dot_in(reply)
     }
 
-    /// Removes the documents that were seen. Once this returns, that is stored.
+    /// Removes the documents that were seen. After Ok that is stored, where the store is sound.
     pub fn delete(&mut self, key: Key, seen: Context) -> Result<(), Refusal>
         ensures { Answers self.old (Delete key seen) (push_reply result) self.new }
     {

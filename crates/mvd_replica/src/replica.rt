@@ -19,7 +19,7 @@ use mvd_wire::{Digests, Reply, Request};
 use sqlite::{Alter, Connection};
 use std::alloc::Global;
 
-/// A site, and its records: unless the site is broken, they hold its states.
+/// A site, and its records. They hold its states as long as the store is sound and the site is not broken.
 #[derive(Drop)]
 pub struct Replica<S: Alter> {
     pub(crate) alloc: Global,

@@ -14,7 +14,8 @@ pub enum Side {
 /// Why a session ended, and by which side.
 #[derive(Clone, Copy, Debug, PartialEq, Eq, Drop, Error)]
 pub enum SyncFault {
-    /// The local side refused, or memory was refused to the session itself.
+    /// The local side refused; or it is no side of this kind (33), or as many questions were asked of it as
+    /// may be (36), or memory was refused for a question to it or to the session itself.
     #[error("fault {0} at this side")]
     Local(Refusal),
     /// The peer refused; or it is no side of this kind (33), or as many questions were asked of it as

@@ -1,10 +1,8 @@
-use Rattle.std.proofs.Common.{List, ℕ, ap₂, cond, subst, sym, Bool}
+use Rattle.std.proofs.Common.{List, ℕ, ap₂, cond, Bool}
 use Rattle.std.proofs.lemmas.Option.{IfSome_then}
 use Rattle.mvd_records.specs.Records.{IsSound}
 use Rattle.sqlite_disk.specs.Events.{Event, replay}
 use Rattle.sqlite.specs.Recovery.{Image}
-use Rattle.mvd_replica.specs.Kept.{HoldsStates}
-use Rattle.mvd_replica.proofs.Follows.{ours_held}
 use Rattle.mvd_replica.proofs.Files.{fails_opening, found_in, just_held}
 use Rattle.mvd_replica.proofs.file.open_file.Goals as goal
 
@@ -32,11 +30,10 @@ returns-in-Ok-open g c =
             own = λ foreign. it.own (record { foreign = foreign; autocommit = c.in-Ok.ensures.fresh.autocommit; is_open = was.is_open });
             just = just_held _ _ _ _ _ found (it.opened sound);
           });
-      rests = λ clean number states file. (
+      rests = λ clean. (
           let sound : IsSound _ = record { clean = clean; is_open = it.is_open clean } in
           let was = it.before sound in
-          let found = found_in _ _ (c.in-Ok.ensures.found was.clean) ((c.in-Ok.ensures.opened was.clean).1 was.is_open).1 in
-          it.rests sound (ours_held number states _ (subst (HoldsStates number states) (sym (found.holds file.db file.held)) file.holds)));
+          (_, found_in _ _ (c.in-Ok.ensures.found was.clean) ((c.in-Ok.ensures.opened was.clean).1 was.is_open).1, it.rests sound));
       refused = tt;
     }
 

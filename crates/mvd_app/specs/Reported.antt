@@ -2,8 +2,7 @@
 use Rattle.std.specs.Prelude.{ℕ, ◌≡◌, ◌⊎◌, List, [], ◌∷◌, ◌++◌, codes, nat_lt, if◌then◌else◌, Option, None, Some, Result, Ok, Err}
 use Rattle.std.specs.Fmt.{decimal}
 use Rattle.std.specs.Io.KnownBytes.{Appends}
-use Rattle.hex.specs.Hex.{encode_lower}
-use Rattle.mvd_print.specs.Text.{keys_text}
+use Rattle.mvd_print.specs.Text.{keys_text, root_text}
 use Rattle.mvd_site.specs.Answer.{digests, node_digests}
 use Rattle.mvd_site.specs.Held.{States}
 use Rattle.mvd_input.specs.declared.fault.Fault.{Fault}
@@ -14,8 +13,8 @@ use Rattle.mvd_app.specs.declared.hint.Hint.TheVariants as Hint
 use Rattle.mvd_app.specs.declared.hint.Stop.{Stop}
 
 -- the digest of all that is held
-abbrev pub root_text : States → List ℕ
-root_text states = codes "root " ++ encode_lower (node_digests (digests states) []).own ++ codes "\n"
+abbrev pub root_of : States → List ℕ
+root_of states = (node_digests (digests states) []).own
 
 -- how many keys were refused, where some were
 abbrev pub refused_text : ℕ → List ℕ
@@ -23,7 +22,7 @@ refused_text count = if nat_lt 0 count then codes "refused " ++ decimal count ++
 
 -- how many keys a session exchanged and refused, and the digest of all that the site holds then
 abbrev pub session_text : Report → States → List ℕ
-session_text report states = keys_text report.keys ++ (refused_text report.refused ++ root_text states)
+session_text report states = keys_text report.keys ++ (refused_text report.refused ++ root_text (root_of states))
 
 -- the first of these keys was refused so
 abbrev pub IsOfFirst : List Left → Fault → Type 0

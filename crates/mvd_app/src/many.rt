@@ -10,12 +10,12 @@ mod talks;
 mod timers;
 
 use crate::hint::Stop;
-use crate::peer_commands::print_root;
 use crowd::Crowd;
 use door::{Door, FRAMES, HTTP};
 use mio::{Events, Poll};
 use mvd_dots::Refusal;
 use mvd_input::Fault;
+use mvd_print::print_root;
 use mvd_replica::Replica;
 use mvd_script::tell;
 use sqlite::Alter;
@@ -274,8 +274,9 @@ fn tell_root<S: Alter + Drop, W: Write>(
     replica: &Replica<S>,
     writer: &mut W,
 ) -> Result<(), Fault> {
+    let root = replica.root()?;
     let mut line = String::new(alloc);
-    print_root(alloc, replica, &mut line)?;
+    print_root(alloc, root, &mut line)?;
     tell(writer, &mut line)
 }
 

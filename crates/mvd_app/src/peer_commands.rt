@@ -1,10 +1,11 @@
 //! The commands on a stored site that meet a peer.
 ghost use Rattle.std.specs.Prelude.{◌≡◌, ◌≢◌, ◌++◌, [], IsErr, OnOk, string_bytes};
 ghost use Rattle.std.specs.Io.KnownBytes.{Appends};
-ghost use Rattle.mvd_app.specs.Reported.{Reports, refused_text, root_text, session_text};
+ghost use Rattle.mvd_app.specs.Reported.{Reports, refused_text, root_of, session_text};
 ghost use Rattle.mvd_app.specs.Stored.{FollowsPushed};
 ghost use Rattle.mvd_app.specs.Synced.{MeetsFar};
 ghost use Rattle.mvd_app.specs.Talked.{ShellsOver};
+ghost use Rattle.mvd_print.specs.Text.{root_text};
 ghost use Rattle.mvd_replica.specs.Replicas.{site_of};
 ghost use Rattle.mvd_replica.specs.Sides.{IsTrueSite};
 ghost use Rattle.mvd_script.specs.Shell.{at};
@@ -17,7 +18,7 @@ use crate::progress::Watched;
 use mvd_dots::Refusal;
 use mvd_input::Fault;
 use mvd_keys::Path;
-use mvd_print::print_keys;
+use mvd_print::{print_keys, print_root};
 use mvd_replica::Replica;
 use mvd_script::{shell_run, tell};
 use mvd_sync::{Left, Line, Remote, Report, Side, SyncFault, sync};
@@ -140,7 +141,7 @@ fn tell_counts<S: Alter + Drop, W: Write>(
     let mut lines = String::new(alloc);
     print_keys(report.keys, &mut lines)?;
     print_refused(report.refused, &mut lines)?;
-    print_root(alloc, replica, &mut lines)?;
+    add_root(alloc, replica, &mut lines)?;
     tell(writer, &mut lines)
 }
 
@@ -169,18 +170,17 @@ fn tell_left<E: Write>(left: &Left, errors: &mut E) {
 }
 
 /// Adds a line with the root digest.
-pub fn print_root<S: Alter + Drop>(
+fn add_root<S: Alter + Drop>(
     alloc: Global,
     replica: &Replica<S>,
-    line: &mut String,
+    lines: &mut String,
 ) -> Result<(), Refusal>
-    ensures { OnOk result (string_bytes line.new ≡ string_bytes line.old ++ root_text (site_of replica.now).states) }
+    ensures { OnOk result (string_bytes lines.new ≡
+        string_bytes lines.old ++ root_text (root_of (site_of replica.now).states)) }
 {
     let path = Path::new(alloc, &[])?;
     let digests = replica.node(&path)?;
-    let root = hex::encode(alloc, digests.own)?;
-    writeln!(line, "root {root}")?;
-    Ok(())
+    Ok(print_root(alloc, digests.own, lines)?)
 }
 
 /// Answers the lines through the server at an address, and says Bye at their end. Where the connection was lost, each later line is

@@ -9,8 +9,8 @@ use Rattle.mvd_input.specs.declared.fault.Fault.{Fault}
 use Rattle.mvd_input.specs.declared.fault.Fault.TheVariants.{Stopped}
 use Rattle.mvd_sync.specs.declared.report.Left.{Left}
 use Rattle.mvd_sync.specs.declared.report.Report.{Report}
-use Rattle.mvd_app.specs.declared.hint.Hint.TheVariants as Hint
-use Rattle.mvd_app.specs.declared.hint.Stop.{Stop}
+use Rattle.mvd_hint.specs.declared.hint.Hint.TheVariants as Hint
+use Rattle.mvd_hint.specs.declared.hint.Stop.{Stop}
 
 -- the digest of all that is held
 abbrev pub root_of : States → List ℕ

@@ -4,7 +4,7 @@ use Rattle.mvd_input.specs.declared.fault.Fault.{Fault}
 use Rattle.mvd_script.specs.Shell.{At, Shells, at}
 use Rattle.mvd_wire.specs.declared.reply.Reply.{Reply}
 use Rattle.mvd_wire.specs.declared.request.Request.{Request}
-use Rattle.mvd_app.specs.declared.hint.Stop.{Stop}
+use Rattle.mvd_hint.specs.declared.hint.Stop.{Stop}
 
 -- The lines are answered, and what they print is told, as a shell does; where the command ends well,
 -- all of them. Behind them comes a Bye, which prints nothing

@@ -10,13 +10,13 @@ ghost use Rattle.mvd_rows.specs.Defs.{no_definitions};
 ghost use Rattle.mvd_replica.specs.Replicas.{stored_of};
 ghost use Rattle.sqlite.specs.WalFiles.{image_at};
 
-use crate::hint::{Hint, Stop};
 use crate::looping::loop_run;
 use crate::many::{Terms, serve_run};
 use crate::output::Output;
 use crate::peer_commands::{remote_shell_run, sync_run, tell_report};
 use crate::refusing::unopened;
 use mvd_dots::Refusal;
+use mvd_hint::{Hint, Stop};
 use mvd_input::{DEFS_MAX, Fault, Order, Setup, read_defs, read_input};
 use mvd_replica::{Replica, open_file};
 use mvd_rows::Defs;

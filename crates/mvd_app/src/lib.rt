@@ -3,7 +3,6 @@
 
 mod commands;
 mod endings;
-mod hint;
 mod link;
 mod looping;
 mod many;
@@ -13,10 +12,10 @@ mod progress;
 mod refusing;
 
 pub use commands::run;
-pub use hint::{Hint, Stop};
 pub use link::{Incoming, Link, Outgoing};
 pub use looping::loop_run;
 pub use many::{Terms, serve_run};
+pub use mvd_hint::Stop;
 pub use output::Output;
 pub use peer_commands::{remote_shell_run, sync_run, tell_report};
 pub use refusing::refused_in;

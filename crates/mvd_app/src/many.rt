@@ -9,11 +9,11 @@ mod metrics;
 mod talks;
 mod timers;
 
-use crate::hint::Stop;
 use crowd::Crowd;
 use door::{Door, FRAMES, HTTP};
 use mio::{Events, Poll};
 use mvd_dots::Refusal;
+use mvd_hint::Stop;
 use mvd_input::Fault;
 use mvd_print::print_root;
 use mvd_replica::Replica;

@@ -12,10 +12,10 @@ ghost use Rattle.mvd_script.specs.Shell.{at};
 ghost use Rattle.mvd_sync.specs.Lines.{IsTrueRemote};
 ghost use Rattle.mvd_sync.specs.Remotes.{RepliesFar};
 
-use crate::hint::{Hint, Older, Stop};
 use crate::link::Link;
 use crate::progress::Watched;
 use mvd_dots::Refusal;
+use mvd_hint::{Hint, Older, Stop};
 use mvd_input::Fault;
 use mvd_keys::Path;
 use mvd_print::{print_keys, print_root};

@@ -1,5 +1,4 @@
 pub mod Following
-pub mod Clients
 pub mod Watching
 pub mod Working
 pub mod Syncing

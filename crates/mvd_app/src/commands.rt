@@ -11,7 +11,6 @@ ghost use Rattle.mvd_replica.specs.Replicas.{stored_of};
 ghost use Rattle.sqlite.specs.WalFiles.{image_at};
 
 use crate::looping::loop_run;
-use crate::many::{Terms, serve_run};
 use crate::output::Output;
 use crate::peer_commands::{remote_shell_run, sync_run, tell_report};
 use crate::refusing::unopened;
@@ -21,6 +20,7 @@ use mvd_input::{DEFS_MAX, Fault, Order, Setup, read_defs, read_input};
 use mvd_replica::{Replica, open_file};
 use mvd_rows::Defs;
 use mvd_script::{shell_run, sim};
+use mvd_server::{Terms, serve_run};
 use mvd_site::Config;
 use sqlite::{Alter, FileFrom, FileStore, Files, Start};
 use sqlite_disk::Disk;

@@ -2,10 +2,8 @@
 #![tactic(auto)]
 
 mod commands;
-mod endings;
 mod link;
 mod looping;
-mod many;
 mod output;
 mod peer_commands;
 mod progress;
@@ -14,7 +12,6 @@ mod refusing;
 pub use commands::run;
 pub use link::{Incoming, Link, Outgoing};
 pub use looping::loop_run;
-pub use many::{Terms, serve_run};
 pub use mvd_hint::Stop;
 pub use output::Output;
 pub use peer_commands::{remote_shell_run, sync_run, tell_report};

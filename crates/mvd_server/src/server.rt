@@ -1,23 +1,15 @@
 //! A server of many clients at once, from one thread.
-ghost use Rattle.mvd_app.specs.Stored.{IsServed};
+ghost use Rattle.mvd_server.specs.Rounds.{IsServed};
 
-mod client;
-mod crowd;
-mod door;
-mod gate;
-mod metrics;
-mod talks;
-mod timers;
-
-use crowd::Crowd;
-use door::{Door, FRAMES, HTTP};
+use crate::crowd::{CLIENTS_MAX, Crowd};
+use crate::door::{Door, FRAMES, HTTP};
+use crate::talks::Kind;
 use mio::{Events, Poll};
 use mvd_dots::Refusal;
 use mvd_hint::Stop;
-use mvd_input::Fault;
+use mvd_input::{Fault, write_out};
 use mvd_print::print_root;
 use mvd_replica::Replica;
-use mvd_script::tell;
 use sqlite::Alter;
 use std::alloc::Global;
 use std::fmt::Write as Print;
@@ -27,10 +19,6 @@ use std::mem;
 use std::net::{Net, SocketAddr};
 use std::random::RandomSource;
 use std::time::{Clock, Duration, Instant};
-use talks::Kind;
-
-/// As many clients are served at once. Further ones wait in the listener's queue.
-const CLIENTS_MAX: usize = 256;
 
 /// What a server is asked for: the port for HTTP, if it serves that too, how many connections it serves in all, and for how many
 /// seconds no byte need move on one.
@@ -59,7 +47,7 @@ struct Server {
 ///
 /// What came together of all clients is answered together, and then the replies leave. No client is waited for. It is `Stopped` with
 /// `ReadFailed` where it cannot listen or wait, and with `WriteFailed` where a line cannot be written.
-#[tactic(auto, using(crate::proofs::Following::served_none))]
+#[tactic(auto, using(crate::proofs::Rounds::served_none))]
 pub fn serve_run<'a, N: Net + Clock + RandomSource, S: Alter + Drop, W: Write>(
     rt: &N,
     alloc: Global,
@@ -144,7 +132,7 @@ impl Server {
     }
 
     /// Serves, and tells the address before and the root digest after that.
-    #[tactic(auto, using(crate::proofs::Following::served_none))]
+    #[tactic(auto, using(crate::proofs::Rounds::served_none))]
     fn serve_at<N: Net + Clock, S: Alter + Drop, W: Write>(
         &mut self,
         rt: &N,
@@ -278,6 +266,16 @@ fn tell_root<S: Alter + Drop, W: Write>(
     let mut line = String::new(alloc);
     print_root(alloc, root, &mut line)?;
     tell(writer, &mut line)
+}
+
+/// Writes the lines at once, and begins anew.
+fn tell<W: Write>(writer: &mut W, lines: &mut String) -> Result<(), Fault> {
+    write_out(writer, lines.as_str())?;
+    lines.clear();
+    match writer.flush() {
+        Ok(()) => Ok(()),
+        Err(_) => Err(Fault::Stopped(Refusal::WriteFailed)),
+    }
 }
 
 /// The address at which HTTP is served, if it is.

@@ -1,12 +1,11 @@
 //! The clients: their sockets, and their connections.
-ghost use Rattle.mvd_app.specs.Stored.{HasRound};
+ghost use Rattle.mvd_server.specs.Rounds.{HasRound};
 
-use super::CLIENTS_MAX;
-use super::client::{Client, Moved, PIECE, Piece, Stage};
-use super::metrics::Counts;
-use super::talks::{Kind, Talks};
-use super::timers::Timers;
+use crate::client::{Client, Moved, PIECE, Piece, Stage};
 use crate::endings::How;
+use crate::metrics::Counts;
+use crate::talks::{Kind, Talks};
+use crate::timers::Timers;
 use mio::event::Event;
 use mio::net::TcpStream;
 use mio::{Interest, Registry, Token};
@@ -18,6 +17,9 @@ use std::alloc::{AllocError, Global};
 use std::collections::BTreeMap;
 use std::fmt::Write as Print;
 use std::hash::RandomState;
+
+/// As many clients are served at once. Further ones wait in the listener's queue.
+pub(crate) const CLIENTS_MAX: usize = 256;
 
 /// As many milliseconds a client has to take its last frame, and then to end.
 const LINGER: u64 = 2_000;

@@ -1,10 +1,10 @@
 //! What the clients say, in frames or over HTTP.
 ghost use Rattle.std.specs.Prelude.{◌≤◌, length};
-ghost use Rattle.mvd_app.specs.Stored.{HasRound};
 ghost use Rattle.mvd_host.specs.Hosts.{IfClient, client_of};
+ghost use Rattle.mvd_server.specs.Rounds.{HasRound};
 
-use super::gate::{answer, ask};
-use super::metrics::Counts;
+use crate::gate::{answer, ask};
+use crate::metrics::Counts;
 use mvd_conn::Ending;
 use mvd_dots::Refusal;
 use mvd_host::Host;

@@ -1,6 +1,6 @@
 //! From a request of HTTP to the frame that the host answers, and from its reply to the response.
-use super::metrics::{Counts, Now};
-use super::talks::{feed, sent};
+use crate::metrics::{Counts, Now};
+use crate::talks::{feed, sent};
 use http::StatusCode;
 use mvd_dots::Refusal;
 use mvd_frames::{decode_reply, encode_request, read_frame};

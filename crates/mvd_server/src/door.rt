@@ -1,7 +1,6 @@
 //! The listener, and whom it lets in.
-use super::CLIENTS_MAX;
-use super::crowd::Crowd;
-use super::talks::Kind;
+use crate::crowd::{CLIENTS_MAX, Crowd};
+use crate::talks::Kind;
 use mio::net::TcpListener;
 use mio::{Interest, Registry, Token};
 use mvd_dots::Refusal;

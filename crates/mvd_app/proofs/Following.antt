@@ -2,11 +2,11 @@
 use Rattle.std.proofs.Common.{◌≡◌, List, [], ◌∷◌, sym, subst}
 use Rattle.mvd_replica.proofs.Sides.{follows_wider}
 use Rattle.mvd_replica.specs.Replicas.{site_of, store_of, stored_of}
-use Rattle.mvd_replica.specs.Sides.{replica_follows_on, replica_follows_self, side_follows_self}
+use Rattle.mvd_replica.specs.Sides.{replica_follows_on, replica_follows_self}
 use Rattle.mvd_replica.specs.declared.replica.Replica.{Replica}
 use Rattle.sqlite_trees.specs.declared.store.Store.{Ghosts}
 use Rattle.mvd_script.specs.Asked.{Exchange}
-use Rattle.mvd_app.specs.Stored.{FollowsAsked, FollowsPushed}
+use Rattle.mvd_app.specs.Stored.{FollowsAsked}
 use Rattle.mvd_replica.specs.ReplicaCalls.{ReplicaAnswers}
 use Rattle.mvd_script.specs.Talk.{Answered, Asks}
 
@@ -21,8 +21,3 @@ module _ {S : Type 0} {g : Ghosts S} where
 
   pub follows : (old new : Replica S g) → Asks ReplicaAnswers old new → FollowsAsked old new
   follows old new asks = all_follow asks.exchanges old new asks.answered
-
--- ---- a session
-
-pub pushed_none : {S : Type 0} {g : Ghosts S} (replica : Replica S g) → FollowsPushed replica replica
-pushed_none replica = side_follows_self (stored_of replica)

@@ -1,4 +1,2 @@
 pub mod Following
-pub mod Watching
 pub mod Working
-pub mod Syncing

@@ -3,7 +3,7 @@ use Rattle.std.specs.Prelude.{ℕ, Option, Some, None}
 use Rattle.mvd_input.specs.declared.order.Order.{Order}
 use Rattle.mvd_input.specs.declared.order.Order.TheVariants as order
 use Rattle.mvd_replica.specs.Replicas.{stored_of}
-use Rattle.mvd_replica.specs.Sides.{ReplicaFollows, SideFollows}
+use Rattle.mvd_replica.specs.Sides.{ReplicaFollows}
 use Rattle.mvd_replica.specs.declared.replica.Replica.{Replica}
 use Rattle.sqlite_trees.specs.declared.store.Store.{Ghosts}
 
@@ -18,7 +18,3 @@ module _ {S : Type 0} {g : Ghosts S} where
   -- whatever it is asked, its records follow
   abbrev pub FollowsAsked : Replica S g → Replica S g → Type 0
   FollowsAsked old new = ReplicaFollows (λ _. Unit {0}) (stored_of old) (stored_of new)
-
-  -- whatever a session does, its site changes by pushes alone, and its records follow
-  abbrev pub FollowsPushed : Replica S g → Replica S g → Type 0
-  FollowsPushed old new = SideFollows (stored_of old) (stored_of new)

@@ -12,8 +12,8 @@ ghost use Rattle.sqlite.specs.WalFiles.{image_at};
 
 use crate::looping::loop_run;
 use crate::output::Output;
-use crate::peer_commands::{remote_shell_run, sync_run, tell_report};
 use crate::refusing::unopened;
+use mvd_client::{remote_shell_run, sync_run, tell_report};
 use mvd_dots::Refusal;
 use mvd_hint::{Hint, Stop};
 use mvd_input::{DEFS_MAX, Fault, Order, Setup, read_defs, read_input};

@@ -1,6 +1,6 @@
 use Rattle.std.proofs.Common.{refl}
-use Rattle.mvd_app.proofs.Watching.{asked_within, ends_within, err_as, ok_as}
-use Rattle.mvd_app.proofs.progress.WatchedPeer.get_all.Goals as goal
+use Rattle.mvd_client.proofs.Watching.{asked_within, ends_within, err_as, ok_as}
+use Rattle.mvd_client.proofs.progress.WatchedPeer.get_all.Goals as goal
 
 pub returns-clause-told : goal.returns-clause-told
 returns-clause-told g c =

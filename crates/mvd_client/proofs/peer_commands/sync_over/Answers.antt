@@ -1,8 +1,8 @@
 use Rattle.std.proofs.Common.{subst}
 use Rattle.std.specs.Prelude.{OnOk}
 use Rattle.mvd_sync.specs.Lines.{IsTrueRemote}
-use Rattle.mvd_app.proofs.Syncing.{after_bye, bye_keeps}
-use Rattle.mvd_app.proofs.peer_commands.sync_over.Goals as goal
+use Rattle.mvd_client.proofs.Syncing.{after_bye, bye_keeps}
+use Rattle.mvd_client.proofs.peer_commands.sync_over.Goals as goal
 
 pub returns-in-Err-bye : goal.returns-in-Err-bye
 returns-in-Err-bye g c = record {

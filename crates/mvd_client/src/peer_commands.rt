@@ -1,10 +1,9 @@
-//! The commands on a stored site that meet a peer.
+//! The commands that meet a server: sessions of a stored site, and shells.
 ghost use Rattle.std.specs.Prelude.{◌≡◌, ◌≢◌, ◌++◌, [], IsErr, OnOk, string_bytes};
 ghost use Rattle.std.specs.Io.KnownBytes.{Appends};
-ghost use Rattle.mvd_app.specs.Reported.{Reports, refused_text, root_of, session_text};
-ghost use Rattle.mvd_app.specs.Stored.{FollowsPushed};
-ghost use Rattle.mvd_app.specs.Synced.{MeetsFar};
-ghost use Rattle.mvd_app.specs.Talked.{ShellsOver};
+ghost use Rattle.mvd_client.specs.Reported.{Reports, refused_text, root_of, session_text};
+ghost use Rattle.mvd_client.specs.Synced.{FollowsPushed, MeetsFar};
+ghost use Rattle.mvd_client.specs.Talked.{ShellsOver};
 ghost use Rattle.mvd_print.specs.Text.{root_text};
 ghost use Rattle.mvd_replica.specs.Replicas.{site_of};
 ghost use Rattle.mvd_replica.specs.Sides.{IsTrueSite};
@@ -39,7 +38,7 @@ pub fn connected<N: Net>(rt: &N, address: SocketAddr, idle: u32) -> io::Result<N
 }
 
 /// Runs a session with the server at an address, and says Bye. Where `told` is given, it is told how far the session is.
-#[tactic(auto, using(crate::proofs::Following::pushed_none))]
+#[tactic(auto, using(crate::proofs::Syncing::pushed_none))]
 pub fn sync_run<'a, N: Net, S: Alter + Drop, E: Write>(
     rt: &N,
     alloc: Global,
@@ -63,7 +62,7 @@ pub fn sync_run<'a, N: Net, S: Alter + Drop, E: Write>(
 }
 
 /// Runs a session over a stream.
-#[tactic(auto, using(crate::proofs::Following::pushed_none))]
+#[tactic(auto, using(crate::proofs::Syncing::pushed_none))]
 fn sync_stream<T: Read + Write + Drop, S: Alter + Drop, E: Write>(
     alloc: Global,
     stream: T,

@@ -1,4 +1,4 @@
-use Rattle.mvd_app.proofs.peer_commands.shell_over.Goals as goal
+use Rattle.mvd_client.proofs.peer_commands.shell_over.Goals as goal
 
 pub returns-in-Err : goal.returns-in-Err
 returns-in-Err g c = record {

@@ -1,15 +1,24 @@
--- What a Bye after a session leaves.
+-- What no session leaves, and what a Bye after one leaves.
 use Rattle.std.proofs.Common.{◌≡◌, ◌⊎◌, inl, inr, ℕ, Option, sym, subst}
 use Rattle.std.specs.Prelude.{Result, Ok, Err, IfOk}
 use Rattle.mvd_dots.specs.declared.refusals.Refusal.{Refusal}
 use Rattle.mvd_wire.specs.declared.request.Request.TheVariants.{Bye}
 use Rattle.mvd_wire.specs.declared.reply.Reply.TheVariants.{Done}
+use Rattle.mvd_client.specs.Synced.{FollowsPushed}
+use Rattle.mvd_replica.specs.Replicas.{stored_of}
+use Rattle.mvd_replica.specs.Sides.{side_follows_self}
+use Rattle.mvd_replica.specs.declared.replica.Replica.{Replica}
 use Rattle.mvd_site.specs.Held.{States}
 use Rattle.mvd_sync.specs.Lines.{AnswersTruly}
 use Rattle.mvd_sync.specs.Session.{HasJoined}
 use Rattle.mvd_sync.specs.declared.report.Report.{Report}
 use Rattle.mvd_sync.specs.declared.report.SyncFault.{SyncFault}
 use Rattle.mvd_sync.proofs.Positions.{MeetsBy, ReportsDoneBy}
+use Rattle.sqlite_trees.specs.declared.store.Store.{Ghosts}
+
+-- a site that nothing came to follows itself
+pub pushed_none : {S : Type 0} {g : Ghosts S} (replica : Replica S g) → FollowsPushed replica replica
+pushed_none replica = side_follows_self (stored_of replica)
 
 -- a Bye changes nothing at the other end
 pub bye_keeps : (most : ℕ) (old new : States) (result : Result (Unit {0}) Refusal) → AnswersTruly (λ _. Done) most old Bye result new → new ≡ old

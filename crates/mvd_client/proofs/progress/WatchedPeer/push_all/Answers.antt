@@ -1,8 +1,8 @@
 use Rattle.std.proofs.Common.{refl, subst, sym}
 use Rattle.std.specs.Result.{OnErr}
 use Rattle.mvd_sync.specs.Windows.{PushesFirst}
-use Rattle.mvd_app.proofs.Watching.{asked_within, ends_within, err_as, ok_as}
-use Rattle.mvd_app.proofs.progress.WatchedPeer.push_all.Goals as goal
+use Rattle.mvd_client.proofs.Watching.{asked_within, ends_within, err_as, ok_as}
+use Rattle.mvd_client.proofs.progress.WatchedPeer.push_all.Goals as goal
 
 pub returns-clause-told : goal.returns-clause-told
 returns-clause-told g c =

@@ -1,5 +1,2 @@
 pub mod Following
-pub mod Clients
-pub mod Watching
 pub mod Working
-pub mod Syncing

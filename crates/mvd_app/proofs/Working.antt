@@ -10,7 +10,8 @@ use Rattle.sqlite_disk.specs.declared.Files.{Files}
 use Rattle.sqlite.specs.Recovery.{Image}
 use Rattle.sqlite_trees.specs.declared.store.Store.{Ghosts}
 use Rattle.mvd_script.specs.Asked.{Exchange}
-use Rattle.mvd_app.specs.Stored.{FollowsPushed, IsServed}
+use Rattle.mvd_client.specs.Synced.{FollowsPushed}
+use Rattle.mvd_server.specs.Rounds.{IsServed}
 use Rattle.mvd_replica.specs.ReplicaCalls.{ReplicaAnswers}
 use Rattle.mvd_script.specs.Talk.{Answered, Asks}
 use Rattle.mvd_app.proofs.Following.{follows}

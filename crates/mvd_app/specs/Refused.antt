@@ -6,8 +6,8 @@ use Rattle.mvd_dots.specs.declared.refusals.Refusal.TheVariants.{Damaged, Full, 
 use Rattle.mvd_input.specs.declared.fault.Fault.TheVariants.{Stopped}
 use Rattle.mvd_records.specs.Calls.{TellsOwner}
 use Rattle.sqlite.specs.State.{State}
-use Rattle.mvd_app.specs.declared.hint.Hint.TheVariants as Hint
-use Rattle.mvd_app.specs.declared.hint.Stop.{Stop}
+use Rattle.mvd_hint.specs.declared.hint.Hint.TheVariants as Hint
+use Rattle.mvd_hint.specs.declared.hint.Stop.{Stop}
 
 -- the file is another program's: it stays as it is, and the hint says so
 pub record TellsForeign {C : Type 0} (file : Bor (List ℕ)) (old new : C) (stop : Stop) : Type 0 where

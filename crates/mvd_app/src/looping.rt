@@ -2,11 +2,11 @@
 ghost use Rattle.std.specs.Prelude.{◌<◌, ◌≤◌, length};
 ghost use Rattle.mvd_wire.specs.Frames.{frame_limit};
 
-use crate::endings::How;
 use mvd_dots::Refusal;
 use mvd_frames::read_frame;
 use mvd_input::{BYTES_MAX, Fault, HEX_MAX, hex_bytes, read_input, write_out};
 use mvd_replica::{Ended, Replica, serve};
+use mvd_server::How;
 use mvd_site::Config;
 use mvd_wire::Frame;
 use sqlite::{Connection, MemStore};

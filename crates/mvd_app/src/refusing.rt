@@ -5,8 +5,8 @@ ghost use Rattle.mvd_records.specs.Foreign.{HoldsForeign};
 ghost use Rattle.mvd_records.specs.Records.{OnlyReads};
 ghost use Rattle.sqlite.specs.Held.{state};
 
-use crate::hint::Stop;
 use mvd_dots::Refusal;
+use mvd_hint::Stop;
 use mvd_replica::{FileFault, is_foreign, owner_in};
 use sqlite::{Alter, Connection};
 use sqlite_disk::Disk;

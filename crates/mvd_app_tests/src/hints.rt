@@ -1,8 +1,9 @@
 //! What is told of a fault.
 ghost use Rattle.std.specs.Prelude.{◌<◌};
 
-use mvd_app::{Hint, Stop, refused_in};
+use mvd_app::refused_in;
 use mvd_dots::Refusal;
+use mvd_hint::{Hint, Stop};
 use mvd_input::Fault;
 use mvd_replica::Replica;
 use mvd_rows::Defs;

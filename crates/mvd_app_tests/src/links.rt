@@ -1,5 +1,5 @@
 //! Links: what is written waits until something would be read.
-use mvd_app::Link;
+use mvd_client::Link;
 use std::alloc::Global;
 use std::cell::Cell;
 use std::io::{self, Read, Write};

@@ -108,6 +108,10 @@ view_row_text row = line (term_text row.0 ∷ row_words row.1 row.2 row.3)
 abbrev pub digest_text : List ℕ → List ℕ
 digest_text digest = line (encode_lower digest ∷ [])
 
+-- the same of the root of the hash tree, behind its word
+abbrev pub root_text : List ℕ → List ℕ
+root_text digest = line (codes "root" ∷ encode_lower digest ∷ [])
+
 -- ---- several lines
 
 -- the context, and the siblings by rising dot

@@ -11,3 +11,4 @@ pub use lines::{
     print_keys, print_left, print_message, print_more_left, print_none_such, print_refusal,
 };
 pub use reply_lines::{print_reply, print_short};
+pub use state_lines::print_root;

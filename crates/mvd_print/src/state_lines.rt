@@ -2,7 +2,7 @@
 ghost use Rattle.std.specs.Prelude.{◌≡◌, ◌++◌, OnOk, IsOkUnless, string_bytes};
 ghost use Rattle.mvd_keys.specs.State.{pair_of};
 ghost use Rattle.mvd_print.specs.Added.{Extends};
-ghost use Rattle.mvd_print.specs.Text.{context_text, digest_text, sibling_text, siblings_text, state_text};
+ghost use Rattle.mvd_print.specs.Text.{context_text, digest_text, root_text, sibling_text, siblings_text, state_text};
 
 use crate::words::{push_dot, push_word};
 use mvd_dots::{Context, Refusal};
@@ -56,6 +56,17 @@ pub fn print_digest(alloc: Global, digest: [u8; 32], out: &mut String) -> Result
     ensures kept { Extends (string_bytes out.old) (string_bytes out.new) }
 {
     let text = hex::encode(alloc, digest)?;
+    push_word(out, text.as_str())?;
+    push_word(out, "\n")
+}
+
+/// The digest of the root of the hash tree.
+pub fn print_root(alloc: Global, digest: [u8; 32], out: &mut String) -> Result<(), AllocError>
+    ensures text { OnOk result (string_bytes out.new ≡ string_bytes out.old ++ root_text digest) }
+    ensures kept { Extends (string_bytes out.old) (string_bytes out.new) }
+{
+    let text = hex::encode(alloc, digest)?;
+    push_word(out, "root ")?;
     push_word(out, text.as_str())?;
     push_word(out, "\n")
 }

@@ -1,5 +1,0 @@
-use Rattle.mvd_app.proofs.Following.{has_round}
-use Rattle.mvd_app.proofs.many.talks.Talks.round.Goals as goal
-
-pub returns : goal.returns
-returns g c = record { round = has_round _ _ _ c.args.replica.now c.round.new.replica (c.round.ensures.round.0, c.round.ensures.round.1) }

@@ -1,0 +1,43 @@
+-- What no session leaves, and what a Bye after one leaves.
+use Rattle.std.proofs.Common.{◌≡◌, ◌⊎◌, inl, inr, ℕ, Option, sym, subst}
+use Rattle.std.specs.Prelude.{Result, Ok, Err, IfOk}
+use Rattle.mvd_dots.specs.declared.refusals.Refusal.{Refusal}
+use Rattle.mvd_wire.specs.declared.request.Request.TheVariants.{Bye}
+use Rattle.mvd_wire.specs.declared.reply.Reply.TheVariants.{Done}
+use Rattle.mvd_client.specs.Synced.{FollowsPushed}
+use Rattle.mvd_replica.specs.Replicas.{stored_of}
+use Rattle.mvd_replica.specs.Sides.{side_follows_self}
+use Rattle.mvd_replica.specs.declared.replica.Replica.{Replica}
+use Rattle.mvd_site.specs.Held.{States}
+use Rattle.mvd_remote.specs.Lines.{AnswersTruly}
+use Rattle.mvd_sync.specs.Session.{HasJoined}
+use Rattle.mvd_sync.specs.declared.report.Report.{Report}
+use Rattle.mvd_sync.specs.declared.report.SyncFault.{SyncFault}
+use Rattle.mvd_sync.proofs.Positions.{MeetsBy, ReportsDoneBy}
+use Rattle.sqlite_trees.specs.declared.store.Store.{Ghosts}
+
+-- a site that nothing came to follows itself
+pub pushed_none : {S : Type 0} {g : Ghosts S} (replica : Replica S g) → FollowsPushed replica replica
+pushed_none replica = side_follows_self (stored_of replica)
+
+-- a Bye changes nothing at the other end
+pub bye_keeps : (most : ℕ) (old new : States) (result : Result (Unit {0}) Refusal) → AnswersTruly (λ _. Done) most old Bye result new → new ≡ old
+bye_keeps most old new (Ok done) h = h
+bye_keeps most old new (Err refusal) (inl h) = h
+bye_keeps most old new (Err refusal) (inr (inl h)) = h.1
+bye_keeps most old new (Err refusal) (inr (inr (e, inl same))) = same
+bye_keeps most old new (Err refusal) (inr (inr (e, inr h))) = h.1
+
+-- what two sides came to have, they have after it
+pub after_bye : (local_true peer_true later_true : Type 0) (most_local most_peer : ℕ) (number : Option ℕ) (a b a' b' b'' : States) (result told : Result Report SyncFault) (m : MeetsBy local_true peer_true most_local most_peer number a b a' b' result) → peer_true → b'' ≡ b' → IfOk told (ReportsDoneBy most_local most_peer number a b m.joined m.given) → MeetsBy local_true later_true most_local most_peer number a b a' b'' told
+after_bye local_true peer_true later_true most_local most_peer number a b a' b' b'' result told m t same tells = record {
+  joined = m.joined;
+  given = m.given;
+  joins = record {
+    part = m.joins.part;
+    met = m.joins.met;
+    local_side = m.joins.local_side;
+    peer_side = λ _. subst (HasJoined m.given a b b) (sym same) (m.joins.peer_side t);
+  };
+  tells = tells;
+}

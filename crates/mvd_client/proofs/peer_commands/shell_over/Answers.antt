@@ -1,0 +1,31 @@
+use Rattle.mvd_client.proofs.peer_commands.shell_over.Goals as goal
+
+pub returns-in-Err : goal.returns-in-Err
+returns-in-Err g c = record {
+  shells = record {
+    last = c.shell_run.new.asked;
+    told = c.shell_run.result;
+    shells = c.shell_run.ensures.told;
+    whole = tt;
+  };
+}
+
+pub returns-in-Ok-bye : goal.returns-in-Ok-bye
+returns-in-Ok-bye g c = record {
+  shells = record {
+    last = c.shell_run.new.asked;
+    told = c.shell_run.result;
+    shells = c.shell_run.ensures.told;
+    whole = c.in-Ok.is;
+  };
+}
+
+pub returns-in-Err-bye : goal.returns-in-Err-bye
+returns-in-Err-bye g c = record {
+  shells = record {
+    last = c.shell_run.new.asked;
+    told = c.shell_run.result;
+    shells = c.shell_run.ensures.told;
+    whole = tt;
+  };
+}

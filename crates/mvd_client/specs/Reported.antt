@@ -1,0 +1,37 @@
+-- What is printed of a session with a server, and of all that a site holds.
+use Rattle.std.specs.Prelude.{ℕ, ◌≡◌, ◌⊎◌, List, [], ◌∷◌, ◌++◌, codes, nat_lt, if◌then◌else◌, Option, None, Some, Result, Ok, Err}
+use Rattle.std.specs.Fmt.{decimal}
+use Rattle.std.specs.Io.KnownBytes.{Appends}
+use Rattle.mvd_print.specs.Text.{keys_text, root_text}
+use Rattle.mvd_site.specs.Answer.{digests, node_digests}
+use Rattle.mvd_site.specs.Held.{States}
+use Rattle.mvd_input.specs.declared.fault.Fault.{Fault}
+use Rattle.mvd_input.specs.declared.fault.Fault.TheVariants.{Stopped}
+use Rattle.mvd_sync.specs.declared.report.Left.{Left}
+use Rattle.mvd_sync.specs.declared.report.Report.{Report}
+use Rattle.mvd_hint.specs.declared.hint.Hint.TheVariants as Hint
+use Rattle.mvd_hint.specs.declared.hint.Stop.{Stop}
+
+-- the digest of all that is held
+abbrev pub root_of : States → List ℕ
+root_of states = (node_digests (digests states) []).own
+
+-- how many keys were refused, where some were
+abbrev pub refused_text : ℕ → List ℕ
+refused_text count = if nat_lt 0 count then codes "refused " ++ decimal count ++ codes "\n" else []
+
+-- how many keys a session exchanged and refused, and the digest of all that the site holds then
+abbrev pub session_text : Report → States → List ℕ
+session_text report states = keys_text report.keys ++ (refused_text report.refused ++ root_text (root_of states))
+
+-- the first of these keys was refused so
+abbrev pub IsOfFirst : List Left → Fault → Type 0
+IsOfFirst [] fault = ⊥
+IsOfFirst (left ∷ others) fault = fault ≡ Stopped left.refusal
+
+-- All is printed of a session that left no key, and of one that left some: then the command is stopped with the refusal of the
+-- first of them. It may also be stopped, without a hint, since not all could be printed
+abbrev pub Reports : Report → States → Option (List ℕ) → Option (List ℕ) → Result (Unit {0}) Stop → Type 0
+Reports report states out out' (Ok done) = (report.first_refused ≡ []) × Appends out out' (session_text report states)
+Reports report states out out' (Err stop) = (stop.hint ≡ None)
+    ⊎ ((stop.hint ≡ Some Hint.Left) × IsOfFirst report.first_refused stop.fault × Appends out out' (session_text report states))

@@ -1,0 +1,236 @@
+//! The commands that meet a server: sessions of a stored site, and shells.
+ghost use Rattle.std.specs.Prelude.{◌≡◌, ◌≢◌, ◌++◌, [], IsErr, OnOk, string_bytes};
+ghost use Rattle.std.specs.Io.KnownBytes.{Appends};
+ghost use Rattle.mvd_client.specs.Reported.{Reports, refused_text, root_of, session_text};
+ghost use Rattle.mvd_client.specs.Synced.{FollowsPushed, MeetsFar};
+ghost use Rattle.mvd_client.specs.Talked.{ShellsOver};
+ghost use Rattle.mvd_print.specs.Text.{root_text};
+ghost use Rattle.mvd_replica.specs.Replicas.{site_of};
+ghost use Rattle.mvd_replica.specs.Sides.{IsTrueSite};
+ghost use Rattle.mvd_script.specs.Shell.{at};
+ghost use Rattle.mvd_remote.specs.Lines.{IsTrueRemote};
+ghost use Rattle.mvd_remote.specs.Remotes.{RepliesFar};
+
+use crate::link::Link;
+use crate::progress::Watched;
+use mvd_dots::Refusal;
+use mvd_hint::{Hint, Older, Stop};
+use mvd_input::Fault;
+use mvd_keys::Path;
+use mvd_print::{print_keys, print_root};
+use mvd_remote::{Line, Remote};
+use mvd_replica::Replica;
+use mvd_script::{shell_run, tell};
+use mvd_sync::{Left, Report, Side, SyncFault, sync};
+use sqlite::Alter;
+use std::alloc::Global;
+use std::fmt::Write as Print;
+use std::io::{self, BufRead, Read, Write};
+use std::net::{Net, OpenStream, SocketAddr};
+use std::time::Duration;
+
+/// A stream to the server at an address, on which no read and no write waits for more than so many seconds.
+pub fn connected<N: Net>(rt: &N, address: SocketAddr, idle: u32) -> io::Result<N::Stream> {
+    let most = Duration::from_secs(u64::from(idle));
+    let stream = rt.connect_timeout(address, most)?;
+    stream.set_read_timeout(Some(most))?;
+    stream.set_write_timeout(Some(most))?;
+    Ok(stream)
+}
+
+/// Runs a session with the server at an address, and says Bye. Where `told` is given, it is told how far the session is.
+#[tactic(auto, using(crate::proofs::Syncing::pushed_none))]
+pub fn sync_run<'a, N: Net, S: Alter + Drop, E: Write>(
+    rt: &N,
+    alloc: Global,
+    replica: &mut Replica<S>,
+    address: SocketAddr,
+    idle: u32,
+    told: Option<&mut E>,
+) -> Result<Report, Stop<'a>>
+    // However it ends, the site changed by pushes alone, and its records follow.
+    ensures pushed { FollowsPushed replica.old replica.new }
+{
+    let stream = match connected(rt, address, idle) {
+        Ok(stream) => stream,
+        Err(error) => return Err(Stop::unanswered(address, error)),
+    };
+    match sync_stream(alloc, stream, replica, told) {
+        Ok(report) => Ok(report),
+        Err(SyncFault::Local(refusal)) => Err(Stop::in_session(refusal)),
+        Err(SyncFault::Peer(refusal)) => Err(Stop::at_server(address, refusal)),
+    }
+}
+
+/// Runs a session over a stream.
+#[tactic(auto, using(crate::proofs::Syncing::pushed_none))]
+fn sync_stream<T: Read + Write + Drop, S: Alter + Drop, E: Write>(
+    alloc: Global,
+    stream: T,
+    replica: &mut Replica<S>,
+    told: Option<&mut E>,
+) -> Result<Report, SyncFault>
+    ensures pushed { FollowsPushed replica.old replica.new }
+{
+    let link = Link::new(alloc, stream).map_err(SyncFault::Local)?;
+    let incoming = link.incoming(alloc).map_err(SyncFault::Local)?;
+    let mut watched = Watched {
+        side: Remote::new(alloc, incoming, link.outgoing()),
+        moved: 0,
+        told,
+    };
+    sync_over(alloc, replica, &mut watched)
+}
+
+/// Runs a session over a line, and says Bye. Where the line is true, what is at its other end is a true side: both sides' states
+/// are joined, and where no fault is told all that differed, but for the keys that the report names.
+pub fn sync_over<L: Line, S: Alter + Drop, E: Write>(
+    alloc: Global,
+    replica: &mut Replica<S>,
+    watched: &mut Watched<'_, Remote<L>, E>,
+) -> Result<Report, SyncFault>
+    ensures meets { IsTrueSite (site_of replica.old) → IsTrueRemote L.is_true L.far watched.old.side →
+        MeetsFar L.is_true L.far replica.old replica.new watched.old.side watched.new.side result }
+    // Whatever is at the other end.
+    ensures pushed { FollowsPushed replica.old replica.new }
+{
+    let report = match sync(alloc, replica, watched) {
+        Ok(report) => report,
+        Err(fault) => return Err(fault),
+    };
+    match watched.side.bye() {
+        Ok(()) => Ok(report),
+        Err(refusal) => Err(SyncFault::Peer(refusal)),
+    }
+}
+
+/// Tells how many keys a session exchanged, how many were refused, and the root digest; and on `errors` which keys were refused,
+/// and whether the file was older than what the server saw of it. Keys that were refused are what the command is stopped with.
+pub fn tell_report<'a, S: Alter + Drop, W: Write, E: Write>(
+    alloc: Global,
+    replica: &Replica<S>,
+    report: &Report,
+    writer: &mut W,
+    errors: &mut E,
+) -> Result<(), Stop<'a>>
+    ensures told { Reports report.now (site_of replica.now).states (W.contents writer.old) (W.contents writer.new) result }
+    ensures left { report.now.first_refused ≢ [] → IsErr result }
+{
+    tell_counts(alloc, replica, report, writer)?;
+    for left in report.first_refused.as_slice() {
+        tell_left(left, errors);
+    }
+    if report.old > 0 {
+        let _ = writeln!(errors, "mvd: {}", Older(report.old));
+    }
+    match report.first_refused.as_slice().first() {
+        Some(left) => Err(Stop::left(left.refusal)),
+        None => Ok(()),
+    }
+}
+
+fn tell_counts<S: Alter + Drop, W: Write>(
+    alloc: Global,
+    replica: &Replica<S>,
+    report: &Report,
+    writer: &mut W,
+) -> Result<(), Fault>
+    ensures told { OnOk result (Appends (W.contents writer.old) (W.contents writer.new)
+        (session_text report.now (site_of replica.now).states)) }
+{
+    let mut lines = String::new(alloc);
+    print_keys(report.keys, &mut lines)?;
+    print_refused(report.refused, &mut lines)?;
+    add_root(alloc, replica, &mut lines)?;
+    tell(writer, &mut lines)
+}
+
+/// Adds a line with how many keys were refused, where some were.
+fn print_refused(count: u64, lines: &mut String) -> Result<(), Refusal>
+    ensures { OnOk result (string_bytes lines.new ≡ string_bytes lines.old ++ refused_text count) }
+{
+    if count > 0 {
+        writeln!(lines, "refused {count}")?;
+    }
+    Ok(())
+}
+
+/// Tells which key was refused, by which side, and how. A line that cannot be written is left out.
+fn tell_left<E: Write>(left: &Left, errors: &mut E) {
+    let place = match left.side {
+        Side::Local => "this side",
+        Side::Peer => "the server",
+    };
+    let _ = writeln!(
+        errors,
+        "mvd: key {}: {} at {place}",
+        left.key.text(),
+        left.refusal
+    );
+}
+
+/// Adds a line with the root digest.
+fn add_root<S: Alter + Drop>(
+    alloc: Global,
+    replica: &Replica<S>,
+    lines: &mut String,
+) -> Result<(), Refusal>
+    ensures { OnOk result (string_bytes lines.new ≡
+        string_bytes lines.old ++ root_text (root_of (site_of replica.now).states)) }
+{
+    let path = Path::new(alloc, &[])?;
+    let digests = replica.node(&path)?;
+    Ok(print_root(alloc, digests.own, lines)?)
+}
+
+/// Answers the lines through the server at an address, and says Bye at their end. Where the connection was lost, each later line is
+/// refused so, and so is the Bye.
+pub fn remote_shell_run<'a, N: Net, R: BufRead, W: Write>(
+    rt: &N,
+    alloc: Global,
+    address: SocketAddr,
+    idle: u32,
+    reader: &mut R,
+    writer: &mut W,
+) -> Result<(), Stop<'a>> {
+    match connected(rt, address, idle) {
+        Ok(stream) => shell_stream(alloc, stream, address, reader, writer),
+        Err(error) => Err(Stop::unanswered(address, error)),
+    }
+}
+
+/// The same over a stream to that server.
+fn shell_stream<'a, T: Read + Write + Drop, R: BufRead, W: Write>(
+    alloc: Global,
+    stream: T,
+    address: SocketAddr,
+    reader: &mut R,
+    writer: &mut W,
+) -> Result<(), Stop<'a>> {
+    let link = Link::new(alloc, stream)?;
+    let incoming = link.incoming(alloc)?;
+    let mut remote = Remote::new(alloc, incoming, link.outgoing());
+    shell_over(alloc, &mut remote, address, reader, writer)
+}
+
+/// The same over a line to that server.
+pub fn shell_over<'a, L: Line, R: BufRead, W: Write>(
+    alloc: Global,
+    remote: &mut Remote<L>,
+    address: SocketAddr,
+    reader: &mut R,
+    writer: &mut W,
+) -> Result<(), Stop<'a>>
+    ensures shells { ShellsOver (RepliesFar L.Line)
+        (at remote.old (R.remaining reader.old) (W.contents writer.old))
+        (at remote.new (R.remaining reader.new) (W.contents writer.new)) result }
+{
+    match shell_run(alloc, remote, reader, writer) {
+        Ok(()) => {}
+        Err(fault) => return Err(Stop::in_input(fault, Hint::Script)),
+    }
+    match remote.bye() {
+        Ok(()) => Ok(()),
+        Err(refusal) => Err(Stop::at_server(address, refusal)),
+    }
+}

@@ -1,0 +1,88 @@
+//! The listener, and whom it lets in.
+use crate::crowd::{CLIENTS_MAX, Crowd};
+use crate::talks::Kind;
+use mio::net::TcpListener;
+use mio::{Interest, Registry, Token};
+use mvd_dots::Refusal;
+use std::io::{self, ErrorKind};
+use std::net::{Net, SocketAddr};
+
+/// What the system tells of the listeners by. No client's number is as great.
+pub(crate) const FRAMES: Token = Token(usize::MAX);
+
+pub(crate) const HTTP: Token = Token(usize::MAX - 1);
+
+/// As many milliseconds nobody is let in after the system refused to.
+const PAUSE: u64 = 100;
+
+/// A listener.
+#[derive(Drop)]
+pub(crate) struct Door {
+    listener: TcpListener,
+    /// Somebody may wait.
+    pub knocks: bool,
+    /// What those speak who come through it.
+    kind: Kind,
+    /// Nobody is let in before this time, in milliseconds.
+    opens: u64,
+}
+
+impl Door {
+    pub fn new<N: Net>(
+        rt: &N,
+        registry: &Registry,
+        address: SocketAddr,
+        kind: Kind,
+    ) -> io::Result<Door> {
+        let mut listener = TcpListener::bind(rt, address)?;
+        let token = match kind {
+            Kind::Frames => FRAMES,
+            Kind::Http => HTTP,
+        };
+        registry.register(&mut listener, token, Interest::READABLE)?;
+        Ok(Door {
+            listener,
+            knocks: true,
+            kind,
+            opens: 0,
+        })
+    }
+
+    /// When somebody may be let in. It is `None` where nobody waits, or there is no place.
+    pub fn next_due(&self, crowd: &Crowd) -> Option<u64> {
+        if self.knocks && crowd.has_place() {
+            Some(self.opens)
+        } else {
+            None
+        }
+    }
+
+    /// Lets in who waits, as far as there are places.
+    pub fn admit(
+        &mut self,
+        registry: &Registry,
+        crowd: &mut Crowd,
+        ready: &mut Vec<u64>,
+    ) -> Result<(), Refusal> {
+        for _ in 0..CLIENTS_MAX {
+            match self.next_due(crowd) {
+                Some(due) if due <= crowd.now => {}
+                _ => return Ok(()),
+            }
+            match self.listener.accept() {
+                Ok((stream, _)) => crowd.admit(registry, stream, self.kind, ready)?,
+                Err(error) => self.refused(error.kind(), crowd.now),
+            }
+        }
+        Ok(())
+    }
+
+    /// Nobody could be let in: nobody waits, who waited is gone, or the system has no room.
+    fn refused(&mut self, kind: ErrorKind, now: u64) {
+        match kind {
+            ErrorKind::WouldBlock => self.knocks = false,
+            ErrorKind::ConnectionAborted => {}
+            _ => self.opens = now.saturating_add(PAUSE),
+        }
+    }
+}

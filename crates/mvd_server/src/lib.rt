@@ -1,0 +1,15 @@
+//! A server of many clients at once, in frames and over HTTP.
+#![tactic(auto)]
+
+mod client;
+mod crowd;
+mod door;
+mod endings;
+mod gate;
+mod metrics;
+mod server;
+mod talks;
+mod timers;
+
+pub use endings::How;
+pub use server::{Terms, serve_run};

@@ -1,0 +1,302 @@
+//! A server of many clients at once, from one thread.
+ghost use Rattle.mvd_server.specs.Rounds.{IsServed};
+
+use crate::crowd::{CLIENTS_MAX, Crowd};
+use crate::door::{Door, FRAMES, HTTP};
+use crate::talks::Kind;
+use mio::{Events, Poll};
+use mvd_dots::Refusal;
+use mvd_hint::Stop;
+use mvd_input::{Fault, write_out};
+use mvd_print::print_root;
+use mvd_replica::Replica;
+use sqlite::Alter;
+use std::alloc::Global;
+use std::fmt::Write as Print;
+use std::hash::RandomState;
+use std::io::{self, Write};
+use std::mem;
+use std::net::{Net, SocketAddr};
+use std::random::RandomSource;
+use std::time::{Clock, Duration, Instant};
+
+/// What a server is asked for: the port for HTTP, if it serves that too, how many connections it serves in all, and for how many
+/// seconds no byte need move on one.
+#[derive(Clone, Copy)]
+pub struct Terms {
+    pub http: Option<u16>,
+    pub conns: Option<u32>,
+    pub idle: u32,
+}
+
+/// The clients, the listeners, and those clients for which there may be something to do.
+#[derive(Drop)]
+struct Server {
+    poll: Poll,
+    events: Events,
+    frames: Door,
+    http: Option<Door>,
+    crowd: Crowd,
+    ready: Vec<u64>,
+    next: Vec<u64>,
+    start: Instant,
+}
+
+/// Serves so many connections at an address, or without end, many at once, and tells where it listens, how each connection ended,
+/// and at the end the root digest. Each line is flushed as it is written.
+///
+/// What came together of all clients is answered together, and then the replies leave. No client is waited for. It is `Stopped` with
+/// `ReadFailed` where it cannot listen or wait, and with `WriteFailed` where a line cannot be written.
+#[tactic(auto, using(crate::proofs::Rounds::served_none))]
+pub fn serve_run<'a, N: Net + Clock + RandomSource, S: Alter + Drop, W: Write>(
+    rt: &N,
+    alloc: Global,
+    replica: &mut Replica<S>,
+    address: SocketAddr,
+    terms: Terms,
+    writer: &mut W,
+) -> Result<(), Stop<'a>>
+    // However it ends, the site changed by turns alone, and its records follow.
+    ensures served { IsServed replica.old replica.new }
+{
+    let mut server = listening(rt, alloc, address, terms)?;
+    let served = server.serve_at::<N, S, W>(rt, alloc, replica, address, terms, writer);
+    drop(server);
+    Ok(served?)
+}
+
+/// A server that listens at an address, and for HTTP at its own port, if it serves that too.
+fn listening<'a, N: Net + Clock + RandomSource>(
+    rt: &N,
+    alloc: Global,
+    address: SocketAddr,
+    terms: Terms,
+) -> Result<Server, Stop<'a>> {
+    match Server::new(rt, alloc, address, terms) {
+        Ok(server) => with_web(rt, server, web_address(address, terms)),
+        Err(error) => Err(Stop::unheard(address, error)),
+    }
+}
+
+/// The same server, which listens at this address too, if there is one.
+fn with_web<'a, N: Net>(
+    rt: &N,
+    mut server: Server,
+    address: Option<SocketAddr>,
+) -> Result<Server, Stop<'a>> {
+    let Some(address) = address else {
+        return Ok(server);
+    };
+    match server.open_web(rt, address) {
+        Ok(()) => Ok(server),
+        Err(error) => {
+            drop(server);
+            Err(Stop::unheard(address, error))
+        }
+    }
+}
+
+impl Server {
+    fn new<N: Net + Clock + RandomSource>(
+        rt: &N,
+        alloc: Global,
+        address: SocketAddr,
+        terms: Terms,
+    ) -> io::Result<Server> {
+        let start = Instant::now(rt)?;
+        let keys = RandomState::new(rt)?;
+        let ready = Vec::with_capacity(alloc, 2 * CLIENTS_MAX)?;
+        let next = Vec::with_capacity(alloc, 2 * CLIENTS_MAX)?;
+        let events = Events::with_capacity(alloc, CLIENTS_MAX + 2)?;
+        let poll = Poll::new(rt)?;
+        let frames = Door::new(rt, poll.registry(), address, Kind::Frames)?;
+        // It owns most, so it comes last: each value before it is let go where a later one fails.
+        let crowd = Crowd::new(alloc, keys, terms.conns, terms.idle)?;
+        Ok(Server {
+            poll,
+            events,
+            frames,
+            http: None,
+            crowd,
+            ready,
+            next,
+            start,
+        })
+    }
+
+    /// Listens at an address for HTTP, too.
+    fn open_web<N: Net>(&mut self, rt: &N, address: SocketAddr) -> io::Result<()> {
+        let door = Door::new(rt, self.poll.registry(), address, Kind::Http)?;
+        self.http = Some(door);
+        Ok(())
+    }
+
+    /// Serves, and tells the address before and the root digest after that.
+    #[tactic(auto, using(crate::proofs::Rounds::served_none))]
+    fn serve_at<N: Net + Clock, S: Alter + Drop, W: Write>(
+        &mut self,
+        rt: &N,
+        alloc: Global,
+        replica: &mut Replica<S>,
+        address: SocketAddr,
+        terms: Terms,
+        writer: &mut W,
+    ) -> Result<(), Fault>
+        ensures served { IsServed replica.old replica.new }
+    {
+        tell_listening(alloc, address, terms, writer)?;
+        self.serve(rt, replica, writer)?;
+        tell_root(alloc, replica, writer)
+    }
+
+    /// Serves until all connections have ended.
+    fn serve<N: Net + Clock, S: Alter + Drop, W: Write>(
+        &mut self,
+        rt: &N,
+        replica: &mut Replica<S>,
+        writer: &mut W,
+    ) -> Result<(), Fault>
+        ensures served { IsServed replica.old replica.new }
+    {
+        for _round in 0..u64::MAX {
+            if self.crowd.is_shut() && self.crowd.is_empty() {
+                return Ok(());
+            }
+            self.wait(rt)?;
+            self.take_in()?;
+            self.crowd.round(replica, &self.ready);
+            self.give_out(writer)?;
+        }
+        Ok(())
+    }
+
+    /// Waits until there may be something to do, and lists the clients of which the system tells so.
+    fn wait<N: Clock>(&mut self, rt: &N) -> Result<(), Fault> {
+        let pause = self.pause();
+        if self.poll.poll(&mut self.events, pause).is_err() {
+            return Err(Fault::Stopped(Refusal::ReadFailed));
+        }
+        // A clock that cannot be read stands still.
+        if let Ok(passed) = self.start.elapsed(rt) {
+            self.crowd.now = millis_of(passed);
+        }
+        for event in &self.events {
+            let token = event.token();
+            if token == FRAMES {
+                self.frames.knocks = true;
+            } else if token != HTTP {
+                self.crowd.note(event, &mut self.ready);
+            } else if let Some(door) = &mut self.http {
+                door.knocks = true;
+            }
+        }
+        Ok(())
+    }
+
+    /// How long nothing needs to be done if the system tells of nothing.
+    fn pause(&self) -> Option<Duration> {
+        if !self.ready.is_empty() {
+            return Some(Duration::ZERO);
+        }
+        let first = earlier(self.crowd.next_due(), self.next_in())?;
+        Some(Duration::from_millis(first.saturating_sub(self.crowd.now)))
+    }
+
+    /// When somebody may be let in.
+    fn next_in(&self) -> Option<u64> {
+        let frames = self.frames.next_due(&self.crowd);
+        match &self.http {
+            Some(door) => earlier(frames, door.next_due(&self.crowd)),
+            None => frames,
+        }
+    }
+
+    /// Lets clients in, ends those that are idle, and reads once of each that is listed.
+    fn take_in(&mut self) -> Result<(), Fault> {
+        let registry = self.poll.registry();
+        self.frames
+            .admit(registry, &mut self.crowd, &mut self.ready)?;
+        if let Some(door) = &mut self.http {
+            door.admit(registry, &mut self.crowd, &mut self.ready)?;
+        }
+        self.crowd.end_idle(&mut self.ready);
+        for client in &self.ready {
+            self.crowd.read(*client);
+        }
+        Ok(())
+    }
+
+    /// Writes once to each client that is listed, tells which ended, and lists those for which there may be more to do at once.
+    fn give_out<W: Write>(&mut self, writer: &mut W) -> Result<(), Fault> {
+        mem::swap(&mut self.ready, &mut self.next);
+        self.ready.clear();
+        for client in &self.next {
+            self.crowd.write(*client)?;
+            self.crowd.list_again(*client, &mut self.ready);
+        }
+        if self.crowd.told.is_empty() {
+            return Ok(());
+        }
+        tell(writer, &mut self.crowd.told)
+    }
+}
+
+/// Tells where a server listens.
+fn tell_listening<W: Write>(
+    alloc: Global,
+    address: SocketAddr,
+    terms: Terms,
+    writer: &mut W,
+) -> Result<(), Fault> {
+    let mut line = String::new(alloc);
+    writeln!(line, "listening {address}")?;
+    if let Some(address) = web_address(address, terms) {
+        writeln!(line, "listening http://{address}/")?;
+    }
+    tell(writer, &mut line)
+}
+
+/// Tells the root digest.
+fn tell_root<S: Alter + Drop, W: Write>(
+    alloc: Global,
+    replica: &Replica<S>,
+    writer: &mut W,
+) -> Result<(), Fault> {
+    let root = replica.root()?;
+    let mut line = String::new(alloc);
+    print_root(alloc, root, &mut line)?;
+    tell(writer, &mut line)
+}
+
+/// Writes the lines at once, and begins anew.
+fn tell<W: Write>(writer: &mut W, lines: &mut String) -> Result<(), Fault> {
+    write_out(writer, lines.as_str())?;
+    lines.clear();
+    match writer.flush() {
+        Ok(()) => Ok(()),
+        Err(_) => Err(Fault::Stopped(Refusal::WriteFailed)),
+    }
+}
+
+/// The address at which HTTP is served, if it is.
+fn web_address(address: SocketAddr, terms: Terms) -> Option<SocketAddr> {
+    match terms.http {
+        Some(port) => Some(SocketAddr::new(address.ip(), port)),
+        None => None,
+    }
+}
+
+/// The earlier of two times.
+fn earlier(first: Option<u64>, second: Option<u64>) -> Option<u64> {
+    match (first, second) {
+        (Some(first), Some(second)) => Some(first.min(second)),
+        (Some(due), None) | (None, Some(due)) => Some(due),
+        (None, None) => None,
+    }
+}
+
+/// The whole milliseconds of a time.
+fn millis_of(time: Duration) -> u64 {
+    let whole = time.as_secs().saturating_mul(1_000);
+    whole.saturating_add(u64::from(time.subsec_millis()))
+}

@@ -1,5 +1,5 @@
 //! All of a reader's input, up to a limit, and text to a writer.
-ghost use Rattle.std.specs.Prelude.{◌≡◌, ◌<◌, ◌≤◌, ℕ, List, length, IfErr, IfOk, OnOk, Err};
+ghost use Rattle.std.specs.Prelude.{◌≡◌, ◌<◌, ◌≤◌, ℕ, List, length, IfErr, IfOk, OnOk, Err, string_bytes};
 ghost use Rattle.std.specs.Io.KnownBytes.{Appends, Consumes, IsAtEnd};
 ghost use Rattle.mvd_dots.specs.declared.refusals.Refusal.TheVariants.{FrameTooLong, WriteFailed};
 ghost use Rattle.mvd_input.specs.declared.fault.Fault.TheVariants.{Stopped};
@@ -40,6 +40,20 @@ pub fn write_out<W: Write>(writer: &mut W, text: &str) -> Result<(), Fault>
     ensures ends { IfErr result EndsEarly }
 {
     match writer.write_all(text.as_bytes()) {
+        Ok(()) => Ok(()),
+        Err(_) => Err(Fault::Stopped(Refusal::WriteFailed)),
+    }
+}
+
+/// Writes the lines at once, and begins anew.
+pub fn tell<W: Write>(writer: &mut W, lines: &mut String) -> Result<(), Fault>
+    ensures told { OnOk result (Appends (W.contents writer.old) (W.contents writer.new) (string_bytes lines.old)) }
+    ensures failed { IfErr result (λ fault. fault ≡ Stopped WriteFailed) }
+    ensures ends { IfErr result EndsEarly }
+{
+    write_out(writer, lines.as_str())?;
+    lines.clear();
+    match writer.flush() {
         Ok(()) => Ok(()),
         Err(_) => Err(Fault::Stopped(Refusal::WriteFailed)),
     }

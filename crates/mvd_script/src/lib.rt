@@ -13,5 +13,5 @@ mod talk;
 mod text_requests;
 
 pub use script::sim;
-pub use shell::{shell_run, tell};
+pub use shell::shell_run;
 pub use talk::answer;

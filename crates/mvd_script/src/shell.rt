@@ -10,7 +10,7 @@ ghost use Rattle.mvd_script.specs.Talk.{Asks};
 use crate::line_reader::read_line;
 use crate::talk::answer;
 use mvd_dots::Refusal;
-use mvd_input::{Fault, Typed, text_of, typed_of, write_out};
+use mvd_input::{Fault, Typed, tell, text_of, typed_of};
 use mvd_peer::Endpoint;
 use std::alloc::Global;
 use std::fmt::Write as Print;
@@ -121,18 +121,4 @@ fn print_no_command(number: u64, out: &mut String) -> Result<(), Fault>
 {
     writeln!(out, "line {number}: not a command")?;
     Ok(())
-}
-
-/// Writes the lines at once, and begins anew.
-pub fn tell<W: Write>(writer: &mut W, lines: &mut String) -> Result<(), Fault>
-    ensures told { OnOk result (Appends (W.contents writer.old) (W.contents writer.new) (string_bytes lines.old)) }
-    ensures failed { IfErr result (λ fault. fault ≡ Stopped WriteFailed) }
-    ensures ends { IfErr result EndsEarly }
-{
-    write_out(writer, lines.as_str())?;
-    lines.clear();
-    match writer.flush() {
-        Ok(()) => Ok(()),
-        Err(_) => Err(Fault::Stopped(Refusal::WriteFailed)),
-    }
 }

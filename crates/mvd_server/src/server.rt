@@ -7,7 +7,7 @@ use crate::talks::Kind;
 use mio::{Events, Poll};
 use mvd_dots::Refusal;
 use mvd_hint::Stop;
-use mvd_input::{Fault, write_out};
+use mvd_input::{Fault, tell};
 use mvd_print::print_root;
 use mvd_replica::Replica;
 use sqlite::Alter;
@@ -266,16 +266,6 @@ fn tell_root<S: Alter + Drop, W: Write>(
     let mut line = String::new(alloc);
     print_root(alloc, root, &mut line)?;
     tell(writer, &mut line)
-}
-
-/// Writes the lines at once, and begins anew.
-fn tell<W: Write>(writer: &mut W, lines: &mut String) -> Result<(), Fault> {
-    write_out(writer, lines.as_str())?;
-    lines.clear();
-    match writer.flush() {
-        Ok(()) => Ok(()),
-        Err(_) => Err(Fault::Stopped(Refusal::WriteFailed)),
-    }
 }
 
 /// The address at which HTTP is served, if it is.

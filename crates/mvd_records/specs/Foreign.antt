@@ -1,7 +1,7 @@
 -- Databases of other programs.
 --
 -- Two names of objects are one where they differ in the case of ASCII letters alone.
-use Rattle.std.specs.Prelude.{◌≡◌, ◌≢◌, ◌⊎◌, Bool, false, ◌||◌, ℕ, not, List, [], IsTrue, codes}
+use Rattle.std.specs.Prelude.{◌≡◌, ◌≢◌, ◌⊎◌, ◌↔◌, Bool, false, ◌||◌, ℕ, not, List, [], IsTrue, codes}
 use Rattle.std.specs.List.{list_any}
 use Rattle.sqlite.specs.Table.{Table}
 use Rattle.sqlite.specs.Effect.{Database}
@@ -31,3 +31,7 @@ pub record HoldsForeign (s : State) : Type 0 where
   pub foreign : IsForeign s.committed
   pub autocommit : s.in_transaction ≡ false
   pub is_open : IsTrue s.is_open
+
+-- true just of such a database, where the connection is open
+abbrev pub FindsForeign : State → Bool → Type 0
+FindsForeign s result = IsTrue s.is_open → IsTrue result ↔ HoldsForeign s

@@ -1,7 +1,7 @@
 //! Whether a database is another program's.
-ghost use Rattle.std.specs.Prelude.{◌≡◌, ◌↔◌, IsTrue};
+ghost use Rattle.std.specs.Prelude.{◌≡◌};
 ghost use Rattle.sqlite.specs.Held.{state};
-ghost use Rattle.mvd_records.specs.Foreign.{HoldsForeign, has_other, has_table, is_named};
+ghost use Rattle.mvd_records.specs.Foreign.{FindsForeign, has_other, has_table, is_named};
 
 use sqlite::{Alter, Connection};
 use sqlite_schema::names::same_name;
@@ -30,7 +30,7 @@ fn has_other(tables: &[Table]) -> bool
 
 /// Whether the connection holds the database of another program. It reads nothing, and writes nothing.
 pub fn is_foreign<S: Alter>(conn: &Connection<S>) -> bool
-    ensures { IsTrue (state S.Store conn.now).is_open → IsTrue result ↔ HoldsForeign (state S.Store conn.now) }
+    ensures { FindsForeign (state S.Store conn.now) result }
 {
     if !conn.is_autocommit() {
         return false;

@@ -1,7 +1,7 @@
 -- A site at the other end of a true line, as a faithful side.
 use Rattle.std.proofs.Common.{◌≡◌, ◌≢◌, inl, inr, ℕ, zero, suc, ◌+◌, true, false, List, [], ◌∷◌, length, map, take, Option, refl, sym, ap, subst, ◌∙◌, arith}
 use Rattle.std.proofs.lemmas.Bool.Decides.{nat_tests}
-use Rattle.std.specs.Prelude.{Result, Ok, Err, IfOk, IfErr, OnOk, OnErr, MatchResult, nat_le}
+use Rattle.std.specs.Prelude.{Result, Ok, Err, IfOk, IfErr, OnOk, OnErr, MatchResult, nat_le, if◌then◌else◌}
 use Rattle.mvd_dots.specs.declared.refusals.Refusal.{Refusal}
 use Rattle.mvd_dots.specs.declared.refusals.Refusal.TheVariants.{BadPath, Broken, DotClash, FrameTooLong, Full, StateTooLarge}
 use Rattle.mvd_keys.specs.State.{State}

@@ -12,6 +12,7 @@ use Rattle.mvd_keys.specs.Writes.{Key}
 use Rattle.mvd_tree.specs.Hashed.{HashesTellApart}
 use Rattle.mvd_site.specs.Answer.{is_too_large, spelled}
 use Rattle.mvd_site.specs.Held.{States, state_at}
+use Rattle.mvd_peer.specs.PushedStates.{ComesByPushes, Each}
 use Rattle.mvd_sync.specs.Olds.{HasUnseen}
 use Rattle.mvd_sync.specs.Faults.{Blames, IsFaultOf}
 use Rattle.mvd_peer.specs.Sides.{HasAnswered, IsSilent, Sides, Two, two}

@@ -113,10 +113,12 @@ fn stands_at(alloc: Global, name: &str, digits: &[u8]) -> Result<bool, Refusal> 
     Ok(path.digits() == digits)
 }
 
+const PATHS: [(&str, [u8; 3]); 3] = [("a", [12, 10, 9]), ("b", [3, 14, 2]), ("abc", [11, 10, 7])];
+
 #[test]
 fn keys_have_their_paths(rt: HostRuntime) -> Result<(), Fail> {
-    assert!(rt; stands_at(rt.alloc(), "a", &[12, 10, 9])?);
-    assert!(rt; stands_at(rt.alloc(), "b", &[3, 14, 2])?);
-    assert!(rt; stands_at(rt.alloc(), "abc", &[11, 10, 7])?);
+    for (name, digits) in PATHS {
+        assert!(rt; stands_at(rt.alloc(), name, &digits)?);
+    }
     Ok(())
 }

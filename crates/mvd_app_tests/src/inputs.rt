@@ -1,6 +1,5 @@
 //! Hexadecimal lines, files of definitions, and a connection within one process.
 use mvd_app::loop_run;
-use mvd_dots::Refusal;
 use mvd_input::{Fault, hex_bytes, read_defs};
 use mvd_rows::Defs;
 use mvd_site::Config;
@@ -8,23 +7,15 @@ use std::alloc::{AllocError, Global};
 use std::net::Net;
 use std::test::Fail;
 
-/// What comes of an input.
-#[derive(Clone, Copy, PartialEq)]
-enum Came {
-    /// It is read.
-    Well,
-    /// Its line of this number is at fault.
-    At(u64),
-    /// It is too long.
-    TooLong,
-    Other,
-}
+/// What comes of an input: it is read, or its line of this number is at fault, or else it is refused with that number.
+type Came = Result<(), (u64, u8)>;
+
+const TOO_LONG: Came = Err((0, 31));
 
 fn came_of(fault: Fault) -> Came {
     match fault {
-        Fault::Line(line) => Came::At(line),
-        Fault::Stopped(Refusal::FrameTooLong) => Came::TooLong,
-        Fault::Stopped(_) => Came::Other,
+        Fault::Line(line) => Err((line, 0)),
+        Fault::Stopped(refusal) => Err((0, refusal.number())),
     }
 }
 
@@ -51,7 +42,7 @@ fn spell(alloc: Global, lines: &[u8], wanted: &[u8]) -> bool {
 /// What comes of lines of hexadecimal.
 fn of_hexadecimal(alloc: Global, lines: &[u8]) -> Came {
     match hex_bytes(alloc, lines) {
-        Ok(_) => Came::Well,
+        Ok(_) => Ok(()),
         Err(fault) => came_of(fault),
     }
 }
@@ -59,7 +50,7 @@ fn of_hexadecimal(alloc: Global, lines: &[u8]) -> Came {
 /// What comes of definitions.
 fn of_definitions(alloc: Global, lines: &[u8]) -> Came {
     match read_defs(alloc, lines) {
-        Ok(_) => Came::Well,
+        Ok(_) => Ok(()),
         Err(fault) => came_of(fault),
     }
 }
@@ -77,27 +68,27 @@ fn comes(alloc: Global, is_hex: bool, input: Input, wanted: Came) -> Result<bool
 
 /// Lines of hexadecimal, and files of definitions.
 const INPUTS: [(bool, Input, Came); 13] = [
-    (true, (b"xy", 0, 0), Came::At(1)),
-    (true, (b"00\n000\n", 0, 0), Came::At(2)),
-    (true, (b"00\n", b'0', 65_534), Came::Well),
-    (true, (b"xy\n", b'0', 65_538), Came::At(1)),
-    (true, (b"00\n", b'0', 65_536), Came::TooLong),
-    (true, (b"", b'\n', 131_072), Came::Well),
-    (true, (b"x", b'\n', 131_072), Came::TooLong),
+    (true, (b"xy", 0, 0), Err((1, 0))),
+    (true, (b"00\n000\n", 0, 0), Err((2, 0))),
+    (true, (b"00\n", b'0', 65_534), Ok(())),
+    (true, (b"xy\n", b'0', 65_538), Err((1, 0))),
+    (true, (b"00\n", b'0', 65_536), TOO_LONG),
+    (true, (b"", b'\n', 131_072), Ok(())),
+    (true, (b"x", b'\n', 131_072), TOO_LONG),
     (
         false,
         (b"# two\n\nindex city\nview v city n\n", 0, 0),
-        Came::Well,
+        Ok(()),
     ),
     (
         false,
         (b"index city\nview v city n\nmax 1", 0, 0),
-        Came::At(3),
+        Err((3, 0)),
     ),
-    (false, (b"index city\nindex city", 0, 0), Came::At(2)),
-    (false, (b"\xff", 0, 0), Came::At(1)),
-    (false, (b"", b'\n', 65_536), Came::Well),
-    (false, (b"x", b'\n', 65_536), Came::TooLong),
+    (false, (b"index city\nindex city", 0, 0), Err((2, 0))),
+    (false, (b"\xff", 0, 0), Err((1, 0))),
+    (false, (b"", b'\n', 65_536), Ok(())),
+    (false, (b"x", b'\n', 65_536), TOO_LONG),
 ];
 
 #[test]
@@ -122,8 +113,8 @@ fn prints<N: Net>(rt: &N, alloc: Global, lines: &[u8], wanted: &str) -> Result<b
 /// What comes of a connection with these requests, which is well if it prints this.
 fn of_connection<N: Net>(rt: &N, alloc: Global, lines: &[u8], wanted: &str) -> Came {
     match prints(rt, alloc, lines, wanted) {
-        Ok(true) => Came::Well,
-        Ok(false) => Came::Other,
+        Ok(true) => Ok(()),
+        Ok(false) => Err((0, 0)),
         Err(fault) => came_of(fault),
     }
 }
@@ -144,18 +135,18 @@ const REQUESTS: [(Input, &str, Came); 4] = [
     (
         (b"000000032101\n6b\n000000012f", 0, 0),
         "00000007a1000000000000\n00000001a3\nended bye\n",
-        Came::Well,
+        Ok(()),
     ),
     (
         (b"0000", 0, 0),
         "00000002ee1e\nended 30 Truncated\n",
-        Came::Well,
+        Ok(()),
     ),
-    ((b"00\nxy", 0, 0), "", Came::At(2)),
+    ((b"00\nxy", 0, 0), "", Err((2, 0))),
     (
         (b"000000012f\n", b'0', 60_000),
         "00000001a3\nended bye\n",
-        Came::Well,
+        Ok(()),
     ),
 ];
 

@@ -74,7 +74,7 @@ fn push_turns(out: &mut String) -> Result<(), AllocError> {
     out.push_str("sites 2\n")?;
     for turn in 0..25_000u32 {
         let key = turn % 1_000;
-        let message = turn + 1;
+        let message = u64::from(turn) + 1;
         writeln!(
             out,
             "put 1 k{key} @ {{\"n\":{turn}}}\nsend 1 k{key}\nrecv 2 {message}\nget 2 k{key}"

@@ -77,13 +77,16 @@ fn is_wanted(order: Order<'_>, wanted: Wanted) -> bool {
 
 /// Whether a fault is of a number, or says this.
 fn is_told(alloc: Global, fault: &OrderFault, wanted: Wanted) -> Result<bool, AllocError> {
-    match (fault, wanted) {
-        (OrderFault::Range, Wanted::Range) => Ok(true),
-        (OrderFault::Words(error), Wanted::Says(part)) => {
-            let text = format!(in alloc; "{error}")?;
-            Ok(text.as_str().contains(part))
-        }
-        _ => Ok(false),
+    match fault {
+        OrderFault::Range => Ok(matches!(wanted, Wanted::Range)),
+        OrderFault::Words(error) => match wanted {
+            Wanted::Says(part) => {
+                let text = format!(in alloc; "{error}")?;
+                Ok(text.as_str().contains(part))
+            }
+            _ => Ok(false),
+        },
+        OrderFault::Stopped(_) => Ok(false),
     }
 }
 

@@ -79,7 +79,7 @@ fn add_keys(
 }
 
 /// A page of these keys.
-fn page(alloc: Global, question: u64, keys: &[&str], more: bool) -> Result<Page, Refusal> {
+fn page_with(alloc: Global, question: u64, keys: &[&str], more: bool) -> Result<Page, Refusal> {
     let mut page = Vec::new(alloc);
     add_keys(&mut page, alloc, question, keys)?;
     Ok((page, more))
@@ -89,19 +89,19 @@ fn page(alloc: Global, question: u64, keys: &[&str], more: bool) -> Result<Page,
 fn next_page(alloc: Global, question: u64) -> Result<Page, Refusal> {
     let number = question.saturating_add(10_000_000);
     let key = format!(in alloc; "{number}")?;
-    page(alloc, question, &[key.as_str()], true)
+    page_with(alloc, question, &[key.as_str()], true)
 }
 
 /// What a liar tells of a bucket, at the first page or after that.
 pub fn page_of(alloc: Global, lie: Lie, question: u64, is_first: bool) -> Result<Page, Refusal> {
     match lie {
-        Lie::NoChildren | Lie::NoKeys => page(alloc, question, &[], false),
-        Lie::Falling => page(alloc, question, &["b", "a"], false),
-        Lie::MoreWithoutKey => page(alloc, question, &[], true),
-        Lie::OneKey => page(alloc, question, &["k"], false),
-        Lie::SamePage => page(alloc, question, &["k"], true),
-        Lie::RefusesAt(_) if is_first => page(alloc, question, &["k"], true),
-        Lie::RefusesAt(_) => page(alloc, question, &["l"], false),
+        Lie::NoChildren | Lie::NoKeys => page_with(alloc, question, &[], false),
+        Lie::Falling => page_with(alloc, question, &["b", "a"], false),
+        Lie::MoreWithoutKey => page_with(alloc, question, &[], true),
+        Lie::OneKey => page_with(alloc, question, &["k"], false),
+        Lie::SamePage => page_with(alloc, question, &["k"], true),
+        Lie::RefusesAt(_) if is_first => page_with(alloc, question, &["k"], true),
+        Lie::RefusesAt(_) => page_with(alloc, question, &["l"], false),
         Lie::OneKeyForEver => next_page(alloc, question),
     }
 }

@@ -88,11 +88,11 @@ fn is_written(site: &mut Site, request: &Request) -> bool {
 }
 
 /// A state of one put by site 1: the dot 1:1, with {}.
-const WRITTEN: &[u8] =
+const ONE_PUT: &[u8] =
     b"\0\0\0\x01\0\0\0\x01\0\0\0\0\0\0\0\x01\0\0\0\0\0\x01\0\0\0\x01\0\0\0\0\0\0\0\x01\0\0\0\x02{}";
 
 pub fn written(alloc: Global) -> Result<KeyState, Refusal> {
-    decode_state(alloc, WRITTEN)
+    decode_state(alloc, ONE_PUT)
 }
 
 /// Whether a state has this context and so many siblings.

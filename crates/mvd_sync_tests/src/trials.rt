@@ -63,7 +63,7 @@ pub fn holds(alloc: Global, number: u32, max_keys: u32, trial: Trial) -> Result<
 }
 
 /// What holds, with the number of the second site, and how many keys each site may have.
-const TRIALS: [(&str, u32, u32, Trial); 13] = [
+const CASES: [(&str, u32, u32, Trial); 13] = [
     ("so many questions and no more", 2, 10, Trial::Asked),
     ("few questions for few keys", 2, 20_000, Trial::Few),
     ("states that clash are left", 1, 10, Trial::Clash),
@@ -102,7 +102,7 @@ const TRIALS: [(&str, u32, u32, Trial); 13] = [
 
 #[test]
 fn sessions_end_as_they_should(rt: HostRuntime) -> Result<(), Fail> {
-    for (name, number, max_keys, trial) in TRIALS {
+    for (name, number, max_keys, trial) in CASES {
         assert!(rt; holds(rt.alloc(), number, max_keys, trial)?, "{name}");
     }
     Ok(())

@@ -12,7 +12,6 @@ use mvd_site::{Config, Site};
 use mvd_sync::SyncFault;
 use mvd_wire::Request;
 use std::alloc::Global;
-use std::test::Fail;
 
 /// A site at the other end that gives these bytes, and keeps what it is sent.
 type Link<'a> = Remote<Duplex<&'a [u8], Vec<u8>>>;
@@ -145,7 +144,7 @@ fn takes_its_kind(
 }
 
 /// Whether it is so of each request and each reply.
-fn take_their_kinds(alloc: Global) -> Result<bool, Refusal> {
+pub fn take_their_kinds(alloc: Global) -> Result<bool, Refusal> {
     for request in &REQUESTS {
         for reply in REPLIES {
             if !takes_its_kind(alloc, request, reply)? {
@@ -154,12 +153,6 @@ fn take_their_kinds(alloc: Global) -> Result<bool, Refusal> {
         }
     }
     Ok(true)
-}
-
-#[test]
-fn a_reply_of_every_other_kind_is_32(rt: HostRuntime) -> Result<(), Fail> {
-    assert!(rt; take_their_kinds(rt.alloc())?);
-    Ok(())
 }
 
 /// Whether a session with each of these replies ends so.
@@ -227,16 +220,10 @@ fn is_written(alloc: Global, pushes: &[(Key, KeyState)]) -> bool {
 }
 
 /// The same of a state of one put by site 1, at three keys.
-fn windows_are_whole(alloc: Global) -> Result<bool, Refusal> {
+pub fn windows_are_whole(alloc: Global) -> Result<bool, Refusal> {
     let mut pushes = Vec::new(alloc);
     add_pushes(&mut pushes, alloc)?;
     Ok(is_written(alloc, &pushes) && stays_in_step(alloc, &pushes)?)
-}
-
-#[test]
-fn a_window_is_read_and_written_whole(rt: HostRuntime) -> Result<(), Fail> {
-    assert!(rt; windows_are_whole(rt.alloc())?);
-    Ok(())
 }
 
 /// Whether a session gives that a key, after which the roots are equal, and a Bye is answered.

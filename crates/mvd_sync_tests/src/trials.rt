@@ -4,7 +4,9 @@ use crate::many_keys::ask_few;
 use crate::mistaken::takes_what_is_given;
 use crate::peers::Counting;
 use crate::refused_growth::session_of;
-use crate::remotes::{are_ended, end_with_other_kinds, meets_over_a_line};
+use crate::remotes::{
+    are_ended, end_with_other_kinds, meets_over_a_line, take_their_kinds, windows_are_whole,
+};
 use crate::two_sites::{are_asked, clash, tells_old};
 use mvd_dots::Refusal;
 use std::alloc::Global;
@@ -23,6 +25,8 @@ pub enum Trial {
     Mistaken,
     Links,
     Kinds,
+    Replies,
+    Windows,
     Line,
     Growth,
 }
@@ -41,6 +45,8 @@ fn holds_of(one: &mut Counting, two: &mut Counting, trial: Trial) -> Result<bool
         Trial::Mistaken => takes_what_is_given(one, two),
         Trial::Links => Ok(are_ended(one)),
         Trial::Kinds => Ok(end_with_other_kinds(one)),
+        Trial::Replies => take_their_kinds(one.alloc),
+        Trial::Windows => windows_are_whole(one.alloc),
         Trial::Line => meets_over_a_line(one),
         Trial::Growth => session_of(one, two),
     }
@@ -63,7 +69,7 @@ pub fn holds(alloc: Global, number: u32, max_keys: u32, trial: Trial) -> Result<
 }
 
 /// What holds, with the number of the second site, and how many keys each site may have.
-const CASES: [(&str, u32, u32, Trial); 13] = [
+const CASES: [(&str, u32, u32, Trial); 15] = [
     ("so many questions and no more", 2, 10, Trial::Asked),
     ("few questions for few keys", 2, 20_000, Trial::Few),
     ("states that clash are left", 1, 10, Trial::Clash),
@@ -96,7 +102,14 @@ const CASES: [(&str, u32, u32, Trial); 13] = [
         10,
         Trial::Links,
     ),
-    ("a reply of another kind is 32", 2, 10, Trial::Kinds),
+    (
+        "a session with replies of another kind is 32",
+        2,
+        10,
+        Trial::Kinds,
+    ),
+    ("a reply of every other kind is 32", 2, 10, Trial::Replies),
+    ("a window is read and written whole", 2, 10, Trial::Windows),
     ("a session over a line to a site", 2, 10, Trial::Line),
 ];
 

@@ -69,9 +69,8 @@ pub fn holds(alloc: Global, number: u32, max_keys: u32, trial: Trial) -> Result<
 }
 
 /// What holds, with the number of the second site, and how many keys each site may have.
-const CASES: [(&str, u32, u32, Trial); 15] = [
+const CASES: [(&str, u32, u32, Trial); 12] = [
     ("so many questions and no more", 2, 10, Trial::Asked),
-    ("few questions for few keys", 2, 20_000, Trial::Few),
     ("states that clash are left", 1, 10, Trial::Clash),
     ("an old copy is told", 2, 10, Trial::Old),
     (
@@ -92,9 +91,6 @@ const CASES: [(&str, u32, u32, Trial); 15] = [
         10,
         Trial::Changes(Lie::OneKey, 4_096),
     ),
-    // Of 21 nodes, and in 64 buckets of two pages with a state that is given for each.
-    ("each question may be refused", 2, 10, Trial::Refusals),
-    ("pages without end are 36", 2, 10, Trial::Stops),
     ("the state of another key clashes", 2, 10, Trial::Mistaken),
     (
         "a link tells its refusal, and stays refused where it ended",
@@ -118,5 +114,26 @@ fn sessions_end_as_they_should(rt: HostRuntime) -> Result<(), Fail> {
     for (name, number, max_keys, trial) in CASES {
         assert!(rt; holds(rt.alloc(), number, max_keys, trial)?, "{name}");
     }
+    Ok(())
+}
+
+// Those that take long have a test each, since a test may take a minute.
+
+#[test]
+fn few_questions_for_few_keys(rt: HostRuntime) -> Result<(), Fail> {
+    assert!(rt; holds(rt.alloc(), 2, 20_000, Trial::Few)?);
+    Ok(())
+}
+
+/// Each question of 21 nodes, and of 64 buckets of two pages with a state that is given for each.
+#[test]
+fn each_question_may_be_refused(rt: HostRuntime) -> Result<(), Fail> {
+    assert!(rt; holds(rt.alloc(), 2, 10, Trial::Refusals)?);
+    Ok(())
+}
+
+#[test]
+fn pages_without_end_are_36(rt: HostRuntime) -> Result<(), Fail> {
+    assert!(rt; holds(rt.alloc(), 2, 10, Trial::Stops)?);
     Ok(())
 }

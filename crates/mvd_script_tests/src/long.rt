@@ -139,26 +139,15 @@ const OF_SIBLINGS: &str =
 const LAST_ROOT: &str = "fe63bf067988a1893dd1d0f58fc1698996b8a74d032d73a900e3f9580aa48087\n";
 
 /// Scripts, how many lines they print, and the last of these.
-const SCRIPTS: [(Long, usize, &str); 7] = [
+const SCRIPTS: [(Long, usize, &str); 4] = [
     (Long::Limits, 4, AT_LIMITS),
     (Long::Siblings, 18, OF_SIBLINGS),
     (Long::Comments(262_144, false), 0, ""),
-    (
-        Long::Turns,
-        125_000,
-        "message 25000\nok\ncontext 1:25\n1:25 {\"n\":24999}\n",
-    ),
-    (Long::Changes, 100_000, LAST_ROOT),
     // Lists of more than a page.
     (
         Long::Keys(1_001, "find 1 n 1\nrows 1 v\nrange 1 n [1,1]\n"),
         4_004,
         "1 k999 1:1\n",
-    ),
-    (
-        Long::Keys(100_000, "find 1 n 1\nrows 1 v\nrow 1 v 7\n"),
-        300_001,
-        "\n99999 1 1 1 1\n1 1 1 1\n",
     ),
 ];
 
@@ -167,6 +156,28 @@ fn long_scripts(rt: HostRuntime) -> Result<(), Fail> {
     for (long, count, last) in SCRIPTS {
         assert!(rt; prints(rt.alloc(), long, count, last)?, "{count} lines");
     }
+    Ok(())
+}
+
+// Those that take long have a test each, since a test may take a minute.
+
+#[test]
+fn many_turns(rt: HostRuntime) -> Result<(), Fail> {
+    let last = "message 25000\nok\ncontext 1:25\n1:25 {\"n\":24999}\n";
+    assert!(rt; prints(rt.alloc(), Long::Turns, 125_000, last)?);
+    Ok(())
+}
+
+#[test]
+fn digests_after_many_changes(rt: HostRuntime) -> Result<(), Fail> {
+    assert!(rt; prints(rt.alloc(), Long::Changes, 100_000, LAST_ROOT)?);
+    Ok(())
+}
+
+#[test]
+fn lists_of_many_keys(rt: HostRuntime) -> Result<(), Fail> {
+    let long = Long::Keys(100_000, "find 1 n 1\nrows 1 v\nrow 1 v 7\n");
+    assert!(rt; prints(rt.alloc(), long, 300_001, "\n99999 1 1 1 1\n1 1 1 1\n")?);
     Ok(())
 }
 

@@ -20,15 +20,17 @@ fn tells(alloc: Global, stop: &Stop<'_>, wanted: &str) -> Result<bool, AllocErro
     Ok(told.as_str() == wanted)
 }
 
-// These have no clause, so that the proof of a test does not carry the state of each call.
-fn opened(
+/// A site that holds two keys at most. It has no clause, so that the proof of a test does not carry the state of each
+/// call.
+pub fn opened(
     alloc: Global,
     conn: Connection<MemStore>,
     site: u32,
+    defs: Defs,
 ) -> Result<Replica<MemStore>, Stop<'static>>
     requires { 0 < site }
 {
-    match Replica::open(alloc, conn, Config::new(site, 10, Defs::new(alloc))) {
+    match Replica::open(alloc, conn, Config::new(site, 2, defs)) {
         Ok(replica) => Ok(replica),
         Err((refusal, mut conn)) => {
             let stop = refused_in("a.db", refusal, &mut conn);
@@ -47,7 +49,7 @@ fn is_told(
 ) -> Result<bool, AllocError>
     requires { 0 < site }
 {
-    match opened(alloc, conn, site) {
+    match opened(alloc, conn, site, Defs::new(alloc)) {
         Ok(replica) => {
             drop(replica);
             Ok(false)
@@ -60,18 +62,15 @@ fn is_told(
 fn told_to(alloc: Global, site: u32, wanted: &str) -> Result<bool, Fail>
     requires { 0 < site }
 {
-    match opened(alloc, Connection::open_in_memory(alloc)?, 7) {
+    match opened(
+        alloc,
+        Connection::open_in_memory(alloc)?,
+        7,
+        Defs::new(alloc),
+    ) {
         Ok(replica) => Ok(is_told(alloc, replica.into_connection(), site, wanted)?),
         Err(_) => Ok(false),
     }
-}
-
-#[test]
-fn whose_a_file_is_is_told(rt: HostRuntime) -> Result<(), Fail> {
-    let wanted =
-        "mvd: fault 16 SiteMismatch\nmvd: a.db is the file of site 7: name that site by --site, or another file";
-    assert!(rt; told_to(rt.alloc(), 8, wanted)?);
-    Ok(())
 }
 
 fn run(conn: &mut Connection<MemStore>, sql: &str) -> bool {
@@ -86,60 +85,69 @@ fn told_of(alloc: Global, table: &str, wanted: &str) -> Result<bool, Fail> {
 }
 
 #[test]
-fn another_programs_file_is_told(rt: HostRuntime) -> Result<(), Fail> {
-    let wanted =
+fn whose_a_file_is_is_told(rt: HostRuntime) -> Result<(), Fail> {
+    let other_site =
+        "mvd: fault 16 SiteMismatch\nmvd: a.db is the file of site 7: name that site by --site, or another file";
+    assert!(rt; told_to(rt.alloc(), 8, other_site)?);
+    let other_program =
         "mvd: fault 17 Damaged\nmvd: a.db is the file of another program: name another file";
-    assert!(rt; told_of(rt.alloc(), "CREATE TABLE note (title TEXT)", wanted)?);
+    assert!(rt; told_of(rt.alloc(), "CREATE TABLE note (title TEXT)", other_program)?);
     Ok(())
 }
 
-#[test]
-fn a_port_in_use_is_told(rt: HostRuntime) -> Result<(), Fail> {
-    let address = SocketAddr::new(IpAddr::V4(Ipv4Addr::LOCALHOST), 7007);
-    let stop = Stop::unheard(address, io::Error::from(ErrorKind::AddrInUse));
-    let wanted =
-        "mvd: fault 34 ReadFailed\nmvd: 127.0.0.1:7007 is in use: end the program that listens there, or name another port";
-    assert!(rt; tells(rt.alloc(), &stop, wanted)?);
-    Ok(())
+/// Why a command was stopped.
+#[derive(Clone, Copy)]
+enum Cause {
+    /// A port that is in use.
+    InUse,
+    /// A port without rights.
+    NoRight,
+    /// A peer that is none.
+    NoPeer,
+    /// A line without its form.
+    Line,
+    /// One without a hint.
+    Memory,
 }
 
-#[test]
-fn a_port_without_rights_is_told(rt: HostRuntime) -> Result<(), Fail> {
-    let address = SocketAddr::new(IpAddr::V4(Ipv4Addr::LOCALHOST), 80);
-    let stop = Stop::unheard(address, io::Error::from(ErrorKind::PermissionDenied));
-    let wanted =
-        "mvd: fault 34 ReadFailed\nmvd: there is no right to listen at 127.0.0.1:80: name another --port, of 1024 or more";
-    assert!(rt; tells(rt.alloc(), &stop, wanted)?);
-    Ok(())
+fn at(port: u16) -> SocketAddr {
+    SocketAddr::new(IpAddr::V4(Ipv4Addr::LOCALHOST), port)
 }
 
-#[test]
-fn a_peer_that_is_none_is_told(rt: HostRuntime) -> Result<(), Fail> {
-    let address = SocketAddr::new(IpAddr::V4(Ipv4Addr::LOCALHOST), 7007);
-    let wanted =
-        "mvd: fault 32 BadKind\nmvd: 127.0.0.1:7007 does not answer as mvd does: name another --address and --port, or bring both to one version";
-    assert!(rt;
-        tells(
-            rt.alloc(),
-            &Stop::at_server(address, Refusal::BadKind),
-            wanted
-        )?
-    );
-    Ok(())
+fn stop_of(cause: Cause) -> Stop<'static> {
+    match cause {
+        Cause::InUse => Stop::unheard(at(7007), io::Error::from(ErrorKind::AddrInUse)),
+        Cause::NoRight => Stop::unheard(at(80), io::Error::from(ErrorKind::PermissionDenied)),
+        Cause::NoPeer => Stop::at_server(at(7007), Refusal::BadKind),
+        Cause::Line => Stop::in_input(Fault::Line(3), Hint::Hexadecimal),
+        Cause::Memory => Stop::from(Refusal::Memory),
+    }
 }
 
+const TOLD: [(Cause, &str); 5] = [
+    (
+        Cause::InUse,
+        "mvd: fault 34 ReadFailed\nmvd: 127.0.0.1:7007 is in use: end the program that listens there, or name another port",
+    ),
+    (
+        Cause::NoRight,
+        "mvd: fault 34 ReadFailed\nmvd: there is no right to listen at 127.0.0.1:80: name another --port, of 1024 or more",
+    ),
+    (
+        Cause::NoPeer,
+        "mvd: fault 32 BadKind\nmvd: 127.0.0.1:7007 does not answer as mvd does: name another --address and --port, or bring both to one version",
+    ),
+    (
+        Cause::Line,
+        "mvd: line 3: not a command\nmvd: standard input: a line has two hexadecimal digits for each byte",
+    ),
+    (Cause::Memory, "mvd: fault 20 Memory"),
+];
+
 #[test]
-fn a_line_is_told_with_its_form(rt: HostRuntime) -> Result<(), Fail> {
-    let stop = Stop::in_input(Fault::Line(3), Hint::Hexadecimal);
-    let wanted =
-        "mvd: line 3: not a command\nmvd: standard input: a line has two hexadecimal digits for each byte";
-    assert!(rt; tells(rt.alloc(), &stop, wanted)?);
-    assert!(rt;
-        tells(
-            rt.alloc(),
-            &Stop::from(Refusal::Memory),
-            "mvd: fault 20 Memory"
-        )?
-    );
+fn a_cause_is_told(rt: HostRuntime) -> Result<(), Fail> {
+    for (cause, wanted) in TOLD {
+        assert!(rt; tells(rt.alloc(), &stop_of(cause), wanted)?, "{wanted}");
+    }
     Ok(())
 }

@@ -1,6 +1,5 @@
 //! Hexadecimal lines, files of definitions, and a connection within one process.
 use mvd_app::loop_run;
-use mvd_dots::Refusal;
 use mvd_input::{Fault, hex_bytes, read_defs};
 use mvd_rows::Defs;
 use mvd_site::Config;
@@ -8,24 +7,31 @@ use std::alloc::{AllocError, Global};
 use std::net::Net;
 use std::test::Fail;
 
-/// The lines, and then a byte so many times.
-fn followed(alloc: Global, lines: &[u8], byte: u8, count: u32) -> Result<Vec<u8>, AllocError> {
+/// What comes of an input: it is read, or its line of this number is at fault, or else it is refused with that number.
+type Came = Result<(), (u64, u8)>;
+
+const TOO_LONG: Came = Err((0, 31));
+
+fn came_of(fault: Fault) -> Came {
+    match fault {
+        Fault::Line(line) => Err((line, 0)),
+        Fault::Stopped(refusal) => Err((0, refusal.number())),
+    }
+}
+
+/// Lines, a byte that follows them, and how often.
+type Input = (&'static [u8], u8, u32);
+
+fn text_of(alloc: Global, input: Input) -> Result<Vec<u8>, AllocError> {
     let mut text = Vec::new(alloc);
-    text.extend_from_slice(lines)?;
-    for _ in 0..count {
-        text.push(byte)?;
+    text.extend_from_slice(input.0)?;
+    for _ in 0..input.2 {
+        text.push(input.1)?;
     }
     Ok(text)
 }
 
-fn is_line(fault: &Fault, number: u64) -> bool {
-    matches!(fault, Fault::Line(line) if *line == number)
-}
-
-fn is_too_long(fault: &Fault) -> bool {
-    matches!(fault, Fault::Stopped(Refusal::FrameTooLong))
-}
-
+/// Whether lines of hexadecimal spell this.
 fn spell(alloc: Global, lines: &[u8], wanted: &[u8]) -> bool {
     match hex_bytes(alloc, lines) {
         Ok(bytes) => bytes.as_slice() == wanted,
@@ -33,46 +39,66 @@ fn spell(alloc: Global, lines: &[u8], wanted: &[u8]) -> bool {
     }
 }
 
-/// The fault of lines of hexadecimal, if they have one.
-fn fault_of(alloc: Global, lines: &[u8]) -> Option<Fault> {
+/// What comes of lines of hexadecimal.
+fn of_hexadecimal(alloc: Global, lines: &[u8]) -> Came {
     match hex_bytes(alloc, lines) {
-        Ok(_) => None,
-        Err(fault) => Some(fault),
+        Ok(_) => Ok(()),
+        Err(fault) => came_of(fault),
     }
 }
 
-/// Whether the first fault of the lines is at this one.
-fn is_wrong_at(alloc: Global, lines: &[u8], number: u64) -> bool {
-    match fault_of(alloc, lines) {
-        Some(fault) => is_line(&fault, number),
-        None => false,
-    }
-}
-
-fn are_too_long(alloc: Global, lines: &[u8]) -> bool {
-    match fault_of(alloc, lines) {
-        Some(fault) => is_too_long(&fault),
-        None => false,
-    }
-}
-
-/// The fault of definitions, if they have one.
-fn defs_fault_of(alloc: Global, lines: &[u8]) -> Option<Fault> {
+/// What comes of definitions.
+fn of_definitions(alloc: Global, lines: &[u8]) -> Came {
     match read_defs(alloc, lines) {
-        Ok(_) => None,
-        Err(fault) => Some(fault),
+        Ok(_) => Ok(()),
+        Err(fault) => came_of(fault),
     }
 }
 
-fn defines(alloc: Global, lines: &[u8]) -> bool {
-    defs_fault_of(alloc, lines).is_none()
+/// Whether that comes of lines of hexadecimal, or of definitions.
+fn comes(alloc: Global, is_hex: bool, input: Input, wanted: Came) -> Result<bool, AllocError> {
+    let text = text_of(alloc, input)?;
+    let came = if is_hex {
+        of_hexadecimal(alloc, &text)
+    } else {
+        of_definitions(alloc, &text)
+    };
+    Ok(came == wanted)
 }
 
-fn defines_up_to(alloc: Global, lines: &[u8], number: u64) -> bool {
-    match defs_fault_of(alloc, lines) {
-        Some(fault) => is_line(&fault, number),
-        None => false,
+/// Lines of hexadecimal, and files of definitions.
+const INPUTS: [(bool, Input, Came); 13] = [
+    (true, (b"xy", 0, 0), Err((1, 0))),
+    (true, (b"00\n000\n", 0, 0), Err((2, 0))),
+    (true, (b"00\n", b'0', 65_534), Ok(())),
+    (true, (b"xy\n", b'0', 65_538), Err((1, 0))),
+    (true, (b"00\n", b'0', 65_536), TOO_LONG),
+    (true, (b"", b'\n', 131_072), Ok(())),
+    (true, (b"x", b'\n', 131_072), TOO_LONG),
+    (
+        false,
+        (b"# two\n\nindex city\nview v city n\n", 0, 0),
+        Ok(()),
+    ),
+    (
+        false,
+        (b"index city\nview v city n\nmax 1", 0, 0),
+        Err((3, 0)),
+    ),
+    (false, (b"index city\nindex city", 0, 0), Err((2, 0))),
+    (false, (b"\xff", 0, 0), Err((1, 0))),
+    (false, (b"", b'\n', 65_536), Ok(())),
+    (false, (b"x", b'\n', 65_536), TOO_LONG),
+];
+
+#[test]
+fn inputs_have_their_forms(rt: HostRuntime) -> Result<(), Fail> {
+    assert!(rt; spell(rt.alloc(), b"00ff\n\nA0\n", &[0, 255, 160]));
+    for (is_hex, input, wanted) in INPUTS {
+        let bytes = input.0.len();
+        assert!(rt; comes(rt.alloc(), is_hex, input, wanted)?, "{bytes} bytes");
     }
+    Ok(())
 }
 
 /// Whether a connection with these requests prints this.
@@ -84,82 +110,51 @@ fn prints<N: Net>(rt: &N, alloc: Global, lines: &[u8], wanted: &str) -> Result<b
     Ok(out.as_slice() == wanted.as_bytes())
 }
 
-fn is_printed<N: Net>(rt: &N, alloc: Global, lines: &[u8], wanted: &str) -> bool {
+/// What comes of a connection with these requests, which is well if it prints this.
+fn of_connection<N: Net>(rt: &N, alloc: Global, lines: &[u8], wanted: &str) -> Came {
     match prints(rt, alloc, lines, wanted) {
-        Ok(is_so) => is_so,
-        Err(_) => false,
+        Ok(true) => Ok(()),
+        Ok(false) => Err((0, 0)),
+        Err(fault) => came_of(fault),
     }
 }
 
-fn is_stopped_at<N: Net>(rt: &N, alloc: Global, lines: &[u8], number: u64) -> bool {
-    match prints(rt, alloc, lines, "") {
-        Ok(_) => false,
-        Err(fault) => is_line(&fault, number),
+fn is_printed<N: Net>(
+    rt: &N,
+    alloc: Global,
+    input: Input,
+    printed: &str,
+    wanted: Came,
+) -> Result<bool, AllocError> {
+    let text = text_of(alloc, input)?;
+    Ok(of_connection(rt, alloc, &text, printed) == wanted)
+}
+
+/// Requests over a connection, and what they print. What follows a Bye is not answered.
+const REQUESTS: [(Input, &str, Came); 4] = [
+    (
+        (b"000000032101\n6b\n000000012f", 0, 0),
+        "00000007a1000000000000\n00000001a3\nended bye\n",
+        Ok(()),
+    ),
+    (
+        (b"0000", 0, 0),
+        "00000002ee1e\nended 30 Truncated\n",
+        Ok(()),
+    ),
+    ((b"00\nxy", 0, 0), "", Err((2, 0))),
+    (
+        (b"000000012f\n", b'0', 60_000),
+        "00000001a3\nended bye\n",
+        Ok(()),
+    ),
+];
+
+#[test]
+fn requests_are_answered_over_a_connection(rt: HostRuntime) -> Result<(), Fail> {
+    for (input, printed, wanted) in REQUESTS {
+        let is_so = is_printed(&rt, rt.alloc(), input, printed, wanted)?;
+        assert!(rt; is_so, "{printed}");
     }
-}
-
-#[test]
-fn lines_of_hexadecimal_are_joined(rt: HostRuntime) {
-    let alloc = rt.alloc();
-    assert!(rt; spell(alloc, b"00ff\n\nA0\n", &[0, 255, 160]));
-    assert!(rt; is_wrong_at(alloc, b"xy", 1));
-    assert!(rt; is_wrong_at(alloc, b"00\n000\n", 2));
-}
-
-#[test]
-fn too_many_bytes_are_too_long(rt: HostRuntime) -> Result<(), Fail> {
-    let alloc = rt.alloc();
-    let most = followed(alloc, b"00\n", b'0', 65_534)?;
-    assert!(rt; fault_of(alloc, &most).is_none());
-    let more = followed(alloc, b"xy\n", b'0', 65_538)?;
-    assert!(rt; is_wrong_at(alloc, &more, 1));
-    let more = followed(alloc, b"00\n", b'0', 65_536)?;
-    assert!(rt; are_too_long(alloc, &more));
-    Ok(())
-}
-
-#[test]
-fn a_text_may_have_so_many_digits(rt: HostRuntime) -> Result<(), Fail> {
-    let alloc = rt.alloc();
-    let most = followed(alloc, b"", b'\n', 131_072)?;
-    assert!(rt; fault_of(alloc, &most).is_none());
-    let more = followed(alloc, b"x", b'\n', 131_072)?;
-    assert!(rt; are_too_long(alloc, &more));
-    Ok(())
-}
-
-#[test]
-fn definitions_are_a_scripts(rt: HostRuntime) {
-    let alloc = rt.alloc();
-    assert!(rt; defines(alloc, b"# two\n\nindex city\nview v city n\n"));
-    assert!(rt; defines_up_to(alloc, b"index city\nview v city n\nmax 1", 3));
-    assert!(rt; defines_up_to(alloc, b"index city\nindex city", 2));
-    assert!(rt; defines_up_to(alloc, b"\xff", 1));
-}
-
-#[test]
-fn so_long_may_definitions_be(rt: HostRuntime) -> Result<(), Fail> {
-    let alloc = rt.alloc();
-    let most = followed(alloc, b"", b'\n', 65_536)?;
-    assert!(rt; defines(alloc, &most));
-    let more = followed(alloc, b"x", b'\n', 65_536)?;
-    assert!(rt; !defines(alloc, &more) && !defines_up_to(alloc, &more, 1));
-    Ok(())
-}
-
-#[test]
-fn requests_are_answered_over_a_connection(rt: HostRuntime) {
-    let alloc = rt.alloc();
-    let wanted = "00000007a1000000000000\n00000001a3\nended bye\n";
-    assert!(rt; is_printed(&rt, alloc, b"000000032101\n6b\n000000012f", wanted));
-    assert!(rt; is_printed(&rt, alloc, b"0000", "00000002ee1e\nended 30 Truncated\n"));
-    assert!(rt; is_stopped_at(&rt, alloc, b"00\nxy", 2));
-}
-
-#[test]
-fn what_follows_a_bye_is_not_answered(rt: HostRuntime) -> Result<(), Fail> {
-    let alloc = rt.alloc();
-    let lines = followed(alloc, b"000000012f\n", b'0', 60_000)?;
-    assert!(rt; is_printed(&rt, alloc, &lines, "00000001a3\nended bye\n"));
     Ok(())
 }

@@ -3,7 +3,6 @@ use mvd_client::Link;
 use std::alloc::Global;
 use std::cell::Cell;
 use std::io::{self, Read, Write};
-use std::test::Fail;
 
 /// A stream that gives its bytes, and then as many bytes as it was given by then. It counts its writes.
 #[derive(Drop)]
@@ -34,10 +33,7 @@ impl Write for Mirror<'_> {
 }
 
 /// Answers each byte by two, and gives how many were answered.
-fn doubled(alloc: Global, stream: Mirror<'_>) -> Result<u64, Fail> {
-    let link = Link::new(alloc, stream).map_err(|_| "no link")?;
-    let mut incoming = link.incoming(alloc).map_err(|_| "no end to read")?;
-    let mut outgoing = link.outgoing();
+fn answered<R: Read, W: Write>(incoming: &mut R, outgoing: &mut W) -> io::Result<u64> {
     let mut count = 0u64;
     for _ in 0..u64::MAX {
         let mut byte = [0u8];
@@ -50,8 +46,27 @@ fn doubled(alloc: Global, stream: Mirror<'_>) -> Result<u64, Fail> {
     Ok(count)
 }
 
+/// The same over a link, or 0 where it cannot be had.
+fn answered_over(alloc: Global, link: &Link<Mirror<'_>>) -> u64 {
+    let mut outgoing = link.outgoing();
+    let Ok(mut incoming) = link.incoming(alloc) else {
+        return 0;
+    };
+    match answered(&mut incoming, &mut outgoing) {
+        Ok(count) => count,
+        Err(_) => 0,
+    }
+}
+
+fn answered_by(alloc: Global, stream: Mirror<'_>) -> u64 {
+    match Link::new(alloc, stream) {
+        Ok(link) => answered_over(alloc, &link),
+        Err(_) => 0,
+    }
+}
+
 #[test]
-fn what_waits_leaves_at_once_and_before_a_read(rt: HostRuntime) -> Result<(), Fail> {
+fn what_waits_leaves_at_once_and_before_a_read(rt: HostRuntime) {
     let input = [7u8; 1_000];
     let writes = Cell::new(0);
     let answered = Cell::new(0);
@@ -61,8 +76,6 @@ fn what_waits_leaves_at_once_and_before_a_read(rt: HostRuntime) -> Result<(), Fa
         writes: &writes,
         answered: &answered,
     };
-    assert_eq!(rt; doubled(rt.alloc(), stream)?, 1_000);
-    assert_eq!(rt; writes.get(), 1);
-    assert_eq!(rt; answered.get(), 2_000);
-    Ok(())
+    let count = answered_by(rt.alloc(), stream);
+    assert!(rt; (count, writes.get(), answered.get()) == (1_000, 1, 2_000));
 }

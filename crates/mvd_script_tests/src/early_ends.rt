@@ -5,7 +5,6 @@ use mvd_script::sim;
 use std::alloc::Global;
 use std::io;
 use std::io::{Read, Write};
-use std::test::Fail;
 
 /// Scripts that end at a line that is no command, what they print before, and that line's number.
 const BAD_LINES: &[(&str, &str, u64)] = &[
@@ -46,64 +45,37 @@ const BAD_LINES: &[(&str, &str, u64)] = &[
     ("sites 2\nsync 1 x\n", "", 2),
 ];
 
-/// Fails where the bytes do not end as a script at the line of this number, or print something else before.
-fn ends_at(alloc: Global, mut script: &[u8], wanted: &str, number: u64) -> Result<(), Fail> {
+/// Whether the bytes end as a script at the line of this number, and print this before.
+fn ends_at(alloc: Global, mut script: &[u8], wanted: &str, number: u64) -> bool {
     let mut out = Vec::new(alloc);
     let ended = sim(alloc, &mut script, &mut out);
     let is_there = matches!(&ended, Err(Fault::Line(line)) if *line == number);
-    if is_there && out.as_slice() == wanted.as_bytes() {
-        Ok(())
-    } else {
-        Err(Fail::new(format_args!("not at {number}, after {wanted}")))
-    }
-}
-
-fn all_end(alloc: Global, cases: &[(&str, &str, u64)]) -> Result<(), Fail> {
-    for (script, wanted, number) in cases {
-        ends_at(alloc, script.as_bytes(), wanted, *number)?;
-    }
-    Ok(())
+    is_there && out.as_slice() == wanted.as_bytes()
 }
 
 #[test]
-fn lines_that_are_no_commands(rt: HostRuntime) -> Result<(), Fail> {
-    all_end(rt.alloc(), BAD_LINES)
-}
-
-#[test]
-fn bytes_that_are_no_text(rt: HostRuntime) -> Result<(), Fail> {
-    let script = b"sites 1\nget 1 k\nget 1 \xff\n";
-    ends_at(rt.alloc(), script, "context -\n", 3)
-}
-
-/// A reader of empty lines without end.
-#[derive(Drop)]
-struct Endless;
-
-impl Read for Endless {
-    fn read(&mut self, buf: &mut [u8]) -> io::Result<usize> {
-        for byte in buf.iter_mut() {
-            *byte = b'\n';
-        }
-        Ok(buf.len())
+fn lines_that_are_no_commands(rt: HostRuntime) {
+    for (script, wanted, number) in BAD_LINES {
+        assert!(rt;
+            ends_at(rt.alloc(), script.as_bytes(), wanted, *number),
+            "{script}"
+        );
     }
+    let no_text = b"sites 1\nget 1 k\nget 1 \xff\n";
+    assert!(rt; ends_at(rt.alloc(), no_text, "context -\n", 3));
 }
 
-/// A reader that fails at once.
+/// A reader and a writer that fail at once.
 #[derive(Drop)]
-struct NoReader;
+struct Broken;
 
-impl Read for NoReader {
+impl Read for Broken {
     fn read(&mut self, _buf: &mut [u8]) -> io::Result<usize> {
         Err(io::Error::from(io::ErrorKind::Other))
     }
 }
 
-/// A writer that fails at once.
-#[derive(Drop)]
-struct NoWriter;
-
-impl Write for NoWriter {
+impl Write for Broken {
     fn write(&mut self, _buf: &[u8]) -> io::Result<usize> {
         Err(io::Error::from(io::ErrorKind::Other))
     }
@@ -113,41 +85,32 @@ impl Write for NoWriter {
     }
 }
 
-/// Fails where this is not the end for this reason.
-fn expect_stop(ended: Result<(), Fault>, wanted: Refusal) -> Result<(), Fail> {
-    match ended {
-        Err(Fault::Stopped(refusal)) if refusal == wanted => Ok(()),
-        _ => Err(Fail::new(format_args!("not stopped by {wanted}"))),
-    }
+/// Whether a script is stopped for this reason.
+fn is_stopped<R: Read, W: Write>(
+    alloc: Global,
+    reader: &mut R,
+    writer: &mut W,
+    wanted: Refusal,
+) -> bool {
+    let ended = sim(alloc, reader, writer);
+    matches!(&ended, Err(Fault::Stopped(refusal)) if *refusal == wanted)
+}
+
+/// Whether a script that does not end, or cannot be read, is stopped and prints nothing; and one that cannot be printed.
+fn are_stopped(alloc: Global) -> bool {
+    let mut out = Vec::new(alloc);
+    let mut script = b"sites 1\nget 1 k\n".as_slice();
+    is_stopped(
+        alloc,
+        &mut io::repeat(b'\n'),
+        &mut out,
+        Refusal::FrameTooLong,
+    ) && is_stopped(alloc, &mut Broken, &mut out, Refusal::ReadFailed)
+        && is_stopped(alloc, &mut script, &mut Broken, Refusal::WriteFailed)
+        && out.is_empty()
 }
 
 #[test]
-fn a_script_that_does_not_end(rt: HostRuntime) -> Result<(), Fail> {
-    let mut out = Vec::new(rt.alloc());
-    let ended = sim(rt.alloc(), &mut Endless, &mut out);
-    expect_stop(ended, Refusal::FrameTooLong)?;
-    if out.is_empty() {
-        Ok(())
-    } else {
-        Err(Fail::new("printed"))
-    }
-}
-
-#[test]
-fn a_reader_that_fails(rt: HostRuntime) -> Result<(), Fail> {
-    let mut out = Vec::new(rt.alloc());
-    let ended = sim(rt.alloc(), &mut NoReader, &mut out);
-    expect_stop(ended, Refusal::ReadFailed)?;
-    if out.is_empty() {
-        Ok(())
-    } else {
-        Err(Fail::new("printed"))
-    }
-}
-
-#[test]
-fn a_writer_that_fails(rt: HostRuntime) -> Result<(), Fail> {
-    let mut reader = b"sites 1\nget 1 k\n".as_slice();
-    let ended = sim(rt.alloc(), &mut reader, &mut NoWriter);
-    expect_stop(ended, Refusal::WriteFailed)
+fn readers_and_writers_that_fail(rt: HostRuntime) {
+    assert!(rt; are_stopped(rt.alloc()));
 }

@@ -1,9 +1,7 @@
-//! Indexes and views: scripts, and pages.
-use crate::scripts::{Case, all_print, prints_lines};
-use std::alloc::{AllocError, Global};
-use std::test::Fail;
+//! Indexes and views.
+use crate::scripts::Case;
 
-const INDEXES: &[Case] = &[
+pub const INDEXES: &[Case] = &[
     (
         "terms are found and ranged over in their order",
         "sites 1\nindex n\nput 1 a - {\"n\":null}\nput 1 b - {\"n\":true}\nput 1 c - {\"n\":-1}\n\
@@ -26,7 +24,7 @@ const INDEXES: &[Case] = &[
     ),
 ];
 
-const VIEWS: &[Case] = &[
+pub const VIEWS: &[Case] = &[
     (
         "all siblings of a key count, and a row that is left by all goes",
         "sites 1\nview spend city amount\nput 1 a - {\"amount\":5,\"city\":\"Oslo\"}\n\
@@ -52,37 +50,3 @@ const VIEWS: &[Case] = &[
         "dot 1:1\ndot 1:2\ndot 1:1\ndot 1:3\n\"Oslo\" 2 0 - -\na 1:3\nb 1:1\n",
     ),
 ];
-
-#[test]
-fn indexes_follow_the_writes(rt: HostRuntime) -> Result<(), Fail> {
-    all_print(rt.alloc(), INDEXES)
-}
-
-#[test]
-fn views_follow_the_writes(rt: HostRuntime) -> Result<(), Fail> {
-    all_print(rt.alloc(), VIEWS)
-}
-
-/// A script that puts this many keys, each in a group of its own, under one term of an index.
-fn many(alloc: Global, keys: u32) -> Result<String, AllocError> {
-    let mut script = String::from_str(alloc, "sites 1\nindex n\nview v g n\n")?;
-    for key in 0..keys {
-        writeln!(&mut script, "put 1 k{key} - {{\"g\":{key},\"n\":1}}")?;
-    }
-    Ok(script)
-}
-
-#[test]
-fn lists_of_more_than_a_page(rt: HostRuntime) -> Result<(), Fail> {
-    let mut script = many(rt.alloc(), 1_001)?;
-    script.push_str("find 1 n 1\nrows 1 v\nrange 1 n [1,1]\n")?;
-    prints_lines(rt.alloc(), script.as_str(), 4_004, "1 k999 1:1\n")
-}
-
-#[test]
-fn a_hundred_thousand_places(rt: HostRuntime) -> Result<(), Fail> {
-    let mut script = many(rt.alloc(), 100_000)?;
-    script.push_str("find 1 n 1\nrows 1 v\nrow 1 v 7\n")?;
-    let last = "\n99999 1 1 1 1\n1 1 1 1\n";
-    prints_lines(rt.alloc(), script.as_str(), 300_001, last)
-}

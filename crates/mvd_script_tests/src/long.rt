@@ -1,9 +1,26 @@
 //! Texts at their limits, and long scripts.
-use crate::scripts::{printed, prints, prints_lines};
+use crate::scripts::{printed, text_of};
 use mvd_dots::Refusal;
 use mvd_input::Fault;
 use std::alloc::{AllocError, Global};
 use std::test::Fail;
+
+/// Long scripts.
+#[derive(Clone, Copy)]
+enum Long {
+    /// Puts of the longest key and document, and of some that are longer by a letter.
+    Limits,
+    /// Puts of the longest document side by side at one key, one more than a state holds.
+    Siblings,
+    /// Comments of so many times 64 bytes, and another byte where that is said.
+    Comments(u32, bool),
+    /// Puts at one site, and gets at another once it is told.
+    Turns,
+    /// Puts that go round 20,000 keys, with the digest of the root after each.
+    Changes,
+    /// So many keys, each in a group of its own, under one term of an index; and then these questions.
+    Keys(u32, &'static str),
+}
 
 /// Adds so many letters.
 fn push_letters(out: &mut String, letters: u32) -> Result<(), AllocError> {
@@ -27,111 +44,149 @@ fn push_document(out: &mut String, letters: u32) -> Result<(), AllocError> {
     out.push_str("\"}\n")
 }
 
-/// Puts of the longest key and document, and of some that are longer by a letter.
-fn at_limits(alloc: Global) -> Result<String, AllocError> {
-    let mut script = String::from_str(alloc, "sites 1\n")?;
-    push_key(&mut script, 128)?;
-    push_key(&mut script, 129)?;
-    push_document(&mut script, 65_528)?;
-    push_document(&mut script, 65_529)?;
-    Ok(script)
+fn push_limits(out: &mut String) -> Result<(), AllocError> {
+    out.push_str("sites 1\n")?;
+    push_key(out, 128)?;
+    push_key(out, 129)?;
+    push_document(out, 65_528)?;
+    push_document(out, 65_529)
 }
 
-#[test]
-fn keys_and_documents_at_their_limits(rt: HostRuntime) -> Result<(), Fail> {
-    let script = at_limits(rt.alloc())?;
-    let wanted = "dot 1:1\nrefused 1 BadKey\ndot 1:1\nrefused 6 DocumentTooLong\n";
-    prints(rt.alloc(), "limits", script.as_str(), wanted)
-}
-
-/// Puts of the longest document side by side at one key, one more than a state holds.
-fn siblings(alloc: Global) -> Result<String, AllocError> {
-    let mut script = String::from_str(alloc, "sites 1\n")?;
+fn push_siblings(out: &mut String) -> Result<(), AllocError> {
+    out.push_str("sites 1\n")?;
     for _ in 0..18u32 {
-        push_document(&mut script, 65_528)?;
+        push_document(out, 65_528)?;
     }
-    Ok(script)
-}
-
-/// A dot for each of them but the last.
-fn siblings_printed(alloc: Global) -> Result<String, AllocError> {
-    let mut wanted = String::new(alloc);
-    for counter in 1..18u32 {
-        writeln!(&mut wanted, "dot 1:{counter}")?;
-    }
-    wanted.push_str("refused 9 StateTooLarge\n")?;
-    Ok(wanted)
-}
-
-#[test]
-fn a_state_at_its_limit(rt: HostRuntime) -> Result<(), Fail> {
-    let script = siblings(rt.alloc())?;
-    let wanted = siblings_printed(rt.alloc())?;
-    prints(rt.alloc(), "siblings", script.as_str(), wanted.as_str())
+    Ok(())
 }
 
 /// A comment of 64 bytes, with its line feed.
 const COMMENT: &str = "# 16,777,216 bytes are a script still, and one byte more is not\n";
 
-/// Comments of 16,777,216 bytes.
-fn comments(alloc: Global) -> Result<String, AllocError> {
-    let mut script = String::new(alloc);
-    for _ in 0..262_144u32 {
-        script.push_str(COMMENT)?;
+fn push_comments(out: &mut String, count: u32, is_longer: bool) -> Result<(), AllocError> {
+    for _ in 0..count {
+        out.push_str(COMMENT)?;
     }
-    Ok(script)
+    out.push_str(if is_longer { "#" } else { "" })
 }
 
-fn is_too_long(alloc: Global, script: &str) -> bool {
-    let ended = printed(alloc, script);
-    matches!(&ended, Err(Fault::Stopped(Refusal::FrameTooLong)))
-}
-
-#[test]
-fn a_script_at_its_limit(rt: HostRuntime) -> Result<(), Fail> {
-    let mut script = comments(rt.alloc())?;
-    prints(rt.alloc(), "comments", script.as_str(), "")?;
-    script.push_str("#")?;
-    assert!(rt; is_too_long(rt.alloc(), script.as_str()));
+fn push_turns(out: &mut String) -> Result<(), AllocError> {
+    out.push_str("sites 2\n")?;
+    for turn in 0..25_000u32 {
+        let key = turn % 1_000;
+        let message = u64::from(turn) + 1;
+        writeln!(
+            out,
+            "put 1 k{key} @ {{\"n\":{turn}}}\nsend 1 k{key}\nrecv 2 {message}\nget 2 k{key}"
+        )?;
+    }
     Ok(())
 }
 
-/// Adds a put at one site, and a get at another once it is told.
-fn push_turn(script: &mut String, turn: u32) -> Result<(), AllocError> {
-    let key = turn % 1_000;
-    let message = u64::from(turn) + 1;
-    writeln!(script, "put 1 k{key} @ {{\"n\":{turn}}}")?;
-    writeln!(script, "send 1 k{key}\nrecv 2 {message}\nget 2 k{key}")
-}
-
-fn turns(alloc: Global) -> Result<String, AllocError> {
-    let mut script = String::from_str(alloc, "sites 2\n")?;
-    for turn in 0..25_000u32 {
-        push_turn(&mut script, turn)?;
-    }
-    Ok(script)
-}
-
-#[test]
-fn a_long_script(rt: HostRuntime) -> Result<(), Fail> {
-    let script = turns(rt.alloc())?;
-    let last = "message 25000\nok\ncontext 1:25\n1:25 {\"n\":24999}\n";
-    prints_lines(rt.alloc(), script.as_str(), 125_000, last)
-}
-
-/// Puts that go round 20,000 keys, with the digest of the root after each.
-fn changes(alloc: Global) -> Result<String, AllocError> {
-    let mut script = String::from_str(alloc, "sites 1\n")?;
+fn push_changes(out: &mut String) -> Result<(), AllocError> {
+    out.push_str("sites 1\n")?;
     for turn in 0..50_000u32 {
         let key = turn % 20_000;
-        writeln!(&mut script, "put 1 k{key} @ {{}}\nroot 1")?;
+        writeln!(out, "put 1 k{key} @ {{}}\nroot 1")?;
     }
+    Ok(())
+}
+
+fn push_keys(out: &mut String, keys: u32, questions: &str) -> Result<(), AllocError> {
+    out.push_str("sites 1\nindex n\nview v g n\n")?;
+    for key in 0..keys {
+        writeln!(out, "put 1 k{key} - {{\"g\":{key},\"n\":1}}")?;
+    }
+    out.push_str(questions)
+}
+
+fn push_long(out: &mut String, long: Long) -> Result<(), AllocError> {
+    match long {
+        Long::Limits => push_limits(out),
+        Long::Siblings => push_siblings(out),
+        Long::Comments(count, is_longer) => push_comments(out, count, is_longer),
+        Long::Turns => push_turns(out),
+        Long::Changes => push_changes(out),
+        Long::Keys(keys, questions) => push_keys(out, keys, questions),
+    }
+}
+
+fn script(alloc: Global, long: Long) -> Result<String, AllocError> {
+    let mut script = String::new(alloc);
+    push_long(&mut script, long)?;
     Ok(script)
+}
+
+/// What a script prints.
+fn printed_of(alloc: Global, long: Long) -> Result<Vec<u8>, Fault> {
+    let script = script(alloc, long)?;
+    printed(alloc, script.as_str())
+}
+
+/// Whether a script prints so many lines, the last of which are these.
+fn prints(alloc: Global, long: Long, count: usize, last: &str) -> Result<bool, Fault> {
+    let out = printed_of(alloc, long)?;
+    let text = text_of(&out);
+    Ok(text.lines().count() == count && text.ends_with(last))
+}
+
+const AT_LIMITS: &str = "dot 1:1\nrefused 1 BadKey\ndot 1:1\nrefused 6 DocumentTooLong\n";
+
+const OF_SIBLINGS: &str =
+    "dot 1:1\ndot 1:2\ndot 1:3\ndot 1:4\ndot 1:5\ndot 1:6\ndot 1:7\ndot 1:8\ndot 1:9\ndot 1:10\ndot 1:11\n\
+    dot 1:12\ndot 1:13\ndot 1:14\ndot 1:15\ndot 1:16\ndot 1:17\nrefused 9 StateTooLarge\n";
+
+const LAST_ROOT: &str = "fe63bf067988a1893dd1d0f58fc1698996b8a74d032d73a900e3f9580aa48087\n";
+
+/// Scripts, how many lines they print, and the last of these.
+const SCRIPTS: [(Long, usize, &str); 4] = [
+    (Long::Limits, 4, AT_LIMITS),
+    (Long::Siblings, 18, OF_SIBLINGS),
+    (Long::Comments(262_144, false), 0, ""),
+    // Lists of more than a page.
+    (
+        Long::Keys(1_001, "find 1 n 1\nrows 1 v\nrange 1 n [1,1]\n"),
+        4_004,
+        "1 k999 1:1\n",
+    ),
+];
+
+#[test]
+fn long_scripts(rt: HostRuntime) -> Result<(), Fail> {
+    for (long, count, last) in SCRIPTS {
+        assert!(rt; prints(rt.alloc(), long, count, last)?, "{count} lines");
+    }
+    Ok(())
+}
+
+// Those that take long have a test each, since a test may take a minute.
+
+#[test]
+fn many_turns(rt: HostRuntime) -> Result<(), Fail> {
+    let last = "message 25000\nok\ncontext 1:25\n1:25 {\"n\":24999}\n";
+    assert!(rt; prints(rt.alloc(), Long::Turns, 125_000, last)?);
+    Ok(())
 }
 
 #[test]
 fn digests_after_many_changes(rt: HostRuntime) -> Result<(), Fail> {
-    let script = changes(rt.alloc())?;
-    let last = "fe63bf067988a1893dd1d0f58fc1698996b8a74d032d73a900e3f9580aa48087\n";
-    prints_lines(rt.alloc(), script.as_str(), 100_000, last)
+    assert!(rt; prints(rt.alloc(), Long::Changes, 100_000, LAST_ROOT)?);
+    Ok(())
+}
+
+#[test]
+fn lists_of_many_keys(rt: HostRuntime) -> Result<(), Fail> {
+    let long = Long::Keys(100_000, "find 1 n 1\nrows 1 v\nrow 1 v 7\n");
+    assert!(rt; prints(rt.alloc(), long, 300_001, "\n99999 1 1 1 1\n1 1 1 1\n")?);
+    Ok(())
+}
+
+fn is_too_long(alloc: Global, long: Long) -> bool {
+    let ended = printed_of(alloc, long);
+    matches!(&ended, Err(Fault::Stopped(Refusal::FrameTooLong)))
+}
+
+#[test]
+fn a_script_past_its_limit(rt: HostRuntime) {
+    assert!(rt; is_too_long(rt.alloc(), Long::Comments(262_144, true)));
 }

@@ -1,11 +1,11 @@
 //! What command lines ask for.
 use mvd_input::{Order, OrderFault, Setup, order_of};
-use std::alloc::Global;
+use std::alloc::{AllocError, Global};
 use std::net::{IpAddr, Ipv4Addr, SocketAddr};
 use std::test::Fail;
 
 /// The words of a line, parted by spaces.
-fn words_of<'a>(alloc: Global, line: &'a str) -> Result<Vec<&'a str>, Fail> {
+fn words_of<'a>(alloc: Global, line: &'a str) -> Result<Vec<&'a str>, AllocError> {
     let mut words = Vec::new(alloc);
     for word in line.split(' ') {
         words.push(word)?;
@@ -25,141 +25,78 @@ fn address(ip: Ipv4Addr, port: u16) -> SocketAddr {
     SocketAddr::new(IpAddr::V4(ip), port)
 }
 
-/// Whether a line asks for this.
-fn asks(alloc: Global, line: &str, wanted: Order<'_>) -> Result<bool, Fail> {
-    let words = words_of(alloc, line)?;
-    Ok(matches!(order_of(alloc, &words), Ok(order) if order == wanted))
+/// What comes of a line: an order of this command, a number that is out of its range, or a refusal or a help that says this.
+#[derive(Clone, Copy)]
+enum Wanted {
+    Serve,
+    Sync,
+    Loop,
+    Sim,
+    Shell,
+    RemoteShell,
+    Range,
+    Says(&'static str),
 }
 
-/// Whether a number of the line is out of its range.
-fn is_out_of_range(alloc: Global, line: &str) -> Result<bool, Fail> {
-    let words = words_of(alloc, line)?;
-    Ok(matches!(order_of(alloc, &words), Err(OrderFault::Range)))
+/// The order that is asked for, if one is.
+fn order_wanted(wanted: Wanted) -> Option<Order<'static>> {
+    let order = match wanted {
+        Wanted::Serve => Order::Serve {
+            db: "f",
+            setup: set_up(1, None, 1_000_000),
+            address: address(Ipv4Addr::LOCALHOST, 1),
+            conns: Some(1),
+            idle: 1,
+            http: Some(65_535),
+        },
+        Wanted::Sync => Order::Sync {
+            db: "f",
+            setup: set_up(u32::MAX, Some("d"), 1),
+            address: address(Ipv4Addr::new(10, 0, 0, 1), 65_535),
+            idle: 86_400,
+            verbose: true,
+        },
+        Wanted::Loop => Order::Loop(set_up(7, None, 1_000_000)),
+        Wanted::Sim => Order::Sim,
+        Wanted::Shell => Order::Shell {
+            db: "f",
+            setup: set_up(2, None, 9),
+        },
+        Wanted::RemoteShell => Order::RemoteShell {
+            address: address(Ipv4Addr::LOCALHOST, 7),
+            idle: 60,
+        },
+        Wanted::Range | Wanted::Says(_) => return None,
+    };
+    Some(order)
 }
 
-/// Whether the line's words are refused, or ask for help.
-fn is_no_order(alloc: Global, line: &str) -> Result<bool, Fail> {
-    let words = words_of(alloc, line)?;
-    Ok(matches!(order_of(alloc, &words), Err(OrderFault::Words(_))))
+fn is_wanted(order: Order<'_>, wanted: Wanted) -> bool {
+    matches!(order_wanted(wanted), Some(other) if other == order)
 }
 
-/// Whether the refusal of a line says this.
-fn says(alloc: Global, line: &str, part: &str) -> Result<bool, Fail> {
+/// Whether a fault is of a number, or says this.
+fn is_told(alloc: Global, fault: &OrderFault, wanted: Wanted) -> Result<bool, AllocError> {
+    match fault {
+        OrderFault::Range => Ok(matches!(wanted, Wanted::Range)),
+        OrderFault::Words(error) => match wanted {
+            Wanted::Says(part) => {
+                let text = format!(in alloc; "{error}")?;
+                Ok(text.as_str().contains(part))
+            }
+            _ => Ok(false),
+        },
+        OrderFault::Stopped(_) => Ok(false),
+    }
+}
+
+/// Whether that comes of a line.
+fn comes_of(alloc: Global, line: &str, wanted: Wanted) -> Result<bool, AllocError> {
     let words = words_of(alloc, line)?;
     match order_of(alloc, &words) {
-        Err(OrderFault::Words(error)) => {
-            let text = format!(in alloc; "{error}")?;
-            Ok(text.as_str().contains(part))
-        }
-        _ => Ok(false),
+        Ok(order) => Ok(is_wanted(order, wanted)),
+        Err(fault) => is_told(alloc, &fault, wanted),
     }
-}
-
-#[test]
-fn an_order_has_its_options(rt: HostRuntime) -> Result<(), Fail> {
-    let alloc = rt.alloc();
-    let least = Order::Serve {
-        db: "f",
-        setup: set_up(1, None, 1_000_000),
-        address: address(Ipv4Addr::LOCALHOST, 1),
-        conns: Some(1),
-        idle: 1,
-        http: Some(65_535),
-    };
-    assert!(rt;
-        asks(
-            alloc,
-            "mvd serve --db f --site 1 --port 1 --http 65535 --conns 1 --idle 1",
-            least
-        )?
-    );
-    let most = Order::Sync {
-        db: "f",
-        setup: set_up(u32::MAX, Some("d"), 1),
-        address: address(Ipv4Addr::new(10, 0, 0, 1), 65_535),
-        idle: 86_400,
-        verbose: true,
-    };
-    let line =
-        "mvd sync --db f --site 4294967295 --port 65535 --defs d --max-keys 1 --address 10.0.0.1 --idle 86400 --verbose";
-    assert!(rt; asks(alloc, line, most)?);
-    let looped = Order::Loop(set_up(7, None, 1_000_000));
-    assert!(rt; asks(alloc, "mvd loop --site 7", looped)?);
-    assert!(rt; asks(alloc, "mvd sim", Order::Sim)?);
-    Ok(())
-}
-
-#[test]
-fn a_number_out_of_range_is_told(rt: HostRuntime) -> Result<(), Fail> {
-    let alloc = rt.alloc();
-    let lines = [
-        "mvd serve --db f --site 0 --port 1 --conns 1",
-        "mvd serve --db f --site 4294967296 --port 1",
-        "mvd serve --db f --site 1 --port 0",
-        "mvd serve --db f --site 1 --port 65536",
-        "mvd serve --db f --site 1 --port 1 --conns 0",
-        "mvd serve --db f --site 1 --port 1 --http 65536",
-        "mvd serve --db f --site 1 --port 1 --conns 1001",
-        "mvd serve --db f --site 1 --port 1 --idle 0",
-        "mvd sync --db f --site 1 --port 1 --idle 86401",
-        "mvd sync --db f --site 1 --port 1 --max-keys 0",
-        "mvd loop --site 1 --max-keys 1000001",
-    ];
-    for line in lines {
-        assert!(rt; is_out_of_range(alloc, line)?, "{line}");
-    }
-    Ok(())
-}
-
-#[test]
-fn other_words_are_refused(rt: HostRuntime) -> Result<(), Fail> {
-    let alloc = rt.alloc();
-    let lines = [
-        "mvd serve --db f --port 1 --conns 1",
-        "mvd serve --db f --site x --port 1",
-        "mvd serve --db f --site 1 --port 1 --address here",
-        "mvd sync --db f --site 1 --port 1 --conns 1",
-        "mvd sync --db f --site 1 --port 1 --http 2",
-        "mvd loop --site 1 --idle 1",
-        "mvd loop --help",
-        "mvd",
-    ];
-    for line in lines {
-        assert!(rt; is_no_order(alloc, line)?, "{line}");
-    }
-    Ok(())
-}
-
-#[test]
-fn a_shell_is_on_a_database_or_a_server(rt: HostRuntime) -> Result<(), Fail> {
-    let alloc = rt.alloc();
-    let file = Order::Shell {
-        db: "f",
-        setup: set_up(2, None, 9),
-    };
-    assert!(rt; asks(alloc, "mvd shell --db f --site 2 --max-keys 9", file)?);
-    let server = Order::RemoteShell {
-        address: address(Ipv4Addr::LOCALHOST, 7),
-        idle: 60,
-    };
-    assert!(rt; asks(alloc, "mvd shell --port 7", server)?);
-    assert!(rt; is_out_of_range(alloc, "mvd shell --db f --site 0")?);
-    let lines = [
-        "mvd shell",
-        "mvd shell --db f",
-        "mvd shell --db f --site 1 --idle 1",
-        "mvd shell --db f --site 1 --port 7",
-        "mvd shell --db f --site 1 --address 127.0.0.1",
-        "mvd shell --db f --port 7",
-        "mvd shell --port 7 --site 1",
-        "mvd shell --port 7 --defs d",
-        "mvd shell --port 7 --max-keys 1000000",
-        "mvd shell --site 1",
-    ];
-    for line in lines {
-        assert!(rt; is_no_order(alloc, line)?, "{line}");
-    }
-    Ok(())
 }
 
 const BAD_ADDRESS: &str = "mvd serve --db f --site 1 --port 1 --address here";
@@ -167,29 +104,104 @@ const BAD_ADDRESS: &str = "mvd serve --db f --site 1 --port 1 --address here";
 const SHELL: &str =
     "Usage: mvd shell --db <FILE> --site <N> [--defs <FILE>] [--max-keys <N>]\n       mvd shell --port <P>";
 
-/// Lines that are refused, and a part of what is said then.
-const SAID: [(&str, &str); 9] = [
-    (BAD_ADDRESS, "'--address <IP>': it is no IP address"),
-    (BAD_ADDRESS, "Usage: mvd serve "),
-    ("mvd loop --site +1", "Usage: mvd loop "),
-    ("mvd sync --db f --site 01 --port 1", "Usage: mvd sync "),
-    ("mvd shell", SHELL),
+const LINES: &[(&str, Wanted)] = &[
+    (
+        "mvd serve --db f --site 1 --port 1 --http 65535 --conns 1 --idle 1",
+        Wanted::Serve,
+    ),
+    (
+        "mvd sync --db f --site 4294967295 --port 65535 --defs d --max-keys 1 --address 10.0.0.1 --idle 86400 --verbose",
+        Wanted::Sync,
+    ),
+    ("mvd loop --site 7", Wanted::Loop),
+    ("mvd sim", Wanted::Sim),
+    ("mvd shell --db f --site 2 --max-keys 9", Wanted::Shell),
+    ("mvd shell --port 7", Wanted::RemoteShell),
+    // Numbers out of their ranges.
+    (
+        "mvd serve --db f --site 0 --port 1 --conns 1",
+        Wanted::Range,
+    ),
+    ("mvd serve --db f --site 4294967296 --port 1", Wanted::Range),
+    ("mvd serve --db f --site 1 --port 0", Wanted::Range),
+    ("mvd serve --db f --site 1 --port 65536", Wanted::Range),
+    (
+        "mvd serve --db f --site 1 --port 1 --conns 0",
+        Wanted::Range,
+    ),
+    (
+        "mvd serve --db f --site 1 --port 1 --http 65536",
+        Wanted::Range,
+    ),
+    (
+        "mvd serve --db f --site 1 --port 1 --conns 1001",
+        Wanted::Range,
+    ),
+    ("mvd serve --db f --site 1 --port 1 --idle 0", Wanted::Range),
+    (
+        "mvd sync --db f --site 1 --port 1 --idle 86401",
+        Wanted::Range,
+    ),
+    (
+        "mvd sync --db f --site 1 --port 1 --max-keys 0",
+        Wanted::Range,
+    ),
+    ("mvd loop --site 1 --max-keys 1000001", Wanted::Range),
+    ("mvd shell --db f --site 0", Wanted::Range),
+    // Words that are refused, or ask for help.
+    ("mvd serve --db f --port 1 --conns 1", Wanted::Says("")),
+    ("mvd serve --db f --site x --port 1", Wanted::Says("")),
+    (
+        "mvd sync --db f --site 1 --port 1 --conns 1",
+        Wanted::Says(""),
+    ),
+    (
+        "mvd sync --db f --site 1 --port 1 --http 2",
+        Wanted::Says(""),
+    ),
+    ("mvd loop --site 1 --idle 1", Wanted::Says("")),
+    ("mvd loop --help", Wanted::Says("")),
+    ("mvd", Wanted::Says("")),
+    ("mvd shell --db f --site 1 --idle 1", Wanted::Says("")),
+    ("mvd shell --db f --site 1 --port 7", Wanted::Says("")),
+    (
+        "mvd shell --db f --site 1 --address 127.0.0.1",
+        Wanted::Says(""),
+    ),
+    ("mvd shell --port 7 --site 1", Wanted::Says("")),
+    ("mvd shell --port 7 --defs d", Wanted::Says("")),
+    ("mvd shell --port 7 --max-keys 1000000", Wanted::Says("")),
+    ("mvd shell --site 1", Wanted::Says("")),
+    (
+        BAD_ADDRESS,
+        Wanted::Says("'--address <IP>': it is no IP address"),
+    ),
+    (BAD_ADDRESS, Wanted::Says("Usage: mvd serve ")),
+    ("mvd loop --site +1", Wanted::Says("Usage: mvd loop ")),
+    (
+        "mvd sync --db f --site 01 --port 1",
+        Wanted::Says("Usage: mvd sync "),
+    ),
+    ("mvd shell", Wanted::Says(SHELL)),
     (
         "mvd shell",
-        "'--db <FILE>' with '--site <N>', or '--port <P>', is missing",
+        Wanted::Says("'--db <FILE>' with '--site <N>', or '--port <P>', is missing"),
     ),
-    ("mvd shell --db f", "the option '--site <N>' is missing"),
+    (
+        "mvd shell --db f",
+        Wanted::Says("the option '--site <N>' is missing"),
+    ),
     (
         "mvd shell --db f --port 7",
-        "a shell has '--db <FILE>' with its options, or '--port <P>'",
+        Wanted::Says("a shell has '--db <FILE>' with its options, or '--port <P>'"),
     ),
-    ("mvd shell --port 7 --address here", SHELL),
+    ("mvd shell --port 7 --address here", Wanted::Says(SHELL)),
 ];
 
 #[test]
-fn a_refusal_shows_the_usage_of_its_command(rt: HostRuntime) -> Result<(), Fail> {
-    for (line, part) in SAID {
-        assert!(rt; says(rt.alloc(), line, part)?, "{line}");
+fn lines_ask_for_orders(rt: HostRuntime) -> Result<(), Fail> {
+    for (line, wanted) in LINES {
+        assert!(rt; comes_of(rt.alloc(), line, *wanted)?, "{line}");
     }
     Ok(())
 }

@@ -1,7 +1,9 @@
 //! Random scripts, after which all sites hold the same.
 ghost use Rattle.std.specs.Prelude.{◌<◌};
 
-use crate::scripts::printed;
+use crate::scripts::{printed, text_of};
+use crate::session_scripts::RING;
+use mvd_input::Fault;
 use std::alloc::{AllocError, Global};
 use std::test::Fail;
 
@@ -24,14 +26,6 @@ struct Draft {
 }
 
 impl Draft {
-    fn new(alloc: Global, seed: u64) -> Result<Draft, AllocError> {
-        Ok(Draft {
-            drawn: seed,
-            sent: 0,
-            text: String::from_str(alloc, "sites 3\n")?,
-        })
-    }
-
     /// A number below this one, by a linear congruential generator.
     fn below(&mut self, count: u64) -> u64
         requires { 0 < count }
@@ -104,52 +98,62 @@ impl Draft {
                 self.push_arrivals()?;
             }
         }
-        for site in 1..SITES + 1 {
-            writeln!(&mut self.text, "root {site}")?;
-        }
-        Ok(())
+        self.text.push_str("root 1\nroot 2\nroot 3\n")
     }
 
     /// The last message comes to every site.
     fn push_arrivals(&mut self) -> Result<(), AllocError> {
         let sent = self.sent;
-        for site in 1..SITES + 1 {
-            writeln!(&mut self.text, "recv {site} {sent}")?;
+        writeln!(
+            &mut self.text,
+            "recv 1 {sent}\nrecv 2 {sent}\nrecv 3 {sent}"
+        )
+    }
+
+    /// All steps, and the end.
+    fn push_all(&mut self) -> Result<(), AllocError> {
+        for step in 0..STEPS {
+            self.push_step(step)?;
         }
-        Ok(())
+        self.push_end()
     }
 }
 
 fn drawn(alloc: Global, seed: u64) -> Result<String, AllocError> {
-    let mut draft = Draft::new(alloc, seed)?;
-    for step in 0..STEPS {
-        draft.push_step(step)?;
-    }
-    draft.push_end()?;
+    let mut draft = Draft {
+        drawn: seed,
+        sent: 0,
+        text: String::from_str(alloc, "sites 3\n")?,
+    };
+    draft.push_all()?;
     Ok(draft.text)
 }
 
-/// Fails where a line was refused, or the last lines, of which each site told one, are not alike.
-pub fn ends_alike(out: &str) -> Result<(), Fail> {
+/// Whether no line was refused, and the last lines, of which each site told one, are alike.
+fn ends_alike(out: &str) -> bool {
     let is_refused = |line: &str| line.starts_with("refused") || line.starts_with("none such");
     let mut last = out.lines().rev();
     let three = (last.next(), last.next(), last.next());
-    match three {
-        (Some(a), Some(b), Some(c)) if a == b && b == c => {}
-        _ => return Err(Fail::new(format_args!("{out}"))),
-    }
-    if out.lines().any(is_refused) {
-        return Err(Fail::new(format_args!("{out}")));
-    }
-    Ok(())
+    matches!(three, (Some(a), Some(b), Some(c)) if a == b && b == c) && !out.lines().any(is_refused)
+}
+
+/// Whether a script ends so.
+fn is_alike(alloc: Global, script: &str) -> Result<bool, Fault> {
+    let out = printed(alloc, script)?;
+    Ok(ends_alike(text_of(&out)))
+}
+
+/// Whether the script of this number does.
+fn is_alike_drawn(alloc: Global, seed: u64) -> Result<bool, Fault> {
+    let script = drawn(alloc, seed)?;
+    is_alike(alloc, script.as_str())
 }
 
 #[test]
 fn sites_that_learn_of_all_hold_the_same(rt: HostRuntime) -> Result<(), Fail> {
+    assert!(rt; is_alike(rt.alloc(), RING)?);
     for seed in 0..SCRIPTS {
-        let script = drawn(rt.alloc(), seed)?;
-        let out = printed(rt.alloc(), script.as_str())?;
-        ends_alike(out.as_str())?;
+        assert!(rt; is_alike_drawn(rt.alloc(), seed)?, "{seed}");
     }
     Ok(())
 }

@@ -1,43 +1,45 @@
 //! Scripts, and what they print.
+use crate::list_scripts::{INDEXES, VIEWS};
+use crate::session_scripts::{MEETINGS, REFUSALS};
+use crate::text_scripts::{CONTEXTS, DOCUMENTS, TERMS};
 use mvd_input::Fault;
 use mvd_script::sim;
 use std::alloc::Global;
 use std::test::Fail;
 
 /// What a script prints.
-pub fn printed(alloc: Global, script: &str) -> Result<String, Fault> {
+pub fn printed(alloc: Global, script: &str) -> Result<Vec<u8>, Fault> {
     let mut reader = script.as_bytes();
-    let mut bytes = Vec::new(alloc);
-    sim(alloc, &mut reader, &mut bytes)?;
-    match str::from_utf8(&bytes) {
-        Ok(text) => Ok(String::from_str(alloc, text)?),
-        Err(_) => Err(Fault::Line(0)),
+    let mut out = Vec::new(alloc);
+    sim(alloc, &mut reader, &mut out)?;
+    Ok(out)
+}
+
+/// The text that was printed.
+pub fn text_of(out: &[u8]) -> &str {
+    match str::from_utf8(out) {
+        Ok(text) => text,
+        Err(_) => "no text",
+    }
+}
+
+/// Fails where the text is not this.
+fn is_text(name: &str, text: &str, wanted: &str) -> Result<(), Fail> {
+    if text == wanted {
+        Ok(())
+    } else {
+        Err(Fail::new(format_args!("{name}: {text}")))
     }
 }
 
 /// Fails where a script does not print this.
-pub fn prints(alloc: Global, name: &str, script: &str, wanted: &str) -> Result<(), Fail> {
+fn prints(alloc: Global, name: &str, script: &str, wanted: &str) -> Result<(), Fail> {
     let out = printed(alloc, script)?;
-    if out.as_str() == wanted {
-        Ok(())
-    } else {
-        Err(Fail::new(format_args!("{name}: {out}")))
-    }
-}
-
-/// Fails where a script does not print so many lines, the last of which are these.
-pub fn prints_lines(alloc: Global, script: &str, count: usize, last: &str) -> Result<(), Fail> {
-    let out = printed(alloc, script)?;
-    let lines = out.as_str().lines().count();
-    if lines == count && out.as_str().ends_with(last) {
-        Ok(())
-    } else {
-        Err(Fail::new(format_args!("{lines} lines")))
-    }
+    is_text(name, text_of(&out), wanted)
 }
 
 /// Fails where a script does not print what its case says.
-pub fn all_print(alloc: Global, cases: &[Case]) -> Result<(), Fail> {
+fn all_print(alloc: Global, cases: &[Case]) -> Result<(), Fail> {
     for (name, script, wanted) in cases {
         prints(alloc, name, script, wanted)?;
     }
@@ -190,21 +192,13 @@ const FORMS: &[Case] = &[
 ];
 
 #[test]
-fn writes_meet(rt: HostRuntime) -> Result<(), Fail> {
-    all_print(rt.alloc(), BASICS)
-}
-
-#[test]
-fn limits_are_kept(rt: HostRuntime) -> Result<(), Fail> {
-    all_print(rt.alloc(), LIMITS)
-}
-
-#[test]
-fn nodes_are_told(rt: HostRuntime) -> Result<(), Fail> {
-    all_print(rt.alloc(), NODES)
-}
-
-#[test]
-fn lines_have_their_forms(rt: HostRuntime) -> Result<(), Fail> {
-    all_print(rt.alloc(), FORMS)
+fn scripts_print_what_is_told(rt: HostRuntime) -> Result<(), Fail> {
+    let tables = [
+        BASICS, LIMITS, NODES, FORMS, CONTEXTS, DOCUMENTS, TERMS, INDEXES, VIEWS, MEETINGS,
+        REFUSALS,
+    ];
+    for cases in tables {
+        all_print(rt.alloc(), cases)?;
+    }
+    Ok(())
 }

@@ -1,9 +1,7 @@
 //! Sessions of two sites.
-use crate::random_scripts::ends_alike;
-use crate::scripts::{Case, all_print, printed};
-use std::test::Fail;
+use crate::scripts::Case;
 
-const MEETINGS: &[Case] = &[
+pub const MEETINGS: &[Case] = &[
     (
         "each has a key that the other has not, and a second session finds nothing that differs",
         "sites 2\nput 1 a - {\"x\":1}\nput 2 b - {\"x\":2}\nsync 1 2\nget 1 b\nget 2 a\nsync 1 2\nsync 2 1\n",
@@ -39,7 +37,7 @@ const MEETINGS: &[Case] = &[
     ),
 ];
 
-const REFUSALS: &[Case] = &[
+pub const REFUSALS: &[Case] = &[
     (
         "both sides are full, and a key of either is left",
         "sites 2\nmax 2\nput 1 a - {}\nput 1 c - {}\nput 2 b - {}\nsync 1 2\nget 2 c\nget 1 b\nget 2 a\n",
@@ -54,23 +52,7 @@ const REFUSALS: &[Case] = &[
     ),
 ];
 
-#[test]
-fn sites_meet(rt: HostRuntime) -> Result<(), Fail> {
-    all_print(rt.alloc(), MEETINGS)
-}
-
-#[test]
-fn keys_are_left(rt: HostRuntime) -> Result<(), Fail> {
-    all_print(rt.alloc(), REFUSALS)
-}
-
 /// Sessions in a ring, after which the three sites hold the same.
-const RING: &str =
+pub const RING: &str =
     "sites 3\nput 1 a - {\"v\":1}\nput 2 a - {\"v\":2}\nput 3 b 1:0+4 {\"v\":3}\nput 1 b - {\"v\":4}\n\
     del 2 c 3:2\nsync 1 2\nsync 2 3\nsync 3 1\nroot 1\nroot 2\nroot 3\n";
-
-#[test]
-fn digests_are_equal_after_a_ring_of_sessions(rt: HostRuntime) -> Result<(), Fail> {
-    let out = printed(rt.alloc(), RING)?;
-    ends_alike(out.as_str())
-}

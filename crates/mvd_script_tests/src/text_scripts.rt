@@ -1,8 +1,7 @@
 //! Contexts, documents and terms: texts in scripts, and what is printed of them.
-use crate::scripts::{Case, all_print};
-use std::test::Fail;
+use crate::scripts::Case;
 
-const CONTEXTS: &[Case] = &[
+pub const CONTEXTS: &[Case] = &[
     (
         "contexts are read and printed",
         "sites 1\ndel 1 a 1:3\ndel 1 b 1:3+5,2:0+4\ndel 1 c 1:1,70000:2\ndel 1 d 4294967295:281474976710655\n\
@@ -34,7 +33,7 @@ const CONTEXTS: &[Case] = &[
     ),
 ];
 
-const DOCUMENTS: &[Case] = &[
+pub const DOCUMENTS: &[Case] = &[
     (
         "documents are read and printed",
         "sites 1\nput 1 a - {\"a\":9223372036854775807}\nget 1 a\nput 1 b - {\"a\":-9223372036854775808}\n\
@@ -53,7 +52,7 @@ const DOCUMENTS: &[Case] = &[
     ),
 ];
 
-const TERMS: &[Case] = &[
+pub const TERMS: &[Case] = &[
     (
         "fields lead to terms",
         "sites 1\nindex addr.city\nindex n\nindex z\nindex t\nindex f\nindex x.y\nindex addr\nindex addr.no\n\
@@ -89,18 +88,3 @@ const TERMS: &[Case] = &[
         refused 37 BadDefs\nrefused 37 BadDefs\nrefused 37 BadDefs\nrefused 37 BadDefs\nrefused 13 NoView\n",
     ),
 ];
-
-#[test]
-fn contexts_have_their_texts(rt: HostRuntime) -> Result<(), Fail> {
-    all_print(rt.alloc(), CONTEXTS)
-}
-
-#[test]
-fn documents_have_their_texts(rt: HostRuntime) -> Result<(), Fail> {
-    all_print(rt.alloc(), DOCUMENTS)
-}
-
-#[test]
-fn terms_have_their_texts(rt: HostRuntime) -> Result<(), Fail> {
-    all_print(rt.alloc(), TERMS)
-}

@@ -1,4 +1,6 @@
 //! A site, asked over HTTP.
+use crate::key_requests::{ESCAPES, REFUSALS, WRITES};
+use crate::list_requests::{LISTS, OTHERS};
 use mvd_docs::{Field, ViewName};
 use mvd_dots::Refusal;
 use mvd_http::{Question, question_of, refused_response, response_of};
@@ -6,24 +8,36 @@ use mvd_rows::Defs;
 use mvd_site::{Config, Site};
 use mvd_wire::{Reply, Request};
 use std::alloc::Global;
+use std::test::Fail;
 
-/// A request: its method, its target, its context and its body; and what it is told: the status and the body, parted by
-/// a space.
+/// A request: its method, its target, its context and its body; and what it is told: the status and the body.
 pub type Row = (
     &'static str,
     &'static str,
     Option<&'static str>,
     &'static [u8],
+    u16,
     &'static str,
 );
 
-/// An index on `city`, and a view by it.
-fn by_city(alloc: Global) -> Result<Defs, Refusal> {
-    let mut defs = Defs::new(alloc);
+/// An index on `city`.
+fn add_index(alloc: Global, defs: &mut Defs) -> Result<(), Refusal> {
     defs.index(Field::read(alloc, "city")?)?;
+    Ok(())
+}
+
+/// A view by it.
+fn add_view(alloc: Global, defs: &mut Defs) -> Result<(), Refusal> {
     let name = ViewName::read(alloc, "spend")?;
     let group = Field::read(alloc, "city")?;
     defs.view(name, group, Field::read(alloc, "amount")?)?;
+    Ok(())
+}
+
+fn by_city(alloc: Global) -> Result<Defs, Refusal> {
+    let mut defs = Defs::new(alloc);
+    add_index(alloc, &mut defs)?;
+    add_view(alloc, &mut defs)?;
     Ok(defs)
 }
 
@@ -49,15 +63,14 @@ fn asked_of(
 fn told(
     alloc: Global,
     site: &mut Site,
-    asked: Result<Question, Refusal>,
+    asked: &Question,
     out: &mut String,
 ) -> Result<u16, Refusal> {
     match asked {
-        Ok(Question::Ask(request)) => asked_of(alloc, site, &request, out),
-        Ok(Question::Nowhere) => Ok(404),
-        Ok(Question::NotAllowed(_)) => Ok(405),
-        Ok(_) => Ok(200),
-        Err(refusal) => Ok(refused_response(out, refusal)?),
+        Question::Ask(request) => asked_of(alloc, site, request, out),
+        Question::Nowhere => Ok(404),
+        Question::NotAllowed(_) => Ok(405),
+        _ => Ok(200),
     }
 }
 
@@ -70,13 +83,19 @@ fn question(alloc: Global, row: &Row) -> Result<Question, Refusal> {
     question_of(alloc, row.0.as_bytes(), row.1.as_bytes(), context, row.3)
 }
 
+/// The status that a request is told.
+fn status_of(alloc: Global, site: &mut Site, row: &Row, out: &mut String) -> Result<u16, Refusal> {
+    match question(alloc, row) {
+        Ok(asked) => told(alloc, site, &asked, out),
+        Err(refusal) => Ok(refused_response(out, refusal)?),
+    }
+}
+
 /// Whether a request is told just that.
 fn is_told(alloc: Global, site: &mut Site, row: &Row) -> Result<bool, Refusal> {
     let mut out = String::new(alloc);
-    let asked = question(alloc, row);
-    let status = told(alloc, site, asked, &mut out)?;
-    let text = format!(in alloc; "{status} {out}")?;
-    Ok(text.as_str() == row.4)
+    let status = status_of(alloc, site, row, &mut out)?;
+    Ok(status == row.4 && out.as_str() == row.5)
 }
 
 /// How many requests, from the first on, a site tells what they are to be told.
@@ -90,9 +109,18 @@ fn told_by(alloc: Global, site: &mut Site, rows: &[Row]) -> Result<usize, Refusa
 }
 
 /// The same of a new site.
-pub fn told_well(alloc: Global, rows: &[Row]) -> Result<usize, Refusal> {
+fn told_well(alloc: Global, rows: &[Row]) -> Result<usize, Refusal> {
     let mut site = site(alloc)?;
     let told = told_by(alloc, &mut site, rows);
     drop(site);
     told
+}
+
+#[test]
+fn requests_are_told(rt: HostRuntime) -> Result<(), Fail> {
+    for rows in [WRITES, ESCAPES, REFUSALS, LISTS, OTHERS] {
+        let told = told_well(rt.alloc(), rows)?;
+        assert!(rt; told == rows.len(), "{told}");
+    }
+    Ok(())
 }

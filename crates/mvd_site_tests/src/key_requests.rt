@@ -1,141 +1,137 @@
 //! Keys: what is read, written and removed.
-use crate::asked_over_http::{Row, told_well};
-use std::test::Fail;
+use crate::asked_over_http::Row;
 
 /// A key that is written, read and removed.
-const WRITES: &[Row] = &[
+pub const WRITES: &[Row] = &[
     (
         "GET",
         "/keys/k",
         None,
         b"",
-        "404 {\"key\":\"k\",\"context\":\"-\",\"siblings\":[]}",
+        404,
+        "{\"key\":\"k\",\"context\":\"-\",\"siblings\":[]}",
     ),
     (
         "PUT",
         "/keys/k",
         None,
         b" { \"b\" : 1, \"a\":[ ] } ",
-        "201 {\"dot\":\"1:1\"}",
+        201,
+        "{\"dot\":\"1:1\"}",
     ),
     (
         "PUT",
         "/keys/k",
         None,
         b"{\"a\":2}",
-        "201 {\"dot\":\"1:2\"}",
+        201,
+        "{\"dot\":\"1:2\"}",
     ),
     (
         "GET",
         "/keys/k?x",
         None,
         b"",
-        "200 {\"key\":\"k\",\"context\":\"1:2\",\"siblings\":[{\"dot\":\"1:1\",\"document\":{\"a\":[],\"b\":1}},{\"dot\":\"1:2\",\"document\":{\"a\":2}}]}",
+        200,
+        "{\"key\":\"k\",\"context\":\"1:2\",\"siblings\":[{\"dot\":\"1:1\",\"document\":{\"a\":[],\"b\":1}},{\"dot\":\"1:2\",\"document\":{\"a\":2}}]}",
     ),
     (
         "PUT",
         "/keys/k",
         Some("1:2"),
         b"{}",
-        "201 {\"dot\":\"1:3\"}",
+        201,
+        "{\"dot\":\"1:3\"}",
     ),
-    ("DELETE", "/keys/k", Some("1:3"), b"", "204 "),
+    ("DELETE", "/keys/k", Some("1:3"), b"", 204, ""),
     (
         "HEAD",
         "/keys/k",
         None,
         b"",
-        "404 {\"key\":\"k\",\"context\":\"1:3\",\"siblings\":[]}",
+        404,
+        "{\"key\":\"k\",\"context\":\"1:3\",\"siblings\":[]}",
     ),
 ];
 
-#[test]
-fn a_key_is_written_and_read(rt: HostRuntime) -> Result<(), Fail> {
-    assert!(rt; told_well(rt.alloc(), WRITES)? == WRITES.len());
-    Ok(())
-}
-
 /// Keys with escapes, and without.
-const ESCAPES: &[Row] = &[
+pub const ESCAPES: &[Row] = &[
     (
         "GET",
         "/keys/%22a%2Fb%25",
         None,
         b"",
-        "404 {\"key\":\"\\\"a/b%\",\"context\":\"-\",\"siblings\":[]}",
+        404,
+        "{\"key\":\"\\\"a/b%\",\"context\":\"-\",\"siblings\":[]}",
     ),
     (
         "GET",
         "/keys/a/b",
         None,
         b"",
-        "404 {\"key\":\"a/b\",\"context\":\"-\",\"siblings\":[]}",
+        404,
+        "{\"key\":\"a/b\",\"context\":\"-\",\"siblings\":[]}",
     ),
 ];
 
-#[test]
-fn escapes_are_undone(rt: HostRuntime) -> Result<(), Fail> {
-    assert!(rt; told_well(rt.alloc(), ESCAPES)? == ESCAPES.len());
-    Ok(())
-}
-
 /// Requests that are refused, or that ask for nothing.
-const REFUSALS: &[Row] = &[
+pub const REFUSALS: &[Row] = &[
     (
         "GET",
         "/keys/a%20b",
         None,
         b"",
-        "400 {\"refused\":1,\"name\":\"BadKey\"}",
+        400,
+        "{\"refused\":1,\"name\":\"BadKey\"}",
     ),
     (
         "GET",
         "/keys/%FF",
         None,
         b"",
-        "400 {\"refused\":1,\"name\":\"BadKey\"}",
+        400,
+        "{\"refused\":1,\"name\":\"BadKey\"}",
     ),
     (
         "PUT",
         "/keys/k",
         Some("1:0"),
         b"{}",
-        "400 {\"refused\":2,\"name\":\"BadContext\"}",
+        400,
+        "{\"refused\":2,\"name\":\"BadContext\"}",
     ),
     (
         "DELETE",
         "/keys/k",
         None,
         b"",
-        "400 {\"refused\":2,\"name\":\"BadContext\"}",
+        400,
+        "{\"refused\":2,\"name\":\"BadContext\"}",
     ),
     (
         "PUT",
         "/keys/k",
         None,
         b"{\"a\":\"\xFF\"}",
-        "400 {\"refused\":3,\"name\":\"BadDocument\"}",
+        400,
+        "{\"refused\":3,\"name\":\"BadDocument\"}",
     ),
     (
         "PUT",
         "/keys/k",
         None,
         b"[]",
-        "400 {\"refused\":4,\"name\":\"NotObject\"}",
+        400,
+        "{\"refused\":4,\"name\":\"NotObject\"}",
     ),
     (
         "PUT",
         "/keys/k",
         None,
         b"{\"a\":1.5}",
-        "400 {\"refused\":5,\"name\":\"BadNumber\"}",
+        400,
+        "{\"refused\":5,\"name\":\"BadNumber\"}",
     ),
-    ("POST", "/keys/k", None, b"{}", "405 "),
-    ("GET", "/nothing", None, b"", "404 "),
+    ("POST", "/keys/k", None, b"{}", 405, ""),
+    ("GET", "/nothing", None, b"", 404, ""),
 ];
-
-#[test]
-fn refusals_have_their_status(rt: HostRuntime) -> Result<(), Fail> {
-    assert!(rt; told_well(rt.alloc(), REFUSALS)? == REFUSALS.len());
-    Ok(())
-}

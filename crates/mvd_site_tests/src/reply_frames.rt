@@ -1,28 +1,38 @@
-//! Replies.
+//! Replies, and frames of requests and replies that come back.
+use crate::request_frames::{REFUSED_REQUESTS, REQUESTS, is_request, request_fault};
 use mvd_dots::Refusal;
 use mvd_frames::{decode_reply, encode_reply, read_frame};
 use std::alloc::Global;
 use std::test::Fail;
 
 /// Whether the payload decodes to a reply whose frame is spelled so.
-fn is_decoded(alloc: Global, kind: u8, payload: &[u8], bytes: &[u8]) -> Result<bool, Refusal> {
+fn is_reply(alloc: Global, kind: u8, payload: &[u8], bytes: &[u8]) -> Result<bool, Refusal> {
     let reply = decode_reply(alloc, kind, payload)?;
     let frame = encode_reply(alloc, &reply);
     drop(reply);
     Ok(frame?.as_slice() == bytes)
 }
 
-/// Whether these bytes are the frame of a reply, which is spelled so again.
+/// The same of a reply or, where its kind is below those of replies, of a request.
+fn is_spelled(alloc: Global, kind: u8, payload: &[u8], bytes: &[u8]) -> Result<bool, Refusal> {
+    if kind < 0xA0 {
+        is_request(alloc, kind, payload, bytes)
+    } else {
+        is_reply(alloc, kind, payload, bytes)
+    }
+}
+
+/// Whether these bytes are a frame, which is spelled so again.
 fn comes_back(alloc: Global, bytes: &[u8]) -> Result<bool, Refusal> {
     let mut input = bytes;
     let Some(frame) = read_frame(alloc, &mut input)? else {
         return Ok(false);
     };
-    Ok(input.is_empty() && is_decoded(alloc, frame.kind, frame.payload.as_slice(), bytes)?)
+    Ok(input.is_empty() && is_spelled(alloc, frame.kind, frame.payload.as_slice(), bytes)?)
 }
 
 /// Short replies, empty ones, a row of three siblings, the digest of a bucket, and places.
-const FRAMES: [&[u8]; 10] = [
+const REPLIES: &[&[u8]] = &[
     b"\0\0\0\x0D\xA2\0\0\0\x01\0\0\0\0\0\0\0\x01",
     b"\0\0\0\x01\xA3",
     b"\0\0\0\x02\xEE\x1E",
@@ -32,13 +42,16 @@ const FRAMES: [&[u8]; 10] = [
     b"\0\0\0\x2A\xA5\0\0\0\0\0\0\0\x03\xFF\xFF\xFF\xFF\xFF\xFF\xFF\xFF\xFF\xFF\xFF\xFF\xFF\xFF\xFF\xFE\x01\xFF\xFF\xFF\xFF\xFF\xFF\xFF\xF9\0\0\0\0\0\0\0\x05",
     b"\0\0\0\x22\xA7\0\0\0\0\0\0\0\0\0\0\0\0\0\0\0\0\0\0\0\0\0\0\0\0\0\0\0\0\0\0\0\0\0",
     b"\0\0\0\x19\xA4\0\0\x01\x04\0\x04Oslo\x01a\0\0\0\x01\0\0\0\0\0\0\0\x01",
-    b"\0\0\0\x43\xA4\0\0\x03\x04\0\x04Oslo\x01a\0\0\0\x01\0\0\0\0\0\0\0\x01\x04\0\x04Oslo\x01a\0\0\0\x01\0\0\0\0\0\0\0\x02\x04\0\x04Oslo\x01b\0\0\0\x01\0\0\0\0\0\0\0\x01",
+    b"\0\0\0\x43\xA4\0\0\x03\x04\0\x04Oslo\x01a\0\0\0\x01\0\0\0\0\0\0\0\x01\
+        \x04\0\x04Oslo\x01a\0\0\0\x01\0\0\0\0\0\0\0\x02\x04\0\x04Oslo\x01b\0\0\0\x01\0\0\0\0\0\0\0\x01",
 ];
 
 #[test]
-fn replies_come_back(rt: HostRuntime) -> Result<(), Fail> {
-    for frame in FRAMES {
-        assert!(rt; comes_back(rt.alloc(), frame)?);
+fn frames_come_back(rt: HostRuntime) -> Result<(), Fail> {
+    for frames in [REQUESTS, REPLIES] {
+        for frame in frames {
+            assert!(rt; comes_back(rt.alloc(), frame)?);
+        }
     }
     Ok(())
 }
@@ -55,7 +68,10 @@ fn fault(alloc: Global, kind: u8, payload: &[u8]) -> u8 {
 const REFUSED: [(u8, &[u8]); 3] = [(0xEE, &[18]), (0xA4, &[2, 0, 0]), (0xA4, &[0, 3, 0xE9])];
 
 #[test]
-fn other_replies_are_refused(rt: HostRuntime) {
+fn other_frames_are_refused(rt: HostRuntime) {
+    for (kind, payload, number) in REFUSED_REQUESTS {
+        assert!(rt; request_fault(rt.alloc(), kind, payload) == number);
+    }
     for (kind, payload) in REFUSED {
         assert!(rt; fault(rt.alloc(), kind, payload) == 33);
     }

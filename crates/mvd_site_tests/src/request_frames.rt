@@ -1,28 +1,18 @@
 //! Requests.
 use mvd_dots::Refusal;
-use mvd_frames::{decode_request, encode_request, read_frame};
+use mvd_frames::{decode_request, encode_request};
 use std::alloc::Global;
-use std::test::Fail;
 
 /// Whether the payload decodes to a request whose frame is spelled so.
-fn is_decoded(alloc: Global, kind: u8, payload: &[u8], bytes: &[u8]) -> Result<bool, Refusal> {
+pub fn is_request(alloc: Global, kind: u8, payload: &[u8], bytes: &[u8]) -> Result<bool, Refusal> {
     let request = decode_request(alloc, kind, payload)?;
     let frame = encode_request(alloc, &request);
     drop(request);
     Ok(frame?.as_slice() == bytes)
 }
 
-/// Whether these bytes are the frame of a request, which is spelled so again.
-fn comes_back(alloc: Global, bytes: &[u8]) -> Result<bool, Refusal> {
-    let mut input = bytes;
-    let Some(frame) = read_frame(alloc, &mut input)? else {
-        return Ok(false);
-    };
-    Ok(input.is_empty() && is_decoded(alloc, frame.kind, frame.payload.as_slice(), bytes)?)
-}
-
 /// A get and two writes, a push and the end, finds, questions to views, and questions to the tree.
-const FRAMES: [&[u8]; 15] = [
+pub const REQUESTS: &[&[u8]] = &[
     b"\0\0\0\x03\x21\x01k",
     b"\0\0\0\x12\x22\x01k\0\0\0\0\0\0\0\x07{\"a\":1}",
     b"\0\0\0\x07\x23\x01k\0\0\0\0",
@@ -40,16 +30,8 @@ const FRAMES: [&[u8]; 15] = [
     b"\0\0\0\x06\x28\x01\x02\x01\x01k",
 ];
 
-#[test]
-fn requests_come_back(rt: HostRuntime) -> Result<(), Fail> {
-    for frame in FRAMES {
-        assert!(rt; comes_back(rt.alloc(), frame)?);
-    }
-    Ok(())
-}
-
 /// A kind and a payload, and the number with which they are refused.
-const REFUSED: [(u8, &[u8], u8); 15] = [
+pub const REFUSED_REQUESTS: [(u8, &[u8], u8); 15] = [
     (
         0x22,
         b"\x01k\0\0\0\x01\0\0\0\x01\0\0\0\0\0\0\0\x01\0\0\0\x01\0\0\0\0\0\0\0\x02\0\0\0\x07{\"a\":1}",
@@ -80,16 +62,9 @@ const REFUSED: [(u8, &[u8], u8); 15] = [
 ];
 
 /// The number with which a request is refused, or 0.
-fn fault(alloc: Global, kind: u8, payload: &[u8]) -> u8 {
+pub fn request_fault(alloc: Global, kind: u8, payload: &[u8]) -> u8 {
     match decode_request(alloc, kind, payload).err() {
         Some(refusal) => refusal.number(),
         None => 0,
-    }
-}
-
-#[test]
-fn other_requests_are_refused(rt: HostRuntime) {
-    for (kind, payload, number) in REFUSED {
-        assert!(rt; fault(rt.alloc(), kind, payload) == number);
     }
 }

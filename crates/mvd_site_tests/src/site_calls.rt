@@ -29,7 +29,8 @@ const TALK: [Asked; 4] = [
     (
         0x21,
         b"\x01a",
-        b"\0\0\0\x45\xA1\0\0\0\x01\0\0\0\x03\0\0\0\0\0\0\0\x02\0\0\0\0\0\x02\0\0\0\x03\0\0\0\0\0\0\0\x01\0\0\0\x07{\"n\":1}\0\0\0\x03\0\0\0\0\0\0\0\x02\0\0\0\x07{\"n\":2}",
+        b"\0\0\0\x45\xA1\0\0\0\x01\0\0\0\x03\0\0\0\0\0\0\0\x02\0\0\0\0\0\x02\0\0\0\x03\0\0\0\0\0\0\0\x01\0\0\0\x07{\"n\":1}\
+        \0\0\0\x03\0\0\0\0\0\0\0\x02\0\0\0\x07{\"n\":2}",
     ),
     (0x2F, b"", b"\0\0\0\x01\xA3"),
 ];
@@ -113,10 +114,12 @@ fn stands_at(alloc: Global, name: &str, digits: &[u8]) -> Result<bool, Refusal> 
     Ok(path.digits() == digits)
 }
 
+const PATHS: [(&str, [u8; 3]); 3] = [("a", [12, 10, 9]), ("b", [3, 14, 2]), ("abc", [11, 10, 7])];
+
 #[test]
 fn keys_have_their_paths(rt: HostRuntime) -> Result<(), Fail> {
-    assert!(rt; stands_at(rt.alloc(), "a", &[12, 10, 9])?);
-    assert!(rt; stands_at(rt.alloc(), "b", &[3, 14, 2])?);
-    assert!(rt; stands_at(rt.alloc(), "abc", &[11, 10, 7])?);
+    for (name, digits) in PATHS {
+        assert!(rt; stands_at(rt.alloc(), name, &digits)?);
+    }
     Ok(())
 }

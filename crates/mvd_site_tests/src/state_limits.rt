@@ -7,14 +7,6 @@ use mvd_wire::{decode_old_state, decode_state, encode_state};
 use std::alloc::Global;
 use std::test::Fail;
 
-/// The number with which a state is refused, or 0.
-fn fault(alloc: Global, bytes: &[u8]) -> u8 {
-    match decode_state(alloc, bytes) {
-        Ok(_) => 0,
-        Err(refusal) => refusal.number(),
-    }
-}
-
 /// Writes the document {"a":"x..x"} with so many letters, behind its length.
 fn put_document(out: &mut Vec<u8>, letters: u32) -> Result<(), Refusal> {
     out.extend_from_slice(&letters.saturating_add(8).to_be_bytes())?;
@@ -26,43 +18,39 @@ fn put_document(out: &mut Vec<u8>, letters: u32) -> Result<(), Refusal> {
     Ok(())
 }
 
-/// A spelling behind its head: so many siblings of a site, all but the last with the longest document.
-fn long_spelling(
-    alloc: Global,
-    head: &[u8],
-    site: &[u8],
-    count: u8,
-    last: u32,
-) -> Result<Vec<u8>, Refusal> {
-    let mut out = Vec::from_slice(alloc, head)?;
+/// Writes so many siblings of a site, all but the last with the longest document.
+fn put_siblings(out: &mut Vec<u8>, site: &[u8], count: u8, last: u32) -> Result<(), Refusal> {
     for counter in 1..=count {
         out.extend_from_slice(site)?;
         out.extend_from_slice(&[0, 0, 0, 0, 0, 0, 0, counter])?;
-        put_document(&mut out, if counter < count { 65_528 } else { last })?;
+        put_document(out, if counter < count { 65_528 } else { last })?;
     }
-    Ok(out)
-}
-
-/// A state of 18 siblings, whose last document has so many letters.
-fn long_state(alloc: Global, last: u32) -> Result<Vec<u8>, Refusal> {
-    let head = b"\0\0\0\x01\0\0\0\x01\0\0\0\0\0\0\0\x12\0\0\0\0\0\x12";
-    long_spelling(alloc, head, b"\0\0\0\x01", 18, last)
-}
-
-#[test]
-fn states_are_read_to_the_limit(rt: HostRuntime) -> Result<(), Fail> {
-    let longest = long_state(rt.alloc(), 35_570)?;
-    assert_eq!(rt; longest.len(), 1_150_000);
-    assert!(rt; comes_back(rt.alloc(), longest.as_slice())?);
-    let longer = long_state(rt.alloc(), 35_571)?;
-    assert_eq!(rt; fault(rt.alloc(), longer.as_slice()), 9);
     Ok(())
 }
 
-/// A state of version 1 with 16 siblings, whose last document has so many letters.
-fn long_old_state(alloc: Global, last: u32) -> Result<Vec<u8>, Refusal> {
-    let head = b"\0\x01\0\x01\0\0\0\0\0\0\0\x10\0\0\0\0\0\x10";
-    long_spelling(alloc, head, b"\0\x01", 16, last)
+/// Writes a state of 18 siblings, or one of version 1 with 16, whose last document has so many letters.
+fn put_state(out: &mut Vec<u8>, is_old: bool, last: u32) -> Result<(), Refusal> {
+    if is_old {
+        out.extend_from_slice(b"\0\x01\0\x01\0\0\0\0\0\0\0\x10\0\0\0\0\0\x10")?;
+        return put_siblings(out, b"\0\x01", 16, last);
+    }
+    out.extend_from_slice(b"\0\0\0\x01\0\0\0\x01\0\0\0\0\0\0\0\x12\0\0\0\0\0\x12")?;
+    put_siblings(out, b"\0\0\0\x01", 18, last)
+}
+
+fn long_state(alloc: Global, is_old: bool, last: u32) -> Result<Vec<u8>, Refusal> {
+    let mut out = Vec::new(alloc);
+    put_state(&mut out, is_old, last)?;
+    Ok(out)
+}
+
+/// The number with which a state is refused, or 0 where it comes back.
+fn fault(alloc: Global, bytes: &[u8]) -> u8 {
+    match comes_back(alloc, bytes) {
+        Ok(true) => 0,
+        Ok(false) => 1,
+        Err(refusal) => refusal.number(),
+    }
 }
 
 /// The number with which a state of version 1 is refused, or 0.
@@ -73,13 +61,31 @@ fn old_fault(alloc: Global, bytes: &[u8]) -> u8 {
     }
 }
 
+/// Whether a state of so many bytes is refused with this number, or read.
+fn is_read(alloc: Global, row: (bool, u32, usize, u8)) -> Result<bool, Refusal> {
+    let (is_old, last, length, number) = row;
+    let bytes = long_state(alloc, is_old, last)?;
+    let fault = if is_old {
+        old_fault(alloc, &bytes)
+    } else {
+        fault(alloc, &bytes)
+    };
+    Ok(bytes.len() == length && fault == number)
+}
+
+/// Whether a state is of version 1, the letters of its last document, its length, and with which number it is refused.
+const READ: [(bool, u32, usize, u8); 4] = [
+    (false, 35_570, 1_150_000, 0),
+    (false, 35_571, 1_150_001, 9),
+    (true, 16_710, 1_000_000, 0),
+    (true, 16_711, 1_000_001, 9),
+];
+
 #[test]
-fn old_states_are_read_to_the_limit(rt: HostRuntime) -> Result<(), Fail> {
-    let longest = long_old_state(rt.alloc(), 16_710)?;
-    assert_eq!(rt; longest.len(), 1_000_000);
-    assert_eq!(rt; old_fault(rt.alloc(), longest.as_slice()), 0);
-    let longer = long_old_state(rt.alloc(), 16_711)?;
-    assert_eq!(rt; old_fault(rt.alloc(), longer.as_slice()), 9);
+fn states_are_read_to_the_limit(rt: HostRuntime) -> Result<(), Fail> {
+    for row in READ {
+        assert!(rt; is_read(rt.alloc(), row)?);
+    }
     Ok(())
 }
 
@@ -92,28 +98,28 @@ fn spelling_fault(alloc: Global, state: &KeyState) -> u8 {
 }
 
 /// The same after one put more.
-fn fault_after_put(alloc: Global, before: &KeyState, document: Document) -> Result<u8, Refusal> {
+fn fault_after_put(alloc: Global, before: &KeyState, text: &str) -> Result<u8, Refusal> {
+    let document = Document::read(alloc, text)?;
     let after = before.put(alloc, 1, &Context::new(alloc), document)?;
     Ok(spelling_fault(alloc, &after.0))
 }
 
-/// The number with which the encoding of these and one put more is refused, or 0.
-fn fault_of_one_more(alloc: Global, bytes: &[u8], text: &str) -> Result<u8, Refusal> {
-    let before = decode_state(alloc, bytes)?;
-    fault_after_put(alloc, &before, Document::read(alloc, text)?)
+/// Whether a put of 25 bytes is written, and one of 26 refused as 9, behind so many bytes less.
+fn are_written(alloc: Global, before: &KeyState) -> Result<bool, Refusal> {
+    Ok(
+        fault_after_put(alloc, before, "{\"a\":\"x\"}")? == 0
+            && fault_after_put(alloc, before, "{\"a\":\"xx\"}")? == 9,
+    )
+}
+
+fn is_written_to_the_limit(alloc: Global) -> Result<bool, Refusal> {
+    let bytes = long_state(alloc, false, 35_545)?;
+    let before = decode_state(alloc, &bytes)?;
+    are_written(alloc, &before)
 }
 
 #[test]
 fn states_are_written_to_the_limit(rt: HostRuntime) -> Result<(), Fail> {
-    // with {"a":"x"}, of 9 bytes, the put takes 25 bytes
-    let fits = long_state(rt.alloc(), 35_545)?;
-    assert_eq!(rt;
-        fault_of_one_more(rt.alloc(), fits.as_slice(), "{\"a\":\"x\"}")?,
-        0
-    );
-    assert_eq!(rt;
-        fault_of_one_more(rt.alloc(), fits.as_slice(), "{\"a\":\"xx\"}")?,
-        9
-    );
+    assert!(rt; is_written_to_the_limit(rt.alloc())?);
     Ok(())
 }

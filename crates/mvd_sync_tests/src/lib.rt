@@ -16,4 +16,6 @@ mod remotes;
 #[cfg(test)]
 mod served;
 #[cfg(test)]
+mod trials;
+#[cfg(test)]
 mod two_sites;

@@ -1,11 +1,11 @@
 //! Sessions over many keys.
-use crate::peers::{Asked, Counting, written};
-use crate::two_sites::{alike, ended};
+use crate::peers::{Counting, written};
+use crate::two_sites::meet;
 use mvd_dots::Refusal;
 use mvd_keys::{Key, KeyState};
 
 /// Gives a side this state at so many keys.
-fn fill(side: &mut Counting, keys: u64, state: &KeyState) -> Result<(), Refusal> {
+pub fn fill(side: &mut Counting, keys: u64, state: &KeyState) -> Result<(), Refusal> {
     for n in 0..keys {
         push_at(side, n, state)?;
     }
@@ -33,11 +33,8 @@ fn write_few(side: &mut Counting) -> Result<(), Refusal> {
 }
 
 /// Whether a side was asked few questions about the keys that differ.
-fn is_few(asked: Asked) -> bool {
-    asked.nodes <= 4 * DIFFER + 1
-        && asked.pages <= DIFFER
-        && asked.gets == DIFFER
-        && asked.pushes <= DIFFER
+fn is_few(asked: [u64; 4]) -> bool {
+    asked[0] <= 4 * DIFFER + 1 && asked[1] <= DIFFER && asked[2] == DIFFER && asked[3] <= DIFFER
 }
 
 /// Gives both sides so many keys, of which a few differ.
@@ -51,6 +48,6 @@ fn fill_both(one: &mut Counting, two: &mut Counting, keys: u64) -> Result<(), Re
 /// Whether a session of two sites with twenty thousand keys asks few questions.
 pub fn ask_few(one: &mut Counting, two: &mut Counting) -> Result<bool, Refusal> {
     fill_both(one, two, 20_000)?;
-    let is_met = ended(one.alloc, one, two, Ok(DIFFER));
-    Ok(is_met && is_few(one.asked) && is_few(two.asked) && alike(one, two)?)
+    let is_met = meet(one.alloc, one, two) == Ok(DIFFER);
+    Ok(is_met && is_few(one.asked) && is_few(two.asked) && one.root()? == two.root()?)
 }

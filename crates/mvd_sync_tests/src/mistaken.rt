@@ -1,10 +1,9 @@
-//! A peer that gives the state of one key for that of any key.
+//! A side that gives the state of one key for that of any key.
 use crate::peers::Counting;
 use crate::two_sites::first_left;
 use mvd_dots::Refusal;
 use mvd_keys::Key;
 use mvd_sync::Side;
-use std::alloc::Global;
 
 /// Puts what is to be given, and what it clashes with.
 fn put_both(site: &mut Counting, peer: &mut Counting) -> Result<bool, Refusal> {
@@ -15,23 +14,13 @@ fn put_both(site: &mut Counting, peer: &mut Counting) -> Result<bool, Refusal> {
     )
 }
 
-/// Whether a session takes the state that it is given, and the next one leaves the key for which the peer refuses it.
-fn takes_what_is_given(
-    alloc: Global,
-    site: &mut Counting,
-    peer: &mut Counting,
-) -> Result<bool, Refusal> {
+/// Whether a session takes the state of `a` that it is given, and the next one leaves the key for which the peer refuses
+/// it.
+pub fn takes_what_is_given(site: &mut Counting, peer: &mut Counting) -> Result<bool, Refusal> {
+    peer.given = Some(Key::read(peer.alloc, "a")?);
     let are_put = put_both(site, peer)?;
-    let left = first_left(alloc, site, peer, 2, 0)?;
+    let left = first_left(site, peer, (2, 0, 0))?;
     let are_taken = site.shows("b", "1:1,2:1", 2)? && site.shows("a", "2:1", 1)?;
-    let then = first_left(alloc, site, peer, 0, 1)?;
+    let then = first_left(site, peer, (0, 1, 0))?;
     Ok(are_put && left.is_none() && are_taken && then == Some((Side::Peer, Refusal::DotClash)))
-}
-
-/// Whether that is so of this site and one that gives the state of `a`.
-pub fn meets_mistaken(alloc: Global, site: &mut Counting) -> Result<bool, Refusal> {
-    let given = Key::read(alloc, "a")?;
-    let mut peer = Counting::new(alloc, 2, 10)?;
-    peer.given = Some(given);
-    takes_what_is_given(alloc, site, &mut peer)
 }

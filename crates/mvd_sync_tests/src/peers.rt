@@ -1,33 +1,28 @@
-//! A site that counts the questions that it is asked.
+//! A site that counts the questions that it is asked, and may lie.
 ghost use Rattle.std.proofs.Common.{refl, Some};
 ghost use Rattle.std.specs.FinMap.{empty};
 
+use crate::liars::{Lie, node_of, page_of};
 use mvd_docs::Document;
 use mvd_dots::{Context, Refusal};
 use mvd_keys::{Key, KeyState, Path};
 use mvd_peer::{Page, Peer};
 use mvd_rows::Defs;
 use mvd_site::{Config, Site};
-use mvd_wire::{Digests, Reply, Request};
+use mvd_wire::{Digests, Reply, Request, decode_state};
 use std::alloc::Global;
 
-/// How often each question was asked.
-#[derive(Clone, Copy, Debug, PartialEq, Eq, Drop)]
-pub struct Asked {
-    pub nodes: u64,
-    pub pages: u64,
-    pub gets: u64,
-    pub pushes: u64,
-}
-
-/// A site, how often it was asked, and the key whose state it gives for that of any key, if it is mistaken. Nothing is
+/// A site that counts the questions that it is asked; it may lie, or give one key's state for that of any key. Nothing is
 /// claimed of it.
 #[derive(Drop)]
 pub struct Counting {
     pub alloc: Global,
     pub site: Site,
-    pub asked: Asked,
+    /// How often it was asked for nodes, for pages, for states, and to take one.
+    pub asked: [u64; 4],
+    pub questions: u64,
     pub given: Option<Key>,
+    pub lie: Option<Lie>,
 }
 
 impl Counting {
@@ -41,13 +36,10 @@ impl Counting {
         Ok(Counting {
             alloc,
             site: Site::new(alloc, config)?,
-            asked: Asked {
-                nodes: 0,
-                pages: 0,
-                gets: 0,
-                pushes: 0,
-            },
+            asked: [0; 4],
+            questions: 0,
             given: None,
+            lie: None,
         })
     }
 
@@ -70,6 +62,15 @@ impl Counting {
         let state = self.site.get(&key)?;
         is_so(&state, context, siblings)
     }
+
+    /// Counts a question, which a liar may refuse.
+    fn question(&mut self) -> Result<(), Refusal> {
+        self.questions = self.questions.saturating_add(1);
+        match self.lie {
+            Some(Lie::RefusesAt(number)) if number == self.questions => Err(Refusal::Store),
+            _ => Ok(()),
+        }
+    }
 }
 
 fn put_of(alloc: Global, key: &str, seen: &str, document: &str) -> Result<Request, Refusal> {
@@ -86,16 +87,12 @@ fn is_written(site: &mut Site, request: &Request) -> bool {
     matches!(&reply, Reply::Written(_))
 }
 
-/// The state of a key after one put on site 1.
-pub fn written(alloc: Global) -> Result<KeyState, Refusal> {
-    let mut site = Counting::new(alloc, 1, 1)?;
-    put_one(&mut site)
-}
+/// A state of one put by site 1: the dot 1:1, with {}.
+const ONE_PUT: &[u8] =
+    b"\0\0\0\x01\0\0\0\x01\0\0\0\0\0\0\0\x01\0\0\0\0\0\x01\0\0\0\x01\0\0\0\0\0\0\0\x01\0\0\0\x02{}";
 
-fn put_one(site: &mut Counting) -> Result<KeyState, Refusal> {
-    site.put("k", "-", "{}")?;
-    let key = Key::read(site.alloc, "k")?;
-    site.site.get(&key)
+pub fn written(alloc: Global) -> Result<KeyState, Refusal> {
+    decode_state(alloc, ONE_PUT)
 }
 
 /// Whether a state has this context and so many siblings.
@@ -137,17 +134,29 @@ impl Peer for Counting {
     }
 
     fn node(&mut self, path: &Path) -> Result<Digests, Refusal> {
-        self.asked.nodes = self.asked.nodes.saturating_add(1);
-        self.site.node(path)
+        self.asked[0] = self.asked[0].saturating_add(1);
+        self.question()?;
+        match self.lie {
+            Some(lie) => Ok(node_of(lie, self.questions, path)),
+            None => self.site.node(path),
+        }
     }
 
     fn bucket(&mut self, path: &Path, after: Option<&Key>) -> Result<Page, Refusal> {
-        self.asked.pages = self.asked.pages.saturating_add(1);
-        self.site.bucket(path, after)
+        self.asked[1] = self.asked[1].saturating_add(1);
+        self.question()?;
+        match self.lie {
+            Some(lie) => page_of(self.alloc, lie, self.questions, after.is_none()),
+            None => self.site.bucket(path, after),
+        }
     }
 
     fn get(&mut self, key: &Key) -> Result<KeyState, Refusal> {
-        self.asked.gets = self.asked.gets.saturating_add(1);
+        self.asked[2] = self.asked[2].saturating_add(1);
+        self.question()?;
+        if self.lie.is_some() {
+            return Ok(KeyState::empty(self.alloc));
+        }
         match &self.given {
             Some(given) => self.site.get(given),
             None => self.site.get(key),
@@ -155,7 +164,11 @@ impl Peer for Counting {
     }
 
     fn push(&mut self, key: &Key, state: &KeyState) -> Result<(), Refusal> {
-        self.asked.pushes = self.asked.pushes.saturating_add(1);
-        self.site.push(key, state)
+        self.asked[3] = self.asked[3].saturating_add(1);
+        self.question()?;
+        match self.lie {
+            Some(_) => Ok(()),
+            None => self.site.push(key, state),
+        }
     }
 }

@@ -1,8 +1,9 @@
 //! A session in which one allocation is refused, whichever it is: `rt try --test --fail-alloc N` refuses the Nth.
 use crate::peers::Counting;
-use crate::two_sites::{ended, meet};
+use crate::trials::{Trial, holds};
+use crate::two_sites::meet;
 use mvd_dots::Refusal;
-use mvd_sync::{SyncFault, sync};
+use mvd_sync::SyncFault;
 use std::alloc::Global;
 use std::test::Fail;
 
@@ -67,56 +68,41 @@ fn is_of_memory(fault: SyncFault) -> bool {
 }
 
 /// Whether a session, asked again, ends with what a broken side tells, or else well, with all joined.
-fn ends_then(alloc: Global, one: &mut Counting, two: &mut Counting) -> Result<bool, Refusal> {
+fn ends_then(one: &mut Counting, two: &mut Counting) -> Result<bool, Refusal> {
+    let alloc = one.alloc;
     if one.site.is_broken() {
-        return Ok(ended(alloc, one, two, Err(SyncFault::Local(Refusal::Broken))));
+        return Ok(meet(alloc, one, two) == Err(SyncFault::Local(Refusal::Broken)));
     }
     if two.site.is_broken() {
-        return Ok(ended(alloc, one, two, Err(SyncFault::Peer(Refusal::Broken))));
+        return Ok(meet(alloc, one, two) == Err(SyncFault::Peer(Refusal::Broken)));
     }
-    Ok(sync(alloc, one, two).is_ok() && are_joined(one, two)?)
+    Ok(meet(alloc, one, two).is_ok() && are_joined(one, two)?)
 }
 
 /// Whether a session ends with all joined, or else, where memory was refused, leaves old states and joins alone.
-fn stands(alloc: Global, one: &mut Counting, two: &mut Counting) -> Result<bool, Refusal> {
-    match meet(alloc, one, two) {
+fn stands(one: &mut Counting, two: &mut Counting) -> Result<bool, Refusal> {
+    match meet(one.alloc, one, two) {
         Ok(keys) => Ok(keys == 3 && are_joined(one, two)?),
         Err(fault) => {
-            Ok(is_of_memory(fault) && all_show(one, two, false)? && ends_then(alloc, one, two)?)
+            Ok(is_of_memory(fault) && all_show(one, two, false)? && ends_then(one, two)?)
         }
     }
 }
 
-/// Whether a session of these two stands; none, where the keys could not be put.
-fn session_of(one: &mut Counting, two: &mut Counting) -> Result<Option<bool>, Refusal> {
+/// Whether a session of these two stands; 20 where the keys could not be put.
+pub fn session_of(one: &mut Counting, two: &mut Counting) -> Result<bool, Refusal> {
     if put_all(one, two) == Ok(true) {
-        Ok(Some(stands(one.alloc, one, two)?))
+        stands(one, two)
     } else {
-        Ok(None)
+        Err(Refusal::Memory)
     }
 }
 
-/// The same with a second site, which may not be had either.
-fn session_with(alloc: Global, one: &mut Counting) -> Result<Option<bool>, Refusal> {
-    match Counting::new(alloc, 2, 10) {
-        Ok(mut two) => session_of(one, &mut two),
-        Err(_) => Ok(None),
-    }
-}
-
-/// The same with two sites.
-fn session(alloc: Global) -> Result<Option<bool>, Refusal> {
-    match Counting::new(alloc, 1, 10) {
-        Ok(mut one) => session_with(alloc, &mut one),
-        Err(_) => Ok(None),
-    }
-}
-
-/// Whether a session stands. One allocation alone is refused, so the sites can be had the second time.
+/// Whether a session stands. One allocation alone is refused, so the sites and the keys can be had the second time.
 fn session_stands(alloc: Global) -> Result<bool, Refusal> {
-    match session(alloc)? {
-        Some(is_so) => Ok(is_so),
-        None => Ok(session(alloc)? == Some(true)),
+    match holds(alloc, 2, 10, Trial::Growth) {
+        Err(Refusal::Memory) => holds(alloc, 2, 10, Trial::Growth),
+        answer => answer,
     }
 }
 

@@ -12,7 +12,6 @@ use mvd_site::{Config, Site};
 use mvd_sync::SyncFault;
 use mvd_wire::Request;
 use std::alloc::Global;
-use std::test::Fail;
 
 /// A site at the other end that gives these bytes, and keeps what it is sent.
 type Link<'a> = Remote<Duplex<&'a [u8], Vec<u8>>>;
@@ -27,7 +26,7 @@ fn are_sent(remote: Link, bytes: usize) -> bool {
 }
 
 /// Whether a session of this site over a link that gives these bytes ends so, and a Bye, with so much sent.
-fn ends_with(
+fn ends(
     local: &mut Counting,
     replies: &[u8],
     session: Result<u64, SyncFault>,
@@ -39,18 +38,6 @@ fn ends_with(
     let met = meet(alloc, local, &mut remote);
     let said = remote.bye();
     met == session && said == bye && are_sent(remote, bytes)
-}
-
-/// The same of a site with no key.
-fn ends(
-    alloc: Global,
-    replies: &[u8],
-    session: Result<u64, SyncFault>,
-    bye: Result<(), Refusal>,
-    bytes: usize,
-) -> Result<bool, Refusal> {
-    let mut local = Counting::new(alloc, 1, 10)?;
-    Ok(ends_with(&mut local, replies, session, bye, bytes))
 }
 
 /// What a site with no key replies about its root, 32 zeros, sixteen children, and their zeros, and then to a Bye.
@@ -65,47 +52,15 @@ fn empty_root() -> [u8; 555] {
     replies
 }
 
-#[test]
-fn a_session_with_an_empty_site(rt: HostRuntime) -> Result<(), Fail> {
-    let met = Ok(0);
-    assert!(rt; ends(rt.alloc(), &empty_root(), met, Ok(()), 11)?);
-    Ok(())
-}
-
-#[test]
-fn a_link_that_ends_stays_refused(rt: HostRuntime) -> Result<(), Fail> {
+/// Whether a session with an empty site ends well; one over a link that ends, which stays refused; and one with a site
+/// that tells a refusal.
+pub fn are_ended(local: &mut Counting) -> bool {
     let ended = Refusal::Truncated;
-    assert!(rt; ends(rt.alloc(), &[], Err(SyncFault::Peer(ended)), Err(ended), 6)?);
-    Ok(())
-}
-
-#[test]
-fn a_refusal_that_the_peer_tells(rt: HostRuntime) -> Result<(), Fail> {
-    let replies = [0, 0, 0, 2, 0xEE, 0x15, 0, 0, 0, 1, 0xA3];
-    let told = Err(SyncFault::Peer(Refusal::Store));
-    assert!(rt; ends(rt.alloc(), &replies, told, Ok(()), 11)?);
-    Ok(())
-}
-
-fn shows_nothing(alloc: Global, remote: &mut Link) -> Result<bool, Refusal> {
-    let key = Key::read(alloc, "k")?;
-    let state = remote.get(&key)?;
-    Ok(state.siblings().is_empty())
-}
-
-/// Whether the question about a key is answered by an empty state, and just that was asked.
-fn asks_for_a_key(alloc: Global) -> Result<bool, Refusal> {
-    let replies = [0, 0, 0, 7, 0xA1, 0, 0, 0, 0, 0, 0];
-    let mut remote = Remote::new(alloc, replies.as_slice(), Vec::new(alloc));
-    let shown = shows_nothing(alloc, &mut remote)?;
-    let (_, written) = remote.into_parts();
-    Ok(shown && written.as_slice() == [0, 0, 0, 3, 0x21, 1, 0x6B].as_slice())
-}
-
-#[test]
-fn the_state_of_a_key(rt: HostRuntime) -> Result<(), Fail> {
-    assert!(rt; asks_for_a_key(rt.alloc())?);
-    Ok(())
+    let told = [0, 0, 0, 2, 0xEE, 0x15, 0, 0, 0, 1, 0xA3];
+    let refused = Err(SyncFault::Peer(Refusal::Store));
+    ends(local, &empty_root(), Ok(0), Ok(()), 11)
+        && ends(local, &[], Err(SyncFault::Peer(ended)), Err(ended), 6)
+        && ends(local, &told, refused, Ok(()), 11)
 }
 
 /// A request of each kind, and the kind of its reply.
@@ -154,15 +109,23 @@ fn takes(remote: &mut Link, asked: &Request) -> Result<(), Refusal> {
     }
 }
 
-/// Whether a request takes a reply whose kind is its own, or else is refused it for good.
-fn is_taken(alloc: Global, asked: &Request, frame: &[u8], is_own: bool) -> bool {
-    let mut remote = Remote::new(alloc, frame, Vec::new(alloc));
-    let told = takes(&mut remote, asked);
+/// Whether a question takes a reply whose kind is its own, or else is refused it for good.
+fn is_answered(remote: &mut Link, asked: &Request, is_own: bool) -> bool {
+    let told = takes(remote, asked);
     if is_own {
         return told == Ok(());
     }
     let refused = Err(Refusal::BadKind);
     told == refused && remote.bye() == refused
+}
+
+/// Whether it is so where this frame comes, and a frame with just this payload goes out.
+fn is_taken(alloc: Global, asked: &Request, payload: &[u8], frame: &[u8], is_own: bool) -> bool {
+    let mut remote = Remote::new(alloc, frame, Vec::new(alloc));
+    let is_answered = is_answered(&mut remote, asked, is_own);
+    let (_, written) = remote.into_parts();
+    let sent = written.as_slice();
+    is_answered && sent.len() == payload.len().saturating_add(5) && sent.ends_with(payload)
 }
 
 fn takes_its_kind(
@@ -171,11 +134,17 @@ fn takes_its_kind(
     reply: (u8, u8),
 ) -> Result<bool, Refusal> {
     let asked = decode_request(alloc, request.0, request.1)?;
-    Ok(is_taken(alloc, &asked, &frame_of(reply), request.2 == reply.0))
+    Ok(is_taken(
+        alloc,
+        &asked,
+        request.1,
+        &frame_of(reply),
+        request.2 == reply.0,
+    ))
 }
 
 /// Whether it is so of each request and each reply.
-fn take_their_kinds(alloc: Global) -> Result<bool, Refusal> {
+pub fn take_their_kinds(alloc: Global) -> Result<bool, Refusal> {
     for request in &REQUESTS {
         for reply in REPLIES {
             if !takes_its_kind(alloc, request, reply)? {
@@ -186,14 +155,8 @@ fn take_their_kinds(alloc: Global) -> Result<bool, Refusal> {
     Ok(true)
 }
 
-#[test]
-fn a_reply_of_every_other_kind_is_32(rt: HostRuntime) -> Result<(), Fail> {
-    assert!(rt; take_their_kinds(rt.alloc())?);
-    Ok(())
-}
-
-#[test]
-fn a_session_with_replies_of_another_kind_is_32(rt: HostRuntime) -> Result<(), Fail> {
+/// Whether a session with each of these replies ends so.
+pub fn end_with_other_kinds(local: &mut Counting) -> bool {
     for reply in REPLIES {
         // The reply of a node's kind is that of a bucket; the link goes on, and has no byte more.
         let (refusal, bye, bytes) = if reply.0 == 0xA7 {
@@ -202,38 +165,27 @@ fn a_session_with_replies_of_another_kind_is_32(rt: HostRuntime) -> Result<(), F
             (Refusal::BadKind, Refusal::BadKind, 6)
         };
         let told = Err(SyncFault::Peer(refusal));
-        assert!(rt; ends(rt.alloc(), &frame_of(reply), told, Err(bye), bytes)?);
+        if !ends(local, &frame_of(reply), told, Err(bye), bytes) {
+            return false;
+        }
     }
-    Ok(())
+    true
 }
 
 /// What a window pushes.
 type Pushes = Vec<(Key, KeyState)>;
 
-fn add_push(
-    pushes: &mut Pushes,
-    alloc: Global,
-    key: &str,
-    state: &KeyState,
-) -> Result<(), Refusal> {
-    let key = Key::read(alloc, key)?;
-    pushes.push((key, state.copy(alloc)?))?;
+fn add_push(pushes: &mut Pushes, alloc: Global, key: &str) -> Result<(), Refusal> {
+    let state = written(alloc)?;
+    pushes.push((Key::read(alloc, key)?, state))?;
     Ok(())
 }
 
 fn add_pushes(pushes: &mut Pushes, alloc: Global) -> Result<(), Refusal> {
-    let state = written(alloc)?;
     for key in ["a", "b", "c"] {
-        add_push(pushes, alloc, key, &state)?;
+        add_push(pushes, alloc, key)?;
     }
     Ok(())
-}
-
-/// A state of one put by site 1, and three keys.
-fn pushes(alloc: Global) -> Result<Pushes, Refusal> {
-    let mut pushes = Vec::new(alloc);
-    add_pushes(&mut pushes, alloc)?;
-    Ok(pushes)
 }
 
 /// Whether each push of a window but the second is taken, and a Bye is answered.
@@ -245,19 +197,12 @@ fn takes_all_but_one(remote: &mut Link, pushes: &[(Key, KeyState)]) -> Result<bo
 
 /// Whether a window of three pushes is written whole, its three replies are read though one of them refuses, and a Bye
 /// is answered.
-fn stays_in_step(alloc: Global) -> Result<bool, Refusal> {
+fn stays_in_step(alloc: Global, pushes: &[(Key, KeyState)]) -> Result<bool, Refusal> {
     let replies = [
         0, 0, 0, 1, 0xA3, 0, 0, 0, 2, 0xEE, 0x0B, 0, 0, 0, 1, 0xA3, 0, 0, 0, 1, 0xA3,
     ];
-    let pushes = pushes(alloc)?;
     let mut remote = Remote::new(alloc, replies.as_slice(), Vec::new(alloc));
-    takes_all_but_one(&mut remote, &pushes)
-}
-
-#[test]
-fn a_window_is_read_whole(rt: HostRuntime) -> Result<(), Fail> {
-    assert!(rt; stays_in_step(rt.alloc())?);
-    Ok(())
+    takes_all_but_one(&mut remote, pushes)
 }
 
 /// Whether a window is told that the input ended, for good.
@@ -267,18 +212,18 @@ fn is_cut(remote: &mut Link, pushes: &[(Key, KeyState)]) -> bool {
 }
 
 /// Whether a window is written whole where the input ends after its first reply, and tells that.
-fn window_ends(alloc: Global) -> Result<bool, Refusal> {
-    let pushes = pushes(alloc)?;
+fn is_written(alloc: Global, pushes: &[(Key, KeyState)]) -> bool {
     let mut remote = Remote::new(alloc, [0, 0, 0, 1, 0xA3].as_slice(), Vec::new(alloc));
-    let is_cut = is_cut(&mut remote, &pushes);
+    let is_cut = is_cut(&mut remote, pushes);
     let (_, written) = remote.into_parts();
-    Ok(is_cut && written.len() == 3 * 47)
+    is_cut && written.len() == 3 * 47
 }
 
-#[test]
-fn a_window_is_written_whole(rt: HostRuntime) -> Result<(), Fail> {
-    assert!(rt; window_ends(rt.alloc())?);
-    Ok(())
+/// The same of a state of one put by site 1, at three keys.
+pub fn windows_are_whole(alloc: Global) -> Result<bool, Refusal> {
+    let mut pushes = Vec::new(alloc);
+    add_pushes(&mut pushes, alloc)?;
+    Ok(is_written(alloc, &pushes) && stays_in_step(alloc, &pushes)?)
 }
 
 /// Whether a session gives that a key, after which the roots are equal, and a Bye is answered.
@@ -296,16 +241,10 @@ fn meets_site(local: &mut Counting, far: Site) -> bool {
     meets_far(local, &mut remote)
 }
 
-/// The same of a site with one key, and one with none behind a line.
-fn meets_over_a_line(alloc: Global) -> Result<bool, Refusal> {
-    let mut local = Counting::new(alloc, 1, 10)?;
+/// The same of this site with one key, and one with none behind a line.
+pub fn meets_over_a_line(local: &mut Counting) -> Result<bool, Refusal> {
+    let alloc = local.alloc;
     local.put("k", "-", "{}")?;
     let far = Site::new(alloc, Config::new(2, 10, Defs::new(alloc)))?;
-    Ok(meets_site(&mut local, far))
-}
-
-#[test]
-fn a_session_over_a_line_to_a_site(rt: HostRuntime) -> Result<(), Fail> {
-    assert!(rt; meets_over_a_line(rt.alloc())?);
-    Ok(())
+    Ok(meets_site(local, far))
 }

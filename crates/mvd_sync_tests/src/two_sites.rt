@@ -1,46 +1,11 @@
 //! Sessions of two sites, as no script tells them: how much is asked, and two sites of one number.
-use crate::many_keys::ask_few;
-use crate::peers::{Asked, Counting};
+use crate::many_keys::fill;
+use crate::peers::{Counting, written};
 use mvd_dots::Refusal;
+use mvd_keys::KeyState;
 use mvd_peer::Peer;
 use mvd_sync::{Report, Side, SyncFault, sync, sync_within};
 use std::alloc::Global;
-use std::test::Fail;
-
-/// What is tried of two sites that hold no key.
-#[derive(Clone, Copy)]
-enum Trial {
-    Asked,
-    Few,
-    Clash,
-    Old,
-}
-
-/// Tries it of sites that are lent, since a function that owns one has a dear proof.
-fn holds_of(one: &mut Counting, two: &mut Counting, trial: Trial) -> Result<bool, Refusal> {
-    match trial {
-        Trial::Asked => are_asked(one, two),
-        Trial::Few => ask_few(one, two),
-        Trial::Clash => clash(one, two),
-        Trial::Old => tells_old(one, two),
-    }
-}
-
-fn holds_with(
-    one: &mut Counting,
-    number: u32,
-    max_keys: u32,
-    trial: Trial,
-) -> Result<bool, Refusal> {
-    let mut two = Counting::new(one.alloc, number, max_keys)?;
-    holds_of(one, &mut two, trial)
-}
-
-/// Tries it of site 1 and a site of this number.
-fn holds(alloc: Global, number: u32, max_keys: u32, trial: Trial) -> Result<bool, Refusal> {
-    let mut one = Counting::new(alloc, 1, max_keys)?;
-    holds_with(&mut one, number, max_keys, trial)
-}
 
 /// How many keys were exchanged, where none was refused and none was older than what the peer saw; else a number of no
 /// session.
@@ -62,102 +27,52 @@ pub fn meet<L: Peer, P: Peer>(
 }
 
 /// The same, with so many questions to each side, of which there is at least one.
-pub fn meet_within<L: Peer, P: Peer>(
-    alloc: Global,
-    local: &mut L,
-    peer: &mut P,
+pub fn meet_within(
+    local: &mut Counting,
+    peer: &mut Counting,
     questions: u64,
 ) -> Result<u64, SyncFault> {
-    sync_within(alloc, local, peer, questions.clamp(1, 100)).map(|report| keys_of(&report))
-}
-
-/// Whether a session ended so.
-pub fn ended(
-    alloc: Global,
-    local: &mut Counting,
-    peer: &mut Counting,
-    wanted: Result<u64, SyncFault>,
-) -> bool {
-    meet(alloc, local, peer) == wanted
-}
-
-/// Whether both sides have the same digest at the root.
-pub fn alike(one: &Counting, two: &Counting) -> Result<bool, Refusal> {
-    Ok(one.root()? == two.root()?)
-}
-
-/// Whether a session with so many questions to each side, of which there is at least one, ended so.
-fn ended_within(
-    alloc: Global,
-    local: &mut Counting,
-    peer: &mut Counting,
-    questions: u64,
-    wanted: Result<u64, SyncFault>,
-) -> bool {
-    meet_within(alloc, local, peer, questions) == wanted
+    sync_within(local.alloc, local, peer, questions.clamp(1, 100)).map(|report| keys_of(&report))
 }
 
 /// Whether a key that one side alone holds takes five questions: three nodes, a page, and a get or a push. Then one is
 /// enough.
-fn five_are_enough(alloc: Global, one: &mut Counting, two: &mut Counting) -> bool {
+fn five_are_enough(one: &mut Counting, two: &mut Counting) -> bool {
     let few = Err(SyncFault::Local(Refusal::TooManyRequests));
-    ended_within(alloc, one, two, 1, few)
-        && ended_within(alloc, one, two, 4, few)
-        && ended_within(alloc, one, two, 5, Ok(1))
-        && ended_within(alloc, one, two, 1, Ok(0))
+    meet_within(one, two, 1) == few
+        && meet_within(one, two, 4) == few
+        && meet_within(one, two, 5) == Ok(1)
+        && meet_within(one, two, 1) == Ok(0)
 }
 
-/// What each side was asked in these four sessions.
-const ASKED: (Asked, Asked) = (
-    Asked {
-        nodes: 8,
-        pages: 2,
-        gets: 1,
-        pushes: 0,
-    },
-    Asked {
-        nodes: 8,
-        pages: 2,
-        gets: 0,
-        pushes: 1,
-    },
-);
-
-fn are_asked(one: &mut Counting, two: &mut Counting) -> Result<bool, Refusal> {
+/// Whether each side was asked so much in these four sessions.
+pub fn are_asked(one: &mut Counting, two: &mut Counting) -> Result<bool, Refusal> {
     let is_put = one.put("a", "-", "{}")?;
-    let are_enough = five_are_enough(one.alloc, one, two);
-    Ok(is_put && are_enough && (one.asked, two.asked) == ASKED && two.shows("a", "1:1", 1)?)
+    let are_enough = five_are_enough(one, two);
+    let are_so = one.asked == [8, 2, 1, 0] && two.asked == [8, 2, 0, 1];
+    Ok(is_put && are_enough && are_so && two.shows("a", "1:1", 1)?)
 }
 
-#[test]
-fn so_many_questions_and_no_more(rt: HostRuntime) -> Result<(), Fail> {
-    assert!(rt; holds(rt.alloc(), 2, 10, Trial::Asked)?);
-    Ok(())
-}
-
-#[test]
-fn few_questions_for_few_keys(rt: HostRuntime) -> Result<(), Fail> {
-    assert!(rt; holds(rt.alloc(), 2, 20_000, Trial::Few)?);
-    Ok(())
-}
-
-/// The first key that a session refused, by which side, and how; the others are exchanged.
-pub fn first_left<L: Peer, P: Peer>(
-    alloc: Global,
-    local: &mut L,
-    peer: &mut P,
-    keys: u64,
-    refused: u64,
-) -> Result<Option<(Side, Refusal)>, Refusal> {
-    let Ok(report) = sync(alloc, local, peer) else {
-        return Err(Refusal::Damaged);
-    };
-    if (report.keys, report.refused) != (keys, refused) {
+/// The first key of a report that was refused, by which side, and how; so many are exchanged, refused, and old.
+fn left_of(report: &Report, counts: (u64, u64, u64)) -> Result<Option<(Side, Refusal)>, Refusal> {
+    if (report.keys, report.refused, report.old) != counts {
         return Err(Refusal::Damaged);
     }
     match report.first_refused.as_slice().first() {
         Some(left) => Ok(Some((left.side, left.refusal))),
         None => Ok(None),
+    }
+}
+
+/// The same of the report of a session.
+pub fn first_left(
+    one: &mut Counting,
+    two: &mut Counting,
+    counts: (u64, u64, u64),
+) -> Result<Option<(Side, Refusal)>, Refusal> {
+    match sync(one.alloc, one, two) {
+        Ok(report) => left_of(&report, counts),
+        Err(_) => Err(Refusal::Damaged),
     }
 }
 
@@ -172,9 +87,9 @@ fn write_same(one: &mut Counting, other: &mut Counting) -> Result<bool, Refusal>
 }
 
 /// Whether a key of which two sites wrote the same dot is left, and the others cross.
-fn clash(one: &mut Counting, other: &mut Counting) -> Result<bool, Refusal> {
+pub fn clash(one: &mut Counting, other: &mut Counting) -> Result<bool, Refusal> {
     let are_put = write_same(one, other)?;
-    let left = first_left(one.alloc, one, other, 2, 1)?;
+    let left = first_left(one, other, (2, 1, 0))?;
     Ok(
         are_put
             && left == Some((Side::Local, Refusal::DotClash))
@@ -184,37 +99,21 @@ fn clash(one: &mut Counting, other: &mut Counting) -> Result<bool, Refusal> {
     )
 }
 
-#[test]
-fn states_that_clash_are_left(rt: HostRuntime) -> Result<(), Fail> {
-    assert!(rt; holds(rt.alloc(), 1, 10, Trial::Clash)?);
-    Ok(())
-}
-
-/// How many keys a session exchanged, and of how many the peer saw more of the local site than the local site has.
-fn keys_and_old(one: &mut Counting, two: &mut Counting) -> Option<(u64, u64)> {
-    match sync(one.alloc, one, two) {
-        Ok(report) => Some((report.keys, report.old)),
-        Err(_) => None,
-    }
-}
-
 /// Whether a copy of site 1 that has one of its two keys is told so, and then has the other.
-fn copy_is_told(copy: &mut Counting, two: &mut Counting) -> Result<bool, Refusal> {
-    let are_put = copy.put("a", "-", "{}")? && two.put("c", "-", "{}")?;
-    let told = keys_and_old(copy, two);
-    Ok(are_put && told == Some((2, 1)) && copy.shows("b", "1:1", 1)?)
+fn copy_is_told(
+    copy: &mut Counting,
+    two: &mut Counting,
+    state: &KeyState,
+) -> Result<bool, Refusal> {
+    fill(copy, 1, state)?;
+    fill(two, 2, state)?;
+    let is_put = two.put("c", "-", "{}")?;
+    let left = first_left(copy, two, (2, 0, 1))?;
+    Ok(is_put && left.is_none() && copy.shows("k1", "1:1", 1)?)
 }
 
 /// Whether a session tells an old copy of the first site from that.
-fn tells_old(one: &mut Counting, two: &mut Counting) -> Result<bool, Refusal> {
-    let written = one.put("a", "-", "{}")? && one.put("b", "-", "{}")?;
-    let met = meet(one.alloc, one, two) == Ok(2);
-    let mut copy = Counting::new(one.alloc, 1, 10)?;
-    Ok(written && met && copy_is_told(&mut copy, two)?)
-}
-
-#[test]
-fn an_old_copy_is_told(rt: HostRuntime) -> Result<(), Fail> {
-    assert!(rt; holds(rt.alloc(), 2, 10, Trial::Old)?);
-    Ok(())
+pub fn tells_old(one: &mut Counting, two: &mut Counting) -> Result<bool, Refusal> {
+    let state = written(one.alloc)?;
+    copy_is_told(one, two, &state)
 }

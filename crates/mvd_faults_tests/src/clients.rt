@@ -43,17 +43,13 @@ struct Client {
     wanted: Vec<u8>,
 }
 
-/// Adds a client with random requests.
-fn add_client(
-    alloc: Global,
-    random: &mut Random,
-    clients: &mut Vec<Client>,
-) -> Result<(), Refusal> {
+/// A client with random requests.
+fn new_client(alloc: Global, random: &mut Random) -> Client {
     let mut asked = [GET; REQUESTS];
     for place in asked.iter_mut() {
         *place = ASKED[random.below(10) as usize % 10];
     }
-    clients.push(Client {
+    Client {
         asked,
         input: Bytes::of(&asked),
         came: 0,
@@ -61,8 +57,7 @@ fn add_client(
         end: 0,
         told: Vec::new(alloc),
         wanted: Vec::new(alloc),
-    })?;
-    Ok(())
+    }
 }
 
 /// At most so many of these bytes come, behind those that came. How many did.
@@ -180,7 +175,7 @@ fn told_by(
     let mut clients = Vec::new(alloc);
     admit_all(&mut sides.host, CLIENTS as usize);
     for _ in 0..CLIENTS {
-        add_client(alloc, random, &mut clients)?;
+        clients.push(new_client(alloc, random))?;
     }
     for _ in 0..150u32 {
         step(alloc, random, sides, clients.as_mut_slice());

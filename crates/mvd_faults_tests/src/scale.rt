@@ -6,6 +6,8 @@ use std::alloc::Global;
 use std::test::Fail;
 use std::time::Instant;
 
+const NONE: &[u8] = &[];
+
 /// A list of rows: how many, and of each the bytes before its number and those behind it. The numbers are the multiples of a step.
 type Rows = (u32, &'static [u8], u64, &'static [u8]);
 
@@ -38,12 +40,12 @@ const SIBLING_STEPS: &[Step] = &[
             0, 0, 0, 1, 0, 0, 0, 2, 0, 0, 0, 0, 0, 0, 0xF9, 0x8E, 0, 0, 0, 0, 0xF9, 0x8E,
         ],
         true,
-        &[],
+        NONE,
         (0xA3, 5),
     ),
-    ("put", 0x22, BLIND, false, &[], (0xA2, 17)),
-    ("put once more", 0x22, BLIND, false, &[], (9, 6)),
-    ("read", 0x21, &[], false, &[], (0xA1, 27 + 18 * SIBLINGS)),
+    ("put", 0x22, BLIND, false, NONE, (0xA2, 17)),
+    ("put once more", 0x22, BLIND, false, NONE, (9, 6)),
+    ("read", 0x21, NONE, false, NONE, (0xA1, 27 + 18 * SIBLINGS)),
     (
         "deleted",
         0x23,
@@ -51,14 +53,14 @@ const SIBLING_STEPS: &[Step] = &[
             0, 0, 0, 1, 0, 0, 0, 2, 0, 0, 0, 0, 0, 0, 0xF9, 0x8F, 0, 0, 0, 0,
         ],
         false,
-        &[],
+        NONE,
         (0xA3, 5),
     ),
-    ("read again", 0x21, &[], false, &[], (0xA1, 27)),
+    ("read again", 0x21, NONE, false, NONE, (0xA1, 27)),
 ];
 
 /// A context of 70,000 loose counters of site 2, which is put at site 1.
-const LOOSE_ROWS: Rows = (70_000, &[], 2, &[]);
+const LOOSE_ROWS: Rows = (70_000, NONE, 2, NONE);
 
 const LOOSE: &[u8] = &[
     0, 0, 0, 1, 0, 0, 0, 2, 0, 0, 0, 0, 0, 0, 0, 0, 0, 1, 0x11, 0x70,
@@ -76,7 +78,7 @@ const LOOSE_STEPS: &[Step] = &[
         &[0, 0, 0, 2, b'{', b'}'],
         (0xA2, 17),
     ),
-    ("read", 0x21, &[], false, &[], (0xA1, 25 + CONTEXT)),
+    ("read", 0x21, NONE, false, NONE, (0xA1, 25 + CONTEXT)),
 ];
 
 /// The same with the dot 1:1 in front, and the sibling of that dot.
@@ -92,9 +94,9 @@ const ONE: &[u8] = &[
 /// That state delivered to another site, where it is read, and deleted by its context.
 const DELIVERED_STEPS: &[Step] = &[
     ("delivered", 0x29, SEEN, true, ONE, (0xA3, 5)),
-    ("read there", 0x21, &[], false, &[], (0xA1, 25 + CONTEXT)),
-    ("deleted", 0x23, SEEN, true, &[], (0xA3, 5)),
-    ("read again", 0x21, &[], false, &[], (0xA1, 7 + CONTEXT)),
+    ("read there", 0x21, NONE, false, NONE, (0xA1, 25 + CONTEXT)),
+    ("deleted", 0x23, SEEN, true, NONE, (0xA3, 5)),
+    ("read again", 0x21, NONE, false, NONE, (0xA1, 7 + CONTEXT)),
 ];
 
 const ASKED: [Asked; 3] = [
@@ -116,7 +118,7 @@ fn bytes_of(alloc: Global, rows: Rows) -> Vec<u8> {
 
 /// What a site says in a step.
 fn said(alloc: Global, replica: &mut Replica<MemStore>, step: &Step, rows: &[u8]) -> (u8, usize) {
-    let rows = if step.3 { rows } else { &[] };
+    let rows = if step.3 { rows } else { NONE };
     let len = step
         .2
         .len()

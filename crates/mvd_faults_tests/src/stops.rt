@@ -68,14 +68,7 @@ const RUNS: [Run; 5] = [
         whole: 1,
         commits: &[],
     },
-    Run {
-        name: "a session's local side",
-        before: Some(Work::Puts(MINE)),
-        work: Work::Local,
-        theirs: 2,
-        whole: 1,
-        commits: &[],
-    },
+    TWO_KEYS,
     Run {
         name: "a session's peer",
         before: Some(Work::Puts(MINE)),
@@ -86,8 +79,17 @@ const RUNS: [Run; 5] = [
     },
 ];
 
-/// A session that brings forty keys.
-const FORTY: Run = Run {
+/// Sessions that bring two keys, and forty.
+const TWO_KEYS: Run = Run {
+    name: "a session's local side",
+    before: Some(Work::Puts(MINE)),
+    work: Work::Local,
+    theirs: 2,
+    whole: 1,
+    commits: &[],
+};
+
+const FORTY_KEYS: Run = Run {
     name: "a session with forty keys",
     before: Some(Work::Puts(MINE)),
     work: Work::Local,
@@ -234,8 +236,8 @@ fn each_file_may_stop(rt: HostRuntime) -> Result<(), Fail> {
 
 #[test]
 fn a_window_is_one_commit(rt: HostRuntime) -> Result<(), Fail> {
-    let two = until_done(rt.alloc(), &RUNS[3], true)?;
-    let forty = until_done(rt.alloc(), &FORTY, true)?;
+    let two = until_done(rt.alloc(), &TWO_KEYS, true)?;
+    let forty = until_done(rt.alloc(), &FORTY_KEYS, true)?;
     println!(rt; "{two} calls of the log for two keys, {forty} for forty")?;
     assert!(rt; forty < two.saturating_add(20));
     Ok(())

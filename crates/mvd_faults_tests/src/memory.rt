@@ -88,20 +88,34 @@ fn a_replica_is_asked_again(rt: HostRuntime) -> Result<(), Fail> {
     Ok(())
 }
 
+const PUT_AT_A: &str = "0000001222016100000000000000077b2261223a327d";
+
+const FIND: &str = "0000000e2400016103000000000000000200";
+
+const PUT_AT_B: &str =
+    "00000025220162000000000000001a7b22616d6f756e74223a352c2263697479223a224f736c6f227d";
+
+const ROW: &str = "0000000f2500057370656e640400044f736c6f";
+
+/// The frames of all pairs on one connection, and those of three clients: the puts share a round, and so do the questions.
+const AT_ONCE: [&str; 6] = [PUT, GET, PUT_AT_A, FIND, PUT_AT_B, ROW];
+
+const IN_ROUNDS: [&str; 6] = [PUT, PUT_AT_A, PUT_AT_B, GET, FIND, ROW];
+
 /// A put, a question that it bears on, and the replies to this with the put and without.
 type Pair = (&'static str, &'static str, &'static str, &'static str);
 
 const PAIRS: [Pair; 3] = [
     (PUT, GET, STATE, EMPTY),
     (
-        "0000001222016100000000000000077b2261223a327d",
-        "0000000e2400016103000000000000000200",
+        PUT_AT_A,
+        FIND,
         "0000001ba40000010300000000000000020161000000010000000000000001",
         "00000004a4000000",
     ),
     (
-        "00000025220162000000000000001a7b22616d6f756e74223a352c2263697479223a224f736c6f227d",
-        "0000000f2500057370656e640400044f736c6f",
+        PUT_AT_B,
+        ROW,
         "0000002aa50000000000000001000000000000000000000000000000050100000000000000050000000000000005",
         "0000001aa500000000000000000000000000000000000000000000000000",
     ),
@@ -159,21 +173,9 @@ fn pairs_tell(
     true
 }
 
-/// What three clients of a host are told, each of a put and of the question behind it: the puts share a round, and so do the questions.
-fn told_in_rounds(alloc: Global, replica: &mut Replica<MemStore>) -> Bytes {
-    let [first, second, third] = PAIRS;
-    let frames = [first.0, second.0, third.0, first.1, second.1, third.1];
-    told_by_three(alloc, replica, &frames)
-}
-
 /// What one connection is told of all pairs. (Where it ends otherwise than it may, that is a frame that no reply is.)
 fn told_at_once(alloc: Global, replica: &mut Replica<MemStore>) -> Bytes {
-    let mut input = Bytes::of(&[]);
-    for pair in &PAIRS {
-        input.add(pair.0);
-        input.add(pair.1);
-    }
-    let (output, ended) = serves(alloc, replica, &input);
+    let (output, ended) = serves(alloc, replica, &Bytes::of(&AT_ONCE));
     if ended == "end" || ended == "Memory" {
         output
     } else {
@@ -185,7 +187,7 @@ fn told_at_once(alloc: Global, replica: &mut Replica<MemStore>) -> Bytes {
 fn pairs_are_told(alloc: Global, in_rounds: bool) -> Result<bool, Refusal> {
     let mut replica = made(alloc, 1, &[])?;
     let output = if in_rounds {
-        told_in_rounds(alloc, &mut replica)
+        told_by_three(alloc, &mut replica, &IN_ROUNDS)
     } else {
         told_at_once(alloc, &mut replica)
     };

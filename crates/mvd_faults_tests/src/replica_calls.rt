@@ -115,7 +115,7 @@ pub fn counted(output: &[u8]) -> (usize, usize, usize) {
         let (frame, behind) = first_frame(rest);
         match frame {
             [_, _, _, _, 0xA2, ..] => dots = dots.saturating_add(1),
-            [_, _, _, _, 0xA1..=0xA9 | 0xEE, ..] => {}
+            [_, _, _, _, 0xA0..=0xAF | 0xEE, ..] => {}
             _ => break,
         }
         replies = replies.saturating_add(1);

@@ -106,8 +106,7 @@ fn meets<S: Alter + Drop, T: Alter + Drop>(
     peer: &mut Replica<T>,
     questions: usize,
 ) -> usize {
-    let met = sync_within(alloc, local, peer, (questions as u64).clamp(1, 1_000));
-    usize::from(met.is_ok())
+    usize::from(sync_within(alloc, local, peer, (questions as u64).clamp(1, 1_000)).is_ok())
 }
 
 /// Does work on a replica, and tells how much was done: how many puts were answered by a dot, or whether all was done.

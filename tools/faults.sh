@@ -74,11 +74,9 @@ sweep() { # CRATE TEST [STEP]: refuses growth 1, 1 + STEP and so on, each by its
 
 sweep_all() { # STEP: that of all tests but the cheapest
     local test
-    for test in a_replica_is_asked_again a_connection_tells_what_is_there a_fresh_replica_is_opened_again \
-        an_old_replica_is_opened_again; do
+    for test in a_replica_is_asked_again a_connection_tells_what_is_there a_round_tells_what_is_there; do
         sweep mvd_faults_tests memory::$test "$1"
     done
-    sweep mvd_faults_tests round_memory::a_round_tells_what_is_there "$1"
     sweep mvd_script_tests script_memory::a_script_tells_what_it_did
     sweep mvd_sync_tests refused_growth::a_refused_allocation_leaves_old_states_or_joins "$1"
 }

@@ -1,27 +1,33 @@
 //! Records that are damaged, and files that are.
-use super::file_calls::{Course, Work, files_after, no_files, on_files, settled};
-use super::replica_calls::{Root, memory_after, or_refusal, push};
-use super::stops::OLD_ROWS;
+use super::file_calls::{NEVER, Work, database, files_with, on_files};
+use super::replica_calls::{memory_after, or_refusal, push};
 use mvd_dots::Refusal;
 use mvd_keys::Key;
 use mvd_records::Records;
-use sqlite::{Files, MemStore};
-use sqlite_disk::{Disk, Memory};
+use sqlite::MemStore;
 use std::alloc::Global;
 use std::test::Fail;
 
 /// The tables of version 1, and those of version 2.
-pub const OLD: &str =
-    "CREATE TABLE states (key TEXT PRIMARY KEY NOT NULL, state BLOB NOT NULL) STRICT;
+const OLD: &str = "CREATE TABLE states (key TEXT PRIMARY KEY NOT NULL, state BLOB NOT NULL) STRICT;
 CREATE TABLE meta (name TEXT PRIMARY KEY NOT NULL, value INTEGER NOT NULL) STRICT;";
 
 const NEW: &str =
     "CREATE TABLE states2 (key TEXT PRIMARY KEY NOT NULL, state BLOB NOT NULL) STRICT;";
 
 /// The marks of version 1 and of version 2.
-pub const ONE: &str = "INSERT INTO meta VALUES ('format', 1), ('site', 1);";
+const ONE: &str = "INSERT INTO meta VALUES ('format', 1), ('site', 1);";
 
 const TWO: &str = "INSERT INTO meta VALUES ('format', 2), ('site', 1);";
+
+/// Rows of three keys of version 1.
+const OLD_ROWS: &str = "INSERT INTO states VALUES
+ ('a', x'00010001000000000000000100000000000100010000000000000001000000077b2261223a317d'),
+ ('b', x'00010001000000000000000100000000000100010000000000000001000000077b2261223a327d'),
+ ('k', x'00010001000000000000000100000000000100010000000000000001000000077b2261223a317d')";
+
+/// The records of site 1 with three keys of version 1.
+pub const THREE_OLD: &[&str] = &[OLD, ONE, OLD_ROWS];
 
 /// Rows that are damaged, under the marks of some version.
 const DAMAGED: &[(&str, &str)] = &[
@@ -79,61 +85,77 @@ const DAMAGED: &[(&str, &str)] = &[
     ),
 ];
 
-/// The bytes of the database of these files, which is opened and closed; none where it is not.
-fn closed(alloc: Global, files: Files<Memory>) -> Vec<u8> {
-    let mut bytes = Vec::new(alloc);
-    if let Some(files) = settled(alloc, files) {
-        push(&mut bytes, files.db.bytes());
+/// Databases of other programs, some with a table of one of our names.
+const FOREIGN: [&str; 4] = [
+    "CREATE TABLE note (id INTEGER PRIMARY KEY, title TEXT NOT NULL); INSERT INTO note (title) VALUES ('a');",
+    "CREATE VIEW one AS SELECT 1 AS x;",
+    "CREATE TABLE meta (key TEXT, value TEXT); CREATE TABLE urls (url TEXT); INSERT INTO meta VALUES ('version', '9');",
+    "CREATE TABLE states (id INTEGER PRIMARY KEY, state TEXT); CREATE TABLE events (id INTEGER PRIMARY KEY);",
+];
+
+/// A change of a file: in each of its bytes from one on and before another there is this byte; and the file ends after so many bytes.
+type Change = (usize, usize, u8, usize);
+
+/// These bytes after a change.
+fn changed(alloc: Global, bytes: &[u8], change: Change) -> Vec<u8> {
+    let mut copy = Vec::new(alloc);
+    for (at, byte) in bytes.iter().enumerate() {
+        if at < change.3 {
+            let is_in = change.0 <= at && at < change.1;
+            push(&mut copy, &[if is_in { change.2 } else { *byte }]);
+        }
     }
-    bytes
+    copy
 }
 
-/// A database file after these statements.
-fn database(alloc: Global, statements: &[&str]) -> Result<Vec<u8>, Refusal> {
-    Ok(closed(alloc, files_after(alloc, Work::Statements(statements))?))
-}
-
-/// Files of which the database has these bytes.
-fn files_with(alloc: Global, bytes: &[u8]) -> Result<Files<Memory>, Refusal> {
-    let mut files = no_files(alloc);
-    if !files.db.may_be_used() || files.db.write_at(0, bytes).is_err() || files.db.sync().is_err() {
-        return Err(Refusal::Memory);
-    }
-    Ok(files)
-}
-
-/// Whether the records in a file of these bytes are refused as damaged, twice, and the file stays as it is.
-fn is_damaged(alloc: Global, bytes: &[u8]) -> Result<bool, Refusal> {
-    let files = files_with(alloc, bytes)?;
-    let (once, files) = on_files(alloc, files, Work::Open, None);
-    let (twice, files) = on_files(alloc, files, Work::Open, None);
-    let is_same = files.db.bytes() == bytes;
+/// Why the records in a file of these bytes are refused, if they are; and whether they are so again, and the file stays as it is.
+fn found_in(alloc: Global, bytes: &[u8]) -> Result<(Option<Refusal>, bool), Refusal> {
+    let files = files_with(alloc, bytes, NEVER)?;
+    let (once, files) = on_files(alloc, files, (Work::Open, 0), None);
+    let (twice, files) = on_files(alloc, files, (Work::Open, 0), None);
+    let is_same = files.db.inner().bytes() == bytes;
     drop(files);
-    Ok(is_same && is_damage(once) && is_damage(twice))
+    Ok((once.refusal, is_same && once.refusal == twice.refusal))
 }
 
-fn is_damage(found: Result<Course, Refusal>) -> bool {
-    matches!(found, Err(Refusal::Damaged))
-}
-
-fn is_case_damaged(alloc: Global, rows: &(&str, &str)) -> Result<bool, Refusal> {
-    let bytes = database(alloc, &[OLD, NEW, rows.0, rows.1])?;
-    let found = is_damaged(alloc, bytes.as_slice());
-    drop(bytes);
+/// The same of a file after a change.
+fn found_after(
+    alloc: Global,
+    bytes: &[u8],
+    change: Change,
+) -> Result<(Option<Refusal>, bool), Refusal> {
+    let copy = changed(alloc, bytes, change);
+    let found = found_in(alloc, copy.as_slice());
+    drop(copy);
     found
+}
+
+/// Whether the records after these statements are refused as damaged, twice, and stay. The file's journal is of this mode: 1 is a
+/// rollback journal, and 2 a log.
+fn are_damaged(alloc: Global, statements: &[&str], mode: u8) -> Result<bool, Refusal> {
+    let bytes = database(alloc, Work::Statements(statements))?;
+    let found = found_after(alloc, bytes.as_slice(), (18, 20, mode, usize::MAX));
+    drop(bytes);
+    Ok(found? == (Some(Refusal::Damaged), true))
 }
 
 #[test]
 fn damaged_records_are_refused_and_stay(rt: HostRuntime) -> Result<(), Fail> {
-    for rows in DAMAGED {
-        assert!(rt; is_case_damaged(rt.alloc(), rows)?, "{} {}", rows.0, rows.1);
+    for (marks, rows) in DAMAGED {
+        let are_refused = are_damaged(rt.alloc(), &[OLD, NEW, marks, rows], 2)?;
+        assert!(rt; are_refused, "{marks} {rows}");
+    }
+    for tables in FOREIGN {
+        let are_refused = are_damaged(rt.alloc(), &[tables], 1)?
+            && are_damaged(rt.alloc(), &[tables], 2)?;
+        assert!(rt; are_refused, "{tables}");
     }
     Ok(())
 }
 
 /// The records of site 1 in memory, with three keys of version 1. Nothing is claimed of them.
 fn old_records(alloc: Global) -> Result<Records<MemStore>, Refusal> {
-    let conn = memory_after(alloc, &[OLD, ONE, OLD_ROWS])?;
+    let conn = memory_after(alloc, THREE_OLD)?;
     or_refusal(Records::open(alloc, conn, 1))
 }
 
@@ -144,162 +166,69 @@ fn keeps_old_keys(alloc: Global, records: &mut Records<MemStore>) -> Result<bool
     Ok(records.move_key(&other, &[1]) == damaged && records.finish() == damaged)
 }
 
-fn old_keys_are_kept(alloc: Global) -> Result<bool, Refusal> {
-    let mut records = old_records(alloc)?;
-    let are_kept = keeps_old_keys(alloc, &mut records);
-    drop(records);
-    are_kept
-}
-
 #[test]
 fn a_move_out_of_turn_is_refused(rt: HostRuntime) -> Result<(), Fail> {
-    assert!(rt; old_keys_are_kept(rt.alloc())?);
+    let mut records = old_records(rt.alloc())?;
+    let are_kept = keeps_old_keys(rt.alloc(), &mut records);
+    drop(records);
+    assert!(rt; are_kept?);
     Ok(())
-}
-
-/// Databases of other programs, some with a table of one of our names.
-const FOREIGN: [&str; 4] = [
-    "CREATE TABLE note (id INTEGER PRIMARY KEY, title TEXT NOT NULL); INSERT INTO note (title) VALUES ('a');",
-    "CREATE VIEW one AS SELECT 1 AS x;",
-    "CREATE TABLE meta (key TEXT, value TEXT); CREATE TABLE urls (url TEXT); INSERT INTO meta VALUES ('version', '9');",
-    "CREATE TABLE states (id INTEGER PRIMARY KEY, state TEXT); CREATE TABLE events (id INTEGER PRIMARY KEY);",
-];
-
-/// The same file, whose journal is of this mode: 1 is a rollback journal, and 2 a log.
-fn with_mode(alloc: Global, bytes: &[u8], mode: u8) -> Vec<u8> {
-    let mut copy = Vec::new(alloc);
-    for (at, byte) in bytes.iter().enumerate() {
-        let byte = if at == 18 || at == 19 { mode } else { *byte };
-        push(&mut copy, &[byte]);
-    }
-    copy
-}
-
-fn is_foreign_refused(alloc: Global, bytes: &[u8], mode: u8) -> Result<bool, Refusal> {
-    let file = with_mode(alloc, bytes, mode);
-    let found = is_damaged(alloc, file.as_slice());
-    drop(file);
-    found
-}
-
-#[test]
-fn another_programs_database_is_refused_and_stays(rt: HostRuntime) -> Result<(), Fail> {
-    for tables in FOREIGN {
-        let bytes = database(rt.alloc(), &[tables])?;
-        for mode in [1, 2] {
-            assert!(rt;
-                is_foreign_refused(rt.alloc(), bytes.as_slice(), mode)?,
-                "{tables} {mode}"
-            );
-        }
-    }
-    Ok(())
-}
-
-/// The bytes of a file of records with ten keys, and its root.
-fn ten_keys(alloc: Global) -> Result<(Vec<u8>, Root), Refusal> {
-    let (found, files) = on_files(alloc, no_files(alloc), Work::Documents(10, 1_000), None);
-    let bytes = closed(alloc, files);
-    match found {
-        Ok(course) => {
-            let root = course.last;
-            Ok((bytes, root))
-        }
-        Err(refusal) => {
-            drop(bytes);
-            Err(refusal)
-        }
-    }
-}
-
-/// The root of the records in a file with these bytes; `None` where it is refused.
-fn root_in(alloc: Global, bytes: &[u8]) -> Result<Option<Root>, Refusal> {
-    let files = files_with(alloc, bytes)?;
-    let (found, files) = on_files(alloc, files, Work::Open, None);
-    drop(files);
-    Ok(last_of(found))
-}
-
-fn last_of(found: Result<Course, Refusal>) -> Option<Root> {
-    match found {
-        Ok(course) => {
-            let root = course.last;
-            Some(root)
-        }
-        Err(_) => None,
-    }
 }
 
 const PAGE: usize = 4_096;
 
-/// The same bytes, with zeros in one page.
-fn with_zeros(alloc: Global, bytes: &[u8], page: usize) -> Vec<u8> {
-    let mut copy = Vec::new(alloc);
-    for (at, byte) in bytes.iter().enumerate() {
-        let byte = if at / PAGE == page { 0 } else { *byte };
-        push(&mut copy, &[byte]);
-    }
-    copy
+/// So many bytes of one value are no database.
+const FILLED: [usize; 6] = [2, 100, 512, 4_096, 8_192, 10_000];
+
+fn is_refused(alloc: Global, bytes: &[u8], change: Change) -> Result<bool, Refusal> {
+    Ok(found_after(alloc, bytes, change)?.0.is_some())
 }
 
-/// Whether a file with zeros in one page is refused.
-fn is_zeroed_refused(alloc: Global, bytes: &[u8], page: usize) -> Result<bool, Refusal> {
-    let zeros = with_zeros(alloc, bytes, page);
-    let found = root_in(alloc, zeros.as_slice());
-    drop(zeros);
-    Ok(found?.is_none())
-}
-
-/// Whether a file that is cut at a page, and one that is cut a little later, are refused.
-fn is_cut_refused(alloc: Global, bytes: &[u8], page: usize) -> Result<bool, Refusal> {
-    let cut = page.saturating_mul(PAGE).min(bytes.len());
-    let later = cut.saturating_add(1_000).min(bytes.len());
-    Ok(
-        (cut == 0 || root_in(alloc, &bytes[..cut])?.is_none())
-            && root_in(alloc, &bytes[..later])?.is_none(),
-    )
-}
-
-#[test]
-fn a_file_that_is_cut_or_has_zeros_is_refused(rt: HostRuntime) -> Result<(), Fail> {
-    let alloc = rt.alloc();
-    let (bytes, root) = ten_keys(alloc)?;
-    assert!(rt; root_in(alloc, bytes.as_slice())? == Some(root));
-    let pages = bytes.len() / PAGE;
-    for page in 0..pages {
-        assert!(rt;
-            is_zeroed_refused(alloc, bytes.as_slice(), page)?,
-            "zeros in {page}"
-        );
-        assert!(rt;
-            is_cut_refused(alloc, bytes.as_slice(), page)?,
-            "cut at {page}"
-        );
-    }
-    println!(rt; "{pages} pages")?;
-    Ok(())
-}
-
-/// Whether a file of so many times one byte is refused.
-fn is_filled_refused(alloc: Global, byte: u8, len: usize) -> Result<bool, Refusal> {
-    let mut bytes = Vec::new(alloc);
-    for _ in 0..len {
-        push(&mut bytes, &[byte]);
-    }
-    let found = root_in(alloc, bytes.as_slice());
-    drop(bytes);
-    Ok(found?.is_none())
-}
-
-#[test]
-fn a_file_that_is_no_database_is_refused(rt: HostRuntime) -> Result<(), Fail> {
-    for byte in [0, b'S', b'x', 0xFF] {
-        for len in [2, 100, 512, 4_096, 8_192, 10_000] {
-            assert!(rt;
-                is_filled_refused(rt.alloc(), byte, len)?,
-                "{len} times {byte}"
-            );
+/// How many pages of a file each make it refused: with zeros in it, where the file is cut there, and where it is cut a little later.
+fn needed_pages(alloc: Global, bytes: &[u8]) -> Result<usize, Refusal> {
+    let mut needed = 0usize;
+    for page in 0..bytes.len() / PAGE {
+        let at = page.saturating_mul(PAGE);
+        let zeros = (at, at.saturating_add(PAGE), 0, usize::MAX);
+        // (a file of no byte is a new one)
+        if is_refused(alloc, bytes, zeros)?
+            && (at == 0 || is_refused(alloc, bytes, (0, 0, 0, at))?)
+            && is_refused(alloc, bytes, (0, 0, 0, at.saturating_add(1_000)))?
+        {
+            needed = needed.saturating_add(1);
         }
     }
+    Ok(needed)
+}
+
+/// Whether each file of bytes of one value is refused; these bytes are long enough.
+fn filled_are_refused(alloc: Global, bytes: &[u8]) -> Result<bool, Refusal> {
+    for byte in [0, b'S', b'x', 0xFF] {
+        for len in FILLED {
+            if !is_refused(alloc, bytes, (0, len, byte, len))? {
+                return Ok(false);
+            }
+        }
+    }
+    Ok(true)
+}
+
+/// How many pages a file of records with ten keys has, and how many of these it needs; and whether it is opened as it is, and files of
+/// bytes of one value are refused.
+fn pages(alloc: Global) -> Result<(usize, usize, bool), Refusal> {
+    let bytes = database(alloc, Work::Documents(10, 1_000))?;
+    let count = bytes.len() / PAGE;
+    let needed = needed_pages(alloc, bytes.as_slice());
+    let filled = filled_are_refused(alloc, bytes.as_slice());
+    let found = found_in(alloc, bytes.as_slice());
+    drop(bytes);
+    Ok((count, needed?, filled? && found?.0.is_none()))
+}
+
+#[test]
+fn a_file_that_is_cut_or_overwritten_is_refused(rt: HostRuntime) -> Result<(), Fail> {
+    let (pages, needed, is_well) = pages(rt.alloc())?;
+    println!(rt; "{needed} of {pages} pages")?;
+    assert!(rt; is_well && needed == pages && pages > 10);
     Ok(())
 }

@@ -1,20 +1,39 @@
 //! Two files, and what is done with the stored site that they hold. What names the store of files stands here, in
 //! functions for any disk: a proof about such a store carries all of its clauses.
-use super::host_calls::put_in_rounds;
-use super::replica_calls::{Bytes, Root, conn_of, opened, push, replies, root_of, run_all, serves};
+use super::host_calls::told_by_three;
+use super::replica_calls::{
+    Bytes, Root, conn_of, counted, opened, push, replies, root_of, run_all, serves,
+};
 use mvd_dots::Refusal;
 use mvd_replica::Replica;
 use mvd_sync::sync_within;
 use sqlite::{Alter, Connection, FileStore, Files, MemStore, Options};
-use sqlite_disk::{Disk, Memory};
+use sqlite_disk::{Disk, Fuse, Memory};
 use std::alloc::Global;
 
-/// Two files in memory with no byte.
-pub fn no_files(alloc: Global) -> Files<Memory> {
-    Files {
-        log: Memory::new(alloc),
-        db: Memory::new(alloc),
+pub type Stopping = Fuse<Memory>;
+
+/// Which of two files stops, the log or else the database, and after how many calls.
+pub type Stop = (bool, u64);
+
+/// No file stops.
+pub const NEVER: Stop = (true, u64::MAX);
+
+/// Two files in memory, of which the database has these bytes, and the log has none.
+pub fn files_with(alloc: Global, bytes: &[u8], stop: Stop) -> Result<Files<Stopping>, Refusal> {
+    let mut db = Memory::new(alloc);
+    if !db.may_be_used() || db.write_at(0, bytes).is_err() || db.sync().is_err() {
+        return Err(Refusal::Memory);
     }
+    let (log_calls, db_calls) = if stop.0 {
+        (stop.1, u64::MAX)
+    } else {
+        (u64::MAX, stop.1)
+    };
+    Ok(Files {
+        log: Fuse::new(Memory::new(alloc), log_calls),
+        db: Fuse::new(db, db_calls),
+    })
 }
 
 // Each call of the kit stands in a helper with no clause, so that no proof carries the clauses of two.
@@ -31,29 +50,11 @@ fn connected<D: Disk + Drop>(
     }
 }
 
-fn files_of<D: Disk + Drop>(conn: Connection<FileStore<D>>) -> Files<D> {
-    conn.into_store().close()
-}
-
-/// The files of a database that is closed, which stands in one of them alone.
-fn close<D: Disk + Drop>(conn: Connection<FileStore<D>>) -> Option<Files<D>> {
+/// The files of a database, which is closed: it stands in one of them alone, unless a file has stopped.
+fn closed<D: Disk + Drop>(conn: Connection<FileStore<D>>) -> Files<D> {
     match conn.close_files() {
-        Ok(files) => Some(files),
-        Err((_, store)) => {
-            drop(store.close());
-            None
-        }
-    }
-}
-
-/// The same of files that are opened for it; `None` where they are not.
-pub fn settled<D: Disk + Drop>(alloc: Global, files: Files<D>) -> Option<Files<D>> {
-    match connected(alloc, files) {
-        Ok(conn) => close(conn),
-        Err(files) => {
-            drop(files);
-            None
-        }
+        Ok(files) => files,
+        Err((_, store)) => store.close(),
     }
 }
 
@@ -66,13 +67,13 @@ pub enum Work<'a> {
     Open,
     /// Documents are put at so many keys of it, each of so many letters more than the one before.
     Documents(u8, u32),
-    /// Puts are served.
+    /// Puts are served, as many as are asked for.
     Puts(&'a [&'a str]),
-    /// Three clients of a host send the puts, one each in a round, which are answered at once.
+    /// Three clients of a host send them, one each in a round, which are answered at once.
     Rounds(&'a [&'a str]),
-    /// A session with another replica, with so many questions to each side: as its local side, and as the peer.
-    Local(usize),
-    Peer(usize),
+    /// A session with another replica, with as many questions to each side as are asked for: as its local side, and as the peer.
+    Local,
+    Peer,
 }
 
 /// A put of a document of so many letters at a key of one letter.
@@ -98,137 +99,135 @@ pub fn put_keys<S: Alter + Drop>(alloc: Global, replica: &mut Replica<S>, keys: 
     }
 }
 
-/// How many of these replies are a dot.
-pub fn written(replies: &[u8]) -> usize {
-    let mut written = 0usize;
-    for frame in replies.chunks(17) {
-        if frame.len() == 17 && frame[4] == 0xA2 {
-            written = written.saturating_add(1);
-        }
-    }
-    written
-}
-
-/// Serves puts, and tells how many were answered by a dot.
-pub fn put_all<S: Alter + Drop>(alloc: Global, replica: &mut Replica<S>, puts: &[&str]) -> usize {
-    let (output, _) = serves(alloc, replica, &Bytes::of(puts));
-    written(output.bytes())
-}
-
-/// Whether a session with so many questions to each side at most ends well.
-pub fn meets<S: Alter + Drop, T: Alter + Drop>(
+/// 1 where a session with so many questions to each side at most ends well, and else 0.
+fn meets<S: Alter + Drop, T: Alter + Drop>(
     alloc: Global,
     local: &mut Replica<S>,
     peer: &mut Replica<T>,
     questions: usize,
-) -> bool {
-    sync_within(alloc, local, peer, (questions as u64).clamp(1, 1_000)).is_ok()
+) -> usize {
+    usize::from(sync_within(alloc, local, peer, (questions as u64).clamp(1, 1_000)).is_ok())
 }
 
 /// Does work on a replica, and tells how much was done: how many puts were answered by a dot, or whether all was done.
 fn does<S: Alter + Drop>(
     alloc: Global,
-    work: Work<'_>,
+    work: (Work<'_>, usize),
     replica: &mut Replica<S>,
     other: Option<&mut Replica<MemStore>>,
 ) -> usize {
-    match work {
-        Work::Statements(_) => 0,
-        Work::Open => 1,
+    let most = work.1;
+    match work.0 {
+        Work::Statements(_) | Work::Open => 1,
         Work::Documents(keys, letters) => {
             put_keys(alloc, replica, keys, letters);
             1
         }
-        Work::Puts(puts) => put_all(alloc, replica, puts),
-        Work::Rounds(puts) => put_in_rounds(alloc, replica, puts).unwrap_or(0),
-        Work::Local(most) => match other {
-            Some(other) => usize::from(meets(alloc, replica, other, most)),
+        Work::Puts(puts) => {
+            let puts = puts.get(..most).unwrap_or(puts);
+            let (output, _) = serves(alloc, replica, &Bytes::of(puts));
+            counted(output.bytes()).1
+        }
+        Work::Rounds(puts) => {
+            let puts = puts.get(..most).unwrap_or(puts);
+            let output = told_by_three(alloc, replica, puts);
+            counted(output.bytes()).1
+        }
+        Work::Local => match other {
+            Some(other) => meets(alloc, replica, other, most),
             None => 0,
         },
-        Work::Peer(most) => match other {
-            Some(other) => usize::from(meets(alloc, other, replica, most)),
+        Work::Peer => match other {
+            Some(other) => meets(alloc, other, replica, most),
             None => 0,
         },
     }
 }
 
-/// The root of a replica before work on it, how much was done, and the root then.
+/// What work came to: why no replica was opened, or a statement was not run; the root before it, how much was done, and the root then.
 #[derive(Clone, Copy)]
 pub struct Course {
+    pub refusal: Option<Refusal>,
     pub first: Root,
     pub done: usize,
     pub last: Root,
+}
+
+/// The course of work for which no replica was opened.
+fn without_replica(refusal: Option<Refusal>) -> Course {
+    Course {
+        refusal,
+        first: [0; 32],
+        done: 0,
+        last: [0; 32],
+    }
 }
 
 /// The course of work on a replica.
 fn course_of<S: Alter + Drop>(
     alloc: Global,
     replica: &mut Replica<S>,
-    work: Work<'_>,
+    work: (Work<'_>, usize),
     other: Option<&mut Replica<MemStore>>,
 ) -> Course {
-    let first = root_of(alloc, replica);
+    let first = root_of(replica);
     let done = does(alloc, work, replica, other);
-    let last = root_of(alloc, replica);
-    Course { first, done, last }
+    Course {
+        refusal: None,
+        first,
+        done,
+        last: root_of(replica),
+    }
 }
 
-/// The course of statements, which have no root.
-fn course_of_statements<S: Alter>(
-    conn: &mut Connection<S>,
-    statements: &[&str],
-) -> Result<Course, Refusal> {
-    run_all(conn, statements)?;
-    Ok(Course {
-        first: [0; 33],
-        done: 1,
-        last: [0; 33],
-    })
-}
-
-/// Does work on the records that a connection holds. A refusal where no replica is opened, or a statement is not run.
+/// Does work on the records that a connection holds.
 fn on_records<S: Alter + Drop>(
     alloc: Global,
     mut conn: Connection<S>,
-    work: Work<'_>,
+    work: (Work<'_>, usize),
     other: Option<&mut Replica<MemStore>>,
-) -> (Result<Course, Refusal>, Connection<S>) {
-    if let Work::Statements(statements) = work {
-        let course = course_of_statements(&mut conn, statements);
-        return (course, conn);
+) -> (Course, Connection<S>) {
+    if let Work::Statements(statements) = work.0 {
+        let refusal = run_all(&mut conn, statements).err();
+        return (without_replica(refusal), conn);
     }
-    match opened(alloc, conn, 1, 100) {
+    match opened(alloc, conn, 1) {
         Ok(mut replica) => {
             let course = course_of(alloc, &mut replica, work, other);
-            (Ok(course), conn_of(replica))
+            (course, conn_of(replica))
         }
-        Err((refusal, conn)) => (Err(refusal), conn),
+        Err((refusal, conn)) => (without_replica(Some(refusal)), conn),
     }
 }
 
-/// Does work on the records that two files hold, beside another replica, and gives the files as they are then.
+/// Does work, so much of it, on the records that two files hold, beside another replica, and gives the files as they are then.
 pub fn on_files<D: Disk + Drop>(
     alloc: Global,
     files: Files<D>,
-    work: Work<'_>,
+    work: (Work<'_>, usize),
     other: Option<&mut Replica<MemStore>>,
-) -> (Result<Course, Refusal>, Files<D>) {
+) -> (Course, Files<D>) {
     match connected(alloc, files) {
         Ok(conn) => {
             let (course, conn) = on_records(alloc, conn, work, other);
-            (course, files_of(conn))
+            (course, closed(conn))
         }
-        Err(files) => (Err(Refusal::Store), files),
+        Err(files) => (without_replica(Some(Refusal::Store)), files),
     }
 }
 
-/// Two new files after work on them.
-pub fn files_after(alloc: Global, work: Work<'_>) -> Result<Files<Memory>, Refusal> {
-    match on_files(alloc, no_files(alloc), work, None) {
-        (Ok(_), files) => Ok(files),
-        (Err(refusal), files) => {
-            drop(files);
+/// The bytes of the database of two new files after work on them.
+pub fn database(alloc: Global, work: Work<'_>) -> Result<Vec<u8>, Refusal> {
+    let files = files_with(alloc, &[], NEVER)?;
+    let (course, files) = on_files(alloc, files, (work, 1_000), None);
+    let mut bytes = Vec::new(alloc);
+    push(&mut bytes, files.db.inner().bytes());
+    drop(files);
+    match course.refusal {
+        Some(refusal) => {
+            drop(bytes);
             Err(refusal)
         }
+        None => Ok(bytes),
     }
 }

@@ -2,9 +2,7 @@
 ghost use Rattle.std.specs.Prelude.{◌≤◌, length};
 ghost use Rattle.mvd_host.specs.Hosts.{IfClient, client_of};
 
-use super::file_calls::written;
 use super::replica_calls::{Bytes, ROOM};
-use mvd_dots::Refusal;
 use mvd_host::{Host, Tally};
 use mvd_replica::Replica;
 use sqlite::Alter;
@@ -12,11 +10,12 @@ use std::alloc::Global;
 
 // Each call of a host stands in a helper with no clause, so that no proof carries the clauses of two.
 
-/// The number of a client that is admitted.
-pub fn admit(host: &mut Host) -> Result<u64, Refusal> {
-    match host.admit()? {
-        Some(number) => Ok(number),
-        None => Err(Refusal::Full),
+/// Admits clients until a host has so many. It goes on where memory was refused once.
+pub fn admit_all(host: &mut Host, count: usize) {
+    for _ in 0..=count {
+        if host.len() < count {
+            let _ = host.admit();
+        }
     }
 }
 
@@ -57,34 +56,30 @@ pub fn round<S: Alter>(host: &mut Host, replica: &mut Replica<S>, ready: &[u64])
     let _ = host.round(replica, ready, &mut Tally::new());
 }
 
-/// Puts of three new clients, one of each in a round, and how many were answered by a dot.
-fn put_by_three<S: Alter>(
-    host: &mut Host,
-    replica: &mut Replica<S>,
-    puts: &[&str],
-) -> Result<usize, Refusal> {
-    let clients = [admit(host)?, admit(host)?, admit(host)?];
-    for each in puts.chunks(3) {
-        for (client, put) in clients.iter().zip(each) {
-            feed(host, *client, Bytes::of(&[put]).bytes());
+/// Sends these frames, one of each of the first three clients, which are answered at once. It is done again where memory was refused.
+fn send<S: Alter>(host: &mut Host, replica: &mut Replica<S>, frames: &[&str]) {
+    for (client, frame) in (0..3u64).zip(frames) {
+        let bytes = Bytes::of(&[frame]);
+        if feed(host, client, bytes.bytes()) == 0 {
+            feed(host, client, bytes.bytes());
         }
-        round(host, replica, &clients);
     }
-    let mut count = 0usize;
-    for client in clients {
-        count = count.saturating_add(written(take(host, client, 34).bytes()));
+    for _ in 0..2u32 {
+        round(host, replica, &[0, 1, 2]);
     }
-    Ok(count)
 }
 
-/// The same with a host of their own.
-pub fn put_in_rounds<S: Alter>(
-    alloc: Global,
-    replica: &mut Replica<S>,
-    puts: &[&str],
-) -> Result<usize, Refusal> {
+/// What three new clients are told, who send these frames, one each in a round: one client's replies behind those of another.
+pub fn told_by_three<S: Alter>(alloc: Global, replica: &mut Replica<S>, frames: &[&str]) -> Bytes {
+    let mut output = Bytes::of(&[]);
     let mut host = Host::new(alloc);
-    let count = put_by_three(&mut host, replica, puts);
+    admit_all(&mut host, 3);
+    for each in frames.chunks(3) {
+        send(&mut host, replica, each);
+    }
+    for client in 0..3u64 {
+        output.put(take(&mut host, client, ROOM).bytes());
+    }
     drop(host);
-    count
+    output
 }

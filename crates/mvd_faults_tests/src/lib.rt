@@ -21,12 +21,10 @@ mod random_frames;
 #[cfg(test)]
 mod replica_calls;
 #[cfg(test)]
-mod round_memory;
-#[cfg(test)]
 mod scale;
 #[cfg(test)]
-mod session_windows;
-#[cfg(test)]
 mod stops;
+#[cfg(test)]
+mod stream_ways;
 #[cfg(test)]
 mod streams;

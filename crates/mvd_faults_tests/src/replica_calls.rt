@@ -1,5 +1,6 @@
 //! A replica, its connections, and frames in hexadecimal digits. What is asked and answered here stands in arrays, so it takes no
 //! memory.
+use super::stream_ways::{ALL, Stream, Ways};
 use mvd_docs::{Field, ViewName};
 use mvd_dots::Refusal;
 use mvd_replica::{Ended, Replica, serve};
@@ -96,31 +97,48 @@ impl Bytes {
     }
 }
 
-// These have no clause, so that the proof of a test does not carry the state of each call.
-fn run<S: Alter>(conn: &mut Connection<S>, sql: &str) -> Result<(), Refusal> {
-    match conn.execute_batch(sql) {
-        Ok(()) => Ok(()),
-        Err(_) => Err(Refusal::Store),
-    }
+/// The first frame of these bytes, and what follows it.
+pub fn first_frame(bytes: &[u8]) -> (&[u8], &[u8]) {
+    let len = match bytes {
+        [a, b, c, d, ..] => (u32::from_be_bytes([*a, *b, *c, *d]) as usize).saturating_add(4),
+        _ => 0,
+    };
+    bytes.split_at(len.min(bytes.len()))
 }
 
+/// How many replies these bytes are, and how many of them are a dot; and how many bytes are left from the first on that is no reply.
+pub fn counted(output: &[u8]) -> (usize, usize, usize) {
+    let mut rest = output;
+    let mut replies = 0usize;
+    let mut dots = 0usize;
+    for _ in 0..output.len() {
+        let (frame, behind) = first_frame(rest);
+        match frame {
+            [_, _, _, _, 0xA2, ..] => dots = dots.saturating_add(1),
+            [_, _, _, _, 0xA0..=0xAF | 0xEE, ..] => {}
+            _ => break,
+        }
+        replies = replies.saturating_add(1);
+        rest = behind;
+    }
+    (replies, dots, rest.len())
+}
+
+// These have no clause, so that the proof of a test does not carry the state of each call.
 pub fn run_all<S: Alter>(conn: &mut Connection<S>, statements: &[&str]) -> Result<(), Refusal> {
     for sql in statements {
-        run(conn, sql)?;
+        if conn.execute_batch(sql).is_err() {
+            return Err(Refusal::Store);
+        }
     }
     Ok(())
 }
 
-fn memory(alloc: Global) -> Result<Connection<MemStore>, Refusal> {
-    match Connection::open_in_memory(alloc) {
-        Ok(conn) => Ok(conn),
-        Err(_) => Err(Refusal::Store),
-    }
-}
-
 /// A database in memory, after these statements.
 pub fn memory_after(alloc: Global, statements: &[&str]) -> Result<Connection<MemStore>, Refusal> {
-    let mut conn = memory(alloc)?;
+    let Ok(mut conn) = Connection::open_in_memory(alloc) else {
+        return Err(Refusal::Store);
+    };
     match run_all(&mut conn, statements) {
         Ok(()) => Ok(conn),
         Err(refusal) => {
@@ -146,11 +164,11 @@ fn define(alloc: Global, defs: &mut Defs) -> Result<(), Refusal> {
     )
 }
 
-/// The configuration of a site that may hold so many keys.
-pub fn config(alloc: Global, number: u32, max_keys: u32) -> Result<Config, Refusal> {
+/// The configuration of a site that may hold a hundred keys.
+fn config(alloc: Global, number: u32) -> Result<Config, Refusal> {
     let mut defs = Defs::new(alloc);
     define(alloc, &mut defs)?;
-    Ok(Config::new(number.max(1), max_keys.clamp(1, 1_000_000), defs))
+    Ok(Config::new(number.max(1), 100, defs))
 }
 
 /// The replica of that site. A refusal gives the connection back.
@@ -158,9 +176,8 @@ pub fn opened<S: Alter + Drop>(
     alloc: Global,
     conn: Connection<S>,
     number: u32,
-    max_keys: u32,
 ) -> Result<Replica<S>, (Refusal, Connection<S>)> {
-    match config(alloc, number, max_keys) {
+    match config(alloc, number) {
         Ok(config) => Replica::open(alloc, conn, config),
         Err(refusal) => Err((refusal, conn)),
     }
@@ -177,9 +194,9 @@ pub fn or_refusal<T, U: Drop>(found: Result<T, (Refusal, U)>) -> Result<T, Refus
     }
 }
 
-/// The replica in memory of a site with no key, which may hold a hundred.
+/// The replica in memory of a site with no key.
 pub fn new_replica(alloc: Global, number: u32) -> Result<Replica<MemStore>, Refusal> {
-    or_refusal(opened(alloc, memory(alloc)?, number, 100))
+    or_refusal(opened(alloc, memory_after(alloc, &[])?, number))
 }
 
 /// Puts bytes behind others. Where memory is refused they are missing there, and the reply is another than is wanted.
@@ -197,7 +214,7 @@ fn name_of(ended: Result<Ended, Refusal>) -> &'static str {
 }
 
 /// How a connection ended.
-pub fn served_on<R: Read, W: Write, S: Alter + Drop>(
+fn served_on<R: Read, W: Write, S: Alter + Drop>(
     alloc: Global,
     reader: &mut R,
     writer: &mut W,
@@ -217,23 +234,38 @@ pub fn replies<S: Alter + Drop>(
     (output, ended)
 }
 
+/// What a connection with these bytes gives over such streams, and how it ends.
+pub fn passes<S: Alter + Drop>(
+    alloc: Global,
+    replica: &mut Replica<S>,
+    input: &Bytes,
+    read: Ways,
+    write: Ways,
+) -> (Bytes, &'static str) {
+    let mut room = [0; ROOM];
+    let inner: &mut [u8] = &mut room;
+    let mut reader = Stream {
+        inner: input.bytes(),
+        ways: read,
+    };
+    let mut writer = Stream { inner, ways: write };
+    let ended = served_on(alloc, &mut reader, &mut writer, replica);
+    let left = writer.inner.len();
+    let len = ROOM.saturating_sub(left);
+    (Bytes { room, len }, ended)
+}
+
 /// What a connection with these bytes gives, and how it ends.
 pub fn serves<S: Alter + Drop>(
     alloc: Global,
     replica: &mut Replica<S>,
     input: &Bytes,
 ) -> (Bytes, &'static str) {
-    let mut room = [0; ROOM];
-    let mut reader = input.bytes();
-    let mut writer: &mut [u8] = &mut room;
-    let ended = served_on(alloc, &mut reader, &mut writer, replica);
-    let left = writer.len();
-    let len = ROOM.saturating_sub(left);
-    (Bytes { room, len }, ended)
+    passes(alloc, replica, input, ALL, ALL)
 }
 
 /// What a reply tells, beside the one that is wanted.
-#[derive(Clone, Copy, PartialEq, Eq)]
+#[derive(Clone, Copy)]
 pub enum Told {
     Wanted,
     /// Memory was refused, to the site or to its store.
@@ -257,36 +289,29 @@ pub fn tells(reply: &[u8], wanted: &str) -> Told {
     }
 }
 
-/// What a replica answers to a request on a connection of its own.
+/// What a replica answers to a request on a connection of its own, and once more where memory was refused.
 pub fn asks<S: Alter + Drop>(
     alloc: Global,
     replica: &mut Replica<S>,
     request: &str,
     wanted: &str,
 ) -> Told {
-    let (output, _) = serves(alloc, replica, &Bytes::of(&[request]));
-    tells(output.bytes(), wanted)
-}
-
-/// What it answers, and once more where memory was refused.
-pub fn asks_again<S: Alter + Drop>(
-    alloc: Global,
-    replica: &mut Replica<S>,
-    request: &str,
-    wanted: &str,
-) -> Told {
-    match asks(alloc, replica, request, wanted) {
-        Told::Refused => asks(alloc, replica, request, wanted),
-        told => told,
+    let mut told = Told::Refused;
+    for _ in 0..2u32 {
+        if matches!(told, Told::Refused) {
+            let (output, _) = serves(alloc, replica, &Bytes::of(&[request]));
+            told = tells(output.bytes(), wanted);
+        }
     }
+    told
 }
 
-/// The kind and the digest in the reply that tells the root.
-pub type Root = [u8; 33];
+/// The digest of the root; zeros of a replica that is broken.
+pub type Root = [u8; 32];
 
-pub fn root_of<S: Alter + Drop>(alloc: Global, replica: &mut Replica<S>) -> Root {
-    let (output, _) = serves(alloc, replica, &Bytes::of(&["000000022700"]));
-    let mut root = [0; 33];
-    root.copy_from_slice(&output.room[4..37]);
-    root
+pub fn root_of<S: Alter + Drop>(replica: &Replica<S>) -> Root {
+    match replica.root() {
+        Ok(root) => root,
+        Err(_) => [0; 32],
+    }
 }

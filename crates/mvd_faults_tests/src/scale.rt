@@ -6,66 +6,131 @@ use std::alloc::Global;
 use std::test::Fail;
 use std::time::Instant;
 
-/// As many siblings of the shortest document have room in a state.
-const SIBLINGS: u32 = 63_887;
-
-/// The document `{}`, as it is spelled.
-const EMPTY: [u8; 6] = [0, 0, 0, 2, b'{', b'}'];
-
 const NONE: &[u8] = &[];
 
-/// The frame of a kind, whose payload is the key `k` and these bytes.
-fn frame_of(alloc: Global, kind: u8, rest: &[u8]) -> Vec<u8> {
-    let mut frame = Vec::new(alloc);
-    let len = u32::try_from(rest.len()).unwrap_or(0).saturating_add(3);
-    push(&mut frame, &len.to_be_bytes());
-    push(&mut frame, &[kind, 1, b'k']);
-    push(&mut frame, rest);
-    frame
-}
+/// A list of rows: how many, and of each the bytes before its number and those behind it. The numbers are the multiples of a step.
+type Rows = (u32, &'static [u8], u64, &'static [u8]);
 
-/// The context of the dots of site 2 up to a counter.
-fn base(alloc: Global, counter: u32) -> Vec<u8> {
+/// A request about the key `k`: its name, its kind, its payload behind the key (bytes, whether the rows follow, and bytes at the end),
+/// and what the site says: the kind of its reply, or the number of a refusal; and how long the reply is.
+type Step = (
+    &'static str,
+    u8,
+    &'static [u8],
+    bool,
+    &'static [u8],
+    (u8, usize),
+);
+
+/// A site's number, and what it is asked.
+type Asked = (u32, Rows, &'static [Step]);
+
+/// As many siblings of the shortest document, `{}`, have room in a state: all but one of site 2 are delivered, and one is put.
+const SIBLINGS: usize = 63_887;
+
+const SIBLING_ROWS: Rows = (63_886, &[0, 0, 0, 2], 1, &[0, 0, 0, 2, b'{', b'}']);
+
+const BLIND: &[u8] = &[0, 0, 0, 0, 0, 0, 0, 2, b'{', b'}'];
+
+const SIBLING_STEPS: &[Step] = &[
+    (
+        "delivered",
+        0x29,
+        &[
+            0, 0, 0, 1, 0, 0, 0, 2, 0, 0, 0, 0, 0, 0, 0xF9, 0x8E, 0, 0, 0, 0, 0xF9, 0x8E,
+        ],
+        true,
+        NONE,
+        (0xA3, 5),
+    ),
+    ("put", 0x22, BLIND, false, NONE, (0xA2, 17)),
+    ("put once more", 0x22, BLIND, false, NONE, (9, 6)),
+    ("read", 0x21, NONE, false, NONE, (0xA1, 27 + 18 * SIBLINGS)),
+    (
+        "deleted",
+        0x23,
+        &[
+            0, 0, 0, 1, 0, 0, 0, 2, 0, 0, 0, 0, 0, 0, 0xF9, 0x8F, 0, 0, 0, 0,
+        ],
+        false,
+        NONE,
+        (0xA3, 5),
+    ),
+    ("read again", 0x21, NONE, false, NONE, (0xA1, 27)),
+];
+
+/// A context of 70,000 loose counters of site 2, which is put at site 1.
+const LOOSE_ROWS: Rows = (70_000, NONE, 2, NONE);
+
+const LOOSE: &[u8] = &[
+    0, 0, 0, 1, 0, 0, 0, 2, 0, 0, 0, 0, 0, 0, 0, 0, 0, 1, 0x11, 0x70,
+];
+
+/// The bytes of a context with these counters and the dot 1:1.
+const CONTEXT: usize = 36 + 8 * 70_000;
+
+const LOOSE_STEPS: &[Step] = &[
+    (
+        "put",
+        0x22,
+        LOOSE,
+        true,
+        &[0, 0, 0, 2, b'{', b'}'],
+        (0xA2, 17),
+    ),
+    ("read", 0x21, NONE, false, NONE, (0xA1, 25 + CONTEXT)),
+];
+
+/// The same with the dot 1:1 in front, and the sibling of that dot.
+const SEEN: &[u8] = &[
+    0, 0, 0, 2, 0, 0, 0, 1, 0, 0, 0, 0, 0, 0, 0, 1, 0, 0, 0, 0, 0, 0, 0, 2, 0, 0, 0, 0, 0, 0, 0, 0,
+    0, 1, 0x11, 0x70,
+];
+
+const ONE: &[u8] = &[
+    0, 1, 0, 0, 0, 1, 0, 0, 0, 0, 0, 0, 0, 1, 0, 0, 0, 2, b'{', b'}',
+];
+
+/// That state delivered to another site, where it is read, and deleted by its context.
+const DELIVERED_STEPS: &[Step] = &[
+    ("delivered", 0x29, SEEN, true, ONE, (0xA3, 5)),
+    ("read there", 0x21, NONE, false, NONE, (0xA1, 25 + CONTEXT)),
+    ("deleted", 0x23, SEEN, true, NONE, (0xA3, 5)),
+    ("read again", 0x21, NONE, false, NONE, (0xA1, 7 + CONTEXT)),
+];
+
+const ASKED: [Asked; 3] = [
+    (2, SIBLING_ROWS, SIBLING_STEPS),
+    (1, LOOSE_ROWS, LOOSE_STEPS),
+    (3, LOOSE_ROWS, DELIVERED_STEPS),
+];
+
+/// The bytes of rows.
+fn bytes_of(alloc: Global, rows: Rows) -> Vec<u8> {
     let mut bytes = Vec::new(alloc);
-    push(&mut bytes, &[0, 0, 0, 1, 0, 0, 0, 2]);
-    push(&mut bytes, &u64::from(counter).to_be_bytes());
-    push(&mut bytes, &[0, 0, 0, 0]);
-    bytes
-}
-
-/// A state with so many siblings of site 2, each `{}`.
-fn siblings(alloc: Global, count: u32) -> Vec<u8> {
-    let mut bytes = base(alloc, count);
-    push(
-        &mut bytes,
-        &u16::try_from(count).unwrap_or(u16::MAX).to_be_bytes(),
-    );
-    for number in 0..u64::from(count) {
-        push(&mut bytes, &[0, 0, 0, 2]);
-        push(&mut bytes, &number.saturating_add(1).to_be_bytes());
-        push(&mut bytes, &EMPTY);
+    for number in 1..=u64::from(rows.0) {
+        push(&mut bytes, rows.1);
+        push(&mut bytes, &number.saturating_mul(rows.2).to_be_bytes());
+        push(&mut bytes, rows.3);
     }
     bytes
 }
 
-/// The context of so many loose counters of site 2, and a document behind it.
-fn loose(alloc: Global, counters: u32) -> Vec<u8> {
-    let mut bytes = Vec::new(alloc);
-    push(
-        &mut bytes,
-        &[0, 0, 0, 1, 0, 0, 0, 2, 0, 0, 0, 0, 0, 0, 0, 0],
-    );
-    push(&mut bytes, &counters.to_be_bytes());
-    for number in 1..=u64::from(counters) {
-        push(&mut bytes, &number.saturating_mul(2).to_be_bytes());
-    }
-    push(&mut bytes, &EMPTY);
-    bytes
-}
-
-/// What a site says to a request: the kind of its reply, or the number of a refusal; and how long the reply is.
-fn said(alloc: Global, replica: &mut Replica<MemStore>, kind: u8, rest: &[u8]) -> (u8, usize) {
-    let request = frame_of(alloc, kind, rest);
+/// What a site says in a step.
+fn said(alloc: Global, replica: &mut Replica<MemStore>, step: &Step, rows: &[u8]) -> (u8, usize) {
+    let rows = if step.3 { rows } else { NONE };
+    let len = step
+        .2
+        .len()
+        .saturating_add(rows.len())
+        .saturating_add(step.4.len());
+    let len = u32::try_from(len).unwrap_or(0).saturating_add(3);
+    let mut request = Vec::new(alloc);
+    push(&mut request, &len.to_be_bytes());
+    push(&mut request, &[step.1, 1, b'k']);
+    push(&mut request, step.2);
+    push(&mut request, rows);
+    push(&mut request, step.4);
     let (output, _) = replies(alloc, replica, request.as_slice());
     match output.as_slice() {
         [_, _, _, _, 0xEE, number, ..] => (*number, output.len()),
@@ -74,89 +139,40 @@ fn said(alloc: Global, replica: &mut Replica<MemStore>, kind: u8, rest: &[u8]) -
     }
 }
 
-/// What a request is, its kind and its payload behind the key, and what the site says.
-type Step<'a> = (&'static str, u8, &'a [u8], (u8, usize));
-
-/// Fails where the site does not say so to each; and tells how long it took.
-fn take(rt: HostRuntime, replica: &mut Replica<MemStore>, steps: &[Step<'_>]) -> Result<(), Fail> {
-    for (name, kind, rest, wanted) in steps {
+/// Fails where a site does not say so in each step; and tells how long it took.
+fn take(
+    rt: HostRuntime,
+    replica: &mut Replica<MemStore>,
+    steps: &[Step],
+    rows: &[u8],
+) -> Result<(), Fail> {
+    for step in steps {
         let start = Instant::now(&rt)?;
-        let reply = said(rt.alloc(), replica, *kind, rest);
+        let (kind, len) = said(rt.alloc(), replica, step, rows);
         let took = start.elapsed(&rt)?.as_millis();
-        if reply != *wanted {
-            return Err(Fail::new(format_args!("{name}: {} of {} bytes", reply.0, reply.1)));
+        println!(rt; "{}: {kind} of {len} bytes in {took} ms", step.0)?;
+        let (wanted_kind, wanted_len) = step.5;
+        if kind != wanted_kind || len != wanted_len {
+            return Err(Fail::new(step.0));
         }
-        println!(rt; "{name}: {took} ms")?;
     }
     Ok(())
 }
 
-#[test]
-fn as_many_siblings_as_have_room(rt: HostRuntime) -> Result<(), Fail> {
-    let state = siblings(rt.alloc(), SIBLINGS - 1);
-    let context = base(rt.alloc(), SIBLINGS);
-    let blind: &[u8] = &[0, 0, 0, 0, 0, 0, 0, 2, b'{', b'}'];
-    let mut replica = new_replica(rt.alloc(), 2)?;
-    take(
-        rt,
-        &mut replica,
-        &[
-            ("delivered", 0x29, state.as_slice(), (0xA3, 5)),
-            ("put", 0x22, blind, (0xA2, 17)),
-            ("put once more", 0x22, blind, (9, 6)),
-            ("read", 0x21, NONE, (0xA1, 27 + 18 * SIBLINGS as usize)),
-            ("deleted", 0x23, context.as_slice(), (0xA3, 5)),
-            ("read again", 0x21, NONE, (0xA1, 27)),
-        ],
-    )
-}
-
-const COUNTERS: u32 = 70_000;
-
-/// The bytes of a context with these counters and the dot 1:1.
-const CONTEXT: usize = 36 + 8 * COUNTERS as usize;
-
-/// Puts with such a context, and gives the state that was read afterwards.
-fn loose_state(rt: HostRuntime) -> Result<Vec<u8>, Fail> {
-    let put = loose(rt.alloc(), COUNTERS);
-    let mut replica = new_replica(rt.alloc(), 1)?;
-    let taken = take(
-        rt,
-        &mut replica,
-        &[
-            ("put", 0x22, put.as_slice(), (0xA2, 17)),
-            ("read", 0x21, NONE, (0xA1, 25 + CONTEXT)),
-        ],
-    );
-    let (state, _) = replies(rt.alloc(), &mut replica, &[0, 0, 0, 3, 0x21, 1, b'k']);
+/// The same of a new site.
+fn take_first(rt: HostRuntime, asked: &Asked) -> Result<(), Fail> {
+    let rows = bytes_of(rt.alloc(), asked.1);
+    let mut replica = new_replica(rt.alloc(), asked.0)?;
+    let taken = take(rt, &mut replica, asked.2, rows.as_slice());
     drop(replica);
-    taken?;
-    Ok(state)
-}
-
-/// Delivers a reply's state to another site, which is read there, and deleted by its context.
-fn deliver(rt: HostRuntime, reply: &[u8]) -> Result<(), Fail> {
-    let state = reply.get(5..).unwrap_or(&[]);
-    let context = state.get(..CONTEXT).unwrap_or(&[]);
-    let mut other = new_replica(rt.alloc(), 3)?;
-    let taken = take(
-        rt,
-        &mut other,
-        &[
-            ("delivered", 0x29, state, (0xA3, 5)),
-            ("read there", 0x21, NONE, (0xA1, 25 + CONTEXT)),
-            ("deleted", 0x23, context, (0xA3, 5)),
-            ("read again", 0x21, NONE, (0xA1, 7 + CONTEXT)),
-        ],
-    );
-    drop(other);
+    drop(rows);
     taken
 }
 
 #[test]
-fn seventy_thousand_loose_counters(rt: HostRuntime) -> Result<(), Fail> {
-    let reply = loose_state(rt)?;
-    let taken = deliver(rt, reply.as_slice());
-    drop(reply);
-    taken
+fn states_at_their_limits(rt: HostRuntime) -> Result<(), Fail> {
+    for asked in &ASKED {
+        take_first(rt, asked)?;
+    }
+    Ok(())
 }

@@ -1,49 +1,29 @@
 //! Files that stop before some call, and are opened again.
-use super::damaged::{OLD, ONE};
-use super::file_calls::{Course, Work, files_after, no_files, on_files, put_all};
+use super::damaged::THREE_OLD;
+use super::file_calls::{
+    Course, NEVER, Stop, Stopping, Work, database, files_with, on_files, put_keys,
+};
 use super::replica_calls::{Root, new_replica, root_of};
 use mvd_dots::Refusal;
 use mvd_replica::Replica;
 use sqlite::{Files, MemStore};
-use sqlite_disk::{Crash, Fuse, Memory};
+use sqlite_disk::Crash;
 use std::alloc::Global;
 use std::test::Fail;
 
-pub type Stopping = Fuse<Memory>;
-
-/// Files of which one stops after so many calls: the log, or the database.
-pub fn fused(files: Files<Memory>, of_log: bool, calls: u64) -> Files<Stopping> {
-    let Files { log, db } = files;
-    let (log_calls, db_calls) = if of_log {
-        (calls, u64::MAX)
-    } else {
-        (u64::MAX, calls)
-    };
-    Files {
-        log: Fuse::new(log, log_calls),
-        db: Fuse::new(db, db_calls),
-    }
-}
-
-/// The machine comes back: both files have what a crash left of them, and no call fails any more.
-fn revived(mut files: Files<Stopping>) -> Files<Stopping> {
-    files.log.crash();
-    files.db.crash();
-    files
-}
-
 /// What is done on files that stop.
-#[derive(Clone, Copy, PartialEq, Eq)]
-enum Run {
-    /// Six puts are served.
-    Puts,
-    /// Three clients of a host send two each, one in each of two rounds, which are answered at once.
-    Rounds,
-    /// Three keys of version 1 are moved, which is done when the files are opened.
-    Move,
-    /// A session, as its local side, and as the peer.
-    Local,
-    Peer,
+#[derive(Clone, Copy)]
+struct Run {
+    name: &'static str,
+    /// What was done on the files before; none are there where nothing was.
+    before: Option<Work<'static>>,
+    work: Work<'static>,
+    /// How many keys the other side has, where there is one.
+    theirs: u8,
+    /// How much is done when all of it is.
+    whole: usize,
+    /// After how many puts a commit ends; of a run without puts none. In rounds, a put at a key of its round begins another.
+    commits: &'static [usize],
 }
 
 /// Six requests, each of which changes the states: puts at four keys, the last two of which supersede others.
@@ -56,206 +36,209 @@ const PUTS: &[&str] = &[
     "0000001222016300000000000000077b2261223a367d",
 ];
 
-/// Puts at keys of the side whose files stop, and of the other.
+/// Two puts of the side whose files stop, the first at a key that the other side has too.
 const MINE: &[&str] = &[
-    "0000001222016b00000000000000077b2261223a317d",
+    "0000001222013000000000000000077b2261223a317d",
     "0000001222016100000000000000077b2261223a327d",
 ];
 
-const THEIRS: &[&str] = &[
-    "0000001222016b00000000000000077b2261223a337d",
-    "0000001222016200000000000000077b2261223a347d",
+const RUNS: [Run; 5] = [
+    Run {
+        name: "six puts",
+        before: None,
+        work: Work::Puts(PUTS),
+        theirs: 0,
+        whole: 6,
+        commits: &[0, 1, 2, 3, 4, 5, 6],
+    },
+    Run {
+        name: "six puts of three clients",
+        before: None,
+        work: Work::Rounds(PUTS),
+        theirs: 0,
+        whole: 6,
+        commits: &[0, 2, 3, 6],
+    },
+    // They are moved when the files are opened.
+    Run {
+        name: "three old keys",
+        before: Some(Work::Statements(THREE_OLD)),
+        work: Work::Open,
+        theirs: 0,
+        whole: 1,
+        commits: &[],
+    },
+    TWO_KEYS,
+    Run {
+        name: "a session's peer",
+        before: Some(Work::Puts(MINE)),
+        work: Work::Peer,
+        theirs: 2,
+        whole: 1,
+        commits: &[],
+    },
 ];
 
-/// So much of a run: of the six puts how many, or of a session how many questions to each side at most.
-fn work_of(run: Run, most: usize) -> Work<'static> {
-    match run {
-        Run::Puts => Work::Puts(PUTS.get(..most).unwrap_or(PUTS)),
-        Run::Rounds => Work::Rounds(PUTS.get(..most).unwrap_or(PUTS)),
-        Run::Move => Work::Open,
-        Run::Local => Work::Local(most),
-        Run::Peer => Work::Peer(most),
-    }
+/// Sessions that bring two keys, and forty.
+const TWO_KEYS: Run = Run {
+    name: "a session's local side",
+    before: Some(Work::Puts(MINE)),
+    work: Work::Local,
+    theirs: 2,
+    whole: 1,
+    commits: &[],
+};
+
+const FORTY_KEYS: Run = Run {
+    name: "a session with forty keys",
+    before: Some(Work::Puts(MINE)),
+    work: Work::Local,
+    theirs: 40,
+    whole: 1,
+    commits: &[],
+};
+
+/// The machine comes back: both files have what a crash left of them, and no call fails any more.
+fn revived(mut files: Files<Stopping>) -> Files<Stopping> {
+    files.log.crash();
+    files.db.crash();
+    files
 }
 
-/// After how many puts of a run a commit ends; of a run without puts none. In rounds, a put at a key of its round begins another.
-fn commits(run: Run) -> &'static [usize] {
-    match run {
-        Run::Puts => &[0, 1, 2, 3, 4, 5, 6],
-        Run::Rounds => &[0, 2, 3, 6],
-        _ => &[],
-    }
-}
+/// What a run came to, and what an open then, with one more session where the run is one; and the root of the other side.
+type Left = (Course, Course, Root);
 
-/// Whether a run is of puts.
-fn puts(run: Run) -> bool {
-    !commits(run).is_empty()
-}
-
-/// How much is done when all of a run is.
-fn whole(run: Run) -> usize {
-    if puts(run) { 6 } else { 1 }
-}
-
-pub const OLD_ROWS: &str = "INSERT INTO states VALUES
- ('a', x'00010001000000000000000100000000000100010000000000000001000000077b2261223a317d'),
- ('b', x'00010001000000000000000100000000000100010000000000000001000000077b2261223a327d'),
- ('k', x'00010001000000000000000100000000000100010000000000000001000000077b2261223a317d')";
-
-/// Records of version 1 with three keys.
-const THREE_OLD: &[&str] = &[OLD, ONE, OLD_ROWS];
-
-/// The files before a run: none, three old keys, or the two puts of the side whose files stop.
-fn files_before(alloc: Global, run: Run) -> Result<Files<Memory>, Refusal> {
-    match run {
-        Run::Puts | Run::Rounds => Ok(no_files(alloc)),
-        Run::Move => files_after(alloc, Work::Statements(THREE_OLD)),
-        Run::Local | Run::Peer => files_after(alloc, Work::Puts(MINE)),
-    }
-}
-
-/// What was done, and the root then; nothing where no replica was opened.
-fn done_of(found: Result<Course, Refusal>) -> (usize, Root) {
-    match found {
-        Ok(course) => {
-            let last = course.last;
-            (course.done, last)
-        }
-        Err(_) => (0, [0; 33]),
-    }
-}
-
-/// The root once the machine is back, and that after one more session.
-fn found_in(
+/// Does so much of a run, on files that begin with these bytes, of which one stops. When the machine is back the files are opened, and
+/// a session is held once more.
+fn left_beside(
     alloc: Global,
-    run: Run,
-    files: Files<Stopping>,
-    other: &mut Replica<MemStore>,
-) -> Result<(Root, Root), Refusal> {
-    let work = if puts(run) {
-        Work::Open
-    } else {
-        work_of(run, 1_000)
-    };
-    let (found, files) = on_files(alloc, revived(files), work, Some(other));
-    drop(files);
-    let course = found?;
-    let first = course.first;
-    let last = course.last;
-    Ok((first, last))
-}
-
-/// What a run came to: how much was done, and the roots: as it ended, once the machine was back, and after one more session, there
-/// and on the other side.
-#[derive(Clone, Copy)]
-struct Left {
-    done: usize,
-    last: Root,
-    kept: Root,
-    end: Root,
-    other: Root,
-}
-
-/// Does so much of a run beside another side, on files of which one stops after so many calls.
-fn done_beside(
-    alloc: Global,
-    run: Run,
-    most: usize,
-    stop: (bool, u64),
+    run: &Run,
+    bytes: &[u8],
+    limits: (usize, Stop),
     other: &mut Replica<MemStore>,
 ) -> Result<Left, Refusal> {
-    let files = fused(files_before(alloc, run)?, stop.0, stop.1);
-    let (found, files) = on_files(alloc, files, work_of(run, most), Some(&mut *other));
-    let (done, last) = done_of(found);
-    let (kept, end) = found_in(alloc, run, files, other)?;
-    Ok(Left {
-        done,
-        last,
-        kept,
-        end,
-        other: root_of(alloc, other),
-    })
+    let again = if run.commits.is_empty() {
+        run.work
+    } else {
+        Work::Open
+    };
+    let files = files_with(alloc, bytes, limits.1)?;
+    let (ran, files) = on_files(alloc, files, (run.work, limits.0), Some(&mut *other));
+    let (back, files) = on_files(alloc, revived(files), (again, 1_000), Some(&mut *other));
+    drop(files);
+    Ok((ran, back, root_of(other)))
 }
 
-/// The same beside a side of its own, which has two puts.
-fn done(alloc: Global, run: Run, most: usize, stop: (bool, u64)) -> Result<Left, Refusal> {
+/// The same beside a side of its own.
+fn run_left(
+    alloc: Global,
+    run: &Run,
+    bytes: &[u8],
+    most: usize,
+    stop: Stop,
+) -> Result<Left, Refusal> {
     let mut other = new_replica(alloc, 2)?;
-    put_all(alloc, &mut other, THEIRS);
-    let left = done_beside(alloc, run, most, stop, &mut other);
+    put_keys(alloc, &mut other, run.theirs, 0);
+    let left = left_beside(alloc, run, bytes, (most, stop), &mut other);
     drop(other);
     left
 }
 
 /// The roots in the course of a run, where nothing stops: of the puts after each, of a session after more and more questions.
-fn roots(alloc: Global, run: Run) -> Result<Vec<Root>, Refusal> {
+fn roots(alloc: Global, run: &Run, bytes: &[u8]) -> Result<Vec<Root>, Refusal> {
     let mut roots = Vec::new(alloc);
-    for most in 0..100usize {
-        let left = done(alloc, run, most, (true, u64::MAX))?;
-        roots.push(left.last)?;
-        if left.done == whole(run) {
+    for most in 0..1_000usize {
+        let (ran, _, _) = run_left(alloc, run, bytes, most, NEVER)?;
+        roots.push(ran.last)?;
+        if ran.done == run.whole {
             break;
         }
     }
     Ok(roots)
 }
 
-/// Whether the machine came back with what it may: the states after the puts that were answered, or with those of the next commit;
-/// those that the session has on its way, or at its end where it ended well.
-fn may_keep(run: Run, roots: &[Root], left: &Left) -> bool {
-    if puts(run) {
-        commits(run)
-            .iter()
-            .skip_while(|count| **count < left.done)
-            .take(2)
-            .any(|count| roots.get(*count) == Some(&left.kept))
-    } else if left.done == 0 {
-        roots.contains(&left.kept)
-    } else {
-        roots.last() == Some(&left.kept)
-    }
-}
-
-/// Whether what a run left is what it may; after one more session that is what is there at the end, on both sides.
-fn may_leave(run: Run, roots: &[Root], left: &Left) -> bool {
-    let is_known = may_keep(run, roots, left);
-    match run {
-        Run::Puts | Run::Rounds => is_known,
-        Run::Move => is_known && roots.last() == Some(&left.end),
-        Run::Local | Run::Peer => {
-            is_known && roots.last() == Some(&left.end) && roots.last() == Some(&left.other)
+/// Whether puts that are answered are there, with those of the next commit or without them: the root is that after so many, or more.
+fn may_keep(run: &Run, roots: &[Root], done: usize, kept: Root) -> bool {
+    let mut tried = 0u32;
+    for count in run.commits {
+        if *count >= done && tried < 2 {
+            tried = tried.saturating_add(1);
+            if roots.get(*count) == Some(&kept) {
+                return true;
+            }
         }
     }
+    false
 }
 
-/// Stops one file before each of its calls, until all of a run is done, and tells how many calls that took.
-fn until_done(alloc: Global, run: Run, of_log: bool) -> Result<u64, Fail> {
-    let roots = roots(alloc, run)?;
+/// Whether a run left what it may. Of a session that is a root on its way, or that at its end where it ended well; after one more
+/// session that is what is there at the end, on both sides.
+fn may_leave(run: &Run, roots: &[Root], left: &Left) -> bool {
+    let (ran, back, other) = left;
+    if back.refusal.is_some() {
+        return false;
+    }
+    if !run.commits.is_empty() {
+        return may_keep(run, roots, ran.done, back.first);
+    }
+    let end = roots.last();
+    let is_known = end == Some(&back.first) || (ran.done == 0 && roots.contains(&back.first));
+    is_known && end == Some(&back.last) && (run.theirs == 0 || end == Some(other))
+}
+
+/// Stops one file before each of its calls, until all of a run is done, and tells how many calls that took; `None` where other states
+/// were left.
+fn calls_until_done(
+    alloc: Global,
+    run: &Run,
+    bytes: &[u8],
+    of_log: bool,
+) -> Result<Option<u64>, Refusal> {
+    let roots = roots(alloc, run, bytes)?;
     for calls in 0..10_000u64 {
-        let left = done(alloc, run, 1_000, (of_log, calls))?;
+        let left = run_left(alloc, run, bytes, 1_000, (of_log, calls))?;
         if !may_leave(run, roots.as_slice(), &left) {
-            return Err(Fail::new(format_args!("{calls} calls left other states")));
+            return Ok(None);
         }
-        if left.done == whole(run) {
-            return Ok(calls);
+        if left.0.done == run.whole {
+            return Ok(Some(calls));
         }
     }
-    Err("no run ended")?
+    Ok(None)
 }
 
-const RUNS: [(&str, Run); 5] = [
-    ("six puts", Run::Puts),
-    ("six puts of three clients", Run::Rounds),
-    ("three old keys", Run::Move),
-    ("a session's local side", Run::Local),
-    ("a session's peer", Run::Peer),
-];
+/// The same from nothing.
+fn until_done(alloc: Global, run: &Run, of_log: bool) -> Result<u64, Fail> {
+    let bytes = match run.before {
+        Some(work) => database(alloc, work)?,
+        None => Vec::new(alloc),
+    };
+    let calls = calls_until_done(alloc, run, bytes.as_slice(), of_log);
+    drop(bytes);
+    match calls? {
+        Some(calls) => Ok(calls),
+        None => Err(Fail::new("other states were left")),
+    }
+}
 
 #[test]
 fn each_file_may_stop(rt: HostRuntime) -> Result<(), Fail> {
-    for (name, run) in RUNS {
+    for run in &RUNS {
         let log = until_done(rt.alloc(), run, true)?;
         let db = until_done(rt.alloc(), run, false)?;
-        println!(rt; "{name}: {log} calls of the log, {db} of the database")?;
+        println!(rt;
+            "{}: {log} calls of the log, {db} of the database",
+            run.name
+        )?;
     }
+    Ok(())
+}
+
+#[test]
+fn a_window_is_one_commit(rt: HostRuntime) -> Result<(), Fail> {
+    let two = until_done(rt.alloc(), &TWO_KEYS, true)?;
+    let forty = until_done(rt.alloc(), &FORTY_KEYS, true)?;
+    println!(rt; "{two} calls of the log for two keys, {forty} for forty")?;
+    assert!(rt; forty < two.saturating_add(20));
     Ok(())
 }

@@ -46,8 +46,8 @@ struct Client {
 /// A client with random requests.
 fn new_client(alloc: Global, random: &mut Random) -> Client {
     let mut asked = [GET; REQUESTS];
-    for place in asked.iter_mut() {
-        *place = ASKED[random.below(10) as usize % 10];
+    for at in 0..REQUESTS {
+        asked[at] = ASKED[random.below(10) as usize % 10];
     }
     Client {
         asked,

@@ -89,7 +89,8 @@ fn write_same(one: &mut Counting, other: &mut Counting) -> Result<bool, Refusal>
 /// Whether a key of which two sites wrote the same dot is left, and the others cross.
 pub fn clash(one: &mut Counting, other: &mut Counting) -> Result<bool, Refusal> {
     let are_put = write_same(one, other)?;
-    let left = first_left(one, other, (2, 1, 0))?;
+    // Both have the number 1, so at `c` the second has seen a dot of the first that this has not.
+    let left = first_left(one, other, (2, 1, 1))?;
     Ok(
         are_put
             && left == Some((Side::Local, Refusal::DotClash))

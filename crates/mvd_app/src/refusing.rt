@@ -7,7 +7,8 @@ ghost use Rattle.sqlite.specs.Held.{state};
 
 use mvd_dots::Refusal;
 use mvd_hint::Stop;
-use mvd_replica::{FileFault, is_foreign, owner_in};
+use mvd_records::{is_foreign, owner_in};
+use mvd_replica::FileFault;
 use sqlite::{Alter, Connection};
 use sqlite_disk::Disk;
 use std::{fs, io};

@@ -3,7 +3,7 @@
 
 ghost use Rattle.std.specs.Prelude.{◌<◌};
 
-use mvd_replica::{
+use mvd_store::{
     Alter, Config, Connection, Context, Defs, Document, Field, Key, KeyState, MemStore, Place,
     Refusal, Replica, SyncFault, Term, sync,
 };

@@ -4,12 +4,9 @@ pub mod Answering
 pub mod Replying
 pub mod Whole
 pub mod Ending
-pub mod Loading
-pub mod Moving
 pub mod Sides
 pub mod Leaving
 pub mod Breaking
-pub mod Ordered
 pub mod Batching
 pub mod Batched
 pub mod Grouping

@@ -19,7 +19,7 @@ use Rattle.mvd_site.proofs.Pushes.{PushFacts, refusal_is}
 use Rattle.sqlite_trees.specs.declared.store.Store.{Ghosts}
 use Rattle.mvd_replica.specs.declared.replica.Replica.{Replica}
 use Rattle.mvd_replica.specs.Batch.{AnswersOneFrom}
-use Rattle.mvd_replica.specs.Kept.{PutsIn}
+use Rattle.mvd_restore.specs.Kept.{PutsIn}
 use Rattle.mvd_replica.specs.ReplicaCalls.{Answers, CountsPut, PushesState}
 use Rattle.mvd_replica.specs.Replicas.{CountsUpTo, KeepsCommit, commits_of, committed_of, next_count, site_of, store_of, stored_of}
 use Rattle.mvd_replica.specs.Sides.{AnswersFromStored, replica_follows_self}

@@ -20,10 +20,10 @@ use Rattle.sqlite.specs.WalReads.{AreClean}
 use Rattle.mvd_replica.specs.declared.file.FileFault.{FileFault}
 use Rattle.mvd_replica.specs.declared.replica.Replica.{Replica}
 use Rattle.mvd_replica.specs.File.{ClosesFile, IsFoundIn, OpensFile}
-use Rattle.mvd_replica.specs.Kept.{HoldsSite, HoldsStates}
+use Rattle.mvd_restore.specs.Kept.{HoldsSite, HoldsStates}
 use Rattle.mvd_replica.specs.Refused.{FailsFile}
 use Rattle.mvd_replica.specs.Replicas.{conn_of, site_of, stored_of}
-use Rattle.mvd_replica.specs.Restored.{HasWrites, IsFresh}
+use Rattle.mvd_restore.specs.Restored.{HasWrites, IsFresh}
 use Rattle.mvd_replica.specs.Whole.{IsAtRest, LeavesStates}
 
 module _ {D : Type 0} {g : Ghosts D} {f : store.Ghosts (FileStore D g)} where

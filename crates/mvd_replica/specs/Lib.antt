@@ -1,5 +1,3 @@
-pub mod Kept
-pub mod Stored
 pub mod Opened
 pub mod Pushes
 pub mod File
@@ -19,5 +17,4 @@ pub mod Shared
 pub mod Asks
 pub mod Replicas
 pub mod ReplicaCalls
-pub mod Restored
 pub mod Restarts

@@ -9,9 +9,9 @@ use Rattle.mvd_site.specs.Config.{ConfigValue}
 use Rattle.mvd_site.specs.Sites.{SiteValue}
 use Rattle.sqlite.specs.Effect.{Database}
 use Rattle.sqlite.specs.State.{HasCleanDisk, State}
-use Rattle.mvd_replica.specs.Kept.{HoldsSite}
+use Rattle.mvd_restore.specs.Kept.{HoldsSite}
 use Rattle.mvd_replica.specs.Whole.{IsAtRest}
-use Rattle.mvd_replica.specs.Stored.{AreDamaged, AreReadable, HasJust, HoldsTooMany, Resumes, SameStates}
+use Rattle.mvd_restore.specs.Stored.{AreDamaged, AreReadable, HasJust, HoldsTooMany, Resumes, SameStates}
 
 -- What was found is in order. The site holds just the states that the two maps of the database found spell, and so do the records
 -- as they are now, with no key of version 1 among them.

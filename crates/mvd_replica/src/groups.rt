@@ -6,7 +6,7 @@ ghost use Rattle.mvd_wire.specs.Codecs.{spell_state};
 ghost use Rattle.mvd_site.specs.Installs.{changes_in, is_change};
 ghost use Rattle.mvd_replica.specs.Groups.{ComesTo, IsApart, IsElsewhere, IsSendable, MayJoin, StandTogether};
 ghost use Rattle.mvd_replica.specs.Groups.{pairs_in, reply_unstored};
-ghost use Rattle.mvd_replica.specs.Restored.{WereSound};
+ghost use Rattle.mvd_restore.specs.Restored.{WereSound};
 ghost use Rattle.mvd_replica.specs.Shared.{IsUnstored, StoresNone, StoresOpen, StoresPairs, SurvivesPairs};
 ghost use Rattle.mvd_replica.specs.Shared.{WereClean};
 

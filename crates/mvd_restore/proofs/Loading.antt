@@ -19,8 +19,8 @@ use Rattle.mvd_records.specs.Records.{EndsMove, HasNone, HoldsRecords, new_state
 use Rattle.mvd_site.specs.Config.{ConfigValue}
 use Rattle.mvd_site.specs.Sites.{SiteValue, opened}
 use Rattle.sqlite.specs.Effect.{Database}
-use Rattle.mvd_replica.specs.Kept.{HoldsSite, SpellStates}
-use Rattle.mvd_replica.specs.Stored.{spelled_entries}
+use Rattle.mvd_restore.specs.Kept.{HoldsSite, SpellStates}
+use Rattle.mvd_restore.specs.Stored.{spelled_entries}
 
 -- what is so, is so where a call gave something
 pub whenever : {A E P : Type 0} (r : Result A E) → P → OnOk r P

@@ -1,5 +1,5 @@
 -- The site that stored states make.
-use Rattle.std.proofs.Common.{◌≡◌, ◌∙◌, ◌<◌, ◌&&◌, Bool, true, false, cond, ltb, ℕ, List, [], ◌∷◌, length, map, Some, Result, Ok, Err, T, option_map, if◌then◌else◌, refl, sym, ap, subst}
+use Rattle.std.proofs.Common.{◌≡◌, ◌∙◌, ◌<◌, ◌&&◌, Bool, true, false, cond, ltb, ℕ, List, [], ◌∷◌, length, map, Some, Result, Ok, Err, T, option_map, if◌then◌else◌, inl, inr, refl, sym, ap, subst}
 use Rattle.std.proofs.lemmas.Bool.{ltb-true}
 use Rattle.std.proofs.lemmas.List.{length-map}
 use Rattle.std.specs.Result.{IfErr, IfOk, MatchResult, OnErr, OnOk}
@@ -8,7 +8,7 @@ use Rattle.std.specs.FinMap.{entries, find, from_entries, get-entries, get-from_
 use Rattle.std.specs.FinMap.Entries.{below_all}
 use Rattle.mvd_dots.specs.Answer.{IsAnswer}
 use Rattle.mvd_dots.specs.declared.refusals.Refusal.{Refusal}
-use Rattle.mvd_dots.specs.declared.refusals.Refusal.TheVariants.{Full, Memory}
+use Rattle.mvd_dots.specs.declared.refusals.Refusal.TheVariants.{Damaged, Full, Memory, Store}
 use Rattle.mvd_keys.specs.Key.{key_cmp}
 use Rattle.mvd_keys.specs.State.{State}
 use Rattle.mvd_keys.specs.Writes.{Key}
@@ -20,12 +20,24 @@ use Rattle.mvd_site.specs.Config.{ConfigValue}
 use Rattle.mvd_site.specs.Sites.{SiteValue, opened}
 use Rattle.sqlite.specs.Effect.{Database}
 use Rattle.mvd_restore.specs.Kept.{HoldsSite, SpellStates}
+use Rattle.mvd_restore.specs.Restored.{IsUnloaded, IsUnmoved}
 use Rattle.mvd_restore.specs.Stored.{spelled_entries}
 
 -- what is so, is so where a call gave something
 pub whenever : {A E P : Type 0} (r : Result A E) → P → OnOk r P
 whenever (Ok x) p = p
 whenever (Err e) p = tt
+
+-- ---- why nothing is moved
+
+pub unmoved_unloaded : (e : Refusal) → IsUnmoved e → IsUnloaded e
+unmoved_unloaded e (inl is) = inl is
+unmoved_unloaded e (inr is) = inr (inr is)
+
+pub unmoved_not_full : (e : Refusal) → IsUnmoved e → ¬ (e ≡ Full)
+unmoved_not_full e (inl is) full = let bad : Damaged ≡ Full = sym is ∙ full in cc
+unmoved_not_full e (inr (inl is)) full = let bad : Memory ≡ Full = sym is ∙ full in cc
+unmoved_not_full e (inr (inr is)) full = let bad : Store ≡ Full = sym is ∙ full in cc
 
 -- ---- entries whose values are mapped
 

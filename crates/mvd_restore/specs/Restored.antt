@@ -143,3 +143,22 @@ module _ {S : Type 0} (g : Ghosts S) where
   abbrev pub FindsAgain : RecordsValue S → RecordsValue S → Type 0
   FindsAgain old new = (number : ℕ) → IsSound (state g new.conn) → HoldsRecords old.version number (committed old) →
       Resumes old.version number (committed old) (committed new)
+
+  -- The site that the records hold, whose old keys are moved first; or why there is none
+  pub record RestoresSite (setup : ConfigValue) (old : RecordsValue S) (result : Result SiteValue Refusal) (new : RecordsValue S) : Type 0 where
+    -- it is set up so, and not broken; there is a set of writes that it stands for
+    pub config : IfOk result (IsFresh setup)
+    pub stands : IfOk result HasWrites
+    -- Ok: the records are in version 2, and hold just its states
+    pub version : IfOk result (λ _. new.version ≡ 2)
+    pub holds : FindsStates old result new
+    pub alone : FindsNone old result new
+    -- Err: memory or the store was refused, the records are damaged, or hold too many keys
+    pub refusal : IfErr result IsUnloaded
+    pub order : FindsOrder old result new
+    pub full : FindsFull setup old result new
+    -- either way the key states are those of before, and the next call goes on from there
+    pub states : MovesStates old new
+    pub resumes : FindsAgain old new
+    pub before : WereSound old new
+    pub stays_open : LeavesOpen result new

@@ -5,7 +5,7 @@ ghost use Rattle.mvd_wire.specs.Codecs.{spell_state};
 ghost use Rattle.mvd_records.specs.Pairs.{entries_of};
 ghost use Rattle.mvd_site.specs.Held.{IsHeldState};
 ghost use Rattle.mvd_restore.specs.Restored.{DamagedIn, HasWrites, IfDamaged, IsFresh, IsUnloaded, IsUnmoved, IsUnread};
-ghost use Rattle.mvd_restore.specs.Restored.{FindsAgain, FindsFull, FindsNone, FindsOrder, FindsStates, WereSound};
+ghost use Rattle.mvd_restore.specs.Restored.{RestoresSite, WereSound};
 ghost use Rattle.mvd_restore.specs.Restored.{LeavesOpen, LoadsFull, LoadsOnly, LoadsOrder, LoadsStates};
 ghost use Rattle.mvd_restore.specs.Restored.{MovesAlike, MovesAll, MovesStates, MovesVersion};
 ghost use Rattle.mvd_restore.specs.Stored.{IsOldStored, IsStored, Respells, spelled_entries};
@@ -144,18 +144,7 @@ pub fn site_in<S: Alter>(
     records: &mut Records<S>,
     config: Config,
 ) -> Result<Site, Refusal>
-    ensures config { IfOk result (IsFresh config) }
-    ensures stands { IfOk result HasWrites }
-    ensures before { WereSound S.Store records.old records.new }
-    ensures stays_open { LeavesOpen S.Store result records.new }
-    ensures holds { FindsStates S.Store records.old result records.new }
-    ensures states { MovesStates S.Store records.old records.new }
-    ensures alone { FindsNone S.Store records.old result records.new }
-    ensures full { FindsFull S.Store config records.old result records.new }
-    ensures order { FindsOrder S.Store records.old result records.new }
-    ensures resumes { FindsAgain S.Store records.old records.new }
-    ensures refusal { IfErr result IsUnloaded }
-    ensures version { IfOk result (λ _. records.new.version ≡ 2) }
+    ensures { RestoresSite S.Store config records.old result records.new }
 {
     if records.version() == 2 {
         return load(alloc, records, config);

@@ -1,4 +1,4 @@
-use Rattle.std.proofs.Common.{◌∙◌, arith, inl, refl}
+use Rattle.std.proofs.Common.{◌≡◌, ◌∙◌, arith, inl, refl}
 use Rattle.mvd_restore.proofs.Loading.{loaded_holds, unmoved_not_full, unmoved_unloaded, whenever}
 use Rattle.mvd_restore.proofs.Moving.{same_then, same_unchanged}
 use Rattle.mvd_restore.proofs.Ordered.{alone_ordered, order_by, order_migrated, resumes_moved, resumes_same, too_many_after, too_many_moved}
@@ -7,7 +7,7 @@ use Rattle.mvd_restore.proofs.restoring.site_in.Goals as goal
 pub returns-then-version-eq2 : goal.returns-then-version-eq2
 returns-then-version-eq2 g c =
     let version = c.args.records.now.version in
-    let two = omega (arith, c.version.ensures.value, c.if-version-eq2.true) in
+    let two : version ≡ 2 = omega (arith, c.version.ensures.value, c.if-version-eq2.true) in
     record {
       config = c.load.ensures.config;
       stands = c.load.ensures.stands;

@@ -1,5 +1,6 @@
 -- How many commits the calls of a replica count.
-use Rattle.std.proofs.Common.{arith, ◌≡◌, ◌≢◌, ◌∙◌, ◌≤◌, ◌<◌, ◌+◌, ℕ, zero, suc, List, [], ◌∷◌, ◌++◌, true, false, Result, Err, refl, sym, ap, inl, inr, true≢false}
+use Rattle.std.proofs.Common.{arith, ◌≡◌, ◌≢◌, ◌∙◌, ◌≤◌, ◌<◌, ◌+◌, ℕ, zero, suc, List, [], ◌∷◌, ◌++◌, true, false, Result, Err, refl, sym, ap, subst, inl, inr, true≢false, length, take}
+use Rattle.std.proofs.lemmas.List.{take_all}
 use Rattle.mvd_dots.specs.declared.refusals.Refusal.{Refusal}
 use Rattle.mvd_dots.specs.declared.refusals.Refusal.TheVariants.{Broken, Store}
 use Rattle.mvd_wire.specs.declared.request.Request.{Request}
@@ -12,10 +13,10 @@ use Rattle.mvd_kept.specs.declared.prepared.Prepared.{Prepared}
 use Rattle.mvd_restore.specs.Kept.{PutsIn}
 use Rattle.sqlite_trees.specs.declared.store.Store.{Ghosts}
 use Rattle.mvd_replica.specs.declared.replica.Replica.{Replica}
-use Rattle.mvd_replica.specs.Batch.{asks_change, changes_asked}
+use Rattle.mvd_replica.specs.Batch.{AnswersAll, asks_change, changes_asked}
 use Rattle.mvd_replica.specs.Groups.{AllComeTo}
-use Rattle.mvd_replica.specs.ReplicaCalls.{Answers, ChangesNothing, CountsCommits, CountsPut}
-use Rattle.mvd_replica.specs.Replicas.{CountsChange, commits_of, next_count, site_of}
+use Rattle.mvd_replica.specs.ReplicaCalls.{Answers, AnswersEach, AnswersSome, ChangesNothing, CountsCommits, CountsPut}
+use Rattle.mvd_replica.specs.Replicas.{CountsChange, StoredSite, commits_of, next_count, site_of, stored_of}
 use Rattle.mvd_replica.proofs.Grouping.{asked_more, changes_few, pairs_none}
 use Rattle.mvd_replica.proofs.Putting.{still_end}
 
@@ -84,3 +85,36 @@ module _ {S : Type 0} {g : Ghosts S} where
         | zero ↦ λ is. counts_same requests old new (still_end group replies (site_of old) (site_of new) whole (pairs_none group is) puts) (none is)
         | suc n ↦ λ is. counts_next requests old new (omega (arith, few, is)) (some (omega (arith, is)))
       ] refl
+
+  -- all of the requests, or the first of them, one after the other
+  pub some_each : (requests : List Request) (n : ℕ) (before after : List Reply) (old new : Replica S g) → 0 < n → n ≤ length requests → AnswersEach old (take n requests) before after new →
+      CountsCommits (take n requests) old new → AnswersSome old requests before after new
+  some_each requests n before after old new some within it counts =
+      (record { count = n; some = some; within = within; replies = it.0; appended = it.1; answers = it.2 }, counts)
+
+  pub some_all : (requests : List Request) (before after : List Reply) (old new : Replica S g) → 0 < length requests → AnswersEach old requests before after new → CountsCommits requests old new →
+      AnswersSome old requests before after new
+  some_all requests before after old new some it counts =
+      let all : requests ≡ take (length requests) requests = sym (take_all (length requests) requests (omega arith)) in
+      some_each requests (length requests) before after old new some (omega arith) (subst (λ l. AnswersEach old l before after new) all it) (subst (λ l. CountsCommits l old new) all counts)
+
+  -- from a replica that shows the same
+  pub some_same : (requests : List Request) (before after : List Reply) (old same new : Replica S g) → stored_of same ≡ stored_of old → commits_of same ≡ commits_of old → AnswersSome same requests before after new →
+      AnswersSome old requests before after new
+  some_same requests before after old same new shown counts it = (
+    record {
+      count = it.0.count;
+      some = it.0.some;
+      within = it.0.within;
+      replies = it.0.replies;
+      appended = it.0.appended;
+      answers = subst (λ o. AnswersAll (take it.0.count requests) it.0.replies o (stored_of new)) shown it.0.answers;
+    },
+    record {
+      count = it.1.count;
+      within = it.1.within;
+      some = elim it.1.some [ inl still ↦ inl (still ∙ ap (λ (s : StoredSite). s.site) shown) | inr more ↦ inr more ];
+      most = omega (arith, it.1.most, counts);
+      least = omega (arith, it.1.least, counts);
+    },
+  )

@@ -263,7 +263,7 @@ changes_few config m (r ∷ requests) (Change change ∷ group) all =
     omega (arith, one, later)
 
 pub asked_more : (first second : List Request) → changes_asked (first ++ second) ≡ changes_asked first + changes_asked second
-asked_more [] second = refl
+asked_more [] second = omega arith
 asked_more (request ∷ first) second = let later : changes_asked (first ++ second) ≡ changes_asked first + changes_asked second = asked_more first second in omega (arith, later)
 
 -- ---- what may be put in

@@ -4,6 +4,7 @@ use super::host_calls::told_by_three;
 use super::replica_calls::{
     Bytes, Root, conn_of, counted, opened, push, replies, root_of, run_all, serves,
 };
+use super::stream_ways::ALL;
 use mvd_dots::Refusal;
 use mvd_replica::Replica;
 use mvd_sync::sync_within;
@@ -125,7 +126,7 @@ fn does<S: Alter + Drop>(
         }
         Work::Puts(puts) => {
             let puts = puts.get(..most).unwrap_or(puts);
-            let (output, _) = serves(alloc, replica, &Bytes::of(puts));
+            let (output, _) = serves(alloc, replica, &Bytes::of(puts), ALL, ALL);
             counted(output.bytes()).1
         }
         Work::Rounds(puts) => {
@@ -153,15 +154,13 @@ pub struct Course {
     pub last: Root,
 }
 
-/// The course of work for which no replica was opened.
-fn without_replica(refusal: Option<Refusal>) -> Course {
-    Course {
-        refusal,
-        first: [0; 32],
-        done: 0,
-        last: [0; 32],
-    }
-}
+/// The course of work that came to nothing.
+const NO_COURSE: Course = Course {
+    refusal: None,
+    first: [0; 32],
+    done: 0,
+    last: [0; 32],
+};
 
 /// The course of work on a replica.
 fn course_of<S: Alter + Drop>(
@@ -187,16 +186,20 @@ fn on_records<S: Alter + Drop>(
     work: (Work<'_>, usize),
     other: Option<&mut Replica<MemStore>>,
 ) -> (Course, Connection<S>) {
+    let mut course = NO_COURSE;
     if let Work::Statements(statements) = work.0 {
-        let refusal = run_all(&mut conn, statements).err();
-        return (without_replica(refusal), conn);
+        course.refusal = run_all(&mut conn, statements).err();
+        return (course, conn);
     }
     match opened(alloc, conn, 1) {
         Ok(mut replica) => {
-            let course = course_of(alloc, &mut replica, work, other);
+            course = course_of(alloc, &mut replica, work, other);
             (course, conn_of(replica))
         }
-        Err((refusal, conn)) => (without_replica(Some(refusal)), conn),
+        Err((refusal, conn)) => {
+            course.refusal = Some(refusal);
+            (course, conn)
+        }
     }
 }
 
@@ -212,7 +215,11 @@ pub fn on_files<D: Disk + Drop>(
             let (course, conn) = on_records(alloc, conn, work, other);
             (course, closed(conn))
         }
-        Err(files) => (without_replica(Some(Refusal::Store)), files),
+        Err(files) => {
+            let mut course = NO_COURSE;
+            course.refusal = Some(Refusal::Store);
+            (course, files)
+        }
     }
 }
 

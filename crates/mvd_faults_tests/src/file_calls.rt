@@ -47,7 +47,10 @@ fn connected<D: Disk + Drop>(
     }
     match Connection::open_files(alloc, files, Options::new(1)) {
         Ok(conn) => Ok(conn),
-        Err((_, left)) => Err(left.into_files()),
+        Err((fault, left)) => {
+            drop(fault);
+            Err(left.into_files())
+        }
     }
 }
 
@@ -77,25 +80,24 @@ pub enum Work<'a> {
     Peer,
 }
 
-/// A put of a document of so many letters at a key of one letter.
-fn long_put(alloc: Global, key: u8, letters: u32) -> Vec<u8> {
-    let mut frame = Vec::new(alloc);
-    push(&mut frame, &letters.saturating_add(19).to_be_bytes());
-    push(&mut frame, &[0x22, 1, key, 0, 0, 0, 0]);
-    push(&mut frame, &letters.saturating_add(8).to_be_bytes());
-    push(&mut frame, b"{\"a\":\"");
+/// Adds a put of a document of so many letters at a key of one letter.
+fn add_put(frame: &mut Vec<u8>, key: u8, letters: u32) {
+    let [a, b, c, d] = letters.saturating_add(19).to_be_bytes();
+    let [e, f, g, h] = letters.saturating_add(8).to_be_bytes();
+    push(frame, &[a, b, c, d, 0x22, 1, key, 0, 0, 0, 0, e, f, g, h]);
+    push(frame, b"{\"a\":\"");
     for _ in 0..letters {
-        push(&mut frame, b"x");
+        push(frame, b"x");
     }
-    push(&mut frame, b"\"}");
-    frame
+    push(frame, b"\"}");
 }
 
 /// Puts documents at so many keys, each of so many letters more than the one before.
 pub fn put_keys<S: Alter + Drop>(alloc: Global, replica: &mut Replica<S>, keys: u8, letters: u32) {
     for number in 0..keys {
         let letters = letters.saturating_mul(u32::from(number));
-        let put = long_put(alloc, b'0'.saturating_add(number), letters);
+        let mut put = Vec::new(alloc);
+        add_put(&mut put, b'0'.saturating_add(number), letters);
         let _replies = replies(alloc, replica, put.as_slice());
     }
 }

@@ -120,9 +120,13 @@ pub fn counted(output: &[u8]) -> (usize, usize, usize) {
 }
 
 // These have no clause, so that the proof of a test does not carry the state of each call.
+fn is_run<S: Alter>(conn: &mut Connection<S>, sql: &str) -> bool {
+    conn.execute_batch(sql).is_ok()
+}
+
 pub fn run_all<S: Alter>(conn: &mut Connection<S>, statements: &[&str]) -> Result<(), Refusal> {
     for sql in statements {
-        if conn.execute_batch(sql).is_err() {
+        if !is_run(conn, sql) {
             return Err(Refusal::Store);
         }
     }
@@ -147,10 +151,14 @@ pub fn conn_of<S: Alter + Drop>(replica: Replica<S>) -> Connection<S> {
     replica.into_connection()
 }
 
+fn index(alloc: Global, defs: &mut Defs, name: &str) -> Result<(), Refusal> {
+    defs.index(Field::read(alloc, name)?)
+}
+
 /// Three indexes, and a view of what is spent in each city.
 fn define(alloc: Global, defs: &mut Defs) -> Result<(), Refusal> {
     for name in ["city", "a", "v"] {
-        defs.index(Field::read(alloc, name)?)?;
+        index(alloc, defs, name)?;
     }
     defs.view(
         ViewName::read(alloc, "spend")?,

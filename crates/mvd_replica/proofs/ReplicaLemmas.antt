@@ -1,5 +1,5 @@
 -- What follows from the relations of a replica's calls, and how a push comes by them.
-use Rattle.std.proofs.Common.{arith, ◌≡◌, ◌≢◌, ◌∙◌, [], ◌∷◌, true, false, Result, Ok, Err, refl, sym, ap, subst, inl, inr, true≢false}
+use Rattle.std.proofs.Common.{◌≡◌, ◌≢◌, ◌∙◌, [], ◌∷◌, true, false, Result, Ok, Err, refl, sym, ap, subst, inl, inr, true≢false}
 use Rattle.std.specs.Result.{IfErr, MatchResult, OnOk}
 use Rattle.mvd_dots.specs.declared.refusals.Refusal.{Refusal}
 use Rattle.mvd_dots.specs.declared.refusals.Refusal.TheVariants.{Broken, DotClash, Memory, Store}

@@ -1,4 +1,4 @@
-use Rattle.std.proofs.Common.{arith, ◌≡◌, ◌∙◌, inl, inr, true, false, true≢false, [], Ok, Err, refl, sym, ap, subst}
+use Rattle.std.proofs.Common.{◌≡◌, ◌∙◌, inl, inr, true, false, true≢false, [], Ok, Err, refl, sym, ap, subst}
 use Rattle.mvd_dots.specs.declared.refusals.Refusal.{Refusal}
 use Rattle.mvd_dots.specs.declared.refusals.Refusal.TheVariants.{Broken, Memory}
 use Rattle.mvd_wire.specs.declared.reply.Reply.TheVariants.{Refused}

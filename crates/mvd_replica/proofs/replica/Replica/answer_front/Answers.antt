@@ -32,8 +32,7 @@ returns-in-Ok-store_all-clause-answers g c =
     let together = c.in-Ok.ensures.together whole in
     let before = state g.S.Store c.args.self.now.records.conn in
     let after = state g.S.Store c.store_all.new.records.conn in
-    let it = c.install_all.ensures.puts in
-    (
+    let it = c.install_all.ensures.puts in (
       record {
         count = length group;
         some = c.in-Ok.ensures.some c.requires.some;

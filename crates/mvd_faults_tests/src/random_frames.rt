@@ -243,7 +243,7 @@ fn add_frame(alloc: Global, random: &mut Random, input: &mut Vec<u8>) {
 const FRAMES: u32 = 40;
 
 /// Each second connection has frames that are damaged as a whole, with their lengths.
-const CONNECTIONS: u32 = 500;
+const CONNECTIONS: u32 = 250;
 
 /// How many of such frames a connection answers, which is all, or those up to a Bye, unless frames are damaged as a whole; `None` where
 /// it ends otherwise, or another byte is among the replies.

@@ -1,5 +1,5 @@
 //! Random frames, from a generator with a fixed seed.
-use super::replica_calls::{counted, new_replica, push, replies};
+use super::replica_calls::{Bytes, counted, new_replica, push, replies};
 use mvd_replica::Replica;
 use sqlite::MemStore;
 use std::alloc::Global;
@@ -18,191 +18,206 @@ pub fn below(random: &mut Random, limit: u64) -> u64 {
     (x >> 11).checked_rem(limit).unwrap_or(0)
 }
 
-/// A form of a piece of a payload: bytes, so many letters behind them, and bytes at the end.
-type Form = (&'static [u8], u32, &'static [u8]);
+// The forms of a piece of a payload, a line each: what is often there, what is at a limit, and what is none. A form is bytes in
+// hexadecimal digits; behind a `+`, so many letters; behind a second one, bytes at the end.
 
-/// The forms of each piece: what is often there, what is at a limit, and what is none.
-const KEY: &[Form] = &[
-    (b"\x01a", 0, b""),
-    (b"\x01b", 0, b""),
-    (b"\x01c", 0, b""),
-    (b"\x01d", 0, b""),
-    (b"\x01e", 0, b""),
-    (b"\x01f", 0, b""),
-    (b"\x01g", 0, b""),
-    (b"\x01h", 0, b""),
-    (b"\x01i", 0, b""),
-    (b"\x01a", 0, b""),
-    (b"\x01b", 0, b""),
-    (b"\x01c", 0, b""),
-    (b"\x01d", 0, b""),
-    (b"\0", 0, b""),
-    (b"\x02", 2, b""),
-    (b"\x7F", 127, b""),
-    (b"\x80", 128, b""),
-    (b"\x81", 129, b""),
-    (b"\xFF", 255, b""),
-];
+const KEY: &str = "\
+0161
+0162
+0163
+0164
+0165
+0166
+0167
+0168
+0169
+0161
+0162
+0163
+0164
+00
+02+2
+7f+127
+80+128
+81+129
+ff+255
+";
 
-const CONTEXT: &[Form] = &[
-    (b"\0\0\0\0", 0, b""),
-    (b"\0\0\0\0", 0, b""),
-    (b"\0\0\0\x01\0\0\0\x01\0\0\0\0\0\0\0\x01\0\0\0\0", 0, b""),
-    (b"\0\0\0\x01\0\0\0\x01\0\0\0\0\0\0\0\x03\0\0\0\0", 0, b""),
-    (b"\0\0\0\x01\0\0\0\x01\0\0\0\0\0\0\0\0\0\0\0\0", 0, b""),
-    (
-        b"\0\0\0\x01\0\0\0\x01\0\0\0\0\0\0\0\x01\0\0\0\x01\0\0\0\0\0\0\0\x03",
-        0,
-        b"",
-    ),
-    (
-        b"\0\0\0\x01\0\0\0\x01\0\0\0\0\0\0\0\x01\0\0\0\x01\0\0\0\0\0\0\0\x02",
-        0,
-        b"",
-    ),
-    (
-        b"\0\0\0\x01\0\0\0\x02\0\0\0\0\0\0\0\0\0\0\0\x02\0\0\0\0\0\0\0\x02\0\0\0\0\0\0\0\x05",
-        0,
-        b"",
-    ),
-    (
-        b"\0\0\0\x01\0\0\0\x02\0\0\0\0\0\0\0\0\0\0\0\x02\0\0\0\0\0\0\0\x05\0\0\0\0\0\0\0\x02",
-        0,
-        b"",
-    ),
-    (
-        b"\0\0\0\x01\0\0\0\x01\0\0\0\0\0\0\0\x01\xFF\xFF\xFF\xFF",
-        0,
-        b"",
-    ),
-    (
-        b"\0\0\0\x02\0\0\0\x01\0\0\0\0\0\0\0\x02\0\0\0\0\0\0\0\x02\0\0\0\0\0\0\0\x02\0\0\0\0",
-        0,
-        b"",
-    ),
-    (
-        b"\0\0\0\x02\0\0\0\x02\0\0\0\0\0\0\0\x02\0\0\0\0\0\0\0\x01\0\0\0\0\0\0\0\x02\0\0\0\0",
-        0,
-        b"",
-    ),
-    (b"\xFF\xFF\xFF\xFF", 0, b""),
-];
+const CONTEXT: &str = "\
+00000000
+00000000
+0000000100000001000000000000000100000000
+0000000100000001000000000000000300000000
+0000000100000001000000000000000000000000
+00000001000000010000000000000001000000010000000000000003
+00000001000000010000000000000001000000010000000000000002
+000000010000000200000000000000000000000200000000000000020000000000000005
+000000010000000200000000000000000000000200000000000000050000000000000002
+00000001000000010000000000000001ffffffff
+000000020000000100000000000000020000000000000002000000000000000200000000
+000000020000000200000000000000020000000000000001000000000000000200000000
+ffffffff
+";
 
-const DOCUMENT: &[Form] = &[
-    (b"\0\0\0\x08{\"a\":\"", 0, b"\"}"),
-    (b"\0\0\0\x09{\"a\":\"", 1, b"\"}"),
-    (b"\0\0\0\x09{\"a\":\"", 1, b"\"}"),
-    (b"\0\0\0\x09{\"a\":\"", 1, b"\"}"),
-    (b"\0\0\0\x0A{\"v\":\"", 2, b"\"}"),
-    (b"\0\0\0\x0C{\"city\":\"", 1, b"\"}"),
-    (b"\0\0\0\x0F{\"city\":\"", 4, b"\"}"),
-    (b"\0\0\0\x33{\"city\":\"", 40, b"\"}"),
-    (b"\0\0\xFF\xFF{\"a\":\"", 65_527, b"\"}"),
-    (b"\0\x01\0\0{\"a\":\"", 65_528, b"\"}"),
-    (b"\0\x01\0\x01{\"a\":\"", 65_529, b"\"}"),
-];
+const DOCUMENT: &str = "\
+000000087b2261223a22+0+227d
+000000097b2261223a22+1+227d
+000000097b2261223a22+1+227d
+000000097b2261223a22+1+227d
+0000000a7b2276223a22+2+227d
+0000000c7b2263697479223a22+1+227d
+0000000f7b2263697479223a22+4+227d
+000000337b2263697479223a22+40+227d
+0000ffff7b2261223a22+65527+227d
+000100007b2261223a22+65528+227d
+000100017b2261223a22+65529+227d
+";
 
-const TERM: &[Form] = &[
-    (b"\0", 0, b""),
-    (b"\x01", 0, b""),
-    (b"\x02", 0, b""),
-    (b"\x03\x3F\xF0\0\0\0\0\0\0", 0, b""),
-    (b"\x03\xFF\xFF\xFF\xFF\xFF\xFF\xFF\xFF", 0, b""),
-    (b"\x04\0\0", 0, b""),
-    (b"\x04\0\x01", 1, b""),
-    (b"\x04\0\x04", 4, b""),
-    (b"\x04\x01\xFF", 511, b""),
-    (b"\x04\x02\0", 512, b""),
-    (b"\x04\x02\x01", 513, b""),
-    (b"\x05", 0, b""),
-];
+const TERM: &str = "\
+00
+01
+02
+033ff0000000000000
+03ffffffffffffffff
+040000
+040001+1
+040004+4
+0401ff+511
+040200+512
+040201+513
+05
+";
 
-const NAME: &[Form] = &[
-    (b"\0\x04city", 0, b""),
-    (b"\0\x05spend", 0, b""),
-    (b"\0\x01a", 0, b""),
-    (b"\0\0", 0, b""),
-    (b"\0\x3F", 63, b""),
-    (b"\0\x40", 64, b""),
-    (b"\0\x41", 65, b""),
-];
+const NAME: &str = "\
+000463697479
+00057370656e64
+000161
+0000
+003f+63
+0040+64
+0041+65
+";
 
-const PATH: &[Form] = &[
-    (b"\0", 0, b""),
-    (b"\x01\x03", 0, b""),
-    (b"\x02\0\x0F", 0, b""),
-    (b"\x03\x01\x02\x03", 0, b""),
-    (b"\x03\x0F\0\x0A", 0, b""),
-    (b"\x04\0\0\0\0", 0, b""),
-    (b"\x02\x01\x10", 0, b""),
-];
+const PATH: &str = "\
+00
+0103
+02000f
+03010203
+030f000a
+0400000000
+020110
+";
 
-const DOT: &[Form] = &[
-    (b"\0\0\0\x01\0\0\0\0\0\0\0\x01", 0, b""),
-    (b"\0\0\0\x01\0\0\0\0\0\0\0\x02", 0, b""),
-    (b"\0\0\0\x02\0\0\0\0\0\0\0\x02", 0, b""),
-    (b"\0\0\0\x03\0\0\0\0\0\0\0\x01", 0, b""),
-    (b"\0\0\0\0\0\0\0\0\0\0\0\x01", 0, b""),
-    (b"\0\0\0\x01\0\0\0\0\0\0\0\0", 0, b""),
-    (b"\xFF\xFF\xFF\xFF\0\0\xFF\xFF\xFF\xFF\xFF\xFF", 0, b""),
-    (b"\0\0\0\x01\0\x01\0\0\0\0\0\0", 0, b""),
-];
+const DOT: &str = "\
+000000010000000000000001
+000000010000000000000002
+000000020000000000000002
+000000030000000000000001
+000000000000000000000001
+000000010000000000000000
+ffffffff0000ffffffffffff
+000000010001000000000000
+";
 
 /// The flag of an option that is not there, and of one that is.
-const NONE: &[Form] = &[(b"\0", 0, b""), (b"\0", 0, b""), (b"\x02", 0, b"")];
+const NONE: &str = "\
+00
+00
+02
+";
 
-const SOME: &[Form] = &[(b"\x01", 0, b"")];
+const SOME: &str = "\
+01
+";
 
 /// How many siblings a state has.
-const NO_SIBLING: &[Form] = &[(b"\0\0", 0, b"")];
+const NO_SIBLING: &str = "\
+0000
+";
 
-const SIBLING: &[Form] = &[
-    (b"\0\x01", 0, b""),
-    (b"\0\x01", 0, b""),
-    (b"\0\x01", 0, b""),
-    (b"\xFF\xFF", 0, b""),
-];
+const SIBLING: &str = "\
+0001
+0001
+0001
+ffff
+";
 
-const SIBLINGS: &[Form] = &[(b"\0\x02", 0, b"")];
+const SIBLINGS: &str = "\
+0002
+";
 
-/// The payload of each kind of request, in each of its shapes; and frames that are no request. A Bye is the last.
-const KINDS: &[(u8, &[&[Form]])] = &[
-    (0x21, &[KEY]),
-    (0x22, &[KEY, CONTEXT, DOCUMENT]),
-    (0x22, &[KEY, CONTEXT, DOCUMENT]),
-    (0x23, &[KEY, CONTEXT]),
-    (0x24, &[NAME, TERM, NONE]),
-    (0x24, &[NAME, TERM, SOME, KEY, DOT]),
-    (0x25, &[NAME, TERM]),
-    (0x26, &[NAME, NONE]),
-    (0x26, &[NAME, SOME, TERM]),
-    (0x27, &[PATH]),
-    (0x28, &[PATH, NONE]),
-    (0x28, &[PATH, SOME, KEY]),
-    (0x29, &[KEY, CONTEXT, NO_SIBLING]),
-    (0x29, &[KEY, CONTEXT, SIBLING, DOT, DOCUMENT]),
-    (
-        0x29,
-        &[KEY, CONTEXT, SIBLINGS, DOT, DOCUMENT, DOT, DOCUMENT],
-    ),
-    (0x2A, &[NAME, TERM, TERM, NONE]),
-    (0x2A, &[NAME, TERM, TERM, SOME, TERM, KEY, DOT]),
-    (0x20, &[KEY]),
-    (0xA1, &[CONTEXT, SIBLING, DOT, DOCUMENT]),
-    (0x2F, &[]),
-];
+/// The payload of each kind of request, in each of its shapes, a letter for a piece; and frames that are no request. A Bye is the last.
+const KINDS: &str = "\
+21 k
+22 kcd
+22 kcd
+23 kc
+24 ntz
+24 ntskv
+25 nt
+26 nz
+26 nst
+27 p
+28 pz
+28 psk
+29 kce
+29 kcovd
+29 kcmvdvd
+2a nttz
+2a nttstkv
+20 k
+a1 covd
+2f -
+";
+
+fn forms_of(piece: u8) -> &'static str {
+    match piece {
+        b'k' => KEY,
+        b'c' => CONTEXT,
+        b'd' => DOCUMENT,
+        b't' => TERM,
+        b'n' => NAME,
+        b'p' => PATH,
+        b'v' => DOT,
+        b'z' => NONE,
+        b's' => SOME,
+        b'e' => NO_SIBLING,
+        b'o' => SIBLING,
+        b'm' => SIBLINGS,
+        _ => "",
+    }
+}
+
+fn line_at(text: &'static str, at: u64) -> &'static str {
+    text.lines().nth(at as usize).unwrap_or("")
+}
+
+fn line_count(text: &str) -> u64 {
+    text.lines().count() as u64
+}
+
+fn add_digits(payload: &mut Vec<u8>, digits: &str) {
+    let bytes = Bytes::of(&[digits]);
+    push(payload, bytes.bytes());
+}
+
+/// Adds a form of a piece to a payload.
+fn add_form(payload: &mut Vec<u8>, form: &str) {
+    let (begin, rest) = form.split_once('+').unwrap_or((form, "0"));
+    let (letters, end) = rest.split_once('+').unwrap_or((rest, ""));
+    add_digits(payload, begin);
+    for _ in 0..letters.parse::<u32>().unwrap_or(0) {
+        push(payload, b"x");
+    }
+    add_digits(payload, end);
+}
 
 /// Adds these pieces to a payload, each in one of its forms.
-fn add_pieces(random: &mut Random, pieces: &[&[Form]], payload: &mut Vec<u8>) {
-    for forms in pieces {
-        let at = below(random, forms.len() as u64) as usize;
-        if let Some((begin, letters, end)) = forms.get(at) {
-            push(payload, begin);
-            for _ in 0..*letters {
-                push(payload, b"x");
-            }
-            push(payload, end);
-        }
+fn add_pieces(random: &mut Random, pieces: &str, payload: &mut Vec<u8>) {
+    for piece in pieces.bytes() {
+        let forms = forms_of(piece);
+        let at = below(random, line_count(forms));
+        add_form(payload, line_at(forms, at));
     }
 }
 
@@ -226,15 +241,15 @@ fn damage(random: &mut Random, bytes: &mut Vec<u8>, from: usize) {
 /// Adds a frame to a connection's bytes.
 fn add_frame(alloc: Global, random: &mut Random, input: &mut Vec<u8>) {
     // A Bye is seldom.
-    let most = (KINDS.len() as u64).saturating_mul(8).saturating_sub(7);
-    let at = below(random, most) as usize / 8;
+    let most = line_count(KINDS).saturating_mul(8).saturating_sub(7);
+    let at = below(random, most) / 8;
     let mut payload = Vec::new(alloc);
-    if let Some((kind, pieces)) = KINDS.get(at) {
+    if let Some((kind, pieces)) = line_at(KINDS, at).split_once(' ') {
         add_pieces(random, pieces, &mut payload);
         damage(random, &mut payload, 0);
         let len = u32::try_from(payload.len()).unwrap_or(0);
         push(input, &len.saturating_add(1).to_be_bytes());
-        push(input, &[*kind]);
+        add_digits(input, kind);
         push(input, payload.as_slice());
     }
     drop(payload);

@@ -15,10 +15,11 @@ use Rattle.sqlite_trees.specs.declared.store.Store.{Ghosts}
 use Rattle.mvd_replica.specs.declared.replica.Replica.{Replica}
 use Rattle.mvd_replica.specs.Batch.{AnswersAll, asks_change, changes_asked}
 use Rattle.mvd_replica.specs.Groups.{AllComeTo}
-use Rattle.mvd_replica.specs.ReplicaCalls.{Answers, AnswersEach, AnswersSome, ChangesNothing, CountsCommits, CountsPut}
+use Rattle.mvd_replica.specs.ReplicaCalls.{Answers, AnswersEach, AnswersSome, ChangesNothing, CountsCommits, CountsPut, StaysStill}
 use Rattle.mvd_replica.specs.Replicas.{CountsChange, StoredSite, commits_of, next_count, site_of, stored_of}
 use Rattle.mvd_replica.proofs.Grouping.{asked_more, changes_few, pairs_none}
 use Rattle.mvd_replica.proofs.Putting.{still_end}
+use Rattle.mvd_replica.proofs.Still.{still_same}
 
 module _ {S : Type 0} {g : Ghosts S} where
   -- ---- one request
@@ -88,20 +89,21 @@ module _ {S : Type 0} {g : Ghosts S} where
 
   -- all of the requests, or the first of them, one after the other
   pub some_each : (requests : List Request) (n : ℕ) (before after : List Reply) (old new : Replica S g) → 0 < n → n ≤ length requests → AnswersEach old (take n requests) before after new →
-      CountsCommits (take n requests) old new → AnswersSome old requests before after new
-  some_each requests n before after old new some within it counts =
-      (record { count = n; some = some; within = within; replies = it.0; appended = it.1; answers = it.2 }, counts)
+      CountsCommits (take n requests) old new → StaysStill (take n requests) old new → AnswersSome old requests before after new
+  some_each requests n before after old new some within it counts still =
+      (record { count = n; some = some; within = within; replies = it.0; appended = it.1; answers = it.2 }, counts, still)
 
   pub some_all : (requests : List Request) (before after : List Reply) (old new : Replica S g) → 0 < length requests → AnswersEach old requests before after new → CountsCommits requests old new →
-      AnswersSome old requests before after new
-  some_all requests before after old new some it counts =
+      StaysStill requests old new → AnswersSome old requests before after new
+  some_all requests before after old new some it counts still =
       let all : requests ≡ take (length requests) requests = sym (take_all (length requests) requests (omega arith)) in
       some_each requests (length requests) before after old new some (omega arith) (subst (λ l. AnswersEach old l before after new) all it) (subst (λ l. CountsCommits l old new) all counts)
+      (subst (λ l. StaysStill l old new) all still)
 
   -- from a replica that shows the same
-  pub some_same : (requests : List Request) (before after : List Reply) (old same new : Replica S g) → stored_of same ≡ stored_of old → commits_of same ≡ commits_of old → AnswersSome same requests before after new →
+  pub some_same : (requests : List Request) (before after : List Reply) (old same new : Replica S g) → same ≡ old → stored_of same ≡ stored_of old → commits_of same ≡ commits_of old → AnswersSome same requests before after new →
       AnswersSome old requests before after new
-  some_same requests before after old same new shown counts it = (
+  some_same requests before after old same new is shown counts it = (
     record {
       count = it.0.count;
       some = it.0.some;
@@ -117,4 +119,5 @@ module _ {S : Type 0} {g : Ghosts S} where
       most = omega (arith, it.1.most, counts);
       least = omega (arith, it.1.least, counts);
     },
+    still_same (take it.0.count requests) old same new is it.2,
   )

@@ -1,6 +1,7 @@
 -- What each call of a replica does: one relation for a call, over the replica before it, what it was called with, what it returned,
 -- and the replica after it.
 use Rattle.std.specs.Prelude.{◌≡◌, ◌≢◌, ◌⊎◌, ◌<◌, ◌≤◌, ◌+◌, ◌-◌, ◌^◌, Bool, false, true, ℕ, List, [], ◌∷◌, ◌++◌, length, min, take, Option, Vec, Result, Ok, Err, IfErr, IfOk, OnOk, MatchResult}
+use Rattle.std.specs.List.{AllByRecursion}
 use Rattle.std.specs.declared.alloc.Global.{Global}
 use Rattle.mvd_dots.specs.Answer.{IsAnswer}
 use Rattle.mvd_dots.specs.declared.refusals.Refusal.{Refusal}
@@ -243,6 +244,10 @@ module _ {S : Type 0} {g : Ghosts S} where
     pub most : CountsUpTo count old new
     pub least : min (commits_of old + count) (2 ^ 64 - 1) ≤ commits_of new
 
+  -- requests that each would change nothing leave all as it was
+  abbrev pub StaysStill : List Request → Replica S g → Replica S g → Type 0
+  StaysStill requests old new = AllByRecursion (ChangesNothing (site_of old)) requests → new ≡ old
+
   -- requests one after the other
   pub record AnswersMany (old : Replica S g) (requests : List Request) (result : Result (Vec Reply Global) Refusal)
       (new : Replica S g) : Type 0 where
@@ -250,13 +255,16 @@ module _ {S : Type 0} {g : Ghosts S} where
     pub answers : IfOk result (λ replies. AnswersAll requests replies.items (stored_of old) (stored_of new))
     -- it counts at most one commit for each request for a change, and at least one unless the site is as it was
     pub counts : CountsCommits requests old new
+    -- what would change nothing leaves all as it was
+    pub still : StaysStill requests old new
     -- the call itself is refused for want of memory alone, and then nothing was done
     pub memory : IfErr result (λ refusal. (refusal ≡ Memory) × (new ≡ old))
 
   -- some of the requests, from the first on, whose replies stand behind those before
   abbrev pub AnswersSome : Replica S g → List Request → List Reply → List Reply → Replica S g → Type 0
   AnswersSome old requests before after new =
-      (front : AnswersFront requests before after (stored_of old) (stored_of new)) × CountsCommits (take front.count requests) old new
+      (front : AnswersFront requests before after (stored_of old) (stored_of new))
+      × CountsCommits (take front.count requests) old new × StaysStill (take front.count requests) old new
 
   -- all of them
   abbrev pub AnswersEach : Replica S g → List Request → List Reply → List Reply → Replica S g → Type 0

@@ -1,10 +1,11 @@
 use Rattle.std.proofs.Common.{ap, length, take, refl, sym, subst, arith}
 use Rattle.std.proofs.lemmas.List.{take_all}
 use Rattle.sqlite.specs.Held.{state}
-use Rattle.mvd_replica.specs.ReplicaCalls.{AnswersSome, CountsCommits}
+use Rattle.mvd_replica.specs.ReplicaCalls.{AnswersSome, CountsCommits, StaysStill}
 use Rattle.mvd_replica.proofs.Positions.{AnswersAll}
 use Rattle.mvd_replica.proofs.Batched.{AnswersAll-none, front_answers, front_grows, front_taken, front_within, rest_of}
 use Rattle.mvd_replica.proofs.Counting.{counts_same, counts_then}
+use Rattle.mvd_replica.proofs.Still.{still_then}
 use Rattle.mvd_replica.proofs.replica.Replica.answer_all.Goals as goal
 
 pub groups-init : goal.groups-init
@@ -17,6 +18,7 @@ groups-init g c =
       within = omega (arith, ap length none);
       room = c.in_ok-replies.ensures.capacity;
       counts = counts_same (take (length c.in_ok-replies.replies.items) c.args.requests.now) c.args.self.now c.args.self.now refl refl;
+      still = λ _. refl;
     }
 
 pub groups-preserved : goal.groups-preserved
@@ -40,6 +42,9 @@ groups-preserved g c =
       counts = subst (λ r. CountsCommits r c.args.self.now c.answer_front.new.self)
           (front_taken requests told given old mid new before between after c.groups.invariant.within c.groups.invariant.answers front)
           (counts_then _ _ c.args.self.now c.groups.self c.answer_front.new.self c.groups.invariant.counts some.1);
+      still = subst (λ r. StaysStill r c.args.self.now c.answer_front.new.self)
+          (front_taken requests told given old mid new before between after c.groups.invariant.within c.groups.invariant.answers front)
+          (still_then _ _ c.args.self.now c.groups.self c.answer_front.new.self c.groups.invariant.still some.2);
     }
 
 pub groups-smaller : goal.groups-smaller
@@ -60,5 +65,6 @@ returns g c =
       answers = subst (λ l. AnswersAll l c.groups.replies.items c.args.self.now.site c.groups.self.site (state g.S.Store c.args.self.now.records.conn) (state g.S.Store c.groups.self.records.conn))
           all c.groups.invariant.answers;
       counts = subst (λ l. CountsCommits l c.args.self.now c.groups.self) all c.groups.invariant.counts;
+      still = subst (λ l. StaysStill l c.args.self.now c.groups.self) all c.groups.invariant.still;
       memory = tt;
     }

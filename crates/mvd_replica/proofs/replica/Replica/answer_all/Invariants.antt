@@ -1,6 +1,6 @@
 use Rattle.std.proofs.Common.{◌-◌, ◌≤◌, length, take, vec_capacity}
 use Rattle.sqlite.specs.Held.{state}
-use Rattle.mvd_replica.specs.ReplicaCalls.{CountsCommits}
+use Rattle.mvd_replica.specs.ReplicaCalls.{CountsCommits, StaysStill}
 use Rattle.mvd_replica.proofs.Positions.{AnswersAll}
 use Rattle.mvd_replica.proofs.replica.Replica.answer_all.Given as goal
 
@@ -14,4 +14,5 @@ invariant-groups g l = record {
   within : length l.replies.items ≤ length l.requests;
   room : length l.requests ≤ vec_capacity l.replies;
   counts : CountsCommits (take (length l.replies.items) l.requests) l.initial.self l.self;
+  still : StaysStill (take (length l.replies.items) l.requests) l.initial.self l.self;
 }

@@ -2,8 +2,9 @@ use Rattle.std.proofs.Common.{◌∙◌, ◌++◌, ◌∷◌, [], take, refl, sy
 use Rattle.std.proofs.lemmas.List.{take_all, take_more}
 use Rattle.sqlite.specs.Held.{state}
 use Rattle.mvd_replica.proofs.Positions.{AnswersAll}
-use Rattle.mvd_replica.specs.ReplicaCalls.{CountsCommits}
+use Rattle.mvd_replica.specs.ReplicaCalls.{CountsCommits, StaysStill}
 use Rattle.mvd_replica.proofs.Counting.{counts_answer, counts_same, counts_then}
+use Rattle.mvd_replica.proofs.Still.{still_then}
 use Rattle.mvd_replica.proofs.Batched.{AnswersAll-answered, AnswersAll-append, AnswersAll-none}
 use Rattle.mvd_replica.proofs.replica.Replica.answer_each.Goals as goal
 
@@ -13,6 +14,7 @@ loop-request-init g c = record {
   count = omega arith;
   room = refl;
   counts = counts_same [] c.args.self.now c.args.self.now refl refl;
+  still = λ _. refl;
 }
 
 pub push_reserved-requires : goal.push_reserved-requires
@@ -41,6 +43,9 @@ loop-request-preserved g c =
       counts = subst (λ l. CountsCommits l c.args.self.now c.answer-reply.new.self) next
           (counts_then (take i requests) (c.request-item.result ∷ []) c.args.self.now c.loop-request.self c.answer-reply.new.self c.loop-request.invariant.counts
           (counts_answer c.loop-request.self c.answer-reply.new.self c.request-item.result c.answer-reply.result c.answer-reply.ensures));
+      still = subst (λ l. StaysStill l c.args.self.now c.answer-reply.new.self) next
+          (still_then (take i requests) (c.request-item.result ∷ []) c.args.self.now c.loop-request.self c.answer-reply.new.self c.loop-request.invariant.still
+          (λ each. c.answer-reply.ensures.still each.0));
     }
 
 pub returns-clause-answers : goal.returns-clause-answers
@@ -55,3 +60,7 @@ returns-clause-answers g c =
 pub returns-clause-counts : goal.returns-clause-counts
 returns-clause-counts g c =
     subst (λ l. CountsCommits l c.args.self.now c.loop-request.self) (take_all c.loop-request.request-index c.args.requests.now c.loop-request-test.false) c.loop-request.invariant.counts
+
+pub returns-clause-still : goal.returns-clause-still
+returns-clause-still g c =
+    subst (λ l. StaysStill l c.args.self.now c.loop-request.self) (take_all c.loop-request.request-index c.args.requests.now c.loop-request-test.false) c.loop-request.invariant.still

@@ -12,6 +12,7 @@ use Rattle.mvd_wire.specs.Replies.{CanBeSent}
 use Rattle.mvd_records.specs.Records.{IsSound}
 use Rattle.mvd_site.specs.FromStates.{after_from}
 use Rattle.mvd_site.specs.Known.{Adds}
+use Rattle.mvd_site.specs.Prepared.{IsFrugal}
 use Rattle.mvd_site.specs.Sites.{SiteValue}
 use Rattle.mvd_peer.specs.Sides.{SiteFollows}
 use Rattle.mvd_restore.specs.Kept.{HoldsSite, HoldsStates}
@@ -35,12 +36,13 @@ changes_asked (request ∷ requests) = asks_change request + changes_asked reque
 
 -- ---- the site, turn by turn
 
--- What one request does to a site, from its states alone: a broken site refuses it and stays as it is. The reply can be sent, and
--- there are writes that the request adds
+-- What one request does to a site, from its states alone: a broken site refuses it and stays as it is. A request that takes no
+-- memory is not told want of it. The reply can be sent, and there are writes that the request adds
 pub record AnswersOneFrom (old new : SiteValue) (request : Request) (reply : Reply) : Type 0 where
   pub whole : AnswersFromStored old new request reply
   pub broken : old.broken ≡ true → (reply ≡ Refused Broken) × (new ≡ old)
   pub told : reply ≡ Refused Broken → new.broken ≡ true
+  pub frugal : IsFrugal old.states request → reply ≢ Refused Memory
   pub fits : CanBeSent reply
   pub choice : (added : List Write) × Adds request reply added
 

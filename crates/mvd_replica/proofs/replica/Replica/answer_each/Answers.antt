@@ -29,7 +29,7 @@ loop-request-preserved g c =
     let one = AnswersAll-answered c.loop-request.self.site c.answer-reply.new.self.site (state g.S.Store c.loop-request.self.records.conn) (state g.S.Store c.answer-reply.new.self.records.conn) c.request-item.result c.answer-reply.result
     c.answer-reply.ensures.states c.answer-reply.ensures.choice c.answer-reply.ensures.config c.answer-reply.ensures.fits c.answer-reply.ensures.told c.answer-reply.ensures.broken
     (λ broken. ap (λ r. r.site) (c.answer-reply.ensures.stays broken)) (λ broken. ap (λ r. (state g.S.Store r.records.conn).committed) (c.answer-reply.ensures.stays broken))
-    c.answer-reply.ensures.before c.answer-reply.ensures.records c.answer-reply.ensures.clean c.answer-reply.ensures.taken c.answer-reply.ensures.stored c.answer-reply.ensures.leaves in
+    c.answer-reply.ensures.before c.answer-reply.ensures.records c.answer-reply.ensures.clean c.answer-reply.ensures.taken c.answer-reply.ensures.stored c.answer-reply.ensures.leaves c.answer-reply.ensures.frugal in
     record {
       answers = (
         it.0 ++ c.answer-reply.result ∷ [],

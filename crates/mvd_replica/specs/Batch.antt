@@ -1,5 +1,5 @@
 -- Many requests at once, whose changes share commits.
-use Rattle.std.specs.Prelude.{◌≡◌, ◌≢◌, ◌⊎◌, ⊤, ℕ, ◌<◌, ◌≤◌, ◌+◌, false, true, List, [], ◌∷◌, ◌++◌, length, map, take, Result, Ok, Err}
+use Rattle.std.specs.Prelude.{◌≡◌, ◌≢◌, ◌⊎◌, ⊤, Bool, ℕ, ◌<◌, ◌≤◌, ◌+◌, false, true, List, [], ◌∷◌, ◌++◌, length, map, take, Result, Ok, Err}
 use Rattle.std.specs.List.{AllByRecursion}
 use Rattle.mvd_dots.specs.declared.refusals.Refusal.{Refusal}
 use Rattle.mvd_dots.specs.declared.refusals.Refusal.TheVariants.{Broken, Memory}
@@ -33,6 +33,20 @@ asks_change request = 0
 abbrev pub changes_asked : List Request → ℕ
 changes_asked [] = 0
 changes_asked (request ∷ requests) = asks_change request + changes_asked requests
+
+-- and how many of those were told that it is done
+abbrev pub done_by : Request → Reply → ℕ
+done_by request (Refused refusal) = 0
+done_by request reply = asks_change request
+
+abbrev pub changes_done : List Request → List Reply → ℕ
+changes_done (request ∷ requests) (reply ∷ replies) = done_by request reply + changes_done requests replies
+changes_done requests replies = 0
+
+-- 1 where a site broke, and else 0
+abbrev pub broke : Bool → Bool → ℕ
+broke false true = 1
+broke before after = 0
 
 -- ---- the site, turn by turn
 

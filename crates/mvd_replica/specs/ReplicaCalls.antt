@@ -31,7 +31,7 @@ use Rattle.sqlite.specs.Held.{Held, state}
 use Rattle.sqlite.specs.State.{IsLive, Survives}
 use Rattle.sqlite_trees.specs.declared.store.Store.{Ghosts}
 use Rattle.mvd_replica.specs.declared.replica.Replica.{Replica}
-use Rattle.mvd_replica.specs.Batch.{AnswersAll, AnswersFront, changes_asked}
+use Rattle.mvd_replica.specs.Batch.{AnswersAll, AnswersFront, broke, changes_asked, changes_done}
 use Rattle.mvd_restore.specs.Kept.{HoldsSite, HoldsStates, Stores}
 use Rattle.mvd_replica.specs.Opened.{IsOpened, IsRefused}
 use Rattle.mvd_replica.specs.Replicas.{CountsChange, CountsUpTo, KeepsCommit, RecordsFollow, TakesIfOpen, WasClean, WasSound, commits_of, committed_of, conn_of, next_count, site_of, store_of, stored_of}
@@ -235,10 +235,11 @@ module _ {S : Type 0} {g : Ghosts S} where
 
   -- ---- answer_all
 
-  -- As many commits were made: at most one for each request for a change, and at least one unless the site is as it was. They are
-  -- counted, up to the greatest number
-  pub record CountsCommits (requests : List Request) (old new : Replica S g) : Type 0 where
+  -- So many commits are counted, up to the greatest number: at most one for each request for a change that was told done, and one
+  -- more where the site broke; at most one for each request for a change; and at least one unless the site is as it was
+  pub record CountsCommits (requests : List Request) (replies : List Reply) (old new : Replica S g) : Type 0 where
     pub count : ℕ
+    pub done : count ≤ changes_done requests replies + broke (site_of old).broken (site_of new).broken
     pub within : count ≤ changes_asked requests
     pub some : (site_of new ≡ site_of old) ⊎ (0 < count)
     pub most : CountsUpTo count old new
@@ -253,8 +254,8 @@ module _ {S : Type 0} {g : Ghosts S} where
       (new : Replica S g) : Type 0 where
     -- each request has its reply, as one turn after the other
     pub answers : IfOk result (λ replies. AnswersAll requests replies.items (stored_of old) (stored_of new))
-    -- it counts at most one commit for each request for a change, and at least one unless the site is as it was
-    pub counts : CountsCommits requests old new
+    -- it counts no commit for a request that was refused, but one where the site broke; and at least one unless the site is as it was
+    pub counts : IfOk result (λ replies. CountsCommits requests replies.items old new)
     -- what would change nothing leaves all as it was
     pub still : StaysStill requests old new
     -- the call itself is refused for want of memory alone, and then nothing was done
@@ -264,9 +265,10 @@ module _ {S : Type 0} {g : Ghosts S} where
   abbrev pub AnswersSome : Replica S g → List Request → List Reply → List Reply → Replica S g → Type 0
   AnswersSome old requests before after new =
       (front : AnswersFront requests before after (stored_of old) (stored_of new))
-      × CountsCommits (take front.count requests) old new × StaysStill (take front.count requests) old new
+      × CountsCommits (take front.count requests) front.replies old new × StaysStill (take front.count requests) old new
 
   -- all of them
   abbrev pub AnswersEach : Replica S g → List Request → List Reply → List Reply → Replica S g → Type 0
   AnswersEach old requests before after new =
-      (told : List Reply) × (after ≡ before ++ told) × AnswersAll requests told (stored_of old) (stored_of new)
+      (told : List Reply) × (after ≡ before ++ told)
+      × AnswersAll requests told (stored_of old) (stored_of new) × CountsCommits requests told old new

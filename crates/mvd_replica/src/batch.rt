@@ -1,6 +1,6 @@
 //! Many requests at once, whose changes share commits.
 ghost use Rattle.std.specs.Prelude.{◌≡◌, ◌≤◌, ◌<◌, ◌+◌, length, vec_capacity};
-ghost use Rattle.mvd_replica.specs.ReplicaCalls.{AnswersEach, AnswersMany, AnswersSome, CountsCommits, StaysStill};
+ghost use Rattle.mvd_replica.specs.ReplicaCalls.{AnswersEach, AnswersMany, AnswersSome, StaysStill};
 
 use crate::groups::{counted, prepare_all, refuse_all, store_all};
 use crate::replica::Replica;
@@ -56,7 +56,6 @@ impl<S: Alter> Replica<S> {
         requires room { length replies.old.items + length requests.now ≤ vec_capacity replies.old }
         ensures answers { AnswersEach self.old requests.now replies.old.items replies.new.items self.new }
         ensures room { vec_capacity replies.new ≡ vec_capacity replies.old }
-        ensures counts { CountsCommits requests.now self.old self.new }
         ensures still { StaysStill requests.now self.old self.new }
     {
         for request in requests {

@@ -13,6 +13,6 @@ invariant-groups g l = record {
   answers : AnswersAll (take (length l.replies.items) l.requests) l.replies.items l.initial.self.site l.self.site (state g.S.Store l.initial.self.records.conn) (state g.S.Store l.self.records.conn);
   within : length l.replies.items ≤ length l.requests;
   room : length l.requests ≤ vec_capacity l.replies;
-  counts : CountsCommits (take (length l.replies.items) l.requests) l.initial.self l.self;
+  counts : CountsCommits (take (length l.replies.items) l.requests) l.replies.items l.initial.self l.self;
   still : StaysStill (take (length l.replies.items) l.requests) l.initial.self l.self;
 }

@@ -23,7 +23,7 @@ install_all-requires-clause-fresh g c whole =
 -- a broken site answers each
 pub returns-then-is_broken-clause-answers : goal.returns-then-is_broken-clause-answers
 returns-then-is_broken-clause-answers g c =
-    some_all c.args.requests.now c.args.replies.now.items c.answer_each.new.replies.items c.args.self.now c.answer_each.new.self c.requires.some c.answer_each.ensures.answers c.answer_each.ensures.counts c.answer_each.ensures.still
+    some_all c.args.requests.now c.args.replies.now.items c.answer_each.new.replies.items c.args.self.now c.answer_each.new.self c.requires.some c.answer_each.ensures.answers c.answer_each.ensures.still
 
 pub returns-in-Ok-store_all-clause-answers : goal.returns-in-Ok-store_all-clause-answers
 returns-in-Ok-store_all-clause-answers g c =
@@ -80,7 +80,7 @@ returns-in-Err-store_all g c =
               (λ trees is_open may. g.met.S.Store.settled c.store_all.new.records.conn.store trees is_open may)
               (subst (λ l. Survives before after (LeavesPairs before (pairs_in l))) c.deref.ensures.value c.in-Err-store_all.ensures.survives);
         },
-        counts_same requests _ _ refl refl,
+        counts_same requests _ _ _ refl refl,
         λ still. (
             let none = none_changed old requests group together.each still in
             same_replica _ c.args.self.now refl (c.in-Err-store_all.ensures.still (ap pairs_in c.deref.ensures.value ∙ pairs_none group none)) refl),
@@ -92,7 +92,7 @@ returns-in-Err-store_all g c =
 pub returns-in-Err-clause-answers : goal.returns-in-Err-clause-answers
 returns-in-Err-clause-answers g c =
     some_each c.args.requests.now 1 c.args.replies.now.items c.answer_each-in-Err.new.replies.items c.args.self.now c.answer_each-in-Err.new.self (omega arith) c.requires.some
-    c.answer_each-in-Err.ensures.answers c.answer_each-in-Err.ensures.counts c.answer_each-in-Err.ensures.still
+    c.answer_each-in-Err.ensures.answers c.answer_each-in-Err.ensures.still
 
 -- no memory for what is to be stored: each of them
 pub returns-in-Err-Memory-clause-answers : goal.returns-in-Err-Memory-clause-answers
@@ -108,4 +108,4 @@ returns-in-Err-Memory-clause-answers g c =
     some_same c.args.requests.now c.args.replies.now.items new.replies.items old _ new.self (same_replica _ old refl same refl) (ap (λ r. stored_by g.S.Store old.site r.conn) same) refl
     (some_each c.args.requests.now c.len-count.result c.args.replies.now.items new.replies.items _ new.self
     (omega (arith, some, c.len-count.ensures, c.in-Ok.group.ok.0)) (omega (arith, within, c.len-count.ensures, c.in-Ok.group.ok.0))
-    c.answer_each-in-Err-Memory.ensures.answers c.answer_each-in-Err-Memory.ensures.counts c.answer_each-in-Err-Memory.ensures.still)
+    c.answer_each-in-Err-Memory.ensures.answers c.answer_each-in-Err-Memory.ensures.still)

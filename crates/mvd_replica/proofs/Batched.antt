@@ -248,7 +248,7 @@ AnswersAll-answered old new before after request reply states choice config fits
 
 -- ---- the first of some requests, and those after them
 
-pub length_replies : (requests : List Request) (replies : List Reply) (old new : SiteValue) (before after : State) → AnswersAll requests replies old new before after → length replies ≡ length requests
+length_replies : (requests : List Request) (replies : List Reply) (old new : SiteValue) (before after : State) → AnswersAll requests replies old new before after → length replies ≡ length requests
 length_replies requests replies old new before after all =
     ap length (sym all.told) ∙ length-map all.turns (λ (t : Turn). t.reply) ∙ sym (length-map all.turns (λ (t : Turn). t.asked)) ∙ ap length all.asked ∙ length-map requests (λ (r : Request). Ok r)
 

@@ -257,7 +257,7 @@ pairs_none (Answer reply ∷ group) none = pairs_none group (omega (arith, none)
 pairs_none (Change change ∷ group) none = absurd (omega (arith, none))
 
 -- what a request comes to is a change only where it asks for one
-pub asks_for : (m : States) (request : Request) (reply : Reply) (c : Key × Keyed) → change_from m request reply ≡ Some c → asks_change request ≡ 1
+asks_for : (m : States) (request : Request) (reply : Reply) (c : Key × Keyed) → change_from m request reply ≡ Some c → asks_change request ≡ 1
 asks_for m (Put own seen document) reply c is = refl
 asks_for m (Delete own seen) reply c is = refl
 asks_for m (Push own pushed) reply c is = refl

@@ -126,12 +126,12 @@ module _ (old new : SiteValue) (request : Request) where
       (λ _ bad. true≢false (sym (ap is_refusal (sym puts.0 ∙ bad)) ∙ (change_plain change.dot).accepts))
   one_puts (Change change) reply was comes sendable (inr puts) = one_breaks change reply was puts.0 puts.1 comes.0
 
-  one_answers : (prepared : Prepared) (reply : Reply) (was : Bool) → old.broken ≡ was → (old.broken ≡ false → ComesTo old.config old.states request prepared) → IsSendable request prepared → PutsIfWhole old new prepared reply →
+  pub one_answers : (prepared : Prepared) (reply : Reply) (was : Bool) → old.broken ≡ was → (old.broken ≡ false → ComesTo old.config old.states request prepared) → IsSendable request prepared → PutsIfWhole old new prepared reply →
       AnswersOneFrom old new request reply
   one_answers prepared reply true was comes sendable puts = one_broken reply was (puts.broken was).0 (puts.broken was).1
   one_answers prepared reply false was comes sendable puts = one_puts prepared reply was (comes was) sendable (puts.whole was)
 
-ordered_after : (old mid : SiteValue) (prepared : Prepared) (reply : Reply) (requests : List Request) (group : List Prepared) → PutsIfWhole old mid prepared reply →
+pub ordered_after : (old mid : SiteValue) (prepared : Prepared) (reply : Reply) (requests : List Request) (group : List Prepared) → PutsIfWhole old mid prepared reply →
     (old.broken ≡ false → ComeInOrder old.config (with_prepared old.states prepared) requests group) → mid.broken ≡ false → ComeInOrder mid.config mid.states requests group
 ordered_after old mid prepared reply requests group puts ordered whole =
     let was : old.broken ≡ false = was_whole old mid prepared reply old.broken refl puts whole in

@@ -50,7 +50,3 @@ module _ {S : Type 0} {g : Ghosts S} where
   still_then first second old mid new one other each =
       let same : mid ≡ old = one (still_before (ChangesNothing (site_of old)) first second each) in
       other (subst (λ (r : Replica S g). AllByRecursion (ChangesNothing (site_of r)) second) (sym same) (still_after (ChangesNothing (site_of old)) first second each)) ∙ same
-
-  -- from a replica that is the same
-  pub still_same : (requests : List Request) (old same new : Replica S g) → same ≡ old → StaysStill requests same new → StaysStill requests old new
-  still_same requests old same new is it = subst (λ (r : Replica S g). StaysStill requests r new) is it

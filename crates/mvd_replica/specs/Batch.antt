@@ -1,5 +1,5 @@
 -- Many requests at once, whose changes share commits.
-use Rattle.std.specs.Prelude.{◌≡◌, ◌≢◌, ◌⊎◌, ⊤, Bool, ℕ, ◌<◌, ◌≤◌, ◌+◌, false, true, List, [], ◌∷◌, ◌++◌, length, map, take, Result, Ok, Err}
+use Rattle.std.specs.Prelude.{◌≡◌, ◌≢◌, ◌⊎◌, ⊤, ℕ, ◌<◌, ◌≤◌, ◌+◌, false, true, List, [], ◌∷◌, ◌++◌, length, map, take, Result, Ok, Err}
 use Rattle.std.specs.List.{AllByRecursion}
 use Rattle.mvd_dots.specs.declared.refusals.Refusal.{Refusal}
 use Rattle.mvd_dots.specs.declared.refusals.Refusal.TheVariants.{Broken, Memory}
@@ -34,20 +34,6 @@ abbrev pub changes_asked : List Request → ℕ
 changes_asked [] = 0
 changes_asked (request ∷ requests) = asks_change request + changes_asked requests
 
--- and how many of those were told that it is done
-abbrev pub done_by : Request → Reply → ℕ
-done_by request (Refused refusal) = 0
-done_by request reply = asks_change request
-
-abbrev pub changes_done : List Request → List Reply → ℕ
-changes_done (request ∷ requests) (reply ∷ replies) = done_by request reply + changes_done requests replies
-changes_done requests replies = 0
-
--- 1 where a site broke, and else 0
-abbrev pub broke : Bool → Bool → ℕ
-broke false true = 1
-broke before after = 0
-
 -- ---- the site, turn by turn
 
 -- What one request does to a site, from its states alone: a broken site refuses it and stays as it is. A request that takes no
@@ -69,6 +55,16 @@ TakesFrom old new (Err fault) reply = ((reply ≡ Refused fault) ⊎ (reply ≡ 
 abbrev pub TakesAllFrom : SiteValue → SiteValue → List Turn → Type 0
 TakesAllFrom old new [] = new ≡ old
 TakesAllFrom old new (turn ∷ turns) = (mid : SiteValue) × TakesFrom old mid turn.asked turn.reply × TakesAllFrom mid new turns
+
+-- a turn counts no commit, or one where it changed the site
+abbrev pub MayCount : SiteValue → SiteValue → ℕ → ℕ → Type 0
+MayCount old new count rest = (count ≡ rest) ⊎ ((new ≢ old) × (count ≡ rest + 1))
+
+-- turns that do so, one after the other, count so many
+abbrev pub CountsAlong : SiteValue → SiteValue → List Turn → ℕ → Type 0
+CountsAlong old new [] count = (new ≡ old) × (count ≡ 0)
+CountsAlong old new (turn ∷ turns) count =
+    (mid : SiteValue) × (rest : ℕ) × TakesFrom old mid turn.asked turn.reply × MayCount old mid count rest × CountsAlong mid new turns rest
 
 -- ---- the records
 

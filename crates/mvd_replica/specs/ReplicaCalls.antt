@@ -1,6 +1,6 @@
 -- What each call of a replica does: one relation for a call, over the replica before it, what it was called with, what it returned,
 -- and the replica after it.
-use Rattle.std.specs.Prelude.{◌≡◌, ◌≢◌, ◌⊎◌, ◌<◌, ◌≤◌, ◌+◌, ◌-◌, ◌^◌, Bool, false, true, ℕ, List, [], ◌∷◌, ◌++◌, length, min, take, Option, Vec, Result, Ok, Err, IfErr, IfOk, OnOk, MatchResult}
+use Rattle.std.specs.Prelude.{◌≡◌, ◌≢◌, ◌⊎◌, ◌<◌, ◌≤◌, ◌+◌, ◌-◌, ◌^◌, Bool, false, true, ℕ, List, [], ◌∷◌, ◌++◌, length, map, min, take, Option, Vec, Result, Ok, Err, IfErr, IfOk, OnOk, MatchResult}
 use Rattle.std.specs.List.{AllByRecursion}
 use Rattle.std.specs.declared.alloc.Global.{Global}
 use Rattle.mvd_dots.specs.Answer.{IsAnswer}
@@ -31,13 +31,13 @@ use Rattle.sqlite.specs.Held.{Held, state}
 use Rattle.sqlite.specs.State.{IsLive, Survives}
 use Rattle.sqlite_trees.specs.declared.store.Store.{Ghosts}
 use Rattle.mvd_replica.specs.declared.replica.Replica.{Replica}
-use Rattle.mvd_replica.specs.Batch.{AnswersAll, AnswersFront, broke, changes_asked, changes_done}
+use Rattle.mvd_replica.specs.Batch.{AnswersAll, AnswersFront, CountsAlong, changes_asked}
 use Rattle.mvd_restore.specs.Kept.{HoldsSite, HoldsStates, Stores}
 use Rattle.mvd_replica.specs.Opened.{IsOpened, IsRefused}
 use Rattle.mvd_replica.specs.Replicas.{CountsChange, CountsUpTo, KeepsCommit, RecordsFollow, TakesIfOpen, WasClean, WasSound, commits_of, committed_of, conn_of, next_count, site_of, store_of, stored_of}
 use Rattle.mvd_replica.specs.Sides.{AnswersFromStored, ReplicaFollows}
 use Rattle.mvd_replica.specs.Stops.{LeavesAnswered, LeavesChange}
-use Rattle.mvd_replica.specs.Turns.{AnswersStored, LeavesTurns}
+use Rattle.mvd_replica.specs.Turns.{AnswersStored, LeavesTurns, Turn}
 
 -- the request would change nothing
 abbrev pub ChangesNothing : SiteValue → Request → Type 0
@@ -235,11 +235,14 @@ module _ {S : Type 0} {g : Ghosts S} where
 
   -- ---- answer_all
 
-  -- So many commits are counted, up to the greatest number: at most one for each request for a change that was told done, and one
-  -- more where the site broke; at most one for each request for a change; and at least one unless the site is as it was
+  -- So many commits are counted, up to the greatest number: at most one at each turn that changed the site, and none at the others;
+  -- at most one for each request for a change; and at least one unless the site is as it was
   pub record CountsCommits (requests : List Request) (replies : List Reply) (old new : Replica S g) : Type 0 where
+    pub turns : List Turn
+    pub asked : map (λ turn. turn.asked) turns ≡ map (λ request. Ok request) requests
+    pub told : map (λ turn. turn.reply) turns ≡ replies
     pub count : ℕ
-    pub done : count ≤ changes_done requests replies + broke (site_of old).broken (site_of new).broken
+    pub along : CountsAlong (site_of old) (site_of new) turns count
     pub within : count ≤ changes_asked requests
     pub some : (site_of new ≡ site_of old) ⊎ (0 < count)
     pub most : CountsUpTo count old new
@@ -254,7 +257,7 @@ module _ {S : Type 0} {g : Ghosts S} where
       (new : Replica S g) : Type 0 where
     -- each request has its reply, as one turn after the other
     pub answers : IfOk result (λ replies. AnswersAll requests replies.items (stored_of old) (stored_of new))
-    -- it counts no commit for a request that was refused, but one where the site broke; and at least one unless the site is as it was
+    -- it counts a commit only at a turn that changed the site, and at least one unless the site is as it was
     pub counts : IfOk result (λ replies. CountsCommits requests replies.items old new)
     -- what would change nothing leaves all as it was
     pub still : StaysStill requests old new

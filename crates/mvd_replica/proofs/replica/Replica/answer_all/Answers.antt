@@ -1,10 +1,10 @@
-use Rattle.std.proofs.Common.{◌∙◌, ap, length, take, refl, sym, subst, subst₂, arith}
+use Rattle.std.proofs.Common.{ap, length, take, refl, sym, subst, subst₂, arith}
 use Rattle.std.proofs.lemmas.List.{take_all}
 use Rattle.sqlite.specs.Held.{state}
 use Rattle.mvd_replica.specs.ReplicaCalls.{AnswersSome, CountsCommits, StaysStill}
 use Rattle.mvd_replica.proofs.Positions.{AnswersAll}
-use Rattle.mvd_replica.proofs.Batched.{AnswersAll-none, front_answers, front_grows, front_taken, front_within, length_replies, rest_of}
-use Rattle.mvd_replica.proofs.Counting.{counts_same, counts_then}
+use Rattle.mvd_replica.proofs.Batched.{AnswersAll-none, front_answers, front_grows, front_taken, front_within, rest_of}
+use Rattle.mvd_replica.proofs.Counting.{counts_none, counts_then}
 use Rattle.mvd_replica.proofs.Still.{still_then}
 use Rattle.mvd_replica.proofs.replica.Replica.answer_all.Goals as goal
 
@@ -17,7 +17,7 @@ groups-init g c =
       answers = subst (λ l. AnswersAll (take (length l) c.args.requests.now) l site site store store) (sym none) (AnswersAll-none site store);
       within = omega (arith, ap length none);
       room = c.in_ok-replies.ensures.capacity;
-      counts = counts_same (take (length c.in_ok-replies.replies.items) c.args.requests.now) c.in_ok-replies.replies.items c.args.self.now c.args.self.now refl refl;
+      counts = subst (λ l. CountsCommits (take (length l) c.args.requests.now) l c.args.self.now c.args.self.now) (sym none) (counts_none c.args.self.now);
       still = λ _. refl;
     }
 
@@ -42,11 +42,7 @@ groups-preserved g c =
       counts = subst₂ (λ r l. CountsCommits r l c.args.self.now c.answer_front.new.self)
           (front_taken requests told given old mid new before between after c.groups.invariant.within c.groups.invariant.answers front)
           (sym front.appended)
-          (counts_then _ _ told front.replies c.args.self.now c.groups.self c.answer_front.new.self
-          (length_replies (take (length told) requests) told old mid before between c.groups.invariant.answers)
-          (λ broken. ap (λ s. s.broken) (c.groups.invariant.answers.takes.follows.site.1 broken) ∙ broken)
-          (λ broken. ap (λ s. s.broken) (front.answers.takes.follows.site.1 broken) ∙ broken)
-          c.groups.invariant.counts some.1);
+          (counts_then _ _ told front.replies c.args.self.now c.groups.self c.answer_front.new.self c.groups.invariant.counts some.1);
       still = subst (λ r. StaysStill r c.args.self.now c.answer_front.new.self)
           (front_taken requests told given old mid new before between after c.groups.invariant.within c.groups.invariant.answers front)
           (still_then _ _ c.args.self.now c.groups.self c.answer_front.new.self c.groups.invariant.still some.2);

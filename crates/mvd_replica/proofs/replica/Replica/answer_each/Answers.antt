@@ -3,9 +3,9 @@ use Rattle.std.proofs.lemmas.List.{take_all, take_more}
 use Rattle.sqlite.specs.Held.{state}
 use Rattle.mvd_replica.proofs.Positions.{AnswersAll}
 use Rattle.mvd_replica.specs.ReplicaCalls.{CountsCommits, StaysStill}
-use Rattle.mvd_replica.proofs.Counting.{counts_answer, counts_same, counts_then}
+use Rattle.mvd_replica.proofs.Counting.{counts_answer, counts_none, counts_then}
 use Rattle.mvd_replica.proofs.Still.{still_then}
-use Rattle.mvd_replica.proofs.Batched.{AnswersAll-answered, AnswersAll-append, AnswersAll-none, length_replies}
+use Rattle.mvd_replica.proofs.Batched.{AnswersAll-answered, AnswersAll-append, AnswersAll-none}
 use Rattle.mvd_replica.proofs.replica.Replica.answer_each.Goals as goal
 
 pub loop-request-init : goal.loop-request-init
@@ -14,7 +14,7 @@ loop-request-init g c = record {
     [],
     sym (append-nil _),
     AnswersAll-none c.args.self.now.site (state g.S.Store c.args.self.now.records.conn),
-    counts_same [] [] c.args.self.now c.args.self.now refl refl,
+    counts_none c.args.self.now,
   );
   count = omega arith;
   room = refl;
@@ -43,9 +43,6 @@ loop-request-preserved g c =
             (AnswersAll-append (take i requests) (c.request-item.result ∷ []) it.0 (c.answer-reply.result ∷ []) _ _ _ _ _ _ it.2 one),
         subst (λ l. CountsCommits l (it.0 ++ c.answer-reply.result ∷ []) c.args.self.now c.answer-reply.new.self) next
             (counts_then (take i requests) (c.request-item.result ∷ []) it.0 (c.answer-reply.result ∷ []) c.args.self.now c.loop-request.self c.answer-reply.new.self
-            (length_replies (take i requests) it.0 _ _ _ _ it.2)
-            (λ broken. ap (λ s. s.broken) (it.2.takes.follows.site.1 broken) ∙ broken)
-            (λ broken. ap (λ r. r.site.broken) (c.answer-reply.ensures.stays broken) ∙ broken)
             it.3
             (counts_answer c.loop-request.self c.answer-reply.new.self c.request-item.result c.answer-reply.result c.answer-reply.ensures)),
       );

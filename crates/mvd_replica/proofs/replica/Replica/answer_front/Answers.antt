@@ -6,9 +6,8 @@ use Rattle.sqlite.specs.State.{Survives}
 use Rattle.mvd_dots.specs.declared.refusals.Refusal.TheVariants.{Memory, Store}
 use Rattle.mvd_site.specs.Installs.{changes_in}
 use Rattle.mvd_replica.specs.Groups.{pairs_in, reply_unstored}
-use Rattle.mvd_replica.specs.Replicas.{stored_by}
 use Rattle.mvd_replica.specs.Shared.{LeavesPairs}
-use Rattle.mvd_replica.proofs.Counting.{counts_group, counts_same, some_all, some_each, some_same}
+use Rattle.mvd_replica.proofs.Counting.{counts_group, counts_unstored, some_all, some_each, some_same}
 use Rattle.mvd_replica.proofs.Grouping.{may_all, pairs_none}
 use Rattle.mvd_replica.proofs.Putting.{still_end}
 use Rattle.mvd_replica.proofs.Still.{none_changed, same_replica}
@@ -48,7 +47,7 @@ returns-in-Ok-store_all-clause-answers g c =
             (λ trees is_open may. g.met.S.Store.settled c.store_all.new.records.conn.store trees is_open may)
             (subst (λ l. Survives before after (LeavesPairs before (pairs_in l))) c.deref.ensures.value c.in-Ok-store_all.ensures.survives);
       },
-      counts_group requests group it.0 _ _ whole together.each it.2
+      counts_group requests group it.0 _ _ whole together it.2
           (λ none. c.counted-self.ensures.none (ap changes_in c.deref-in-Ok-store_all.ensures.value ∙ none))
           (λ some. c.counted-self.ensures.one (subst (λ l. 0 < changes_in l) (sym c.deref-in-Ok-store_all.ensures.value) some)),
       λ still. (
@@ -80,7 +79,7 @@ returns-in-Err-store_all g c =
               (λ trees is_open may. g.met.S.Store.settled c.store_all.new.records.conn.store trees is_open may)
               (subst (λ l. Survives before after (LeavesPairs before (pairs_in l))) c.deref.ensures.value c.in-Err-store_all.ensures.survives);
         },
-        counts_same requests _ _ _ refl refl,
+        counts_unstored requests group c.args.self.now _ whole together.each together.sendable refl refl,
         λ still. (
             let none = none_changed old requests group together.each still in
             same_replica _ c.args.self.now refl (c.in-Err-store_all.ensures.still (ap pairs_in c.deref.ensures.value ∙ pairs_none group none)) refl),
@@ -105,7 +104,7 @@ returns-in-Err-Memory-clause-answers g c =
     let some = c.in-Ok.ensures.some c.requires.some in
     let within = c.in-Ok.ensures.count in
     let new = c.answer_each-in-Err-Memory.new in
-    some_same c.args.requests.now c.args.replies.now.items new.replies.items old _ new.self (same_replica _ old refl same refl) (ap (λ r. stored_by g.S.Store old.site r.conn) same) refl
+    some_same c.args.requests.now c.args.replies.now.items new.replies.items old _ new.self (same_replica _ old refl same refl)
     (some_each c.args.requests.now c.len-count.result c.args.replies.now.items new.replies.items _ new.self
     (omega (arith, some, c.len-count.ensures, c.in-Ok.group.ok.0)) (omega (arith, within, c.len-count.ensures, c.in-Ok.group.ok.0))
     c.answer_each-in-Err-Memory.ensures.answers c.answer_each-in-Err-Memory.ensures.still)

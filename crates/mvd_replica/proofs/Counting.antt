@@ -1,5 +1,5 @@
 -- How many commits the calls of a replica count.
-use Rattle.std.proofs.Common.{arith, ◌≡◌, ◌≢◌, ◌∙◌, ◌≤◌, ◌<◌, ◌+◌, ℕ, zero, suc, Bool, true, List, [], ◌∷◌, ◌++◌, false, Result, Ok, Err, map, refl, sym, ap, ap₂, subst, subst₂, inl, inr, true≢false, length, take}
+use Rattle.std.proofs.Common.{arith, ◌≡◌, ◌≢◌, ◌∙◌, ◌≤◌, ◌<◌, ◌+◌, ℕ, zero, suc, List, [], ◌∷◌, ◌++◌, false, Result, Ok, Err, map, refl, sym, ap, ap₂, subst, subst₂, inl, inr, true≢false, length, take}
 use Rattle.std.proofs.lemmas.List.{map-append, take_all}
 use Rattle.mvd_dots.specs.declared.refusals.Refusal.{Refusal}
 use Rattle.mvd_dots.specs.declared.refusals.Refusal.TheVariants.{Broken, Store}
@@ -157,16 +157,16 @@ module _ {S : Type 0} {g : Ghosts S} where
   pub counts_answer : (old new : Replica S g) (request : Request) (reply : Reply) → Answers old request reply new → CountsCommits (request ∷ []) (reply ∷ []) old new
   counts_answer old new request reply it = elim it.counts [
     | inl same ↦ record {
-        turns = record { asked = Ok request; reply = reply } ∷ [];
-        asked = refl;
-        told = refl;
-        count = 0;
-        along = (site_of new, 0, answers_one old new request reply it, inl refl, (refl, refl));
-        within = omega arith;
-        some = inl same.0;
-        most = omega (arith, same.1);
-        least = omega (arith, same.1);
-      }
+      turns = record { asked = Ok request; reply = reply } ∷ [];
+      asked = refl;
+      told = refl;
+      count = 0;
+      along = (site_of new, 0, answers_one old new request reply it, inl refl, (refl, refl));
+      within = omega arith;
+      some = inl same.0;
+      most = omega (arith, same.1);
+      least = omega (arith, same.1);
+    }
     | inr more ↦
         let asks : asks_change request ≡ 1 = asks_where old new request it.still more.0 in
         record {

@@ -1,5 +1,5 @@
 -- Requests that change nothing leave a replica as it was.
-use Rattle.std.proofs.Common.{arith, ◌≡◌, ◌∙◌, ◌+◌, ◌∷◌, [], ℕ, List, ◌++◌, refl, sym, ap, subst, get_or, ◌<◌, length, take}
+use Rattle.std.proofs.Common.{arith, ◌≡◌, ◌∙◌, ◌∷◌, [], List, ◌++◌, refl, sym, subst}
 use Rattle.std.specs.List.{AllByRecursion}
 use Rattle.std.proofs.Props.{props}
 use Rattle.mvd_records.specs.Seen.{RecordsValue}
@@ -12,7 +12,7 @@ use Rattle.mvd_kept.specs.declared.prepared.Prepared.TheVariants.{Answer, Change
 use Rattle.sqlite_trees.specs.declared.store.Store.{Ghosts}
 use Rattle.mvd_replica.specs.declared.replica.Replica.{Replica}
 use Rattle.mvd_replica.specs.Groups.{AllComeTo}
-use Rattle.mvd_replica.specs.ReplicaCalls.{Answers, ChangesNothing, StaysStill}
+use Rattle.mvd_replica.specs.ReplicaCalls.{ChangesNothing, StaysStill}
 use Rattle.mvd_replica.specs.Replicas.{site_of}
 
 -- requests that change nothing are prepared as answers

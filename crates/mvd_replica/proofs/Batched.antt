@@ -1,5 +1,5 @@
 -- Turns of a replica after turns: the records, requests that are answered at once, and the first of some.
-use Rattle.std.proofs.Common.{◌≡◌, ◌⊎◌, ◌∙◌, ℕ, Bool, true, false, List, [], ◌∷◌, ◌++◌, Result, Ok, Err, refl, sym, ap, ap₂, subst, subst₂, inl, inr, true≢false, append_assoc, ◌+◌, ◌-◌, ◌<◌, ◌≤◌, arith, length, take, drop, length-append, length-drop}
+use Rattle.std.proofs.Common.{◌≡◌, ◌≢◌, ◌⊎◌, ◌∙◌, ℕ, Bool, true, false, List, [], ◌∷◌, ◌++◌, Result, Ok, Err, refl, sym, ap, ap₂, subst, subst₂, inl, inr, true≢false, append_assoc, ◌+◌, ◌-◌, ◌<◌, ◌≤◌, arith, length, take, drop, length-append, length-drop}
 use Rattle.std.proofs.Math.Seq.{take-add}
 use Rattle.std.proofs.lemmas.List.{length-map, length-take-le, map-append, take_rest}
 use Rattle.std.specs.Prelude.{IsTrue}
@@ -14,6 +14,7 @@ use Rattle.mvd_wire.specs.Replies.{CanBeSent}
 use Rattle.mvd_records.specs.Records.{IsSound}
 use Rattle.mvd_site.specs.FromStates.{after_from}
 use Rattle.mvd_site.specs.Known.{Adds}
+use Rattle.mvd_site.specs.Prepared.{IsFrugal}
 use Rattle.mvd_site.specs.Sites.{SiteValue}
 use Rattle.mvd_site.proofs.Outcomes.{refused_fits}
 use Rattle.mvd_site.proofs.Pushes.{refusal_is}
@@ -232,12 +233,13 @@ pub AnswersAll-answered : (old new : SiteValue) (before after : State) (request 
     (HasCleanDisk after → IsTrue after.is_open ⊎ (new ≡ old)) →
     (IsSound after → HoldsSite old before.committed → old.broken ≡ false → reply ≡ Refused Broken → HoldsStates old.config.site (after_from old.config old.states request) after.committed) →
     LeavesTurns (record { asked = Ok request; reply = reply } ∷ []) (stored_site old before) (stored_site new after) →
-    AnswersAll (request ∷ []) (reply ∷ []) old new before after
-AnswersAll-answered old new before after request reply states choice config fits told broken stays same sound holds clean taken stored leaves =
+    (IsFrugal old.states request → reply ≢ Refused Memory) → AnswersAll (request ∷ []) (reply ∷ []) old new before after
+AnswersAll-answered old new before after request reply states choice config fits told broken stays same sound holds clean taken stored leaves frugal =
     let from : AnswersOneFrom old new request reply = record {
       whole = states;
       broken = λ was. (broken (site_broken new old (stays was) ∙ was), stays was);
       told = told;
+      frugal = frugal;
       fits = fits;
       choice = choice;
     } in

@@ -1,10 +1,10 @@
 -- Requests of one commit, as the code has them.
-use Rattle.std.proofs.Common.{◌≡◌, ◌∙◌, ℕ, ◌+◌, ◌<◌, arith, true, false, List, [], ◌∷◌, ◌++◌, None, Result, Ok, Err, refl, sym, ap, ap₂, subst, subst₂, inl, inr, true≢false, length, take, get_or, append-nil}
+use Rattle.std.proofs.Common.{◌≡◌, ◌≢◌, ◌∙◌, ℕ, ◌+◌, ◌<◌, arith, true, false, List, [], ◌∷◌, ◌++◌, None, Result, Ok, Err, refl, sym, ap, ap₂, subst, subst₂, inl, inr, true≢false, length, take, get_or, append-nil}
 use Rattle.std.proofs.lemmas.List.{map-append, take_more}
 use Rattle.std.specs.Prelude.{IfSome, IsTrue, OnOk}
 use Rattle.std.specs.List.{AllByRecursion}
 use Rattle.mvd_dots.specs.declared.refusals.Refusal.{Refusal}
-use Rattle.mvd_dots.specs.declared.refusals.Refusal.TheVariants.{Broken}
+use Rattle.mvd_dots.specs.declared.refusals.Refusal.TheVariants.{Broken, Memory}
 use Rattle.mvd_wire.specs.Codecs.{spell_state}
 use Rattle.mvd_wire.specs.declared.request.Request.{Request}
 use Rattle.mvd_wire.specs.declared.request.Request.TheVariants.{Put, Delete, Push}
@@ -20,7 +20,7 @@ use Rattle.mvd_site.specs.Config.{ConfigValue}
 use Rattle.mvd_site.specs.FromStates.{answer_from, change_from, with_change as with_changed}
 use Rattle.mvd_site.specs.Held.{IsSpelled, States, state_at}
 use Rattle.mvd_site.specs.Known.{IsValidRequest}
-use Rattle.mvd_site.specs.Prepared.{IsPlain, IsReady, PreparesAnswerFrom, PreparesFrom, is_refusal}
+use Rattle.mvd_site.specs.Prepared.{IsFrugal, IsPlain, IsReady, PreparesAnswerFrom, PreparesFrom, is_refusal}
 use Rattle.mvd_kept.specs.declared.prepared.Prepared.{Prepared}
 use Rattle.mvd_kept.specs.declared.prepared.Prepared.TheVariants.{Answer, Change}
 use Rattle.mvd_site.specs.Sites.{SiteValue}
@@ -49,9 +49,13 @@ refused_answer config states request refusal is =
     record { answers = is; still = subst (λ o. IfSome o (λ c. c.1 ≡ state_at states c.0)) (sym none) tt; after = ap (with_changed states) none }
 
 pub comes_refused : (site : SiteValue) (request : Request) (refusal : Refusal) → site.broken ≡ false → PreparesFrom site.config site.states request (Err refusal) → (refusal ≡ Broken → site.broken ≡ true) →
+    (IsFrugal site.states request → refusal ≢ Memory) →
     ComesTo site.config site.states request (Answer (Refused refusal)) × IsSendable request (Answer (Refused refusal))
-comes_refused site request refusal whole from broken = (
-  elim from [ inl is ↦ inl (refused_answer site.config site.states request refusal is) | inr memory ↦ inr (ap Refused memory) ],
+comes_refused site request refusal whole from broken frugal = (
+  (
+    elim from [ inl is ↦ inl (refused_answer site.config site.states request refusal is) | inr memory ↦ inr (ap Refused memory) ],
+    λ takes bad. frugal takes (refusal_is refusal Memory bad),
+  ),
   record {
     other = λ bad. true≢false (sym (broken (refusal_is refusal Broken bad)) ∙ whole);
     fits = refused_fits refusal;
@@ -68,7 +72,8 @@ plain_reply request reply plain valid = record {
 
 pub comes_answer : (site : SiteValue) (request : Request) (reply : Reply) → PreparesFrom site.config site.states request (Ok (Answer reply)) → IsReady site (Answer reply) → IsValidRequest request →
     ComesTo site.config site.states request (Answer reply) × IsSendable request (Answer reply)
-comes_answer site request reply from ready valid = (inl from, plain_reply request reply ready valid)
+comes_answer site request reply from ready valid =
+    ((inl from, λ _ bad. true≢false (sym (ap is_refusal bad) ∙ ready.accepts)), plain_reply request reply ready valid)
 
 pub comes_change : (site : SiteValue) (request : Request) (change : ChangeValue) → PreparesFrom site.config site.states request (Ok (Change change)) → IsReady site (Change change) → IsValidRequest request → IsSpelled change.state →
     ComesTo site.config site.states request (Change change) × IsSendable request (Change change)

@@ -1,6 +1,6 @@
 -- Requests of one commit: what each comes to after the others.
 use Rattle.std.proofs.lemmas.Bool.Decides.{nat_tests}
-use Rattle.std.proofs.Common.{◌≡◌, ◌≢◌, ◌∙◌, ℕ, ◌+◌, ◌<◌, ◌≤◌, ◌==◌, arith, zero, suc, Bool, true, false, not, ◌&&◌, cond, if◌then◌else◌, List, [], ◌∷◌, ◌++◌, Option, Some, None, is_some, unwrap_or, refl, sym, ap, subst, inl, inr, length, take, drop, get_or}
+use Rattle.std.proofs.Common.{◌≡◌, ◌≢◌, ◌∙◌, ℕ, ◌+◌, ◌<◌, ◌≤◌, ◌==◌, arith, zero, suc, Bool, true, false, not, ◌&&◌, cond, if◌then◌else◌, List, [], ◌∷◌, ◌++◌, Option, Some, None, Ok, is_some, unwrap_or, refl, sym, ap, subst, inl, inr, length, take, drop, get_or}
 use Rattle.std.proofs.lemmas.List.{drop_all, drop_more, take_more}
 use Rattle.std.specs.Prelude.{IfSome}
 use Rattle.std.specs.List.{AllByRecursion}
@@ -10,7 +10,7 @@ use Rattle.mvd_dots.specs.Dot.{DotValue}
 use Rattle.mvd_dots.specs.Context.{DotSet}
 use Rattle.mvd_dots.specs.declared.refusals.Refusal.TheVariants.{DotClash, Full, StateTooLarge}
 use Rattle.mvd_keys.specs.Minting.{mint}
-use Rattle.mvd_keys.specs.State.{State as Keyed, Text, after_delete, after_put, clashes, empty_state, join}
+use Rattle.mvd_keys.specs.State.{State as Keyed, Text, after_delete, after_put, clashes, empty_state, join, join_answer}
 use Rattle.mvd_keys.specs.Writes.{Key, is_empty}
 use Rattle.mvd_keys.proofs.KeyOrder.{key_total}
 use Rattle.mvd_keys.proofs.StatesOfWrites.{key_apart}
@@ -23,7 +23,7 @@ use Rattle.mvd_site.specs.Change.{ChangeValue}
 use Rattle.mvd_site.specs.Config.{ConfigValue}
 use Rattle.mvd_site.specs.FromStates.{answer_from, change_from, put_from, with_change as with_changed, within}
 use Rattle.mvd_site.specs.Held.{States, state_at}
-use Rattle.mvd_site.specs.Prepared.{PreparesAnswerFrom, PreparesChangeFrom}
+use Rattle.mvd_site.specs.Prepared.{IsFrugal, PreparesAnswerFrom, PreparesChangeFrom}
 use Rattle.mvd_kept.specs.declared.prepared.Prepared.{Prepared}
 use Rattle.mvd_kept.specs.declared.prepared.Prepared.TheVariants.{Answer, Change}
 use Rattle.mvd_site.specs.Sites.{SiteValue, has_no_room}
@@ -98,6 +98,16 @@ changes_elsewhere m key (Delete own seen) Done c is apart = λ e. apart (keyed o
 changes_elsewhere m key (Push own pushed) Done c is apart = λ e. apart (keyed own (join (state_at m own) pushed) c is ∙ e)
 changes_elsewhere m key request reply c is apart = absurd cc
 
+-- and whether it takes memory
+frugal_elsewhere : (config : ConfigValue) (m : States) (key : Key) (s : Keyed) → map_len m + 1 < config.max_keys → (request : Request) → IsElsewhere key request → IsFrugal (insert m key s) request → IsFrugal m request
+frugal_elsewhere config m key s few (Get own) apart frugal = absurd frugal
+frugal_elsewhere config m key s few (Put own seen document) apart frugal = absurd frugal
+frugal_elsewhere config m key s few (Delete own seen) apart frugal = absurd frugal
+frugal_elsewhere config m key s few (Push own pushed) apart frugal =
+    subst (λ t. join_answer t pushed ≡ Ok t) (same_state m (insert m key s) own (found_elsewhere config m key s few own apart)) frugal
+frugal_elsewhere config m key s few Bye apart frugal = tt
+frugal_elsewhere config m key s few request apart frugal = absurd apart
+
 with_still : (n : States) (o : Option (Key × Keyed)) → IfSome o (λ c. c.1 ≡ state_at n c.0) → with_changed n o ≡ n
 with_still n None still = refl
 with_still n (Some c) still = with_state-same n c.0 c.1 still
@@ -128,8 +138,10 @@ module _ (config : ConfigValue) (m : States) (key : Key) (s : Keyed) (few : map_
 
   -- what a request comes to, it comes to also after a change of another key
   pub comes_still : (prepared : Prepared) → IsSendable request prepared → ComesTo config m request prepared → ComesTo config (insert m key s) request prepared
-  comes_still (Answer reply) sendable (inl was) = inl (answer_still reply was)
-  comes_still (Answer reply) sendable (inr memory) = inr memory
+  comes_still (Answer reply) sendable was = (
+    elim was.0 [ inl same ↦ inl (answer_still reply same) | inr memory ↦ inr memory ],
+    λ frugal. was.1 (frugal_elsewhere config m key s few request apart frugal),
+  )
   comes_still (Change change) sendable was = (change_still change sendable.1.seen was.0, room_for_both config m key change.key s few)
 
 -- ---- and by changes of others

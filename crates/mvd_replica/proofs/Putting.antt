@@ -1,8 +1,8 @@
 -- Replies of requests of one commit, as their changes are put in.
-use Rattle.std.proofs.Common.{◌≡◌, ◌∙◌, Bool, true, false, List, [], ◌∷◌, map, Ok, refl, sym, ap, subst, inl, inr, true≢false}
+use Rattle.std.proofs.Common.{◌≡◌, ◌≢◌, ◌∙◌, Bool, true, false, List, [], ◌∷◌, map, Ok, refl, sym, ap, subst, inl, inr, true≢false}
 use Rattle.std.specs.FinMap.{insert}
 use Rattle.mvd_dots.specs.declared.refusals.Refusal.{Refusal}
-use Rattle.mvd_dots.specs.declared.refusals.Refusal.TheVariants.{Broken, Store}
+use Rattle.mvd_dots.specs.declared.refusals.Refusal.TheVariants.{Broken, Memory, Store}
 use Rattle.mvd_keys.specs.Writes.{Write}
 use Rattle.mvd_wire.specs.declared.request.Request.{Request}
 use Rattle.mvd_wire.specs.declared.reply.Reply.{Reply}
@@ -13,13 +13,13 @@ use Rattle.mvd_site.specs.Config.{ConfigValue}
 use Rattle.mvd_site.specs.FromStates.{AnswersFrom}
 use Rattle.mvd_site.specs.Held.{States}
 use Rattle.mvd_site.specs.Known.{Adds}
-use Rattle.mvd_site.specs.Prepared.{PreparesChangeFrom}
+use Rattle.mvd_site.specs.Prepared.{IsFrugal, PreparesChangeFrom, is_refusal}
 use Rattle.mvd_kept.specs.declared.prepared.Prepared.{Prepared}
 use Rattle.mvd_kept.specs.declared.prepared.Prepared.TheVariants.{Answer, Change}
 use Rattle.mvd_site.specs.Sites.{SiteValue}
 use Rattle.mvd_site.proofs.Answered.{insert_differs}
 use Rattle.mvd_site.proofs.Installed.{broken_stays, states_with, was_whole, whole_after}
-use Rattle.mvd_site.proofs.Outcomes.{refused_fits}
+use Rattle.mvd_site.proofs.Outcomes.{change_plain, refused_fits}
 use Rattle.mvd_site.proofs.Prepare.{answers_from_answer, answers_from_breaking, answers_from_change}
 use Rattle.mvd_replica.specs.Batch.{AnswersOneFrom, AreAmong, Loses, TakesAllFrom, lost_requests}
 use Rattle.mvd_site.specs.Installs.{PutsAll, PutsIfWhole, PutsOne, broken_site, with_group, with_one, with_prepared}
@@ -74,8 +74,10 @@ one_unstored (r ∷ requests) (p ∷ group) sendable = one_unstored requests gro
 -- ---- one reply
 
 answers_same : (old : SiteValue) (request : Request) (reply : Reply) → ComesTo old.config old.states request (Answer reply) → AnswersFrom old old request reply
-answers_same old request reply (inl was) = answers_from_answer old request reply (λ _. was)
-answers_same old request reply (inr memory) = λ whole. inr (inl (memory, refl))
+answers_same old request reply comes = elim comes.0 [
+  | inl was ↦ answers_from_answer old request reply (λ _. was)
+  | inr memory ↦ λ whole. inr (inl (memory, refl))
+]
 
 pub nothing_added : (request : Request) (refusal : Refusal) → (added : List Write) × Adds request (Refused refusal) added
 nothing_added request refusal = ([], AddsAt-Refused-none (Ok request) refusal)
@@ -87,16 +89,19 @@ module _ (old new : SiteValue) (request : Request) where
     whole = inl (λ whole. absurd (true≢false (sym was ∙ whole)));
     broken = λ _. (told, same);
     told = λ _. ap (λ (s : SiteValue). s.broken) same ∙ was;
+    frugal = λ _ bad. (let other : Refused Broken ≡ Refused Memory = sym told ∙ bad in cc);
     fits = subst CanBeSent (sym told) (refused_fits Broken);
     choice = subst (λ x. (added : List Write) × Adds request x added) (sym told) (nothing_added request Broken);
   }
 
   -- one that was not, and whose reply does not say so
-  one_whole : (reply given : Reply) → old.broken ≡ false → given ≡ reply → IsReply request reply → AnswersFromStored old new request given → AnswersOneFrom old new request given
-  one_whole reply given was told is whole = record {
+  one_whole : (reply given : Reply) → old.broken ≡ false → given ≡ reply → IsReply request reply → AnswersFromStored old new request given →
+      (IsFrugal old.states request → given ≢ Refused Memory) → AnswersOneFrom old new request given
+  one_whole reply given was told is whole frugal = record {
     whole = whole;
     broken = λ broken. absurd (true≢false (sym broken ∙ was));
     told = λ bad. absurd (is.other (sym told ∙ bad));
+    frugal = frugal;
     fits = subst CanBeSent (sym told) is.fits;
     choice = subst (λ x. (added : List Write) × Adds request x added) (sym told) is.choice;
   }
@@ -107,6 +112,7 @@ module _ (old new : SiteValue) (request : Request) where
     whole = subst (λ x. AnswersFromStored old new request x) (sym told) (inl (answers_from_breaking old new request change Broken refl breaks (λ _. comes)));
     broken = λ broken. absurd (true≢false (sym broken ∙ was));
     told = λ _. ap (λ (s : SiteValue). s.broken) breaks;
+    frugal = λ _ bad. (let other : Refused Broken ≡ Refused Memory = sym told ∙ bad in cc);
     fits = subst CanBeSent (sym told) (refused_fits Broken);
     choice = subst (λ x. (added : List Write) × Adds request x added) (sym told) (nothing_added request Broken);
   }
@@ -114,16 +120,18 @@ module _ (old new : SiteValue) (request : Request) where
   one_puts : (prepared : Prepared) (reply : Reply) → old.broken ≡ false → ComesTo old.config old.states request prepared → IsSendable request prepared → PutsOne old new prepared reply → AnswersOneFrom old new request reply
   one_puts (Answer told) reply was comes sendable puts =
       one_whole told reply was puts.0 sendable (subst (λ s. AnswersFromStored old s request reply) (sym puts.1) (subst (λ x. AnswersFromStored old old request x) (sym puts.0) (inl (answers_same old request told comes))))
+      (λ frugal bad. comes.1 frugal (sym puts.0 ∙ bad))
   one_puts (Change change) reply was comes sendable (inl puts) =
       one_whole (reply_of change.dot) reply was puts.0 sendable.0 (inl (answers_from_change old new request change reply puts.1 puts.0 (λ _. comes.0)))
+      (λ _ bad. true≢false (sym (ap is_refusal (sym puts.0 ∙ bad)) ∙ (change_plain change.dot).accepts))
   one_puts (Change change) reply was comes sendable (inr puts) = one_breaks change reply was puts.0 puts.1 comes.0
 
-  one_answers : (prepared : Prepared) (reply : Reply) (was : Bool) → old.broken ≡ was → (old.broken ≡ false → ComesTo old.config old.states request prepared) → IsSendable request prepared → PutsIfWhole old new prepared reply →
+  pub one_answers : (prepared : Prepared) (reply : Reply) (was : Bool) → old.broken ≡ was → (old.broken ≡ false → ComesTo old.config old.states request prepared) → IsSendable request prepared → PutsIfWhole old new prepared reply →
       AnswersOneFrom old new request reply
   one_answers prepared reply true was comes sendable puts = one_broken reply was (puts.broken was).0 (puts.broken was).1
   one_answers prepared reply false was comes sendable puts = one_puts prepared reply was (comes was) sendable (puts.whole was)
 
-ordered_after : (old mid : SiteValue) (prepared : Prepared) (reply : Reply) (requests : List Request) (group : List Prepared) → PutsIfWhole old mid prepared reply →
+pub ordered_after : (old mid : SiteValue) (prepared : Prepared) (reply : Reply) (requests : List Request) (group : List Prepared) → PutsIfWhole old mid prepared reply →
     (old.broken ≡ false → ComeInOrder old.config (with_prepared old.states prepared) requests group) → mid.broken ≡ false → ComeInOrder mid.config mid.states requests group
 ordered_after old mid prepared reply requests group puts ordered whole =
     let was : old.broken ≡ false = was_whole old mid prepared reply old.broken refl puts whole in
@@ -145,11 +153,12 @@ takes_put (r ∷ requests) (p ∷ group) (x ∷ replies) old new ordered sendabl
 )
 
 one_unstored_from : (old : SiteValue) (request : Request) (prepared : Prepared) → old.broken ≡ false → ComesTo old.config old.states request prepared → IsSendable request prepared → AnswersOneFrom old old request (reply_unstored prepared)
-one_unstored_from old request (Answer reply) was comes sendable = one_whole old old request reply reply was refl sendable (inl (answers_same old request reply comes))
+one_unstored_from old request (Answer reply) was comes sendable = one_whole old old request reply reply was refl sendable (inl (answers_same old request reply comes)) comes.1
 one_unstored_from old request (Change change) was comes sendable =
     one_whole old old request (Refused Store) (Refused Store) was refl
     (record { other = λ bad. cc; fits = refused_fits Store; choice = nothing_added request Store })
     (inr (record { told = refl; changes = λ same. insert_differs old.states change.key change.state comes.0.differs (sym comes.0.after ∙ same); whole = was; site = refl }))
+    (λ _ bad. cc)
 
 pub takes_unstored : (requests : List Request) (group : List Prepared) (old : SiteValue) → old.broken ≡ false → AllComeTo old.config old.states requests group → AreSendable requests group →
     TakesAllFrom old old (turns_of requests (map reply_unstored group))

@@ -85,6 +85,7 @@ module _ {S : Type 0} {g : Ghosts S} where
         let same : site_of new ≡ site_of old = ap (λ (r : Replica S g). site_of r) (it.stays broken) in
         (it.broken (ap (λ (s : SiteValue). s.broken) same ∙ broken), same));
     told = it.told;
+    frugal = it.frugal;
     fits = it.fits;
     choice = it.choice;
   }

@@ -12,6 +12,7 @@ use Rattle.mvd_wire.specs.Replies.{CanBeSent}
 use Rattle.mvd_records.specs.Records.{IsSound}
 use Rattle.mvd_site.specs.FromStates.{after_from}
 use Rattle.mvd_site.specs.Known.{Adds}
+use Rattle.mvd_site.specs.Prepared.{IsFrugal}
 use Rattle.mvd_site.specs.Sites.{SiteValue}
 use Rattle.mvd_peer.specs.Sides.{SiteFollows}
 use Rattle.mvd_restore.specs.Kept.{HoldsSite, HoldsStates}
@@ -35,12 +36,13 @@ changes_asked (request ∷ requests) = asks_change request + changes_asked reque
 
 -- ---- the site, turn by turn
 
--- What one request does to a site, from its states alone: a broken site refuses it and stays as it is. The reply can be sent, and
--- there are writes that the request adds
+-- What one request does to a site, from its states alone: a broken site refuses it and stays as it is. A request that takes no
+-- memory is not told want of it. The reply can be sent, and there are writes that the request adds
 pub record AnswersOneFrom (old new : SiteValue) (request : Request) (reply : Reply) : Type 0 where
   pub whole : AnswersFromStored old new request reply
   pub broken : old.broken ≡ true → (reply ≡ Refused Broken) × (new ≡ old)
   pub told : reply ≡ Refused Broken → new.broken ≡ true
+  pub frugal : IsFrugal old.states request → reply ≢ Refused Memory
   pub fits : CanBeSent reply
   pub choice : (added : List Write) × Adds request reply added
 
@@ -53,6 +55,16 @@ TakesFrom old new (Err fault) reply = ((reply ≡ Refused fault) ⊎ (reply ≡ 
 abbrev pub TakesAllFrom : SiteValue → SiteValue → List Turn → Type 0
 TakesAllFrom old new [] = new ≡ old
 TakesAllFrom old new (turn ∷ turns) = (mid : SiteValue) × TakesFrom old mid turn.asked turn.reply × TakesAllFrom mid new turns
+
+-- a turn counts no commit, or one where it changed the site
+abbrev pub MayCount : SiteValue → SiteValue → ℕ → ℕ → Type 0
+MayCount old new count rest = (count ≡ rest) ⊎ ((new ≢ old) × (count ≡ rest + 1))
+
+-- turns that do so, one after the other, count so many
+abbrev pub CountsAlong : SiteValue → SiteValue → List Turn → ℕ → Type 0
+CountsAlong old new [] count = (new ≡ old) × (count ≡ 0)
+CountsAlong old new (turn ∷ turns) count =
+    (mid : SiteValue) × (rest : ℕ) × TakesFrom old mid turn.asked turn.reply × MayCount old mid count rest × CountsAlong mid new turns rest
 
 -- ---- the records
 

@@ -17,7 +17,7 @@ use Rattle.mvd_site.specs.FromStates.{answer_from}
 use Rattle.mvd_site.specs.Held.{IsHeldState, IsSpelled, States}
 use Rattle.mvd_site.specs.Installs.{changes_in, with_prepared}
 use Rattle.mvd_site.specs.Known.{Adds}
-use Rattle.mvd_site.specs.Prepared.{PreparesAnswerFrom, PreparesChangeFrom}
+use Rattle.mvd_site.specs.Prepared.{IsFrugal, PreparesAnswerFrom, PreparesChangeFrom}
 use Rattle.mvd_kept.specs.declared.prepared.Prepared.{Prepared}
 use Rattle.mvd_kept.specs.declared.prepared.Prepared.TheVariants.{Answer, Change}
 use Rattle.mvd_site.specs.Sites.{SiteValue, has_no_room}
@@ -44,9 +44,11 @@ abbrev pub IsApart : Request → Prepared → Type 0
 IsApart request (Answer reply) = ⊤
 IsApart request (Change change) = IsElsewhere change.key request
 
--- what a request comes to from these states: a reply that changes nothing, or memory was refused; or a change
+-- what a request comes to from these states: a reply that changes nothing, or memory was refused, but not to one that takes none; or
+-- a change
 abbrev pub ComesTo : ConfigValue → States → Request → Prepared → Type 0
-ComesTo config states request (Answer reply) = PreparesAnswerFrom config states request reply ⊎ (reply ≡ Refused Memory)
+ComesTo config states request (Answer reply) =
+    (PreparesAnswerFrom config states request reply ⊎ (reply ≡ Refused Memory)) × (IsFrugal states request → reply ≢ Refused Memory)
 ComesTo config states request (Change change) = PreparesChangeFrom config states request change × (has_no_room config states change.key ≡ false)
 
 -- the reply can be sent, and there are writes that the request then adds

@@ -4,7 +4,7 @@ use Rattle.mvd_dots.specs.declared.refusals.Refusal.{Refusal}
 use Rattle.mvd_dots.specs.declared.refusals.Refusal.TheVariants.{Damaged, Full, Memory, SiteMismatch}
 use Rattle.mvd_keys.specs.Writes.{Stands, Write}
 use Rattle.mvd_records.specs.Foreign.{HoldsForeign}
-use Rattle.mvd_records.specs.Records.{IsOpenRefusal, IsOurs, IsSound, TellsVersion, marks_of}
+use Rattle.mvd_records.specs.Records.{IsOpenRefusal, IsOurs, IsSound, KeepsStates, TellsVersion, marks_of}
 use Rattle.mvd_site.specs.Config.{ConfigValue}
 use Rattle.mvd_site.specs.Sites.{SiteValue}
 use Rattle.sqlite.specs.Effect.{Database}
@@ -13,6 +13,10 @@ use Rattle.mvd_restore.specs.Kept.{HoldsSite}
 use Rattle.mvd_replica.specs.Whole.{IsAtRest}
 use Rattle.mvd_restore.specs.Stored.{AreDamaged, AreReadable, HasJust, HoldsTooMany, Resumes, SameStates}
 
+-- The marks told the site a version; where that was 2 already, the two maps are as they were
+abbrev pub KeepsMoved : ℕ → Database → Database → Type 0
+KeepsMoved site was now = (version : ℕ) × TellsVersion (marks_of was) site (Ok version) × (version ≡ 2 → KeepsStates was now)
+
 -- What was found is in order. The site holds just the states that the two maps of the database found spell, and so do the records
 -- as they are now, with no key of version 1 among them.
 pub record OpensSite (config : ConfigValue) (was : Database) (site : SiteValue) (now : Database) : Type 0 where
@@ -20,12 +24,14 @@ pub record OpensSite (config : ConfigValue) (was : Database) (site : SiteValue) 
   pub spelled : HasJust was site.states
   pub holds : HoldsSite site now
   pub states : SameStates was now
+  pub kept : KeepsMoved config.site was now
 
 -- Why ours is not opened: 16 where the marks are another site's, 17 where the records are damaged, 10 where they hold too many
 -- keys. 20 and 21 need no cause. The states stay; the records are as they were, or they were made the site's and some old keys
 -- moved, and the next open finds what this one did.
 pub record RefusesSite (config : ConfigValue) (was : Database) (e : Refusal) (now : Database) : Type 0 where
   pub states : SameStates was now
+  pub kept : (now ≡ was) ⊎ KeepsMoved config.site was now
   pub mismatch : e ≡ SiteMismatch → TellsVersion (marks_of was) config.site (Err SiteMismatch)
   pub damaged : e ≡ Damaged → AreDamaged config.site was
   pub full : e ≡ Full → HoldsTooMany config.max_keys now × AreReadable config.site was

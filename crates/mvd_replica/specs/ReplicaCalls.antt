@@ -1,6 +1,7 @@
 -- What each call of a replica does: one relation for a call, over the replica before it, what it was called with, what it returned,
 -- and the replica after it.
-use Rattle.std.specs.Prelude.{◌≡◌, ◌≢◌, ◌⊎◌, ◌<◌, ◌≤◌, ◌+◌, ◌-◌, ◌^◌, Bool, false, true, ℕ, List, [], ◌∷◌, ◌++◌, length, min, take, Option, Vec, Result, Ok, Err, IfErr, IfOk, OnOk, MatchResult}
+use Rattle.std.specs.Prelude.{◌≡◌, ◌≢◌, ◌⊎◌, ◌<◌, ◌≤◌, ◌+◌, ◌-◌, ◌^◌, Bool, false, true, ℕ, List, [], ◌∷◌, ◌++◌, length, map, min, take, Option, Vec, Result, Ok, Err, IfErr, IfOk, OnOk, MatchResult}
+use Rattle.std.specs.List.{AllByRecursion}
 use Rattle.std.specs.declared.alloc.Global.{Global}
 use Rattle.mvd_dots.specs.Answer.{IsAnswer}
 use Rattle.mvd_dots.specs.declared.refusals.Refusal.{Refusal}
@@ -30,13 +31,13 @@ use Rattle.sqlite.specs.Held.{Held, state}
 use Rattle.sqlite.specs.State.{IsLive, Survives}
 use Rattle.sqlite_trees.specs.declared.store.Store.{Ghosts}
 use Rattle.mvd_replica.specs.declared.replica.Replica.{Replica}
-use Rattle.mvd_replica.specs.Batch.{AnswersAll, AnswersFront, changes_asked}
+use Rattle.mvd_replica.specs.Batch.{AnswersAll, AnswersFront, CountsAlong, changes_asked}
 use Rattle.mvd_restore.specs.Kept.{HoldsSite, HoldsStates, Stores}
 use Rattle.mvd_replica.specs.Opened.{IsOpened, IsRefused}
 use Rattle.mvd_replica.specs.Replicas.{CountsChange, CountsUpTo, KeepsCommit, RecordsFollow, TakesIfOpen, WasClean, WasSound, commits_of, committed_of, conn_of, next_count, site_of, store_of, stored_of}
 use Rattle.mvd_replica.specs.Sides.{AnswersFromStored, ReplicaFollows}
 use Rattle.mvd_replica.specs.Stops.{LeavesAnswered, LeavesChange}
-use Rattle.mvd_replica.specs.Turns.{AnswersStored, LeavesTurns}
+use Rattle.mvd_replica.specs.Turns.{AnswersStored, LeavesTurns, Turn}
 
 -- the request would change nothing
 abbrev pub ChangesNothing : SiteValue → Request → Type 0
@@ -234,31 +235,43 @@ module _ {S : Type 0} {g : Ghosts S} where
 
   -- ---- answer_all
 
-  -- As many commits were made: at most one for each request for a change, and at least one unless the site is as it was. They are
-  -- counted, up to the greatest number
-  pub record CountsCommits (requests : List Request) (old new : Replica S g) : Type 0 where
+  -- So many commits are counted, up to the greatest number: at most one at each turn that changed the site, and none at the others;
+  -- at most one for each request for a change; and at least one unless the site is as it was
+  pub record CountsCommits (requests : List Request) (replies : List Reply) (old new : Replica S g) : Type 0 where
+    pub turns : List Turn
+    pub asked : map (λ turn. turn.asked) turns ≡ map (λ request. Ok request) requests
+    pub told : map (λ turn. turn.reply) turns ≡ replies
     pub count : ℕ
+    pub along : CountsAlong (site_of old) (site_of new) turns count
     pub within : count ≤ changes_asked requests
     pub some : (site_of new ≡ site_of old) ⊎ (0 < count)
     pub most : CountsUpTo count old new
     pub least : min (commits_of old + count) (2 ^ 64 - 1) ≤ commits_of new
+
+  -- requests that each would change nothing leave all as it was
+  abbrev pub StaysStill : List Request → Replica S g → Replica S g → Type 0
+  StaysStill requests old new = AllByRecursion (ChangesNothing (site_of old)) requests → new ≡ old
 
   -- requests one after the other
   pub record AnswersMany (old : Replica S g) (requests : List Request) (result : Result (Vec Reply Global) Refusal)
       (new : Replica S g) : Type 0 where
     -- each request has its reply, as one turn after the other
     pub answers : IfOk result (λ replies. AnswersAll requests replies.items (stored_of old) (stored_of new))
-    -- it counts at most one commit for each request for a change, and at least one unless the site is as it was
-    pub counts : CountsCommits requests old new
+    -- it counts a commit only at a turn that changed the site, and at least one unless the site is as it was
+    pub counts : IfOk result (λ replies. CountsCommits requests replies.items old new)
+    -- what would change nothing leaves all as it was
+    pub still : StaysStill requests old new
     -- the call itself is refused for want of memory alone, and then nothing was done
     pub memory : IfErr result (λ refusal. (refusal ≡ Memory) × (new ≡ old))
 
   -- some of the requests, from the first on, whose replies stand behind those before
   abbrev pub AnswersSome : Replica S g → List Request → List Reply → List Reply → Replica S g → Type 0
   AnswersSome old requests before after new =
-      (front : AnswersFront requests before after (stored_of old) (stored_of new)) × CountsCommits (take front.count requests) old new
+      (front : AnswersFront requests before after (stored_of old) (stored_of new))
+      × CountsCommits (take front.count requests) front.replies old new × StaysStill (take front.count requests) old new
 
   -- all of them
   abbrev pub AnswersEach : Replica S g → List Request → List Reply → List Reply → Replica S g → Type 0
   AnswersEach old requests before after new =
-      (told : List Reply) × (after ≡ before ++ told) × AnswersAll requests told (stored_of old) (stored_of new)
+      (told : List Reply) × (after ≡ before ++ told)
+      × AnswersAll requests told (stored_of old) (stored_of new) × CountsCommits requests told old new

@@ -1,5 +1,5 @@
 //! What requests come to that share a commit: prepared side by side, and stored at once.
-ghost use Rattle.std.specs.Prelude.{◌≡◌, ◌≤◌, ◌<◌, ◌+◌, ◌++◌, IfErr, IfOk, drop, false, length, map, take, true, vec_capacity};
+ghost use Rattle.std.specs.Prelude.{◌≡◌, ◌≤◌, ◌<◌, ◌+◌, ◌++◌, [], IfErr, IfOk, drop, false, length, map, take, true, vec_capacity};
 ghost use Rattle.std.specs.List.{AllByRecursion};
 ghost use Rattle.mvd_records.specs.Pairs.{entries_of};
 ghost use Rattle.mvd_wire.specs.Codecs.{spell_state};
@@ -180,6 +180,7 @@ pub fn store_all<S: Alter>(
     ensures unchanged { StoresNone S.Store records.old result records.new }
     ensures refusal { IfErr result (IsUnstored records.old records.new) }
     ensures version { records.new.version ≡ records.old.version }
+    ensures still { pairs_in group.now ≡ [] → records.new ≡ records.old }
     ensures survives { SurvivesPairs S.Store records.old (pairs_in group.now) records.new }
 {
     if group.len() == 1 {

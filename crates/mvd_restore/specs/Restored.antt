@@ -139,6 +139,10 @@ module _ {S : Type 0} (g : Ghosts S) where
   abbrev pub FindsOrder : RecordsValue S → Result SiteValue Refusal → RecordsValue S → Type 0
   FindsOrder old result new = OfTold old new (λ was _. TellsOrder result old.version was)
 
+  -- nothing is committed where they told version 2
+  abbrev pub StaysMoved : RecordsValue S → RecordsValue S → Type 0
+  StaysMoved old new = old.version ≡ 2 → OfTold old new (λ was now. now ≡ was)
+
   -- opened again, they are found as they were
   abbrev pub FindsAgain : RecordsValue S → RecordsValue S → Type 0
   FindsAgain old new = (number : ℕ) → IsSound (state g new.conn) → HoldsRecords old.version number (committed old) →
@@ -159,6 +163,8 @@ module _ {S : Type 0} (g : Ghosts S) where
     pub full : FindsFull setup old result new
     -- either way the key states are those of before, and the next call goes on from there
     pub states : MovesStates old new
+    -- of records in version 2 the last commit is as it was
+    pub still : StaysMoved old new
     pub resumes : FindsAgain old new
     pub before : WereSound old new
     pub stays_open : LeavesOpen result new

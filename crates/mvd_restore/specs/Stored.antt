@@ -55,7 +55,8 @@ pub record HoldsTooMany (most : ℕ) (db : Database) : Type 0 where
   pub alone : HasNone (old_states db)
   pub more : most < len (new_states db)
 
--- the old keys were in order and are moved: each new state was there, or stands for an old one
+-- the old keys were in order and are moved: each new state was there, or is at the key of an old one. That it is the same
+-- state this does not say (`SameStates` below does)
 pub record Migrates (version : ℕ) (old new : Database) : Type 0 where
   pub whole : IsWhole version (old_states old) (old_states old) (new_states old)
   pub stored : AreOldStored (old_states old)

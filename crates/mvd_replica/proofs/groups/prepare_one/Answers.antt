@@ -5,7 +5,7 @@ use Rattle.mvd_replica.proofs.Grouped.{comes_answer, comes_change, comes_refused
 use Rattle.mvd_replica.proofs.groups.prepare_one.Goals as goal
 
 pub returns-in-Err : goal.returns-in-Err
-returns-in-Err c = record { comes = λ whole. comes_refused c.args.site.now c.args.request.now c.in-Err.refusal whole (c.in-Err.ensures.states whole) c.in-Err.ensures.whole }
+returns-in-Err c = record { comes = λ whole. comes_refused c.args.site.now c.args.request.now c.in-Err.refusal whole (c.in-Err.ensures.states whole) c.in-Err.ensures.whole c.in-Err.ensures.frugal }
 
 pub returns-in-Change : goal.returns-in-Change
 returns-in-Change c = record {

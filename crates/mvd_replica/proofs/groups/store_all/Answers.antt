@@ -1,9 +1,11 @@
-use Rattle.std.proofs.Common.{◌∙◌, ◌∷◌, [], ap, subst}
+use Rattle.std.proofs.Common.{◌≡◌, ◌∙◌, ◌∷◌, [], ap, subst, sym}
 use Rattle.sqlite.specs.Held.{state}
 use Rattle.sqlite.specs.State.{Survives}
 use Rattle.mvd_records.specs.Pairs.{entries_of}
 use Rattle.mvd_records.specs.Seen.{seen}
 use Rattle.mvd_records.proofs.Follows.{all_survive, saves_kept, saves_saved, saves_survives}
+use Rattle.mvd_kept.specs.declared.prepared.Prepared.TheVariants.{Change}
+use Rattle.mvd_replica.specs.Groups.{pairs_in}
 use Rattle.mvd_replica.specs.Shared.{LeavesPairs}
 use Rattle.mvd_replica.proofs.Grouped.{one_only, store_many, store_one, survives_one}
 use Rattle.mvd_replica.proofs.groups.store_all.Goals as goal
@@ -28,3 +30,8 @@ pub returns-in-Change-clause-survives : goal.returns-in-Change-clause-survives
 returns-in-Change-clause-survives g c =
     survives_one _ _ c.in-Change.change c.args.group.now c.key.result.now c.bytes.result.now c.key.ensures c.bytes.ensures
     (one_only c.args.group.now c.index-group-0.result c.if-group-eq1.true c.index-group-0.is ∙ ap (λ p. p ∷ []) c.in-Change.is) (saves_survives _ _ _ _ c.save.result c.save.ensures)
+
+pub returns-in-Change-clause-still : goal.returns-in-Change-clause-still
+returns-in-Change-clause-still g c none =
+    let only = one_only c.args.group.now c.index-group-0.result c.if-group-eq1.true c.index-group-0.is ∙ ap (λ p. p ∷ []) c.in-Change.is in
+    let bad : pairs_in (Change c.in-Change.change ∷ []) ≡ [] = sym (ap pairs_in only) ∙ none in cc

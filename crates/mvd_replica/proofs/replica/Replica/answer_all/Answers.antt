@@ -1,10 +1,11 @@
-use Rattle.std.proofs.Common.{ap, length, take, refl, sym, subst, arith}
+use Rattle.std.proofs.Common.{ap, length, take, refl, sym, subst, subst₂, arith}
 use Rattle.std.proofs.lemmas.List.{take_all}
 use Rattle.sqlite.specs.Held.{state}
-use Rattle.mvd_replica.specs.ReplicaCalls.{AnswersSome, CountsCommits}
+use Rattle.mvd_replica.specs.ReplicaCalls.{AnswersSome, CountsCommits, StaysStill}
 use Rattle.mvd_replica.proofs.Positions.{AnswersAll}
 use Rattle.mvd_replica.proofs.Batched.{AnswersAll-none, front_answers, front_grows, front_taken, front_within, rest_of}
-use Rattle.mvd_replica.proofs.Counting.{counts_same, counts_then}
+use Rattle.mvd_replica.proofs.Counting.{counts_none, counts_then}
+use Rattle.mvd_replica.proofs.Still.{still_then}
 use Rattle.mvd_replica.proofs.replica.Replica.answer_all.Goals as goal
 
 pub groups-init : goal.groups-init
@@ -16,7 +17,8 @@ groups-init g c =
       answers = subst (λ l. AnswersAll (take (length l) c.args.requests.now) l site site store store) (sym none) (AnswersAll-none site store);
       within = omega (arith, ap length none);
       room = c.in_ok-replies.ensures.capacity;
-      counts = counts_same (take (length c.in_ok-replies.replies.items) c.args.requests.now) c.args.self.now c.args.self.now refl refl;
+      counts = subst (λ l. CountsCommits (take (length l) c.args.requests.now) l c.args.self.now c.args.self.now) (sym none) (counts_none c.args.self.now);
+      still = λ _. refl;
     }
 
 pub groups-preserved : goal.groups-preserved
@@ -37,9 +39,13 @@ groups-preserved g c =
       answers = front_answers requests told given old mid new before between after c.groups.invariant.within c.groups.invariant.answers front;
       within = front_within requests told given old mid new before between after c.groups.invariant.within c.groups.invariant.answers front;
       room = omega (arith, c.groups.invariant.room, c.answer_front.ensures.room);
-      counts = subst (λ r. CountsCommits r c.args.self.now c.answer_front.new.self)
+      counts = subst₂ (λ r l. CountsCommits r l c.args.self.now c.answer_front.new.self)
           (front_taken requests told given old mid new before between after c.groups.invariant.within c.groups.invariant.answers front)
-          (counts_then _ _ c.args.self.now c.groups.self c.answer_front.new.self c.groups.invariant.counts some.1);
+          (sym front.appended)
+          (counts_then _ _ told front.replies c.args.self.now c.groups.self c.answer_front.new.self c.groups.invariant.counts some.1);
+      still = subst (λ r. StaysStill r c.args.self.now c.answer_front.new.self)
+          (front_taken requests told given old mid new before between after c.groups.invariant.within c.groups.invariant.answers front)
+          (still_then _ _ c.args.self.now c.groups.self c.answer_front.new.self c.groups.invariant.still some.2);
     }
 
 pub groups-smaller : goal.groups-smaller
@@ -59,6 +65,7 @@ returns g c =
     record {
       answers = subst (λ l. AnswersAll l c.groups.replies.items c.args.self.now.site c.groups.self.site (state g.S.Store c.args.self.now.records.conn) (state g.S.Store c.groups.self.records.conn))
           all c.groups.invariant.answers;
-      counts = subst (λ l. CountsCommits l c.args.self.now c.groups.self) all c.groups.invariant.counts;
+      counts = subst (λ l. CountsCommits l c.groups.replies.items c.args.self.now c.groups.self) all c.groups.invariant.counts;
+      still = subst (λ l. StaysStill l c.args.self.now c.groups.self) all c.groups.invariant.still;
       memory = tt;
     }

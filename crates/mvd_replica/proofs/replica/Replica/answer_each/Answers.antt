@@ -2,17 +2,23 @@ use Rattle.std.proofs.Common.{◌∙◌, ◌++◌, ◌∷◌, [], take, refl, sy
 use Rattle.std.proofs.lemmas.List.{take_all, take_more}
 use Rattle.sqlite.specs.Held.{state}
 use Rattle.mvd_replica.proofs.Positions.{AnswersAll}
-use Rattle.mvd_replica.specs.ReplicaCalls.{CountsCommits}
-use Rattle.mvd_replica.proofs.Counting.{counts_answer, counts_same, counts_then}
+use Rattle.mvd_replica.specs.ReplicaCalls.{CountsCommits, StaysStill}
+use Rattle.mvd_replica.proofs.Counting.{counts_answer, counts_none, counts_then}
+use Rattle.mvd_replica.proofs.Still.{still_then}
 use Rattle.mvd_replica.proofs.Batched.{AnswersAll-answered, AnswersAll-append, AnswersAll-none}
 use Rattle.mvd_replica.proofs.replica.Replica.answer_each.Goals as goal
 
 pub loop-request-init : goal.loop-request-init
 loop-request-init g c = record {
-  answers = ([], sym (append-nil _), AnswersAll-none c.args.self.now.site (state g.S.Store c.args.self.now.records.conn));
+  answers = (
+    [],
+    sym (append-nil _),
+    AnswersAll-none c.args.self.now.site (state g.S.Store c.args.self.now.records.conn),
+    counts_none c.args.self.now,
+  );
   count = omega arith;
   room = refl;
-  counts = counts_same [] c.args.self.now c.args.self.now refl refl;
+  still = λ _. refl;
 }
 
 pub push_reserved-requires : goal.push_reserved-requires
@@ -27,7 +33,7 @@ loop-request-preserved g c =
     let one = AnswersAll-answered c.loop-request.self.site c.answer-reply.new.self.site (state g.S.Store c.loop-request.self.records.conn) (state g.S.Store c.answer-reply.new.self.records.conn) c.request-item.result c.answer-reply.result
     c.answer-reply.ensures.states c.answer-reply.ensures.choice c.answer-reply.ensures.config c.answer-reply.ensures.fits c.answer-reply.ensures.told c.answer-reply.ensures.broken
     (λ broken. ap (λ r. r.site) (c.answer-reply.ensures.stays broken)) (λ broken. ap (λ r. (state g.S.Store r.records.conn).committed) (c.answer-reply.ensures.stays broken))
-    c.answer-reply.ensures.before c.answer-reply.ensures.records c.answer-reply.ensures.clean c.answer-reply.ensures.taken c.answer-reply.ensures.stored c.answer-reply.ensures.leaves in
+    c.answer-reply.ensures.before c.answer-reply.ensures.records c.answer-reply.ensures.clean c.answer-reply.ensures.taken c.answer-reply.ensures.stored c.answer-reply.ensures.leaves c.answer-reply.ensures.frugal in
     record {
       answers = (
         it.0 ++ c.answer-reply.result ∷ [],
@@ -35,12 +41,16 @@ loop-request-preserved g c =
         subst (λ l. AnswersAll l (it.0 ++ c.answer-reply.result ∷ []) c.args.self.now.site c.answer-reply.new.self.site (state g.S.Store c.args.self.now.records.conn) (state g.S.Store c.answer-reply.new.self.records.conn))
             next
             (AnswersAll-append (take i requests) (c.request-item.result ∷ []) it.0 (c.answer-reply.result ∷ []) _ _ _ _ _ _ it.2 one),
+        subst (λ l. CountsCommits l (it.0 ++ c.answer-reply.result ∷ []) c.args.self.now c.answer-reply.new.self) next
+            (counts_then (take i requests) (c.request-item.result ∷ []) it.0 (c.answer-reply.result ∷ []) c.args.self.now c.loop-request.self c.answer-reply.new.self
+            it.3
+            (counts_answer c.loop-request.self c.answer-reply.new.self c.request-item.result c.answer-reply.result c.answer-reply.ensures)),
       );
       count = grind (arith, length-append, c.push_reserved.ensures.items, c.loop-request.invariant.count);
       room = c.push_reserved.ensures.capacity ∙ c.loop-request.invariant.room;
-      counts = subst (λ l. CountsCommits l c.args.self.now c.answer-reply.new.self) next
-          (counts_then (take i requests) (c.request-item.result ∷ []) c.args.self.now c.loop-request.self c.answer-reply.new.self c.loop-request.invariant.counts
-          (counts_answer c.loop-request.self c.answer-reply.new.self c.request-item.result c.answer-reply.result c.answer-reply.ensures));
+      still = subst (λ l. StaysStill l c.args.self.now c.answer-reply.new.self) next
+          (still_then (take i requests) (c.request-item.result ∷ []) c.args.self.now c.loop-request.self c.answer-reply.new.self c.loop-request.invariant.still
+          (λ each. c.answer-reply.ensures.still each.0));
     }
 
 pub returns-clause-answers : goal.returns-clause-answers
@@ -50,8 +60,9 @@ returns-clause-answers g c =
       it.1,
       subst (λ l. AnswersAll l it.0 c.args.self.now.site c.loop-request.self.site (state g.S.Store c.args.self.now.records.conn) (state g.S.Store c.loop-request.self.records.conn))
           (take_all c.loop-request.request-index c.args.requests.now c.loop-request-test.false) it.2,
+      subst (λ l. CountsCommits l it.0 c.args.self.now c.loop-request.self) (take_all c.loop-request.request-index c.args.requests.now c.loop-request-test.false) it.3,
     )
 
-pub returns-clause-counts : goal.returns-clause-counts
-returns-clause-counts g c =
-    subst (λ l. CountsCommits l c.args.self.now c.loop-request.self) (take_all c.loop-request.request-index c.args.requests.now c.loop-request-test.false) c.loop-request.invariant.counts
+pub returns-clause-still : goal.returns-clause-still
+returns-clause-still g c =
+    subst (λ l. StaysStill l c.args.self.now c.loop-request.self) (take_all c.loop-request.request-index c.args.requests.now c.loop-request-test.false) c.loop-request.invariant.still

@@ -6,10 +6,11 @@ use Rattle.sqlite.specs.State.{Survives}
 use Rattle.mvd_dots.specs.declared.refusals.Refusal.TheVariants.{Memory, Store}
 use Rattle.mvd_site.specs.Installs.{changes_in}
 use Rattle.mvd_replica.specs.Groups.{pairs_in, reply_unstored}
-use Rattle.mvd_replica.specs.Replicas.{stored_by}
 use Rattle.mvd_replica.specs.Shared.{LeavesPairs}
-use Rattle.mvd_replica.proofs.Counting.{counts_group, counts_same, some_all, some_each, some_same}
-use Rattle.mvd_replica.proofs.Grouping.{may_all}
+use Rattle.mvd_replica.proofs.Counting.{counts_group, counts_unstored, some_all, some_each, some_same}
+use Rattle.mvd_replica.proofs.Grouping.{may_all, pairs_none}
+use Rattle.mvd_replica.proofs.Putting.{still_end}
+use Rattle.mvd_replica.proofs.Still.{none_changed, same_replica}
 use Rattle.mvd_replica.proofs.Recording.{answers_put, answers_unstored}
 use Rattle.mvd_replica.proofs.replica.Replica.answer_front.Goals as goal
 
@@ -21,7 +22,7 @@ install_all-requires-clause-fresh g c whole =
 -- a broken site answers each
 pub returns-then-is_broken-clause-answers : goal.returns-then-is_broken-clause-answers
 returns-then-is_broken-clause-answers g c =
-    some_all c.args.requests.now c.args.replies.now.items c.answer_each.new.replies.items c.args.self.now c.answer_each.new.self c.requires.some c.answer_each.ensures.answers c.answer_each.ensures.counts
+    some_all c.args.requests.now c.args.replies.now.items c.answer_each.new.replies.items c.args.self.now c.answer_each.new.self c.requires.some c.answer_each.ensures.answers c.answer_each.ensures.still
 
 pub returns-in-Ok-store_all-clause-answers : goal.returns-in-Ok-store_all-clause-answers
 returns-in-Ok-store_all-clause-answers g c =
@@ -46,9 +47,14 @@ returns-in-Ok-store_all-clause-answers g c =
             (λ trees is_open may. g.met.S.Store.settled c.store_all.new.records.conn.store trees is_open may)
             (subst (λ l. Survives before after (LeavesPairs before (pairs_in l))) c.deref.ensures.value c.in-Ok-store_all.ensures.survives);
       },
-      counts_group requests group it.0 _ _ whole together.each it.2
+      counts_group requests group it.0 _ _ whole together it.2
           (λ none. c.counted-self.ensures.none (ap changes_in c.deref-in-Ok-store_all.ensures.value ∙ none))
           (λ some. c.counted-self.ensures.one (subst (λ l. 0 < changes_in l) (sym c.deref-in-Ok-store_all.ensures.value) some)),
+      λ still. (
+          let none = none_changed old requests group together.each still in
+          same_replica _ c.args.self.now (still_end group it.0 old c.install_all.new.self whole (pairs_none group none) it.2)
+          (c.in-Ok-store_all.ensures.still (ap pairs_in c.deref.ensures.value ∙ pairs_none group none))
+          (c.counted-self.ensures.none (ap changes_in c.deref-in-Ok-store_all.ensures.value ∙ none))),
     )
 
 pub returns-in-Err-store_all : goal.returns-in-Err-store_all
@@ -73,7 +79,10 @@ returns-in-Err-store_all g c =
               (λ trees is_open may. g.met.S.Store.settled c.store_all.new.records.conn.store trees is_open may)
               (subst (λ l. Survives before after (LeavesPairs before (pairs_in l))) c.deref.ensures.value c.in-Err-store_all.ensures.survives);
         },
-        counts_same requests _ _ refl refl,
+        counts_unstored requests group c.args.self.now _ whole together.each together.sendable refl refl,
+        λ still. (
+            let none = none_changed old requests group together.each still in
+            same_replica _ c.args.self.now refl (c.in-Err-store_all.ensures.still (ap pairs_in c.deref.ensures.value ∙ pairs_none group none)) refl),
       );
       room = c.refuse_all.ensures.room;
     }
@@ -82,7 +91,7 @@ returns-in-Err-store_all g c =
 pub returns-in-Err-clause-answers : goal.returns-in-Err-clause-answers
 returns-in-Err-clause-answers g c =
     some_each c.args.requests.now 1 c.args.replies.now.items c.answer_each-in-Err.new.replies.items c.args.self.now c.answer_each-in-Err.new.self (omega arith) c.requires.some
-    c.answer_each-in-Err.ensures.answers c.answer_each-in-Err.ensures.counts
+    c.answer_each-in-Err.ensures.answers c.answer_each-in-Err.ensures.still
 
 -- no memory for what is to be stored: each of them
 pub returns-in-Err-Memory-clause-answers : goal.returns-in-Err-Memory-clause-answers
@@ -95,7 +104,7 @@ returns-in-Err-Memory-clause-answers g c =
     let some = c.in-Ok.ensures.some c.requires.some in
     let within = c.in-Ok.ensures.count in
     let new = c.answer_each-in-Err-Memory.new in
-    some_same c.args.requests.now c.args.replies.now.items new.replies.items old _ new.self (ap (λ r. stored_by g.S.Store old.site r.conn) same) refl
+    some_same c.args.requests.now c.args.replies.now.items new.replies.items old _ new.self (same_replica _ old refl same refl)
     (some_each c.args.requests.now c.len-count.result c.args.replies.now.items new.replies.items _ new.self
     (omega (arith, some, c.len-count.ensures, c.in-Ok.group.ok.0)) (omega (arith, within, c.len-count.ensures, c.in-Ok.group.ok.0))
-    c.answer_each-in-Err-Memory.ensures.answers c.answer_each-in-Err-Memory.ensures.counts)
+    c.answer_each-in-Err-Memory.ensures.answers c.answer_each-in-Err-Memory.ensures.still)

@@ -1,7 +1,7 @@
 use Rattle.std.proofs.Common.{Ok, Err, inl, inr, refl, sym, subst, ap}
 use Rattle.mvd_dots.specs.declared.refusals.Refusal.TheVariants.{Damaged, SiteMismatch}
 use Rattle.sqlite.specs.Held.{state}
-use Rattle.mvd_records.specs.Records.{IsSound, TellsVersion, marks_of}
+use Rattle.mvd_records.specs.Records.{IsSound, KeepsStates, TellsVersion, marks_of}
 use Rattle.mvd_replica.specs.Opened.{RefusesSite}
 use Rattle.mvd_replica.proofs.Leaving.{at_rest}
 use Rattle.mvd_restore.proofs.Loading.{holds_opened}
@@ -35,6 +35,11 @@ returns-in-Ok-site_in g c = record {
           spelled = has_just _ _ c.in-Ok-site_in.site.states same none both.1 c.key_count-held.ensures.held.spelled;
           holds = holds_opened c.in-Ok-site_in.site c.args.config c.site.result _ c.in-Ok-site_in.ensures.config.0 c.site.ensures.site both.0 none both.1;
           states = same;
+          kept = (
+            c.in-Ok.records.version,
+            subst (λ n. TellsVersion (marks_of store.committed) n (Ok c.in-Ok.records.version)) c.site.ensures.site opened.told,
+            λ two. subst (KeepsStates store.committed) (sym (c.in-Ok-site_in.ensures.still two c.site.result sound opened.holds)) opened.states,
+          );
         });
     own = c.in-Ok.ensures.own;
   };
@@ -52,6 +57,7 @@ returns-in-Err g c = record {
         let told = c.in-Err.ensures.0.told sound ours in
         record {
           states = same_unchanged _ _ (c.in-Err.ensures.0.unchanged sound);
+          kept = inl (c.in-Err.ensures.0.unchanged sound);
           mismatch = λ is. told_as was c.args.config.site c.site.result c.in-Err.refused.0 SiteMismatch c.site.ensures.site is told;
           damaged = λ is. inl (told_as was c.args.config.site c.site.result c.in-Err.refused.0 Damaged c.site.ensures.site is told);
           full = λ is. absurd (open_not_full _ c.in-Err.ensures.0.refusal is);
@@ -80,6 +86,11 @@ returns-in-Err-site_in g c = record {
         let number = c.site.result in
         subst (λ k. RefusesSite c.args.config was c.in-Err-site_in.refusal (state g.S.Store k).committed) (sym same) (record {
           states = same_then _ _ _ (same_kept _ _ opened.states) (c.in-Err-site_in.ensures.states number real opened.holds);
+          kept = inr (
+            version,
+            subst (λ n. TellsVersion (marks_of was) n (Ok version)) c.site.ensures.site opened.told,
+            λ two. subst (KeepsStates was) (sym (c.in-Err-site_in.ensures.still two number real opened.holds)) opened.states,
+          );
           mismatch = λ is. absurd (read_no_mismatch _ c.in-Err-site_in.ensures.refusal is);
           damaged = λ is. damaged_site was _ version c.args.config.site number c.site.ensures.site opened.told opened.states (c.in-Err-site_in.ensures.order number real opened.holds is);
           full = λ is. (

@@ -6,13 +6,13 @@ use Rattle.mvd_replica.proofs.Sides.{changes_states}
 use Rattle.mvd_file.proofs.unmade.unchanged.Goals as goal
 
 pub returns-in-Err : goal.returns-in-Err
-returns-in-Err g c = record {
+returns-in-Err c = record {
   told = answers_from_refusal c.args.site.now c.args.request.now c.in-Err.refusal (λ whole. c.in-Err.ensures.states whole);
   none = tt;
 }
 
 pub returns-in-Ok-Answer : goal.returns-in-Ok-Answer
-returns-in-Ok-Answer g c =
+returns-in-Ok-Answer c =
     let site = c.args.site.now in
     let request = c.args.request.now in
     record {
@@ -22,7 +22,7 @@ returns-in-Ok-Answer g c =
     }
 
 pub returns-in-Ok-Change : goal.returns-in-Ok-Change
-returns-in-Ok-Change g c =
+returns-in-Ok-Change c =
     let site = c.args.site.now in
     let request = c.args.request.now in
     let whole : site.broken ≡ false = whole_where_ok site.broken c.in-Ok-Change.field-0 c.in-Ok-Change.ensures.broken in

@@ -27,14 +27,14 @@ module _ {S : Type 0} {g : Ghosts S} where
   }
 
 -- the order works on no file
-pub gives_none : {D S E : Type 0} {g : disk.Ghosts D} (image : Image) (start : S) (result : Result (Outcome D S) E) →
+pub gives_none : {D S E : Type 0} (g : disk.Ghosts D) (image : Image) (start : S) (result : Result (Outcome D S) E) →
     IfOk result (λ outcome. outcome ≡ Unopened start) → IfOk result (GivesBack g image start None)
-gives_none {g = g} image start (Ok outcome) is = subst (GivesBack g image start None) (sym is) refl
-gives_none image start (Err error) is = tt
+gives_none g image start (Ok outcome) is = subst (GivesBack g image start None) (sym is) refl
+gives_none g image start (Err error) is = tt
 
 -- a file comes back
-pub gives_some : {D S E : Type 0} {g : disk.Ghosts D} (image : Image) (site : ℕ) (result : Result (Outcome D S) E) →
+pub gives_some : {D S E : Type 0} (g : disk.Ghosts D) (image : Image) (site : ℕ) (result : Result (Outcome D S) E) →
     IfOk result (GivesFile g image site) → IfOk result HasFile
-gives_some image site (Ok (Closed files)) it = tt
-gives_some image site (Ok (Unopened named)) it = absurd it
-gives_some image site (Err error) it = tt
+gives_some g image site (Ok (Closed files)) it = tt
+gives_some g image site (Ok (Unopened named)) it = absurd it
+gives_some g image site (Err error) it = tt

@@ -62,8 +62,8 @@ module _ {D S E : Type 0} {g : disk.Ghosts D} {f : Ghosts (FileStore D g)} (imag
   gives_file (Err error) opened works ends = tt
 
 -- its file is what comes back
-pub gives_back : {D S E : Type 0} {g : disk.Ghosts D} (image : Image) (start : S) (number site : ℕ) (result : Result (Outcome D S) E) → number ≡ site →
+pub gives_back : {D S E : Type 0} (g : disk.Ghosts D) (image : Image) (start : S) (number site : ℕ) (result : Result (Outcome D S) E) → number ≡ site →
     IfOk result (GivesFile g image number) → IfOk result (GivesBack g image start (Some site))
-gives_back {g = g} image start number site (Ok (Closed files)) same it = subst (λ n. LeavesFile g image n files) same it
-gives_back image start number site (Ok (Unopened named)) same it = absurd it
-gives_back image start number site (Err error) same it = tt
+gives_back g image start number site (Ok (Closed files)) same it = subst (λ n. LeavesFile g image n files) same it
+gives_back g image start number site (Ok (Unopened named)) same it = absurd it
+gives_back g image start number site (Err error) same it = tt

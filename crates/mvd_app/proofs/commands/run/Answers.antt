@@ -6,8 +6,8 @@ use Rattle.mvd_app.proofs.commands.run.Goals as goal
 
 pub returns-in-Serve : goal.returns-in-Serve
 returns-in-Serve g c = record {
-  kept = rw c.in-Serve.is (gives_back (image_at g.S.Start) c.args.start c.in_ok-config.config.site c.in-Serve.setup.site c.run_stored.result c.in_ok-config.ensures.site c.run_stored.ensures.kept);
-  served = rw c.in-Serve.is (gives_some (image_at g.S.Start) c.in_ok-config.config.site c.run_stored.result c.run_stored.ensures.kept);
+  kept = rw c.in-Serve.is (gives_back _ (image_at g.S.Start) c.args.start c.in_ok-config.config.site c.in-Serve.setup.site c.run_stored.result c.in_ok-config.ensures.site c.run_stored.ensures.kept);
+  served = rw c.in-Serve.is (gives_some _ (image_at g.S.Start) c.in_ok-config.config.site c.run_stored.result c.run_stored.ensures.kept);
 }
 
 pub returns-in-Shell : goal.returns-in-Shell

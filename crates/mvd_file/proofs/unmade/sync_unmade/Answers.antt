@@ -5,7 +5,7 @@ use Rattle.mvd_file.proofs.unmade.sync_unmade.Goals as goal
 
 pub returns : goal.returns
 returns g c = record {
-  kept = gives_back (image_at g.S.Start) c.args.start c.args.config.site c.args.config.site c.finish.result refl
+  kept = gives_back _ (image_at g.S.Start) c.args.start c.args.config.site c.args.config.site c.finish.result refl
       (gives_file (image_at g.S.Start) c.args.config c.in-Ok.replica c.stored-worked.new.replica c.finish.result c.in-Ok.ensures
       (pushed_works c.in-Ok.replica c.stored-worked.new.replica c.stored-worked.ensures.pushed) c.finish.ensures);
 }

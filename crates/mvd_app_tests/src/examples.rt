@@ -13,7 +13,7 @@ found ada
 #[test]
 fn two_replicas_meet(rt: HostRuntime) -> Result<(), Fail> {
     let mut out = String::new(rt.alloc());
-    mvd_example::run(rt.alloc(), &mut out)?;
+    mvd_store::example::run(rt.alloc(), &mut out)?;
     assert!(rt; out.as_str() == PRINTED);
     Ok(())
 }

@@ -1,10 +1,8 @@
 //! Many clients at once: their bytes come and leave in pieces and orders that a seed determines, and what they are told is what one
 //! replica answers to one sequence of requests.
 use super::host_calls::{admit_all, feed, round, take};
-use super::random_frames::Random;
-use super::replica_calls::{
-    Bytes, CLASH, GET, PUT, ROOM, WIDE, new_replica, push, replies, root_of,
-};
+use super::random_frames::{Random, below};
+use super::replica_calls::{Bytes, CLASH, GET, PUT, WIDE, new_replica, push, replies, root_of};
 use mvd_dots::Refusal;
 use mvd_host::Host;
 use mvd_replica::Replica;
@@ -15,6 +13,9 @@ use std::test::Fail;
 const CLIENTS: u64 = 8;
 
 const REQUESTS: usize = 6;
+
+/// As many steps suffice for all bytes to come and all replies to leave.
+const STEPS: u32 = 5_000;
 
 /// What clients ask: puts, deletes and pushes at two keys, and questions for one of them and for the site.
 const ASKED: [&str; 10] = [
@@ -47,7 +48,7 @@ struct Client {
 fn new_client(alloc: Global, random: &mut Random) -> Client {
     let mut asked = [GET; REQUESTS];
     for at in 0..REQUESTS {
-        asked[at] = ASKED[random.below(10) as usize % 10];
+        asked[at] = ASKED[below(random, 10) as usize % 10];
     }
     Client {
         asked,
@@ -58,12 +59,6 @@ fn new_client(alloc: Global, random: &mut Random) -> Client {
         told: Vec::new(alloc),
         wanted: Vec::new(alloc),
     }
-}
-
-/// At most so many of these bytes come, behind those that came. How many did.
-fn come(host: &mut Host, number: u64, client: &Client, most: usize) -> usize {
-    let rest = client.input.bytes().get(client.came..).unwrap_or(&[]);
-    feed(host, number, rest.get(..most).unwrap_or(rest))
 }
 
 /// One replica is asked what a round takes of a client: the requests that are whole, up to one that is none.
@@ -92,56 +87,44 @@ struct Sides {
     single: Replica<MemStore>,
 }
 
-/// A round of some clients, and what the one replica is asked for it.
-fn take_round(alloc: Global, sides: &mut Sides, clients: &mut [Client], ready: &[u64]) {
-    round(&mut sides.host, &mut sides.replica, ready);
-    for number in ready {
-        if let Some(client) = clients.get_mut(*number as usize) {
-            ask(alloc, &mut sides.single, client);
-        }
-    }
-}
-
 /// At most so many bytes of a client come, or as many of those that wait leave to it.
 fn move_bytes(host: &mut Host, number: u64, clients: &mut [Client], most: usize, leave: bool) {
     if let Some(client) = clients.get_mut(number as usize) {
         if leave {
             push(&mut client.told, take(host, number, most).bytes());
         } else {
-            let count = come(host, number, client, most);
+            let rest = client.input.bytes().get(client.came..).unwrap_or(&[]);
+            let count = feed(host, number, rest.get(..most).unwrap_or(rest));
             client.came = client.came.saturating_add(count);
         }
     }
 }
 
-/// One step: bytes of a client come, or bytes leave to it, or there is a round of two clients.
+/// One step: bytes of a client come, or bytes leave to it, or there is a round of two clients, for which the one replica is asked too.
 fn step(alloc: Global, random: &mut Random, sides: &mut Sides, clients: &mut [Client]) {
-    let number = random.below(CLIENTS);
-    let behind = random.below(CLIENTS - 1).wrapping_add(1);
+    let number = below(random, CLIENTS);
+    let behind = below(random, CLIENTS - 1).wrapping_add(1);
     let other = number.wrapping_add(behind) % CLIENTS;
-    let most = random.below(80) as usize;
-    match random.below(5) {
-        0 => take_round(alloc, sides, clients, &[number, other]),
-        kind => move_bytes(&mut sides.host, number, clients, most, kind == 1),
+    let most = below(random, 80) as usize;
+    let kind = below(random, 5);
+    if kind != 0 {
+        move_bytes(&mut sides.host, number, clients, most, kind == 1);
+        return;
     }
-}
-
-/// All bytes come, all requests are answered, and all replies leave.
-fn finish(alloc: Global, sides: &mut Sides, clients: &mut [Client]) {
-    for _ in 0..REQUESTS {
-        for number in 0..CLIENTS {
-            move_bytes(&mut sides.host, number, clients, ROOM, false);
-        }
-        take_round(alloc, sides, clients, &[7, 2, 5, 0, 3, 6, 1, 4]);
-        for each in 0..10 * CLIENTS {
-            move_bytes(&mut sides.host, each % CLIENTS, clients, ROOM, true);
+    round(&mut sides.host, &mut sides.replica, &[number, other]);
+    for number in [number, other] {
+        if let Some(client) = clients.get_mut(number as usize) {
+            ask(alloc, &mut sides.single, client);
         }
     }
 }
 
-/// How many bytes clients are told together; `None` where one has not all that it should have been told.
+/// How many bytes clients are told together; `None` where one has not all that it should have been told, or not all was asked.
 fn told_to(clients: &[Client]) -> Option<usize> {
     let mut bytes = 0usize;
+    if clients.len() != CLIENTS as usize {
+        return None;
+    }
     for client in clients {
         if client.taken != REQUESTS || client.told.as_slice() != client.wanted.as_slice() {
             return None;
@@ -152,8 +135,8 @@ fn told_to(clients: &[Client]) -> Option<usize> {
 }
 
 fn new_sides(alloc: Global) -> Result<Sides, Refusal> {
-    let replica = new_replica(alloc, 1)?;
-    match new_replica(alloc, 1) {
+    let replica = new_replica(alloc, 1, &[])?;
+    match new_replica(alloc, 1, &[]) {
         Ok(single) => Ok(Sides {
             host: Host::new(alloc),
             replica,
@@ -167,36 +150,29 @@ fn new_sides(alloc: Global) -> Result<Sides, Refusal> {
 }
 
 /// How many bytes new clients of these sides are told.
-fn told_by(
-    alloc: Global,
-    random: &mut Random,
-    sides: &mut Sides,
-) -> Result<Option<usize>, Refusal> {
+fn told_by(alloc: Global, random: &mut Random, sides: &mut Sides) -> Option<usize> {
     let mut clients = Vec::new(alloc);
     admit_all(&mut sides.host, CLIENTS as usize);
     for _ in 0..CLIENTS {
-        clients.push(new_client(alloc, random))?;
+        let _ = clients.push(new_client(alloc, random));
     }
-    for _ in 0..150u32 {
+    for _ in 0..STEPS {
         step(alloc, random, sides, clients.as_mut_slice());
     }
-    finish(alloc, sides, clients.as_mut_slice());
     let told = told_to(clients.as_slice());
     drop(clients);
-    Ok(told)
+    told
 }
 
 /// How many bytes the clients are told in the order of a seed; `None` where they are others than one sequence gives, or the two
 /// replicas have not one root.
 fn told_in_order(alloc: Global, seed: u64) -> Result<Option<usize>, Refusal> {
-    let mut random = Random {
-        state: seed.wrapping_mul(0x9E37_79B9_7F4A_7C15),
-    };
+    let mut random = seed.wrapping_mul(0x9E37_79B9_7F4A_7C15);
     let mut sides = new_sides(alloc)?;
     let told = told_by(alloc, &mut random, &mut sides);
     let are_equal = root_of(&sides.replica) == root_of(&sides.single);
     drop(sides);
-    if are_equal { told } else { Ok(None) }
+    Ok(if are_equal { told } else { None })
 }
 
 #[test]

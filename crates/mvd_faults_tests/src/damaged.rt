@@ -1,10 +1,7 @@
 //! Records that are damaged, and files that are.
 use super::file_calls::{NEVER, Work, database, files_with, on_files};
-use super::replica_calls::{memory_after, or_refusal, push};
+use super::replica_calls::push;
 use mvd_dots::Refusal;
-use mvd_keys::Key;
-use mvd_records::Records;
-use sqlite::MemStore;
 use std::alloc::Global;
 use std::test::Fail;
 
@@ -153,82 +150,51 @@ fn damaged_records_are_refused_and_stay(rt: HostRuntime) -> Result<(), Fail> {
     Ok(())
 }
 
-/// The records of site 1 in memory, with three keys of version 1. Nothing is claimed of them.
-fn old_records(alloc: Global) -> Result<Records<MemStore>, Refusal> {
-    let conn = memory_after(alloc, THREE_OLD)?;
-    or_refusal(Records::open(alloc, conn, 1))
-}
-
-/// Whether a key that is no old one is refused to be moved, and so is an end of the moves while old keys are left.
-fn keeps_old_keys(alloc: Global, records: &mut Records<MemStore>) -> Result<bool, Refusal> {
-    let other = Key::read(alloc, "c")?;
-    let damaged = Err(Refusal::Damaged);
-    Ok(records.move_key(&other, &[1]) == damaged && records.finish() == damaged)
-}
-
-#[test]
-fn a_move_out_of_turn_is_refused(rt: HostRuntime) -> Result<(), Fail> {
-    let mut records = old_records(rt.alloc())?;
-    let are_kept = keeps_old_keys(rt.alloc(), &mut records);
-    drop(records);
-    assert!(rt; are_kept?);
-    Ok(())
-}
-
 const PAGE: usize = 4_096;
 
-/// So many bytes of one value are no database.
-const FILLED: [usize; 6] = [2, 100, 512, 4_096, 8_192, 10_000];
-
-fn is_refused(alloc: Global, bytes: &[u8], change: Change) -> Result<bool, Refusal> {
-    Ok(found_after(alloc, bytes, change)?.0.is_some())
-}
-
-/// How many pages of a file each make it refused: with zeros in it, where the file is cut there, and where it is cut a little later.
-fn needed_pages(alloc: Global, bytes: &[u8]) -> Result<usize, Refusal> {
-    let mut needed = 0usize;
+/// How many changes of a file there are, and how many of them make it refused: of each page, zeros in it, a cut at its beginning, and one
+/// a little later; and two files of one value, up to the end of the page and up to some place in it.
+fn refused_changes(alloc: Global, bytes: &[u8]) -> Result<(usize, usize), Refusal> {
+    let mut tried = 0usize;
+    let mut refused = 0usize;
     for page in 0..bytes.len() / PAGE {
         let at = page.saturating_mul(PAGE);
-        let zeros = (at, at.saturating_add(PAGE), 0, usize::MAX);
-        // (a file of no byte is a new one)
-        if is_refused(alloc, bytes, zeros)?
-            && (at == 0 || is_refused(alloc, bytes, (0, 0, 0, at))?)
-            && is_refused(alloc, bytes, (0, 0, 0, at.saturating_add(1_000)))?
-        {
-            needed = needed.saturating_add(1);
+        let end = at.saturating_add(PAGE);
+        let middle = at.saturating_add(100);
+        let byte = [0, b'S', b'x', 0xFF][page % 4];
+        let changes: [Change; 5] = [
+            (at, end, 0, usize::MAX),
+            // (a file of no byte is a new one)
+            (0, 0, 0, at.max(2)),
+            (0, 0, 0, at.saturating_add(1_000)),
+            (0, end, byte, end),
+            (0, middle, byte, middle),
+        ];
+        for change in changes {
+            let (refusal, _) = found_after(alloc, bytes, change)?;
+            tried = tried.saturating_add(1);
+            refused = refused.saturating_add(usize::from(refusal.is_some()));
         }
     }
-    Ok(needed)
+    Ok((tried, refused))
 }
 
-/// Whether each file of bytes of one value is refused; these bytes are long enough.
-fn filled_are_refused(alloc: Global, bytes: &[u8]) -> Result<bool, Refusal> {
-    for byte in [0, b'S', b'x', 0xFF] {
-        for len in FILLED {
-            if !is_refused(alloc, bytes, (0, len, byte, len))? {
-                return Ok(false);
-            }
-        }
-    }
-    Ok(true)
-}
-
-/// How many pages a file of records with ten keys has, and how many of these it needs; and whether it is opened as it is, and files of
-/// bytes of one value are refused.
-fn pages(alloc: Global) -> Result<(usize, usize, bool), Refusal> {
+/// The same of a file of records with ten keys, which is opened as it is.
+fn tried(alloc: Global) -> Result<(usize, usize), Refusal> {
     let bytes = database(alloc, Work::Documents(10, 1_000))?;
-    let count = bytes.len() / PAGE;
-    let needed = needed_pages(alloc, bytes.as_slice());
-    let filled = filled_are_refused(alloc, bytes.as_slice());
+    let counts = refused_changes(alloc, bytes.as_slice());
     let found = found_in(alloc, bytes.as_slice());
     drop(bytes);
-    Ok((count, needed?, filled? && found?.0.is_none()))
+    match found?.0 {
+        Some(refusal) => Err(refusal),
+        None => counts,
+    }
 }
 
 #[test]
 fn a_file_that_is_cut_or_overwritten_is_refused(rt: HostRuntime) -> Result<(), Fail> {
-    let (pages, needed, is_well) = pages(rt.alloc())?;
-    println!(rt; "{needed} of {pages} pages")?;
-    assert!(rt; is_well && needed == pages && pages > 10);
+    let (tried, refused) = tried(rt.alloc())?;
+    println!(rt; "{refused} of {tried} changes")?;
+    assert!(rt; refused == tried && tried >= 100);
     Ok(())
 }

@@ -4,6 +4,7 @@ use super::host_calls::told_by_three;
 use super::replica_calls::{
     Bytes, Root, conn_of, counted, opened, push, replies, root_of, run_all, serves,
 };
+use super::stream_ways::ALL;
 use mvd_dots::Refusal;
 use mvd_replica::Replica;
 use mvd_sync::sync_within;
@@ -46,7 +47,10 @@ fn connected<D: Disk + Drop>(
     }
     match Connection::open_files(alloc, files, Options::new(1)) {
         Ok(conn) => Ok(conn),
-        Err((_, left)) => Err(left.into_files()),
+        Err((fault, left)) => {
+            drop(fault);
+            Err(left.into_files())
+        }
     }
 }
 
@@ -76,25 +80,24 @@ pub enum Work<'a> {
     Peer,
 }
 
-/// A put of a document of so many letters at a key of one letter.
-fn long_put(alloc: Global, key: u8, letters: u32) -> Vec<u8> {
-    let mut frame = Vec::new(alloc);
-    push(&mut frame, &letters.saturating_add(19).to_be_bytes());
-    push(&mut frame, &[0x22, 1, key, 0, 0, 0, 0]);
-    push(&mut frame, &letters.saturating_add(8).to_be_bytes());
-    push(&mut frame, b"{\"a\":\"");
+/// Adds a put of a document of so many letters at a key of one letter.
+fn add_put(frame: &mut Vec<u8>, key: u8, letters: u32) {
+    let [a, b, c, d] = letters.saturating_add(19).to_be_bytes();
+    let [e, f, g, h] = letters.saturating_add(8).to_be_bytes();
+    push(frame, &[a, b, c, d, 0x22, 1, key, 0, 0, 0, 0, e, f, g, h]);
+    push(frame, b"{\"a\":\"");
     for _ in 0..letters {
-        push(&mut frame, b"x");
+        push(frame, b"x");
     }
-    push(&mut frame, b"\"}");
-    frame
+    push(frame, b"\"}");
 }
 
 /// Puts documents at so many keys, each of so many letters more than the one before.
 pub fn put_keys<S: Alter + Drop>(alloc: Global, replica: &mut Replica<S>, keys: u8, letters: u32) {
     for number in 0..keys {
         let letters = letters.saturating_mul(u32::from(number));
-        let put = long_put(alloc, b'0'.saturating_add(number), letters);
+        let mut put = Vec::new(alloc);
+        add_put(&mut put, b'0'.saturating_add(number), letters);
         let _replies = replies(alloc, replica, put.as_slice());
     }
 }
@@ -125,7 +128,7 @@ fn does<S: Alter + Drop>(
         }
         Work::Puts(puts) => {
             let puts = puts.get(..most).unwrap_or(puts);
-            let (output, _) = serves(alloc, replica, &Bytes::of(puts));
+            let (output, _) = serves(alloc, replica, &Bytes::of(puts), ALL, ALL);
             counted(output.bytes()).1
         }
         Work::Rounds(puts) => {
@@ -153,15 +156,13 @@ pub struct Course {
     pub last: Root,
 }
 
-/// The course of work for which no replica was opened.
-fn without_replica(refusal: Option<Refusal>) -> Course {
-    Course {
-        refusal,
-        first: [0; 32],
-        done: 0,
-        last: [0; 32],
-    }
-}
+/// The course of work that came to nothing.
+const NO_COURSE: Course = Course {
+    refusal: None,
+    first: [0; 32],
+    done: 0,
+    last: [0; 32],
+};
 
 /// The course of work on a replica.
 fn course_of<S: Alter + Drop>(
@@ -187,16 +188,20 @@ fn on_records<S: Alter + Drop>(
     work: (Work<'_>, usize),
     other: Option<&mut Replica<MemStore>>,
 ) -> (Course, Connection<S>) {
+    let mut course = NO_COURSE;
     if let Work::Statements(statements) = work.0 {
-        let refusal = run_all(&mut conn, statements).err();
-        return (without_replica(refusal), conn);
+        course.refusal = run_all(&mut conn, statements).err();
+        return (course, conn);
     }
     match opened(alloc, conn, 1) {
         Ok(mut replica) => {
-            let course = course_of(alloc, &mut replica, work, other);
+            course = course_of(alloc, &mut replica, work, other);
             (course, conn_of(replica))
         }
-        Err((refusal, conn)) => (without_replica(Some(refusal)), conn),
+        Err((refusal, conn)) => {
+            course.refusal = Some(refusal);
+            (course, conn)
+        }
     }
 }
 
@@ -212,7 +217,11 @@ pub fn on_files<D: Disk + Drop>(
             let (course, conn) = on_records(alloc, conn, work, other);
             (course, closed(conn))
         }
-        Err(files) => (without_replica(Some(Refusal::Store)), files),
+        Err(files) => {
+            let mut course = NO_COURSE;
+            course.refusal = Some(Refusal::Store);
+            (course, files)
+        }
     }
 }
 

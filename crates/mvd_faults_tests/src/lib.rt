@@ -5,8 +5,6 @@
 #[cfg(test)]
 mod asked_sites;
 #[cfg(test)]
-mod bytes;
-#[cfg(test)]
 mod clients;
 #[cfg(test)]
 mod damaged;

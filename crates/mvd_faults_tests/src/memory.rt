@@ -2,35 +2,15 @@
 use super::asked_sites::{ASKED, Asked};
 use super::host_calls::told_by_three;
 use super::replica_calls::{
-    Bytes, EMPTY, GET, PUT, STATE, Told, WRITTEN, asks, conn_of, first_frame, memory_after, opened,
-    or_refusal, serves, tells,
+    Bytes, EMPTY, GET, PUT, STATE, Told, WRITTEN, asks, conn_of, first_frame, new_replica,
+    open_again, serves, tells,
 };
+use super::stream_ways::ALL;
 use mvd_dots::Refusal;
 use mvd_replica::Replica;
-use sqlite::{Connection, MemStore};
+use sqlite::MemStore;
 use std::alloc::Global;
 use std::test::Fail;
-
-/// The replica that records hold, which are opened once more where memory was refused.
-fn open_again(
-    alloc: Global,
-    conn: Connection<MemStore>,
-    number: u32,
-) -> Result<Replica<MemStore>, Refusal> {
-    match opened(alloc, conn, number) {
-        Err((Refusal::Memory | Refusal::Store, conn)) => or_refusal(opened(alloc, conn, number)),
-        found => or_refusal(found),
-    }
-}
-
-/// The same of records in memory after these statements, which are made once more where memory was refused.
-fn made(alloc: Global, number: u32, statements: &[&str]) -> Result<Replica<MemStore>, Refusal> {
-    let conn = match memory_after(alloc, statements) {
-        Err(_) => memory_after(alloc, statements),
-        made => made,
-    };
-    open_again(alloc, conn?, number)
-}
 
 /// The same replica; one that is broken tells it once more, and is opened again.
 fn mended(
@@ -71,7 +51,7 @@ fn answered(
 
 /// Whether a replica answers as it should; one that is broken is opened again, and has the write.
 fn replica_answers(alloc: Global, asked: &Asked) -> Result<bool, Refusal> {
-    let mut replica = made(alloc, asked.0, asked.1)?;
+    let mut replica = new_replica(alloc, asked.0, asked.1)?;
     let count = answered(alloc, &mut replica, asked.2, 0);
     let from = count.saturating_add(usize::from(replica.is_broken()));
     let mut replica = mended(alloc, replica, asked.0)?;
@@ -175,7 +155,7 @@ fn pairs_tell(
 
 /// What one connection is told of all pairs. (Where it ends otherwise than it may, that is a frame that no reply is.)
 fn told_at_once(alloc: Global, replica: &mut Replica<MemStore>) -> Bytes {
-    let (output, ended) = serves(alloc, replica, &Bytes::of(&AT_ONCE));
+    let (output, ended) = serves(alloc, replica, &Bytes::of(&AT_ONCE), ALL, ALL);
     if ended == "end" || ended == "Memory" {
         output
     } else {
@@ -185,7 +165,7 @@ fn told_at_once(alloc: Global, replica: &mut Replica<MemStore>) -> Bytes {
 
 /// Whether clients are told of the pairs what is there; a replica that is broken then is opened again.
 fn pairs_are_told(alloc: Global, in_rounds: bool) -> Result<bool, Refusal> {
-    let mut replica = made(alloc, 1, &[])?;
+    let mut replica = new_replica(alloc, 1, &[])?;
     let output = if in_rounds {
         told_by_three(alloc, &mut replica, &IN_ROUNDS)
     } else {

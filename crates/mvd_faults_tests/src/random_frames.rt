@@ -1,27 +1,21 @@
 //! Random frames, from a generator with a fixed seed.
-use super::bytes::answers;
-use super::replica_calls::{new_replica, push};
+use super::replica_calls::{counted, new_replica, push, replies};
 use mvd_replica::Replica;
 use sqlite::MemStore;
 use std::alloc::Global;
 use std::test::Fail;
 
-/// Numbers that a seed determines.
-#[derive(Clone, Copy)]
-pub struct Random {
-    pub state: u64,
-}
+/// What the numbers so far leave: it determines those that follow.
+pub type Random = u64;
 
-impl Random {
-    /// The next number below a limit, or 0 where that is 0.
-    pub fn below(&mut self, limit: u64) -> u64 {
-        let mut x = self.state | 1;
-        x ^= x << 13;
-        x ^= x >> 7;
-        x ^= x << 17;
-        self.state = x;
-        (x >> 11).checked_rem(limit).unwrap_or(0)
-    }
+/// The next number below a limit, or 0 where that is 0.
+pub fn below(random: &mut Random, limit: u64) -> u64 {
+    let mut x = *random | 1;
+    x ^= x << 13;
+    x ^= x >> 7;
+    x ^= x << 17;
+    *random = x;
+    (x >> 11).checked_rem(limit).unwrap_or(0)
 }
 
 /// A form of a piece of a payload: bytes, so many letters behind them, and bytes at the end.
@@ -201,7 +195,7 @@ const KINDS: &[(u8, &[&[Form]])] = &[
 /// Adds these pieces to a payload, each in one of its forms.
 fn add_pieces(random: &mut Random, pieces: &[&[Form]], payload: &mut Vec<u8>) {
     for forms in pieces {
-        let at = random.below(forms.len() as u64) as usize;
+        let at = below(random, forms.len() as u64) as usize;
         if let Some((begin, letters, end)) = forms.get(at) {
             push(payload, begin);
             for _ in 0..*letters {
@@ -212,15 +206,16 @@ fn add_pieces(random: &mut Random, pieces: &[&[Form]], payload: &mut Vec<u8>) {
     }
 }
 
-/// Takes bytes away, puts some at the end, or changes one; mostly none.
-fn damage(random: &mut Random, payload: &mut Vec<u8>) {
-    let at = random.below(payload.len() as u64) as usize;
-    let byte = random.below(256).to_be_bytes()[7];
-    match random.below(8) {
-        0 => payload.truncate(at),
-        1 => push(payload, b"xx"),
+/// Takes away some of the bytes from a place on, puts some at the end, or changes one; mostly none.
+fn damage(random: &mut Random, bytes: &mut Vec<u8>, from: usize) {
+    let behind = bytes.len().saturating_sub(from) as u64;
+    let at = from.saturating_add(below(random, behind) as usize);
+    let byte = below(random, 256).to_be_bytes()[7];
+    match below(random, 8) {
+        0 => bytes.truncate(at),
+        1 => push(bytes, b"xx"),
         2 => {
-            if let Some(found) = payload.get_mut(at) {
+            if let Some(found) = bytes.get_mut(at) {
                 *found = byte;
             }
         }
@@ -232,11 +227,11 @@ fn damage(random: &mut Random, payload: &mut Vec<u8>) {
 fn add_frame(alloc: Global, random: &mut Random, input: &mut Vec<u8>) {
     // A Bye is seldom.
     let most = (KINDS.len() as u64).saturating_mul(8).saturating_sub(7);
-    let at = random.below(most) as usize / 8;
+    let at = below(random, most) as usize / 8;
     let mut payload = Vec::new(alloc);
     if let Some((kind, pieces)) = KINDS.get(at) {
         add_pieces(random, pieces, &mut payload);
-        damage(random, &mut payload);
+        damage(random, &mut payload, 0);
         let len = u32::try_from(payload.len()).unwrap_or(0);
         push(input, &len.saturating_add(1).to_be_bytes());
         push(input, &[*kind]);
@@ -247,18 +242,31 @@ fn add_frame(alloc: Global, random: &mut Random, input: &mut Vec<u8>) {
 
 const FRAMES: u32 = 40;
 
+/// Each second connection has frames that are damaged as a whole, with their lengths.
 const CONNECTIONS: u32 = 250;
 
-/// How many of such frames a connection answers, which is all, or those up to a Bye; `None` where it ends otherwise.
-fn answered(alloc: Global, random: &mut Random, replica: &mut Replica<MemStore>) -> Option<usize> {
+/// How many of such frames a connection answers, which is all, or those up to a Bye, unless frames are damaged as a whole; `None` where
+/// it ends otherwise, or another byte is among the replies.
+fn answered(
+    alloc: Global,
+    random: &mut Random,
+    replica: &mut Replica<MemStore>,
+    are_whole: bool,
+) -> Option<usize> {
     let mut input = Vec::new(alloc);
     for _ in 0..FRAMES {
+        let from = input.len();
         add_frame(alloc, random, &mut input);
+        if !are_whole {
+            damage(random, &mut input, from);
+        }
     }
-    let answered = answers(alloc, replica, input.as_slice());
+    let (output, ended) = replies(alloc, replica, input.as_slice());
+    let (replies, _, left) = counted(output.as_slice());
+    drop(output);
     drop(input);
-    let (replies, ended) = answered?;
-    if ended == "bye" || (ended == "end" && replies == FRAMES as usize) {
+    let is_well = ended == "bye" || (ended == "end" && replies == FRAMES as usize);
+    if left == 0 && (is_well || !are_whole) {
         Some(replies)
     } else {
         None
@@ -267,12 +275,10 @@ fn answered(alloc: Global, random: &mut Random, replica: &mut Replica<MemStore>)
 
 /// How many connections are answered, one after the other, until one is not; and how many frames.
 fn answered_of_all(alloc: Global, replica: &mut Replica<MemStore>) -> (u32, usize) {
-    let mut random = Random {
-        state: 0x9E37_79B9_7F4A_7C15,
-    };
+    let mut random = 0x9E37_79B9_7F4A_7C15;
     let mut frames = 0usize;
     for connection in 0..CONNECTIONS {
-        match answered(alloc, &mut random, replica) {
+        match answered(alloc, &mut random, replica, connection % 2 == 0) {
             Some(replies) => frames = frames.saturating_add(replies),
             None => return (connection, frames),
         }
@@ -282,7 +288,7 @@ fn answered_of_all(alloc: Global, replica: &mut Replica<MemStore>) -> (u32, usiz
 
 #[test]
 fn random_frames_are_answered(rt: HostRuntime) -> Result<(), Fail> {
-    let mut replica = new_replica(rt.alloc(), 1)?;
+    let mut replica = new_replica(rt.alloc(), 1, &[])?;
     let (connections, frames) = answered_of_all(rt.alloc(), &mut replica);
     let keys = replica.key_count();
     drop(replica);

@@ -35,11 +35,6 @@ pub const EMPTY: &str = "00000007a1000000000000";
 pub const STATE: &str =
     "0000002ea100000001000000010000000000000001000000000001000000010000000000000001000000077b2261223a317d";
 
-/// A Bye, and its reply.
-pub const BYE: &str = "000000012f";
-
-pub const DONE: &str = "00000001a3";
-
 /// As many bytes has a connection here at most, each way.
 pub const ROOM: usize = 600;
 
@@ -125,9 +120,13 @@ pub fn counted(output: &[u8]) -> (usize, usize, usize) {
 }
 
 // These have no clause, so that the proof of a test does not carry the state of each call.
+fn is_run<S: Alter>(conn: &mut Connection<S>, sql: &str) -> bool {
+    conn.execute_batch(sql).is_ok()
+}
+
 pub fn run_all<S: Alter>(conn: &mut Connection<S>, statements: &[&str]) -> Result<(), Refusal> {
     for sql in statements {
-        if conn.execute_batch(sql).is_err() {
+        if !is_run(conn, sql) {
             return Err(Refusal::Store);
         }
     }
@@ -135,7 +134,7 @@ pub fn run_all<S: Alter>(conn: &mut Connection<S>, statements: &[&str]) -> Resul
 }
 
 /// A database in memory, after these statements.
-pub fn memory_after(alloc: Global, statements: &[&str]) -> Result<Connection<MemStore>, Refusal> {
+fn memory_after(alloc: Global, statements: &[&str]) -> Result<Connection<MemStore>, Refusal> {
     let Ok(mut conn) = Connection::open_in_memory(alloc) else {
         return Err(Refusal::Store);
     };
@@ -152,10 +151,14 @@ pub fn conn_of<S: Alter + Drop>(replica: Replica<S>) -> Connection<S> {
     replica.into_connection()
 }
 
+fn index(alloc: Global, defs: &mut Defs, name: &str) -> Result<(), Refusal> {
+    defs.index(Field::read(alloc, name)?)
+}
+
 /// Three indexes, and a view of what is spent in each city.
 fn define(alloc: Global, defs: &mut Defs) -> Result<(), Refusal> {
     for name in ["city", "a", "v"] {
-        defs.index(Field::read(alloc, name)?)?;
+        index(alloc, defs, name)?;
     }
     defs.view(
         ViewName::read(alloc, "spend")?,
@@ -184,7 +187,7 @@ pub fn opened<S: Alter + Drop>(
 }
 
 /// What was opened, or the refusal alone.
-pub fn or_refusal<T, U: Drop>(found: Result<T, (Refusal, U)>) -> Result<T, Refusal> {
+fn or_refusal<T, U: Drop>(found: Result<T, (Refusal, U)>) -> Result<T, Refusal> {
     match found {
         Ok(found) => Ok(found),
         Err((refusal, rest)) => {
@@ -194,9 +197,29 @@ pub fn or_refusal<T, U: Drop>(found: Result<T, (Refusal, U)>) -> Result<T, Refus
     }
 }
 
-/// The replica in memory of a site with no key.
-pub fn new_replica(alloc: Global, number: u32) -> Result<Replica<MemStore>, Refusal> {
-    or_refusal(opened(alloc, memory_after(alloc, &[])?, number))
+/// The replica that records in memory hold, which are opened once more where memory was refused.
+pub fn open_again(
+    alloc: Global,
+    conn: Connection<MemStore>,
+    number: u32,
+) -> Result<Replica<MemStore>, Refusal> {
+    match opened(alloc, conn, number) {
+        Err((Refusal::Memory | Refusal::Store, conn)) => or_refusal(opened(alloc, conn, number)),
+        found => or_refusal(found),
+    }
+}
+
+/// The same of new records after these statements, which are made once more where memory was refused.
+pub fn new_replica(
+    alloc: Global,
+    number: u32,
+    statements: &[&str],
+) -> Result<Replica<MemStore>, Refusal> {
+    let conn = match memory_after(alloc, statements) {
+        Err(_) => memory_after(alloc, statements),
+        made => made,
+    };
+    open_again(alloc, conn?, number)
 }
 
 /// Puts bytes behind others. Where memory is refused they are missing there, and the reply is another than is wanted.
@@ -235,7 +258,7 @@ pub fn replies<S: Alter + Drop>(
 }
 
 /// What a connection with these bytes gives over such streams, and how it ends.
-pub fn passes<S: Alter + Drop>(
+pub fn serves<S: Alter + Drop>(
     alloc: Global,
     replica: &mut Replica<S>,
     input: &Bytes,
@@ -253,15 +276,6 @@ pub fn passes<S: Alter + Drop>(
     let left = writer.inner.len();
     let len = ROOM.saturating_sub(left);
     (Bytes { room, len }, ended)
-}
-
-/// What a connection with these bytes gives, and how it ends.
-pub fn serves<S: Alter + Drop>(
-    alloc: Global,
-    replica: &mut Replica<S>,
-    input: &Bytes,
-) -> (Bytes, &'static str) {
-    passes(alloc, replica, input, ALL, ALL)
 }
 
 /// What a reply tells, beside the one that is wanted.
@@ -299,7 +313,7 @@ pub fn asks<S: Alter + Drop>(
     let mut told = Told::Refused;
     for _ in 0..2u32 {
         if matches!(told, Told::Refused) {
-            let (output, _) = serves(alloc, replica, &Bytes::of(&[request]));
+            let (output, _) = serves(alloc, replica, &Bytes::of(&[request]), ALL, ALL);
             told = tells(output.bytes(), wanted);
         }
     }

@@ -12,11 +12,10 @@ use std::alloc::Global;
 use std::test::Fail;
 
 /// What is done on files that stop.
-#[derive(Clone, Copy)]
 struct Run {
     name: &'static str,
-    /// What was done on the files before; none are there where nothing was.
-    before: Option<Work<'static>>,
+    /// What was done on the files before.
+    before: Work<'static>,
     work: Work<'static>,
     /// How many keys the other side has, where there is one.
     theirs: u8,
@@ -24,7 +23,12 @@ struct Run {
     whole: usize,
     /// After how many puts a commit ends; of a run without puts none. In rounds, a put at a key of its round begins another.
     commits: &'static [usize],
+    /// Fewer calls of the log suffice.
+    most: u64,
 }
+
+/// Nothing was done, and no file has a byte.
+const NOTHING: Work<'static> = Work::Statements(&[]);
 
 /// Six requests, each of which changes the states: puts at four keys, the last two of which supersede others.
 const PUTS: &[&str] = &[
@@ -42,61 +46,64 @@ const MINE: &[&str] = &[
     "0000001222016100000000000000077b2261223a327d",
 ];
 
-const RUNS: [Run; 5] = [
+const RUNS: [Run; 6] = [
     Run {
         name: "six puts",
-        before: None,
+        before: NOTHING,
         work: Work::Puts(PUTS),
         theirs: 0,
         whole: 6,
         commits: &[0, 1, 2, 3, 4, 5, 6],
+        most: FAILED,
     },
     Run {
         name: "six puts of three clients",
-        before: None,
+        before: NOTHING,
         work: Work::Rounds(PUTS),
         theirs: 0,
         whole: 6,
         commits: &[0, 2, 3, 6],
+        most: FAILED,
     },
     // They are moved when the files are opened.
     Run {
         name: "three old keys",
-        before: Some(Work::Statements(THREE_OLD)),
+        before: Work::Statements(THREE_OLD),
         work: Work::Open,
         theirs: 0,
         whole: 1,
         commits: &[],
+        most: FAILED,
     },
-    TWO_KEYS,
+    Run {
+        name: "a session's local side",
+        before: Work::Puts(MINE),
+        work: Work::Local,
+        theirs: 2,
+        whole: 1,
+        commits: &[],
+        most: FAILED,
+    },
     Run {
         name: "a session's peer",
-        before: Some(Work::Puts(MINE)),
+        before: Work::Puts(MINE),
         work: Work::Peer,
         theirs: 2,
         whole: 1,
         commits: &[],
+        most: FAILED,
+    },
+    // Its pushes are one commit: with a commit for each key there would be 38 more than in a session with two.
+    Run {
+        name: "a session's local side, with forty keys",
+        before: Work::Puts(MINE),
+        work: Work::Local,
+        theirs: 40,
+        whole: 1,
+        commits: &[],
+        most: 53,
     },
 ];
-
-/// Sessions that bring two keys, and forty.
-const TWO_KEYS: Run = Run {
-    name: "a session's local side",
-    before: Some(Work::Puts(MINE)),
-    work: Work::Local,
-    theirs: 2,
-    whole: 1,
-    commits: &[],
-};
-
-const FORTY_KEYS: Run = Run {
-    name: "a session with forty keys",
-    before: Some(Work::Puts(MINE)),
-    work: Work::Local,
-    theirs: 40,
-    whole: 1,
-    commits: &[],
-};
 
 /// The machine comes back: both files have what a crash left of them, and no call fails any more.
 fn revived(mut files: Files<Stopping>) -> Files<Stopping> {
@@ -137,24 +144,23 @@ fn run_left(
     most: usize,
     stop: Stop,
 ) -> Result<Left, Refusal> {
-    let mut other = new_replica(alloc, 2)?;
+    let mut other = new_replica(alloc, 2, &[])?;
     put_keys(alloc, &mut other, run.theirs, 0);
     let left = left_beside(alloc, run, bytes, (most, stop), &mut other);
     drop(other);
     left
 }
 
-/// The roots in the course of a run, where nothing stops: of the puts after each, of a session after more and more questions.
-fn roots(alloc: Global, run: &Run, bytes: &[u8]) -> Result<Vec<Root>, Refusal> {
-    let mut roots = Vec::new(alloc);
+/// Adds the roots in the course of a run, where nothing stops: of the puts after each, of a session after more and more questions.
+fn add_roots(alloc: Global, run: &Run, bytes: &[u8], roots: &mut Vec<Root>) -> Result<(), Refusal> {
     for most in 0..1_000usize {
         let (ran, _, _) = run_left(alloc, run, bytes, most, NEVER)?;
         roots.push(ran.last)?;
         if ran.done == run.whole {
-            break;
+            return Ok(());
         }
     }
-    Ok(roots)
+    Ok(())
 }
 
 /// Whether puts that are answered are there, with those of the next commit or without them: the root is that after so many, or more.
@@ -186,59 +192,52 @@ fn may_leave(run: &Run, roots: &[Root], left: &Left) -> bool {
     is_known && end == Some(&back.last) && (run.theirs == 0 || end == Some(other))
 }
 
-/// Stops one file before each of its calls, until all of a run is done, and tells how many calls that took; `None` where other states
-/// were left.
+/// More calls than any run takes.
+const FAILED: u64 = 10_000;
+
+/// Stops one file before each of its calls, until all of a run is done, and tells how many calls that took; or `FAILED`
+/// where other states were left.
 fn calls_until_done(
     alloc: Global,
     run: &Run,
     bytes: &[u8],
+    roots: &[Root],
     of_log: bool,
-) -> Result<Option<u64>, Refusal> {
-    let roots = roots(alloc, run, bytes)?;
-    for calls in 0..10_000u64 {
+) -> Result<u64, Refusal> {
+    for calls in 0..FAILED {
         let left = run_left(alloc, run, bytes, 1_000, (of_log, calls))?;
-        if !may_leave(run, roots.as_slice(), &left) {
-            return Ok(None);
+        if !may_leave(run, roots, &left) {
+            return Ok(FAILED);
         }
         if left.0.done == run.whole {
-            return Ok(Some(calls));
+            return Ok(calls);
         }
     }
-    Ok(None)
+    Ok(FAILED)
 }
 
-/// The same from nothing.
-fn until_done(alloc: Global, run: &Run, of_log: bool) -> Result<u64, Fail> {
-    let bytes = match run.before {
-        Some(work) => database(alloc, work)?,
-        None => Vec::new(alloc),
-    };
-    let calls = calls_until_done(alloc, run, bytes.as_slice(), of_log);
+/// The same of the log and of the database, from nothing.
+fn calls_of_both(alloc: Global, run: &Run) -> Result<(u64, u64), Refusal> {
+    let bytes = database(alloc, run.before)?;
+    let mut roots = Vec::new(alloc);
+    let added = add_roots(alloc, run, bytes.as_slice(), &mut roots);
+    let log = calls_until_done(alloc, run, bytes.as_slice(), roots.as_slice(), true);
+    let db = calls_until_done(alloc, run, bytes.as_slice(), roots.as_slice(), false);
+    drop(roots);
     drop(bytes);
-    match calls? {
-        Some(calls) => Ok(calls),
-        None => Err(Fail::new("other states were left")),
-    }
+    added?;
+    Ok((log?, db?))
 }
 
 #[test]
 fn each_file_may_stop(rt: HostRuntime) -> Result<(), Fail> {
     for run in &RUNS {
-        let log = until_done(rt.alloc(), run, true)?;
-        let db = until_done(rt.alloc(), run, false)?;
+        let (log, db) = calls_of_both(rt.alloc(), run)?;
         println!(rt;
             "{}: {log} calls of the log, {db} of the database",
             run.name
         )?;
+        assert!(rt; log < run.most && db < FAILED, "{}", run.name);
     }
-    Ok(())
-}
-
-#[test]
-fn a_window_is_one_commit(rt: HostRuntime) -> Result<(), Fail> {
-    let two = until_done(rt.alloc(), &TWO_KEYS, true)?;
-    let forty = until_done(rt.alloc(), &FORTY_KEYS, true)?;
-    println!(rt; "{two} calls of the log for two keys, {forty} for forty")?;
-    assert!(rt; forty < two.saturating_add(20));
     Ok(())
 }

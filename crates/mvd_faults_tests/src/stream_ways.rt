@@ -2,45 +2,30 @@
 use std::io;
 use std::io::{Read, Write};
 
-/// What a call of a stream does in place of all that it is asked.
-#[derive(Clone, Copy)]
-pub enum Way {
-    All,
-    Fails,
-    None,
-    One,
-}
+/// How many bytes a call of a stream gives or takes at most; `None` where it fails.
+pub type Way = Option<usize>;
 
-/// How a stream goes at its call of a number, counted from 0, and how at each other.
-#[derive(Clone, Copy)]
-pub struct Ways {
-    pub before: usize,
-    pub then: Way,
-    pub other: Way,
-}
+pub const WHOLE: Way = Some(usize::MAX);
+
+pub const FAILS: Way = None;
+
+pub const NOTHING: Way = Some(0);
+
+pub const BYTE: Way = Some(1);
+
+/// The number of a call, counted from 0; how a stream goes at this call, and how at each other.
+pub type Ways = (usize, Way, Way);
 
 /// Those of a stream that does all that it is asked.
-pub const ALL: Ways = Ways {
-    before: 0,
-    then: Way::All,
-    other: Way::All,
-};
+pub const ALL: Ways = (0, WHOLE, WHOLE);
 
-impl Ways {
-    /// How many bytes of so many are to go over in this call.
-    fn turn(&mut self, len: usize) -> io::Result<usize> {
-        let way = if self.before == 0 {
-            self.then
-        } else {
-            self.other
-        };
-        self.before = self.before.checked_sub(1).unwrap_or(usize::MAX);
-        match way {
-            Way::All => Ok(len),
-            Way::Fails => Err(io::Error::from(io::ErrorKind::Other)),
-            Way::None => Ok(0),
-            Way::One => Ok(len.min(1)),
-        }
+/// How many bytes of so many are to go over in this call.
+fn turn(ways: &mut Ways, len: usize) -> io::Result<usize> {
+    let way = if ways.0 == 0 { ways.1 } else { ways.2 };
+    ways.0 = ways.0.checked_sub(1).unwrap_or(usize::MAX);
+    match way {
+        Some(most) => Ok(len.min(most)),
+        None => Err(io::Error::from(io::ErrorKind::Other)),
     }
 }
 
@@ -53,14 +38,14 @@ pub struct Stream<T> {
 
 impl<T: Read> Read for Stream<T> {
     fn read(&mut self, buf: &mut [u8]) -> io::Result<usize> {
-        let len = self.ways.turn(buf.len())?.min(buf.len());
+        let len = turn(&mut self.ways, buf.len())?.min(buf.len());
         self.inner.read(&mut buf[..len])
     }
 }
 
 impl<T: Write> Write for Stream<T> {
     fn write(&mut self, buf: &[u8]) -> io::Result<usize> {
-        let len = self.ways.turn(buf.len())?.min(buf.len());
+        let len = turn(&mut self.ways, buf.len())?.min(buf.len());
         self.inner.write(&buf[..len])
     }
 

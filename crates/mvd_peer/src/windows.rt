@@ -1,5 +1,5 @@
 //! Many questions at once.
-ghost use Rattle.std.specs.Prelude.{◌≡◌, IfOk, IfErr, IfNone, IfSome, IsTrue, ◌↔◌, Err, [], false, true};
+ghost use Rattle.std.specs.Prelude.{◌≡◌, ◌≤◌, vec_capacity, IfOk, IfErr, IfNone, IfSome, IsTrue, ◌↔◌, Err, [], false, true};
 ghost use Rattle.mvd_dots.specs.declared.refusals.Refusal.TheVariants.{Broken, Memory};
 ghost use Rattle.mvd_peer.specs.Windows.{leaves_open};
 
@@ -9,6 +9,7 @@ use std::alloc::Global;
 /// Room for so many answers.
 pub fn room_for<A>(alloc: Global, count: usize) -> Result<Vec<Result<A, Refusal>>, Refusal>
     ensures none { IfOk result (λ room. room.items ≡ []) }
+    ensures room { IfOk result (λ room. count ≤ vec_capacity room) }
     ensures memory { IfErr result (λ refusal. refusal ≡ Memory) }
 {
     Ok(Vec::with_capacity(alloc, count)?)

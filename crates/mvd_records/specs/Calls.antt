@@ -39,8 +39,8 @@ LeavesChange Change s trees = IsTrue s.is_open × ((was : Contents) → Holds s.
 
 -- A change of what is held: Ok makes it. On a clean disk a crash leaves what it could leave before the call, or the
 -- change, all of it; also after an error, since the store may fail once the change is on its disk. Of a store that was
--- shut it leaves nothing new. After Ok it leaves the change alone, since a store that is open leaves its last commit
--- (`settled` of the kit's trait `Store`)
+-- shut it leaves nothing new. After Ok, where the store is sound, it leaves the change alone: the last commit holds it
+-- (`done`), and a store that is open leaves its last commit (`settled` of the kit's trait `Store`)
 pub record Commits {A : Type 0} (Change : Contents → Contents → Type 0) (old : State) (result : Result A Refusal)
     (new : State) : Type 0 where
   pub before : IsSound new → IsSound old

@@ -1,7 +1,7 @@
 -- Turns of a replica after turns: the records, requests that are answered at once, and the first of some.
 use Rattle.std.proofs.Common.{◌≡◌, ◌⊎◌, ◌∙◌, ℕ, Bool, true, false, List, [], ◌∷◌, ◌++◌, Result, Ok, Err, refl, sym, ap, ap₂, subst, subst₂, inl, inr, true≢false, append_assoc, ◌+◌, ◌-◌, ◌<◌, ◌≤◌, arith, length, take, drop, length-append, length-drop}
 use Rattle.std.proofs.Math.Seq.{take-add}
-use Rattle.std.proofs.lemmas.List.{length-map, length-take-le, map-append, take_all}
+use Rattle.std.proofs.lemmas.List.{length-map, length-take-le, map-append, take_rest}
 use Rattle.std.specs.Prelude.{IsTrue}
 use Rattle.std.specs.List.{AllByRecursion}
 use Rattle.mvd_dots.specs.declared.refusals.Refusal.{Refusal}
@@ -264,12 +264,9 @@ front_more requests told given old new before after it =
       length-take-le it.count requests it.within,
     )
 
--- as the code has what is left of them
-pub front_of : (requests : List Request) (n : ℕ) (told given : List Reply) (mid new : SiteValue) (between after : State) → n ≡ length told → AnswersFront (take (length requests - n) (drop n requests)) told given mid new between after →
-    AnswersFront (drop (length told) requests) told given mid new between after
-front_of requests n told given mid new between after same front =
-    let low : length (drop n requests) ≤ length requests - n = omega (arith, length-drop n requests) in
-    subst (λ r. AnswersFront r told given mid new between after) (take_all (length requests - n) (drop n requests) low ∙ ap (λ k. drop k requests) same) front
+-- what is left of the requests, as the code has it
+pub rest_of : (requests : List Request) (n : ℕ) (told : List Reply) → n ≡ length told → take (length requests - n) (drop n requests) ≡ drop (length told) requests
+rest_of requests n told same = take_rest requests n ∙ ap (λ k. drop k requests) same
 
 module _ (requests : List Request) (told given : List Reply) (old mid new : SiteValue) (before between after : State) (few : length told ≤ length requests)
     (one : AnswersAll (take (length told) requests) told old mid before between) (front : AnswersFront (drop (length told) requests) told given mid new between after) where
@@ -285,8 +282,11 @@ module _ (requests : List Request) (told given : List Reply) (old mid new : Site
   pub front_within : length given ≤ length requests
   front_within = omega (arith, length_front, front.within, length-drop (length told) requests, few)
 
+  -- those that are answered by then
+  pub front_taken : take (length told) requests ++ take front.count (drop (length told) requests) ≡ take (length given) requests
+  front_taken = sym (ap (λ n. take n requests) length_front ∙ take-add (length told) front.count requests)
+
   pub front_answers : AnswersAll (take (length given) requests) given old new before after
   front_answers =
-      subst₂ (λ l r. AnswersAll l r old new before after)
-      (sym (ap (λ n. take n requests) length_front ∙ take-add (length told) front.count requests)) (sym front.appended)
+      subst₂ (λ l r. AnswersAll l r old new before after) front_taken (sym front.appended)
       (AnswersAll-append (take (length told) requests) (take front.count (drop (length told) requests)) told front.replies old mid new before between after one front.answers)

@@ -1,6 +1,7 @@
 -- Requests of one commit: what each comes to after the others.
 use Rattle.std.proofs.lemmas.Bool.Decides.{nat_tests}
-use Rattle.std.proofs.Common.{◌≡◌, ◌≢◌, ◌∙◌, ℕ, ◌+◌, ◌<◌, ◌≤◌, ◌==◌, arith, Bool, true, false, not, ◌&&◌, cond, if◌then◌else◌, List, [], ◌∷◌, ◌++◌, Option, Some, None, is_some, unwrap_or, refl, sym, ap, subst, inl, inr}
+use Rattle.std.proofs.Common.{◌≡◌, ◌≢◌, ◌∙◌, ℕ, ◌+◌, ◌<◌, ◌≤◌, ◌==◌, arith, zero, suc, Bool, true, false, not, ◌&&◌, cond, if◌then◌else◌, List, [], ◌∷◌, ◌++◌, Option, Some, None, is_some, unwrap_or, refl, sym, ap, subst, inl, inr, length, take, drop, get_or}
+use Rattle.std.proofs.lemmas.List.{drop_all, drop_more, take_more}
 use Rattle.std.specs.Prelude.{IfSome}
 use Rattle.std.specs.List.{AllByRecursion}
 use Rattle.std.specs.FinMap.{get, get-insert, insert, len as map_len, len-insert}
@@ -29,7 +30,8 @@ use Rattle.mvd_site.specs.Sites.{SiteValue, has_no_room}
 use Rattle.mvd_site.proofs.Answered.{with_state-same, with_state-seen}
 use Rattle.mvd_site.proofs.SideBySide.{room_for_both}
 use Rattle.mvd_site.specs.Installs.{MayAllBeIn, MayBeIn, changes_in, is_change, with_group, with_one, with_prepared}
-use Rattle.mvd_replica.specs.Groups.{AllComeTo, AreSendable, ComeInOrder, ComesTo, IsApart, IsElsewhere, IsSendable, StandTogether}
+use Rattle.mvd_replica.specs.Batch.{asks_change, changes_asked}
+use Rattle.mvd_replica.specs.Groups.{AllComeTo, AreSendable, ComeInOrder, ComesTo, FirstWaits, IsApart, IsElsewhere, IsSendable, MustWait, SeesAny, StandTogether, pairs_in}
 
 -- ---- a request at one key is untouched by a change of another
 
@@ -192,6 +194,77 @@ pub apart_none : (request : Request) (group : List Prepared) → changes_in grou
 apart_none request [] none = tt
 apart_none request (Answer reply ∷ group) none = (tt, apart_none request group (omega (arith, none)))
 apart_none request (Change change ∷ group) none = absurd (omega (arith, none))
+
+-- ---- which request waits
+
+apart_at : (request : Request) (group : List Prepared) (i : ℕ) (d : Prepared) → i < length group → AllByRecursion (IsApart request) group → IsApart request (get_or group i d)
+apart_at request [] i d low all = absurd (omega (arith, low))
+apart_at request (p ∷ group) zero d low all = all.0
+apart_at request (p ∷ group) (suc i) d low all = apart_at request group i d (omega (arith, low)) all.1
+
+-- it sees one of them
+pub sees_at : (request : Request) (group : List Prepared) (i : ℕ) (item : Prepared) → i < length group → item ≡ get_or group i item → (IsApart request item → ⊥) → SeesAny request group
+sees_at request group i item low is sees all = sees (subst (IsApart request) (sym is) (apart_at request group i item low all))
+
+-- the first of some waits for none
+pub waits_for_some : (site : SiteValue) (requests : List Request) (group : List Prepared) → FirstWaits site group (drop (length group) requests) → 0 < length requests → 0 < length group
+waits_for_some site [] group waits some = absurd (omega (arith, some))
+waits_for_some site (request ∷ requests) (p ∷ group) waits some = omega arith
+waits_for_some site (request ∷ requests) [] waits some = elim waits [
+  | inl many ↦ absurd (omega (arith, many))
+  | inr (inl fills) ↦ absurd (omega (arith, fills.0))
+  | inr (inr sees) ↦ absurd (sees tt)
+]
+
+-- the next one, as the code has it
+pub next_waits : (site : SiteValue) (requests : List Request) (group : List Prepared) (i : ℕ) (request : Request) → length group ≡ i → i < length requests → request ≡ get_or requests i request →
+    MustWait site request group → FirstWaits site group (drop (length group) requests)
+next_waits site requests group i request count low is waits =
+    subst (FirstWaits site group) (sym (ap (λ n. drop n requests) count ∙ drop_more requests i request low ∙ ap (λ r. r ∷ drop (i + 1) requests) (sym is))) waits
+
+pub none_waits : (site : SiteValue) (requests : List Request) (group : List Prepared) → length requests ≤ length group → FirstWaits site group (drop (length group) requests)
+none_waits site requests group all = subst (FirstWaits site group) (sym (drop_all (length group) requests all)) tt
+
+-- ---- which changes are counted
+
+changes_at : (group : List Prepared) (i : ℕ) (d : Prepared) → i < length group → is_change (get_or group i d) ≤ changes_in group
+changes_at [] i d low = absurd (omega (arith, low))
+changes_at (p ∷ group) zero d low = omega arith
+changes_at (p ∷ group) (suc i) d low = let later : is_change (get_or group i d) ≤ changes_in group = changes_at group i d (omega (arith, low)) in omega (arith, later)
+
+pub change_at : (group : List Prepared) (i : ℕ) (item : Prepared) → i < length group → item ≡ get_or group i item → is_change item ≤ changes_in group
+change_at group i item low is = subst (λ p. is_change p ≤ changes_in group) (sym is) (changes_at group i item low)
+
+-- one more
+pub changes_next : (group : List Prepared) (i : ℕ) (item : Prepared) → i < length group → item ≡ get_or group i item → changes_in (take (i + 1) group) ≡ changes_in (take i group) + is_change item
+changes_next group i item low is = ap changes_in (take_more group i item low ∙ ap (λ p. take i group ++ p ∷ []) (sym is)) ∙ changes_more (take i group) item
+
+pub pairs_none : (group : List Prepared) → changes_in group ≡ 0 → pairs_in group ≡ []
+pairs_none [] none = refl
+pairs_none (Answer reply ∷ group) none = pairs_none group (omega (arith, none))
+pairs_none (Change change ∷ group) none = absurd (omega (arith, none))
+
+-- what a request comes to is a change only where it asks for one
+asks_for : (m : States) (request : Request) (reply : Reply) (c : Key × Keyed) → change_from m request reply ≡ Some c → asks_change request ≡ 1
+asks_for m (Put own seen document) reply c is = refl
+asks_for m (Delete own seen) reply c is = refl
+asks_for m (Push own pushed) reply c is = refl
+asks_for m request reply c is = absurd cc
+
+pub changes_few : (config : ConfigValue) (m : States) (requests : List Request) (group : List Prepared) → AllComeTo config m requests group → changes_in group ≤ changes_asked requests
+changes_few config m [] [] all = omega arith
+changes_few config m [] (p ∷ group) all = absurd all
+changes_few config m (r ∷ requests) [] all = absurd all
+changes_few config m (r ∷ requests) (Answer reply ∷ group) all =
+    let later : changes_in group ≤ changes_asked requests = changes_few config m requests group all.1 in omega (arith, later)
+changes_few config m (r ∷ requests) (Change change ∷ group) all =
+    let one : asks_change r ≡ 1 = asks_for m r (answer_from config m r) (change.key, change.state) all.0.0.leaves in
+    let later : changes_in group ≤ changes_asked requests = changes_few config m requests group all.1 in
+    omega (arith, one, later)
+
+pub asked_more : (first second : List Request) → changes_asked (first ++ second) ≡ changes_asked first + changes_asked second
+asked_more [] second = omega arith
+asked_more (request ∷ first) second = let later : changes_asked (first ++ second) ≡ changes_asked first + changes_asked second = asked_more first second in omega (arith, later)
 
 -- ---- what may be put in
 

@@ -11,6 +11,7 @@ pub mod Batching
 pub mod Batched
 pub mod Grouping
 pub mod Putting
+pub mod Counting
 pub mod Recording
 pub mod Grouped
 pub mod OpenRefusals

@@ -1,5 +1,5 @@
 -- What follows from the relations of a replica's calls, and how a push comes by them.
-use Rattle.std.proofs.Common.{arith, ◌≡◌, ◌≢◌, ◌∙◌, [], ◌∷◌, true, false, Result, Ok, Err, refl, sym, ap, subst, inl, inr, true≢false}
+use Rattle.std.proofs.Common.{◌≡◌, ◌≢◌, ◌∙◌, [], ◌∷◌, true, false, Result, Ok, Err, refl, sym, ap, subst, inl, inr, true≢false}
 use Rattle.std.specs.Result.{IfErr, MatchResult, OnOk}
 use Rattle.mvd_dots.specs.declared.refusals.Refusal.{Refusal}
 use Rattle.mvd_dots.specs.declared.refusals.Refusal.TheVariants.{Broken, DotClash, Memory, Store}
@@ -20,8 +20,8 @@ use Rattle.sqlite_trees.specs.declared.store.Store.{Ghosts}
 use Rattle.mvd_replica.specs.declared.replica.Replica.{Replica}
 use Rattle.mvd_replica.specs.Batch.{AnswersOneFrom}
 use Rattle.mvd_restore.specs.Kept.{PutsIn}
-use Rattle.mvd_replica.specs.ReplicaCalls.{Answers, CountsPut, PushesState}
-use Rattle.mvd_replica.specs.Replicas.{CountsUpTo, KeepsCommit, commits_of, committed_of, next_count, site_of, store_of, stored_of}
+use Rattle.mvd_replica.specs.ReplicaCalls.{Answers, PushesState}
+use Rattle.mvd_replica.specs.Replicas.{KeepsCommit, committed_of, site_of, store_of, stored_of}
 use Rattle.mvd_replica.specs.Sides.{AnswersFromStored, replica_follows_self}
 use Rattle.mvd_replica.specs.Whole.{leaves_self}
 use Rattle.mvd_replica.specs.Turns.{LeavesTurns}
@@ -77,15 +77,6 @@ broken_is : (site : SiteValue) → site.broken ≡ true → site ≡ broken_site
 broken_is site broken = λ i. record { config = site.config; states = site.states; broken = broken i }
 
 module _ {S : Type 0} {g : Ghosts S} where
-  -- one commit more, or none
-  pub counts_put : {A : Type 0} (old : Replica S g) (result : Result A Refusal) (new : Replica S g) → CountsPut old result new → CountsUpTo 1 old new
-  counts_put old result new (inl it) = omega (arith, it.1)
-  counts_put old result new (inr it) = omega (arith, it.1)
-
-  pub counted_put : {A : Type 0} (old : Replica S g) (result : Result A Refusal) (new : Replica S g) → CountsPut old result new → result ≢ Err Store → commits_of new ≡ next_count (commits_of old)
-  counted_put old result new (inl it) other = absurd (other it.0)
-  counted_put old result new (inr it) other = it.1
-
   -- one request, as the site alone sees it
   pub answers_one : (old new : Replica S g) (request : Request) (reply : Reply) → Answers old request reply new → AnswersOneFrom (site_of old) (site_of new) request reply
   answers_one old new request reply it = record {

@@ -1,10 +1,11 @@
 -- Many requests at once, whose changes share commits.
-use Rattle.std.specs.Prelude.{◌≡◌, ◌≢◌, ◌⊎◌, ⊤, ℕ, ◌<◌, ◌≤◌, false, true, List, [], ◌∷◌, ◌++◌, length, map, take, Result, Ok, Err}
+use Rattle.std.specs.Prelude.{◌≡◌, ◌≢◌, ◌⊎◌, ⊤, ℕ, ◌<◌, ◌≤◌, ◌+◌, false, true, List, [], ◌∷◌, ◌++◌, length, map, take, Result, Ok, Err}
 use Rattle.std.specs.List.{AllByRecursion}
 use Rattle.mvd_dots.specs.declared.refusals.Refusal.{Refusal}
 use Rattle.mvd_dots.specs.declared.refusals.Refusal.TheVariants.{Broken, Memory}
 use Rattle.mvd_keys.specs.Writes.{Write}
 use Rattle.mvd_wire.specs.declared.request.Request.{Request}
+use Rattle.mvd_wire.specs.declared.request.Request.TheVariants.{Put, Delete, Push}
 use Rattle.mvd_wire.specs.declared.reply.Reply.{Reply}
 use Rattle.mvd_wire.specs.declared.reply.Reply.TheVariants.{Refused}
 use Rattle.mvd_wire.specs.Replies.{CanBeSent}
@@ -20,6 +21,17 @@ use Rattle.mvd_replica.specs.Whole.{after_all}
 use Rattle.mvd_replica.specs.Turns.{Event, IsFirstBroken, IsToldBroken, IsToldElse, LeavesTurns, Replies, StandsOn, TellsTurns, Turn}
 use Rattle.sqlite.specs.Effect.{Database}
 use Rattle.sqlite.specs.State.{HasCleanDisk}
+
+-- how many of the requests ask for a change
+abbrev pub asks_change : Request → ℕ
+asks_change (Put key seen document) = 1
+asks_change (Delete key seen) = 1
+asks_change (Push key pushed) = 1
+asks_change request = 0
+
+abbrev pub changes_asked : List Request → ℕ
+changes_asked [] = 0
+changes_asked (request ∷ requests) = asks_change request + changes_asked requests
 
 -- ---- the site, turn by turn
 

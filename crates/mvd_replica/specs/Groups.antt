@@ -1,5 +1,5 @@
 -- What the requests of one commit come to, prepared side by side, before anything is changed.
-use Rattle.std.specs.Prelude.{◌≡◌, ◌≢◌, ◌⊎◌, ⊤, ℕ, ◌+◌, ◌<◌, false, List, [], ◌∷◌}
+use Rattle.std.specs.Prelude.{◌≡◌, ◌≢◌, ◌⊎◌, ⊤, ℕ, ◌+◌, ◌<◌, ◌≤◌, false, List, [], ◌∷◌, length}
 use Rattle.std.specs.List.{AllByRecursion}
 use Rattle.std.specs.FinMap.{insert, len as map_len}
 use Rattle.mvd_dots.specs.declared.refusals.Refusal.TheVariants.{Broken, Memory, Store}
@@ -90,6 +90,23 @@ pub record StandTogether (site : SiteValue) (requests : List Request) (group : L
 pub record MayJoin (site : SiteValue) (request : Request) (group : List Prepared) : Type 0 where
   pub apart : AllByRecursion (IsApart request) group
   pub room : 0 < changes_in group → map_len site.states + changes_in group < site.config.max_keys
+
+-- the request may see a key that one of these changes
+abbrev pub SeesAny : Request → List Prepared → Type 0
+SeesAny request group = AllByRecursion (IsApart request) group → ⊥
+
+-- once they are in there may be no room for a key more
+abbrev pub MayFill : SiteValue → List Prepared → Type 0
+MayFill site group = (0 < changes_in group) × (site.config.max_keys ≤ map_len site.states + changes_in group)
+
+-- A request has to wait until these are put in: they are 1,024, or they may fill the site, or it sees a key that one of them changes
+abbrev pub MustWait : SiteValue → Request → List Prepared → Type 0
+MustWait site request group = (1024 ≤ length group) ⊎ MayFill site group ⊎ SeesAny request group
+
+-- of the requests that are left the first, if there is one, has to wait
+abbrev pub FirstWaits : SiteValue → List Prepared → List Request → Type 0
+FirstWaits site group [] = ⊤
+FirstWaits site group (request ∷ rest) = MustWait site request group
 
 -- what is to be stored of them
 abbrev pub pairs_in : List Prepared → List (List ℕ × List ℕ)

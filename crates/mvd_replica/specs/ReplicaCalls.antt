@@ -1,6 +1,6 @@
 -- What each call of a replica does: one relation for a call, over the replica before it, what it was called with, what it returned,
 -- and the replica after it.
-use Rattle.std.specs.Prelude.{◌≡◌, ◌≢◌, ◌⊎◌, ◌≤◌, ◌+◌, Bool, false, true, ℕ, List, [], ◌∷◌, ◌++◌, length, Option, Vec, Result, Ok, Err, IfErr, IfOk, OnOk, MatchResult}
+use Rattle.std.specs.Prelude.{◌≡◌, ◌≢◌, ◌⊎◌, ◌<◌, ◌≤◌, ◌+◌, ◌-◌, ◌^◌, Bool, false, true, ℕ, List, [], ◌∷◌, ◌++◌, length, min, take, Option, Vec, Result, Ok, Err, IfErr, IfOk, OnOk, MatchResult}
 use Rattle.std.specs.declared.alloc.Global.{Global}
 use Rattle.mvd_dots.specs.Answer.{IsAnswer}
 use Rattle.mvd_dots.specs.declared.refusals.Refusal.{Refusal}
@@ -30,10 +30,10 @@ use Rattle.sqlite.specs.Held.{Held, state}
 use Rattle.sqlite.specs.State.{IsLive, Survives}
 use Rattle.sqlite_trees.specs.declared.store.Store.{Ghosts}
 use Rattle.mvd_replica.specs.declared.replica.Replica.{Replica}
-use Rattle.mvd_replica.specs.Batch.{AnswersAll, AnswersFront}
+use Rattle.mvd_replica.specs.Batch.{AnswersAll, AnswersFront, changes_asked}
 use Rattle.mvd_restore.specs.Kept.{HoldsSite, HoldsStates, Stores}
 use Rattle.mvd_replica.specs.Opened.{IsOpened, IsRefused}
-use Rattle.mvd_replica.specs.Replicas.{CountsUpTo, KeepsCommit, RecordsFollow, TakesIfOpen, WasClean, WasSound, commits_of, committed_of, conn_of, next_count, site_of, store_of, stored_of}
+use Rattle.mvd_replica.specs.Replicas.{CountsChange, CountsUpTo, KeepsCommit, RecordsFollow, TakesIfOpen, WasClean, WasSound, commits_of, committed_of, conn_of, next_count, site_of, store_of, stored_of}
 use Rattle.mvd_replica.specs.Sides.{AnswersFromStored, ReplicaFollows}
 use Rattle.mvd_replica.specs.Stops.{LeavesAnswered, LeavesChange}
 use Rattle.mvd_replica.specs.Turns.{AnswersStored, LeavesTurns}
@@ -147,8 +147,9 @@ module _ {S : Type 0} {g : Ghosts S} where
     pub config : (site_of new).config ≡ (site_of old).config
     -- the reply is not too long for its frame
     pub fits : CanBeSent reply
-    -- it counts one commit or none, and one for a change that is told done
-    pub counts : CountsUpTo 1 old new
+    -- it counts one commit where the site is not as it was, and else none
+    pub counts : CountsChange old new
+    -- and one for a change that is told done
     pub counted : (ChangesNothing (site_of old) request → ⊥) → is_refusal reply ≡ false → commits_of new ≡ next_count (commits_of old)
     -- a request that takes no memory is not told want of it
     pub frugal : IsFrugal (site_of old).states request → reply ≢ Refused Memory
@@ -233,23 +234,29 @@ module _ {S : Type 0} {g : Ghosts S} where
 
   -- ---- answer_all
 
-  -- requests one after the other, with as few commits as they allow
+  -- As many commits were made: at most one for each request for a change, and at least one unless the site is as it was. They are
+  -- counted, up to the greatest number
+  pub record CountsCommits (requests : List Request) (old new : Replica S g) : Type 0 where
+    pub count : ℕ
+    pub within : count ≤ changes_asked requests
+    pub some : (site_of new ≡ site_of old) ⊎ (0 < count)
+    pub most : CountsUpTo count old new
+    pub least : min (commits_of old + count) (2 ^ 64 - 1) ≤ commits_of new
+
+  -- requests one after the other
   pub record AnswersMany (old : Replica S g) (requests : List Request) (result : Result (Vec Reply Global) Refusal)
       (new : Replica S g) : Type 0 where
     -- each request has its reply, as one turn after the other
     pub answers : IfOk result (λ replies. AnswersAll requests replies.items (stored_of old) (stored_of new))
-    -- it counts at most one commit for each request
-    pub counts : CountsUpTo (length requests) old new
+    -- it counts at most one commit for each request for a change, and at least one unless the site is as it was
+    pub counts : CountsCommits requests old new
     -- the call itself is refused for want of memory alone, and then nothing was done
     pub memory : IfErr result (λ refusal. (refusal ≡ Memory) × (new ≡ old))
 
-  -- it counts at most one commit for each reply more
-  abbrev pub CountsReplies : List Reply → List Reply → Replica S g → Replica S g → Type 0
-  CountsReplies before after old new = commits_of new + length before ≤ commits_of old + length after
-
   -- some of the requests, from the first on, whose replies stand behind those before
   abbrev pub AnswersSome : Replica S g → List Request → List Reply → List Reply → Replica S g → Type 0
-  AnswersSome old requests before after new = AnswersFront requests before after (stored_of old) (stored_of new)
+  AnswersSome old requests before after new =
+      (front : AnswersFront requests before after (stored_of old) (stored_of new)) × CountsCommits (take front.count requests) old new
 
   -- all of them
   abbrev pub AnswersEach : Replica S g → List Request → List Reply → List Reply → Replica S g → Type 0

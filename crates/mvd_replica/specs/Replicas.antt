@@ -1,5 +1,5 @@
 -- A replica as its callers see it: its views, and what a call may keep of them. Clauses speak of a replica by these words alone.
-use Rattle.std.specs.Prelude.{◌≡◌, ◌⊎◌, ◌≤◌, ◌+◌, ◌^◌, ◌-◌, ℕ, IsTrue, min}
+use Rattle.std.specs.Prelude.{◌≡◌, ◌≢◌, ◌⊎◌, ◌≤◌, ◌+◌, ◌^◌, ◌-◌, ℕ, IsTrue, min}
 use Rattle.mvd_records.specs.Records.{IsSound}
 use Rattle.mvd_site.specs.Sites.{SiteValue}
 use Rattle.sqlite.specs.Effect.{Database}
@@ -66,6 +66,12 @@ module _ {S : Type 0} {g : Ghosts S} where
   -- it counts at most so many more
   abbrev pub CountsUpTo : ℕ → Replica S g → Replica S g → Type 0
   CountsUpTo most old new = commits_of new ≤ commits_of old + most
+
+  -- it counts one more where the site is not as it was, and else none
+  abbrev pub CountsChange : Replica S g → Replica S g → Type 0
+  CountsChange old new =
+      ((site_of new ≡ site_of old) × (commits_of new ≡ commits_of old))
+      ⊎ ((site_of new ≢ site_of old) × (commits_of new ≡ next_count (commits_of old)))
 
   -- the last commit is the same
   abbrev pub KeepsCommit : Replica S g → Replica S g → Type 0

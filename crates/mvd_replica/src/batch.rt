@@ -1,6 +1,6 @@
 //! Many requests at once, whose changes share commits.
 ghost use Rattle.std.specs.Prelude.{◌≡◌, ◌≤◌, ◌<◌, ◌+◌, length, vec_capacity};
-ghost use Rattle.mvd_replica.specs.ReplicaCalls.{AnswersEach, AnswersMany, AnswersSome, CountsReplies};
+ghost use Rattle.mvd_replica.specs.ReplicaCalls.{AnswersEach, AnswersMany, AnswersSome, CountsCommits};
 
 use crate::groups::{counted, prepare_all, refuse_all, store_all};
 use crate::replica::Replica;
@@ -9,10 +9,11 @@ use mvd_wire::{Reply, Request};
 use sqlite::Alter;
 
 impl<S: Alter> Replica<S> {
-    /// The replies of `answer` to one request after the other, with as few commits as the requests allow. No reply tells of a
-    /// change that is not committed. Where a commit is refused, each change in it is told so, and nothing of it was done. Where
-    /// putting a change in breaks the site, that request and all after it are told so; the records hold its change, and those
-    /// of some later ones. Where memory is refused for the list of replies, nothing was done.
+    /// The replies of `answer` to one request after the other. Up to 1,024 requests share a commit, as long as none of them could
+    /// see what one before it changes, and memory is not refused for it. No reply tells of a change that is not committed. Where a
+    /// commit is refused, each change in it is told so, and nothing of it was done. Where putting a change in breaks the site,
+    /// that request and all after it are told so; the records hold its change, and those of some later ones. Where memory is
+    /// refused for the list of replies, nothing was done.
     pub fn answer_all(&mut self, requests: &[Request]) -> Result<Vec<Reply>, Refusal>
         ensures { AnswersMany self.old requests.now result self.new }
     {
@@ -29,18 +30,17 @@ impl<S: Alter> Replica<S> {
         requires room { length replies.old.items + length requests.now ≤ vec_capacity replies.old }
         ensures answers { AnswersSome self.old requests.now replies.old.items replies.new.items self.new }
         ensures room { vec_capacity replies.new ≡ vec_capacity replies.old }
-        ensures counts { CountsReplies replies.old.items replies.new.items self.old self.new }
     {
         if self.site.is_broken() {
             return self.answer_each(requests, replies);
         }
         // Here it is known that what is held has spellings.
         let _held = self.site.key_count();
-        let group = prepare_all(self.alloc, &self.site, requests);
+        let group = match prepare_all(self.alloc, &self.site, requests) {
+            Ok(group) => group,
+            Err(_) => return self.answer_each(&requests[..1], replies),
+        };
         let count = group.len();
-        if count == 0 {
-            return self.answer_each(&requests[..1], replies);
-        }
         match store_all(self.alloc, &mut self.records, &group) {
             Ok(()) => {
                 self.commits = counted(self.commits, &group);
@@ -56,7 +56,7 @@ impl<S: Alter> Replica<S> {
         requires room { length replies.old.items + length requests.now ≤ vec_capacity replies.old }
         ensures answers { AnswersEach self.old requests.now replies.old.items replies.new.items self.new }
         ensures room { vec_capacity replies.new ≡ vec_capacity replies.old }
-        ensures counts { CountsReplies replies.old.items replies.new.items self.old self.new }
+        ensures counts { CountsCommits requests.now self.old self.new }
     {
         for request in requests {
             let reply = self.answer(request);

@@ -1,11 +1,12 @@
 //! What requests come to that share a commit: prepared side by side, and stored at once.
-ghost use Rattle.std.specs.Prelude.{◌≡◌, ◌≤◌, ◌<◌, ◌+◌, ◌++◌, IfErr, IfOk, false, length, map, take, vec_capacity};
+ghost use Rattle.std.specs.Prelude.{◌≡◌, ◌≤◌, ◌<◌, ◌+◌, ◌++◌, IfErr, IfOk, drop, false, length, map, take, true, vec_capacity};
 ghost use Rattle.std.specs.List.{AllByRecursion};
 ghost use Rattle.mvd_records.specs.Pairs.{entries_of};
 ghost use Rattle.mvd_wire.specs.Codecs.{spell_state};
 ghost use Rattle.mvd_site.specs.Installs.{changes_in, is_change};
-ghost use Rattle.mvd_replica.specs.Groups.{ComesTo, IsApart, IsElsewhere, IsSendable, MayJoin, StandTogether};
-ghost use Rattle.mvd_replica.specs.Groups.{pairs_in, reply_unstored};
+ghost use Rattle.mvd_replica.specs.Groups.{ComesTo, FirstWaits, IsApart, IsElsewhere, IsSendable, MayJoin, MustWait};
+ghost use Rattle.mvd_replica.specs.Groups.{SeesAny, StandTogether, pairs_in, reply_unstored};
+ghost use Rattle.mvd_replica.specs.Replicas.{next_count};
 ghost use Rattle.mvd_restore.specs.Restored.{WereSound};
 ghost use Rattle.mvd_replica.specs.Shared.{IsUnstored, StoresNone, StoresOpen, StoresPairs, SurvivesPairs};
 ghost use Rattle.mvd_replica.specs.Shared.{WereClean};
@@ -23,7 +24,8 @@ const SHARING_MAX: usize = 1_024;
 
 /// Whether the answer to a request can depend on the state of this key.
 fn sees(request: &Request, key: &Key) -> bool
-    ensures { result ≡ false → IsElsewhere key.now request.now }
+    ensures apart { result ≡ false → IsElsewhere key.now request.now }
+    ensures sees { result ≡ true → IsElsewhere key.now request.now → ⊥ }
 {
     match request {
         Request::Get(own) => *own == *key,
@@ -37,7 +39,8 @@ fn sees(request: &Request, key: &Key) -> bool
 
 /// Whether it can depend on what this changes.
 fn sees_one(request: &Request, prepared: &Prepared) -> bool
-    ensures { result ≡ false → IsApart request.now prepared.now }
+    ensures apart { result ≡ false → IsApart request.now prepared.now }
+    ensures sees { result ≡ true → IsApart request.now prepared.now → ⊥ }
 {
     match prepared {
         Prepared::Change(change) => sees(request, change.key()),
@@ -47,7 +50,8 @@ fn sees_one(request: &Request, prepared: &Prepared) -> bool
 
 /// Whether it can depend on what one of these changes.
 fn sees_any(request: &Request, group: &[Prepared]) -> bool
-    ensures { result ≡ false → AllByRecursion (IsApart request.now) group.now }
+    ensures apart { result ≡ false → AllByRecursion (IsApart request.now) group.now }
+    ensures sees { result ≡ true → SeesAny request.now group.now }
 {
     for prepared in group {
         if sees_one(request, prepared) {
@@ -58,18 +62,20 @@ fn sees_any(request: &Request, group: &[Prepared]) -> bool
 }
 
 /// Whether a request has to wait until these, with so many changes, are put in: it could see one, or
-/// there may be no room then.
+/// there may be no room then, or they are as many as share a commit.
 fn must_wait(site: &Site, group: &[Prepared], changes: u32, request: &Request) -> bool
     requires count { changes ≡ changes_in group.now }
     requires few { changes ≤ 1000000 }
     ensures joins { result ≡ false → MayJoin site.now request.now group.now }
     ensures few { result ≡ false → changes < 1000000 }
+    ensures short { result ≡ false → length group.now < 1024 }
+    ensures waits { result ≡ true → MustWait site.now request.now group.now }
 {
-    if changes == 0 {
-        return false;
-    }
     if group.len() >= SHARING_MAX {
         return true;
+    }
+    if changes == 0 {
+        return false;
     }
     let most = site.config().max_keys();
     if site.key_count() + changes >= most {
@@ -105,27 +111,32 @@ fn prepare_one(site: &Site, request: &Request) -> Prepared
     prepared
 }
 
-/// What requests come to, from the first on, up to one that could see what was prepared before it, or
-/// for which there may be no room with that, or for which memory is refused in the list.
-pub fn prepare_all(alloc: Global, site: &Site, requests: &[Request]) -> Vec<Prepared>
-    ensures count { length result.items ≤ length requests.now }
-    ensures together { site.now.broken ≡ false →
-        StandTogether site.now (take (length result.items) requests.now) result.items }
+/// What requests come to, from the first on, up to one that has to wait for those before it.
+pub fn prepare_all(
+    alloc: Global,
+    site: &Site,
+    requests: &[Request],
+) -> Result<Vec<Prepared>, Refusal>
+    ensures count { IfOk result (λ group. length group.items ≤ length requests.now) }
+    ensures some { IfOk result (λ group. 0 < length requests.now → 0 < length group.items) }
+    ensures together { IfOk result (λ group. site.now.broken ≡ false →
+        StandTogether site.now (take (length group.items) requests.now) group.items) }
+    // The group ends where the requests do, or where the next one has to wait.
+    ensures ends { IfOk result (λ group.
+        FirstWaits site.now group.items (drop (length group.items) requests.now)) }
+    ensures memory { IfErr result (λ refusal. refusal ≡ Refusal.Memory) }
 {
-    let mut group = Vec::new(alloc);
+    let mut group = Vec::with_capacity(alloc, requests.len().min(SHARING_MAX))?;
     let mut changes: u32 = 0;
     for request in requests {
         if must_wait(site, &group, changes, request) {
-            return group;
+            return Ok(group);
         }
         let prepared = prepare_one(site, request);
         changes += changes_of(&prepared);
-        match group.push(prepared) {
-            Ok(()) => {}
-            Err(_) => return group,
-        }
+        group.push_reserved(prepared);
     }
-    group
+    Ok(group)
 }
 
 /// A change as it is stored.
@@ -186,7 +197,8 @@ pub fn store_all<S: Alter>(
 
 /// A count of commits, with the one that stored these; there is none where no change is among them.
 pub fn counted(commits: u64, group: &[Prepared]) -> u64
-    ensures { result ≤ commits + 1 }
+    ensures none { changes_in group.now ≡ 0 → result ≡ commits }
+    ensures one { 0 < changes_in group.now → result ≡ next_count commits }
 {
     for prepared in group {
         if let Prepared::Change(_) = prepared {

@@ -1,8 +1,10 @@
 //! A stored site and its sessions, for a program that names one crate.
 //!
 //! `Replica` is a site with its records: `open_file` opens one from a file, and its calls write and read. `sync` runs a session
-//! between two. What each promises is told where it stands; this crate only passes them on.
+//! between two. What each promises is told where it stands; this crate only passes them on. `example` is a whole program's work.
 #![tactic(auto)]
+
+pub mod example;
 
 pub use mvd_docs::{Document, Field, Term, ViewName};
 pub use mvd_dots::{Context, Dot, Refusal};
@@ -13,4 +15,4 @@ pub use mvd_rows::Defs;
 pub use mvd_site::Config;
 pub use mvd_sync::{Left, Report, Side, SyncFault, sync};
 pub use mvd_wire::{Items, RowValue};
-pub use sqlite::{Alter, Connection, MemStore};
+pub use sqlite::{Alter, Connection, MemStore, Unknown};

@@ -1,4 +1,4 @@
-use Rattle.std.proofs.Common.{◌≡◌, ◌≤◌, false, length, take}
+use Rattle.std.proofs.Common.{◌≡◌, ◌≤◌, false, length, min, take, vec_capacity}
 use Rattle.mvd_site.specs.Installs.{changes_in}
 use Rattle.mvd_replica.specs.Groups.{StandTogether}
 use Rattle.mvd_replica.proofs.groups.prepare_all.Given as goal
@@ -8,6 +8,7 @@ abbrev pub invariant-loop-request : goal.invariant-loop-request
 invariant-loop-request l = record {
   count : length l.group.items ≡ l.request-index;
   changes : l.changes ≡ changes_in l.group.items;
+  room : min (length l.requests) 1024 ≤ vec_capacity l.group;
   few : l.changes ≤ 1000000;
   together : l.site.broken ≡ false → StandTogether l.site (take l.request-index l.requests) l.group.items;
 }

@@ -1,4 +1,4 @@
-use Rattle.std.proofs.Common.{arith, ◌≡◌, ◌∙◌, inl, inr, true, false, true≢false, [], Ok, Err, refl, sym, ap, subst}
+use Rattle.std.proofs.Common.{◌≡◌, ◌∙◌, inl, inr, true, false, true≢false, [], Ok, Err, refl, sym, ap, subst}
 use Rattle.mvd_dots.specs.declared.refusals.Refusal.{Refusal}
 use Rattle.mvd_dots.specs.declared.refusals.Refusal.TheVariants.{Broken, Memory}
 use Rattle.mvd_wire.specs.declared.reply.Reply.TheVariants.{Refused}
@@ -17,7 +17,8 @@ use Rattle.mvd_replica.specs.Replicas.{stored_of}
 use Rattle.mvd_replica.specs.Sides.{AnswersFromStored}
 use Rattle.mvd_replica.specs.Whole.{leaves_self}
 use Rattle.mvd_replica.proofs.Answering.{answers_refused, answers_unstored, not_store}
-use Rattle.mvd_replica.proofs.ReplicaLemmas.{counted_put, counts_put, plain_no_refusal, unput_broken, unput_config, unput_memory, unput_same, unput_states, unput_store, unput_told}
+use Rattle.mvd_replica.proofs.Counting.{counted_put, counts_unput}
+use Rattle.mvd_replica.proofs.ReplicaLemmas.{plain_no_refusal, unput_broken, unput_config, unput_memory, unput_same, unput_states, unput_store, unput_told}
 use Rattle.mvd_replica.proofs.Replying.{AddsAt-Refused-none}
 use Rattle.mvd_replica.proofs.Sides.{changes_states, refused_from}
 use Rattle.mvd_replica.proofs.Stops.{survives_answered, survives_self}
@@ -40,7 +41,7 @@ returns-in-Err g c =
       choice = ([], AddsAt-Refused-none (Ok request) refusal);
       config = refl;
       fits = refused_fits refusal;
-      counts = omega arith;
+      counts = inl (refl, refl);
       counted = λ _ plain. absurd (true≢false plain);
       frugal = λ frugal is. c.in-Err.ensures.frugal frugal (refusal_is refusal Memory is);
       told = λ is. c.in-Err.ensures.whole (refusal_is refusal Broken is);
@@ -76,7 +77,7 @@ returns-in-Ok-Answer g c =
       choice = fitting request reply c.in-Ok-Answer.ensures.valid;
       config = refl;
       fits = plain.fits;
-      counts = omega arith;
+      counts = inl (refl, refl);
       counted = λ changes _. absurd (changes (subst (λ p. PreparesFrom old.config old.states request (Ok p)) c.in-Ok-Answer.field-0-is (c.in-Ok-Answer.ensures.states whole)).after);
       frugal = λ _ is. absurd (true≢false (plain_no_refusal reply Memory plain.accepts is));
       told = λ is. absurd (true≢false (plain_no_refusal reply Broken plain.accepts is));
@@ -125,7 +126,10 @@ returns-in-Ok g c =
       choice = fitting request reply c.in-Ok-Change.ensures.valid;
       config = ap (λ (s : SiteValue). s.config) c.in-Ok.ensures.site;
       fits = subst CanBeSent (sym c.reply-reply.ensures) (change_plain change.dot).fits;
-      counts = counts_put {A = Unit {0}} c.args.self.now (Ok (tt {0})) c.put_in.new.self c.in-Ok.ensures.counts;
+      counts = inr (
+        (λ same. changes_states old request change prepared (prepared.after ∙ ap (λ (s : SiteValue). s.states) (sym c.in-Ok.ensures.site ∙ same))),
+        counted_put {A = Unit {0}} c.args.self.now (Ok (tt {0})) c.put_in.new.self c.in-Ok.ensures.counts (λ bad. cc),
+      );
       counted = λ _ _. counted_put {A = Unit {0}} c.args.self.now (Ok (tt {0})) c.put_in.new.self c.in-Ok.ensures.counts (λ bad. cc);
       frugal = λ _ is. absurd (true≢false (plain_no_refusal reply Memory plain is));
       told = λ is. absurd (true≢false (plain_no_refusal reply Broken plain is));
@@ -180,7 +184,7 @@ returns-in-Err-put_in g c =
       choice = ([], AddsAt-Refused-none (Ok request) refusal);
       config = unput_config old new change refusal put;
       fits = refused_fits refusal;
-      counts = counts_put {A = Unit {0}} c.args.self.now (Err refusal) c.put_in.new.self c.in-Err-put_in.ensures.counts;
+      counts = counts_unput c.args.self.now c.put_in.new.self change refusal whole put c.in-Err-put_in.ensures.counts;
       counted = λ _ plain. absurd (true≢false plain);
       frugal = λ _ is. unput_memory old new change refusal put (refusal_is refusal Memory is);
       told = unput_told old new change refusal put;

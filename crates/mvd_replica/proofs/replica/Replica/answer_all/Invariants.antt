@@ -1,5 +1,6 @@
-use Rattle.std.proofs.Common.{◌-◌, ◌+◌, ◌≤◌, length, take, vec_capacity}
+use Rattle.std.proofs.Common.{◌-◌, ◌≤◌, length, take, vec_capacity}
 use Rattle.sqlite.specs.Held.{state}
+use Rattle.mvd_replica.specs.ReplicaCalls.{CountsCommits}
 use Rattle.mvd_replica.proofs.Positions.{AnswersAll}
 use Rattle.mvd_replica.proofs.replica.Replica.answer_all.Given as goal
 
@@ -12,5 +13,5 @@ invariant-groups g l = record {
   answers : AnswersAll (take (length l.replies.items) l.requests) l.replies.items l.initial.self.site l.self.site (state g.S.Store l.initial.self.records.conn) (state g.S.Store l.self.records.conn);
   within : length l.replies.items ≤ length l.requests;
   room : length l.requests ≤ vec_capacity l.replies;
-  few : l.self.commits ≤ l.initial.self.commits + length l.replies.items;
+  counts : CountsCommits (take (length l.replies.items) l.requests) l.initial.self l.self;
 }

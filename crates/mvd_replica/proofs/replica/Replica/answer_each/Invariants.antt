@@ -1,6 +1,7 @@
-use Rattle.std.proofs.Common.{◌≡◌, ◌≤◌, ◌+◌, ◌++◌, List, length, take, vec_capacity}
+use Rattle.std.proofs.Common.{◌≡◌, ◌+◌, ◌++◌, List, length, take, vec_capacity}
 use Rattle.sqlite.specs.Held.{state}
 use Rattle.mvd_wire.specs.declared.reply.Reply.{Reply}
+use Rattle.mvd_replica.specs.ReplicaCalls.{CountsCommits}
 use Rattle.mvd_replica.proofs.Positions.{AnswersAll}
 use Rattle.mvd_replica.proofs.replica.Replica.answer_each.Given as goal
 
@@ -11,5 +12,5 @@ invariant-loop-request g l = record {
       × AnswersAll (take l.request-index l.requests) told l.initial.self.site l.self.site (state g.S.Store l.initial.self.records.conn) (state g.S.Store l.self.records.conn);
   count : length l.replies.items ≡ length l.initial.replies.items + l.request-index;
   room : vec_capacity l.replies ≡ vec_capacity l.initial.replies;
-  few : l.self.commits ≤ l.initial.self.commits + l.request-index;
+  counts : CountsCommits (take l.request-index l.requests) l.initial.self l.self;
 }

@@ -1,9 +1,9 @@
-//! Replicas within a program: two of them write while apart, meet, and one resolves what both wrote.
-#![tactic(auto)]
+//! An example of replicas within a program: two of them write while apart, meet, and one resolves what both wrote. A program
+//! names `mvd_store` where this module says `crate`.
 
 ghost use Rattle.std.specs.Prelude.{◌<◌};
 
-use mvd_store::{
+use crate::{
     Alter, Config, Connection, Context, Defs, Document, Field, Key, KeyState, MemStore, Place,
     Refusal, Replica, SyncFault, Term, sync,
 };

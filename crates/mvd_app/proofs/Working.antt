@@ -1,10 +1,9 @@
 -- What a server does with a stored site keeps the writes known, and its records follow.
-use Rattle.std.proofs.Common.{◌≡◌, ℕ, None, Result, Ok, Err, refl, subst, sym}
+use Rattle.std.proofs.Common.{◌≡◌, Result, Ok, Err, subst, sym}
 use Rattle.std.specs.Prelude.{IfOk}
-use Rattle.mvd_file.specs.Stored.{GivesBack, GivesFile}
+use Rattle.mvd_file.specs.Stored.{EndsWhole}
 use Rattle.mvd_file.specs.declared.closing.Outcome.{Outcome}
 use Rattle.mvd_file.specs.declared.closing.Outcome.TheVariants.{Closed, Unopened}
-use Rattle.sqlite.specs.Recovery.{Image}
 use Rattle.sqlite_disk.specs.declared.Disk as disk
 use Rattle.mvd_replica.proofs.Keeping.{turns_keep}
 use Rattle.mvd_replica.specs.Batch.{lost_requests}
@@ -13,6 +12,7 @@ use Rattle.mvd_replica.specs.Replicas.{site_of, stored_of}
 use Rattle.mvd_replica.specs.declared.replica.Replica.{Replica}
 use Rattle.mvd_server.specs.Rounds.{IsServed}
 use Rattle.mvd_app.specs.Stored.{HasFile}
+use Rattle.sqlite_store.specs.declared.store.FileStore.{FileStore}
 use Rattle.sqlite_trees.specs.declared.store.Store.{Ghosts}
 
 module _ {S : Type 0} {g : Ghosts S} where
@@ -26,15 +26,19 @@ module _ {S : Type 0} {g : Ghosts S} where
     stored = λ sound held whole broken. let more = it.serves.follows.stored sound held whole broken in (lost_requests more.lost, more.holds);
   }
 
--- the order works on no file
-pub gives_none : {D S E : Type 0} (g : disk.Ghosts D) (image : Image) (start : S) (result : Result (Outcome D S) E) →
-    IfOk result (λ outcome. outcome ≡ Unopened start) → IfOk result (GivesBack g image start None)
-gives_none g image start (Ok outcome) is = subst (GivesBack g image start None) (sym is) refl
-gives_none g image start (Err error) is = tt
+-- what comes back of an order that works on no file
+pub gives_same : {A E : Type 0} (P : A → Type 0) (x : A) (result : Result A E) → P x → IfOk result (λ y. y ≡ x) → IfOk result P
+gives_same P x (Ok y) known is = subst P (sym is) known
+gives_same P x (Err error) known is = tt
 
--- a file comes back
-pub gives_some : {D S E : Type 0} (g : disk.Ghosts D) (image : Image) (site : ℕ) (result : Result (Outcome D S) E) →
-    IfOk result (GivesFile g image site) → IfOk result HasFile
-gives_some g image site (Ok (Closed files)) it = tt
-gives_some g image site (Ok (Unopened named)) it = absurd it
-gives_some g image site (Err error) it = tt
+-- a file that was worked on to the end comes back
+pub has_file : {D S E : Type 0} {g : disk.Ghosts D} {f : Ghosts (FileStore D g)} (replica : Replica (FileStore D g) f) (result : Result (Outcome D S) E) →
+    IfOk result (EndsWhole replica) → IfOk result HasFile
+has_file replica (Ok (Closed files)) ends = tt
+has_file replica (Ok (Unopened named)) ends = absurd ends
+has_file replica (Err error) ends = tt
+
+-- no server was asked for
+pub unasked : {A E : Type 0} (result : Result A E) → IfOk result (λ _. Unit {0})
+unasked (Ok outcome) = tt
+unasked (Err error) = tt

@@ -1,7 +1,7 @@
 //! What a command line asks for, done: with standard input and output, files and sockets.
 ghost use Rattle.std.specs.Prelude.{◌≡◌, IfOk, None, Some};
-ghost use Rattle.mvd_app.specs.Stored.{HasServed, stored_site};
-ghost use Rattle.mvd_file.specs.Stored.{FollowsAsked, GivesBack, GivesFile};
+ghost use Rattle.mvd_app.specs.Stored.{HasFile, HasServed, stored_site};
+ghost use Rattle.mvd_file.specs.Stored.{FollowsAsked, GivesBack};
 ghost use Rattle.mvd_file.specs.declared.closing.Outcome.TheVariants.{Unopened};
 ghost use Rattle.mvd_replica.specs.ReplicaCalls.{ReplicaAnswers};
 ghost use Rattle.mvd_script.specs.Talk.{Asks};
@@ -147,7 +147,9 @@ fn run_stored<'a, S: Start>(
     start: S,
 ) -> Result<Outcome<FileFrom<S>, S>, Stop<'a>>
     // If it ends well, and the files are clean, no write is lost that they held, of either version; and new files hold the site.
-    ensures kept { IfOk result (GivesFile ⟦<FileFrom<S> as Disk>⟧ (image_at S.Start) config.site) }
+    ensures kept { IfOk result (GivesBack ⟦<FileFrom<S> as Disk>⟧ (image_at S.Start) start (Some config.site)) }
+    // It has opened the file.
+    ensures opened { IfOk result HasFile }
 {
     let mut replica = match open_file(rt, db, start, config) {
         Ok(replica) => replica,

@@ -1,10 +1,10 @@
 -- Whatever a command does with a stored site keeps the writes known, and its records follow.
-use Rattle.std.proofs.Common.{◌≡◌, ℕ, List, [], ◌∷◌, Result, Ok, Err, Some, subst, sym}
+use Rattle.std.proofs.Common.{List, [], ◌∷◌, Result, Ok, Err, Some, subst, sym}
 use Rattle.std.specs.Prelude.{IfOk}
 use Rattle.mvd_replica.proofs.Keeping.{keeps_on, keeps_self, pushes_keep}
 use Rattle.mvd_replica.proofs.Programs.{leaves_file}
 use Rattle.mvd_replica.specs.FileCalls.{OpensAsSite, file_of}
-use Rattle.mvd_replica.specs.Programs.{KeepsWrites, LeavesFile, WorksOn}
+use Rattle.mvd_replica.specs.Programs.{KeepsWrites, WorksOn}
 use Rattle.mvd_replica.specs.Replicas.{site_of, stored_of}
 use Rattle.mvd_replica.specs.declared.replica.Replica.{Replica}
 use Rattle.sqlite_disk.specs.declared.Disk as disk
@@ -17,7 +17,7 @@ use Rattle.mvd_replica.specs.ReplicaCalls.{ReplicaAnswers}
 use Rattle.mvd_script.specs.Talk.{Answered, Asks}
 use Rattle.mvd_site.specs.Config.{ConfigValue}
 use Rattle.mvd_file.proofs.Following.{follows}
-use Rattle.mvd_file.specs.Stored.{EndsWhole, GivesBack, GivesFile}
+use Rattle.mvd_file.specs.Stored.{EndsWhole, GivesBack}
 use Rattle.mvd_file.specs.declared.closing.Outcome.{Outcome}
 use Rattle.mvd_file.specs.declared.closing.Outcome.TheVariants.{Closed, Unopened}
 
@@ -51,19 +51,12 @@ module _ {S : Type 0} {g : Ghosts S} where
     stored = λ sound held whole broken. let more = it.store.stored sound held whole broken in (more.request ∷ more.rest, more.holds);
   }
 
--- a site that was opened, worked on and closed
+-- what comes back of a site that was opened, worked on and closed
 module _ {D S E : Type 0} {g : disk.Ghosts D} {f : Ghosts (FileStore D g)} (image : Image) (config : ConfigValue) (old new : Replica (FileStore D g) f) where
-  pub gives_file : (result : Result (Outcome D S) E) → OpensAsSite image config (Ok old) →
+  pub gives_back : (start : S) (result : Result (Outcome D S) E) → OpensAsSite image config (Ok old) →
       WorksOn (record { site = site_of old; store = file_of old }) (record { site = site_of new; store = file_of new }) →
-      IfOk result (EndsWhole new) → IfOk result (GivesFile g image config.site)
-  gives_file (Ok (Closed files)) opened works ends = λ clean. (
+      IfOk result (EndsWhole new) → IfOk result (GivesBack g image start (Some config.site))
+  gives_back start (Ok (Closed files)) opened works ends = λ clean. (
       leaves_file image config old new files opened.site opened.stands (λ sound. opened.opens sound.clean) works ends.0 (ends.1 clean))
-  gives_file (Ok (Unopened named)) opened works ends = absurd ends
-  gives_file (Err error) opened works ends = tt
-
--- its file is what comes back
-pub gives_back : {D S E : Type 0} (g : disk.Ghosts D) (image : Image) (start : S) (number site : ℕ) (result : Result (Outcome D S) E) → number ≡ site →
-    IfOk result (GivesFile g image number) → IfOk result (GivesBack g image start (Some site))
-gives_back g image start number site (Ok (Closed files)) same it = subst (λ n. LeavesFile g image n files) same it
-gives_back g image start number site (Ok (Unopened named)) same it = absurd it
-gives_back g image start number site (Err error) same it = tt
+  gives_back start (Ok (Unopened named)) opened works ends = absurd ends
+  gives_back start (Err error) opened works ends = tt

@@ -26,11 +26,6 @@ GivesBack g image start (Some site) (Closed files) = LeavesFile g image site fil
 GivesBack g image start None (Closed files) = ⊥
 GivesBack g image start site (Unopened named) = named ≡ start
 
--- the files of a site, as a run leaves them
-abbrev pub GivesFile : {D S : Type 0} → disk.Ghosts D → Image → ℕ → Outcome D S → Type 0
-GivesFile g image site (Closed files) = LeavesFile g image site files
-GivesFile g image site (Unopened named) = ⊥
-
 -- the site was whole to its end, and its file was closed
 abbrev pub EndsWhole : {D S : Type 0} {g : disk.Ghosts D} {f : Ghosts (FileStore D g)} → Replica (FileStore D g) f → Outcome D S → Type 0
 EndsWhole replica (Closed files) = ((site_of replica).broken ≡ false) × ClosesInto replica files

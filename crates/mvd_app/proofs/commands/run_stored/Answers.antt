@@ -1,8 +1,11 @@
 use Rattle.sqlite.specs.WalFiles.{image_at}
-use Rattle.mvd_file.proofs.Working.{gives_file}
+use Rattle.mvd_file.proofs.Working.{gives_back}
+use Rattle.mvd_app.proofs.Working.{has_file}
 use Rattle.mvd_app.proofs.commands.run_stored.Goals as goal
 
 pub returns : goal.returns
 returns g c = record {
-  kept = gives_file (image_at g.S.Start) c.args.config c.in-Ok.replica c.work_on-worked.new.replica c.finish.result c.in-Ok.ensures c.work_on-worked.ensures.works c.finish.ensures;
+  kept = gives_back (image_at g.S.Start) c.args.config c.in-Ok.replica c.work_on-worked.new.replica c.args.start c.finish.result c.in-Ok.ensures
+      c.work_on-worked.ensures.works c.finish.ensures;
+  opened = has_file c.work_on-worked.new.replica c.finish.result c.finish.ensures;
 }

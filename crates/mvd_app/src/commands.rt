@@ -14,7 +14,9 @@ ghost use Rattle.sqlite.specs.WalFiles.{image_at};
 use crate::looping::loop_run;
 use mvd_client::{remote_shell_run, sync_run, tell_report};
 use mvd_dots::Refusal;
-use mvd_file::{Outcome, Output, answer_lines, finish, input, is_missing, shell_unmade, sync_unmade, unopened};
+use mvd_file::{
+    Outcome, Output, answer_lines, finish, input, is_missing, shell_unmade, sync_unmade, unopened,
+};
 use mvd_hint::{Hint, Stop};
 use mvd_input::{DEFS_MAX, Fault, Order, Setup, read_defs, read_input};
 use mvd_replica::{Replica, open_file};
@@ -24,9 +26,8 @@ use mvd_server::{Terms, serve_run};
 use mvd_site::Config;
 use sqlite::{Alter, FileFrom, Start};
 use sqlite_disk::Disk;
-use std::fs;
-use std::io;
 use std::net::SocketAddr;
+use std::{fs, io};
 
 /// What is done with a stored site.
 #[derive(Clone, Copy)]

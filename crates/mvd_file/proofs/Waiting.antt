@@ -146,7 +146,7 @@ module _ {D : Type 0} {g : disk.Ghosts D} {f : Ghosts (FileStore D g)} (image : 
     pub opened_back : {E : Type 0} (config : ConfigValue) (start : S) (replica : Replica (FileStore D g) f) (result : Result (Outcome D S) E) →
         (view old).file ≡ None → (view old).empty.config ≡ config → (view new).file ≡ Some replica →
         ((first : Replica (FileStore D g) f) → Asks ReplicaAnswers first replica →
-            WorksOn (record { site = site_of first; store = file_of first }) (record { site = site_of replica; store = file_of replica })) →
+        WorksOn (record { site = site_of first; store = file_of first }) (record { site = site_of replica; store = file_of replica })) →
         IfOk result (EndsWhole replica) → IfOk result (GivesBack g image start (Some config.site))
     opened_back config start replica result none same is works ends =
         elim (all_end Answers view reads asks.exchanges old new none asks.answered) [

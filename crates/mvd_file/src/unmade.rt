@@ -27,9 +27,8 @@ use mvd_wire::{Reply, Request};
 use sqlite::{Alter, Connection, FileFrom, FileStore, MemStore, Start};
 use sqlite_disk::Disk;
 use std::alloc::Global;
-use std::fs;
-use std::io;
 use std::net::SocketAddr;
+use std::{fs, io};
 
 /// Whether neither a file nor its log is there, but their folder is.
 pub fn is_missing(rt: &HostRuntime, db: &str) -> io::Result<bool> {
@@ -137,7 +136,10 @@ pub fn shell_unmade<'a, S: Start>(
     };
     let worked = answer_lines(rt, &mut site);
     let Unmade {
-        start, file, fault, ..
+        start,
+        file,
+        fault,
+        ..
     } = site;
     if let Some(replica) = file {
         return finish(db, replica, worked);
@@ -212,7 +214,7 @@ fn brought<S: Alter + Drop>(
     // If both sites are true, the stored one then has all that was held, but for the keys that the report names.
     ensures meets { IsTrueSite (site_of replica.old) → IsTrueSite (site_of held.old) →
         Meets (before_of (sides_of ⟦<Replica<S> as Peer>⟧ ⟦<Replica<MemStore> as Peer>⟧) (two replica.old held.old))
-            (after_of (sides_of ⟦<Replica<S> as Peer>⟧ ⟦<Replica<MemStore> as Peer>⟧) (two replica.new held.new)) result }
+        (after_of (sides_of ⟦<Replica<S> as Peer>⟧ ⟦<Replica<MemStore> as Peer>⟧) (two replica.new held.new)) result }
 {
     sync(alloc, replica, held)
 }
@@ -225,13 +227,7 @@ fn told_of<'a, S: Alter + Drop>(
 ) -> Result<(), Stop<'a>> {
     let mut writer = Output::new(io::writer(rt));
     match ran {
-        Ok(report) => tell_report(
-            rt.alloc(),
-            replica,
-            &report,
-            &mut writer,
-            &mut rt.stderr(),
-        ),
+        Ok(report) => tell_report(rt.alloc(), replica, &report, &mut writer, &mut rt.stderr()),
         Err(stop) => Err(stop),
     }
 }

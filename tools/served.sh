@@ -152,6 +152,39 @@ case $(python3 client.py "$port" 'get k' bye) in
 esac
 ended
 
+# A missing file is made only where something is to be stored.
+# files NAME: the file of this name and its log, as far as they are there.
+files() {
+  ls "$1" "$1-wal" 2>/dev/null | tr '\n' ' ' | sed 's/ $//' || :
+}
+
+printf 'get k\ndel k -\nput k - []\nroot\n' | "$program" shell --db read.db --site 4 >out || miss "a shell that reads"
+same "what a shell says without a file" "context - ok refused 4 NotObject" "$(head -n 3 out | tr '\n' ' ' | sed 's/ $//')"
+same "its file" "" "$(files read.db)"
+empty=$(tail -n 1 out)
+printf 'get k\nput k - {"n":1}\nget k\nput k @ {"n":2}\n' | "$program" shell --db write.db --site 4 >out || miss "a shell that writes"
+same "what a shell says that makes a file" 'context - dot 4:1 context 4:1 4:1 {"n":1} dot 4:2' "$(tr '\n' ' ' <out | sed 's/ $//')"
+same "what the file holds" 'context 4:2 4:2 {"n":2}' \
+  "$(echo 'get k' | "$program" shell --db write.db --site 4 | tr '\n' ' ' | sed 's/ $//')"
+"$top/tools/integrity.sh" write.db || miss "write.db is not whole"
+ln -s no/b.db lost.db
+status=0
+printf 'get k\nput k - {}\nget k\nput k - {}\n' | "$program" shell --db lost.db --site 4 >out 2>fault || status=$?
+same "a write that cannot be stored" "1 context - refused 21 Store context - refused 21 Store" "$status $(tr '\n' ' ' <out | sed 's/ $//')"
+same "why" "lost.db: unable to open database file; see to its folder, its rights and the disk" "$(tail -n 1 fault | sed 's/^mvd: //')"
+serve --db empty.db --site 5 --conns 4
+same "a server's file" "empty.db" "$(files empty.db | cut -d ' ' -f 1)"
+"$program" sync --db sync.db --site 6 --port "$port" >one || miss "no session with an empty server"
+same "a session with an empty server" "keys 0 $empty" "$(tr '\n' ' ' <one | sed 's/ $//' | sed 's/root //')"
+same "its file" "" "$(files sync.db)"
+python3 client.py "$port" 'put k {}' 'put l {}' bye >out
+"$program" sync --db sync.db --site 6 --port "$port" >one || miss "no session that makes a file"
+"$program" sync --db sync.db --site 6 --port "$port" >two || miss "no session after one that made a file"
+ended
+same "sessions that make a file" "keys 2 keys 0" "$(grep -h keys one two | tr '\n' ' ' | sed 's/ $//')"
+same "their roots" "$(grep root told) $(grep root told)" "$(grep root one) $(grep root two)"
+"$top/tools/integrity.sh" sync.db || miss "sync.db is not whole"
+
 serve --db a.db --site 1
 at="127.0.0.1:$port"
 refused "a port in use" 1 "fault 34 ReadFailed" "$at is in use: end the program that listens there, or name another port" \

@@ -20,7 +20,7 @@ fn obey(rt: &HostRuntime, words: &[String]) -> io::Result<ExitCode> {
     match order_of(rt.alloc(), &texts) {
         // A torn write is taken to leave each byte old or new.
         Ok(order) => match run(rt, order, Unknown) {
-            Ok(_files) => Ok(ExitCode::SUCCESS),
+            Ok(_outcome) => Ok(ExitCode::SUCCESS),
             Err(stop) => Ok(tell_stop(rt, &stop)),
         },
         Err(fault) => Ok(refused(rt, &fault)),

@@ -1,3 +1,1 @@
-pub mod Output
-pub mod Refused
 pub mod Stored

@@ -1,32 +1,33 @@
 //! What a command line asks for, done: with standard input and output, files and sockets.
 ghost use Rattle.std.specs.Prelude.{◌≡◌, IfOk, None, Some};
-ghost use Rattle.mvd_app.specs.Stored.{FollowsAsked, stored_site};
-ghost use Rattle.mvd_replica.specs.FileCalls.{ClosesInto};
+ghost use Rattle.mvd_app.specs.Stored.{HasFile, HasServed, stored_site};
+ghost use Rattle.mvd_file.specs.Stored.{FollowsAsked, GivesBack};
+ghost use Rattle.mvd_file.specs.declared.closing.Outcome.TheVariants.{Unopened};
 ghost use Rattle.mvd_replica.specs.ReplicaCalls.{ReplicaAnswers};
 ghost use Rattle.mvd_script.specs.Talk.{Asks};
 ghost use Rattle.mvd_input.specs.Orders.{IsInRange, IsSetUp};
-ghost use Rattle.mvd_replica.specs.Programs.{GivesBack, WorksOn};
+ghost use Rattle.mvd_replica.specs.Programs.{WorksOn};
 ghost use Rattle.mvd_rows.specs.Defs.{no_definitions};
 ghost use Rattle.mvd_replica.specs.Replicas.{stored_of};
 ghost use Rattle.sqlite.specs.WalFiles.{image_at};
 
 use crate::looping::loop_run;
-use crate::output::Output;
-use crate::refusing::unopened;
 use mvd_client::{remote_shell_run, sync_run, tell_report};
 use mvd_dots::Refusal;
+use mvd_file::{
+    Outcome, Output, answer_lines, finish, input, is_missing, shell_unmade, sync_unmade, unopened,
+};
 use mvd_hint::{Hint, Stop};
 use mvd_input::{DEFS_MAX, Fault, Order, Setup, read_defs, read_input};
 use mvd_replica::{Replica, open_file};
 use mvd_rows::Defs;
-use mvd_script::{shell_run, sim};
+use mvd_script::sim;
 use mvd_server::{Terms, serve_run};
 use mvd_site::Config;
-use sqlite::{Alter, FileFrom, FileStore, Files, Start};
+use sqlite::{Alter, FileFrom, Start};
 use sqlite_disk::Disk;
-use std::fs;
-use std::io::{self, BufReader};
 use std::net::SocketAddr;
+use std::{fs, io};
 
 /// What is done with a stored site.
 #[derive(Clone, Copy)]
@@ -37,19 +38,22 @@ enum Work {
 }
 
 /// Runs an order, from standard input where it reads, and to standard output. A file that it opens holds what `start` names. It
-/// gives that file and its log back, closed; `None` where the order works on no file.
+/// gives that file and its log back, closed; or `start`, where it opened none: the order works on no file, or nothing was to be
+/// written into one that is missing.
 pub fn run<'a, S: Start>(
-    rt: &HostRuntime,
+    rt: &'a HostRuntime,
     order: Order<'a>,
     start: S,
-) -> Result<Option<Files<FileFrom<S>>>, Stop<'a>>
+) -> Result<Outcome<FileFrom<S>, S>, Stop<'a>>
     requires { IsInRange order }
     // If it ends well, and the files are clean, no write is lost that they held, of either version; and new files hold the site.
-    ensures kept { IfOk result (GivesBack ⟦<FileFrom<S> as Disk>⟧ (image_at S.Start) (stored_site order.entry)) }
+    ensures kept { IfOk result (GivesBack ⟦<FileFrom<S> as Disk>⟧ (image_at S.Start) start (stored_site order.entry)) }
+    // A server has opened its file.
+    ensures served { IfOk result (HasServed order.entry) }
 {
     match order {
-        Order::Sim => no_file(run_sim(rt)),
-        Order::Loop(setup) => no_file(run_loop(rt, setup)),
+        Order::Sim => no_file(run_sim(rt), start),
+        Order::Loop(setup) => no_file(run_loop(rt, setup), start),
         Order::Serve {
             db,
             setup,
@@ -59,10 +63,11 @@ pub fn run<'a, S: Start>(
             http,
         } => {
             let work = Work::Serve(address, Terms { http, conns, idle });
-            run_stored(rt, db, setup, work, start)
+            let config = config_in(rt, setup)?;
+            run_stored(rt, db, config, work, start)
         }
-        Order::Shell { db, setup } => run_stored(rt, db, setup, Work::Shell, start),
-        Order::RemoteShell { address, idle } => no_file(run_remote_shell(rt, address, idle)),
+        Order::Shell { db, setup } => run_unserved(rt, db, setup, Work::Shell, start),
+        Order::RemoteShell { address, idle } => no_file(run_remote_shell(rt, address, idle), start),
         Order::Sync {
             db,
             setup,
@@ -71,17 +76,20 @@ pub fn run<'a, S: Start>(
             verbose,
         } => {
             let work = Work::Sync(address, idle, verbose);
-            run_stored(rt, db, setup, work, start)
+            run_unserved(rt, db, setup, work, start)
         }
     }
 }
 
 /// What a command gives back that works on no file.
-fn no_file<'a, D: Drop>(ran: Result<(), Stop<'a>>) -> Result<Option<D>, Stop<'a>>
-    ensures { IfOk result (λ file. file ≡ None) }
+fn no_file<'a, D: Disk + Drop, S: Drop>(
+    ran: Result<(), Stop<'a>>,
+    start: S,
+) -> Result<Outcome<D, S>, Stop<'a>>
+    ensures { IfOk result (λ outcome. outcome ≡ Unopened start) }
 {
     match ran {
-        Ok(()) => Ok(None),
+        Ok(()) => Ok(Outcome::Unopened(start)),
         Err(stop) => Err(stop),
     }
 }
@@ -107,53 +115,49 @@ fn run_loop<'a>(rt: &HostRuntime, setup: Setup<'a>) -> Result<(), Stop<'a>>
     }
 }
 
+/// Works on a stored site. Where its file is missing, it is made only if there is something to store.
+fn run_unserved<'a, S: Start>(
+    rt: &'a HostRuntime,
+    db: &'a str,
+    setup: Setup<'a>,
+    work: Work,
+    start: S,
+) -> Result<Outcome<FileFrom<S>, S>, Stop<'a>>
+    requires { IsSetUp setup }
+    ensures kept { IfOk result (GivesBack ⟦<FileFrom<S> as Disk>⟧ (image_at S.Start) start (Some setup.entry.site)) }
+{
+    let config = config_in(rt, setup)?;
+    let missing = matches!(is_missing(rt, db), Ok(true));
+    match work {
+        Work::Shell if missing => shell_unmade(rt, db, config, start),
+        Work::Sync(address, idle, verbose) if missing => {
+            sync_unmade(rt, db, config, start, address, idle, verbose)
+        }
+        _ => run_stored(rt, db, config, work, start),
+    }
+}
+
 /// Opens the site that a file holds, which is made where it is missing, works on it, and closes it: what the log holds is copied
 /// into the file, and both are given back. It is proved for whatever stands in the file; `start` names that, and no code reads
 /// it. Where the site broke on the way the program stops with `Broken`: what was stored stands in the log.
 fn run_stored<'a, S: Start>(
     rt: &HostRuntime,
     db: &'a str,
-    setup: Setup<'a>,
+    config: Config,
     work: Work,
     start: S,
-) -> Result<Option<Files<FileFrom<S>>>, Stop<'a>>
-    requires { IsSetUp setup }
+) -> Result<Outcome<FileFrom<S>, S>, Stop<'a>>
     // If it ends well, and the files are clean, no write is lost that they held, of either version; and new files hold the site.
-    ensures kept { IfOk result (GivesBack ⟦<FileFrom<S> as Disk>⟧ (image_at S.Start) (Some setup.entry.site)) }
+    ensures kept { IfOk result (GivesBack ⟦<FileFrom<S> as Disk>⟧ (image_at S.Start) start (Some config.site)) }
+    // It has opened the file.
+    ensures opened { IfOk result HasFile }
 {
-    let config = config_in(rt, setup)?;
     let mut replica = match open_file(rt, db, start, config) {
         Ok(replica) => replica,
         Err(fault) => return Err(unopened(rt, db, fault)),
     };
-    if let Err(stop) = work_on(rt, &mut replica, work) {
-        drop(replica);
-        return Err(stop);
-    }
-    if replica.is_broken() {
-        drop(replica);
-        return Err(Stop::from(Refusal::Broken));
-    }
-    match closed(db, replica) {
-        Ok(files) => Ok(Some(files)),
-        Err(stop) => Err(stop),
-    }
-}
-
-/// Closes a stored site, and gives back its file and the log.
-fn closed<'a, D: Disk + Drop>(
-    db: &'a str,
-    replica: Replica<FileStore<D>>,
-) -> Result<Files<D>, Stop<'a>>
-    ensures { IfOk result (ClosesInto replica) }
-{
-    match replica.close() {
-        Ok(files) => Ok(files),
-        Err((error, store)) => {
-            drop(store);
-            Err(Stop::in_file(db, error))
-        }
-    }
+    let worked = work_on(rt, &mut replica, work);
+    finish(db, replica, worked)
 }
 
 /// Does what is to be done with a stored site.
@@ -186,12 +190,7 @@ fn typed<'a, S: Alter + Drop>(rt: &HostRuntime, replica: &mut Replica<S>) -> Res
     ensures asked { Asks ReplicaAnswers replica.old replica.new }
     ensures follows { FollowsAsked replica.old replica.new }
 {
-    let mut reader = input(rt)?;
-    let mut writer = Output::new(io::writer(rt));
-    match shell_run(rt.alloc(), replica, &mut reader, &mut writer) {
-        Ok(()) => Ok(()),
-        Err(fault) => Err(Stop::in_input(fault, Hint::Script)),
-    }
+    answer_lines(rt, replica)
 }
 
 fn run_remote_shell<'a>(rt: &HostRuntime, address: SocketAddr, idle: u32) -> Result<(), Stop<'a>> {
@@ -204,14 +203,6 @@ fn run_remote_shell<'a>(rt: &HostRuntime, address: SocketAddr, idle: u32) -> Res
         &mut reader,
         &mut io::writer(rt),
     )
-}
-
-/// Standard input.
-fn input(rt: &HostRuntime) -> Result<BufReader<<HostRuntime as Input>::Reader>, Fault> {
-    match BufReader::new(rt.alloc(), rt.reader()) {
-        Ok(reader) => Ok(reader),
-        Err(_) => Err(Fault::Stopped(Refusal::Memory)),
-    }
 }
 
 /// What a site is set up with.

@@ -3,11 +3,8 @@
 
 mod commands;
 mod looping;
-mod output;
-mod refusing;
 
 pub use commands::run;
 pub use looping::loop_run;
+pub use mvd_file::{Outcome, Output, refused_in};
 pub use mvd_hint::Stop;
-pub use output::Output;
-pub use refusing::refused_in;

@@ -3,13 +3,13 @@ ghost use Rattle.std.specs.Prelude.{◌<◌, ◌≤◌, length};
 ghost use Rattle.mvd_wire.specs.Frames.{frame_limit};
 
 use mvd_dots::Refusal;
+use mvd_file::in_memory;
 use mvd_frames::read_frame;
 use mvd_input::{BYTES_MAX, Fault, HEX_MAX, hex_bytes, read_input, write_out};
-use mvd_replica::{Ended, Replica, serve};
+use mvd_replica::{Ended, serve};
 use mvd_server::How;
 use mvd_site::Config;
 use mvd_wire::Frame;
-use sqlite::{Connection, MemStore};
 use std::alloc::Global;
 use std::fmt::Write as Print;
 use std::io::{self, BufReader, ErrorKind, Read, Write};
@@ -121,18 +121,6 @@ fn send<S: Read + Write + Drop>(
     match server.get_mut().write_all(&replies.bytes) {
         Ok(()) => Ok(()),
         Err(_) => Err(Refusal::WriteFailed),
-    }
-}
-
-/// A replica of a site with no key, stored in memory.
-fn in_memory(alloc: Global, config: Config) -> Result<Replica<MemStore>, Refusal> {
-    let conn = Connection::open_in_memory(alloc)?;
-    match Replica::open(alloc, conn, config) {
-        Ok(replica) => Ok(replica),
-        Err((refusal, conn)) => {
-            drop(conn);
-            Err(refusal)
-        }
     }
 }
 

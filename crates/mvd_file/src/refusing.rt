@@ -1,6 +1,6 @@
 //! Why a file was not opened as a site.
 ghost use Rattle.std.specs.Prelude.{IsTrue};
-ghost use Rattle.mvd_app.specs.Refused.{TellsForeign, TellsOurs};
+ghost use Rattle.mvd_file.specs.Refused.{TellsForeign, TellsOurs};
 ghost use Rattle.mvd_records.specs.Foreign.{HoldsForeign};
 ghost use Rattle.mvd_records.specs.Records.{OnlyReads};
 ghost use Rattle.sqlite.specs.Held.{state};
@@ -11,6 +11,7 @@ use mvd_records::{is_foreign, owner_in};
 use mvd_replica::FileFault;
 use sqlite::{Alter, Connection};
 use sqlite_disk::Disk;
+use std::alloc::AllocError;
 use std::{fs, io};
 
 /// Fewer bytes than a log with a page takes: 32 for its head, 24 for that of the page, and 512 for the page.
@@ -18,7 +19,7 @@ const LEAST_LOG: u64 = 568;
 
 /// Why a file was not opened as a site. The open makes a log where there is none. It is removed while the file's lock is still
 /// held, so that nobody else has it open.
-pub(crate) fn unopened<'a, D: Disk + Drop>(
+pub fn unopened<'a, D: Disk + Drop>(
     rt: &HostRuntime,
     file: &'a str,
     fault: FileFault<D>,
@@ -42,13 +43,19 @@ pub(crate) fn unopened<'a, D: Disk + Drop>(
 
 /// Removes the log beside a file, where it holds no page.
 fn remove_log(rt: &HostRuntime, file: &str) -> io::Result<()> {
-    let mut log = String::new(rt.alloc());
-    log.push_str(file)?;
-    log.push_str("-wal")?;
+    let log = log_beside(rt, file)?;
     if fs::metadata(rt, log.as_str())?.len() < LEAST_LOG {
         fs::remove_file(rt, log.as_str())?;
     }
     Ok(())
+}
+
+/// The name of the log beside a file.
+pub(crate) fn log_beside(rt: &HostRuntime, file: &str) -> Result<String, AllocError> {
+    let mut log = String::new(rt.alloc());
+    log.push_str(file)?;
+    log.push_str("-wal")?;
+    Ok(log)
 }
 
 /// Why the records of a file are refused: it is another program's, or another site's, or the refusal says it.

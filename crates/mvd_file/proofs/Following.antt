@@ -6,7 +6,7 @@ use Rattle.mvd_replica.specs.Sides.{replica_follows_on, replica_follows_self}
 use Rattle.mvd_replica.specs.declared.replica.Replica.{Replica}
 use Rattle.sqlite_trees.specs.declared.store.Store.{Ghosts}
 use Rattle.mvd_script.specs.Asked.{Exchange}
-use Rattle.mvd_app.specs.Stored.{FollowsAsked}
+use Rattle.mvd_file.specs.Stored.{FollowsAsked}
 use Rattle.mvd_replica.specs.ReplicaCalls.{ReplicaAnswers}
 use Rattle.mvd_script.specs.Talk.{Answered, Asks}
 

@@ -1,6 +1,6 @@
 //! A writer that remembers, for proofs alone, which bytes it took.
 ghost use Rattle.std.specs.Prelude.{◌≡◌, ◌++◌, Some};
-ghost use Rattle.mvd_app.specs.Output.{bytes_in};
+ghost use Rattle.mvd_file.specs.Output.{bytes_in};
 
 use http_server::Log;
 use std::io::{self, Write};

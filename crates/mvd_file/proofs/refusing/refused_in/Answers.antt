@@ -1,6 +1,6 @@
 use Rattle.std.proofs.Common.{◌∙◌, refl, sym, true≢false}
 use Rattle.mvd_records.proofs.Checked.{reads_nothing}
-use Rattle.mvd_app.proofs.refusing.refused_in.Goals as goal
+use Rattle.mvd_file.proofs.refusing.refused_in.Goals as goal
 
 pub returns-then-is_foreign : goal.returns-then-is_foreign
 returns-then-is_foreign g c = record {

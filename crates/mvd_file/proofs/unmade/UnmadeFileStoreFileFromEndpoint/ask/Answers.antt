@@ -1,0 +1,22 @@
+use Rattle.std.proofs.Common.{inl, refl}
+use Rattle.sqlite.specs.WalFiles.{image_at}
+use Rattle.mvd_file.proofs.Waiting.{opens_for, stays_unmade}
+use Rattle.mvd_file.proofs.unmade.UnmadeFileStoreFileFromEndpoint.ask.Goals as goal
+
+pub returns-in-Some-unchanged : goal.returns-in-Some-unchanged
+returns-in-Some-unchanged g c = record {
+  empty = refl {a = c.args.self.now.empty};
+  start = inl (refl {a = c.args.self.now.start});
+  file = stays_unmade (image_at g.S.Start) c.args.self.now.empty c.args.self.now.file c.args.request c.in-Some-unchanged.reply
+      c.in_default.is c.in-Some-unchanged.ensures.told;
+}
+
+pub returns-in-Ok : goal.returns-in-Ok
+returns-in-Ok g c =
+    let was = c.args.self.now in
+    record {
+      empty = c.make.ensures.empty;
+      start = c.make.ensures.start;
+      file = opens_for (image_at g.S.Start) was.empty was.file c.args.request c.ask-reply.result c.in-Ok.replica c.ask-reply.new.self
+          c.in_default.is c.in_default-unchanged.ensures.none c.in-Ok.ensures.opened c.ask-reply.ensures;
+    }

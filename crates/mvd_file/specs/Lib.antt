@@ -1,0 +1,4 @@
+pub mod Output
+pub mod Refused
+pub mod Stored
+pub mod Waiting

@@ -1,7 +1,10 @@
 //! What a command gives back: the file that it worked on, closed, or what was to name one.
-ghost use Rattle.std.specs.Prelude.{IfOk};
+ghost use Rattle.std.specs.Prelude.{◌≡◌, true, Err, IfErr, IfOk, OnOk};
+ghost use Rattle.mvd_dots.specs.declared.refusals.Refusal.TheVariants.{Broken};
 ghost use Rattle.mvd_file.specs.Stored.{EndsWhole};
+ghost use Rattle.mvd_input.specs.declared.fault.Fault.TheVariants.{Stopped};
 ghost use Rattle.mvd_replica.specs.FileCalls.{ClosesInto};
+ghost use Rattle.mvd_replica.specs.Replicas.{site_of};
 
 use mvd_dots::Refusal;
 use mvd_hint::Stop;
@@ -9,13 +12,13 @@ use mvd_replica::Replica;
 use sqlite::{FileStore, Files};
 use sqlite_disk::Disk;
 
-/// What a command gives back. What names the files of a run is neither copied nor made again, and a file is opened only where
-/// it is handed over. So where it comes back, the run has opened no file.
+/// What a command gives back. A file is opened only where what names it is handed over, and that is not copied. So where it
+/// comes back, no file was opened with it.
 #[derive(Drop)]
 pub enum Outcome<D: Disk + Drop, S: Drop> {
     /// The file that it worked on and its log, closed.
     Closed(Files<D>),
-    /// It opened no file: what was to name one.
+    /// What was to name a file: none was opened with it.
     Unopened(S),
 }
 
@@ -26,7 +29,11 @@ pub fn finish<'a, D: Disk + Drop, S: Drop>(
     replica: Replica<FileStore<D>>,
     worked: Result<(), Stop<'a>>,
 ) -> Result<Outcome<D, S>, Stop<'a>>
-    ensures { IfOk result (EndsWhole replica) }
+    ensures closed { IfOk result (EndsWhole replica) }
+    // The command is stopped with what the work was stopped with.
+    ensures stopped { IfErr worked.entry (λ stop. result ≡ Err stop) }
+    // A site that the work broke is told with 22.
+    ensures broken { OnOk worked.entry ((site_of replica).broken ≡ true → IfErr result (λ stop. stop.fault ≡ Stopped Broken)) }
 {
     if let Err(stop) = worked {
         drop(replica);

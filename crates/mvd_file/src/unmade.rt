@@ -1,7 +1,7 @@
 //! A stored site whose file is missing: the first write that is to be stored makes it.
-ghost use Rattle.std.specs.Prelude.{◌≢◌, IfNone, IfOk, IfSome, Some};
-ghost use Rattle.mvd_file.specs.Stored.{GivesBack};
-ghost use Rattle.mvd_file.specs.Waiting.{AnswersWaiting, Makes, waiting};
+ghost use Rattle.std.specs.Prelude.{◌≡◌, ◌≢◌, [], Err, IfErr, IfNone, IfOk, IfSome, IsErr, Some};
+ghost use Rattle.mvd_file.specs.Stored.{GivesBack, LeavesNone};
+ghost use Rattle.mvd_file.specs.Waiting.{AnswersWaiting, EndsAsked, EndsTold, Makes, site_without_keys, waiting};
 ghost use Rattle.mvd_client.specs.Synced.{FollowsPushed};
 ghost use Rattle.mvd_peer.specs.PeerSides.{sides_of};
 ghost use Rattle.mvd_peer.specs.Sides.{two};
@@ -14,7 +14,7 @@ ghost use Rattle.sqlite.specs.WalFiles.{image_at};
 use crate::closing::{Outcome, finish};
 use crate::output::Output;
 use crate::refusing::{log_beside, unopened};
-use crate::typed_lines::answer_lines;
+use crate::typed_lines::{answer_all, input};
 use mvd_client::{sync_run, tell_report};
 use mvd_dots::Refusal;
 use mvd_hint::Stop;
@@ -26,9 +26,11 @@ use mvd_sync::{Report, SyncFault, sync};
 use mvd_wire::{Reply, Request};
 use sqlite::{Alter, Connection, FileFrom, FileStore, MemStore, Start};
 use sqlite_disk::Disk;
+use sqlite_trees::store::Store;
 use std::alloc::Global;
+use std::fs;
+use std::io::{self, BufRead, Write};
 use std::net::SocketAddr;
-use std::{fs, io};
 
 /// Whether neither a file nor its log is there, but their folder is.
 pub fn is_missing(rt: &HostRuntime, db: &str) -> io::Result<bool> {
@@ -125,6 +127,28 @@ pub fn shell_unmade<'a, S: Start>(
     start: S,
 ) -> Result<Outcome<FileFrom<S>, S>, Stop<'a>>
     ensures kept { IfOk result (GivesBack ⟦<FileFrom<S> as Disk>⟧ (image_at S.Start) start (Some config.site)) }
+    // What was asked of the site without a key, and what came of that.
+    ensures asked { IfOk result (EndsAsked ⟦<FileStore<FileFrom<S>> as Store>⟧ (image_at S.Start) config start) }
+{
+    let mut reader = input(rt)?;
+    let mut writer = Output::new(io::writer(rt));
+    shell_over(rt, db, config, start, &mut reader, &mut writer)
+}
+
+/// The same of the lines of a reader.
+fn shell_over<'a, S: Start, R: BufRead, W: Write>(
+    rt: &'a HostRuntime,
+    db: &'a str,
+    config: Config,
+    start: S,
+    reader: &mut R,
+    writer: &mut W,
+) -> Result<Outcome<FileFrom<S>, S>, Stop<'a>>
+    ensures kept { IfOk result (GivesBack ⟦<FileFrom<S> as Disk>⟧ (image_at S.Start) start (Some config.site)) }
+    ensures asked { IfOk result (EndsAsked ⟦<FileStore<FileFrom<S>> as Store>⟧ (image_at S.Start) config start) }
+    // All lines were answered, and what each prints was written.
+    ensures told { IfOk result (EndsTold ⟦<FileStore<FileFrom<S>> as Store>⟧ (image_at S.Start) config start
+        (R.remaining reader.old) (W.contents writer.old) (R.remaining reader.new) (W.contents writer.new)) }
 {
     let mut site = Unmade {
         rt,
@@ -134,7 +158,7 @@ pub fn shell_unmade<'a, S: Start>(
         file: None,
         fault: None,
     };
-    let worked = answer_lines(rt, &mut site);
+    let worked = answer_all(rt.alloc(), &mut site, reader, writer);
     let Unmade {
         start,
         file,
@@ -185,7 +209,8 @@ pub fn sync_unmade<'a, S: Start>(
     finish(db, replica, worked)
 }
 
-/// Stores what a session brought, and tells of it.
+/// Stores what a session brought, and tells of it. Keys that the stored site refuses are told also where the session itself ended
+/// with a fault, which is what the command is stopped with then.
 fn stored<'a, S: Alter + Drop>(
     rt: &HostRuntime,
     replica: &mut Replica<S>,
@@ -193,10 +218,22 @@ fn stored<'a, S: Alter + Drop>(
     ran: Result<Report, Stop<'a>>,
 ) -> Result<(), Stop<'a>>
     ensures pushed { FollowsPushed replica.old replica.new }
+    // If it ends well and both sites are true, the stored one has all that was held.
+    ensures brings { IfOk result (λ _. IsTrueSite (site_of replica.old) → IsTrueSite (site_of held.old) →
+        LeavesNone (before_of (sides_of ⟦<Replica<S> as Peer>⟧ ⟦<Replica<MemStore> as Peer>⟧) (two replica.old held.old))
+            (after_of (sides_of ⟦<Replica<S> as Peer>⟧ ⟦<Replica<MemStore> as Peer>⟧) (two replica.new held.new))) }
+    // It does not end well where the session did not.
+    ensures ran { IfErr ran.entry (λ _. IsErr result) }
 {
     match brought(rt.alloc(), replica, held) {
         // Where the file was made by another program meanwhile, some keys may be refused.
-        Ok(report) if report.refused > 0 => told_of(rt, replica, Ok(report)),
+        Ok(report) if report.refused > 0 => {
+            let told = told_of(rt, replica, Ok(report));
+            match ran {
+                Ok(_) => told,
+                Err(stop) => Err(stop),
+            }
+        }
         Ok(_) => told_of(rt, replica, ran),
         Err(SyncFault::Local(refusal) | SyncFault::Peer(refusal)) => {
             Err(Stop::in_session(refusal))
@@ -211,7 +248,8 @@ fn brought<S: Alter + Drop>(
     held: &mut Replica<MemStore>,
 ) -> Result<Report, SyncFault>
     ensures pushed { FollowsPushed replica.old replica.new }
-    // If both sites are true, the stored one then has all that was held, but for the keys that the report names.
+    // If both sites are true and it ends with no fault, the stored one then has all that was held, but for the keys that the
+    // report counts; it names the first 100 of them.
     ensures meets { IsTrueSite (site_of replica.old) → IsTrueSite (site_of held.old) →
         Meets (before_of (sides_of ⟦<Replica<S> as Peer>⟧ ⟦<Replica<MemStore> as Peer>⟧) (two replica.old held.old))
         (after_of (sides_of ⟦<Replica<S> as Peer>⟧ ⟦<Replica<MemStore> as Peer>⟧) (two replica.new held.new)) result }
@@ -224,7 +262,11 @@ fn told_of<'a, S: Alter + Drop>(
     rt: &HostRuntime,
     replica: &Replica<S>,
     ran: Result<Report, Stop<'a>>,
-) -> Result<(), Stop<'a>> {
+) -> Result<(), Stop<'a>>
+    // The command is stopped with a fault of the session, and where the report names keys.
+    ensures stopped { IfErr ran.entry (λ stop. result ≡ Err stop) }
+    ensures left { IfOk ran.entry (λ report. report.first_refused ≢ [] → IsErr result) }
+{
     let mut writer = Output::new(io::writer(rt));
     match ran {
         Ok(report) => tell_report(rt.alloc(), replica, &report, &mut writer, &mut rt.stderr()),
@@ -233,7 +275,9 @@ fn told_of<'a, S: Alter + Drop>(
 }
 
 /// A replica of a site with no key, stored in memory.
-pub fn in_memory(alloc: Global, config: Config) -> Result<Replica<MemStore>, Refusal> {
+pub fn in_memory(alloc: Global, config: Config) -> Result<Replica<MemStore>, Refusal>
+    ensures { IfOk result (λ replica. site_of replica ≡ site_without_keys config) }
+{
     let conn = Connection::open_in_memory(alloc)?;
     match Replica::open(alloc, conn, config) {
         Ok(replica) => Ok(replica),

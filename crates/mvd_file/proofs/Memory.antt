@@ -38,8 +38,9 @@ none_had db key s none (inr has) = none_at (old_states db) key has.0 (none_old d
 
 just_none : (db : Database) → db.schema ≡ no_tables → HasJust db empty
 just_none db none key s = (
-    (λ has. absurd (none_had db key s none has)),
-    (λ found. absurd (none-some s (sym (get-empty key_cmp key) ∙ found))))
+  (λ has. absurd (none_had db key s none has)),
+  (λ found. absurd (none-some s (sym (get-empty key_cmp key) ∙ found))),
+)
 
 none_ours : (db : Database) → db.schema ≡ no_tables → IsOurs db
 none_ours db none = inl (record { schema = none; rows = λ t has. absurd has })

@@ -171,8 +171,11 @@ module _ {D : Type 0} {g : disk.Ghosts D} {f : Ghosts (FileStore D g)} (image : 
     after_one old between new exchange exchanges none one others later None is =
         let it = reads old between exchange.request exchange.reply one in
         elim (later is) [
-          | inl kept ↦ inl (kept.0, kept_on (view old).start (view between).start (view new).start
-              (kept_for (view old).empty exchange.request (view old).start (view between).start it.start) kept.1)
+          | inl kept ↦ inl (
+            kept.0,
+            kept_on (view old).start (view between).start (view new).start
+                (kept_for (view old).empty exchange.request (view old).start (view between).start it.start) kept.1,
+          )
           | inr opens ↦ inr (subst (λ (e : SiteValue). Opens e new) it.empty opens)
         ]
     after_one old between new exchange exchanges none one others later (Some now) is =

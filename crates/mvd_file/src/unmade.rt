@@ -221,7 +221,7 @@ fn stored<'a, S: Alter + Drop>(
     // If it ends well and both sites are true, the stored one has all that was held.
     ensures brings { IfOk result (λ _. IsTrueSite (site_of replica.old) → IsTrueSite (site_of held.old) →
         LeavesNone (before_of (sides_of ⟦<Replica<S> as Peer>⟧ ⟦<Replica<MemStore> as Peer>⟧) (two replica.old held.old))
-            (after_of (sides_of ⟦<Replica<S> as Peer>⟧ ⟦<Replica<MemStore> as Peer>⟧) (two replica.new held.new))) }
+        (after_of (sides_of ⟦<Replica<S> as Peer>⟧ ⟦<Replica<MemStore> as Peer>⟧) (two replica.new held.new))) }
     // It does not end well where the session did not.
     ensures ran { IfErr ran.entry (λ _. IsErr result) }
 {

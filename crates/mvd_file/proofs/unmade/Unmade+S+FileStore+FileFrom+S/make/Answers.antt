@@ -8,9 +8,10 @@ returns-in-Ok g c = record {
   empty = refl;
   file = refl;
   opened = (
-      opens_by_copy (image_at g.S.Start) c.config.result.now c.in_ok-config.config c.args.self.now.empty.config (Ok c.in-Ok.replica)
-          c.in_ok-config.ensures c.config.ensures c.in-Ok.ensures,
-      c.take.ensures.after);
+    opens_by_copy (image_at g.S.Start) c.config.result.now c.in_ok-config.config c.args.self.now.empty.config (Ok c.in-Ok.replica)
+        c.in_ok-config.ensures c.config.ensures c.in-Ok.ensures,
+    c.take.ensures.after,
+  );
   refused = tt;
 }
 
@@ -28,8 +29,12 @@ returns-in-Err g c = record {
   file = refl;
   opened = tt;
   refused = inr (
-      refl,
-      inr (c.in-Err.fault, opens_by_copy (image_at g.S.Start) c.config.result.now c.in_ok-config.config c.args.self.now.empty.config (Err c.in-Err.fault)
-          c.in_ok-config.ensures c.config.ensures c.in-Err.ensures),
-      c.take.ensures.after);
+    refl,
+    inr (
+      c.in-Err.fault,
+      opens_by_copy (image_at g.S.Start) c.config.result.now c.in_ok-config.config c.args.self.now.empty.config (Err c.in-Err.fault)
+          c.in_ok-config.ensures c.config.ensures c.in-Err.ensures,
+    ),
+    c.take.ensures.after,
+  );
 }

@@ -1,5 +1,5 @@
 -- A site that is stored in memory begins with no key.
-use Rattle.std.proofs.Common.{◌≡◌, ◌∙◌, ℕ, Bool, List, [], Option, Some, None, ap, inl, inr, refl, subst, sym}
+use Rattle.std.proofs.Common.{◌≡◌, ◌∙◌, ℕ, Bool, List, [], Some, ap, inl, inr, refl, sym}
 use Rattle.std.proofs.lemmas.Option.{none-some}
 use Rattle.std.specs.FinMap.{empty, from_entries, get, get-empty}
 use Rattle.mvd_keys.specs.Key.{key_cmp}

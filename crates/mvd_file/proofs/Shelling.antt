@@ -1,5 +1,5 @@
 -- Lines that were answered, seen at what waits.
-use Rattle.std.proofs.Common.{◌≡◌, ◌⊎◌, ◌+◌, ℕ, List, [], ◌∷◌, Option, Result, Ok, ap, inl, inr}
+use Rattle.std.proofs.Common.{◌+◌, ℕ, List, [], ◌∷◌, Option, Result, Ok, ap, inl, inr}
 use Rattle.mvd_input.specs.declared.command.Ask.{Ask}
 use Rattle.mvd_input.specs.declared.command.Typed.{Typed}
 use Rattle.mvd_input.specs.declared.command.Typed.TheVariants.{Ask as Asked, Help}

@@ -1,5 +1,5 @@
 -- A stored site whose file is missing: whatever it is asked, the file stays unopened, or it is opened and the site in it answers.
-use Rattle.std.proofs.Common.{◌≡◌, ◌≢◌, ◌⊎◌, ◌∙◌, inl, inr, List, [], ◌∷◌, Option, Some, None, Result, Ok, ap, refl, subst, sym}
+use Rattle.std.proofs.Common.{◌≡◌, ◌⊎◌, ◌∙◌, inl, inr, List, [], ◌∷◌, Option, Some, None, Result, Ok, ap, refl, subst, sym}
 use Rattle.std.proofs.lemmas.Option.{none-some, same_Some}
 use Rattle.std.specs.Prelude.{ℕ, Err, IfErr, IfOk, OnOk}
 use Rattle.mvd_dots.specs.declared.refusals.Refusal.{Refusal}
@@ -8,7 +8,7 @@ use Rattle.mvd_wire.specs.declared.reply.Reply.{Reply}
 use Rattle.mvd_wire.specs.declared.reply.Reply.TheVariants.{Refused}
 use Rattle.mvd_wire.specs.declared.request.Request.{Request}
 use Rattle.mvd_site.specs.Config.{ConfigValue}
-use Rattle.mvd_site.specs.FromStates.{AnswersFrom, after_from}
+use Rattle.mvd_site.specs.FromStates.{AnswersFrom}
 use Rattle.mvd_site.specs.Sites.{SiteValue}
 use Rattle.mvd_replica.specs.FileCalls.{OpensAsSite, file_of}
 use Rattle.mvd_replica.specs.Programs.{WorksOn}
@@ -26,7 +26,7 @@ use Rattle.sqlite_trees.specs.declared.store.Store.{Ghosts}
 use Rattle.mvd_file.proofs.Shelling.{all_seen, shells_seen}
 use Rattle.mvd_file.proofs.Working.{gives_back}
 use Rattle.mvd_file.specs.Stored.{EndsWhole, GivesBack}
-use Rattle.mvd_file.specs.Waiting.{AnswersBy, AnswersWaiting, CannotOpen, Changes, EndsAsked, EndsTold, EndsWaiting, FailsFor, FailsToMake, IsKeptOrSpent, IsKeptOrSpentFor, Makes, OpensFor, Waiting, site_without_keys, waiting}
+use Rattle.mvd_file.specs.Waiting.{AnswersBy, AnswersWaiting, Changes, EndsAsked, EndsTold, EndsWaiting, FailsFor, FailsToMake, IsKeptOrSpent, IsKeptOrSpentFor, OpensFor, Waiting, site_without_keys, waiting}
 use Rattle.mvd_file.specs.declared.closing.Outcome.{Outcome}
 use Rattle.mvd_file.specs.declared.closing.Outcome.TheVariants.{Unopened}
 

@@ -21,11 +21,8 @@ returns-in-RemoteShell g c = record {
   served = rw c.in-RemoteShell.is (unasked c.no_file-in-RemoteShell.result);
 }
 
-pub returns-in-Serve : goal.returns-in-Serve
-returns-in-Serve g c = record {
-  kept = rw c.in-Serve.is (rw c.in_ok-config.ensures.site at c.run_stored.ensures.kept);
-  served = rw c.in-Serve.is c.run_stored.ensures.opened;
-}
+pub returns-in_ok-config-in-Serve-clause-kept : goal.returns-in_ok-config-in-Serve-clause-kept
+returns-in_ok-config-in-Serve-clause-kept g c = rw c.in-Serve.is (rw c.in_ok-config-in-Serve.ensures.site at c.run_stored.ensures.kept)
 
 pub returns-in-Shell : goal.returns-in-Shell
 returns-in-Shell g c = record { kept = rw c.in-Shell.is c.run_unserved.ensures.kept; served = rw c.in-Shell.is (unasked c.run_unserved.result) }

@@ -182,7 +182,7 @@ fn db<'a>(alloc: Global) -> Arg<'a>
         alloc,
         "db",
         "FILE",
-        "The file of the database, which is made where it is missing.",
+        "The file of the database. Where it is missing, the first write makes it, or serve.",
     )
     .required(true)
 }

@@ -216,6 +216,9 @@ leaves_open TooManyRequests = true
 leaves_open BadDefs = true
 leaves_open refusal = false
 
+abbrev pub IsLeftOpen : Refusal → Type 0
+IsLeftOpen refusal = leaves_open refusal ≡ true
+
 -- what a push that was refused leaves: the states that were, unless the refusal leaves open whether it was taken
 abbrev pub Leaves : States → Key → State → States → Refusal → Type 0
 Leaves old key state new refusal = (new ≡ old) ⊎ ((leaves_open refusal ≡ true) × Takes old key state new)

@@ -8,8 +8,8 @@ ghost use Rattle.mvd_keys.specs.Writes.{Key};
 ghost use Rattle.mvd_site.specs.Held.{AreHeld, States, state_at};
 ghost use Rattle.mvd_site.specs.Answer.{digests};
 ghost use Rattle.mvd_peer.specs.Sides.{IsOfNoQuestion, StaysFaithful};
-ghost use Rattle.mvd_peer.specs.Windows.{AskedAll, CannotTake, Ends, HasKeys, IsNode, IsPushed, Leaves, PushedAll};
-ghost use Rattle.mvd_peer.specs.Windows.{PushedSome, RefusesPage, TellsMore};
+ghost use Rattle.mvd_peer.specs.Windows.{AskedAll, CannotTake, Ends, HasKeys, IsLeftOpen, IsNode, IsPushed, Leaves};
+ghost use Rattle.mvd_peer.specs.Windows.{PushedAll, PushedSome, RefusesPage, TellsMore};
 ghost use Rattle.mvd_peer.specs.Windows.{for_pushes, gets_of, holding, manner, nodes_of, pages_of};
 
 use crate::windows::{is_over, left_open, room_for};
@@ -123,7 +123,7 @@ pub trait Peer {
             if is_over(&answer) {
                 return Err(Refusal::Broken);
             }
-            told.push(answer)?;
+            told.push_reserved(answer);
         }
         Ok(told)
     }
@@ -145,7 +145,7 @@ pub trait Peer {
             if is_over(&answer) {
                 return Err(Refusal::Broken);
             }
-            told.push(answer)?;
+            told.push_reserved(answer);
         }
         Ok(told)
     }
@@ -164,7 +164,7 @@ pub trait Peer {
             if is_over(&answer) {
                 return Err(Refusal::Broken);
             }
-            told.push(answer)?;
+            told.push_reserved(answer);
         }
         Ok(told)
     }
@@ -175,7 +175,8 @@ pub trait Peer {
             (λ _. for_pushes) pairs.now self.old self.new result }
         ensures pushes { PushedAll (holding is_faithful states most_keys) pairs.now self.old self.new result }
         ensures ended { IfErr result (Ends follows can_refuse (length pairs.now) self.old self.new) }
-        ensures not_of_question { is_faithful self.old → IfErr result IsOfNoQuestion }
+        // It ends so only where the last push made may have been taken: else a refusal stands among the answers.
+        ensures open { is_faithful self.old → IfErr result IsLeftOpen }
         ensures unbroken { is_faithful self.old →
             IfErr result (λ refusal. refusal ≢ Refusal.Broken → is_faithful self.new) }
         ensures first { PushedSome (holding is_faithful states most_keys) pairs.now self.old self.new result }
@@ -186,7 +187,7 @@ pub trait Peer {
             if let Some(refusal) = left_open(&answer) {
                 return Err(refusal);
             }
-            told.push(answer)?;
+            told.push_reserved(answer);
         }
         Ok(told)
     }

@@ -18,7 +18,7 @@ use Rattle.mvd_site.specs.Held.{States}
 use Rattle.mvd_remote.specs.Lines.{AnswersTruly, EndsOpen, SettleTruly, SettlesTruly, TrueReplies, TrueReply, and_framed, framed}
 use Rattle.mvd_peer.specs.PushedStates.{pushed}
 use Rattle.mvd_peer.specs.Sides.{is_of_question}
-use Rattle.mvd_peer.specs.Windows.{CannotTake, EachAnswer, EachRefusal, Leaves, Pushes, PushesFirst, RefusesPage, Takes, leaves_open}
+use Rattle.mvd_peer.specs.Windows.{CannotTake, EachAnswer, EachRefusal, IsLeftOpen, Leaves, Pushes, PushesFirst, RefusesPage, Takes, leaves_open}
 use Rattle.mvd_peer.proofs.ManyPushes.{open_not_of_key}
 
 -- ---- questions
@@ -277,9 +277,9 @@ module _ (most : ℕ) where
     window_first still (Ok v) h = tt
     window_first still (Err refusal) h = let f = first_pushed ps new old h.1.0 h.1.1 h.1.2 in (f.0, f.1, new, f.2, λ _. refl)
 
-    pub pushes_not_of_key : (result : Result V Refusal) → MatchResult result (λ v. SettleTruly (λ _. reply.Done) most old (map asked ps) (items v) new) (λ refusal. EndsOpen most old (map asked ps) refusal new) → IfErr result (λ refusal. is_of_question refusal ≡ false)
-    pushes_not_of_key (Ok v) h = tt
-    pushes_not_of_key (Err refusal) h = open_not_of_key refusal h.0
+    pub pushes_open : (result : Result V Refusal) → MatchResult result (λ v. SettleTruly (λ _. reply.Done) most old (map asked ps) (items v) new) (λ refusal. EndsOpen most old (map asked ps) refusal new) → IfErr result IsLeftOpen
+    pushes_open (Ok v) h = tt
+    pushes_open (Err refusal) h = h.0
 
 -- a side that is still faithful is so, however it refused
 pub still_so : {V : Type 0} (still : Type 0) (result : Result V Refusal) → still → IfErr result (λ refusal. refusal ≢ Broken → still)

@@ -1,5 +1,5 @@
 -- A program on a file: it opens the site that the file holds, works on it, and closes it.
-use Rattle.std.specs.Prelude.{◌≡◌, true, false, ℕ, List, [], ◌++◌, Option, Some, None}
+use Rattle.std.specs.Prelude.{◌≡◌, true, false, ℕ, List, [], ◌++◌}
 use Rattle.mvd_keys.specs.Writes.{Stands, Write}
 use Rattle.mvd_wire.specs.declared.request.Request.{Request}
 use Rattle.mvd_records.specs.Foreign.{IsForeign}
@@ -62,9 +62,3 @@ pub record KeepsFile {D : Type 0} (g : Ghosts D) (image : Image) (site : ℕ) (f
 -- if nobody else has written the files, and their disk has returned what was written
 abbrev pub LeavesFile : {D : Type 0} → Ghosts D → Image → ℕ → Files D → Type 0
 LeavesFile g image site files = AreClean g files.log files.db → KeepsFile g image site files
-
--- The files that a command gives back: those of a site, as a run leaves them, or none where it works on none
-abbrev pub GivesBack : {D : Type 0} → Ghosts D → Image → Option ℕ → Option (Files D) → Type 0
-GivesBack g image (Some site) (Some files) = LeavesFile g image site files
-GivesBack g image None None = Unit {0}
-GivesBack g image _ _ = ⊥

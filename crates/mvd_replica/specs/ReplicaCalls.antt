@@ -235,8 +235,9 @@ module _ {S : Type 0} {g : Ghosts S} where
 
   -- ---- answer_all
 
-  -- So many commits are counted, up to the greatest number: at most one at each turn that changed the site, and none at the others;
-  -- at most one for each request for a change; and at least one unless the site is as it was
+  -- So many commits are counted, up to the greatest number: at most one for each request for a change, and at least one unless the
+  -- site is as it was. Some way through these requests and replies has at most one at each turn that changed the site, and none at
+  -- the others
   pub record CountsCommits (requests : List Request) (replies : List Reply) (old new : Replica S g) : Type 0 where
     pub turns : List Turn
     pub asked : map (λ turn. turn.asked) turns ≡ map (λ request. Ok request) requests

@@ -5,7 +5,7 @@ ghost use Rattle.std.proofs.Common.{ap};
 ghost use Rattle.mvd_replica.specs.ReplicaCalls.{TellsPage, TellsState, node_told};
 ghost use Rattle.mvd_replica.specs.SideCalls.{EndsWindow, IsToldAlike, IsTrueUnlessBroken, IsWindowRefusal, PushesOnSide};
 ghost use Rattle.mvd_replica.specs.SideCalls.{PushesSome, PushesWindow, TellsWindow};
-ghost use Rattle.mvd_peer.specs.Sides.{IsOfNoQuestion};
+ghost use Rattle.mvd_peer.specs.Windows.{IsLeftOpen};
 
 use crate::pushes::{add_told, pushes_of};
 use crate::replica::Replica;
@@ -95,7 +95,7 @@ impl<S: Alter> Peer for Replica<S> {
         ensures ended { IfErr result (EndsWindow self.old pairs.now self.new) }
         // It is refused for want of memory, or by a replica that is broken then.
         ensures refusal { IfErr result (IsWindowRefusal self.new) }
-        ensures not_of_question { IsTrueSite (site_of self.old) → IfErr result IsOfNoQuestion }
+        ensures open { IsTrueSite (site_of self.old) → IfErr result IsLeftOpen }
         ensures unbroken { IsTrueSite (site_of self.old) → IfErr result (IsTrueUnlessBroken self.new) }
         ensures first { IsTrueSite (site_of self.old) → OnErr result (PushesSome self.old pairs.now self.new) }
     {

@@ -139,7 +139,7 @@ module _ {S : Type 0} (g : Ghosts S) where
   abbrev pub FindsOrder : RecordsValue S → Result SiteValue Refusal → RecordsValue S → Type 0
   FindsOrder old result new = OfTold old new (λ was _. TellsOrder result old.version was)
 
-  -- nothing is committed where they told version 2
+  -- the last commit is as it was where they told version 2
   abbrev pub StaysMoved : RecordsValue S → RecordsValue S → Type 0
   StaysMoved old new = old.version ≡ 2 → OfTold old new (λ was now. now ≡ was)
 

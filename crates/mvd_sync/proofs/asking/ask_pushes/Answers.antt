@@ -7,6 +7,7 @@ use Rattle.mvd_keys.specs.State.{State}
 use Rattle.mvd_keys.specs.Writes.{Key}
 use Rattle.mvd_sync.specs.Questions.{IsOfKey}
 use Rattle.mvd_peer.specs.PeerSides.{side_of}
+use Rattle.mvd_peer.proofs.ManyPushes.{open_not_of_key}
 use Rattle.mvd_peer.proofs.OneByOne.{at_err, at_err_same}
 use Rattle.mvd_sync.proofs.Pushing.{FrontPushed, all_pushed, ended_call, ended_first, ended_for_want, ended_told, front_on, front_rest, no_pairs}
 use Rattle.mvd_sync.proofs.asking.ask_pushes.Goals as goal
@@ -22,7 +23,7 @@ returns-in_err-answers-clause-ended g c =
     let low : c.take-taken.result ≤ length c.loop-rest.rest.now = omega arith in
     at_err_same _ _ _ c.in_err-answers.field-0.0 c.from_residual-in_err-answers.ensures (λ e is. cc)
     (ended_call s g.met.P.Peer.follows_on g.met.P.Peer.most_stays c.args.pairs.now c.loop-rest.rest.now c.loop-rest.told.items [] c.args.left.now c.loop-rest.left c.take-taken.new.left c.take-taken.result c.args.side.now c.loop-rest.side c.push_all.new.self c.loop-rest.invariant.front c.take-taken.ensures.spent low
-    c.in_err-answers.field-0.0 c.in_err-answers.ensures.ended c.in_err-answers.ensures.not_of_question c.in_err-answers.ensures.unbroken c.in_err-answers.ensures.first)
+    c.in_err-answers.field-0.0 c.in_err-answers.ensures.ended (λ t. open_not_of_key c.in_err-answers.field-0.0 (c.in_err-answers.ensures.open t)) c.in_err-answers.ensures.unbroken c.in_err-answers.ensures.first)
 
 pub returns-in_err-add_told-clause-ended : goal.returns-in_err-add_told-clause-ended
 returns-in_err-add_told-clause-ended g c =

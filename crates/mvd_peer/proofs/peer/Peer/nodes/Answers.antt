@@ -1,11 +1,11 @@
-use Rattle.std.proofs.Common.{◌≡◌, ◌∙◌, subst, inl, inr}
+use Rattle.std.proofs.Common.{◌≡◌, ◌∙◌, subst, inl, ◌≤◌, length, sym, arith, length-append}
 use Rattle.std.specs.Prelude.{Err, IfOk}
 use Rattle.std.proofs.lemmas.Result.{IfErr-at_err}
 use Rattle.mvd_dots.specs.declared.refusals.Refusal.TheVariants.{Broken}
 use Rattle.mvd_site.specs.Answer.{digests}
 use Rattle.mvd_site.specs.Held.{States}
 use Rattle.mvd_peer.specs.Windows.{IsNode}
-use Rattle.mvd_peer.proofs.OneByOne.{always, at_err, few_more, last_made, one_more_at}
+use Rattle.mvd_peer.proofs.OneByOne.{always, few_more, last_made, one_more_at}
 use Rattle.mvd_peer.proofs.peer.Peer.nodes.Goals as goal
 
 pub returns-then-is_over-clause-ended : goal.returns-then-is_over-clause-ended
@@ -13,17 +13,20 @@ returns-then-is_over-clause-ended g c =
     let is : c.node-answer.result ≡ Err Broken = c.is_over.ensures.0 c.if-is_over.true in
     last_made g.Self.Peer.follows g.Self.Peer.can_refuse g.Self.Peer.can_answer g.met.Self.Peer.follows_self g.met.Self.Peer.follows_on _ _ _ _ _ c.loop-path.invariant.so_far.count c.node-answer.ensures.follows (few_more _ _ c.loop-path-test.true) Broken (inl (IfErr-at_err _ is c.node-answer.ensures.refuses))
 
-pub returns-in_err-push-clause-ended : goal.returns-in_err-push-clause-ended
-returns-in_err-push-clause-ended g c =
-    at_err _ _ _ c.from_residual-in_err-push.ensures (λ e memory. last_made g.Self.Peer.follows g.Self.Peer.can_refuse g.Self.Peer.can_answer g.met.Self.Peer.follows_self g.met.Self.Peer.follows_on _ _ _ _ _ c.loop-path.invariant.so_far.count c.node-answer.ensures.follows (few_more _ _ c.loop-path-test.true) e (inr memory))
+pub push_reserved-requires : goal.push_reserved-requires
+push_reserved-requires g c =
+    let before = c.loop-path.invariant in
+    omega (arith, before.count, before.room, c.loop-path-test.true)
 
 pub loop-path-preserved : goal.loop-path-preserved
 loop-path-preserved g c =
     let before = c.loop-path.invariant in
     record {
       kept = λ t. let k = before.kept t in let n = c.node-answer.ensures.kept k.0 in (n.0, n.1 ∙ k.1);
-      so_far = one_more_at g.Self.Peer.follows g.Self.Peer.can_refuse g.Self.Peer.can_answer g.met.Self.Peer.follows_self g.met.Self.Peer.follows_on _ _ _ _ _ _ _ _ c.path-item.result _ _ _ c.loop-path-test.true c.path-item.is c.in_ok-push.ensures.items before.so_far c.node-answer.ensures.follows
+      so_far = one_more_at g.Self.Peer.follows g.Self.Peer.can_refuse g.Self.Peer.can_answer g.met.Self.Peer.follows_self g.met.Self.Peer.follows_on _ _ _ _ _ _ _ _ c.path-item.result _ _ _ c.loop-path-test.true c.path-item.is c.push_reserved.ensures.items before.so_far c.node-answer.ensures.follows
           (always _)
           (λ t. let k = before.kept t in subst (λ (m : States). IfOk c.node-answer.result (IsNode (digests m) c.path-item.result)) k.1 (c.node-answer.ensures.answer k.0))
           c.node-answer.ensures.refuses c.node-answer.ensures.answers (λ t. c.node-answer.ensures.not_of_question (before.kept t).0);
+      count = grind (arith, length-append, c.push_reserved.ensures.items, before.count);
+      room = subst (λ n. length c.args.paths.now ≤ n) (sym c.push_reserved.ensures.capacity) before.room;
     }

@@ -1,4 +1,4 @@
-use Rattle.std.proofs.Common.{◌≡◌, ◌∙◌, subst, inl, inr}
+use Rattle.std.proofs.Common.{◌≡◌, ◌∙◌, subst, inl, ◌≤◌, length, sym, arith, length-append}
 use Rattle.std.specs.Prelude.{Err, IfOk}
 use Rattle.std.proofs.lemmas.Result.{IfErr-at_err}
 use Rattle.mvd_dots.specs.declared.refusals.Refusal.TheVariants.{Broken}
@@ -7,7 +7,7 @@ use Rattle.mvd_site.specs.Held.{States}
 use Rattle.std.specs.Prelude.{Option}
 use Rattle.mvd_keys.specs.Writes.{Key}
 use Rattle.mvd_tree.specs.Page.{is_more_after_page, page_of}
-use Rattle.mvd_peer.proofs.OneByOne.{always, both_ok, at_err, few_more, last_made, one_more_at}
+use Rattle.mvd_peer.proofs.OneByOne.{always, both_ok, few_more, last_made, one_more_at}
 use Rattle.std.proofs.Common.{take}
 use Rattle.std.proofs.lemmas.List.{take_all}
 use Rattle.mvd_peer.specs.Windows.{Asked, for_pages, manner}
@@ -23,16 +23,17 @@ returns-then-is_over-clause-ended g c =
     let is : c.bucket-answer.result ≡ Err Broken = c.is_over.ensures.0 c.if-is_over.true in
     last_made g.Self.Peer.follows g.Self.Peer.can_refuse g.Self.Peer.can_answer g.met.Self.Peer.follows_self g.met.Self.Peer.follows_on _ _ _ _ _ c.loop-path.invariant.so_far.count c.bucket-answer.ensures.follows (few_more _ _ c.loop-path-test.true) Broken (inl (IfErr-at_err _ is c.bucket-answer.ensures.refuses))
 
-pub returns-in_err-push-clause-ended : goal.returns-in_err-push-clause-ended
-returns-in_err-push-clause-ended g c =
-    at_err _ _ _ c.from_residual-in_err-push.ensures (λ e memory. last_made g.Self.Peer.follows g.Self.Peer.can_refuse g.Self.Peer.can_answer g.met.Self.Peer.follows_self g.met.Self.Peer.follows_on _ _ _ _ _ c.loop-path.invariant.so_far.count c.bucket-answer.ensures.follows (few_more _ _ c.loop-path-test.true) e (inr memory))
+pub push_reserved-requires : goal.push_reserved-requires
+push_reserved-requires g c =
+    let before = c.loop-path.invariant in
+    omega (arith, before.count, before.room, c.loop-path-test.true)
 
 pub loop-path-preserved : goal.loop-path-preserved
 loop-path-preserved g c =
     let before = c.loop-path.invariant in
     record {
       kept = λ t. let k = before.kept t in let n = c.bucket-answer.ensures.kept k.0 in (n.0, n.1 ∙ k.1);
-      so_far = one_more_at g.Self.Peer.follows g.Self.Peer.can_refuse g.Self.Peer.can_answer g.met.Self.Peer.follows_self g.met.Self.Peer.follows_on _ _ _ _ _ _ _ _ c.loop-path-item.result _ _ _ c.loop-path-test.true c.loop-path-item.is c.in_ok-push.ensures.items before.so_far c.bucket-answer.ensures.follows
+      so_far = one_more_at g.Self.Peer.follows g.Self.Peer.can_refuse g.Self.Peer.can_answer g.met.Self.Peer.follows_self g.met.Self.Peer.follows_on _ _ _ _ _ _ _ _ c.loop-path-item.result _ _ _ c.loop-path-test.true c.loop-path-item.is c.push_reserved.ensures.items before.so_far c.bucket-answer.ensures.follows
           (always _)
           (λ t.
           let k = before.kept t in
@@ -40,4 +41,6 @@ loop-path-preserved g c =
           (subst (λ (after : Option Key). IfOk c.bucket-answer.result (λ page. (page.0.items ≡ page_of (digests (g.Self.Peer.states c.loop-path.self)) c.loop-path-item.result.0 after) × (page.1 ≡ is_more_after_page (digests (g.Self.Peer.states c.loop-path.self)) c.loop-path-item.result.0 after))) c.as_ref.ensures.value
           (both_ok _ _ c.bucket-answer.result (c.bucket-answer.ensures.page k.0) (c.bucket-answer.ensures.more k.0))))
           c.bucket-answer.ensures.refuses c.bucket-answer.ensures.answers (λ t. c.bucket-answer.ensures.not_of_question (before.kept t).0);
+      count = grind (arith, length-append, c.push_reserved.ensures.items, before.count);
+      room = subst (λ n. length c.args.asked.now ≤ n) (sym c.push_reserved.ensures.capacity) before.room;
     }

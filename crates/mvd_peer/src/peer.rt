@@ -176,7 +176,7 @@ pub trait Peer {
         ensures pushes { PushedAll (holding is_faithful states most_keys) pairs.now self.old self.new result }
         ensures ended { IfErr result (Ends follows can_refuse (length pairs.now) self.old self.new) }
         // It ends so only where the last push made may have been taken: else a refusal stands among the answers.
-        ensures open { is_faithful self.old → IfErr result IsLeftOpen }
+        ensures left_open { is_faithful self.old → IfErr result IsLeftOpen }
         ensures unbroken { is_faithful self.old →
             IfErr result (λ refusal. refusal ≢ Refusal.Broken → is_faithful self.new) }
         ensures first { PushedSome (holding is_faithful states most_keys) pairs.now self.old self.new result }

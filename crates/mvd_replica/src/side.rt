@@ -95,7 +95,7 @@ impl<S: Alter> Peer for Replica<S> {
         ensures ended { IfErr result (EndsWindow self.old pairs.now self.new) }
         // It is refused for want of memory, or by a replica that is broken then.
         ensures refusal { IfErr result (IsWindowRefusal self.new) }
-        ensures open { IsTrueSite (site_of self.old) → IfErr result IsLeftOpen }
+        ensures left_open { IsTrueSite (site_of self.old) → IfErr result IsLeftOpen }
         ensures unbroken { IsTrueSite (site_of self.old) → IfErr result (IsTrueUnlessBroken self.new) }
         ensures first { IsTrueSite (site_of self.old) → OnErr result (PushesSome self.old pairs.now self.new) }
     {

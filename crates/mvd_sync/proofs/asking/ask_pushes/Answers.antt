@@ -23,7 +23,7 @@ returns-in_err-answers-clause-ended g c =
     let low : c.take-taken.result ≤ length c.loop-rest.rest.now = omega arith in
     at_err_same _ _ _ c.in_err-answers.field-0.0 c.from_residual-in_err-answers.ensures (λ e is. cc)
     (ended_call s g.met.P.Peer.follows_on g.met.P.Peer.most_stays c.args.pairs.now c.loop-rest.rest.now c.loop-rest.told.items [] c.args.left.now c.loop-rest.left c.take-taken.new.left c.take-taken.result c.args.side.now c.loop-rest.side c.push_all.new.self c.loop-rest.invariant.front c.take-taken.ensures.spent low
-    c.in_err-answers.field-0.0 c.in_err-answers.ensures.ended (λ t. open_not_of_key c.in_err-answers.field-0.0 (c.in_err-answers.ensures.open t)) c.in_err-answers.ensures.unbroken c.in_err-answers.ensures.first)
+    c.in_err-answers.field-0.0 c.in_err-answers.ensures.ended (λ t. open_not_of_key c.in_err-answers.field-0.0 (c.in_err-answers.ensures.left_open t)) c.in_err-answers.ensures.unbroken c.in_err-answers.ensures.first)
 
 pub returns-in_err-add_told-clause-ended : goal.returns-in_err-add_told-clause-ended
 returns-in_err-add_told-clause-ended g c =

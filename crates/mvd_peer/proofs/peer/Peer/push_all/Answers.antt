@@ -13,8 +13,8 @@ returns-in-Some-clause-ended g c =
     let is : c.push-answer.result ≡ Err c.in-Some.refusal = c.in-Some.ensures.some.0 in
     last_made g.Self.Peer.follows g.Self.Peer.can_refuse g.Self.Peer.can_answer g.met.Self.Peer.follows_self g.met.Self.Peer.follows_on _ _ _ _ _ c.loop-key.invariant.so_far.count c.push-answer.ensures.follows (few_more _ _ c.loop-key-test.true) c.in-Some.refusal (inl (IfErr-at_err _ is c.push-answer.ensures.refuses))
 
-pub returns-in-Some-clause-open : goal.returns-in-Some-clause-open
-returns-in-Some-clause-open g c t = c.in-Some.ensures.some.1
+pub returns-in-Some-clause-left_open : goal.returns-in-Some-clause-left_open
+returns-in-Some-clause-left_open g c t = c.in-Some.ensures.some.1
 
 pub returns-in-Some-clause-unbroken : goal.returns-in-Some-clause-unbroken
 returns-in-Some-clause-unbroken g c t = IfErr-at_err _ c.in-Some.ensures.some.0 (c.push-answer.ensures.unbroken (c.loop-key.invariant.pushes t).0)

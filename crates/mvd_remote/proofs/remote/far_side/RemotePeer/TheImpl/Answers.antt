@@ -64,7 +64,7 @@ push_all-tells g c =
       told = link_told (λ (r : Remote g.row.L.Denot). r.refused) (RemoteFollows g.L.Line.far) (remote_follows_self g.L.Line.far) (λ _. Done) (λ v. v.items) 0xA3 (λ pair. Push pair.0 pair.1) c.args.pairs.now c.args.self.now c.new.self.now c.result (link_of g.L.Line c.args.self.now) (link_of g.L.Line c.new.self.now) refl refl (λ over. (c.ensures.stays over.0 over.1).1, c.ensures.most) c.ensures.asked (λ _ _. Unit {0}) (λ _ _. Unit {0}) (λ _ _. Unit {0}) (λ _ _. tt);
       pushes = λ was. let t = c.ensures.truth was in window_pushed far.most (λ v. v.items) c.args.pairs.now far.states after.states _ t.0 c.result t.1;
       ended = link_ends (λ (r : Remote g.row.L.Denot). r.refused) (RemoteFollows g.L.Line.far) (remote_follows_self g.L.Line.far) (λ _. Done) (λ v. v.items) 0xA3 (λ pair. Push pair.0 pair.1) c.args.pairs.now c.args.self.now c.new.self.now c.result (link_of g.L.Line c.args.self.now) (link_of g.L.Line c.new.self.now) refl refl (λ over. (c.ensures.stays over.0 over.1).1, c.ensures.most) c.ensures.asked;
-      open = λ was. pushes_open far.most (λ v. v.items) c.args.pairs.now far.states after.states c.result (c.ensures.truth was).1;
+      left_open = λ was. pushes_open far.most (λ v. v.items) c.args.pairs.now far.states after.states c.result (c.ensures.truth was).1;
       unbroken = λ was. still_so _ c.result (c.ensures.truth was).0;
       first = λ was. window_first far.most (λ v. v.items) c.args.pairs.now far.states after.states _ c.result (c.ensures.truth was).1;
     }

@@ -1,9 +1,9 @@
 -- A command with one more option, or with one more command below it.
-use Rattle.std.proofs.Common.{◌≡◌, ◌∙◌, ap, ap₂, refl, true, false, not, Bool, is_some}
+use Rattle.std.proofs.Common.{◌≡◌, ◌∙◌, ap, ap₂, refl, sym, true, false, not, Bool, is_some, ◌&&◌, List, [], ◌∷◌, map}
 use Rattle.std.proofs.lemmas.Bool.{and_parts}
 use Rattle.std.proofs.lemmas.Result.{IfOk-at_ok}
 use Rattle.std.specs.Prelude.{IfOk, Ok, Result}
-use Rattle.clap.specs.Words.{App, Rule, app_of, rule_of, with_rule, with_subcommand, AddsArg, AddsSubcommand}
+use Rattle.clap.specs.Words.{App, Rule, app_of, rule_of, with_rule, with_subcommand, AddsArg, AddsInTurn, AddsSubcommand}
 use Rattle.clap.specs.Walk.{is_empty, is_simple_arg}
 use Rattle.clap.specs.Simple.{has_plain_fields}
 use Rattle.clap.specs.declared.builder.arg.Arg.{Arg}
@@ -40,10 +40,39 @@ pub adds : (old : Command) (a : Arg) (new : Command) (s : App) (r : Rule) → Ad
 adds old a new s r h e f simple =
     h.shape (local a (ap (λ (x : Rule). x.is_simple) f ∙ simple)) ∙ ap₂ with_rule e f
 
+-- a command with options, in turn
+abbrev with_rules : App → List Rule → App
+with_rules command [] = command
+with_rules command (option ∷ options) = with_rules (with_rule command option) options
+
+abbrev are_simple : List Rule → Bool
+are_simple [] = true
+are_simple (rule ∷ rules) = rule.is_simple && are_simple rules
+
+-- options in turn, each of which is simple
+pub adds_all : (old : Command) (options : List Arg) (new : Command) (s : App) (rules : List Rule) → AddsInTurn AddsArg old options new → app_of old ≡ s
+    → map rule_of options ≡ rules → are_simple rules ≡ true → app_of new ≡ with_rules s rules
+adds_all old [] new s [] same e f simple = ap app_of (sym same) ∙ e
+adds_all old [] new s (rule ∷ rules) same e f simple = absurd (cc f)
+adds_all old (a ∷ options) new s [] h e f simple = absurd (cc f)
+adds_all old (a ∷ options) new s (rule ∷ rules) (mid, h, more) e f simple =
+    let both = and_parts rule.is_simple (are_simple rules) simple in
+    adds_all mid options new (with_rule s rule) rules more (adds old a mid s rule h e (cc f) both.0) (cc f) both.1
+
+-- the rules of options, one by one
+pub one_more : {x y : Rule} {xs ys : List Rule} → x ≡ y → xs ≡ ys → x ∷ xs ≡ y ∷ ys
+one_more e f = ap₂ ◌∷◌ e f
+
+pub no_more : map rule_of [] ≡ []
+no_more = refl
+
 pub adds_below : (old sub new : Command) (s below : App) → AddsSubcommand old sub new → app_of old ≡ s → app_of sub ≡ below → below.top.is_plain ≡ true → app_of new ≡ with_subcommand s below.top
 adds_below old sub new s below h e f simple =
     h.shape (plain sub (ap (λ (x : App). x.top.is_plain) f ∙ simple)) ∙ ap₂ with_subcommand e (ap (λ (x : App). x.top) f)
 
--- the same, where the command below may not have been made
-pub adds_made : {E : Type 0} (old new : Command) (s below : App) (made : Result Command E) → (b : Command) × (made ≡ Ok b) × AddsSubcommand old b new → app_of old ≡ s → IfOk made (λ b. app_of b ≡ below) → below.top.is_plain ≡ true → app_of new ≡ with_subcommand s below.top
-adds_made old new s below made (b, is, h) e f simple = adds_below old b new s below h e (IfOk-at_ok (λ (b : Command). app_of b ≡ below) is f) simple
+-- the same, where either command may not have been made
+pub adds_made : {E : Type 0} (old made : Result Command E) (new : Command) (s below : App)
+    → (a : Command) × (b : Command) × (old ≡ Ok a) × (made ≡ Ok b) × AddsSubcommand a b new
+    → IfOk old (λ a. app_of a ≡ s) → IfOk made (λ b. app_of b ≡ below) → below.top.is_plain ≡ true → app_of new ≡ with_subcommand s below.top
+adds_made old made new s below (a, b, is_a, is_b, h) e f simple =
+    adds_below a b new s below h (IfOk-at_ok (λ (a : Command). app_of a ≡ s) is_a e) (IfOk-at_ok (λ (b : Command). app_of b ≡ below) is_b f) simple

@@ -34,6 +34,28 @@ pub if_none : {A X : Type 0} (found : Option A) → X → IfNone found X
 if_none None x = x
 if_none (Some a) x = tt
 
+-- no question or write of another word has one word behind it
+pub no_word_asked : (name word : List ℕ) → IsWord word → name ≢ codes "get" → name ≢ codes "node" → name ≢ codes "rows" → IsNoAsk name word
+no_word_asked name word one get node rows (Put key context document) (_, is, _) = spaced_is_no_word key.now (spaced context.now document.now) (subst IsWord is one)
+no_word_asked name word one get node rows (Delete key context) (_, is, _) = spaced_is_no_word key.now context.now (subst IsWord is one)
+no_word_asked name word one get node rows (Get _) (is, _, _) = get is
+no_word_asked name word one get node rows (Row view term) (_, is, _) = spaced_is_no_word view.now term.now (subst IsWord is one)
+no_word_asked name word one get node rows (Node _) (is, _, _) = node is
+no_word_asked name word one get node rows (Find field term) (_, is, _) = spaced_is_no_word field.now term.now (subst IsWord is one)
+no_word_asked name word one get node rows (Range field terms) (_, is, _) = spaced_is_no_word field.now terms.now (subst IsWord is one)
+no_word_asked name word one get node rows (Rows _) (is, _, _) = rows is
+
+-- none of another word has more behind it
+pub no_parts_asked : (name first behind : List ℕ) → name ≢ codes "put" → name ≢ codes "del" → name ≢ codes "row" → name ≢ codes "find" → name ≢ codes "range" → IsNoAsk name (spaced first behind)
+no_parts_asked name first behind put del row find range (Put _ _ _) (is, _, _) = put is
+no_parts_asked name first behind put del row find range (Delete _ _) (is, _, _) = del is
+no_parts_asked name first behind put del row find range (Get key) (_, is, one) = spaced_is_no_word first behind (subst IsWord (sym is) one)
+no_parts_asked name first behind put del row find range (Row _ _) (is, _, _) = row is
+no_parts_asked name first behind put del row find range (Node path) (_, is, one) = spaced_is_no_word first behind (subst IsWord (sym is) one)
+no_parts_asked name first behind put del row find range (Find _ _) (is, _, _) = find is
+no_parts_asked name first behind put del row find range (Range _ _) (is, _, _) = range is
+no_parts_asked name first behind put del row find range (Rows view) (_, is, one) = spaced_is_no_word first behind (subst IsWord (sym is) one)
+
 -- a text with a word at its front
 module _ (text word rest : List ℕ) (parts : text ≡ spaced word rest) (plain : IsWord word) where
   pub no_delete : (IsWord rest → ⊥) → IsNoAsk (codes "del") text

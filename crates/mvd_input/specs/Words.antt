@@ -2,7 +2,7 @@
 use Rattle.std.specs.Prelude.{List, [], ◌∷◌, ◌++◌, Some, true, false, codes}
 use Rattle.clap.specs.Simple.{new_shape}
 use Rattle.clap.specs.Walk.{Text}
-use Rattle.clap.specs.Words.{App, Rule, new_rule, with_rule}
+use Rattle.clap.specs.Words.{App, Rule, new_rule}
 use Rattle.clap.specs.declared.builder.action.ArgAction.TheVariants.{SetTrue}
 use Rattle.clap.specs.declared.builder.value_parser.ValueParser.TheVariants.{Unsigned}
 
@@ -99,10 +99,3 @@ program = record {
   };
   subs = sim_words.top ∷ loop_words.top ∷ serve_words.top ∷ shell_words.top ∷ sync_words.top ∷ [];
 }
-
--- ---- a command as it is made
-
--- options in turn
-abbrev pub with_rules : App → List Rule → App
-with_rules command [] = command
-with_rules command (option ∷ options) = with_rules (with_rule command option) options

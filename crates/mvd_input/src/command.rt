@@ -167,46 +167,65 @@ fn ask_of<'a>(name: &str, rest: &'a str) -> Option<Ask<'a>>
     ensures found { IfSome result (λ ask. IsAsked ask name.now rest.now) }
     ensures none { IfNone result (IsNoAsk name.now rest.now) }
 {
+    match parted(rest) {
+        Some((first, behind)) => ask_of_parts(name, first, behind),
+        None => ask_of_word(name, rest),
+    }
+}
+
+/// What is asked by a name, with one word behind it.
+fn ask_of_word<'a>(name: &str, word: &'a str) -> Option<Ask<'a>>
+    ensures found { IsWord word.now → IfSome result (λ ask. IsAsked ask name.now word.now) }
+    ensures none { IsWord word.now → IfNone result (IsNoAsk name.now word.now) }
+{
     match name {
-        "get" => Some(Ask::Get { key: last(rest)? }),
-        "node" => Some(Ask::Node { path: last(rest)? }),
-        "rows" => Some(Ask::Rows { view: last(rest)? }),
-        "put" => put_of(rest),
-        "del" => delete_of(rest),
-        "row" => {
-            let (view, term) = parted(rest)?;
-            Some(Ask::Row { view, term })
-        }
-        "find" => {
-            let (field, term) = parted(rest)?;
-            Some(Ask::Find { field, term })
-        }
-        "range" => {
-            let (field, terms) = parted(rest)?;
-            Some(Ask::Range { field, terms })
-        }
+        "get" => Some(Ask::Get { key: word }),
+        "node" => Some(Ask::Node { path: word }),
+        "rows" => Some(Ask::Rows { view: word }),
         _ => None,
     }
 }
 
-/// A delete, whose context ends the line.
-fn delete_of(rest: &str) -> Option<Ask<'_>>
-    ensures found { IfSome result (λ ask. IsAsked ask (codes "del") rest.now) }
-    ensures none { IfNone result (IsNoAsk (codes "del") rest.now) }
+/// What is asked by a name, with a word behind it and more behind that.
+fn ask_of_parts<'a>(name: &str, first: &'a str, behind: &'a str) -> Option<Ask<'a>>
+    ensures found { IsWord first.now → IfSome result (λ ask. IsAsked ask name.now (spaced first.now behind.now)) }
+    ensures none { IsWord first.now → IfNone result (IsNoAsk name.now (spaced first.now behind.now)) }
 {
-    let (key, rest) = parted(rest)?;
+    match name {
+        "put" => put_of(first, behind),
+        "del" => delete_of(first, behind),
+        "row" => Some(Ask::Row {
+            view: first,
+            term: behind,
+        }),
+        "find" => Some(Ask::Find {
+            field: first,
+            term: behind,
+        }),
+        "range" => Some(Ask::Range {
+            field: first,
+            terms: behind,
+        }),
+        _ => None,
+    }
+}
+
+/// A delete of a key, whose context ends the line.
+fn delete_of<'a>(key: &'a str, rest: &'a str) -> Option<Ask<'a>>
+    ensures found { IsWord key.now → IfSome result (λ ask. IsAsked ask (codes "del") (spaced key.now rest.now)) }
+    ensures none { IsWord key.now → IfNone result (IsNoAsk (codes "del") (spaced key.now rest.now)) }
+{
     Some(Ask::Delete {
         key,
         context: last(rest)?,
     })
 }
 
-/// A put, whose document is the rest of the line.
-fn put_of(rest: &str) -> Option<Ask<'_>>
-    ensures found { IfSome result (λ ask. IsAsked ask (codes "put") rest.now) }
-    ensures none { IfNone result (IsNoAsk (codes "put") rest.now) }
+/// A put at a key, whose document is the rest of the line.
+fn put_of<'a>(key: &'a str, rest: &'a str) -> Option<Ask<'a>>
+    ensures found { IsWord key.now → IfSome result (λ ask. IsAsked ask (codes "put") (spaced key.now rest.now)) }
+    ensures none { IsWord key.now → IfNone result (IsNoAsk (codes "put") (spaced key.now rest.now)) }
 {
-    let (key, rest) = parted(rest)?;
     let (context, document) = parted(rest)?;
     Some(Ask::Put {
         key,

@@ -64,21 +64,21 @@ pub fn command<'a>(alloc: Global) -> Result<Command<'a>, AllocError>
         .version(VERSION)
         .subcommand_required(true)
         .arg_required_else_help(true)
-        .subcommand(sim)?;
-    let command = with_below(command, loop_command(alloc))?;
-    let command = with_below(command, serve_command(alloc))?;
-    let command = with_below(command, shell_command(alloc))?;
+        .subcommand(sim);
+    let command = with_below(command, loop_command(alloc));
+    let command = with_below(command, serve_command(alloc));
+    let command = with_below(command, shell_command(alloc));
     with_below(command, sync_command(alloc))
 }
 
-/// A command with one more below it, if that was made.
+/// A command with one more below it, if both were made.
 fn with_below<'a>(
-    command: Command<'a>,
+    command: Result<Command<'a>, AllocError>,
     below: Result<Command<'a>, AllocError>,
 ) -> Result<Command<'a>, AllocError>
-    ensures { IfOk result (λ r. (b : Command) × (below.entry ≡ Ok b) × AddsSubcommand command.entry b r) }
+    ensures { IfOk result (λ r. (a : Command) × (b : Command) × (command.entry ≡ Ok a) × (below.entry ≡ Ok b) × AddsSubcommand a b r) }
 {
-    command.subcommand(below?)
+    command?.subcommand(below?)
 }
 
 /// The command of a name, or the program's.
@@ -95,36 +95,51 @@ pub fn command_of<'a>(alloc: Global, name: &str) -> Result<Command<'a>, AllocErr
 fn loop_command<'a>(alloc: Global) -> Result<Command<'a>, AllocError>
     ensures { IfOk result (λ command. app_of command ≡ spec.loop_words) }
 {
+    let options = vec![in alloc; site(alloc), defs(alloc), max_keys(alloc)]?;
     named(
         alloc,
         "loop",
         LOOP,
         "Example: echo 00000003210161 | mvd loop --site 1",
     )
-    .arg(site(alloc))?
-    .arg(defs(alloc))?
-    .arg(max_keys(alloc))
+    .args(options)
 }
 
 fn serve_command<'a>(alloc: Global) -> Result<Command<'a>, AllocError>
     ensures { IfOk result (λ command. app_of command ≡ spec.serve_words) }
 {
-    let command = named(
+    let options = vec![in alloc;
+        db(alloc),
+        site(alloc),
+        defs(alloc),
+        max_keys(alloc),
+        address(alloc),
+        port(alloc, "The port to listen at, 1 to 65535."),
+        http(alloc),
+        conns(alloc),
+        idle(alloc, SERVED_IDLE, "300"),
+    ]?;
+    named(
         alloc,
         "serve",
         SERVE,
         "Example: mvd serve --db a.db --site 1 --port 7007",
-    );
-    with_database(alloc, command)?
-        .arg(port(alloc, "The port to listen at, 1 to 65535."))?
-        .arg(http(alloc))?
-        .arg(conns(alloc))?
-        .arg(idle(alloc, SERVED_IDLE, "300"))
+    )
+    .args(options)
 }
 
 fn shell_command<'a>(alloc: Global) -> Result<Command<'a>, AllocError>
     ensures { IfOk result (λ command. app_of command ≡ spec.shell_words) }
 {
+    let options = vec![in alloc;
+        db(alloc).required(false),
+        site(alloc).required(false),
+        defs(alloc),
+        max_keys(alloc),
+        port(alloc, SHELL_PORT).required(false),
+        address(alloc),
+        idle(alloc, IDLE, "60"),
+    ]?;
     named(
         alloc,
         "shell",
@@ -132,28 +147,29 @@ fn shell_command<'a>(alloc: Global) -> Result<Command<'a>, AllocError>
         "Example: echo 'put k - {\"a\":1}' | mvd shell --db a.db --site 1",
     )
     .override_usage(SHELL_USAGE)
-    .arg(db(alloc).required(false))?
-    .arg(site(alloc).required(false))?
-    .arg(defs(alloc))?
-    .arg(max_keys(alloc))?
-    .arg(port(alloc, SHELL_PORT).required(false))?
-    .arg(address(alloc))?
-    .arg(idle(alloc, IDLE, "60"))
+    .args(options)
 }
 
 fn sync_command<'a>(alloc: Global) -> Result<Command<'a>, AllocError>
     ensures { IfOk result (λ command. app_of command ≡ spec.sync_words) }
 {
-    let command = named(
+    let options = vec![in alloc;
+        db(alloc),
+        site(alloc),
+        defs(alloc),
+        max_keys(alloc),
+        address(alloc),
+        port(alloc, "The port of the server, 1 to 65535."),
+        idle(alloc, IDLE, "60"),
+        verbose(alloc),
+    ]?;
+    named(
         alloc,
         "sync",
         SYNC,
         "Example: mvd sync --db b.db --site 2 --port 7007",
-    );
-    with_database(alloc, command)?
-        .arg(port(alloc, "The port of the server, 1 to 65535."))?
-        .arg(idle(alloc, IDLE, "60"))?
-        .arg(verbose(alloc))
+    )
+    .args(options)
 }
 
 /// A command below the program's: what it does, and an example of it.
@@ -161,18 +177,6 @@ fn named<'a>(alloc: Global, name: &'a str, about: &'a str, example: &'a str) -> 
     ensures { app_of result ≡ new_app name.now }
 {
     Command::new(alloc, name).about(about).after_help(example)
-}
-
-/// The options of a command on a database that meets a peer.
-fn with_database<'a>(alloc: Global, command: Command<'a>) -> Result<Command<'a>, AllocError>
-    ensures { IfOk result (λ r. app_of r ≡ spec.with_rules (app_of command.entry) spec.database) }
-{
-    command
-        .arg(db(alloc))?
-        .arg(site(alloc))?
-        .arg(defs(alloc))?
-        .arg(max_keys(alloc))?
-        .arg(address(alloc))
 }
 
 fn db<'a>(alloc: Global) -> Arg<'a>

@@ -12,8 +12,8 @@ returns c =
     (ap app_of_fields c.subcommand_required.ensures ∙ ap (on_top (λ s. record s { subcommand_required = true }))
     (ap app_of_fields c.version.ensures ∙ ap (on_top (λ s. record s { has_version = true }))
     (ap app_of_fields c.after_help.ensures ∙ (ap app_of_fields c.about.ensures ∙ c.new.ensures.app)))) in
-    let one = adds_below _ _ _ _ _ c.in_ok-command.ensures base c.named-sim.ensures refl in
-    let two = adds_made _ _ _ _ _ c.in_ok-command-2.ensures one c.loop_command.ensures refl in
-    let three = adds_made _ _ _ _ _ c.in_ok-command-3.ensures two c.serve_command.ensures refl in
-    let four = adds_made _ _ _ _ _ c.in_ok-command-4.ensures three c.shell_command.ensures refl in
-    IfOk-weaker c.with_below-4.result _ _ (λ r h. adds_made _ r _ _ _ h four c.sync_command.ensures refl) c.with_below-4.ensures
+    let one = IfOk-weaker c.subcommand-command.result _ _ (λ r h. adds_below _ _ r _ _ h base c.named-sim.ensures refl) c.subcommand-command.ensures in
+    let two = IfOk-weaker c.with_below-command.result _ _ (λ r h. adds_made _ _ r _ _ h one c.loop_command.ensures refl) c.with_below-command.ensures in
+    let three = IfOk-weaker c.with_below-command-2.result _ _ (λ r h. adds_made _ _ r _ _ h two c.serve_command.ensures refl) c.with_below-command-2.ensures in
+    let four = IfOk-weaker c.with_below-command-3.result _ _ (λ r h. adds_made _ _ r _ _ h three c.shell_command.ensures refl) c.with_below-command-3.ensures in
+    IfOk-weaker c.with_below.result _ _ (λ r h. adds_made _ _ r _ _ h four c.sync_command.ensures refl) c.with_below.ensures

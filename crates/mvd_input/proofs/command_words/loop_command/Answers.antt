@@ -1,10 +1,10 @@
-use Rattle.std.proofs.Common.{refl}
+use Rattle.std.proofs.Common.{◌∙◌, ap, map, refl}
 use Rattle.std.proofs.lemmas.Result.{IfOk-weaker}
-use Rattle.mvd_input.proofs.Commands.{adds}
+use Rattle.clap.specs.Words.{rule_of}
+use Rattle.mvd_input.proofs.Commands.{adds_all, no_more, one_more}
 use Rattle.mvd_input.proofs.command_words.loop_command.Goals as goal
 
 pub returns : goal.returns
 returns c =
-    let one = adds _ _ _ _ _ c.in_ok-arg.ensures c.named.ensures c.site.ensures refl in
-    let two = adds _ _ _ _ _ c.in_ok-arg-2.ensures one c.defs.ensures refl in
-    IfOk-weaker c.arg-3.result _ _ (λ r h. adds _ _ r _ _ h two c.max_keys.ensures refl) c.arg-3.ensures
+    let rules = ap (map rule_of) c.in_ok-options.ensures.items ∙ one_more c.site.ensures (one_more c.defs.ensures (one_more c.max_keys.ensures no_more)) in
+    IfOk-weaker c.args-2.result _ _ (λ r h. adds_all _ _ r _ _ h c.named.ensures rules refl) c.args-2.ensures

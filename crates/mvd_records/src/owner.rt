@@ -1,6 +1,7 @@
 //! Whose records a database holds.
 ghost use Rattle.sqlite.specs.Held.{state};
 ghost use Rattle.mvd_records.specs.Calls.{TellsOwner};
+ghost use Rattle.mvd_records.specs.Causes.{NamesNone};
 ghost use Rattle.mvd_records.specs.Records.{OnlyReads};
 
 use crate::open::marks_in;
@@ -11,6 +12,7 @@ use sqlite::{Alter, Connection};
 pub fn owner_in<S: Alter>(conn: &mut Connection<S>) -> Option<u32>
     ensures reads { OnlyReads (state S.Store conn.old) (state S.Store conn.new) }
     ensures named { TellsOwner (state S.Store conn.old) (state S.Store conn.new) result }
+    ensures unnamed { NamesNone (state S.Store conn.old) (state S.Store conn.new) result }
 {
     if !is_settled(conn) {
         return None;

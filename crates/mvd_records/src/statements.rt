@@ -3,6 +3,7 @@ ghost use Rattle.sqlite.specs.Held.{state};
 ghost use Rattle.sqlite.specs.State.{HasCleanDisk, IsUnchanged, KeepsCommit, Shown, Survives, CommitsShowing};
 ghost use Rattle.sqlite.specs.Given.{IsPlain};
 ghost use Rattle.sqlite.specs.Listing.{understood};
+ghost use Rattle.mvd_records.specs.Causes.{FindsShut};
 ghost use Rattle.mvd_records.specs.Records.{IsSettled, IsSound, HoldsRecords, SavesState, KeepsStates, EndsMove};
 ghost use Rattle.mvd_records.specs.Records.{Leaves, OnlyReads, HasNone, AreDisjoint, AreApart, old_states};
 ghost use Rattle.mvd_records.specs.Records.{new_states};
@@ -23,6 +24,7 @@ pub fn is_settled<S: Alter>(conn: &Connection<S>) -> bool
 pub fn is_open<S: Alter>(conn: &mut Connection<S>) -> bool
     ensures open { HasCleanDisk (state S.Store conn.new) → IsTrue result →
         IsUnchanged (state S.Store conn.old) (state S.Store conn.new) }
+    ensures shut { FindsShut (state S.Store conn.old) (state S.Store conn.new) result }
     ensures kept { HasCleanDisk (state S.Store conn.new) →
         KeepsCommit (state S.Store conn.old) (state S.Store conn.new) }
     ensures survives { Survives (state S.Store conn.old) (state S.Store conn.new) (λ _. ⊥) }

@@ -6,7 +6,7 @@ use super::replica_calls::{Bytes, CLASH, GET, PUT, WIDE, new_replica, push, repl
 use mvd_dots::Refusal;
 use mvd_host::Host;
 use mvd_replica::Replica;
-use sqlite::MemStore;
+use sqlite::Alter;
 use std::alloc::Global;
 use std::test::Fail;
 
@@ -62,7 +62,7 @@ fn new_client(alloc: Global, random: &mut Random) -> Client {
 }
 
 /// One replica is asked what a round takes of a client: the requests that are whole, up to one that is none.
-fn ask(alloc: Global, single: &mut Replica<MemStore>, client: &mut Client) {
+fn ask<S: Alter + Drop>(alloc: Global, single: &mut Replica<S>, client: &mut Client) {
     for at in client.taken..REQUESTS {
         let request = client.asked[at];
         let end = client.end.saturating_add(request.len() / 2);
@@ -81,10 +81,10 @@ fn ask(alloc: Global, single: &mut Replica<MemStore>, client: &mut Client) {
 
 /// The replica of the host, and the one that is asked one request after the other.
 #[derive(Drop)]
-struct Sides {
+struct Sides<S: Alter + Drop> {
     host: Host,
-    replica: Replica<MemStore>,
-    single: Replica<MemStore>,
+    replica: Replica<S>,
+    single: Replica<S>,
 }
 
 /// At most so many bytes of a client come, or as many of those that wait leave to it.
@@ -101,7 +101,12 @@ fn move_bytes(host: &mut Host, number: u64, clients: &mut [Client], most: usize,
 }
 
 /// One step: bytes of a client come, or bytes leave to it, or there is a round of two clients, for which the one replica is asked too.
-fn step(alloc: Global, random: &mut Random, sides: &mut Sides, clients: &mut [Client]) {
+fn step<S: Alter + Drop>(
+    alloc: Global,
+    random: &mut Random,
+    sides: &mut Sides<S>,
+    clients: &mut [Client],
+) {
     let number = below(random, CLIENTS);
     let behind = below(random, CLIENTS - 1).wrapping_add(1);
     let other = number.wrapping_add(behind) % CLIENTS;
@@ -134,23 +139,12 @@ fn told_to(clients: &[Client]) -> Option<usize> {
     Some(bytes)
 }
 
-fn new_sides(alloc: Global) -> Result<Sides, Refusal> {
-    let replica = new_replica(alloc, 1, &[])?;
-    match new_replica(alloc, 1, &[]) {
-        Ok(single) => Ok(Sides {
-            host: Host::new(alloc),
-            replica,
-            single,
-        }),
-        Err(refusal) => {
-            drop(replica);
-            Err(refusal)
-        }
-    }
-}
-
 /// How many bytes new clients of these sides are told.
-fn told_by(alloc: Global, random: &mut Random, sides: &mut Sides) -> Option<usize> {
+fn told_by<S: Alter + Drop>(
+    alloc: Global,
+    random: &mut Random,
+    sides: &mut Sides<S>,
+) -> Option<usize> {
     let mut clients = Vec::new(alloc);
     admit_all(&mut sides.host, CLIENTS as usize);
     for _ in 0..CLIENTS {
@@ -164,15 +158,46 @@ fn told_by(alloc: Global, random: &mut Random, sides: &mut Sides) -> Option<usiz
     told
 }
 
-/// How many bytes the clients are told in the order of a seed; `None` where they are others than one sequence gives, or the two
+/// How many bytes clients are told in the order of a seed; `None` where they are others than one sequence gives, or the two
 /// replicas have not one root.
-fn told_in_order(alloc: Global, seed: u64) -> Result<Option<usize>, Refusal> {
+fn told_beside<S: Alter + Drop>(
+    alloc: Global,
+    seed: u64,
+    replica: Replica<S>,
+    single: Replica<S>,
+) -> Option<usize> {
     let mut random = seed.wrapping_mul(0x9E37_79B9_7F4A_7C15);
-    let mut sides = new_sides(alloc)?;
+    let mut sides = Sides {
+        host: Host::new(alloc),
+        replica,
+        single,
+    };
     let told = told_by(alloc, &mut random, &mut sides);
     let are_equal = root_of(&sides.replica) == root_of(&sides.single);
     drop(sides);
-    Ok(if are_equal { told } else { None })
+    if are_equal { told } else { None }
+}
+
+/// The same, where the second replica was made.
+fn told_if_made<S: Alter + Drop>(
+    alloc: Global,
+    seed: u64,
+    replica: Replica<S>,
+    single: Result<Replica<S>, Refusal>,
+) -> Result<Option<usize>, Refusal> {
+    match single {
+        Ok(single) => Ok(told_beside(alloc, seed, replica, single)),
+        Err(refusal) => {
+            drop(replica);
+            Err(refusal)
+        }
+    }
+}
+
+/// The same of replicas in memory.
+fn told_in_order(alloc: Global, seed: u64) -> Result<Option<usize>, Refusal> {
+    let replica = new_replica(alloc, 1, &[])?;
+    told_if_made(alloc, seed, replica, new_replica(alloc, 1, &[]))
 }
 
 #[test]

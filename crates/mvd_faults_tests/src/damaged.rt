@@ -1,5 +1,5 @@
 //! Records that are damaged, and files that are.
-use super::file_calls::{NEVER, Work, database, files_with, on_files};
+use super::file_calls::{NEVER, Work, database, files_with, on_these};
 use super::replica_calls::push;
 use mvd_dots::Refusal;
 use std::alloc::Global;
@@ -26,69 +26,44 @@ const OLD_ROWS: &str = "INSERT INTO states VALUES
 /// The records of site 1 with three keys of version 1.
 pub const THREE_OLD: &[&str] = &[OLD, ONE, OLD_ROWS];
 
-/// Rows that are damaged, under the marks of some version.
-const DAMAGED: &[(&str, &str)] = &[
-    ("", "INSERT INTO meta VALUES ('format', 9), ('site', 1)"),
-    ("", "INSERT INTO meta VALUES ('format', 0), ('site', 1)"),
-    (
-        "",
-        "INSERT INTO meta VALUES ('format', 4294967298), ('site', 1)",
-    ),
-    (TWO, "INSERT INTO meta VALUES ('third', 1)"),
-    ("", "INSERT INTO meta VALUES ('format', 2)"),
-    ("", "INSERT INTO meta VALUES ('format', 2), ('place', 1)"),
-    ("", "INSERT INTO meta VALUES ('format', 2), ('site', 0)"),
-    (
-        "",
-        "INSERT INTO meta VALUES ('format', 2), ('site', 4294967296)",
-    ),
-    (
-        "",
-        "INSERT INTO meta VALUES ('format', 2), ('site', 4294967297)",
-    ),
-    (
-        TWO,
-        "INSERT INTO states2 VALUES ('a b', x'00000001000000010000000000000001000000000001000000010000000000000001000000077b2261223a317d')",
-    ),
-    (
-        TWO,
-        "INSERT INTO states2 VALUES ('', x'00000001000000010000000000000001000000000001000000010000000000000001000000077b2261223a317d')",
-    ),
-    (TWO, "INSERT INTO states2 VALUES ('k', x'')"),
-    (TWO, "INSERT INTO states2 VALUES ('k', x'00')"),
-    (TWO, "INSERT INTO states2 VALUES ('k', x'000000000000')"),
-    (
-        TWO,
-        "INSERT INTO states2 VALUES ('k', x'0000000100000001000000000000000100000000000000')",
-    ),
-    (
-        TWO,
-        "INSERT INTO states2 VALUES ('k', x'00000001000000010000000000000001000000000001000000010000000000000001000000077b2261223a327d00')",
-    ),
-    (
-        TWO,
-        "INSERT INTO states VALUES ('k', x'00010001000000000000000100000000000100010000000000000001000000077b2261223a317d')",
-    ),
-    (ONE, "INSERT INTO states VALUES ('k', x'')"),
-    (ONE, "INSERT INTO states VALUES ('k', x'00')"),
-    (ONE, "INSERT INTO states VALUES ('k', x'00000000')"),
-    (
-        ONE,
-        "INSERT INTO states VALUES ('k', x'00010001000000000000000100000000000100010000000000000001000000077b2261223a317d00')",
-    ),
-    (
-        ONE,
-        "INSERT INTO states VALUES ('k', x'00010001000000000000000100000000000100010000000000000001000000077b2261223a317d'); INSERT INTO states2 VALUES ('k', x'00000001000000010000000000000001000000000001000000010000000000000001000000077b2261223a317d')",
-    ),
-];
+/// Rows that are damaged, a line each, behind the version whose marks stand in front of them, or a `-` where none do.
+const DAMAGED: &str = "\
+- INSERT INTO meta VALUES ('format', 9), ('site', 1)
+- INSERT INTO meta VALUES ('format', 0), ('site', 1)
+- INSERT INTO meta VALUES ('format', 4294967298), ('site', 1)
+2 INSERT INTO meta VALUES ('third', 1)
+- INSERT INTO meta VALUES ('format', 2)
+- INSERT INTO meta VALUES ('format', 2), ('place', 1)
+- INSERT INTO meta VALUES ('format', 2), ('site', 0)
+- INSERT INTO meta VALUES ('format', 2), ('site', 4294967296)
+- INSERT INTO meta VALUES ('format', 2), ('site', 4294967297)
+2 INSERT INTO states2 VALUES \
+    ('a b', x'00000001000000010000000000000001000000000001000000010000000000000001000000077b2261223a317d')
+2 INSERT INTO states2 VALUES \
+    ('', x'00000001000000010000000000000001000000000001000000010000000000000001000000077b2261223a317d')
+2 INSERT INTO states2 VALUES ('k', x'')
+2 INSERT INTO states2 VALUES ('k', x'00')
+2 INSERT INTO states2 VALUES ('k', x'000000000000')
+2 INSERT INTO states2 VALUES ('k', x'0000000100000001000000000000000100000000000000')
+2 INSERT INTO states2 VALUES \
+    ('k', x'00000001000000010000000000000001000000000001000000010000000000000001000000077b2261223a327d00')
+2 INSERT INTO states VALUES ('k', x'00010001000000000000000100000000000100010000000000000001000000077b2261223a317d')
+1 INSERT INTO states VALUES ('k', x'')
+1 INSERT INTO states VALUES ('k', x'00')
+1 INSERT INTO states VALUES ('k', x'00000000')
+1 INSERT INTO states VALUES ('k', x'00010001000000000000000100000000000100010000000000000001000000077b2261223a317d00')
+1 INSERT INTO states VALUES ('k', x'00010001000000000000000100000000000100010000000000000001000000077b2261223a317d'); \
+    INSERT INTO states2 VALUES \
+        ('k', x'00000001000000010000000000000001000000000001000000010000000000000001000000077b2261223a317d')
+";
 
-/// Databases of other programs, some with a table of one of our names.
-const FOREIGN: [&str; 4] = [
-    "CREATE TABLE note (id INTEGER PRIMARY KEY, title TEXT NOT NULL); INSERT INTO note (title) VALUES ('a');",
-    "CREATE VIEW one AS SELECT 1 AS x;",
-    "CREATE TABLE meta (key TEXT, value TEXT); CREATE TABLE urls (url TEXT); INSERT INTO meta VALUES ('version', '9');",
-    "CREATE TABLE states (id INTEGER PRIMARY KEY, state TEXT); CREATE TABLE events (id INTEGER PRIMARY KEY);",
-];
+/// Databases of other programs, a line each, some with a table of one of our names.
+const FOREIGN: &str = "\
+CREATE TABLE note (id INTEGER PRIMARY KEY, title TEXT NOT NULL); INSERT INTO note (title) VALUES ('a');
+CREATE VIEW one AS SELECT 1 AS x;
+CREATE TABLE meta (key TEXT, value TEXT); CREATE TABLE urls (url TEXT); INSERT INTO meta VALUES ('version', '9');
+CREATE TABLE states (id INTEGER PRIMARY KEY, state TEXT); CREATE TABLE events (id INTEGER PRIMARY KEY);
+";
 
 /// A change of a file: in each of its bytes from one on and before another there is this byte; and the file ends after so many bytes.
 type Change = (usize, usize, u8, usize);
@@ -108,8 +83,8 @@ fn changed(alloc: Global, bytes: &[u8], change: Change) -> Vec<u8> {
 /// Why the records in a file of these bytes are refused, if they are; and whether they are so again, and the file stays as it is.
 fn found_in(alloc: Global, bytes: &[u8]) -> Result<(Option<Refusal>, bool), Refusal> {
     let files = files_with(alloc, bytes, NEVER)?;
-    let (once, files) = on_files(alloc, files, (Work::Open, 0), None);
-    let (twice, files) = on_files(alloc, files, (Work::Open, 0), None);
+    let (once, files) = on_these(alloc, files, (Work::Open, 0));
+    let (twice, files) = on_these(alloc, files, (Work::Open, 0));
     let is_same = files.db.inner().bytes() == bytes;
     drop(files);
     Ok((once.refusal, is_same && once.refusal == twice.refusal))
@@ -136,16 +111,29 @@ fn are_damaged(alloc: Global, statements: &[&str], mode: u8) -> Result<bool, Ref
     Ok(found? == (Some(Refusal::Damaged), true))
 }
 
+/// The same of rows behind their marks.
+fn rows_are_damaged(alloc: Global, line: &str) -> Result<bool, Refusal> {
+    let (version, rows) = line.split_once(' ').unwrap_or(("", ""));
+    let marks = match version {
+        "1" => ONE,
+        "2" => TWO,
+        _ => "",
+    };
+    are_damaged(alloc, &[OLD, NEW, marks, rows], 2)
+}
+
+/// The same of another program's tables, with a journal of either mode.
+fn is_foreign(alloc: Global, tables: &str) -> Result<bool, Refusal> {
+    Ok(are_damaged(alloc, &[tables], 1)? && are_damaged(alloc, &[tables], 2)?)
+}
+
 #[test]
 fn damaged_records_are_refused_and_stay(rt: HostRuntime) -> Result<(), Fail> {
-    for (marks, rows) in DAMAGED {
-        let are_refused = are_damaged(rt.alloc(), &[OLD, NEW, marks, rows], 2)?;
-        assert!(rt; are_refused, "{marks} {rows}");
+    for line in DAMAGED.lines() {
+        assert!(rt; rows_are_damaged(rt.alloc(), line)?, "{line}");
     }
-    for tables in FOREIGN {
-        let are_refused = are_damaged(rt.alloc(), &[tables], 1)?
-            && are_damaged(rt.alloc(), &[tables], 2)?;
-        assert!(rt; are_refused, "{tables}");
+    for tables in FOREIGN.lines() {
+        assert!(rt; is_foreign(rt.alloc(), tables)?, "{tables}");
     }
     Ok(())
 }

@@ -8,7 +8,7 @@ use super::stream_ways::ALL;
 use mvd_dots::Refusal;
 use mvd_replica::Replica;
 use mvd_sync::sync_within;
-use sqlite::{Alter, Connection, FileStore, Files, MemStore, Options};
+use sqlite::{Alter, Connection, Error, FileStore, Files, Leftover, MemStore, Options};
 use sqlite_disk::{Disk, Fuse, Memory};
 use std::alloc::Global;
 
@@ -38,19 +38,28 @@ pub fn files_with(alloc: Global, bytes: &[u8], stop: Stop) -> Result<Files<Stopp
 }
 
 // Each call of the kit stands in a helper with no clause, so that no proof carries the clauses of two.
-fn connected<D: Disk + Drop>(
-    alloc: Global,
-    files: Files<D>,
+
+/// What was opened, or the files that are left.
+fn or_files<D: Disk + Drop>(
+    found: Result<Connection<FileStore<D>>, (Error, Leftover<D>)>,
 ) -> Result<Connection<FileStore<D>>, Files<D>> {
-    if !files.may_be_used() {
-        return Err(files);
-    }
-    match Connection::open_files(alloc, files, Options::new(1)) {
+    match found {
         Ok(conn) => Ok(conn),
         Err((fault, left)) => {
             drop(fault);
             Err(left.into_files())
         }
+    }
+}
+
+fn connected<D: Disk + Drop>(
+    alloc: Global,
+    files: Files<D>,
+) -> Result<Connection<FileStore<D>>, Files<D>> {
+    if files.may_be_used() {
+        or_files(Connection::open_files(alloc, files, Options::new(1)))
+    } else {
+        Err(files)
     }
 }
 
@@ -113,11 +122,11 @@ fn meets<S: Alter + Drop, T: Alter + Drop>(
 }
 
 /// Does work on a replica, and tells how much was done: how many puts were answered by a dot, or whether all was done.
-fn does<S: Alter + Drop>(
+fn does<S: Alter + Drop, T: Alter + Drop>(
     alloc: Global,
     work: (Work<'_>, usize),
     replica: &mut Replica<S>,
-    other: Option<&mut Replica<MemStore>>,
+    other: Option<&mut Replica<T>>,
 ) -> usize {
     let most = work.1;
     match work.0 {
@@ -157,19 +166,21 @@ pub struct Course {
 }
 
 /// The course of work that came to nothing.
-const NO_COURSE: Course = Course {
-    refusal: None,
-    first: [0; 32],
-    done: 0,
-    last: [0; 32],
-};
+fn nothing(refusal: Option<Refusal>) -> Course {
+    Course {
+        refusal,
+        first: [0; 32],
+        done: 0,
+        last: [0; 32],
+    }
+}
 
 /// The course of work on a replica.
-fn course_of<S: Alter + Drop>(
+fn course_of<S: Alter + Drop, T: Alter + Drop>(
     alloc: Global,
     replica: &mut Replica<S>,
     work: (Work<'_>, usize),
-    other: Option<&mut Replica<MemStore>>,
+    other: Option<&mut Replica<T>>,
 ) -> Course {
     let first = root_of(replica);
     let done = does(alloc, work, replica, other);
@@ -182,53 +193,62 @@ fn course_of<S: Alter + Drop>(
 }
 
 /// Does work on the records that a connection holds.
-fn on_records<S: Alter + Drop>(
+fn on_records<S: Alter + Drop, T: Alter + Drop>(
     alloc: Global,
     mut conn: Connection<S>,
     work: (Work<'_>, usize),
-    other: Option<&mut Replica<MemStore>>,
+    other: Option<&mut Replica<T>>,
 ) -> (Course, Connection<S>) {
-    let mut course = NO_COURSE;
     if let Work::Statements(statements) = work.0 {
-        course.refusal = run_all(&mut conn, statements).err();
-        return (course, conn);
+        let refusal = run_all(&mut conn, statements).err();
+        return (nothing(refusal), conn);
     }
     match opened(alloc, conn, 1) {
         Ok(mut replica) => {
-            course = course_of(alloc, &mut replica, work, other);
+            let course = course_of(alloc, &mut replica, work, other);
             (course, conn_of(replica))
         }
-        Err((refusal, conn)) => {
-            course.refusal = Some(refusal);
-            (course, conn)
-        }
+        Err((refusal, conn)) => (nothing(Some(refusal)), conn),
     }
 }
 
+/// The same of the records of a file, which is closed then.
+fn on_open<D: Disk + Drop, T: Alter + Drop>(
+    alloc: Global,
+    conn: Connection<FileStore<D>>,
+    work: (Work<'_>, usize),
+    other: Option<&mut Replica<T>>,
+) -> (Course, Files<D>) {
+    let (course, conn) = on_records(alloc, conn, work, other);
+    (course, closed(conn))
+}
+
 /// Does work, so much of it, on the records that two files hold, beside another replica, and gives the files as they are then.
-pub fn on_files<D: Disk + Drop>(
+pub fn on_files<D: Disk + Drop, T: Alter + Drop>(
     alloc: Global,
     files: Files<D>,
     work: (Work<'_>, usize),
-    other: Option<&mut Replica<MemStore>>,
+    other: Option<&mut Replica<T>>,
 ) -> (Course, Files<D>) {
     match connected(alloc, files) {
-        Ok(conn) => {
-            let (course, conn) = on_records(alloc, conn, work, other);
-            (course, closed(conn))
-        }
-        Err(files) => {
-            let mut course = NO_COURSE;
-            course.refusal = Some(Refusal::Store);
-            (course, files)
-        }
+        Ok(conn) => on_open(alloc, conn, work, other),
+        Err(files) => (nothing(Some(Refusal::Store)), files),
     }
+}
+
+/// The same beside no other.
+pub fn on_these<D: Disk + Drop>(
+    alloc: Global,
+    files: Files<D>,
+    work: (Work<'_>, usize),
+) -> (Course, Files<D>) {
+    on_files::<D, MemStore>(alloc, files, work, None)
 }
 
 /// The bytes of the database of two new files after work on them.
 pub fn database(alloc: Global, work: Work<'_>) -> Result<Vec<u8>, Refusal> {
     let files = files_with(alloc, &[], NEVER)?;
-    let (course, files) = on_files(alloc, files, (work, 1_000), None);
+    let (course, files) = on_these(alloc, files, (work, 1_000));
     let mut bytes = Vec::new(alloc);
     push(&mut bytes, files.db.inner().bytes());
     drop(files);

@@ -1,5 +1,6 @@
 //! One growth that is refused, whichever it is: tools/faults.sh refuses each in turn. With none refused all is as ever.
-use super::asked_sites::{ASKED, Asked};
+use super::asked_sites::ASKED;
+use super::damaged::THREE_OLD;
 use super::host_calls::told_by_three;
 use super::replica_calls::{
     Bytes, EMPTY, GET, PUT, STATE, Told, WRITTEN, asks, conn_of, first_frame, new_replica,
@@ -8,16 +9,18 @@ use super::replica_calls::{
 use super::stream_ways::ALL;
 use mvd_dots::Refusal;
 use mvd_replica::Replica;
-use sqlite::MemStore;
+use sqlite::Alter;
 use std::alloc::Global;
 use std::test::Fail;
 
+// These are for any store: a proof about one that is known carries its clauses.
+
 /// The same replica; one that is broken tells it once more, and is opened again.
-fn mended(
+fn mended<S: Alter + Drop>(
     alloc: Global,
-    mut replica: Replica<MemStore>,
+    mut replica: Replica<S>,
     number: u32,
-) -> Result<Replica<MemStore>, Refusal> {
+) -> Result<Replica<S>, Refusal> {
     if !replica.is_broken() {
         return Ok(replica);
     }
@@ -31,17 +34,22 @@ fn mended(
     }
 }
 
-/// The number of the first request, from one on, that a replica answers otherwise, each on a connection of its own; how many there are
-/// where it answers all as it should.
-fn answered(
+/// Whether a replica answers a request as a line says, on a connection of its own.
+fn line_is_answered<S: Alter + Drop>(alloc: Global, replica: &mut Replica<S>, line: &str) -> bool {
+    let (request, wanted) = line.split_once(' ').unwrap_or(("", ""));
+    matches!(asks(alloc, replica, request, wanted), Told::Wanted)
+}
+
+/// The number of the first line, from one on, that a replica answers otherwise; how many there are where it answers all as it should.
+fn answered<S: Alter + Drop>(
     alloc: Global,
-    replica: &mut Replica<MemStore>,
-    asked: &[(&str, &str)],
+    replica: &mut Replica<S>,
+    asked: &str,
     from: usize,
 ) -> usize {
-    let mut count = from;
-    for (request, wanted) in asked.get(from..).unwrap_or(&[]) {
-        if !matches!(asks(alloc, replica, request, wanted), Told::Wanted) {
+    let mut count = 0usize;
+    for line in asked.lines() {
+        if count >= from && !line_is_answered(alloc, replica, line) {
             return count;
         }
         count = count.saturating_add(1);
@@ -50,20 +58,48 @@ fn answered(
 }
 
 /// Whether a replica answers as it should; one that is broken is opened again, and has the write.
-fn replica_answers(alloc: Global, asked: &Asked) -> Result<bool, Refusal> {
-    let mut replica = new_replica(alloc, asked.0, asked.1)?;
-    let count = answered(alloc, &mut replica, asked.2, 0);
+fn all_is_answered<S: Alter + Drop>(
+    alloc: Global,
+    mut replica: Replica<S>,
+    number: u32,
+    asked: &str,
+) -> Result<bool, Refusal> {
+    let count = answered(alloc, &mut replica, asked, 0);
     let from = count.saturating_add(usize::from(replica.is_broken()));
-    let mut replica = mended(alloc, replica, asked.0)?;
-    let end = answered(alloc, &mut replica, asked.2, from);
+    let mut replica = mended(alloc, replica, number)?;
+    let end = answered(alloc, &mut replica, asked, from);
     drop(replica);
-    Ok(end == asked.2.len() && (from > count || count == end))
+    Ok(end == asked.lines().count() && (from > count || count == end))
+}
+
+/// The statements by which the records of a site are made.
+fn statements_of(head: &str) -> &'static [&'static str] {
+    match head {
+        "1 old" => THREE_OLD,
+        _ => &[],
+    }
+}
+
+fn number_of(head: &str) -> u32 {
+    match head {
+        "2 new" => 2,
+        "3 new" => 3,
+        _ => 1,
+    }
+}
+
+/// Whether a new replica answers what a site is asked.
+fn site_answers(alloc: Global, site: &str) -> Result<bool, Refusal> {
+    let (head, asked) = site.split_once('\n').unwrap_or(("", ""));
+    let number = number_of(head);
+    let replica = new_replica(alloc, number, statements_of(head))?;
+    all_is_answered(alloc, replica, number, asked)
 }
 
 #[test]
 fn a_replica_is_asked_again(rt: HostRuntime) -> Result<(), Fail> {
-    for (at, asked) in ASKED.iter().enumerate() {
-        assert!(rt; replica_answers(rt.alloc(), asked)?, "at {at}");
+    for site in ASKED.split('#') {
+        assert!(rt; site_answers(rt.alloc(), site)?, "{site}");
     }
     Ok(())
 }
@@ -116,7 +152,7 @@ fn may_tell(put: Told, question: Told, is_there: bool, was_broken: bool, shares:
 }
 
 /// Whether a replica has the put of a pair; `None` where it answers neither with it nor without.
-fn has_put(alloc: Global, replica: &mut Replica<MemStore>, pair: &Pair) -> Option<bool> {
+fn has_put<S: Alter + Drop>(alloc: Global, replica: &mut Replica<S>, pair: &Pair) -> Option<bool> {
     if matches!(asks(alloc, replica, pair.1, pair.2), Told::Wanted) {
         return Some(true);
     }
@@ -126,10 +162,32 @@ fn has_put(alloc: Global, replica: &mut Replica<MemStore>, pair: &Pair) -> Optio
     }
 }
 
-/// Whether the frames for the pairs tell what the replica has afterwards, where the puts may share a commit or not.
-fn pairs_tell(
+/// Whether the frames for a pair tell what the replica has afterwards; and what the first one tells.
+fn pair_tells<S: Alter + Drop>(
     alloc: Global,
-    replica: &mut Replica<MemStore>,
+    replica: &mut Replica<S>,
+    pair: &Pair,
+    frames: (&[u8], &[u8]),
+    was_broken: bool,
+    shares: bool,
+) -> (bool, Told) {
+    let put = tells(frames.0, WRITTEN);
+    let wanted = match put {
+        Told::Wanted => pair.2,
+        _ => pair.3,
+    };
+    let question = tells(frames.1, wanted);
+    let may_be = match has_put(alloc, replica, pair) {
+        Some(is_there) => may_tell(put, question, is_there, was_broken, shares),
+        None => false,
+    };
+    (may_be, put)
+}
+
+/// Whether the frames for the pairs tell what the replica has afterwards, where the puts may share a commit or not.
+fn pairs_tell<S: Alter + Drop>(
+    alloc: Global,
+    replica: &mut Replica<S>,
     mut output: &[u8],
     shares: bool,
 ) -> bool {
@@ -138,23 +196,17 @@ fn pairs_tell(
         let (put, rest) = first_frame(output);
         let (question, rest) = first_frame(rest);
         output = rest;
-        let put = tells(put, WRITTEN);
-        let wanted = match put {
-            Told::Wanted => pair.2,
-            _ => pair.3,
-        };
-        let question = tells(question, wanted);
-        match has_put(alloc, replica, pair) {
-            Some(is_there) if may_tell(put, question, is_there, was_broken, shares) => {}
-            _ => return false,
+        let (may_be, told) = pair_tells(alloc, replica, pair, (put, question), was_broken, shares);
+        if !may_be {
+            return false;
         }
-        was_broken = was_broken || matches!(put, Told::Broken);
+        was_broken = was_broken || matches!(told, Told::Broken);
     }
     true
 }
 
 /// What one connection is told of all pairs. (Where it ends otherwise than it may, that is a frame that no reply is.)
-fn told_at_once(alloc: Global, replica: &mut Replica<MemStore>) -> Bytes {
+fn told_at_once<S: Alter + Drop>(alloc: Global, replica: &mut Replica<S>) -> Bytes {
     let (output, ended) = serves(alloc, replica, &Bytes::of(&AT_ONCE), ALL, ALL);
     if ended == "end" || ended == "Memory" {
         output
@@ -163,9 +215,12 @@ fn told_at_once(alloc: Global, replica: &mut Replica<MemStore>) -> Bytes {
     }
 }
 
-/// Whether clients are told of the pairs what is there; a replica that is broken then is opened again.
-fn pairs_are_told(alloc: Global, in_rounds: bool) -> Result<bool, Refusal> {
-    let mut replica = new_replica(alloc, 1, &[])?;
+/// Whether clients of a new replica are told of the pairs what is there; one that is broken then is opened again.
+fn all_is_told<S: Alter + Drop>(
+    alloc: Global,
+    mut replica: Replica<S>,
+    in_rounds: bool,
+) -> Result<bool, Refusal> {
     let output = if in_rounds {
         told_by_three(alloc, &mut replica, &IN_ROUNDS)
     } else {
@@ -175,6 +230,10 @@ fn pairs_are_told(alloc: Global, in_rounds: bool) -> Result<bool, Refusal> {
     let are_told = pairs_tell(alloc, &mut replica, output.bytes(), in_rounds);
     drop(replica);
     Ok(are_told)
+}
+
+fn pairs_are_told(alloc: Global, in_rounds: bool) -> Result<bool, Refusal> {
+    all_is_told(alloc, new_replica(alloc, 1, &[])?, in_rounds)
 }
 
 #[test]

@@ -1,7 +1,7 @@
 //! Random frames, from a generator with a fixed seed.
 use super::replica_calls::{Bytes, counted, new_replica, push, replies};
 use mvd_replica::Replica;
-use sqlite::MemStore;
+use sqlite::Alter;
 use std::alloc::Global;
 use std::test::Fail;
 
@@ -262,10 +262,10 @@ const CONNECTIONS: u32 = 250;
 
 /// How many of such frames a connection answers, which is all, or those up to a Bye, unless frames are damaged as a whole; `None` where
 /// it ends otherwise, or another byte is among the replies.
-fn answered(
+fn answered<S: Alter + Drop>(
     alloc: Global,
     random: &mut Random,
-    replica: &mut Replica<MemStore>,
+    replica: &mut Replica<S>,
     are_whole: bool,
 ) -> Option<usize> {
     let mut input = Vec::new(alloc);
@@ -289,7 +289,7 @@ fn answered(
 }
 
 /// How many connections are answered, one after the other, until one is not; and how many frames.
-fn answered_of_all(alloc: Global, replica: &mut Replica<MemStore>) -> (u32, usize) {
+fn answered_of_all<S: Alter + Drop>(alloc: Global, replica: &mut Replica<S>) -> (u32, usize) {
     let mut random = 0x9E37_79B9_7F4A_7C15;
     let mut frames = 0usize;
     for connection in 0..CONNECTIONS {

@@ -197,12 +197,12 @@ fn or_refusal<T, U: Drop>(found: Result<T, (Refusal, U)>) -> Result<T, Refusal> 
     }
 }
 
-/// The replica that records in memory hold, which are opened once more where memory was refused.
-pub fn open_again(
+/// The replica that records hold, which are opened once more where memory was refused.
+pub fn open_again<S: Alter + Drop>(
     alloc: Global,
-    conn: Connection<MemStore>,
+    conn: Connection<S>,
     number: u32,
-) -> Result<Replica<MemStore>, Refusal> {
+) -> Result<Replica<S>, Refusal> {
     match opened(alloc, conn, number) {
         Err((Refusal::Memory | Refusal::Store, conn)) => or_refusal(opened(alloc, conn, number)),
         found => or_refusal(found),

@@ -1,242 +1,166 @@
 //! States and connections at their limits: each request in time.
-use super::replica_calls::{new_replica, push, replies};
+use super::replica_calls::{Bytes, new_replica, push, replies};
 use mvd_replica::Replica;
-use sqlite::MemStore;
+use sqlite::Alter;
 use std::alloc::Global;
 use std::test::Fail;
 use std::time::Instant;
 
-const NONE: &[u8] = &[];
+/// Sites, with a `#` between two. The first line of each has its number, and rows: how many, and of each the bytes before its
+/// number and those behind it; the numbers are the multiples of the word between. Each other line is a request: its bytes behind
+/// its length, up to where rows may stand in it and from there on; whether the rows stand `in` it, `behind` its frame, or nowhere;
+/// what the site says (the kind of its first reply or the number of a refusal, how many bytes its replies are together, and how
+/// the connection ends); and a name. Bytes are hexadecimal digits, or `-` where there are none.
+///
+/// The first site holds at the key `k` as many siblings of the shortest document, `{}`, as have room in a state, 63,887: all but
+/// one are delivered, and one is put. The second one is given a context of 70,000 loose counters of site 2, which are 560,036
+/// bytes with the dot 1:1. The third one gets the state that this leaves, and deletes by its context. The others are asked a
+/// question, behind which there are a million frames of no kind, which is one frame more than a connection may have; a frame that
+/// is too long; the half of a frame; and a Bye with bytes behind it.
+const ASKED: &str = "\
+2 63886 00000002 1 000000027b7d
+29016b0000000100000002000000000000f98e00000000f98e - in a3 5 end delivered
+22016b00000000000000027b7d - - a2 17 end put
+22016b00000000000000027b7d - - 09 6 end put once more
+21016b - - a1 1149993 end read
+23016b0000000100000002000000000000f98f00000000 - - a3 5 end deleted
+21016b - - a1 27 end read again
+#1 70000 - 2 -
+22016b0000000100000002000000000000000000011170 000000027b7d in a2 17 end put
+21016b - - a1 560061 end read
+#3 70000 - 2 -
+29016b000000020000000100000000000000010000000000000002000000000000000000011170 0001000000010000000000000001000000027b7d \
+    in a3 5 end delivered
+21016b - - a1 560061 end read there
+23016b000000020000000100000000000000010000000000000002000000000000000000011170 - in a3 5 end deleted
+21016b - - a1 560043 end read again
+#4 1000000 0000000970 1 -
+21016b - behind a1 6000011 TooManyRequests too many
+#4 1 ffffffff21 1 -
+21016b - behind a1 17 FrameTooLong too long
+#4 1 0000006321 1 -
+21016b - behind a1 17 Truncated a half
+#4 1 000000012f 1 -
+21016b - behind a1 16 bye a Bye
+";
 
-/// A list of rows: how many, and of each the bytes before its number and those behind it. The numbers are the multiples of a step.
-type Rows = (u32, &'static [u8], u64, &'static [u8]);
+/// A word of a line.
+fn word(line: &str, at: usize) -> &str {
+    line.split(' ').nth(at).unwrap_or("")
+}
 
-/// Where the rows of a request stand: nowhere, in its payload, or behind its frame.
-type Place = u8;
+fn number(line: &str, at: usize) -> u64 {
+    word(line, at).parse::<u64>().unwrap_or(0)
+}
 
-const NOWHERE: Place = 0;
+fn digits(line: &str, at: usize) -> Bytes {
+    Bytes::of(&[word(line, at)])
+}
 
-const INSIDE: Place = 1;
-
-const BEHIND: Place = 2;
-
-/// The kind of a site's first reply, or the number of a refusal; how many bytes its replies are together; and how the connection ends.
-type Said = (u8, usize, &'static str);
-
-/// A request about the key `k`: its name, its kind, its payload behind the key (bytes, where the rows stand, and bytes behind those
-/// that it has inside), and what the site says.
-type Step = (&'static str, u8, &'static [u8], Place, &'static [u8], Said);
-
-/// A site's number, and what it is asked.
-type Asked = (u32, Rows, &'static [Step]);
-
-/// As many siblings of the shortest document, `{}`, have room in a state: all but one of site 2 are delivered, and one is put.
-const SIBLINGS: usize = 63_887;
-
-const SIBLING_ROWS: Rows = (63_886, &[0, 0, 0, 2], 1, &[0, 0, 0, 2, b'{', b'}']);
-
-const BLIND: &[u8] = &[0, 0, 0, 0, 0, 0, 0, 2, b'{', b'}'];
-
-const SIBLING_STEPS: &[Step] = &[
-    (
-        "delivered",
-        0x29,
-        &[
-            0, 0, 0, 1, 0, 0, 0, 2, 0, 0, 0, 0, 0, 0, 0xF9, 0x8E, 0, 0, 0, 0, 0xF9, 0x8E,
-        ],
-        INSIDE,
-        NONE,
-        (0xA3, 5, "end"),
-    ),
-    ("put", 0x22, BLIND, NOWHERE, NONE, (0xA2, 17, "end")),
-    ("put once more", 0x22, BLIND, NOWHERE, NONE, (9, 6, "end")),
-    (
-        "read",
-        0x21,
-        NONE,
-        NOWHERE,
-        NONE,
-        (0xA1, 27 + 18 * SIBLINGS, "end"),
-    ),
-    (
-        "deleted",
-        0x23,
-        &[
-            0, 0, 0, 1, 0, 0, 0, 2, 0, 0, 0, 0, 0, 0, 0xF9, 0x8F, 0, 0, 0, 0,
-        ],
-        NOWHERE,
-        NONE,
-        (0xA3, 5, "end"),
-    ),
-    ("read again", 0x21, NONE, NOWHERE, NONE, (0xA1, 27, "end")),
-];
-
-/// A context of 70,000 loose counters of site 2, which is put at site 1.
-const LOOSE_ROWS: Rows = (70_000, NONE, 2, NONE);
-
-const LOOSE: &[u8] = &[
-    0, 0, 0, 1, 0, 0, 0, 2, 0, 0, 0, 0, 0, 0, 0, 0, 0, 1, 0x11, 0x70,
-];
-
-/// The bytes of a context with these counters and the dot 1:1.
-const CONTEXT: usize = 36 + 8 * 70_000;
-
-const LOOSE_STEPS: &[Step] = &[
-    (
-        "put",
-        0x22,
-        LOOSE,
-        INSIDE,
-        &[0, 0, 0, 2, b'{', b'}'],
-        (0xA2, 17, "end"),
-    ),
-    (
-        "read",
-        0x21,
-        NONE,
-        NOWHERE,
-        NONE,
-        (0xA1, 25 + CONTEXT, "end"),
-    ),
-];
-
-/// The same with the dot 1:1 in front, and the sibling of that dot.
-const SEEN: &[u8] = &[
-    0, 0, 0, 2, 0, 0, 0, 1, 0, 0, 0, 0, 0, 0, 0, 1, 0, 0, 0, 0, 0, 0, 0, 2, 0, 0, 0, 0, 0, 0, 0, 0,
-    0, 1, 0x11, 0x70,
-];
-
-const ONE: &[u8] = &[
-    0, 1, 0, 0, 0, 1, 0, 0, 0, 0, 0, 0, 0, 1, 0, 0, 0, 2, b'{', b'}',
-];
-
-/// That state delivered to another site, where it is read, and deleted by its context.
-const DELIVERED_STEPS: &[Step] = &[
-    ("delivered", 0x29, SEEN, INSIDE, ONE, (0xA3, 5, "end")),
-    (
-        "read there",
-        0x21,
-        NONE,
-        NOWHERE,
-        NONE,
-        (0xA1, 25 + CONTEXT, "end"),
-    ),
-    ("deleted", 0x23, SEEN, INSIDE, NONE, (0xA3, 5, "end")),
-    (
-        "read again",
-        0x21,
-        NONE,
-        NOWHERE,
-        NONE,
-        (0xA1, 7 + CONTEXT, "end"),
-    ),
-];
-
-/// What may stand behind a question: a million frames of no kind, which is one frame more than a connection may have; a frame that is too
-/// long; the half of a frame; and a Bye with bytes behind it.
-const FRAME_ROWS: Rows = (1_000_000, &[0, 0, 0, 9, 0x70], 1, NONE);
-
-const LONG_ROWS: Rows = (1, &[0xFF, 0xFF, 0xFF, 0xFF, 0x21], 1, NONE);
-
-const HALF_ROWS: Rows = (1, &[0, 0, 0, 99, 0x21], 1, NONE);
-
-const BYE_ROWS: Rows = (1, &[0, 0, 0, 1, 0x2F], 1, NONE);
-
-const FRAME_SAID: Said = (0xA1, 11 + 6 * 1_000_000, "TooManyRequests");
-
-const LONG_SAID: Said = (0xA1, 11 + 6, "FrameTooLong");
-
-const HALF_SAID: Said = (0xA1, 11 + 6, "Truncated");
-
-const BYE_SAID: Said = (0xA1, 11 + 5, "bye");
-
-const ASKED: [Asked; 7] = [
-    (2, SIBLING_ROWS, SIBLING_STEPS),
-    (1, LOOSE_ROWS, LOOSE_STEPS),
-    (3, LOOSE_ROWS, DELIVERED_STEPS),
-    (
-        4,
-        FRAME_ROWS,
-        &[("too many", 0x21, NONE, BEHIND, NONE, FRAME_SAID)],
-    ),
-    (
-        4,
-        LONG_ROWS,
-        &[("too long", 0x21, NONE, BEHIND, NONE, LONG_SAID)],
-    ),
-    (
-        4,
-        HALF_ROWS,
-        &[("a half", 0x21, NONE, BEHIND, NONE, HALF_SAID)],
-    ),
-    (
-        4,
-        BYE_ROWS,
-        &[("a Bye", 0x21, NONE, BEHIND, NONE, BYE_SAID)],
-    ),
-];
-
-/// The bytes of rows.
-fn bytes_of(alloc: Global, rows: Rows) -> Vec<u8> {
+/// The bytes of the rows of a site.
+fn rows_of(alloc: Global, site: &str) -> Vec<u8> {
+    let before = digits(site, 2);
+    let step = number(site, 3);
+    let behind = digits(site, 4);
     let mut bytes = Vec::new(alloc);
-    for number in 1..=u64::from(rows.0) {
-        push(&mut bytes, rows.1);
-        push(&mut bytes, &number.saturating_mul(rows.2).to_be_bytes());
-        push(&mut bytes, rows.3);
+    for at in 0..number(site, 1) {
+        push(&mut bytes, before.bytes());
+        push(
+            &mut bytes,
+            &at.saturating_add(1).saturating_mul(step).to_be_bytes(),
+        );
+        push(&mut bytes, behind.bytes());
     }
     bytes
 }
 
-/// What a site says in a step.
-fn said(alloc: Global, replica: &mut Replica<MemStore>, step: &Step, rows: &[u8]) -> Said {
-    let inside = if step.3 == INSIDE { rows } else { NONE };
-    let behind = if step.3 == BEHIND { rows } else { NONE };
-    let len = step
-        .2
-        .len()
+/// The bytes of a request, and of what stands behind it.
+fn request_of(alloc: Global, line: &str, rows: &[u8]) -> Vec<u8> {
+    let begin = digits(line, 0);
+    let end = digits(line, 1);
+    let inside = if word(line, 2) == "in" { rows } else { &[] };
+    let behind = if word(line, 2) == "behind" { rows } else { &[] };
+    let len = begin
+        .len
         .saturating_add(inside.len())
-        .saturating_add(step.4.len());
-    let len = u32::try_from(len).unwrap_or(0).saturating_add(3);
+        .saturating_add(end.len);
     let mut request = Vec::new(alloc);
-    push(&mut request, &len.to_be_bytes());
-    push(&mut request, &[step.1, 1, b'k']);
-    push(&mut request, step.2);
+    push(&mut request, &u32::try_from(len).unwrap_or(0).to_be_bytes());
+    push(&mut request, begin.bytes());
     push(&mut request, inside);
-    push(&mut request, step.4);
+    push(&mut request, end.bytes());
     push(&mut request, behind);
-    let (output, ended) = replies(alloc, replica, request.as_slice());
-    match output.as_slice() {
-        [_, _, _, _, 0xEE, number, ..] => (*number, output.len(), ended),
-        [_, _, _, _, kind, ..] => (*kind, output.len(), ended),
-        _ => (0, 0, ended),
+    request
+}
+
+/// The kind of a first reply, or the number of a refusal.
+fn kind_of(output: &[u8]) -> u8 {
+    match output {
+        [_, _, _, _, 0xEE, number, ..] => *number,
+        [_, _, _, _, kind, ..] => *kind,
+        _ => 0,
     }
 }
 
-/// Fails where a site does not say so in each step; and tells how long it took.
-fn take(
+/// What a site says to a request: the kind of its first reply, how many bytes its replies are, and how the connection ends.
+fn said<S: Alter + Drop>(
+    alloc: Global,
+    replica: &mut Replica<S>,
+    line: &str,
+    rows: &[u8],
+) -> (u8, usize, &'static str) {
+    let request = request_of(alloc, line, rows);
+    let (output, ended) = replies(alloc, replica, request.as_slice());
+    drop(request);
+    let kind = kind_of(output.as_slice());
+    let len = output.len();
+    drop(output);
+    (kind, len, ended)
+}
+
+/// Whether a line says so.
+fn is_wanted(line: &str, said: (u8, usize, &str)) -> bool {
+    let kind = digits(line, 3).room[0];
+    kind == said.0 && number(line, 4) == said.1 as u64 && word(line, 5) == said.2
+}
+
+/// Fails where a site does not say what it should to a request; and tells how long it took.
+fn take<S: Alter + Drop>(
     rt: HostRuntime,
-    replica: &mut Replica<MemStore>,
-    steps: &[Step],
+    replica: &mut Replica<S>,
+    line: &str,
     rows: &[u8],
 ) -> Result<(), Fail> {
-    for step in steps {
-        let start = Instant::now(&rt)?;
-        let (kind, len, ended) = said(rt.alloc(), replica, step, rows);
-        let took = start.elapsed(&rt)?.as_millis();
-        println!(rt; "{}: {kind} of {len} bytes in {took} ms", step.0)?;
-        let (wanted_kind, wanted_len, wanted_end) = step.5;
-        if kind != wanted_kind || len != wanted_len || ended != wanted_end {
-            return Err(Fail::new(step.0));
-        }
+    let start = Instant::now(&rt)?;
+    let said = said(rt.alloc(), replica, line, rows);
+    let took = start.elapsed(&rt)?.as_millis();
+    println!(rt; "{} of {} bytes in {took} ms: {line}", said.0, said.1)?;
+    if is_wanted(line, said) {
+        Ok(())
+    } else {
+        Err(Fail::new(line))
+    }
+}
+
+fn take_lines<S: Alter + Drop>(
+    rt: HostRuntime,
+    replica: &mut Replica<S>,
+    lines: &str,
+    rows: &[u8],
+) -> Result<(), Fail> {
+    for line in lines.lines() {
+        take(rt, replica, line, rows)?;
     }
     Ok(())
 }
 
-/// The same of a new site.
-fn take_first(rt: HostRuntime, asked: &Asked) -> Result<(), Fail> {
-    let mut replica = new_replica(rt.alloc(), asked.0, &[])?;
-    let rows = bytes_of(rt.alloc(), asked.1);
-    let taken = take(rt, &mut replica, asked.2, rows.as_slice());
+/// The same of all that a new site is asked.
+fn take_site(rt: HostRuntime, site: &str) -> Result<(), Fail> {
+    let (first, lines) = site.split_once('\n').unwrap_or(("", ""));
+    let number = u32::try_from(number(first, 0)).unwrap_or(0);
+    let mut replica = new_replica(rt.alloc(), number, &[])?;
+    let rows = rows_of(rt.alloc(), first);
+    let taken = take_lines(rt, &mut replica, lines, rows.as_slice());
     drop(rows);
     drop(replica);
     taken
@@ -244,8 +168,8 @@ fn take_first(rt: HostRuntime, asked: &Asked) -> Result<(), Fail> {
 
 #[test]
 fn limits_are_kept(rt: HostRuntime) -> Result<(), Fail> {
-    for asked in &ASKED {
-        take_first(rt, asked)?;
+    for site in ASKED.split('#') {
+        take_site(rt, site)?;
     }
     Ok(())
 }

@@ -6,7 +6,7 @@ use super::file_calls::{
 use super::replica_calls::{Root, new_replica, root_of};
 use mvd_dots::Refusal;
 use mvd_replica::Replica;
-use sqlite::{Files, MemStore};
+use sqlite::{Alter, Files};
 use sqlite_disk::Crash;
 use std::alloc::Global;
 use std::test::Fail;
@@ -117,12 +117,12 @@ type Left = (Course, Course, Root);
 
 /// Does so much of a run, on files that begin with these bytes, of which one stops. When the machine is back the files are opened, and
 /// a session is held once more.
-fn left_beside(
+fn left_beside<T: Alter + Drop>(
     alloc: Global,
     run: &Run,
     bytes: &[u8],
     limits: (usize, Stop),
-    other: &mut Replica<MemStore>,
+    other: &mut Replica<T>,
 ) -> Result<Left, Refusal> {
     let again = if run.commits.is_empty() {
         run.work
@@ -136,7 +136,21 @@ fn left_beside(
     Ok((ran, back, root_of(other)))
 }
 
-/// The same beside a side of its own.
+/// The same beside a side that is given the keys of its own.
+fn left_by<T: Alter + Drop>(
+    alloc: Global,
+    run: &Run,
+    bytes: &[u8],
+    limits: (usize, Stop),
+    mut other: Replica<T>,
+) -> Result<Left, Refusal> {
+    put_keys(alloc, &mut other, run.theirs, 0);
+    let left = left_beside(alloc, run, bytes, limits, &mut other);
+    drop(other);
+    left
+}
+
+/// The same beside a new side.
 fn run_left(
     alloc: Global,
     run: &Run,
@@ -144,11 +158,8 @@ fn run_left(
     most: usize,
     stop: Stop,
 ) -> Result<Left, Refusal> {
-    let mut other = new_replica(alloc, 2, &[])?;
-    put_keys(alloc, &mut other, run.theirs, 0);
-    let left = left_beside(alloc, run, bytes, (most, stop), &mut other);
-    drop(other);
-    left
+    let other = new_replica(alloc, 2, &[])?;
+    left_by(alloc, run, bytes, (most, stop), other)
 }
 
 /// Adds the roots in the course of a run, where nothing stops: of the puts after each, of a session after more and more questions.

@@ -5,6 +5,8 @@ use super::replica_calls::{
 };
 use super::stream_ways::{ALL, BYTE, FAILS, NOTHING, WHOLE, Way, Ways};
 use mvd_dots::Refusal;
+use mvd_replica::Replica;
+use sqlite::Alter;
 use std::alloc::Global;
 use std::test::Fail;
 
@@ -20,17 +22,25 @@ const REPLIES: [&str; 6] = [
     STATE,
 ];
 
-/// What a replica's first connection with these requests gives over such streams, how it ends, and whether a put of `PUT` is there.
-fn connected(
+/// What a connection gives, how it ends, and whether a put of `PUT` is there.
+type Given = (Bytes, &'static str, bool);
+
+/// What a replica's first connection with these requests gives over such streams.
+fn connected<S: Alter + Drop>(
     alloc: Global,
+    mut replica: Replica<S>,
     read: Ways,
     write: Ways,
-) -> Result<(Bytes, &'static str, bool), Refusal> {
-    let mut replica = new_replica(alloc, 1, &[])?;
+) -> Given {
     let (output, ended) = serves(alloc, &mut replica, &Bytes::of(&REQUESTS), read, write);
     let is_put = matches!(asks(alloc, &mut replica, GET, STATE), Told::Wanted);
     drop(replica);
-    Ok((output, ended, is_put))
+    (output, ended, is_put)
+}
+
+/// The same of a new replica.
+fn given(alloc: Global, read: Ways, write: Ways) -> Result<Given, Refusal> {
+    Ok(connected(alloc, new_replica(alloc, 1, &[])?, read, write))
 }
 
 /// How many requests these bytes are the replies to, where the refusal of the reading follows.
@@ -73,7 +83,7 @@ fn failing(alloc: Global, calls: &Calls) -> Result<usize, Fail> {
     for before in 0..1_000usize {
         let ways = (before, calls.2, calls.3);
         let (read, write) = if calls.1 { (ways, ALL) } else { (ALL, ways) };
-        let (output, ended, is_put) = connected(alloc, read, write)?;
+        let (output, ended, is_put) = given(alloc, read, write)?;
         if ended == "end" && output.bytes() == Bytes::of(&REPLIES).bytes() {
             return Ok(before);
         }

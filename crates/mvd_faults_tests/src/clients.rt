@@ -2,7 +2,9 @@
 //! replica answers to one sequence of requests.
 use super::host_calls::{admit_all, feed, round, take};
 use super::random_frames::{Random, below};
-use super::replica_calls::{Bytes, CLASH, GET, PUT, WIDE, new_replica, push, replies, root_of};
+use super::replica_calls::{
+    Bytes, CLASH, GET, PUT, WIDE, end, new_replica, push, replies, root_of,
+};
 use mvd_dots::Refusal;
 use mvd_host::Host;
 use mvd_replica::Replica;
@@ -79,14 +81,6 @@ fn ask<S: Alter + Drop>(alloc: Global, single: &mut Replica<S>, client: &mut Cli
     }
 }
 
-/// The replica of the host, and the one that is asked one request after the other.
-#[derive(Drop)]
-struct Sides<S: Alter + Drop> {
-    host: Host,
-    replica: Replica<S>,
-    single: Replica<S>,
-}
-
 /// At most so many bytes of a client come, or as many of those that wait leave to it.
 fn move_bytes(host: &mut Host, number: u64, clients: &mut [Client], most: usize, leave: bool) {
     if let Some(client) = clients.get_mut(number as usize) {
@@ -100,11 +94,30 @@ fn move_bytes(host: &mut Host, number: u64, clients: &mut [Client], most: usize,
     }
 }
 
-/// One step: bytes of a client come, or bytes leave to it, or there is a round of two clients, for which the one replica is asked too.
-fn step<S: Alter + Drop>(
+/// A round of two clients, for which the one replica is asked too.
+fn round_of<S: Alter + Drop, T: Alter + Drop>(
+    alloc: Global,
+    host: &mut Host,
+    replica: &mut Replica<S>,
+    single: &mut Replica<T>,
+    clients: &mut [Client],
+    ready: [u64; 2],
+) {
+    round(host, replica, &ready);
+    for number in ready {
+        if let Some(client) = clients.get_mut(number as usize) {
+            ask(alloc, single, client);
+        }
+    }
+}
+
+/// One step: bytes of a client come, or bytes leave to it, or there is a round of two.
+fn step<S: Alter + Drop, T: Alter + Drop>(
     alloc: Global,
     random: &mut Random,
-    sides: &mut Sides<S>,
+    host: &mut Host,
+    replica: &mut Replica<S>,
+    single: &mut Replica<T>,
     clients: &mut [Client],
 ) {
     let number = below(random, CLIENTS);
@@ -112,15 +125,10 @@ fn step<S: Alter + Drop>(
     let other = number.wrapping_add(behind) % CLIENTS;
     let most = below(random, 80) as usize;
     let kind = below(random, 5);
-    if kind != 0 {
-        move_bytes(&mut sides.host, number, clients, most, kind == 1);
-        return;
-    }
-    round(&mut sides.host, &mut sides.replica, &[number, other]);
-    for number in [number, other] {
-        if let Some(client) = clients.get_mut(number as usize) {
-            ask(alloc, &mut sides.single, client);
-        }
+    if kind == 0 {
+        round_of(alloc, host, replica, single, clients, [number, other]);
+    } else {
+        move_bytes(host, number, clients, most, kind == 1);
     }
 }
 
@@ -139,65 +147,54 @@ fn told_to(clients: &[Client]) -> Option<usize> {
     Some(bytes)
 }
 
-/// How many bytes new clients of these sides are told.
-fn told_by<S: Alter + Drop>(
+/// How many bytes clients are told in the order of a seed.
+fn told_by<S: Alter + Drop, T: Alter + Drop>(
     alloc: Global,
-    random: &mut Random,
-    sides: &mut Sides<S>,
+    seed: u64,
+    replica: &mut Replica<S>,
+    single: &mut Replica<T>,
 ) -> Option<usize> {
+    let mut random = seed.wrapping_mul(0x9E37_79B9_7F4A_7C15);
+    let mut host = Host::new(alloc);
     let mut clients = Vec::new(alloc);
-    admit_all(&mut sides.host, CLIENTS as usize);
+    admit_all(&mut host, CLIENTS as usize);
     for _ in 0..CLIENTS {
-        let _ = clients.push(new_client(alloc, random));
+        let _ = clients.push(new_client(alloc, &mut random));
     }
     for _ in 0..STEPS {
-        step(alloc, random, sides, clients.as_mut_slice());
+        step(
+            alloc,
+            &mut random,
+            &mut host,
+            replica,
+            single,
+            clients.as_mut_slice(),
+        );
     }
     let told = told_to(clients.as_slice());
     drop(clients);
+    drop(host);
     told
 }
 
-/// How many bytes clients are told in the order of a seed; `None` where they are others than one sequence gives, or the two
-/// replicas have not one root.
+/// The same beside a replica that was made; `None` where they are others than one sequence gives, or the two have not one root.
 fn told_beside<S: Alter + Drop>(
     alloc: Global,
     seed: u64,
-    replica: Replica<S>,
-    single: Replica<S>,
-) -> Option<usize> {
-    let mut random = seed.wrapping_mul(0x9E37_79B9_7F4A_7C15);
-    let mut sides = Sides {
-        host: Host::new(alloc),
-        replica,
-        single,
-    };
-    let told = told_by(alloc, &mut random, &mut sides);
-    let are_equal = root_of(&sides.replica) == root_of(&sides.single);
-    drop(sides);
-    if are_equal { told } else { None }
-}
-
-/// The same, where the second replica was made.
-fn told_if_made<S: Alter + Drop>(
-    alloc: Global,
-    seed: u64,
-    replica: Replica<S>,
-    single: Result<Replica<S>, Refusal>,
+    replica: &mut Replica<S>,
 ) -> Result<Option<usize>, Refusal> {
-    match single {
-        Ok(single) => Ok(told_beside(alloc, seed, replica, single)),
-        Err(refusal) => {
-            drop(replica);
-            Err(refusal)
-        }
-    }
+    let mut single = new_replica(alloc, 1, &[])?;
+    let told = told_by(alloc, seed, replica, &mut single);
+    let are_equal = root_of(replica) == root_of(&single);
+    end(single);
+    Ok(if are_equal { told } else { None })
 }
 
-/// The same of replicas in memory.
 fn told_in_order(alloc: Global, seed: u64) -> Result<Option<usize>, Refusal> {
-    let replica = new_replica(alloc, 1, &[])?;
-    told_if_made(alloc, seed, replica, new_replica(alloc, 1, &[]))
+    let mut replica = new_replica(alloc, 1, &[])?;
+    let told = told_beside(alloc, seed, &mut replica);
+    end(replica);
+    told
 }
 
 #[test]

@@ -3,7 +3,7 @@ use super::asked_sites::ASKED;
 use super::damaged::THREE_OLD;
 use super::host_calls::told_by_three;
 use super::replica_calls::{
-    Bytes, EMPTY, GET, PUT, STATE, Told, WRITTEN, asks, conn_of, first_frame, new_replica,
+    Bytes, EMPTY, GET, PUT, STATE, Told, WRITTEN, asks, conn_of, end, first_frame, new_replica,
     open_again, serves, tells,
 };
 use super::stream_ways::ALL;
@@ -67,9 +67,9 @@ fn all_is_answered<S: Alter + Drop>(
     let count = answered(alloc, &mut replica, asked, 0);
     let from = count.saturating_add(usize::from(replica.is_broken()));
     let mut replica = mended(alloc, replica, number)?;
-    let end = answered(alloc, &mut replica, asked, from);
-    drop(replica);
-    Ok(end == asked.lines().count() && (from > count || count == end))
+    let last = answered(alloc, &mut replica, asked, from);
+    end(replica);
+    Ok(last == asked.lines().count() && (from > count || count == last))
 }
 
 /// The statements by which the records of a site are made.
@@ -228,7 +228,7 @@ fn all_is_told<S: Alter + Drop>(
     };
     let mut replica = mended(alloc, replica, 1)?;
     let are_told = pairs_tell(alloc, &mut replica, output.bytes(), in_rounds);
-    drop(replica);
+    end(replica);
     Ok(are_told)
 }
 

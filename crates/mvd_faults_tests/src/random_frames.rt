@@ -1,5 +1,5 @@
 //! Random frames, from a generator with a fixed seed.
-use super::replica_calls::{Bytes, counted, new_replica, push, replies};
+use super::replica_calls::{Bytes, counted, end, new_replica, push, replies};
 use mvd_replica::Replica;
 use sqlite::Alter;
 use std::alloc::Global;
@@ -306,7 +306,7 @@ fn random_frames_are_answered(rt: HostRuntime) -> Result<(), Fail> {
     let mut replica = new_replica(rt.alloc(), 1, &[])?;
     let (connections, frames) = answered_of_all(rt.alloc(), &mut replica);
     let keys = replica.key_count();
-    drop(replica);
+    end(replica);
     println!(rt; "{frames} frames on {connections} connections, {keys} keys")?;
     assert!(rt; connections == CONNECTIONS);
     Ok(())

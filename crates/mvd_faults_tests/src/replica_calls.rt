@@ -151,6 +151,11 @@ pub fn conn_of<S: Alter + Drop>(replica: Replica<S>) -> Connection<S> {
     replica.into_connection()
 }
 
+/// Lets a replica go as its connection, so that nothing here proves the drop of a site.
+pub fn end<S: Alter + Drop>(replica: Replica<S>) {
+    drop(conn_of(replica));
+}
+
 fn index(alloc: Global, defs: &mut Defs, name: &str) -> Result<(), Refusal> {
     defs.index(Field::read(alloc, name)?)
 }

@@ -1,5 +1,5 @@
 //! States and connections at their limits: each request in time.
-use super::replica_calls::{Bytes, new_replica, push, replies};
+use super::replica_calls::{Bytes, end, new_replica, push, replies};
 use mvd_replica::Replica;
 use sqlite::Alter;
 use std::alloc::Global;
@@ -162,7 +162,7 @@ fn take_site(rt: HostRuntime, site: &str) -> Result<(), Fail> {
     let rows = rows_of(rt.alloc(), first);
     let taken = take_lines(rt, &mut replica, lines, rows.as_slice());
     drop(rows);
-    drop(replica);
+    end(replica);
     taken
 }
 

@@ -3,7 +3,7 @@ use super::damaged::THREE_OLD;
 use super::file_calls::{
     Course, NEVER, Stop, Stopping, Work, database, files_with, on_files, put_keys,
 };
-use super::replica_calls::{Root, new_replica, root_of};
+use super::replica_calls::{Root, end, new_replica, root_of};
 use mvd_dots::Refusal;
 use mvd_replica::Replica;
 use sqlite::{Alter, Files};
@@ -146,7 +146,7 @@ fn left_by<T: Alter + Drop>(
 ) -> Result<Left, Refusal> {
     put_keys(alloc, &mut other, run.theirs, 0);
     let left = left_beside(alloc, run, bytes, limits, &mut other);
-    drop(other);
+    end(other);
     left
 }
 

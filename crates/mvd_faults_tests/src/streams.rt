@@ -1,7 +1,7 @@
 //! Readers and writers that fail in the middle, where they give and take all at once or a byte a call.
 use super::replica_calls::{
-    BAD_CONTEXT, Bytes, CLASH, CLASHES, GET, PUT, STATE, Told, WIDE, WRITTEN, asks, new_replica,
-    serves,
+    BAD_CONTEXT, Bytes, CLASH, CLASHES, GET, PUT, STATE, Told, WIDE, WRITTEN, asks, end,
+    new_replica, serves,
 };
 use super::stream_ways::{ALL, BYTE, FAILS, NOTHING, WHOLE, Way, Ways};
 use mvd_dots::Refusal;
@@ -34,7 +34,7 @@ fn connected<S: Alter + Drop>(
 ) -> Given {
     let (output, ended) = serves(alloc, &mut replica, &Bytes::of(&REQUESTS), read, write);
     let is_put = matches!(asks(alloc, &mut replica, GET, STATE), Told::Wanted);
-    drop(replica);
+    end(replica);
     (output, ended, is_put)
 }
 

@@ -175,7 +175,7 @@ pub trait Peer {
             (λ _. for_pushes) pairs.now self.old self.new result }
         ensures pushes { PushedAll (holding is_faithful states most_keys) pairs.now self.old self.new result }
         ensures ended { IfErr result (Ends follows can_refuse (length pairs.now) self.old self.new) }
-        // It ends so only where the last push made may have been taken: else a refusal stands among the answers.
+        // A faithful side ends the call only with a refusal that leaves open whether a push was taken.
         ensures left_open { is_faithful self.old → IfErr result IsLeftOpen }
         ensures unbroken { is_faithful self.old →
             IfErr result (λ refusal. refusal ≢ Refusal.Broken → is_faithful self.new) }

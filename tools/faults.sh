@@ -78,7 +78,7 @@ sweep_all() { # STEP: that of all tests but the cheapest
         sweep mvd_faults_tests memory::$test "$1"
     done
     sweep mvd_script_tests script_memory::a_script_tells_what_it_did
-    sweep mvd_sync_tests refused_growth::a_refused_allocation_leaves_old_states_or_joins "$1"
+    sweep mvd_site_tests refused_growth::a_refused_allocation_leaves_old_states_or_joins "$1"
 }
 
 well=0

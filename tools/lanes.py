@@ -4,13 +4,12 @@
 usage, at the repository's top: tools/lanes.py COSTS [PROCESSORS..]
 
 COSTS is what tools/gate_costs.py writes: a line `CRATE PROOF EDITS TESTS` for each crate, in processor seconds. The gate's order is
-followed: a crate's proof and its tests wait for the proofs below it, its edits for both; what has the longest chain of lines behind it goes
-first; a proof gets up to four idle processors; as many run side by side as memory holds, by the size of the crate, roughly. Building
-and running what was proved is put at four minutes."""
+followed, with one job for each proof: a crate's proof and its tests wait for the proofs below it, its edits for both, and for a proof
+that is made for them; what has the longest chain of lines behind it goes first, edits last. Building and running what was proved is put
+at four minutes."""
 import glob
 import sys
 
-MEMORY = 19.7
 LAST = 240
 
 
@@ -41,7 +40,7 @@ def count(name, pattern):
 
 
 LINES = {name: count(name, "src/**/*.rt") for name in BELOW_OF}
-NEED = {name: 1 + LINES[name] / 1000 + count(name, "**/*.antt") / 5000 + sum(LINES[it] for it in below(name)) / 12500 for name in BELOW_OF}
+EDITS = {name: len(glob.glob(f"crates/{name}/must-fail/*.edit")) for name in BELOW_OF}
 
 
 def read_costs(file):
@@ -61,36 +60,35 @@ def tasks_of(costs):
         under = [(it, "proof") for it in below(name)]
         tasks[name, "proof"] = under, LINES[name], proof
         tasks[name, "tests"] = under, LINES[name] * (tests > 0), tests
-        tasks[name, "edits"] = [(name, "proof"), (name, "tests")], LINES[name] * (edits > 0), edits
+        # (two edits or more are tried over a proof that is made for them)
+        seed = min(proof, 0.7 * edits) if EDITS[name] > 1 else 0
+        tasks[name, "seed"] = under, 0, seed
+        for number in range(EDITS[name]):
+            after = [(name, "proof"), (name, "tests"), (name, "seed")]
+            tasks[name, f"edit {number}"] = after, LINES[name], (edits - seed) / EDITS[name]
     return tasks
 
 
-def by_chain(tasks):
-    """The tasks, those with the longest chain of lines behind them first."""
+def in_order(tasks):
+    """The tasks, those with the longest chain of lines behind them first, and edits last."""
     behind = dict.fromkeys(tasks, 0)
     for key in reversed(tasks):
         behind[key] += tasks[key][1]
         for it in tasks[key][0]:
             behind[it] = max(behind[it], behind[key])
-    return sorted(tasks, key=lambda key: -behind[key])
+    return sorted(tasks, key=lambda key: (key[1] not in ("proof", "tests"), -behind[key]))
 
 
 def minutes(tasks, lanes):
-    left, running, done, now = by_chain(tasks), [], set(), 0.0
+    left, running, done, now = in_order(tasks), [], set(), 0.0
     while left or running:
         ready = [key for key in left if all(it in done for it in tasks[key][0])]
-        for at, key in enumerate(ready):
-            idle = lanes - sum(jobs for _, _, jobs in running)
-            room = MEMORY - sum(NEED[it[0]] * (0.4 + 0.6 * jobs) for _, it, jobs in running)
-            if idle <= 0 or running and NEED[key[0]] > room:
-                continue
+        for key in ready[: lanes - len(running)]:
             left.remove(key)
-            share = 1 if key[1] == "edits" else max(1, min(4, idle // (len(ready) - at), 1 + int((room / NEED[key[0]] - 1) / 0.6)))
-            running.append((now + tasks[key][2] / (0.25 + 0.75 * share), key, share))
-        ended = min(running)
-        now = ended[0]
-        running.remove(ended)
-        done.add(ended[1])
+            running.append((now + tasks[key][2], key))
+        now, key = min(running)
+        running.remove((now, key))
+        done.add(key)
     return (now + LAST) / 60
 
 

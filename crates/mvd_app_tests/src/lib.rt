@@ -1,8 +1,6 @@
-//! Tests of the commands: inputs, a connection within one process, links, shells, hints, and the example.
+//! Tests of the commands: inputs, a connection within one process, links, shells, and hints.
 #![tactic(auto)]
 
-#[cfg(test)]
-mod examples;
 #[cfg(test)]
 mod hints;
 #[cfg(test)]

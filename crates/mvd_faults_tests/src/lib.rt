@@ -1,5 +1,5 @@
-//! Tests of a stored site: its connections, one by one and many at once, and faults of its streams, its bytes, its
-//! records, its store and its memory.
+//! Tests of a stored site: its connections, one by one and many at once, faults of its streams, its bytes, its records,
+//! its store and its memory, and what the example of its use prints.
 #![tactic(auto)]
 
 #[cfg(test)]
@@ -8,6 +8,8 @@ mod asked_sites;
 mod clients;
 #[cfg(test)]
 mod damaged;
+#[cfg(test)]
+mod examples;
 #[cfg(test)]
 mod file_calls;
 #[cfg(test)]

@@ -17,17 +17,11 @@ const BERGEN: &str = "{\"city\":\"Bergen\"}";
 const BOTH: &str = "{\"city\":\"Oslo\",\"was\":\"Bergen\"}";
 
 /// Two sites write to one key, and one of them resolves it. It prints the documents that are read, and how many keys each session
-/// exchanged.
-pub fn run(alloc: Global, out: &mut String) -> Result<(), Refusal> {
-    let mut desk = opened(alloc, 1)?;
-    let mut phone = opened(alloc, 2)?;
-    write_and_meet(alloc, &mut desk, &mut phone, out)
-}
-
-fn write_and_meet<S: Alter>(
+/// exchanged. Each replica is one that `opened` gives, or one of a file.
+pub fn run<S: Alter, T: Alter>(
     alloc: Global,
     desk: &mut Replica<S>,
-    phone: &mut Replica<S>,
+    phone: &mut Replica<T>,
     out: &mut String,
 ) -> Result<(), Refusal> {
     put(alloc, desk, "ada", Context::new(alloc), OSLO)?;
@@ -43,7 +37,7 @@ fn write_and_meet<S: Alter>(
 }
 
 /// A replica with an index, in memory. In a file it is that of `open_file(rt, "notes.db", Unknown, config)`.
-fn opened(alloc: Global, site: u32) -> Result<Replica<MemStore>, Refusal>
+pub fn opened(alloc: Global, site: u32) -> Result<Replica<MemStore>, Refusal>
     requires { 0 < site }
 {
     let mut defs = Defs::new(alloc);
@@ -114,10 +108,10 @@ fn print_places(places: &[Place], out: &mut String) -> Result<(), Refusal> {
 }
 
 /// A session: afterwards both hold all that one of them held.
-fn meet<S: Alter>(
+fn meet<S: Alter, T: Alter>(
     alloc: Global,
     local: &mut Replica<S>,
-    peer: &mut Replica<S>,
+    peer: &mut Replica<T>,
     out: &mut String,
 ) -> Result<(), Refusal> {
     match sync(alloc, local, peer) {

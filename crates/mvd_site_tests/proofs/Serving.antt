@@ -30,7 +30,7 @@ use Rattle.mvd_site.specs.FromStates.{Answered, AnswersFrom, Broke, after_from, 
 use Rattle.mvd_site.specs.Held.{AreHeld, States, state_at}
 use Rattle.mvd_site.specs.Known.{IsValidRequest}
 use Rattle.mvd_site.specs.Sites.{SiteValue}
-use Rattle.mvd_sync_tests.specs.Serving.{TakesOne, far_at}
+use Rattle.mvd_site_tests.specs.Serving.{TakesOne, far_at}
 use Rattle.mvd_remote.specs.Lines.{AreFrames, Far, IsNext, TakesAll, TakesFirst, TrueReplies, TrueReply}
 use Rattle.mvd_peer.specs.PushedStates.{pushed}
 use Rattle.mvd_peer.specs.Sides.{is_of_question}

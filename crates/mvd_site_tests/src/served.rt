@@ -3,7 +3,7 @@ ghost use Rattle.std.specs.Prelude.{◌≡◌, None, []};
 ghost use Rattle.mvd_site.specs.Held.{AreHeld};
 ghost use Rattle.mvd_site.specs.Known.{IsValidRequest};
 ghost use Rattle.mvd_remote.specs.Lines.{TrueReply};
-ghost use Rattle.mvd_sync_tests.specs.Serving.{TakesOne, far_at};
+ghost use Rattle.mvd_site_tests.specs.Serving.{TakesOne, far_at};
 ghost use Rattle.mvd_wire.specs.declared.request.Request.{Request};
 ghost use Rattle.mvd_wire.specs.Replies.{CanBeSent};
 ghost use Rattle.mvd_wire.specs.Requests.{SpellsRequest};

@@ -37,16 +37,17 @@ enum Work {
     Sync(SocketAddr, u32, bool),
 }
 
-/// Runs an order, from standard input where it reads, and to standard output. A file that it opens holds what `start` names. It
-/// gives that file and its log back, closed; or `start`, where it opened none: the order works on no file, or nothing was to be
-/// written into one that is missing.
+/// Runs an order, from standard input where it reads, and to standard output. A file that it opens holds what `start`
+/// names. It gives that file and its log back, closed; or `start`, where it opened none: the order works on no file,
+/// or nothing was to be written into one that is missing.
 pub fn run<'a, S: Start>(
     rt: &'a HostRuntime,
     order: Order<'a>,
     start: S,
 ) -> Result<Outcome<FileFrom<S>, S>, Stop<'a>>
     requires { IsInRange order }
-    // If it ends well, and the files are clean, no write is lost that they held, of either version; and new files hold the site.
+    // If it ends well, and the files are clean, no write is lost that they held, of either version; and new files
+    // hold the site.
     ensures kept { IfOk result (GivesBack ⟦<FileFrom<S> as Disk>⟧ (image_at S.Start) start (stored_site order.entry)) }
     // A server has opened its file.
     ensures served { IfOk result (HasServed order.entry) }
@@ -137,9 +138,10 @@ fn run_unserved<'a, S: Start>(
     }
 }
 
-/// Opens the site that a file holds, which is made where it is missing, works on it, and closes it: what the log holds is copied
-/// into the file, and both are given back. It is proved for whatever stands in the file; `start` names that, and no code reads
-/// it. Where the site broke on the way the program stops with `Broken`: what was stored stands in the log.
+/// Opens the site that a file holds, which is made where it is missing, works on it, and closes it: what the log
+/// holds is copied into the file, and both are given back. It is proved for whatever stands in the file; `start`
+/// names that, and no code reads it. Where the site broke on the way the program stops with `Broken`: what was stored
+/// stands in the log.
 fn run_stored<'a, S: Start>(
     rt: &HostRuntime,
     db: &'a str,
@@ -147,7 +149,8 @@ fn run_stored<'a, S: Start>(
     work: Work,
     start: S,
 ) -> Result<Outcome<FileFrom<S>, S>, Stop<'a>>
-    // If it ends well, and the files are clean, no write is lost that they held, of either version; and new files hold the site.
+    // If it ends well, and the files are clean, no write is lost that they held, of either version; and new files
+    // hold the site.
     ensures kept { IfOk result (GivesBack ⟦<FileFrom<S> as Disk>⟧ (image_at S.Start) start (Some config.site)) }
     // It has opened the file.
     ensures opened { IfOk result HasFile }

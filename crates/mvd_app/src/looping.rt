@@ -15,12 +15,12 @@ use std::fmt::Write as Print;
 use std::io::{self, BufReader, ErrorKind, Read, Write};
 use std::net::{IpAddr, Ipv4Addr, Net, OpenListener, OpenStream, Shutdown, SocketAddr};
 
-/// Answers the requests that the reader's lines spell in hexadecimal, and writes each reply as such a line, and then how the
-/// connection ended. The client sends all before the server begins, and reads once the server has closed. The states are stored
-/// in memory.
+/// Answers the requests that the reader's lines spell in hexadecimal, and writes each reply as such a line, and then
+/// how the connection ended. The client sends all before the server begins, and reads once the server has closed. The
+/// states are stored in memory.
 ///
-/// It ends as `hex_bytes` does where the lines are at fault, and else as `Stopped`: with `FrameTooLong` where the replies have over
-/// 32,768 bytes, and with `ReadFailed` where the connection cannot be made.
+/// It ends as `hex_bytes` does where the lines are at fault, and else as `Stopped`: with `FrameTooLong` where the
+/// replies have over 32,768 bytes, and with `ReadFailed` where the connection cannot be made.
 pub fn loop_run<N: Net, R: Read, W: Write>(
     rt: &N,
     alloc: Global,
@@ -107,7 +107,8 @@ fn served<R: Read, W: Write>(
     Ok(ended)
 }
 
-/// Sends the replies, unless there are too many, and closes. What was left unread is read first: a stream that is closed with bytes unread may lose what it sent.
+/// Sends the replies, unless there are too many, and closes. What was left unread is read first: a stream that is
+/// closed with bytes unread may lose what it sent.
 fn send<S: Read + Write + Drop>(
     mut server: BufReader<S>,
     replies: &Replies,

@@ -7,8 +7,8 @@ use std::io::{self, BufReader, BufWriter, Read, Write};
 /// The most bytes that are read at once, and that may wait to be sent.
 const PIECE: usize = 65_536;
 
-/// A stream to a peer, with what waits to be sent. So the replies to many requests that came at once leave at once, and none of
-/// them waits while the peer's next bytes are waited for.
+/// A stream to a peer, with what waits to be sent. So the replies to many requests that came at once leave at once,
+/// and none of them waits while the peer's next bytes are waited for.
 #[derive(Drop)]
 pub struct Link<S: Read + Write + Drop> {
     stream: RefCell<BufWriter<S>>,

@@ -38,7 +38,8 @@ pub fn connected<N: Net>(rt: &N, address: SocketAddr, idle: u32) -> io::Result<N
     Ok(stream)
 }
 
-/// Runs a session with the server at an address, and says Bye. Where `told` is given, it is told how far the session is.
+/// Runs a session with the server at an address, and says Bye. Where `told` is given, it is told how far the session
+/// is.
 #[tactic(auto, using(crate::proofs::Syncing::pushed_none))]
 pub fn sync_run<'a, N: Net, S: Alter + Drop, E: Write>(
     rt: &N,
@@ -82,8 +83,8 @@ fn sync_stream<T: Read + Write + Drop, S: Alter + Drop, E: Write>(
     sync_over(alloc, replica, &mut watched)
 }
 
-/// Runs a session over a line, and says Bye. Where the line is true, what is at its other end is a true side: both sides' states
-/// are joined, and where no fault is told all that differed, but for the keys that the report names.
+/// Runs a session over a line, and says Bye. Where the line is true, what is at its other end is a true side: both
+/// sides' states are joined, and where no fault is told all that differed, but for the keys that the report names.
 pub fn sync_over<L: Line, S: Alter + Drop, E: Write>(
     alloc: Global,
     replica: &mut Replica<S>,
@@ -104,8 +105,9 @@ pub fn sync_over<L: Line, S: Alter + Drop, E: Write>(
     }
 }
 
-/// Tells how many keys a session exchanged, how many were refused, and the root digest; and on `errors` which keys were refused,
-/// and whether the file was older than what the server saw of it. Keys that were refused are what the command is stopped with.
+/// Tells how many keys a session exchanged, how many were refused, and the root digest; and on `errors` which keys
+/// were refused, and whether the file was older than what the server saw of it. Keys that were refused are what the
+/// command is stopped with.
 pub fn tell_report<'a, S: Alter + Drop, W: Write, E: Write>(
     alloc: Global,
     replica: &Replica<S>,
@@ -113,7 +115,8 @@ pub fn tell_report<'a, S: Alter + Drop, W: Write, E: Write>(
     writer: &mut W,
     errors: &mut E,
 ) -> Result<(), Stop<'a>>
-    ensures told { Reports report.now (site_of replica.now).states (W.contents writer.old) (W.contents writer.new) result }
+    ensures told { Reports report.now (site_of replica.now).states (W.contents writer.old)
+        (W.contents writer.new) result }
     ensures left { report.now.first_refused ≢ [] → IsErr result }
 {
     tell_counts(alloc, replica, report, writer)?;
@@ -183,8 +186,8 @@ fn add_root<S: Alter + Drop>(
     Ok(print_root(alloc, digests.own, lines)?)
 }
 
-/// Answers the lines through the server at an address, and says Bye at their end. Where the connection was lost, each later line is
-/// refused so, and so is the Bye.
+/// Answers the lines through the server at an address, and says Bye at their end. Where the connection was lost, each
+/// later line is refused so, and so is the Bye.
 pub fn remote_shell_run<'a, N: Net, R: BufRead, W: Write>(
     rt: &N,
     alloc: Global,

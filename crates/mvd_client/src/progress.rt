@@ -12,8 +12,8 @@ use std::io::Write;
 /// So many states come or go between two lines.
 const STEP: u64 = 1_000;
 
-/// A side of a session, of which a writer is told after each thousand states how many it gave or took. A line that cannot be
-/// written is left out.
+/// A side of a session, of which a writer is told after each thousand states how many it gave or took. A line that
+/// cannot be written is left out.
 #[derive(Drop)]
 pub struct Watched<'a, P: Peer + Drop, E: Write> {
     pub side: P,

@@ -7,14 +7,16 @@ ghost use Rattle.mvd_wire.specs.Frames.{FrameValue};
 ghost use Rattle.mvd_conn.specs.History.{History, is_bye};
 ghost use Rattle.mvd_conn.specs.Stands.{Stands};
 
-/// Of two connections to which the same bytes came, in whatever pieces, and to one of them perhaps more, the frames that
-/// the one has taken are the first that the other has.
+/// Of two connections to which the same bytes came, in whatever pieces, and to one of them perhaps more, the frames
+/// that the one has taken are the first that the other has.
 pub fn one_course()
-    ensures { (a b : History) (more : List ℕ) → Stands a → Stands b → b.came ≡ a.came ++ more → length a.taken ≤ length b.taken → (rest : List FrameValue) × (b.taken ≡ a.taken ++ rest) }
+    ensures { (a b : History) (more : List ℕ) → Stands a → Stands b → b.came ≡ a.came ++ more →
+        length a.taken ≤ length b.taken → (rest : List FrameValue) × (b.taken ≡ a.taken ++ rest) }
 {}
 
 /// The frame after which none is taken is the one that asks for a Bye.
 pub fn one_bye()
     ensures asks { (f : FrameValue) → is_bye f ≡ true → request_of f.kind f.payload ≡ Ok Bye }
-    ensures alone { (f : FrameValue) → All (λ b. b < 256) f.payload → request_of f.kind f.payload ≡ Ok Bye → is_bye f ≡ true }
+    ensures alone { (f : FrameValue) → All (λ b. b < 256) f.payload →
+        request_of f.kind f.payload ≡ Ok Bye → is_bye f ≡ true }
 {}

@@ -5,8 +5,8 @@ ghost use Rattle.mvd_count.specs.Counted.{RoseBy, counted};
 use mvd_start::Start;
 use std::marker::{Model, PhantomData};
 
-/// How much of a kind of work was done. A count that is full, at `2^64 - 1`, stays there. No count can stand in the place
-/// of one of another kind.
+/// How much of a kind of work was done. A count that is full, at `2^64 - 1`, stays there. No count can stand in the
+/// place of one of another kind.
 #[derive(Drop)]
 pub struct Count<K> {
     made: u64,

@@ -166,7 +166,8 @@ impl Context {
     pub fn add_entry(&mut self, site: u32, base: u64, loose: &[u64]) -> Result<(), Refusal>
         requires form { IsEntry (record { site = site; base = base; loose = loose.now }) }
         requires above { (held n : ℕ) → Holds self.old held n → held < site }
-        ensures ok { OnOk result (self.new ≡ set.union self.old (entry_dots (record { site = site; base = base; loose = loose.now }))) }
+        ensures ok { OnOk result (self.new ≡
+            set.union self.old (entry_dots (record { site = site; base = base; loose = loose.now }))) }
         ensures unchanged { OnErr result (self.new ≡ self.old) }
         ensures memory { IsOkUnless result Refusal.Memory }
     {
@@ -233,8 +234,10 @@ impl Context {
 
 /// A set has one list of entries and one text, and no other set has these.
 pub fn one_form()
-    ensures of_entries { (es : List EntryValue) → AreEntries es → AreInRange (set_of es) × (entries_of (set_of es) ≡ es) }
-    ensures of_set { (dots : DotSet) → AreInRange dots → AreEntries (entries_of dots) × (set_of (entries_of dots) ≡ dots) }
+    ensures of_entries { (es : List EntryValue) → AreEntries es →
+        AreInRange (set_of es) × (entries_of (set_of es) ≡ es) }
+    ensures of_set { (dots : DotSet) → AreInRange dots →
+        AreEntries (entries_of dots) × (set_of (entries_of dots) ≡ dots) }
     ensures entries { (s t : DotSet) → AreInRange s → AreInRange t → (s ≡ t) ↔ (entries_of s ≡ entries_of t) }
     ensures texts { (s t : DotSet) → AreInRange s → AreInRange t → (s ≡ t) ↔ (text_of s ≡ text_of t) }
 {}
@@ -243,8 +246,10 @@ pub fn one_form()
 /// loose counters are those above the base, rising.
 pub fn bases_and_loose()
     ensures base { (dots : DotSet) (site : ℕ) → AreInRange dots → IsBaseOf dots site (base_of dots site) }
-    ensures loose { (dots : DotSet) (site n : ℕ) → AreInRange dots → Among (loose_of dots site) n ↔ (base_of dots site < n) × Holds dots site n }
-    ensures rising { (dots : DotSet) (site : ℕ) → AreInRange dots → RisesAbove (base_of dots site) (loose_of dots site) }
+    ensures loose { (dots : DotSet) (site n : ℕ) → AreInRange dots →
+        Among (loose_of dots site) n ↔ (base_of dots site < n) × Holds dots site n }
+    ensures rising { (dots : DotSet) (site : ℕ) → AreInRange dots →
+        RisesAbove (base_of dots site) (loose_of dots site) }
 {}
 
 /// The greatest counter of a site bounds its counters, and is one of them or 0. That of a union is
@@ -252,7 +257,8 @@ pub fn bases_and_loose()
 pub fn greatest_counter()
     ensures bound { (dots : DotSet) (site n : ℕ) → Holds dots site n → n ≤ greatest site dots }
     ensures attained { (dots : DotSet) (site : ℕ) → 0 < greatest site dots → Holds dots site (greatest site dots) }
-    ensures union { (s t : DotSet) (site : ℕ) → greatest site (set.union s t) ≡ max (greatest site s) (greatest site t) }
+    ensures union { (s t : DotSet) (site : ℕ) →
+        greatest site (set.union s t) ≡ max (greatest site s) (greatest site t) }
 {}
 
 /// How many entries are of a lower site.

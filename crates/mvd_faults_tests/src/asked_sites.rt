@@ -1,7 +1,7 @@
 //! Requests to sites, each with its reply, in hexadecimal digits.
 
-/// Sites, with a `#` between two: of each a line with its number and whether its records are new or of version 1, and a line for
-/// each request, with its reply.
+/// Sites, with a `#` between two: of each a line with its number and whether its records are new or of version 1, and
+/// a line for each request, with its reply.
 pub const ASKED: &str = "\
 1 new
 0000001222016b00000000000000077b2276223a317d 0000000da2000000010000000000000001

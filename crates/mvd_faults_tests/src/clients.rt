@@ -1,5 +1,5 @@
-//! Many clients at once: their bytes come and leave in pieces and orders that a seed determines, and what they are told is what one
-//! replica answers to one sequence of requests.
+//! Many clients at once: their bytes come and leave in pieces and orders that a seed determines, and what they are
+//! told is what one replica answers to one sequence of requests.
 use super::host_calls::{admit_all, feed, round, take};
 use super::random_frames::{Random, below};
 use super::replica_calls::{
@@ -33,8 +33,8 @@ const ASKED: [&str; 10] = [
     WIDE,
 ];
 
-/// A client: what it asks, how much of that came, how many requests were taken, and where the last of them ends; what it was told,
-/// and what it should be.
+/// A client: what it asks, how much of that came, how many requests were taken, and where the last of them ends; what
+/// it was told, and what it should be.
 #[derive(Drop)]
 struct Client {
     asked: [&'static str; REQUESTS],
@@ -132,7 +132,8 @@ fn step<S: Alter + Drop, T: Alter + Drop>(
     }
 }
 
-/// How many bytes clients are told together; `None` where one has not all that it should have been told, or not all was asked.
+/// How many bytes clients are told together; `None` where one has not all that it should have been told, or not all
+/// was asked.
 fn told_to(clients: &[Client]) -> Option<usize> {
     let mut bytes = 0usize;
     if clients.len() != CLIENTS as usize {
@@ -177,7 +178,8 @@ fn told_by<S: Alter + Drop, T: Alter + Drop>(
     told
 }
 
-/// The same beside a replica that was made; `None` where they are others than one sequence gives, or the two have not one root.
+/// The same beside a replica that was made; `None` where they are others than one sequence gives, or the two have not
+/// one root.
 fn told_beside<S: Alter + Drop>(
     alloc: Global,
     seed: u64,

@@ -65,7 +65,8 @@ CREATE TABLE meta (key TEXT, value TEXT); CREATE TABLE urls (url TEXT); INSERT I
 CREATE TABLE states (id INTEGER PRIMARY KEY, state TEXT); CREATE TABLE events (id INTEGER PRIMARY KEY);
 ";
 
-/// A change of a file: in each of its bytes from one on and before another there is this byte; and the file ends after so many bytes.
+/// A change of a file: in each of its bytes from one on and before another there is this byte; and the file ends
+/// after so many bytes.
 type Change = (usize, usize, u8, usize);
 
 /// These bytes after a change.
@@ -80,7 +81,8 @@ fn changed(alloc: Global, bytes: &[u8], change: Change) -> Vec<u8> {
     copy
 }
 
-/// Why the records in a file of these bytes are refused, if they are; and whether they are so again, and the file stays as it is.
+/// Why the records in a file of these bytes are refused, if they are; and whether they are so again, and the file
+/// stays as it is.
 fn found_in(alloc: Global, bytes: &[u8]) -> Result<(Option<Refusal>, bool), Refusal> {
     let files = files_with(alloc, bytes, NEVER)?;
     let (once, files) = on_these(alloc, files, (Work::Open, 0));
@@ -102,8 +104,8 @@ fn found_after(
     found
 }
 
-/// Whether the records after these statements are refused as damaged, twice, and stay. The file's journal is of this mode: 1 is a
-/// rollback journal, and 2 a log.
+/// Whether the records after these statements are refused as damaged, twice, and stay. The file's journal is of this
+/// mode: 1 is a rollback journal, and 2 a log.
 fn are_damaged(alloc: Global, statements: &[&str], mode: u8) -> Result<bool, Refusal> {
     let bytes = database(alloc, Work::Statements(statements))?;
     let found = found_after(alloc, bytes.as_slice(), (18, 20, mode, usize::MAX));
@@ -140,8 +142,9 @@ fn damaged_records_are_refused_and_stay(rt: HostRuntime) -> Result<(), Fail> {
 
 const PAGE: usize = 4_096;
 
-/// How many changes of a file there are, and how many of them make it refused: of each page, zeros in it, a cut at its beginning, and one
-/// a little later; and two files of one value, up to the end of the page and up to some place in it.
+/// How many changes of a file there are, and how many of them make it refused: of each page, zeros in it, a cut at
+/// its beginning, and one a little later; and two files of one value, up to the end of the page and up to some place
+/// in it.
 fn refused_changes(alloc: Global, bytes: &[u8]) -> Result<(usize, usize), Refusal> {
     let mut tried = 0usize;
     let mut refused = 0usize;

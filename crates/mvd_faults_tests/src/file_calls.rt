@@ -84,7 +84,8 @@ pub enum Work<'a> {
     Puts(&'a [&'a str]),
     /// Three clients of a host send them, one each in a round, which are answered at once.
     Rounds(&'a [&'a str]),
-    /// A session with another replica, with as many questions to each side as are asked for: as its local side, and as the peer.
+    /// A session with another replica, with as many questions to each side as are asked for: as its local side, and
+    /// as the peer.
     Local,
     Peer,
 }
@@ -156,7 +157,8 @@ fn does<S: Alter + Drop, T: Alter + Drop>(
     }
 }
 
-/// What work came to: why no replica was opened, or a statement was not run; the root before it, how much was done, and the root then.
+/// What work came to: why no replica was opened, or a statement was not run; the root before it, how much was done,
+/// and the root then.
 #[derive(Clone, Copy)]
 pub struct Course {
     pub refusal: Option<Refusal>,
@@ -223,7 +225,8 @@ fn on_open<D: Disk + Drop, T: Alter + Drop>(
     (course, closed(conn))
 }
 
-/// Does work, so much of it, on the records that two files hold, beside another replica, and gives the files as they are then.
+/// Does work, so much of it, on the records that two files hold, beside another replica, and gives the files as they
+/// are then.
 pub fn on_files<D: Disk + Drop, T: Alter + Drop>(
     alloc: Global,
     files: Files<D>,

@@ -56,7 +56,8 @@ pub fn round<S: Alter>(host: &mut Host, replica: &mut Replica<S>, ready: &[u64])
     let _ = host.round(replica, ready, &mut Tally::new());
 }
 
-/// Sends these frames, one of each of the first three clients, which are answered at once. It is done again where memory was refused.
+/// Sends these frames, one of each of the first three clients, which are answered at once. It is done again where
+/// memory was refused.
 fn send<S: Alter>(host: &mut Host, replica: &mut Replica<S>, frames: &[&str]) {
     for (client, frame) in (0..3u64).zip(frames) {
         let bytes = Bytes::of(&[frame]);
@@ -69,7 +70,8 @@ fn send<S: Alter>(host: &mut Host, replica: &mut Replica<S>, frames: &[&str]) {
     }
 }
 
-/// What three new clients are told, who send these frames, one each in a round: one client's replies behind those of another.
+/// What three new clients are told, who send these frames, one each in a round: one client's replies behind those of
+/// another.
 pub fn told_by_three<S: Alter>(alloc: Global, replica: &mut Replica<S>, frames: &[&str]) -> Bytes {
     let mut output = Bytes::of(&[]);
     let mut host = Host::new(alloc);

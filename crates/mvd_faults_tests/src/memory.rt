@@ -40,7 +40,8 @@ fn line_is_answered<S: Alter + Drop>(alloc: Global, replica: &mut Replica<S>, li
     matches!(asks(alloc, replica, request, wanted), Told::Wanted)
 }
 
-/// The number of the first line, from one on, that a replica answers otherwise; how many there are where it answers all as it should.
+/// The number of the first line, from one on, that a replica answers otherwise; how many there are where it answers
+/// all as it should.
 fn answered<S: Alter + Drop>(
     alloc: Global,
     replica: &mut Replica<S>,
@@ -113,7 +114,8 @@ const PUT_AT_B: &str =
 
 const ROW: &str = "0000000f2500057370656e640400044f736c6f";
 
-/// The frames of all pairs on one connection, and those of three clients: the puts share a round, and so do the questions.
+/// The frames of all pairs on one connection, and those of three clients: the puts share a round, and so do the
+/// questions.
 const AT_ONCE: [&str; 6] = [PUT, GET, PUT_AT_A, FIND, PUT_AT_B, ROW];
 
 const IN_ROUNDS: [&str; 6] = [PUT, PUT_AT_A, PUT_AT_B, GET, FIND, ROW];
@@ -137,9 +139,9 @@ const PAIRS: [Pair; 3] = [
     ),
 ];
 
-/// Whether a put and the question behind it may be answered so, where the put is there afterwards or not. The put that breaks the
-/// site is there; of those behind it only such as share its commit may be. Where puts share a commit, a later one may break the site
-/// before the question is asked.
+/// Whether a put and the question behind it may be answered so, where the put is there afterwards or not. The put
+/// that breaks the site is there; of those behind it only such as share its commit may be. Where puts share a commit,
+/// a later one may break the site before the question is asked.
 fn may_tell(put: Told, question: Told, is_there: bool, was_broken: bool, shares: bool) -> bool {
     match (put, question) {
         (Told::Wanted, Told::Wanted | Told::Refused | Told::Nothing) => is_there,

@@ -18,8 +18,8 @@ pub fn below(random: &mut Random, limit: u64) -> u64 {
     (x >> 11).checked_rem(limit).unwrap_or(0)
 }
 
-// The forms of a piece of a payload, a line each: what is often there, what is at a limit, and what is none. A form is bytes in
-// hexadecimal digits; behind a `+`, so many letters; behind a second one, bytes at the end.
+// The forms of a piece of a payload, a line each: what is often there, what is at a limit, and what is none. A form
+// is bytes in hexadecimal digits; behind a `+`, so many letters; behind a second one, bytes at the end.
 
 const KEY: &str = "\
 0161
@@ -146,7 +146,8 @@ const SIBLINGS: &str = "\
 0002
 ";
 
-/// The payload of each kind of request, in each of its shapes, a letter for a piece; and frames that are no request. A Bye is the last.
+/// The payload of each kind of request, in each of its shapes, a letter for a piece; and frames that are no request.
+/// A Bye is the last.
 const KINDS: &str = "\
 21 k
 22 kcd
@@ -260,8 +261,8 @@ const FRAMES: u32 = 40;
 /// Each second connection has frames that are damaged as a whole, with their lengths.
 const CONNECTIONS: u32 = 250;
 
-/// How many of such frames a connection answers, which is all, or those up to a Bye, unless frames are damaged as a whole; `None` where
-/// it ends otherwise, or another byte is among the replies.
+/// How many of such frames a connection answers, which is all, or those up to a Bye, unless frames are damaged as a
+/// whole; `None` where it ends otherwise, or another byte is among the replies.
 fn answered<S: Alter + Drop>(
     alloc: Global,
     random: &mut Random,

@@ -1,5 +1,5 @@
-//! A replica, its connections, and frames in hexadecimal digits. What is asked and answered here stands in arrays, so it takes no
-//! memory.
+//! A replica, its connections, and frames in hexadecimal digits. What is asked and answered here stands in arrays, so
+//! it takes no memory.
 use super::stream_ways::{ALL, Stream, Ways};
 use mvd_docs::{Field, ViewName};
 use mvd_dots::Refusal;
@@ -101,7 +101,8 @@ pub fn first_frame(bytes: &[u8]) -> (&[u8], &[u8]) {
     bytes.split_at(len.min(bytes.len()))
 }
 
-/// How many replies these bytes are, and how many of them are a dot; and how many bytes are left from the first on that is no reply.
+/// How many replies these bytes are, and how many of them are a dot; and how many bytes are left from the first on
+/// that is no reply.
 pub fn counted(output: &[u8]) -> (usize, usize, usize) {
     let mut rest = output;
     let mut replies = 0usize;

@@ -6,17 +6,19 @@ use std::alloc::Global;
 use std::test::Fail;
 use std::time::Instant;
 
-/// Sites, with a `#` between two. The first line of each has its number, and rows: how many, and of each the bytes before its
-/// number and those behind it; the numbers are the multiples of the word between. Each other line is a request: its bytes behind
-/// its length, up to where rows may stand in it and from there on; whether the rows stand `in` it, `behind` its frame, or nowhere;
-/// what the site says (the kind of its first reply or the number of a refusal, how many bytes its replies are together, and how
-/// the connection ends); and a name. Bytes are hexadecimal digits, or `-` where there are none.
+/// Sites, with a `#` between two. The first line of each has its number, and rows: how many, and of each the bytes
+/// before its number and those behind it; the numbers are the multiples of the word between. Each other line is a
+/// request: its bytes behind its length, up to where rows may stand in it and from there on; whether the rows stand
+/// `in` it, `behind` its frame, or nowhere; what the site says (the kind of its first reply or the number of a
+/// refusal, how many bytes its replies are together, and how the connection ends); and a name. Bytes are hexadecimal
+/// digits, or `-` where there are none.
 ///
-/// The first site holds at the key `k` as many siblings of the shortest document, `{}`, as have room in a state, 63,887: all but
-/// one are delivered, and one is put. The second one is given a context of 70,000 loose counters of site 2, which are 560,036
-/// bytes with the dot 1:1. The third one gets the state that this leaves, and deletes by its context. The others are asked a
-/// question, behind which there are a million frames of no kind, which is one frame more than a connection may have; a frame that
-/// is too long; the half of a frame; and a Bye with bytes behind it.
+/// The first site holds at the key `k` as many siblings of the shortest document, `{}`, as have room in a state,
+/// 63,887: all but one are delivered, and one is put. The second one is given a context of 70,000 loose counters of
+/// site 2, which are 560,036 bytes with the dot 1:1. The third one gets the state that this leaves, and deletes by
+/// its context. The others are asked a question, behind which there are a million frames of no kind, which is one
+/// frame more than a connection may have; a frame that is too long; the half of a frame; and a Bye with bytes behind
+/// it.
 const ASKED: &str = "\
 2 63886 00000002 1 000000027b7d
 29016b0000000100000002000000000000f98e00000000f98e - in a3 5 end delivered
@@ -102,7 +104,8 @@ fn kind_of(output: &[u8]) -> u8 {
     }
 }
 
-/// What a site says to a request: the kind of its first reply, how many bytes its replies are, and how the connection ends.
+/// What a site says to a request: the kind of its first reply, how many bytes its replies are, and how the connection
+/// ends.
 fn said<S: Alter + Drop>(
     alloc: Global,
     replica: &mut Replica<S>,

@@ -21,7 +21,8 @@ struct Run {
     theirs: u8,
     /// How much is done when all of it is.
     whole: usize,
-    /// After how many puts a commit ends; of a run without puts none. In rounds, a put at a key of its round begins another.
+    /// After how many puts a commit ends; of a run without puts none. In rounds, a put at a key of its round begins
+    /// another.
     commits: &'static [usize],
     /// Fewer calls of the log suffice.
     most: u64,
@@ -112,11 +113,12 @@ fn revived(mut files: Files<Stopping>) -> Files<Stopping> {
     files
 }
 
-/// What a run came to, and what an open then, with one more session where the run is one; and the root of the other side.
+/// What a run came to, and what an open then, with one more session where the run is one; and the root of the other
+/// side.
 type Left = (Course, Course, Root);
 
-/// Does so much of a run, on files that begin with these bytes, of which one stops. When the machine is back the files are opened, and
-/// a session is held once more.
+/// Does so much of a run, on files that begin with these bytes, of which one stops. When the machine is back the
+/// files are opened, and a session is held once more.
 fn left_beside<T: Alter + Drop>(
     alloc: Global,
     run: &Run,
@@ -162,7 +164,8 @@ fn run_left(
     left_by(alloc, run, bytes, (most, stop), other)
 }
 
-/// Adds the roots in the course of a run, where nothing stops: of the puts after each, of a session after more and more questions.
+/// Adds the roots in the course of a run, where nothing stops: of the puts after each, of a session after more and
+/// more questions.
 fn add_roots(alloc: Global, run: &Run, bytes: &[u8], roots: &mut Vec<Root>) -> Result<(), Refusal> {
     for most in 0..1_000usize {
         let (ran, _, _) = run_left(alloc, run, bytes, most, NEVER)?;
@@ -174,7 +177,8 @@ fn add_roots(alloc: Global, run: &Run, bytes: &[u8], roots: &mut Vec<Root>) -> R
     Ok(())
 }
 
-/// Whether puts that are answered are there, with those of the next commit or without them: the root is that after so many, or more.
+/// Whether puts that are answered are there, with those of the next commit or without them: the root is that after so
+/// many, or more.
 fn may_keep(run: &Run, roots: &[Root], done: usize, kept: Root) -> bool {
     let mut tried = 0u32;
     for count in run.commits {
@@ -188,8 +192,8 @@ fn may_keep(run: &Run, roots: &[Root], done: usize, kept: Root) -> bool {
     false
 }
 
-/// Whether a run left what it may. Of a session that is a root on its way, or that at its end where it ended well; after one more
-/// session that is what is there at the end, on both sides.
+/// Whether a run left what it may. Of a session that is a root on its way, or that at its end where it ended well;
+/// after one more session that is what is there at the end, on both sides.
 fn may_leave(run: &Run, roots: &[Root], left: &Left) -> bool {
     let (ran, back, other) = left;
     if back.refusal.is_some() {

@@ -5,6 +5,7 @@ use Rattle.mvd_dots.specs.declared.refusals.Refusal.{Refusal}
 use Rattle.mvd_dots.specs.declared.refusals.Refusal.TheVariants.{Damaged, Full, SiteMismatch, Store}
 use Rattle.mvd_input.specs.declared.fault.Fault.TheVariants.{Stopped}
 use Rattle.mvd_records.specs.Calls.{TellsOwner}
+use Rattle.mvd_records.specs.Causes.{NamesNone}
 use Rattle.sqlite.specs.State.{State}
 use Rattle.mvd_hint.specs.declared.hint.Hint.TheVariants as Hint
 use Rattle.mvd_hint.specs.declared.hint.Stop.{Stop}
@@ -24,8 +25,10 @@ pub record TellsRefusal (file : Bor (List ℕ)) (refusal : Refusal) (owner : Opt
   pub other : (site : ℕ) → refusal ≡ SiteMismatch → owner ≡ Some site →
       stop.hint ≡ Some (Hint.OtherSite file site)
 
--- the file is one of ours: the refusal is told, with the site that its marks name
+-- the file is one of ours: the refusal is told, with the site that its marks name; none is named only where they cannot be
+-- read, or name none
 pub record TellsOurs (file : Bor (List ℕ)) (refusal : Refusal) (old new : State) (stop : Stop) : Type 0 where
   pub owner : Option ℕ
   pub named : TellsOwner old new owner
+  pub unnamed : NamesNone old new owner
   pub told : TellsRefusal file refusal owner stop

@@ -12,8 +12,8 @@ use mvd_replica::Replica;
 use sqlite::{FileStore, Files};
 use sqlite_disk::Disk;
 
-/// What a command gives back. A file is opened only where what names it is handed over, and that is not copied. So where it
-/// comes back, no file was opened with it.
+/// What a command gives back. A file is opened only where what names it is handed over, and that is not copied. So
+/// where it comes back, no file was opened with it.
 #[derive(Drop)]
 pub enum Outcome<D: Disk + Drop, S: Drop> {
     /// The file that it worked on and its log, closed.
@@ -22,8 +22,8 @@ pub enum Outcome<D: Disk + Drop, S: Drop> {
     Unopened(S),
 }
 
-/// Closes a stored site that was worked on, unless the work was stopped or broke the site: what was stored then stands in the
-/// log.
+/// Closes a stored site that was worked on, unless the work was stopped or broke the site: what was stored then
+/// stands in the log.
 pub fn finish<'a, D: Disk + Drop, S: Drop>(
     db: &'a str,
     replica: Replica<FileStore<D>>,
@@ -33,7 +33,8 @@ pub fn finish<'a, D: Disk + Drop, S: Drop>(
     // The command is stopped with what the work was stopped with.
     ensures stopped { IfErr worked.entry (λ stop. result ≡ Err stop) }
     // A site that the work broke is told with 22.
-    ensures broken { OnOk worked.entry ((site_of replica).broken ≡ true → IfErr result (λ stop. stop.fault ≡ Stopped Broken)) }
+    ensures broken { OnOk worked.entry ((site_of replica).broken ≡ true →
+        IfErr result (λ stop. stop.fault ≡ Stopped Broken)) }
 {
     if let Err(stop) = worked {
         drop(replica);

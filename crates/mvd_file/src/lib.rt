@@ -1,5 +1,5 @@
-//! What the commands of the program do with the file of a stored site, and with standard input: a missing file is made only where
-//! something is to be stored.
+//! What the commands of the program do with the file of a stored site, and with standard input: a missing file is
+//! made only where something is to be stored.
 #![tactic(auto)]
 
 mod closing;

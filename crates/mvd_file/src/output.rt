@@ -5,8 +5,8 @@ ghost use Rattle.mvd_file.specs.Output.{bytes_in};
 use http_server::Log;
 use std::io::{self, Write};
 
-/// A writer, with all bytes that it took: of the system's standard output proofs know no bytes, of this they do. That takes no
-/// memory.
+/// A writer, with all bytes that it took: of the system's standard output proofs know no bytes, of this they do. That
+/// takes no memory.
 #[derive(Drop)]
 pub struct Output<W> {
     writer: W,

@@ -17,8 +17,8 @@ use std::{fs, io};
 /// Fewer bytes than a log with a page takes: 32 for its head, 24 for that of the page, and 512 for the page.
 const LEAST_LOG: u64 = 568;
 
-/// Why a file was not opened as a site. The open makes a log where there is none. It is removed while the file's lock is still
-/// held, so that nobody else has it open.
+/// Why a file was not opened as a site. The open makes a log where there is none. It is removed while the file's lock
+/// is still held, so that nobody else has it open.
 pub fn unopened<'a, D: Disk + Drop>(
     rt: &HostRuntime,
     file: &'a str,

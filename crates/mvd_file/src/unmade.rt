@@ -43,8 +43,8 @@ pub fn is_missing(rt: &HostRuntime, db: &str) -> io::Result<bool> {
     Ok(!fs::exists(rt, db)? && !fs::exists(rt, log.as_str())? && fs::exists(rt, folder)?)
 }
 
-/// A site, which answers as one without a key until a request changes its states. That request opens the file, which is made
-/// where it is still missing, and from then on the site that the file holds answers.
+/// A site, which answers as one without a key until a request changes its states. That request opens the file, which
+/// is made where it is still missing, and from then on the site that the file holds answers.
 #[derive(Drop)]
 pub struct Unmade<'a, S: Start, T: Alter> {
     rt: &'a HostRuntime,
@@ -178,8 +178,9 @@ fn shell_over<'a, S: Start, R: BufRead, W: Write>(
     }
 }
 
-/// Runs a session of a site whose file is missing, and tells of it. What comes is held in memory; if there is a key among it,
-/// the file is opened, and takes all that is held before anything is told. So it is after a fault of the session.
+/// Runs a session of a site whose file is missing, and tells of it. What comes is held in memory; if there is a key
+/// among it, the file is opened, and takes all that is held before anything is told. So it is after a fault of the
+/// session.
 pub fn sync_unmade<'a, S: Start>(
     rt: &HostRuntime,
     db: &'a str,
@@ -209,8 +210,8 @@ pub fn sync_unmade<'a, S: Start>(
     finish(db, replica, worked)
 }
 
-/// Stores what a session brought, and tells of it. Keys that the stored site refuses are told also where the session itself ended
-/// with a fault, which is what the command is stopped with then.
+/// Stores what a session brought, and tells of it. Keys that the stored site refuses are told also where the session
+/// itself ended with a fault, which is what the command is stopped with then.
 fn stored<'a, S: Alter + Drop>(
     rt: &HostRuntime,
     replica: &mut Replica<S>,
@@ -220,7 +221,8 @@ fn stored<'a, S: Alter + Drop>(
     ensures pushed { FollowsPushed replica.old replica.new }
     // If it ends well and both sites are true, the stored one has all that was held.
     ensures brings { IfOk result (λ _. IsTrueSite (site_of replica.old) → IsTrueSite (site_of held.old) →
-        LeavesNone (before_of (sides_of ⟦<Replica<S> as Peer>⟧ ⟦<Replica<MemStore> as Peer>⟧) (two replica.old held.old))
+        LeavesNone (before_of (sides_of ⟦<Replica<S> as Peer>⟧ ⟦<Replica<MemStore> as Peer>⟧)
+        (two replica.old held.old))
         (after_of (sides_of ⟦<Replica<S> as Peer>⟧ ⟦<Replica<MemStore> as Peer>⟧) (two replica.new held.new))) }
     // It does not end well where the session did not.
     ensures ran { IfErr ran.entry (λ _. IsErr result) }
@@ -248,8 +250,8 @@ fn brought<S: Alter + Drop>(
     held: &mut Replica<MemStore>,
 ) -> Result<Report, SyncFault>
     ensures pushed { FollowsPushed replica.old replica.new }
-    // If both sites are true and it ends with no fault, the stored one then has all that was held, but for the keys that the
-    // report counts; it names the first 100 of them.
+    // If both sites are true and it ends with no fault, the stored one then has all that was held, but for the keys
+    // that the report counts; it names the first 100 of them.
     ensures meets { IsTrueSite (site_of replica.old) → IsTrueSite (site_of held.old) →
         Meets (before_of (sides_of ⟦<Replica<S> as Peer>⟧ ⟦<Replica<MemStore> as Peer>⟧) (two replica.old held.old))
         (after_of (sides_of ⟦<Replica<S> as Peer>⟧ ⟦<Replica<MemStore> as Peer>⟧) (two replica.new held.new)) result }

@@ -142,7 +142,8 @@ pub fn write_row(
     total: i128,
     limits: Option<(i64, i64)>,
 ) -> Result<(), AllocError>
-    ensures bytes { OnOk result (out.new.items ≡ out.old.items ++ row.spell (record { count = count; sum = total; ends = limits })) }
+    ensures bytes { OnOk result (out.new.items ≡
+        out.old.items ++ row.spell (record { count = count; sum = total; ends = limits })) }
     ensures fits { OnOk result (row.Fits (record { count = count; sum = total; ends = limits })) }
 {
     write_u64(out, count)?;

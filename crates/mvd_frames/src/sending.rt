@@ -67,7 +67,8 @@ fn write_put(
     document: &Document,
 ) -> Result<(), AllocError>
     ensures bytes { OnOk result (out.new.items ≡ out.old.items ++ put.spell (key.now, (context.now, document.now))) }
-    ensures fits { OnOk result (length (put.spell (key.now, (context.now, document.now))) < frame_limit → put.Fits (key.now, (context.now, document.now))) }
+    ensures fits { OnOk result (length (put.spell (key.now, (context.now, document.now))) < frame_limit →
+        put.Fits (key.now, (context.now, document.now))) }
 {
     write_key(out, key)?;
     write_context(out, context)?;
@@ -78,7 +79,8 @@ fn write_put(
 #[tactic(auto, unfolding(mvd_wire::specs::Requests::delete))]
 fn write_delete(out: &mut Vec<u8>, key: &Key, context: &Context) -> Result<(), AllocError>
     ensures bytes { OnOk result (out.new.items ≡ out.old.items ++ delete.spell (key.now, context.now)) }
-    ensures fits { OnOk result (length (delete.spell (key.now, context.now)) < frame_limit → delete.Fits (key.now, context.now)) }
+    ensures fits { OnOk result (length (delete.spell (key.now, context.now)) < frame_limit →
+        delete.Fits (key.now, context.now)) }
 {
     write_key(out, key)?;
     write_context(out, context)?;
@@ -135,7 +137,8 @@ pub fn encode_delete(alloc: Global, key: &Key, context: &Context) -> Result<Vec<
 pub fn encode_push(alloc: Global, key: &Key, state: &KeyState) -> Result<Vec<u8>, Refusal>
     ensures exact { Gives (λ v. v.items) result (request_frame (asked.Push key.now state.now)) }
     ensures fits { IfOk result (λ _. IsRequest (asked.Push key.now state.now)) }
-    ensures short { length (spell_state state.now) ≤ state_limit → request_frame (asked.Push key.now state.now) ≡ Ok (request_bytes (asked.Push key.now state.now)) }
+    ensures short { length (spell_state state.now) ≤ state_limit →
+        request_frame (asked.Push key.now state.now) ≡ Ok (request_bytes (asked.Push key.now state.now)) }
 {
     let length = state_length(state);
     if length > STATE_LIMIT {
@@ -250,7 +253,8 @@ fn write_range(
     to: &Term,
     after: &Option<Place>,
 ) -> Result<(), AllocError>
-    ensures bytes { OnOk result (out.new.items ≡ out.old.items ++ range.spell (field.now, (from.now, (to.now, after.now)))) }
+    ensures bytes { OnOk result (out.new.items ≡
+        out.old.items ++ range.spell (field.now, (from.now, (to.now, after.now)))) }
     ensures fits { OnOk result (range.Fits (field.now, (from.now, (to.now, after.now)))) }
 {
     write_field(out, field)?;
@@ -355,7 +359,8 @@ fn encode_page<T: Spelled>(
     items: &[T],
     more: bool,
 ) -> Result<Vec<u8>, Refusal>
-    ensures exact { Gives (λ v. v.items) result (within_page items.now (framed kind ((page T.kind).spell (items.now, more)))) }
+    ensures exact { Gives (λ v. v.items) result
+        (within_page items.now (framed kind ((page T.kind).spell (items.now, more)))) }
     ensures fits { IfOk result (λ _. (page T.kind).Fits (items.now, more)) }
 {
     if items.len() > PAGE_LIMIT {

@@ -80,7 +80,8 @@ fn read_length<R: Read>(reader: &mut R) -> Result<Option<u32>, Refusal>
     ensures read { Reads (λ n. n) (R.remaining reader.old) (R.remaining reader.new) result length_at }
     ensures some { IfOk result (λ o. IfSome o (λ n. 1 ≤ n)) }
     ensures few { IfOk result (λ o. IfSome o (λ n. n ≤ frame_limit)) }
-    ensures spelled { IfOk result (λ o. IfSome o (λ n. Consumes (R.remaining reader.old) (R.remaining reader.new) ((number w32).spell n))) }
+    ensures spelled { IfOk result
+        (λ o. IfSome o (λ n. Consumes (R.remaining reader.old) (R.remaining reader.new) ((number w32).spell n))) }
     ensures err { IfErr result EndsReading }
 {
     let mut head = [0u8; 4];
@@ -104,7 +105,8 @@ fn read_body<R: Read>(alloc: Global, reader: &mut R, size: u32) -> Result<Frame,
     requires { 1 ≤ size }
     ensures read { Reads frame_value (R.remaining reader.old) (R.remaining reader.new) result (body_at size) }
     ensures len { IfOk result (λ f. length f.payload.items + 1 ≡ size) }
-    ensures spelled { IfOk result (λ f. Consumes (R.remaining reader.old) (R.remaining reader.new) (f.kind ∷ f.payload.items)) }
+    ensures spelled { IfOk result
+        (λ f. Consumes (R.remaining reader.old) (R.remaining reader.new) (f.kind ∷ f.payload.items)) }
     ensures err { IfErr result EndsReading }
 {
     let mut kind = [0u8; 1];
@@ -127,7 +129,9 @@ fn read_body<R: Read>(alloc: Global, reader: &mut R, size: u32) -> Result<Frame,
 pub fn read_frame<R: Read>(alloc: Global, reader: &mut R) -> Result<Option<Frame>, Refusal>
     ensures read { Reads (option_map frame_value) (R.remaining reader.old) (R.remaining reader.new) result frame_at }
     // What was read is the spelling of the frame, which is short enough to be sent again.
-    ensures spelled { IfOk result (λ o. IfSome o (λ f. Consumes (R.remaining reader.old) (R.remaining reader.new) (spell_frame (frame_value f)))) }
+    ensures spelled { IfOk result
+        (λ o. IfSome o (λ f.
+        Consumes (R.remaining reader.old) (R.remaining reader.new) (spell_frame (frame_value f)))) }
     ensures few { IfOk result (λ o. IfSome o (λ f. length f.payload.items + 1 ≤ frame_limit)) }
     ensures err { IfErr result EndsReading }
 {

@@ -168,7 +168,8 @@ impl<'a> Stop<'a> {
         ensures damaged { refusal ≡ Damaged → result.hint ≡ Some (Hint.Damaged file.entry) }
         ensures full { refusal ≡ Full → result.hint ≡ Some Hint.Full }
         ensures store { refusal ≡ Store → result.hint ≡ Some (Hint.NoDatabase file.entry) }
-        ensures owner { (site : _) → refusal ≡ SiteMismatch → owner ≡ Some site → result.hint ≡ Some (Hint.OtherSite file.entry site) }
+        ensures owner { (site : _) → refusal ≡ SiteMismatch → owner ≡ Some site →
+            result.hint ≡ Some (Hint.OtherSite file.entry site) }
     {
         match (refusal, owner) {
             (Refusal::SiteMismatch, Some(site)) => Stop::new(refusal, Hint::OtherSite(file, site)),

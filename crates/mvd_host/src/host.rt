@@ -15,8 +15,8 @@ use std::marker::Model;
 /// As many clients there may be at once.
 pub const CLIENTS_MAX: usize = 256;
 
-/// The connections of many clients. A client has a number, which no other client gets, also when it is gone. Each frame that was
-/// taken has been answered.
+/// The connections of many clients. A client has a number, which no other client gets, also when it is gone. Each
+/// frame that was taken has been answered.
 #[derive(Drop)]
 pub struct Host {
     pub(crate) alloc: Global,

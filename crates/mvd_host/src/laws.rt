@@ -9,12 +9,14 @@ ghost use Rattle.sqlite.specs.Held.{Held, state};
 use sqlite::Alter;
 
 /// From a new host on, the turns of all rounds are those of one replica, one after the other. What each client asked
-/// and was told are its own turns of that list, in order. That holds whatever comes between the rounds, and of a client that went
-/// it holds as it was when it went.
+/// and was told are its own turns of that list, in order. That holds whatever comes between the rounds, and of a
+/// client that went it holds as it was when it went.
 pub fn rounds_are_one_list<S: Alter>()
-    ensures list { (start : Moment (Held S)) (all : List (Happening (Held S))) → start.host ≡ new_host → Runs (state S.Store) start all →
+    ensures list { (start : Moment (Held S)) (all : List (Happening (Held S))) → start.host ≡ new_host →
+        Runs (state S.Store) start all →
         OneList (turns_in all) (side_of (state S.Store) start) (side_of (state S.Store) (after_run start all)) }
-    ensures gone { (start : Moment (Held S)) (before after : List (Happening (Held S))) (n : ℕ) (host : HostValue) (h : History) →
+    ensures gone { (start : Moment (Held S)) (before after : List (Happening (Held S)))
+        (n : ℕ) (host : HostValue) (h : History) →
         start.host ≡ new_host → Runs (state S.Store) start before →
         Runs (state S.Store) (after_run start before) (Goes n host ∷ after) →
         client_of (after_run start before).host n ≡ Some h →

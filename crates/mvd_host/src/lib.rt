@@ -1,5 +1,5 @@
-//! Many connections at once, from one thread and without IO: the frames that are held are answered together, and each reply is
-//! queued on its own connection.
+//! Many connections at once, from one thread and without IO: the frames that are held are answered together, and each
+//! reply is queued on its own connection.
 #![tactic(auto)]
 
 mod host;

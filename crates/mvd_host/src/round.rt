@@ -13,9 +13,10 @@ use sqlite::Alter;
 impl Host {
     ghost use Rattle.mvd_host.specs.Round.{GoesForward, Round, side_of};
 
-    /// Takes at most 64 frames of each ready client, answers them together, queues each reply on its own client's connection, and
-    /// counts what was done and refused. Gives whether there may be more to do at once: after `false` no frame can be taken of a
-    /// ready client now, and after `true` some was. It is refused where memory was for a frame; what else was taken is answered.
+    /// Takes at most 64 frames of each ready client, answers them together, queues each reply on its own client's
+    /// connection, and counts what was done and refused. Gives whether there may be more to do at once: after `false`
+    /// no frame can be taken of a ready client now, and after `true` some was. It is refused where memory was for a
+    /// frame; what else was taken is answered.
     pub fn round<S: Alter>(
         &mut self,
         replica: &mut Replica<S>,
@@ -23,7 +24,8 @@ impl Host {
         tally: &mut Tally,
     ) -> Result<bool, Refusal>
         ensures round { (turns : List (ℕ × Turn)) × Round ready.now turns
-            (side_of self.old replica.old) (side_of self.new replica.new) × GoesForward result ready.now turns self.new }
+            (side_of self.old replica.old) (side_of self.new replica.new) ×
+            GoesForward result ready.now turns self.new }
         ensures memory { IfErr result (λ refusal. refusal ≡ Refusal.Memory) }
     {
         let mut taken = Taken::new(self.alloc);

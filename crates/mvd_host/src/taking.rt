@@ -18,8 +18,8 @@ use std::collections::BTreeMap;
 /// As many frames of a client are taken in one round.
 const FRAMES_MAX: usize = 64;
 
-/// The frames that were taken: requests, each with its client, and then those that are none, or that were refused memory. A client
-/// has at most one of these, which is its last.
+/// The frames that were taken: requests, each with its client, and then those that are none, or that were refused
+/// memory. A client has at most one of these, which is its last.
 #[derive(Drop)]
 pub(crate) struct Taken {
     pub(crate) clients: Vec<u64>,
@@ -67,7 +67,8 @@ impl Taken {
         self.faults.reserve(1)
     }
 
-    /// Takes the next frame of a client, where there is one. Whether another may follow: not after one that is no request.
+    /// Takes the next frame of a client, where there is one. Whether another may follow: not after one that is no
+    /// request.
     fn take_one(
         &mut self,
         alloc: Global,
@@ -77,8 +78,10 @@ impl Taken {
         requires room { HasRoom 1 self.old }
         ensures took { TakesMore client connection.old connection.new self.old self.new }
         ensures grows { Grows self.old self.new }
-        ensures more { IfOk result (λ more. more ≡ true → TakesRequests client connection.old connection.new self.old self.new) }
-        ensures one { IfOk result (λ more. more ≡ true → length self.new.clients.items ≡ length self.old.clients.items + 1) }
+        ensures more { IfOk result (λ more. more ≡ true →
+            TakesRequests client connection.old connection.new self.old self.new) }
+        ensures one { IfOk result (λ more. more ≡ true →
+            length self.new.clients.items ≡ length self.old.clients.items + 1) }
         ensures room { (n : ℕ) → HasRoom (n + 1) self.old → IfOk result (λ more. more ≡ true → HasRoom n self.new) }
         ensures end { IfOk result (λ more. more ≡ false → EndsTaking connection.new self.old self.new) }
     {
@@ -148,7 +151,8 @@ impl Taken {
         ready: &[u64],
     ) -> bool
         requires none { Holds [] [] self.old }
-        ensures took { TakesFairly result ready.now (length ready.now) clients.old.entries clients.new.entries self.new }
+        ensures took { TakesFairly result ready.now (length ready.now) clients.old.entries
+            clients.new.entries self.new }
         ensures idle { result ≡ false → IsNone self.new → (i : ℕ) → i < length ready.now →
             IfClient (client_in clients.new.entries (slice_index ready.now i)) IsIdle }
     {

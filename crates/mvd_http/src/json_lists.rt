@@ -30,7 +30,8 @@ fn push_sibling(out: &mut String, sibling: &Sibling) -> Result<(), AllocError>
 }
 
 fn push_more_siblings(out: &mut String, siblings: &[Sibling]) -> Result<(), AllocError>
-    ensures { OnOk result (string_bytes out.new ≡ string_bytes out.old ++ flat_map (λ s. led sibling_text (pair_of s)) siblings.now) }
+    ensures { OnOk result (string_bytes out.new ≡
+        string_bytes out.old ++ flat_map (λ s. led sibling_text (pair_of s)) siblings.now) }
 {
     for sibling in siblings {
         push_word(out, ",")?;
@@ -40,7 +41,8 @@ fn push_more_siblings(out: &mut String, siblings: &[Sibling]) -> Result<(), Allo
 }
 
 pub fn push_siblings(out: &mut String, siblings: &[Sibling]) -> Result<(), AllocError>
-    ensures { OnOk result (string_bytes out.new ≡ string_bytes out.old ++ commaed (λ s. sibling_text (pair_of s)) siblings.now) }
+    ensures { OnOk result (string_bytes out.new ≡
+        string_bytes out.old ++ commaed (λ s. sibling_text (pair_of s)) siblings.now) }
 {
     let Some((first, rest)) = siblings.split_first() else {
         return Ok(());
@@ -167,7 +169,8 @@ fn push_key(alloc: Global, out: &mut String, entry: &KeyDigest) -> Result<(), Re
 }
 
 fn push_more_keys(alloc: Global, out: &mut String, keys: &[KeyDigest]) -> Result<(), Refusal>
-    ensures text { OnOk result (string_bytes out.new ≡ string_bytes out.old ++ flat_map (led key_digest_text) keys.now) }
+    ensures text { OnOk result (string_bytes out.new ≡
+        string_bytes out.old ++ flat_map (led key_digest_text) keys.now) }
     ensures memory { IsOkUnless result Refusal.Memory }
 {
     for entry in keys {
@@ -217,7 +220,8 @@ fn push_place_next(
     places: &[Place],
     more: bool,
 ) -> Result<(), Refusal>
-    ensures text { OnOk result (string_bytes out.new ≡ string_bytes out.old ++ next_text (next_of mark_of_place more places.now)) }
+    ensures text { OnOk result (string_bytes out.new ≡
+        string_bytes out.old ++ next_text (next_of mark_of_place more places.now)) }
     ensures memory { IsOkUnless result Refusal.Memory }
 {
     if !more {
@@ -236,7 +240,8 @@ fn push_row_next(
     rows: &[ViewRow],
     more: bool,
 ) -> Result<(), Refusal>
-    ensures text { OnOk result (string_bytes out.new ≡ string_bytes out.old ++ next_text (next_of row_mark more rows.now)) }
+    ensures text { OnOk result (string_bytes out.new ≡
+        string_bytes out.old ++ next_text (next_of row_mark more rows.now)) }
     ensures memory { IsOkUnless result Refusal.Memory }
 {
     if !more {
@@ -255,7 +260,8 @@ fn push_key_next(
     keys: &[KeyDigest],
     more: bool,
 ) -> Result<(), Refusal>
-    ensures text { OnOk result (string_bytes out.new ≡ string_bytes out.old ++ next_text (next_of key_mark more keys.now)) }
+    ensures text { OnOk result (string_bytes out.new ≡
+        string_bytes out.old ++ next_text (next_of key_mark more keys.now)) }
     ensures memory { IsOkUnless result Refusal.Memory }
 {
     if !more {

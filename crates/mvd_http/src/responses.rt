@@ -160,7 +160,8 @@ fn push_found(
     state: &KeyState,
     out: &mut String,
 ) -> Result<u16, Refusal>
-    ensures { Pushes (state_told (option_copied key.entry) state.now) (string_bytes out.old) (string_bytes out.new) result }
+    ensures { Pushes (state_told (option_copied key.entry) state.now) (string_bytes out.old)
+        (string_bytes out.new) result }
 {
     let Some(key) = key else {
         return Err(Refusal::BadKind);
@@ -202,7 +203,8 @@ fn push_state(alloc: Global, key: &Key, state: &KeyState, out: &mut String) -> R
 }
 
 fn push_written(out: &mut String, dot: Dot) -> Result<u16, Refusal>
-    ensures { Pushes (Ok (record { status = 201; body = written_text dot })) (string_bytes out.old) (string_bytes out.new) result }
+    ensures { Pushes (Ok (record { status = 201; body = written_text dot })) (string_bytes out.old)
+        (string_bytes out.new) result }
 {
     push_word(out, "{\"dot\":\"")?;
     push_dot(out, dot)?;
@@ -216,7 +218,8 @@ fn push_row_of(
     row: &RowValue,
     out: &mut String,
 ) -> Result<u16, Refusal>
-    ensures { Pushes (row_told (option_copied term.entry) row.now) (string_bytes out.old) (string_bytes out.new) result }
+    ensures { Pushes (row_told (option_copied term.entry) row.now) (string_bytes out.old)
+        (string_bytes out.new) result }
 {
     let Some(term) = term else {
         return Err(Refusal::BadKind);
@@ -264,7 +267,8 @@ fn push_children(
 }
 
 fn push_node(alloc: Global, digests: &Digests, out: &mut String) -> Result<u16, Refusal>
-    ensures { Pushes (Ok (ok_told (node_text digests.now.own digests.now.children))) (string_bytes out.old) (string_bytes out.new) result }
+    ensures { Pushes (Ok (ok_told (node_text digests.now.own digests.now.children))) (string_bytes out.old)
+        (string_bytes out.new) result }
 {
     push_word(out, "{\"digest\":")?;
     push_digest(alloc, out, digests.own)?;

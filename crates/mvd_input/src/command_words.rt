@@ -76,7 +76,8 @@ fn with_below<'a>(
     command: Result<Command<'a>, AllocError>,
     below: Result<Command<'a>, AllocError>,
 ) -> Result<Command<'a>, AllocError>
-    ensures { IfOk result (λ r. (a : Command) × (b : Command) × (command.entry ≡ Ok a) × (below.entry ≡ Ok b) × AddsSubcommand a b r) }
+    ensures { IfOk result (λ r. (a : Command) × (b : Command) × (command.entry ≡ Ok a) × (below.entry ≡ Ok b) ×
+        AddsSubcommand a b r) }
 {
     command?.subcommand(below?)
 }

@@ -20,11 +20,11 @@ use std::alloc::Global;
 /// The most bytes of a file of definitions.
 pub const DEFS_MAX: usize = 65_536;
 
-/// The indexes and views that the lines of a text define. Lines are a script's: an empty one, and one that begins with `#`, says
-/// nothing.
+/// The indexes and views that the lines of a text define. Lines are a script's: an empty one, and one that begins
+/// with `#`, says nothing.
 ///
-/// It is `Stopped` with `FrameTooLong` where the text has over 65,536 bytes, and `Line` at the first line that defines neither,
-/// or what may not be defined.
+/// It is `Stopped` with `FrameTooLong` where the text has over 65,536 bytes, and `Line` at the first line that
+/// defines neither, or what may not be defined.
 pub fn read_defs(alloc: Global, text: &[u8]) -> Result<Defs, Fault>
     ensures short { IfOk result (λ _. length text.now ≤ 65536) }
     ensures defined { IfOk result (λ defs. DefineAll (lines_of text.now) no_definitions defs) }
@@ -123,7 +123,9 @@ fn viewed(alloc: Global, defs: &mut Defs, view: View<'_>) -> Result<(), Refusal>
 
 /// Whether a definition was taken: it ends the reading where memory was refused.
 fn taken(added: Result<(), Refusal>) -> Result<bool, Fault>
-    ensures { MatchResult added (λ _. result ≡ Ok true) (λ refusal. (refusal ≡ Memory → result ≡ Err (Stopped Memory)) × (refusal ≢ Memory → result ≡ Ok false)) }
+    ensures { MatchResult added (λ _. result ≡ Ok true)
+        (λ refusal. (refusal ≡ Memory → result ≡ Err (Stopped Memory)) ×
+        (refusal ≢ Memory → result ≡ Ok false)) }
 {
     match added {
         Ok(()) => Ok(true),

@@ -6,7 +6,8 @@ use thiserror::Error;
 /// Why a command ended before its end.
 #[derive(Debug, Clone, Copy, Error)]
 pub enum Fault {
-    /// It was refused: its reader, its writer, its store or its peer failed, memory was refused, or an input is too long.
+    /// It was refused: its reader, its writer, its store or its peer failed, memory was refused, or an input is too
+    /// long.
     #[error("fault {0}")]
     Stopped(Refusal),
     /// This line of its input, counted from 1, is not a command.

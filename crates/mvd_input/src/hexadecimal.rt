@@ -21,8 +21,9 @@ pub const BYTES_MAX: usize = 32_768;
 
 /// The bytes that lines of hexadecimal digits spell, one line after the other.
 ///
-/// It is `Stopped` with `FrameTooLong` where the text has over 131,072 bytes. Else the first line that is at fault decides: `Line`
-/// where it is no hexadecimal, and `FrameTooLong` where its bytes with those before it are over 32,768.
+/// It is `Stopped` with `FrameTooLong` where the text has over 131,072 bytes. Else the first line that is at fault
+/// decides: `Line` where it is no hexadecimal, and `FrameTooLong` where its bytes with those before it are over
+/// 32,768.
 pub fn hex_bytes(alloc: Global, text: &[u8]) -> Result<Vec<u8>, Fault>
     ensures joined { IfOk result (λ bytes. AreJoined text.now bytes.items) }
     ensures fault { IfErr result (HasFault text.now) }
@@ -59,8 +60,11 @@ pub fn first_line(text: &[u8]) -> (&[u8], Option<&[u8]>)
 fn add_line(alloc: Global, number: u64, line: &[u8], bytes: &mut Vec<u8>) -> Result<(), Fault>
     requires { length bytes.old.items ≤ 32768 }
     ensures { MatchResult result
-        (λ _. (more : List ℕ) × (decode_of line.now ≡ Ok more) × (bytes.new.items ≡ bytes.old.items ++ more) × (length bytes.new.items ≤ 32768))
-        (λ fault. (fault ≡ Stopped Memory) ⊎ (((fault ≡ faults.Line number) × IsNoHexadecimal line.now) ⊎ ((fault ≡ Stopped refusals.FrameTooLong) × SpellsTooMany line.now bytes.old.items))) }
+        (λ _. (more : List ℕ) × (decode_of line.now ≡ Ok more) × (bytes.new.items ≡ bytes.old.items ++ more) ×
+        (length bytes.new.items ≤ 32768))
+        (λ fault. (fault ≡ Stopped Memory) ⊎
+        (((fault ≡ faults.Line number) × IsNoHexadecimal line.now) ⊎
+        ((fault ≡ Stopped refusals.FrameTooLong) × SpellsTooMany line.now bytes.old.items))) }
 {
     match hex::decode(alloc, line) {
         Ok(more) => {

@@ -13,9 +13,11 @@ use std::io::{Read, Write};
 /// All that the reader has left: `FrameTooLong` where that is more than `most` bytes.
 pub fn read_input<R: Read>(alloc: Global, reader: &mut R, most: usize) -> Result<Vec<u8>, Fault>
     ensures short { IfOk result (λ bytes. length bytes.items ≤ most) }
-    ensures all { IfOk result (λ bytes. Consumes (R.remaining reader.old) (R.remaining reader.new) bytes.items × IsAtEnd (R.remaining reader.new)) }
+    ensures all { IfOk result (λ bytes. Consumes (R.remaining reader.old) (R.remaining reader.new) bytes.items ×
+        IsAtEnd (R.remaining reader.new)) }
     ensures refused { IfErr result ReadsNot }
-    ensures long { result ≡ Err (Stopped FrameTooLong) → (front : List ℕ) × Consumes (R.remaining reader.old) (R.remaining reader.new) front × (most < length front) }
+    ensures long { result ≡ Err (Stopped FrameTooLong) →
+        (front : List ℕ) × Consumes (R.remaining reader.old) (R.remaining reader.new) front × (most < length front) }
     ensures ends { IfErr result EndsEarly }
 {
     let mut bytes = Vec::new(alloc);

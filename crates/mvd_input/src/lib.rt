@@ -1,5 +1,5 @@
-//! What comes in from outside, as it is written: the command line, the lines of a script, files of definitions, and lines of
-//! hexadecimal digits, each within its limit.
+//! What comes in from outside, as it is written: the command line, the lines of a script, files of definitions, and
+//! lines of hexadecimal digits, each within its limit.
 #![tactic(auto)]
 
 mod command;

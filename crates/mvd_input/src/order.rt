@@ -32,8 +32,8 @@ const NEITHER: &str = "'--db <FILE>' with '--site <N>', or '--port <P>', is miss
 /// What a shell cannot have together.
 const BOTH: &str = "a shell has '--db <FILE>' with its options, or '--port <P>' with its own";
 
-/// What a site is set up with: its number is at least 1, and it may hold 1 to 1,000,000 keys. A file may define its indexes and
-/// views.
+/// What a site is set up with: its number is at least 1, and it may hold 1 to 1,000,000 keys. A file may define its
+/// indexes and views.
 #[derive(Clone, Copy, PartialEq, Eq)]
 pub struct Setup<'a> {
     pub site: u32,
@@ -41,8 +41,8 @@ pub struct Setup<'a> {
     pub max_keys: u32,
 }
 
-/// What a command line asks for. Numbers are in their ranges: those of a site as told there, a port at least 1, `conns` 1 to 1,000,
-/// `idle` 1 to 86,400 seconds, and the port `http` at least 1.
+/// What a command line asks for. Numbers are in their ranges: those of a site as told there, a port at least 1,
+/// `conns` 1 to 1,000, `idle` 1 to 86,400 seconds, and the port `http` at least 1.
 #[derive(Clone, Copy, PartialEq, Eq)]
 pub enum Order<'a> {
     /// Run a script from standard input.

@@ -82,8 +82,9 @@ impl Held {
         Ok(())
     }
 
-    /// Puts in the state of a key, and the rows follow it. The one refusal is `Broken`: the states are as before, and the
-    /// rows may be of no states. It takes a look, and the work on the rows of what differs between the key's two states.
+    /// Puts in the state of a key, and the rows follow it. The one refusal is `Broken`: the states are as before, and
+    /// the rows may be of no states. It takes a look, and the work on the rows of what differs between the key's two
+    /// states.
     pub fn replace(
         &mut self,
         alloc: Global,
@@ -97,7 +98,8 @@ impl Held {
         requires held { IsHeldState state }
         requires spelled { IsSpelled state }
         ensures ok { OnOk result (self.new ≡ map.insert self.old key state) }
-        ensures stand { OnOk result ((defs : Definitions) → IsRowsOf rows.old defs self.old → IsRowsOf rows.new defs (map.insert self.old key state)) }
+        ensures stand { OnOk result ((defs : Definitions) → IsRowsOf rows.old defs self.old →
+            IsRowsOf rows.new defs (map.insert self.old key state)) }
         ensures broken { IfErr result (λ refusal. refusal ≡ Broken) }
         ensures err { OnErr result (self.new ≡ self.old) }
         ensures looked { RoseBy 1 work.old.looks work.new.looks }
@@ -124,10 +126,12 @@ impl Held {
         requires stand { (defs : Definitions) × IsRowsOf rows.old defs self.now }
         requires few { IsRoomy self.now }
         requires held { IsHeldState state.now }
-        ensures stand { OnOk result ((defs : Definitions) → IsRowsOf rows.old defs self.now → IsRowsOf rows.new defs (map.insert self.now key.now state.now)) }
+        ensures stand { OnOk result ((defs : Definitions) → IsRowsOf rows.old defs self.now →
+            IsRowsOf rows.new defs (map.insert self.now key.now state.now)) }
         ensures broken { IfErr result (λ refusal. refusal ≡ Broken) }
         ensures looked { RoseBy 1 work.old.looks work.new.looks }
-        ensures rows { let moved = differing (state_at self.now key.now) state.now in let defs = definitions_of rows.old in
+        ensures rows { let moved = differing (state_at self.now key.now) state.now in
+            let defs = definitions_of rows.old in
             Within (moved * updates_each defs) (moved * looks_each defs) work.old.rows work.new.rows }
         ensures hashed { work.new.hashed ≡ work.old.hashed }
     {

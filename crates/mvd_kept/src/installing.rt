@@ -136,7 +136,8 @@ fn put_one(
     work: &mut Work,
 ) -> Reply
     requires few { map.len states.old ≤ config.now.max_keys }
-    requires fresh { broken.old ≡ false → MayBeIn (record { config = config.now; states = states.old; broken = broken.old }) prepared }
+    requires fresh { broken.old ≡ false →
+        MayBeIn (record { config = config.now; states = states.old; broken = broken.old }) prepared }
     requires stand { broken.old ≡ false → IsRowsOf rows.old config.now.defs states.old }
     ensures puts { PutsIfWhole (record { config = config.now; states = states.old; broken = broken.old })
         (record { config = config.now; states = states.new; broken = broken.new }) prepared result }
@@ -144,7 +145,8 @@ fn put_one(
     ensures stand { broken.new ≡ false → IsRowsOf rows.new config.now.defs states.new }
     ensures digested { broken.new ≡ false → (is_digested ≡ true) ⊎ (is_change prepared ≡ 0) }
     ensures costs { broken.old ≡ false → let moved = moved_of states.old prepared in
-        Costs (is_change prepared) (moved * looks_each config.now.defs) (moved * updates_each config.now.defs) 0 0 work.old work.new }
+        Costs (is_change prepared)
+        (moved * looks_each config.now.defs) (moved * updates_each config.now.defs) 0 0 work.old work.new }
     ensures idle { broken.old ≡ true → work.new ≡ work.old }
 {
     if *broken {
@@ -183,16 +185,19 @@ fn put_all(
 ) -> bool
     requires space { length replies.old.items + length group.items ≤ vec_capacity replies.old }
     requires few { map.len states.old ≤ config.now.max_keys }
-    requires fresh { was_broken ≡ false → MayAllBeIn (record { config = config.now; states = states.old; broken = was_broken }) group.items }
+    requires fresh { was_broken ≡ false →
+        MayAllBeIn (record { config = config.now; states = states.old; broken = was_broken }) group.items }
     requires stand { was_broken ≡ false → IsRowsOf rows.old config.now.defs states.old }
     ensures puts { InstallsAll (record { config = config.now; states = states.old; broken = was_broken })
-        (record { config = config.now; states = states.new; broken = result }) group.items replies.old.items replies.new.items }
+        (record { config = config.now; states = states.new; broken = result })
+        group.items replies.old.items replies.new.items }
     ensures space { vec_capacity replies.new ≡ vec_capacity replies.old }
     ensures few { map.len states.new ≤ config.now.max_keys }
     ensures stand { result ≡ false → IsRowsOf rows.new config.now.defs states.new }
     ensures digested { result ≡ false → (is_digested ≡ true) ⊎ (changes_in group.items ≡ 0) }
     ensures costs { let moved = moved_in states.old group.items in
-        Costs (changes_in group.items) (moved * looks_each config.now.defs) (moved * updates_each config.now.defs) 0 0 work.old work.new }
+        Costs (changes_in group.items)
+        (moved * looks_each config.now.defs) (moved * updates_each config.now.defs) 0 0 work.old work.new }
     ensures idle { was_broken ≡ true → work.new ≡ work.old }
 {
     let mut broken = was_broken;

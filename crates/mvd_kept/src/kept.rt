@@ -283,7 +283,8 @@ impl Kept {
         ensures ready { IfOk result (IsReady self.now) }
         ensures valid { IfOk result (λ _. IsValid pushed.now) }
         ensures whole { IfErr result (λ refusal. refusal ≢ Broken) }
-        ensures frugal { IsFrugal self.now.states (Push key.now pushed.now) → IfErr result (λ refusal. refusal ≢ Memory) }
+        ensures frugal { IsFrugal self.now.states (Push key.now pushed.now) →
+            IfErr result (λ refusal. refusal ≢ Memory) }
         ensures looked { RoseBy 1 looks.old looks.new }
     {
         if state_length(pushed) > STATE_LIMIT {

@@ -16,8 +16,8 @@ ghost use Rattle.mvd_kept.specs.Known.{Adds};
 ghost use Rattle.mvd_kept.specs.Prepared.{IsChangeNow};
 ghost use Rattle.mvd_kept.specs.Sites.{SiteValue, has_no_room};
 
-/// Where states stand for a set of writes, the answer from the states is that from the writes, and the states afterwards
-/// stand for the writes with what the request added.
+/// Where states stand for a set of writes, the answer from the states is that from the writes, and the states
+/// afterwards stand for the writes with what the request added.
 pub fn answers_from_states()
     ensures answer { (config : ConfigValue) (states : States) (known : List Write) (request : Request) →
         Stands states known → answer_from config states request ≡ answer config known request }
@@ -32,8 +32,8 @@ pub fn answers_from_states()
         Stands states V → Stands states W → answer config V request ≡ answer config W request }
 {}
 
-/// Sites that know the same writes give equal answers: to a question, of the configuration only the definitions of indexes
-/// and views count, whatever a site's number is and however many keys it may hold.
+/// Sites that know the same writes give equal answers: to a question, of the configuration only the definitions of
+/// indexes and views count, whatever a site's number is and however many keys it may hold.
 pub fn questions_are_answered_alike()
     ensures writes { (a b : ConfigValue) (known : List Write) (request : Request) → a.defs ≡ b.defs →
         is_question request ≡ true → answer a known request ≡ answer b known request }
@@ -52,7 +52,8 @@ pub fn questions_are_answered_alike()
         after_from config states request ≡ states }
 {}
 
-/// An answer is a function of the set of writes: where they agree, order and repeats do not matter, to a question or to a change.
+/// An answer is a function of the set of writes: where they agree, order and repeats do not matter, to a question or
+/// to a change.
 pub fn answers_are_of_the_set()
     ensures answers { (config : ConfigValue) (V W : List Write) (request : Request)
         → SameWrites V W → Agree V → answer config V request ≡ answer config W request }
@@ -60,8 +61,8 @@ pub fn answers_are_of_the_set()
     ensures states { (W : List Write) → Stands (states_of W) W }
 {}
 
-/// Changes of two keys that were prepared on one site may both be installed, one after the other, where there is still room:
-/// what one installs does not make the other stale.
+/// Changes of two keys that were prepared on one site may both be installed, one after the other, where there is
+/// still room: what one installs does not make the other stale.
 pub fn changes_stand_side_by_side()
     ensures { (site : SiteValue) (first second : ChangeValue)
         → IsChangeNow site first → IsChangeNow site second → first.key ≢ second.key

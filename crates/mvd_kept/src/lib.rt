@@ -1,5 +1,5 @@
-//! What one site keeps, and its answers to requests from that, from the writes known; all work is counted. Nothing here can
-//! begin a count.
+//! What one site keeps, and its answers to requests from that, from the writes known; all work is counted. Nothing
+//! here can begin a count.
 #![tactic(auto)]
 
 mod config;

@@ -27,7 +27,8 @@ pub fn rows_of(
     requires few { length states.now ≤ 1000000 }
     ensures rows { IfOk result (λ rows. IsRowsOf rows defs.now (from_entries states.now)) }
     ensures only { IfErr result (λ refusal. refusal ≡ Memory) }
-    ensures counts { Within (all_siblings states.now * updates_each defs.now) (all_siblings states.now * looks_each defs.now) meter.old meter.new }
+    ensures counts { Within (all_siblings states.now * updates_each defs.now)
+        (all_siblings states.now * looks_each defs.now) meter.old meter.new }
 {
     let empty = KeyState::empty(alloc);
     let mut rows = Rows::new(alloc, defs.copy()?)?;

@@ -1,5 +1,5 @@
-//! Questions to the hash tree, the indexes and the views: they change nothing, look at no held state and hash nothing, since
-//! they are handed the counts of kept rows alone.
+//! Questions to the hash tree, the indexes and the views: they change nothing, look at no held state and hash
+//! nothing, since they are handed the counts of kept rows alone.
 ghost use Rattle.std.specs.Prelude.{◌≡◌, ◌≢◌, false, length, IfErr, IfOk, Ok, Err};
 ghost use Rattle.std.specs.Option.{option_copied};
 ghost use Rattle.mvd_dots.specs.Answer.{IsAnswer};
@@ -26,7 +26,8 @@ use std::alloc::Global;
 impl Kept {
     /// The digests of a node and, above the buckets, of its children. It takes no memory; a broken site refuses it.
     pub fn node(&self, path: &Path) -> Result<Digests, Refusal>
-        ensures { result ≡ unless_broken self.now.broken (Err Broken) (Ok (node_digests (digests self.now.states) path.now)) }
+        ensures { result ≡ unless_broken self.now.broken (Err Broken)
+            (Ok (node_digests (digests self.now.states) path.now)) }
     {
         if self.broken {
             Err(Refusal::Broken)
@@ -38,8 +39,8 @@ impl Kept {
         }
     }
 
-    /// A page of at most 1,000 of a bucket's keys with their digests, those after a key if one is given, and whether more
-    /// follow. `BadPath` where the path has not three digits; a broken site refuses it.
+    /// A page of at most 1,000 of a bucket's keys with their digests, those after a key if one is given, and whether
+    /// more follow. `BadPath` where the path has not three digits; a broken site refuses it.
     pub fn bucket(
         &self,
         path: &Path,
@@ -47,8 +48,10 @@ impl Kept {
     ) -> Result<(Vec<(Key, [u8; 32])>, bool), Refusal>
         ensures whole { IfOk result (λ _. self.now.broken ≡ false) }
         ensures path { IfOk result (λ _. length path.now ≡ 3) }
-        ensures keys { IfOk result (λ page. page.0.items ≡ page_of (digests self.now.states) path.now (option_copied after.entry)) }
-        ensures more { IfOk result (λ page. page.1 ≡ is_more_after_page (digests self.now.states) path.now (option_copied after.entry)) }
+        ensures keys { IfOk result (λ page. page.0.items ≡
+            page_of (digests self.now.states) path.now (option_copied after.entry)) }
+        ensures more { IfOk result (λ page. page.1 ≡
+            is_more_after_page (digests self.now.states) path.now (option_copied after.entry)) }
         ensures refused { IfErr result (λ refusal. refusal ≡ bucket_refusal self.now.broken path.now) }
     {
         if self.broken {
@@ -74,7 +77,8 @@ impl Kept {
         after: Option<&Key>,
     ) -> Result<Prepared, Refusal>
         requires { self.now.broken ≡ false }
-        ensures answer { PreparesReply (bucket_answer (digests self.now.states) path.now (option_copied after.entry)) result }
+        ensures answer { PreparesReply
+            (bucket_answer (digests self.now.states) path.now (option_copied after.entry)) result }
         ensures ready { IfOk result (IsReady self.now) }
         ensures whole { IfErr result (λ refusal. refusal ≢ Broken) }
     {
@@ -93,7 +97,10 @@ impl Kept {
         meter: &mut Meter,
     ) -> Result<Prepared, Refusal>
         requires { self.now.broken ≡ false }
-        ensures answer { PreparesReply (places_reply (find_answer self.now.config.defs (visible_in self.now.states) field.now term.now after.now)) result }
+        ensures answer { PreparesReply
+            (places_reply
+            (find_answer self.now.config.defs (visible_in self.now.states) field.now term.now after.now))
+            result }
         ensures ready { IfOk result (IsReady self.now) }
         ensures whole { IfErr result (λ refusal. refusal ≢ Broken) }
         ensures looks { Within 0 (prepared_looks result) meter.old meter.new }
@@ -115,7 +122,10 @@ impl Kept {
         meter: &mut Meter,
     ) -> Result<Prepared, Refusal>
         requires { self.now.broken ≡ false }
-        ensures answer { PreparesReply (places_reply (range_answer self.now.config.defs (visible_in self.now.states) field.now from.now to.now after.now)) result }
+        ensures answer { PreparesReply
+            (places_reply
+            (range_answer self.now.config.defs (visible_in self.now.states) field.now from.now to.now after.now))
+            result }
         ensures ready { IfOk result (IsReady self.now) }
         ensures whole { IfErr result (λ refusal. refusal ≢ Broken) }
         ensures looks { Within 0 (prepared_looks result) meter.old meter.new }
@@ -135,7 +145,8 @@ impl Kept {
         meter: &mut Meter,
     ) -> Result<Prepared, Refusal>
         requires { self.now.broken ≡ false }
-        ensures answer { PreparesReply (row_reply (row_answer self.now.config.defs (visible_in self.now.states) view.now term.now)) result }
+        ensures answer { PreparesReply
+            (row_reply (row_answer self.now.config.defs (visible_in self.now.states) view.now term.now)) result }
         ensures ready { IfOk result (IsReady self.now) }
         ensures whole { IfErr result (λ refusal. refusal ≢ Broken) }
         ensures frugal { IfErr result (λ refusal. refusal ≢ Memory) }
@@ -153,7 +164,8 @@ impl Kept {
         meter: &mut Meter,
     ) -> Result<Prepared, Refusal>
         requires { self.now.broken ≡ false }
-        ensures answer { PreparesReply (rows_reply (rows_answer self.now.config.defs (visible_in self.now.states) view.now after.now)) result }
+        ensures answer { PreparesReply
+            (rows_reply (rows_answer self.now.config.defs (visible_in self.now.states) view.now after.now)) result }
         ensures ready { IfOk result (IsReady self.now) }
         ensures whole { IfErr result (λ refusal. refusal ≢ Broken) }
         ensures looks { Within 0 (prepared_looks result) meter.old meter.new }

@@ -9,11 +9,12 @@ use mvd_wire::{Reply, Request};
 use sqlite::Alter;
 
 impl<S: Alter> Replica<S> {
-    /// The replies of `answer` to one request after the other. Up to 1,024 requests share a commit, as long as none of them could
-    /// see what one before it changes, a site with those changes has room for one more key, and memory is not refused for it. No
-    /// reply tells of a change that is not committed. Where a commit is refused, each change in it is told so, and nothing of it
-    /// was done. Where putting a change in breaks the site, that request and all after it are told so; the records hold its
-    /// change, and those of some later ones. Where memory is refused for the list of replies, nothing was done.
+    /// The replies of `answer` to one request after the other. Up to 1,024 requests share a commit, as long as none
+    /// of them could see what one before it changes, a site with those changes has room for one more key, and memory
+    /// is not refused for it. No reply tells of a change that is not committed. Where a commit is refused, each
+    /// change in it is told so, and nothing of it was done. Where putting a change in breaks the site, that request
+    /// and all after it are told so; the records hold its change, and those of some later ones. Where memory is
+    /// refused for the list of replies, nothing was done.
     pub fn answer_all(&mut self, requests: &[Request]) -> Result<Vec<Reply>, Refusal>
         ensures { AnswersMany self.old requests.now result self.new }
     {

@@ -34,7 +34,8 @@ impl<S: Alter> Endpoint for Replica<S> {
 }
 
 impl<S: Alter> Replica<S> {
-    /// Writes a document in place of the documents that were seen, and gives its dot. After Ok it is stored, where the store is sound.
+    /// Writes a document in place of the documents that were seen, and gives its dot. After Ok it is stored, where
+    /// the store is sound.
     pub fn put(&mut self, key: Key, seen: Context, document: Document) -> Result<Dot, Refusal>
         ensures { Answers self.old (Put key seen document) (put_reply result) self.new }
     {
@@ -54,7 +55,8 @@ impl<S: Alter> Replica<S> {
         done_in(reply)
     }
 
-    /// The places of a term at an indexed field: at most 1,000, those after a place if one is given, and whether more follow.
+    /// The places of a term at an indexed field: at most 1,000, those after a place if one is given, and whether more
+    /// follow.
     pub fn find(
         &self,
         field: Field,

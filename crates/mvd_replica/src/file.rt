@@ -13,8 +13,8 @@ use sqlite_disk::Disk;
 pub enum FileFault<D: Disk + Drop> {
     /// No database could be opened: with what is left of the files, if they had been opened.
     File(Error, Option<Leftover<D>>),
-    /// Its records are refused. With the connection: to another program's database as it was, to one of ours as it was, or
-    /// with the tables, the marks or the moved keys that the open had made by then.
+    /// Its records are refused. With the connection: to another program's database as it was, to one of ours as it
+    /// was, or with the tables, the marks or the moved keys that the open had made by then.
     Records(Refusal, Connection<FileStore<D>>),
 }
 
@@ -40,9 +40,10 @@ pub fn open_file<S: Start>(
 }
 
 impl<D: Disk + Drop> Replica<FileStore<D>> {
-    /// Copies what the log holds into the file, and gives both back. If nobody else has written them and their disk has
-    /// returned what was written, the file with its log holds what the records held, and so does the file alone, now and
-    /// after a crash. An error gives the store back: a crash leaves of it nothing that it could not leave before the call.
+    /// Copies what the log holds into the file, and gives both back. If nobody else has written them and their disk
+    /// has returned what was written, the file with its log holds what the records held, and so does the file alone,
+    /// now and after a crash. An error gives the store back: a crash leaves of it nothing that it could not leave
+    /// before the call.
     pub fn close(self) -> Result<Files<D>, (Error, FileStore<D>)>
         ensures { Closes self result }
     {

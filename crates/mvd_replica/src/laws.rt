@@ -22,9 +22,9 @@ pub fn a_site_answers_across_restarts<S: Alter>()
     ensures connection { ServesInRun S.Store }
 {}
 
-/// A stop after any turns, of connections, of rounds of many or of requests at once, or in the middle of them: what it leaves in the
-/// files stands for all that the turns were told, and for what at most some of those requests were to change that were refused with
-/// 21 or 22.
+/// A stop after any turns, of connections, of rounds of many or of requests at once, or in the middle of them: what
+/// it leaves in the files stands for all that the turns were told, and for what at most some of those requests were
+/// to change that were refused with 21 or 22.
 pub fn a_stop_leaves_whole_turns<S: Alter>()
     ensures turns { LeavesWholeTurns S.Store }
     // The next open finds what is left so.

@@ -67,7 +67,8 @@ fn states_of(alloc: Global, pairs: Vec<(Key, Vec<u8>)>) -> Result<Vec<(Key, KeyS
     Ok(states)
 }
 
-/// The site that records of version 2 hold. 17 comes only where they are not in order, and 10 only where they hold too many keys.
+/// The site that records of version 2 hold. 17 comes only where they are not in order, and 10 only where they hold
+/// too many keys.
 fn load<S: Alter>(alloc: Global, records: &mut Records<S>, config: Config) -> Result<Site, Refusal>
     requires { records.old.version ≡ 2 }
     ensures config { IfOk result (IsFresh config) }

@@ -114,7 +114,8 @@ impl Defs {
     /// A second one of the name, and a seventeenth, is `BadDefs`. A refusal changes nothing.
     pub fn view(&mut self, name: ViewName, group: Field, sum: Field) -> Result<(), Refusal>
         ensures ok { OnOk result (with_view self.old (record { name = name; group = group; sum = sum }) ≡ Ok self.new) }
-        ensures refused { IfErr result (λ refusal. refusal ≢ Refusal.Memory → with_view self.old (record { name = name; group = group; sum = sum }) ≡ Err refusal) }
+        ensures refused { IfErr result (λ refusal. refusal ≢ Refusal.Memory →
+            with_view self.old (record { name = name; group = group; sum = sum }) ≡ Err refusal) }
         ensures unchanged { OnErr result (self.new ≡ self.old) }
     {
         let view = ViewDef { name, group, sum };

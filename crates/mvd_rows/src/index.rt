@@ -43,7 +43,8 @@ impl Index {
         document: &Parsed,
         meter: &mut Meter,
     ) -> Result<(), Refusal>
-        ensures places { OnOk result ((visible : Visible) → IsIndexOf self.old visible → map.get visible spot.now ≡ before way document.now →
+        ensures places { OnOk result ((visible : Visible) → IsIndexOf self.old visible →
+            map.get visible spot.now ≡ before way document.now →
             IsIndexOf self.new (moved way visible spot.now document.now)) }
         ensures field { self.new.field ≡ self.old.field }
         ensures memory { IfErr result (λ refusal. refusal ≡ Memory) }
@@ -64,7 +65,8 @@ impl Index {
         document: &Parsed,
         meter: &mut Meter,
     ) -> Result<(), Refusal>
-        ensures places { OnOk result ((visible : Visible) → IsIndexOf self.old visible → map.get visible spot.now ≡ None →
+        ensures places { OnOk result ((visible : Visible) → IsIndexOf self.old visible →
+            map.get visible spot.now ≡ None →
             IsIndexOf self.new (map.insert visible spot.now document.now)) }
         ensures field { self.new.field ≡ self.old.field }
         ensures memory { IfErr result (λ refusal. refusal ≡ Memory) }
@@ -89,7 +91,8 @@ impl Index {
         document: &Parsed,
         meter: &mut Meter,
     ) -> Result<(), Refusal>
-        ensures places { OnOk result ((visible : Visible) → IsIndexOf self.old visible → map.get visible spot.now ≡ Some document.now →
+        ensures places { OnOk result ((visible : Visible) → IsIndexOf self.old visible →
+            map.get visible spot.now ≡ Some document.now →
             IsIndexOf self.new (map.remove visible spot.now)) }
         ensures field { self.new.field ≡ self.old.field }
         ensures memory { IfErr result (λ refusal. refusal ≡ Memory) }
@@ -115,7 +118,9 @@ impl Index {
         meter: &mut Meter,
     ) -> Result<(Vec<Mark>, bool), Refusal>
         ensures ordered { tree.IsOrdered mark_cmp self.now.places.map }
-        ensures page { IfOk result (λ page. IsPageOf (up_to to.now (entries_between mark_cmp (Excluded start.now) Unbounded self.now.places.map.entries)) page.0.items page.1) }
+        ensures page { IfOk result (λ page. IsPageOf
+            (up_to to.now (entries_between mark_cmp (Excluded start.now) Unbounded self.now.places.map.entries))
+            page.0.items page.1) }
         ensures memory { IfErr result (λ refusal. refusal ≡ Memory) }
         ensures counts { Within 0 1002 meter.old meter.new }
         ensures given { IfOk result (λ page. Within 0 (length page.0.items + 2) meter.old meter.new) }
@@ -148,10 +153,13 @@ impl Index {
         meter: &mut Meter,
     ) -> Result<(Vec<Place>, bool), Refusal>
         ensures page { IfOk result (λ page. (visible : Visible) → IsIndexOf self.now visible →
-            ◌≡◌ {A = List PlaceValue × Bool} (page.0.items, page.1) (page_of (filter (λ p. is_past start.now p && not (is_gt (term_cmp p.term to.now))) (places_in self.now.field visible)))) }
+            ◌≡◌ {A = List PlaceValue × Bool} (page.0.items, page.1)
+            (page_of (filter (λ p. is_past start.now p && not (is_gt (term_cmp p.term to.now)))
+            (places_in self.now.field visible)))) }
         ensures memory { IfErr result (λ refusal. refusal ≡ Memory) }
         ensures counts { Within 0 1002 meter.old meter.new }
-        ensures given { IfOk result (λ page. (visible : Visible) → IsIndexOf self.now visible → Within 0 (length page.0.items + 2) meter.old meter.new) }
+        ensures given { IfOk result (λ page. (visible : Visible) → IsIndexOf self.now visible →
+            Within 0 (length page.0.items + 2) meter.old meter.new) }
     {
         let (marks, more) = self.marks(alloc, start, to, meter)?;
         let places = places_of(alloc, marks)?;

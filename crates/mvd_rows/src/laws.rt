@@ -9,5 +9,6 @@ ghost use Rattle.mvd_rows.specs.Visible.{visible, visible_in};
 /// A map of key states that stands for a set of writes makes visible just what the writes do.
 #[tactic(auto, using(crate::proofs::ByKey::visible_of_writes))]
 pub fn same_as_of_writes()
-    ensures { (states : FinMap key_cmp State) (writes : List Write) → Stands states writes → visible_in states ≡ visible writes }
+    ensures { (states : FinMap key_cmp State) (writes : List Write) → Stands states writes →
+        visible_in states ≡ visible writes }
 {}

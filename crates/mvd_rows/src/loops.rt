@@ -26,9 +26,11 @@ pub(crate) fn change_places(
     document: &Parsed,
     meter: &mut Meter,
 ) -> Result<(), Refusal>
-    ensures places { OnOk result ((visible : Visible) → All (λ index. IsIndexOf index visible) indexes.old.items → fin_map.get visible spot.now ≡ before way document.now →
+    ensures places { OnOk result ((visible : Visible) → All (λ index. IsIndexOf index visible) indexes.old.items →
+        fin_map.get visible spot.now ≡ before way document.now →
         All (λ index. IsIndexOf index (moved way visible spot.now document.now)) indexes.new.items) }
-    ensures fields { OnOk result (map (λ index. index.field) indexes.new.items ≡ map (λ index. index.field) indexes.old.items) }
+    ensures fields { OnOk result (map (λ index. index.field) indexes.new.items ≡
+        map (λ index. index.field) indexes.old.items) }
     ensures len { length indexes.new.items ≡ length indexes.old.items }
     ensures memory { IfErr result (λ refusal. refusal ≡ Memory) }
     ensures counts { Within (length indexes.old.items) 0 meter.old meter.new }
@@ -46,8 +48,11 @@ pub(crate) fn change_rows(
     document: &Parsed,
     meter: &mut Meter,
 ) -> Result<(), Refusal>
-    requires { (visible : Visible) × (spot : Spot) × (All (λ view. IsViewOf view visible) views.old.items × (IsSmall visible × (fin_map.get visible spot ≡ before way document.now))) }
-    ensures rows { OnOk result ((visible : Visible) (spot : Spot) → All (λ view. IsViewOf view visible) views.old.items → fin_map.get visible spot ≡ before way document.now →
+    requires { (visible : Visible) × (spot : Spot) ×
+        (All (λ view. IsViewOf view visible) views.old.items ×
+        (IsSmall visible × (fin_map.get visible spot ≡ before way document.now))) }
+    ensures rows { OnOk result ((visible : Visible) (spot : Spot) →
+        All (λ view. IsViewOf view visible) views.old.items → fin_map.get visible spot ≡ before way document.now →
         All (λ view. IsViewOf view (moved way visible spot document.now)) views.new.items) }
     ensures fields { OnOk result (map definition_of views.new.items ≡ map definition_of views.old.items) }
     ensures len { length views.new.items ≡ length views.old.items }

@@ -136,7 +136,8 @@ impl PartialOrd for Tally {
 
     ghost partial_cmp = { as_partial_cmp tally_cmp };
 
-    ghost laws = { partial_order_from_own_ties (Prim.search (comparing, rules) depth 12) (Prim.search (comparing, rules) depth 12) };
+    ghost laws = { partial_order_from_own_ties (Prim.search (comparing, rules) depth 12)
+        (Prim.search (comparing, rules) depth 12) };
 
     fn partial_cmp(&self, other: &Tally) -> Option<Ordering> {
         Some(self.cmp(other))

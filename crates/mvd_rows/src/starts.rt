@@ -51,7 +51,8 @@ fn mark_of(place: Place) -> Mark
 
 /// The mark after which the places from a term on, and after a place, stand.
 pub(crate) fn start_of(alloc: Global, from: &Term, after: Option<Place>) -> Result<Mark, Refusal>
-    ensures start { IfOk result (λ start. (p : PlaceValue) → (not (is_gt (term_cmp from.now p.term)) && is_after_place after p) ≡ is_past start p) }
+    ensures start { IfOk result (λ start. (p : PlaceValue) →
+        (not (is_gt (term_cmp from.now p.term)) && is_after_place after p) ≡ is_past start p) }
     ensures memory { IfErr result (λ refusal. refusal ≡ Memory) }
 {
     match after {
@@ -69,7 +70,8 @@ impl Rows {
     pub(crate) fn index_of(&self, field: &Field) -> Option<&Index>
         ensures has { IfSome result (λ index. has_index (definitions_of self.now).indexes field.now ≡ true) }
         ensures field { IfSome result (λ index. index.now.field ≡ field.now) }
-        ensures places { IfSome result (λ index. (visible : Visible) → AreRowsOf self.now.indexes.items self.now.views.items visible → IsIndexOf index.now visible) }
+        ensures places { IfSome result (λ index. (visible : Visible) →
+            AreRowsOf self.now.indexes.items self.now.views.items visible → IsIndexOf index.now visible) }
         ensures missing { IfNone result (has_index (definitions_of self.now).indexes field.now ≡ false) }
     {
         for index in &self.indexes {
@@ -81,8 +83,10 @@ impl Rows {
     }
 
     pub(crate) fn view_of(&self, name: &ViewName) -> Option<&View>
-        ensures named { IfSome result (λ view. view_named (definitions_of self.now).views name.now ≡ Some (definition_of view.now)) }
-        ensures rows { IfSome result (λ view. (visible : Visible) → AreRowsOf self.now.indexes.items self.now.views.items visible → IsViewOf view.now visible) }
+        ensures named { IfSome result (λ view. view_named (definitions_of self.now).views name.now ≡
+            Some (definition_of view.now)) }
+        ensures rows { IfSome result (λ view. (visible : Visible) →
+            AreRowsOf self.now.indexes.items self.now.views.items visible → IsViewOf view.now visible) }
         ensures missing { IfNone result (view_named (definitions_of self.now).views name.now ≡ None) }
     {
         for view in &self.views {

@@ -80,7 +80,8 @@ impl View {
     #[tactic(auto, using(crate::proofs::Grouped::row_is))]
     pub(crate) fn row_or_none(&self, group: &Term, meter: &mut Meter) -> Row
         ensures row { result ≡ unwrap_or (tree.get term_cmp self.now.rows.map group.now) no_row }
-        ensures is { (visible : Visible) → IsViewOf self.now visible → result ≡ row_of self.now.group self.now.sum group.now visible }
+        ensures is { (visible : Visible) → IsViewOf self.now visible →
+            result ≡ row_of self.now.group self.now.sum group.now visible }
         ensures counts { Within 0 1 meter.old meter.new }
     {
         match self.rows.get(group, meter) {
@@ -97,8 +98,10 @@ impl View {
         document: &Parsed,
         meter: &mut Meter,
     ) -> Result<(), Refusal>
-        requires { (visible : Visible) × (spot : Spot) × (IsViewOf self.old visible × (IsSmall visible × (map.get visible spot ≡ before way document.now))) }
-        ensures rows { OnOk result ((visible : Visible) (spot : Spot) → IsViewOf self.old visible → map.get visible spot ≡ before way document.now →
+        requires { (visible : Visible) × (spot : Spot) ×
+            (IsViewOf self.old visible × (IsSmall visible × (map.get visible spot ≡ before way document.now))) }
+        ensures rows { OnOk result ((visible : Visible) (spot : Spot) → IsViewOf self.old visible →
+            map.get visible spot ≡ before way document.now →
             IsViewOf self.new (moved way visible spot document.now)) }
         ensures fields { HasSameFields self.old self.new }
         ensures memory { IfErr result (λ refusal. refusal ≡ Memory) }
@@ -114,7 +117,8 @@ impl View {
     #[tactic(auto, using(crate::proofs::Grouped::none_come, crate::proofs::Grouped::plain_comes, crate::proofs::Grouped::whole_comes))]
     fn add(&mut self, alloc: Global, document: &Parsed, meter: &mut Meter) -> Result<(), Refusal>
         requires { (visible : Visible) × (IsViewOf self.old visible × IsSmall visible) }
-        ensures rows { OnOk result ((visible : Visible) (spot : Spot) → IsViewOf self.old visible → map.get visible spot ≡ None →
+        ensures rows { OnOk result ((visible : Visible) (spot : Spot) → IsViewOf self.old visible →
+            map.get visible spot ≡ None →
             IsViewOf self.new (map.insert visible spot document.now)) }
         ensures fields { HasSameFields self.old self.new }
         ensures memory { IfErr result (λ refusal. refusal ≡ Memory) }
@@ -149,8 +153,10 @@ impl View {
     /// A sibling goes.
     #[tactic(auto, using(crate::proofs::Going::none_go))]
     fn remove(&mut self, alloc: Global, document: &Parsed, meter: &mut Meter) -> Result<(), Refusal>
-        requires { (visible : Visible) × (spot : Spot) × (IsViewOf self.old visible × (IsSmall visible × (map.get visible spot ≡ Some document.now))) }
-        ensures rows { OnOk result ((visible : Visible) (spot : Spot) → IsViewOf self.old visible → map.get visible spot ≡ Some document.now →
+        requires { (visible : Visible) × (spot : Spot) ×
+            (IsViewOf self.old visible × (IsSmall visible × (map.get visible spot ≡ Some document.now))) }
+        ensures rows { OnOk result ((visible : Visible) (spot : Spot) → IsViewOf self.old visible →
+            map.get visible spot ≡ Some document.now →
             IsViewOf self.new (map.remove visible spot)) }
         ensures fields { HasSameFields self.old self.new }
         ensures memory { IfErr result (λ refusal. refusal ≡ Memory) }
@@ -202,7 +208,10 @@ impl View {
         meter: &mut Meter,
     ) -> Result<(Vec<ShownRow>, bool), Refusal>
         ensures ordered { tree.IsOrdered term_cmp self.now.rows.map }
-        ensures page { IfOk result (λ page. IsPageOf (list_map shown_entry (entries_between term_cmp (start_of after.now) Unbounded self.now.rows.map.entries)) page.0.items page.1) }
+        ensures page { IfOk result (λ page. IsPageOf
+            (list_map shown_entry
+            (entries_between term_cmp (start_of after.now) Unbounded self.now.rows.map.entries))
+            page.0.items page.1) }
         ensures memory { IfErr result (λ refusal. refusal ≡ Memory) }
         ensures counts { Within 0 1002 meter.old meter.new }
         ensures given { IfOk result (λ page. Within 0 (length page.0.items + 2) meter.old meter.new) }
@@ -227,7 +236,8 @@ impl View {
         meter: &mut Meter,
     ) -> Result<(Vec<ShownRow>, bool), Refusal>
         ensures page { IfOk result (λ page. (visible : Visible) → IsViewOf self.now visible →
-            ◌≡◌ {A = List (TermValue × ℕ × ℤ × Option (ℤ × ℤ)) × Bool} (page.0.items, page.1) (page_of (filter (λ r. is_after_term after.now r.0) (view_in (definition_of self.now) visible)))) }
+            ◌≡◌ {A = List (TermValue × ℕ × ℤ × Option (ℤ × ℤ)) × Bool} (page.0.items, page.1)
+            (page_of (filter (λ r. is_after_term after.now r.0) (view_in (definition_of self.now) visible)))) }
         ensures memory { IfErr result (λ refusal. refusal ≡ Memory) }
         ensures counts { Within 0 1002 meter.old meter.new }
         ensures given { IfOk result (λ page. Within 0 (length page.0.items + 2) meter.old meter.new) }
@@ -237,7 +247,8 @@ impl View {
 
     /// Keeps a row, unless nothing is a member of it.
     fn set_row(&mut self, group: Term, row: Row, meter: &mut Meter) -> Result<(), AllocError>
-        ensures row { OnOk result (Becomes term_cmp self.old.rows.map self.new.rows.map group (unless_none row.count row)) }
+        ensures row { OnOk result (Becomes term_cmp self.old.rows.map self.new.rows.map group
+            (unless_none row.count row)) }
         ensures fields { HasSameFields self.old self.new }
         ensures tallies { self.new.tallies ≡ self.old.tallies }
         ensures counts { Within 1 0 meter.old meter.new }

@@ -23,7 +23,8 @@ pub fn run(
     command: Command<'_>,
     out: &mut String,
 ) -> Result<(), Refusal>
-    ensures said { OnOk result (Answers (site_in site) command.entry member.old.world member.new.world (string_bytes out.new)) }
+    ensures said { OnOk result (Answers (site_in site) command.entry member.old.world member.new.world
+        (string_bytes out.new)) }
     ensures memory { IfErr result (λ refusal. refusal ≡ Refusal.Memory) }
 {
     begin_line(out)?;

@@ -174,7 +174,8 @@ impl Script {
 
     /// Runs a command, and whether there were head lines before it.
     fn command(&mut self, site: u64, command: Command<'_>, out: &mut String) -> Result<bool, Fault>
-        ensures taken { IfOk result (λ is_taken. Takes (lines.At site command.entry) self.old self.new is_taken (string_bytes out.new)) }
+        ensures taken { IfOk result (λ is_taken. Takes (lines.At site command.entry) self.old self.new is_taken
+            (string_bytes out.new)) }
         ensures memory { IfErr result (λ fault. fault ≡ Stopped Memory) }
     {
         if !self.begin()? {
@@ -213,7 +214,8 @@ impl Script {
 
     /// The sites of the head lines, with no key.
     fn begun(&self, head: Head) -> Result<Member, Refusal>
-        ensures begun { IfOk result (λ member. IsWorld (setting_of head.sites (unwrap_or head.max_keys 1000000) self.now.defs) member.world nothing_yet) }
+        ensures begun { IfOk result (λ member. IsWorld
+            (setting_of head.sites (unwrap_or head.max_keys 1000000) self.now.defs) member.world nothing_yet) }
         ensures memory { IfErr result (λ refusal. refusal ≡ Memory) }
     {
         let max_keys = head.max_keys.unwrap_or(MOST_KEYS);
@@ -224,10 +226,11 @@ impl Script {
 
 /// Runs the script that the reader gives, and writes what its commands print.
 ///
-/// It ends as `Line` at the first line that is not a command, or is no UTF-8, and as `Stopped` where the script has over
-/// 16,777,216 bytes, the reader or the writer fails, or memory is refused. What was printed before stays.
+/// It ends as `Line` at the first line that is not a command, or is no UTF-8, and as `Stopped` where the script has
+/// over 16,777,216 bytes, the reader or the writer fails, or memory is refused. What was printed before stays.
 pub fn sim<R: Read, W: Write>(alloc: Global, reader: &mut R, writer: &mut W) -> Result<(), Fault>
-    ensures played { Simulates (R.remaining reader.old) (R.remaining reader.new) (W.contents writer.old) (W.contents writer.new) result }
+    ensures played { Simulates (R.remaining reader.old) (R.remaining reader.new) (W.contents writer.old)
+        (W.contents writer.new) result }
     ensures ends { IfErr result EndsEarly }
 {
     match read_input(alloc, reader, SCRIPT_MAX) {

@@ -15,8 +15,8 @@ use std::alloc::Global;
 /// As long as the longest line that tells of a write, a message, a session or a refusal.
 pub const LINE: usize = 64;
 
-/// Asks, and puts what is printed of it in place of what `out` held: what is answered, of a list page after page, or only how it is
-/// refused.
+/// Asks, and puts what is printed of it in place of what `out` held: what is answered, of a list page after page, or
+/// only how it is refused.
 #[tactic(auto, using(crate::proofs::Talking::asks_none, crate::proofs::Talking::speaks_asks, crate::proofs::Talking::none_left, crate::proofs::Talking::speaks_left))]
 pub fn answer<A: Endpoint>(
     alloc: Global,
@@ -47,7 +47,8 @@ pub fn begin_line(out: &mut String) -> Result<(), Refusal>
 
 /// Where something was refused, only the refusal is printed.
 pub fn settle(said: Result<(), Refusal>, out: &mut String) -> Result<(), Refusal>
-    ensures told { (told : Result (List ℕ) Refusal) → Shows told [] (string_bytes out.old) said → OnOk result (string_bytes out.new ≡ told_text told) }
+    ensures told { (told : Result (List ℕ) Refusal) → Shows told [] (string_bytes out.old) said →
+        OnOk result (string_bytes out.new ≡ told_text told) }
     ensures memory { IfErr result (λ refusal. refusal ≡ Refusal.Memory) }
 {
     match said {
@@ -83,7 +84,8 @@ fn say_pages<A: Endpoint>(
     request: Request,
     out: &mut String,
 ) -> Result<(), Refusal>
-    ensures { SpeaksPages A.answers asked.old asked.new ask.entry request (string_bytes out.old) (string_bytes out.new) result }
+    ensures { SpeaksPages A.answers asked.old asked.new ask.entry request (string_bytes out.old)
+        (string_bytes out.new) result }
 {
     let mut request = request;
     for _ in 0..u64::MAX {
@@ -106,7 +108,8 @@ fn turn<A: Endpoint>(
     request: Request,
     out: &mut String,
 ) -> Result<Option<Request>, Refusal>
-    ensures { Turns A.answers asked.old asked.new ask.entry request (string_bytes out.old) (string_bytes out.new) result }
+    ensures { Turns A.answers asked.old asked.new ask.entry request (string_bytes out.old)
+        (string_bytes out.new) result }
 {
     let reply = asked.ask(request);
     let told = tell(alloc, ask, &reply, out);

@@ -78,7 +78,8 @@ fn delete_in<A: Endpoint>(
     key: &str,
     context: &str,
 ) -> Result<Request, Refusal>
-    ensures { (exchanges : List Exchange) × Answered A.answers exchanges asked.old asked.new × IsWriteOf key.now context.now delete_of exchanges result }
+    ensures { (exchanges : List Exchange) × Answered A.answers exchanges asked.old asked.new ×
+        IsWriteOf key.now context.now delete_of exchanges result }
 {
     match Key::read(alloc, key) {
         Ok(key) => match context_of(alloc, asked, &key, context) {
@@ -96,7 +97,8 @@ fn context_of<A: Endpoint>(
     key: &Key,
     text: &str,
 ) -> Result<Context, Refusal>
-    ensures { (exchanges : List Exchange) × Answered A.answers exchanges asked.old asked.new × Sees key.now text.now exchanges result }
+    ensures { (exchanges : List Exchange) × Answered A.answers exchanges asked.old asked.new ×
+        Sees key.now text.now exchanges result }
 {
     if is_at(text) {
         shown_now(alloc, asked, key)
@@ -114,7 +116,8 @@ fn is_at(text: &str) -> bool
 
 /// The context that is shown for a key now.
 fn shown_now<A: Endpoint>(alloc: Global, asked: &mut A, key: &Key) -> Result<Context, Refusal>
-    ensures { (exchanges : List Exchange) × Answered A.answers exchanges asked.old asked.new × Sees key.now (codes "@") exchanges result }
+    ensures { (exchanges : List Exchange) × Answered A.answers exchanges asked.old asked.new ×
+        Sees key.now (codes "@") exchanges result }
 {
     let Ok(key) = key.copy(alloc) else {
         return Err(Refusal::Memory);

@@ -96,7 +96,8 @@ fn is_stopped<R: Read, W: Write>(
     matches!(&ended, Err(Fault::Stopped(refusal)) if *refusal == wanted)
 }
 
-/// Whether a script that does not end, or cannot be read, is stopped and prints nothing; and one that cannot be printed.
+/// Whether a script that does not end, or cannot be read, is stopped and prints nothing; and one that cannot be
+/// printed.
 fn are_stopped(alloc: Global) -> bool {
     let mut out = Vec::new(alloc);
     let mut script = b"sites 1\nget 1 k\n".as_slice();

@@ -71,8 +71,8 @@ fn push_shared(text: &mut String, keys: &str, is_fourth: bool) -> Result<(), All
     Ok(())
 }
 
-/// What the two sites do to a key while apart: it is written on one side alone, deleted, written on both, or deleted on one
-/// and written blindly on the other.
+/// What the two sites do to a key while apart: it is written on one side alone, deleted, written on both, or deleted
+/// on one and written blindly on the other.
 fn push_change(text: &mut String, at: usize, key: &str) -> Result<(), AllocError> {
     match at {
         0 => writeln!(text, "put 1 {key} - {{}}"),

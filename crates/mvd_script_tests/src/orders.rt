@@ -25,7 +25,8 @@ fn address(ip: Ipv4Addr, port: u16) -> SocketAddr {
     SocketAddr::new(IpAddr::V4(ip), port)
 }
 
-/// What comes of a line: an order of this command, a number that is out of its range, or a refusal or a help that says this.
+/// What comes of a line: an order of this command, a number that is out of its range, or a refusal or a help that
+/// says this.
 #[derive(Clone, Copy)]
 enum Wanted {
     Serve,

@@ -1,11 +1,13 @@
-//! A script of which one growth is refused, whichever it is: tools/faults.sh refuses each in turn. With none refused it prints as ever.
+//! A script of which one growth is refused, whichever it is: tools/faults.sh refuses each in turn. With none refused
+//! it prints as ever.
 use mvd_dots::Refusal;
 use mvd_input::Fault;
 use mvd_script::sim;
 use std::alloc::{AllocError, Global};
 use std::test::Fail;
 
-/// Head lines, and then commands, each of which but the last prints one line. What the session brings changes no line behind it.
+/// Head lines, and then commands, each of which but the last prints one line. What the session brings changes no line
+/// behind it.
 const SCRIPT: &str =
     "sites 2\nindex n\nview v n n\nput 1 k - {\"n\":1}\nrange 1 n [0,9]\nsend 1 k\nrecv 2 1\n\
     put 2 k @ {\"n\":2}\nfind 2 n 2\nrows 2 v\nput 1 m - {\"n\":3}\nrow 1 v 3\ndel 1 m 1:1\nroot 1\nsync 1 2\n\
@@ -101,8 +103,8 @@ fn is_but_refused(printed: &str, wanted: &str) -> bool {
     left.next().is_none()
 }
 
-/// Whether a script tells what it did: what was refused was not done, and all else is as in a script without it. Where it stops, it
-/// has printed what it prints before.
+/// Whether a script tells what it did: what was refused was not done, and all else is as in a script without it.
+/// Where it stops, it has printed what it prints before.
 fn tells(alloc: Global) -> Result<bool, AllocError> {
     let first = outcome_of(alloc, SCRIPT);
     if first.end == End::Stopped {

@@ -184,7 +184,8 @@ impl Crowd {
         }
     }
 
-    /// Writes once, where something waits and may be taken. Tells how the connection ended, where nothing is left to do.
+    /// Writes once, where something waits and may be taken. Tells how the connection ended, where nothing is left to
+    /// do.
     pub fn write(&mut self, number: u64) -> Result<(), Refusal> {
         let due = self.now.saturating_add(self.idle);
         match self.clients.get_mut(&number) {

@@ -79,8 +79,8 @@ fn not_allowed(methods: Methods) -> Answer {
     }
 }
 
-/// Takes the next request of a client, where none waits for its answer. One that the site is asked goes to the host as a frame, and
-/// each other is answered.
+/// Takes the next request of a client, where none waits for its answer. One that the site is asked goes to the host
+/// as a frame, and each other is answered.
 pub(crate) fn ask<S: Alter + Drop>(
     alloc: Global,
     host: &mut Host,

@@ -20,8 +20,8 @@ use std::net::{Net, SocketAddr};
 use std::random::RandomSource;
 use std::time::{Clock, Duration, Instant};
 
-/// What a server is asked for: the port for HTTP, if it serves that too, how many connections it serves in all, and for how many
-/// seconds no byte need move on one.
+/// What a server is asked for: the port for HTTP, if it serves that too, how many connections it serves in all, and
+/// for how many seconds no byte need move on one.
 #[derive(Clone, Copy)]
 pub struct Terms {
     pub http: Option<u16>,
@@ -42,11 +42,11 @@ struct Server {
     start: Instant,
 }
 
-/// Serves so many connections at an address, or without end, many at once, and tells where it listens, how each connection ended,
-/// and at the end the root digest. Each line is flushed as it is written.
+/// Serves so many connections at an address, or without end, many at once, and tells where it listens, how each
+/// connection ended, and at the end the root digest. Each line is flushed as it is written.
 ///
-/// What came together of all clients is answered together, and then the replies leave. No client is waited for. It is `Stopped` with
-/// `ReadFailed` where it cannot listen or wait, and with `WriteFailed` where a line cannot be written.
+/// What came together of all clients is answered together, and then the replies leave. No client is waited for. It is
+/// `Stopped` with `ReadFailed` where it cannot listen or wait, and with `WriteFailed` where a line cannot be written.
 #[tactic(auto, using(crate::proofs::Rounds::served_none))]
 pub fn serve_run<'a, N: Net + Clock + RandomSource, S: Alter + Drop, W: Write>(
     rt: &N,
@@ -226,7 +226,8 @@ impl Server {
         Ok(())
     }
 
-    /// Writes once to each client that is listed, tells which ended, and lists those for which there may be more to do at once.
+    /// Writes once to each client that is listed, tells which ended, and lists those for which there may be more to
+    /// do at once.
     fn give_out<W: Write>(&mut self, writer: &mut W) -> Result<(), Fault> {
         mem::swap(&mut self.ready, &mut self.next);
         self.ready.clear();

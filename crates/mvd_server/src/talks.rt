@@ -25,8 +25,8 @@ pub(crate) enum Kind {
     Http,
 }
 
-/// The clients' connections. Each client has one in the host. That of a client over HTTP carries the frames of its requests, and what
-/// the client itself sends and is sent stands in `webs`.
+/// The clients' connections. Each client has one in the host. That of a client over HTTP carries the frames of its
+/// requests, and what the client itself sends and is sent stands in `webs`.
 #[derive(Drop)]
 pub(crate) struct Talks {
     pub host: Host,
@@ -187,7 +187,8 @@ impl Talks {
         }
     }
 
-    /// Whether no further request of a client over HTTP is taken, since the host ended its connection. The responses that wait leave.
+    /// Whether no further request of a client over HTTP is taken, since the host ended its connection. The responses
+    /// that wait leave.
     fn is_over(&self, number: u64, web: &WebConnection) -> bool {
         web.asked().is_none() && self.host.ending(number).is_some()
     }

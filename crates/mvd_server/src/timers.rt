@@ -2,7 +2,8 @@
 use std::alloc::Global;
 use std::collections::BTreeSet;
 
-/// The times at which clients are looked after, in milliseconds, each with its client's number. The first is found at once.
+/// The times at which clients are looked after, in milliseconds, each with its client's number. The first is found at
+/// once.
 #[derive(Drop)]
 pub(crate) struct Timers {
     entries: BTreeSet<(u64, u64)>,

@@ -107,7 +107,8 @@ impl Site {
 
     /// The digests of a node and, above the buckets, of its children. It takes no memory; a broken site refuses it.
     pub fn node(&self, path: &Path) -> Result<Digests, Refusal>
-        ensures { result ≡ unless_broken self.now.broken (Err Broken) (Ok (node_digests (digests self.now.states) path.now)) }
+        ensures { result ≡ unless_broken self.now.broken (Err Broken)
+            (Ok (node_digests (digests self.now.states) path.now)) }
     {
         self.kept.node(path)
     }
@@ -121,8 +122,10 @@ impl Site {
     ) -> Result<(Vec<(Key, [u8; 32])>, bool), Refusal>
         ensures whole { IfOk result (λ _. self.now.broken ≡ false) }
         ensures path { IfOk result (λ _. length path.now ≡ 3) }
-        ensures keys { IfOk result (λ page. page.0.items ≡ page_of (digests self.now.states) path.now (option_copied after.entry)) }
-        ensures more { IfOk result (λ page. page.1 ≡ is_more_after_page (digests self.now.states) path.now (option_copied after.entry)) }
+        ensures keys { IfOk result (λ page. page.0.items ≡
+            page_of (digests self.now.states) path.now (option_copied after.entry)) }
+        ensures more { IfOk result (λ page. page.1 ≡
+            is_more_after_page (digests self.now.states) path.now (option_copied after.entry)) }
         ensures refused { IfErr result (λ refusal. refusal ≡ bucket_refusal self.now.broken path.now) }
     {
         self.kept.bucket(path, after)
@@ -201,7 +204,8 @@ impl Site {
         ensures answer { AnswersFrom self.old self.new (Push key.now pushed.now) (push_reply result) }
         ensures joined { OnOk result (self.new ≡ joined_site self.old key.now pushed.now) }
         ensures agreed { OnOk result (clashes (state_at self.old.states key.now) pushed.now ≡ false) }
-        ensures clash { IfErr result (λ refusal. refusal ≡ DotClash → clashes (state_at self.old.states key.now) pushed.now ≡ true) }
+        ensures clash { IfErr result (λ refusal. refusal ≡ DotClash →
+            clashes (state_at self.old.states key.now) pushed.now ≡ true) }
         ensures unchanged { IfErr result (λ refusal. refusal ≢ Broken → self.new ≡ self.old) }
         // Whether it is broken, and for good.
         ensures told { IfErr result (λ refusal. refusal ≡ Broken → self.new ≡ broken_site self.old) }

@@ -177,8 +177,8 @@ pub fn refusals(site: &mut Counting, liar: &mut Counting) -> Option<u64> {
     None
 }
 
-/// Whether pages without end stop a session of at most a hundred questions to each side, on either side; and one of which
-/// no number is said at ten million.
+/// Whether pages without end stop a session of at most a hundred questions to each side, on either side; and one of
+/// which no number is said at ten million.
 pub fn stop(site: &mut Counting, liar: &mut Counting) -> bool {
     let alloc = site.alloc;
     liar.lie = Some(Lie::OneKeyForEver);

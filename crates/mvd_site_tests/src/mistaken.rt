@@ -14,8 +14,8 @@ fn put_both(site: &mut Counting, peer: &mut Counting) -> Result<bool, Refusal> {
     )
 }
 
-/// Whether a session takes the state of `a` that it is given, and the next one leaves the key for which the peer refuses
-/// it.
+/// Whether a session takes the state of `a` that it is given, and the next one leaves the key for which the peer
+/// refuses it.
 pub fn takes_what_is_given(site: &mut Counting, peer: &mut Counting) -> Result<bool, Refusal> {
     peer.given = Some(Key::read(peer.alloc, "a")?);
     let are_put = put_both(site, peer)?;

@@ -12,8 +12,8 @@ use mvd_site::{Config, Site};
 use mvd_wire::{Digests, Reply, Request, decode_state};
 use std::alloc::Global;
 
-/// A site that counts the questions that it is asked; it may lie, or give one key's state for that of any key. Nothing is
-/// claimed of it.
+/// A site that counts the questions that it is asked; it may lie, or give one key's state for that of any key.
+/// Nothing is claimed of it.
 #[derive(Drop)]
 pub struct Counting {
     pub alloc: Global,

@@ -89,7 +89,8 @@ fn stands(one: &mut Counting, two: &mut Counting) -> Result<bool, Refusal> {
     }
 }
 
-/// Whether a session of these two stands; 20 where the keys could not be put, and there alone, since that is tried again.
+/// Whether a session of these two stands; 20 where the keys could not be put, and there alone, since that is tried
+/// again.
 pub fn session_of(one: &mut Counting, two: &mut Counting) -> Result<bool, Refusal> {
     if put_all(one, two) == Ok(true) {
         Ok(stands(one, two) == Ok(true))

@@ -1,5 +1,5 @@
-//! An example of replicas within a program: two of them write while apart, meet, and one resolves what both wrote. A program
-//! names `mvd_store` where this module says `crate`.
+//! An example of replicas within a program: two of them write while apart, meet, and one resolves what both wrote. A
+//! program names `mvd_store` where this module says `crate`.
 
 ghost use Rattle.std.specs.Prelude.{◌<◌};
 
@@ -16,8 +16,8 @@ const BERGEN: &str = "{\"city\":\"Bergen\"}";
 
 const BOTH: &str = "{\"city\":\"Oslo\",\"was\":\"Bergen\"}";
 
-/// Two sites write to one key, and one of them resolves it. It prints the documents that are read, and how many keys each session
-/// exchanged. Each replica is one that `opened` gives, or one of a file.
+/// Two sites write to one key, and one of them resolves it. It prints the documents that are read, and how many keys
+/// each session exchanged. Each replica is one that `opened` gives, or one of a file.
 pub fn run<S: Alter, T: Alter>(
     alloc: Global,
     desk: &mut Replica<S>,

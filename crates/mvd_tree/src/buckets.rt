@@ -32,7 +32,8 @@ pub(crate) fn change_bucket(
     digest: Option<[u8; 32]>,
 ) -> Result<(), Refusal>
     requires { number < length buckets.old.items }
-    ensures ok { OnOk result (buckets.new.items ≡ slice_set buckets.old.items number (changed (slice_index_or buckets.old.items number empty) key.now digest)) }
+    ensures ok { OnOk result (buckets.new.items ≡
+        slice_set buckets.old.items number (changed (slice_index_or buckets.old.items number empty) key.now digest)) }
     ensures err { OnErr result (buckets.new.items ≡ buckets.old.items) }
 {
     buckets[number].change(alloc, key, digest)
@@ -45,13 +46,15 @@ fn put_in(
     digest: [u8; 32],
 ) -> Result<(), Refusal>
     requires { number < length buckets.old.items }
-    ensures { OnOk result (buckets.new.items ≡ slice_set buckets.old.items number (insert (slice_index_or buckets.old.items number empty) key digest)) }
+    ensures { OnOk result (buckets.new.items ≡
+        slice_set buckets.old.items number (insert (slice_index_or buckets.old.items number empty) key digest)) }
 {
     buckets[number].put_owned(key, digest)
 }
 
 fn empty_buckets(alloc: Global, count: usize) -> Result<Vec<Bucket>, AllocError>
-    ensures { IfOk result (λ buckets. (length buckets.items ≡ count) × ((n : ℕ) → slice_index_or buckets.items n empty ≡ empty)) }
+    ensures { IfOk result (λ buckets. (length buckets.items ≡ count) ×
+        ((n : ℕ) → slice_index_or buckets.items n empty ≡ empty)) }
 {
     let mut buckets = Vec::with_capacity(alloc, count)?;
     while buckets.len() < count {

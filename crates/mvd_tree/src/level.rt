@@ -66,8 +66,8 @@ fn last_kept(midstates: &[Option<CountedHasher>], first: usize) -> (usize, Count
     (first, CountedHasher::new())
 }
 
-/// The computation over a node's sixteen children. It goes on from the last midstate that is kept, and keeps those behind
-/// it.
+/// The computation over a node's sixteen children. It goes on from the last midstate that is kept, and keeps those
+/// behind it.
 fn read_children(
     nodes: &[Option<[u8; 32]>],
     midstates: &mut Vec<Option<CountedHasher>>,

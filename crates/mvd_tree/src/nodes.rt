@@ -17,7 +17,8 @@ pub(crate) fn bucket_nodes(
     buckets: &mut Vec<Bucket>,
     hashed: &mut Hashed,
 ) -> Result<Vec<Option<[u8; 32]>>, Refusal>
-    ensures nodes { IfOk result (λ nodes. nodes.items ≡ map (λ bucket. kept_bucket (entries bucket)) buckets.old.items) }
+    ensures nodes { IfOk result (λ nodes. nodes.items ≡
+        map (λ bucket. kept_bucket (entries bucket)) buckets.old.items) }
     ensures same { buckets.new.items ≡ buckets.old.items }
     ensures counts { Hashes (length buckets.old.items) (32 * all_keys buckets.old.items) hashed.old hashed.new }
 {

@@ -85,7 +85,8 @@ impl Tree {
         ensures ok { IfOk result (λ tree. tree ≡ from_entries entries.items) }
         ensures err { IfErr result (λ refusal. refusal ≡ Refusal.Memory) }
         // One computation for each key and at most one for each node.
-        ensures counts { Hashes (length entries.items + 4369) (key_bytes entries.items + 32 * length entries.items + 174720) hashed.old hashed.new }
+        ensures counts { Hashes (length entries.items + 4369)
+            (key_bytes entries.items + 32 * length entries.items + 174720) hashed.old hashed.new }
     {
         match Self::opened(alloc, entries, hashed) {
             Ok(tree) => Ok(tree),
@@ -100,7 +101,8 @@ impl Tree {
     ) -> Result<Self, Refusal>
         requires { T (is_sorted key_cmp entries.items) }
         ensures ok { IfOk result (λ tree. tree ≡ from_entries entries.items) }
-        ensures counts { Hashes (length entries.items + 4369) (key_bytes entries.items + 32 * length entries.items + 174720) hashed.old hashed.new }
+        ensures counts { Hashes (length entries.items + 4369)
+            (key_bytes entries.items + 32 * length entries.items + 174720) hashed.old hashed.new }
     {
         let mut buckets = filled(alloc, entries, hashed)?;
         let mut lowest = Level::new(alloc, bucket_nodes(alloc, &mut buckets, hashed)?)?;
@@ -117,7 +119,8 @@ impl Tree {
         })
     }
 
-    /// Gives a key a digest, or lets it be held no more. Where memory is refused, which is `Broken`, the tree is as before.
+    /// Gives a key a digest, or lets it be held no more. Where memory is refused, which is `Broken`, the tree is as
+    /// before.
     pub fn change(
         &mut self,
         key: &Key,
@@ -127,8 +130,8 @@ impl Tree {
         ensures ok { OnOk result (self.new ≡ changed self.old key.now digest) }
         ensures err { IfErr result (λ refusal. refusal ≡ Refusal.Broken) }
         ensures unchanged { OnErr result (self.new ≡ self.old) }
-        // The computations of its path, its bucket and the three nodes above. They read the key, the digests of the keys
-        // with its path, and at most sixteen digests of each node.
+        // The computations of its path, its bucket and the three nodes above. They read the key, the digests of the
+        // keys with its path, and at most sixteen digests of each node.
         ensures counts { Hashes 5 (length key.now + 32 * keys_beside self.new key.now + 3 * 512) hashed.old hashed.new }
         ensures refused { IfErr result (λ _. Hashes 1 (length key.now) hashed.old hashed.new) }
     {
@@ -145,9 +148,9 @@ impl Tree {
         Ok(())
     }
 
-    /// Changes many keys at once, each as `change` does, the later ones after the earlier ones. It computes the path of
-    /// each key, each bucket that they touch and each node above once. Where memory is refused, which is `Broken`, some of
-    /// the first are changed.
+    /// Changes many keys at once, each as `change` does, the later ones after the earlier ones. It computes the path
+    /// of each key, each bucket that they touch and each node above once. Where memory is refused, which is `Broken`,
+    /// some of the first are changed.
     pub fn change_all(
         &mut self,
         changes: &[(Key, Option<[u8; 32]>)],

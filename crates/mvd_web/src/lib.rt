@@ -1,4 +1,5 @@
-//! One HTTP connection without IO: bytes come in, one request at a time is taken, its response is queued, and bytes leave.
+//! One HTTP connection without IO: bytes come in, one request at a time is taken, its response is queued, and bytes
+//! leave.
 #![tactic(auto)]
 
 mod desk;

@@ -49,14 +49,16 @@ fn own_fields<'a>(
     Ok(list)
 }
 
-/// The fields of a response, with those that frame a body of so many bytes. A 204 has no body, and no field for its length.
+/// The fields of a response, with those that frame a body of so many bytes. A 204 has no body, and no field for its
+/// length.
 fn listed<'a>(
     alloc: Global,
     filled: &'a Response,
     digits: &'a [u8],
     is_last: bool,
 ) -> Result<Vec<Header<'a>>, AllocError>
-    ensures { IfOk result (λ list. pairs list.items ≡ fields_of filled.now ++ framed filled.now.status digits.now is_last) }
+    ensures { IfOk result (λ list. pairs list.items ≡
+        fields_of filled.now ++ framed filled.now.status digits.now is_last) }
 {
     let mut list = own_fields(alloc, &filled.headers)?;
     list.push(persistence(is_last))?;
@@ -72,7 +74,8 @@ fn listed<'a>(
 
 /// Writes a head.
 fn put_head(out: &mut BytesMut, status: StatusCode, fields: &[Header<'_>]) -> Result<(), AllocError>
-    ensures { OnOk result (out.new.items ≡ out.old.items ++ response_text 1 status (reason_of status) (pairs fields.now)) }
+    ensures { OnOk result (out.new.items ≡
+        out.old.items ++ response_text 1 status (reason_of status) (pairs fields.now)) }
 {
     let reason = status.canonical_reason().unwrap_or("").as_bytes();
     match write_response(out, 1, status.as_u16(), reason, fields, &[]) {

@@ -59,7 +59,8 @@ impl WebConnection {
         }
     }
 
-    /// Whether more bytes are wanted: all that came was looked at, no request waits for its answer, and there is room for responses.
+    /// Whether more bytes are wanted: all that came was looked at, no request waits for its answer, and there is room
+    /// for responses.
     pub fn wants_input(&self) -> bool
         ensures { IsTrue result ↔ WantsInput (web_of self.now) }
     {
@@ -116,8 +117,8 @@ impl WebConnection {
         }
     }
 
-    /// Takes the next request, where no other waits for its answer. Whether one was taken. Where none was, what the parser answers
-    /// for itself is queued.
+    /// Takes the next request, where no other waits for its answer. Whether one was taken. Where none was, what the
+    /// parser answers for itself is queued.
     pub fn next(&mut self) -> bool
         ensures { Takes (web_of self.old) result (web_of self.new) }
     {

@@ -104,7 +104,8 @@ fn each_entry_at(
     count: u32,
     bytes: &[u8],
 ) -> Result<(Context, &[u8]), Refusal>
-    ensures { Gives (λ x. (x.0, x.1.now)) result (dots_read ((each (entry (layout_of version)) (λ _ e. e.site) 0 count).read bytes.now)) }
+    ensures { Gives (λ x. (x.0, x.1.now)) result
+        (dots_read ((each (entry (layout_of version)) (λ _ e. e.site) 0 count).read bytes.now)) }
 {
     let mut context = Context::new(alloc);
     let mut previous = 0;

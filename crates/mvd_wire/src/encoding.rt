@@ -23,7 +23,8 @@ pub fn encode_key(alloc: Global, value: &Key) -> Result<Vec<u8>, Refusal>
 /// The one spelling of a state, of at most 1,150,000 bytes.
 #[tactic(auto, unfolding(crate::specs::Codecs::spell_state))]
 pub fn encode_state(alloc: Global, value: &KeyState) -> Result<Vec<u8>, Refusal>
-    ensures exact { Gives (λ v. v.items) result (spelled_within Refusal.StateTooLarge state_limit (state layout2) value.now) }
+    ensures exact { Gives (λ v. v.items) result
+        (spelled_within Refusal.StateTooLarge state_limit (state layout2) value.now) }
     ensures spells { IfOk result (λ v. Spells (state layout2) value.now v.items) }
 {
     if state_length(value) > STATE_LIMIT {

@@ -1,4 +1,5 @@
-//! Requests and replies; how they and what they hold are spelled in bytes; and the spelling of keys and states, read and written.
+//! Requests and replies; how they and what they hold are spelled in bytes; and the spelling of keys and states, read
+//! and written.
 #![tactic(auto)]
 
 mod context_bytes;

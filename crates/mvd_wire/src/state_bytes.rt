@@ -32,7 +32,8 @@ fn sibling_at<'a>(
     previous: Option<Dot>,
     bytes: &'a [u8],
 ) -> Result<(Sibling, &'a [u8]), Refusal>
-    ensures { Gives (λ x. (pair_of x.0, x.1.now)) result ((sibling (layout_of version) context.now previous).read bytes.now) }
+    ensures { Gives (λ x. (pair_of x.0, x.1.now)) result
+        ((sibling (layout_of version) context.now previous).read bytes.now) }
 {
     let (dot, rest) = match dot_at(version, bytes) {
         Ok(found) => found,
@@ -53,7 +54,8 @@ fn each_sibling_at<'a>(
     count: u16,
     bytes: &'a [u8],
 ) -> Result<(Vec<Sibling>, &'a [u8]), Refusal>
-    ensures { Gives (λ x. (pairs_of x.0.items, x.1.now)) result ((each (sibling (layout_of version) context.now) (λ _ s. Some s.0) None count).read bytes.now) }
+    ensures { Gives (λ x. (pairs_of x.0.items, x.1.now)) result
+        ((each (sibling (layout_of version) context.now) (λ _ s. Some s.0) None count).read bytes.now) }
 {
     let mut siblings = Vec::new(alloc);
     let mut previous = None;
@@ -74,7 +76,8 @@ fn list_of_siblings_at<'a>(
     context: &Context,
     bytes: &'a [u8],
 ) -> Result<(Vec<Sibling>, &'a [u8]), Refusal>
-    ensures { Gives (λ x. (pairs_of x.0.items, x.1.now)) result ((siblings (layout_of version) context.now).read bytes.now) }
+    ensures { Gives (λ x. (pairs_of x.0.items, x.1.now)) result
+        ((siblings (layout_of version) context.now).read bytes.now) }
 {
     let (count, rest) = u16_at(bytes)?;
     each_sibling_at(alloc, version, context, count, rest)
@@ -87,7 +90,8 @@ fn siblings_at<'a>(
     context: &Context,
     bytes: &'a [u8],
 ) -> Result<(Vec<Sibling>, &'a [u8]), Refusal>
-    ensures read { Gives (λ x. (pairs_of x.0.items, x.1.now)) result ((siblings (layout_of version) context.now).read bytes.now) }
+    ensures read { Gives (λ x. (pairs_of x.0.items, x.1.now)) result
+        ((siblings (layout_of version) context.now).read bytes.now) }
     ensures parts { IfOk result (λ x. AreParts x.0.items context.now) }
 {
     list_of_siblings_at(alloc, version, context, bytes)
@@ -113,7 +117,8 @@ fn unlimited_state_at(
     bytes: &[u8],
 ) -> Result<(KeyState, &[u8]), Refusal>
     ensures read { Gives (λ x. (x.0, x.1.now)) result ((unlimited_state (layout_of version)).read bytes.now) }
-    ensures len { IfOk result (λ x. length ((unlimited_state (layout_of version)).spell x.0) + length x.1.now ≡ length bytes.now) }
+    ensures len { IfOk result (λ x. length ((unlimited_state (layout_of version)).spell x.0) + length x.1.now ≡
+        length bytes.now) }
 {
     parts_of_state_at(alloc, version, bytes)
 }

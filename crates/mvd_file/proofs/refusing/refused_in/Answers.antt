@@ -17,6 +17,7 @@ returns g c = record {
   ours = λ _ _. record {
     owner = c.owner_in-owner.result;
     named = c.owner_in-owner.ensures.named;
+    unnamed = c.owner_in-owner.ensures.unnamed;
     told = record {
       fault = c.in_records.ensures.fault;
       damaged = c.in_records.ensures.damaged;

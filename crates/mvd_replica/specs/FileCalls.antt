@@ -11,6 +11,8 @@ use Rattle.sqlite_trees.specs.declared.error.StoreError.{StoreError}
 use Rattle.sqlite_trees.specs.declared.store.Store as store
 use Rattle.sqlite_trees.specs.View.{IsClean}
 use Rattle.sqlite.specs.declared.error.Error.{Error}
+use Rattle.sqlite.specs.declared.error.Error.TheVariants.{SqliteFailure}
+use Rattle.sqlite.specs.declared.error.ErrorCode.TheVariants.{CannotOpen}
 use Rattle.sqlite.specs.Effect.{Database}
 use Rattle.sqlite.specs.Files.{FailsToClose, file_state}
 use Rattle.sqlite.specs.Recovery.{Image}
@@ -18,6 +20,7 @@ use Rattle.sqlite.specs.State.{HasCleanDisk, State, store_error}
 use Rattle.sqlite.specs.Tree.{Trees}
 use Rattle.sqlite.specs.WalReads.{AreClean}
 use Rattle.mvd_replica.specs.declared.file.FileFault.{FileFault}
+use Rattle.mvd_replica.specs.declared.file.FileFault.TheVariants.{File}
 use Rattle.mvd_replica.specs.declared.replica.Replica.{Replica}
 use Rattle.mvd_replica.specs.File.{ClosesFile, IsFoundIn, OpensFile}
 use Rattle.mvd_restore.specs.Kept.{HoldsSite, HoldsStates}
@@ -25,6 +28,10 @@ use Rattle.mvd_replica.specs.Refused.{FailsFile}
 use Rattle.mvd_replica.specs.Replicas.{conn_of, site_of, stored_of}
 use Rattle.mvd_restore.specs.Restored.{HasWrites, IsFresh}
 use Rattle.mvd_replica.specs.Whole.{IsAtRest, LeavesStates}
+
+-- there is no such file to open
+abbrev pub IsNoFile : {D : Type 0} {g : Ghosts D} → FileFault D g → Type 0
+IsNoFile fault = (left : _) × (fault ≡ File (SqliteFailure CannotOpen) left)
 
 module _ {D : Type 0} {g : Ghosts D} {f : store.Ghosts (FileStore D g)} where
   -- what the connection of a replica shows whose records stand in a file

@@ -1,5 +1,6 @@
 //! A site in a file: opened from what the file and its log hold, and closed into them.
-ghost use Rattle.mvd_replica.specs.FileCalls.{Closes, OpensAsSite};
+ghost use Rattle.std.specs.Prelude.{◌≡◌, IsErrAnd, codes};
+ghost use Rattle.mvd_replica.specs.FileCalls.{Closes, IsNoFile, OpensAsSite};
 ghost use Rattle.sqlite.specs.WalFiles.{image_at};
 
 use crate::replica::Replica;
@@ -20,14 +21,17 @@ pub enum FileFault<D: Disk + Drop> {
 
 /// Opens the site that the file at a path holds, which is made where it is missing. The clause holds
 /// for whatever stands in the file and its log: `S` names that, and no code can read it. `main` alone
-/// picks one: `Unknown`, where a torn write leaves each byte old or new. No clause ties it to the path.
+/// picks one: `Unknown`, where a torn write leaves each byte old or new. No clause ties it to the path, but that
+/// `:memory:` is no file.
 pub fn open_file<S: Start>(
     rt: &HostRuntime,
     path: &str,
     start: S,
     config: Config,
 ) -> Result<Replica<FileStore<FileFrom<S>>>, FileFault<FileFrom<S>>>
-    ensures { OpensAsSite (image_at S.Start) config result }
+    ensures opens { OpensAsSite (image_at S.Start) config result }
+    // This names no file.
+    ensures memory { path.now ≡ codes ":memory:" → IsErrAnd result IsNoFile }
 {
     let conn = match Connection::open_from(rt, path, false, start) {
         Ok(conn) => conn,

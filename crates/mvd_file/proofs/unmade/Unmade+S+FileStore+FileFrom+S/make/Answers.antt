@@ -9,7 +9,7 @@ returns-in-Ok g c = record {
   file = refl;
   opened = (
     opens_by_copy (image_at g.S.Start) c.config.result.now c.in_ok-config.config c.args.self.now.empty.config (Ok c.in-Ok.replica)
-        c.in_ok-config.ensures c.config.ensures c.in-Ok.ensures,
+        c.in_ok-config.ensures c.config.ensures c.in-Ok.ensures.opens,
     c.take.ensures.after,
   );
   refused = tt;
@@ -33,7 +33,7 @@ returns-in-Err g c = record {
     inr (
       c.in-Err.fault,
       opens_by_copy (image_at g.S.Start) c.config.result.now c.in_ok-config.config c.args.self.now.empty.config (Err c.in-Err.fault)
-          c.in_ok-config.ensures c.config.ensures c.in-Err.ensures,
+          c.in_ok-config.ensures c.config.ensures c.in-Err.ensures.opens,
     ),
     c.take.ensures.after,
   );

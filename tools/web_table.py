@@ -20,6 +20,7 @@ def by_curl():
     yield "/index/city?from=%22R%22&to=%22S%22", [], 200, '"key":"t"'
     yield "/index/city?from=%22S%22&to=%22R%22", [], 200, '{"places":[]}'
     yield "/index/city?is=%22Rome%22&after=1:1%20t%20%22Rome%22", [], 200, '{"places":[]}'
+    yield "/index/city?from=%22R%22&to=%22S%22&limit=10&page=2&after=1:1%20t%20%22Rome%22", [], 200, '{"places":[]}'
     yield "/views/visits/rows", [], 200, '{"term":"Rome","count":1,"sum":2,"least":2,"greatest":2}'
     yield "/views/visits/rows?after=%22Rome%22", [], 200, '{"rows":[]}'
     yield "/views/visits/row?is=%22Rome%22", [], 200, '"count":1'

@@ -1,6 +1,6 @@
 -- The parts of a target (RFC 3986, path and query), and the options of a query, as texts.
-use Rattle.std.specs.Prelude.{ℕ, ◌+◌, ◌-◌, ◌==◌, not, if◌then◌else◌, List, [], length, take, drop, Option, Some, None, Result, Err}
-use Rattle.std.specs.List.{prefix_len}
+use Rattle.std.specs.Prelude.{ℕ, ◌+◌, ◌-◌, ◌==◌, not, if◌then◌else◌, List, [], ◌∷◌, length, take, drop, Option, Some, None, Result, Err}
+use Rattle.std.specs.List.{prefix_len, slice_split}
 use Rattle.std.specs.Str.{bytes_eq, is_utf8}
 use Rattle.percent_encoding.specs.Percent.{percent_decode}
 use Rattle.mvd_dots.specs.declared.refusals.Refusal.{Refusal}
@@ -33,19 +33,19 @@ read_text read refusal text = if is_utf8 text then read text else Err refusal
 abbrev pub read_part : {T : Type 0} → (List ℕ → Result T Refusal) → Refusal → List ℕ → Result T Refusal
 read_part read refusal text = read_text read refusal (percent_decode text)
 
--- ---- the options of a query: `NAME=VALUE`, parted by `&` (38). A query is read for its first three.
+-- ---- the options of a query (application/x-www-form-urlencoded): `NAME=VALUE`, parted by `&` (38)
 
--- the value of the option that stands first, if it has this name
-abbrev pub first_value : List ℕ → List ℕ → Option (List ℕ)
-first_value name query = without name (before 38 query)
+abbrev pub options_of : List ℕ → List (List ℕ)
+options_of query = slice_split (λ b. b == 38) query
 
 abbrev pub or_else : Option (List ℕ) → List ℕ → List ℕ
 or_else (Some value) others = value
 or_else None others = others
 
--- the value of the first option of this name (with its `=`), or nothing
+-- the value of the first of these options that has this name (with its `=`), or nothing
+abbrev pub value_among : List ℕ → List (List ℕ) → List ℕ
+value_among name [] = []
+value_among name (option ∷ others) = or_else (without name option) (value_among name others)
+
 unfoldable pub given : List ℕ → List ℕ → List ℕ
-given name query =
-    or_else (first_value name query) (
-    or_else (first_value name (behind 38 query)) (
-    or_else (first_value name (behind 38 (behind 38 query))) []))
+given name query = value_among name (options_of query)

@@ -1,6 +1,6 @@
 //! The parts of a target.
 ghost use Rattle.std.specs.Prelude.{◌≡◌, ◌≤◌, length, option_copied};
-ghost use Rattle.mvd_http.specs.Paths.{before as front_of, behind as rest_of, given as value_of, first_value as value_first, place_of, without as left_behind, without_end as left_before};
+ghost use Rattle.mvd_http.specs.Paths.{before as front_of, behind as rest_of, given as value_of, place_of, without as left_behind, without_end as left_before};
 
 /// How many bytes stand before the first one that is this.
 fn place_of(text: &[u8], byte: u8) -> usize
@@ -46,28 +46,14 @@ pub fn without_end<'a>(text: &'a [u8], end: &[u8]) -> Option<&'a [u8]>
     text.strip_suffix(end)
 }
 
-/// The value of the option that stands first, if it has this name.
-fn first_value<'a>(query: &'a [u8], name: &[u8]) -> Option<&'a [u8]>
-    ensures { option_copied result ≡ value_first name.now query.now }
-{
-    without(before(query, b'&'), name)
-}
-
 /// The value of the first option of this name, which has its `=`, or nothing.
-#[tactic(auto, unfolding(crate::specs::Paths::given))]
 pub fn given<'a>(query: &'a [u8], name: &[u8]) -> &'a [u8]
     ensures { result.now ≡ value_of name.now query.now }
 {
-    let second = behind(query, b'&');
-    let third = behind(second, b'&');
-    if let Some(value) = first_value(query, name) {
-        return value;
-    }
-    if let Some(value) = first_value(second, name) {
-        return value;
-    }
-    if let Some(value) = first_value(third, name) {
-        return value;
+    for option in query.split(|byte| *byte == b'&') {
+        if let Some(value) = without(option, name) {
+            return value;
+        }
     }
     &[]
 }

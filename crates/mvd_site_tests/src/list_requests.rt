@@ -38,7 +38,7 @@ pub const LISTS: &[Row] = &[
     ),
     (
         "GET",
-        "/index/city?from=0&to=%22Z%22&after=1:1%20a%20%22Oslo%22",
+        "/index/city?from=0&to=%22Z%22&limit=9&sort=up&after=1:1%20a%20%22Oslo%22",
         None,
         b"",
         200,

@@ -9,8 +9,8 @@ use Rattle.mvd_records.specs.Records.{IsOurs, IsSound, new_states, old_states}
 use Rattle.mvd_records.specs.States.{States as Stored}
 use Rattle.mvd_records.specs.Tables.{no_tables}
 use Rattle.mvd_replica.specs.Opened.{IsOpened}
-use Rattle.mvd_restore.proofs.Ordered.{just_one}
-use Rattle.mvd_restore.specs.Stored.{HasJust, HasState}
+use Rattle.mvd_replica.proofs.RestoredOrder.{just_one}
+use Rattle.mvd_replica.specs.Readable.{HasJust, HasState}
 use Rattle.mvd_site.specs.Config.{ConfigValue}
 use Rattle.mvd_site.specs.Held.{States}
 use Rattle.mvd_site.specs.Sites.{SiteValue}

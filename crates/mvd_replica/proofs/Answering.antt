@@ -18,7 +18,7 @@ use Rattle.mvd_site.proofs.Outcomes.{memory_or_not, refused_fits}
 use Rattle.mvd_site.proofs.Prepare.{answers_by_breaking, refuses_all}
 use Rattle.mvd_site.proofs.Pushes.{refusal_is}
 use Rattle.mvd_site.proofs.Steps.{Adds-nothing, Stands-nothing}
-use Rattle.mvd_restore.specs.Kept.{PutsIn}
+use Rattle.mvd_replica.specs.Holds.{PutsIn}
 use Rattle.mvd_replica.specs.Sides.{AnswersFromStored}
 use Rattle.mvd_replica.specs.Turns.{AnswersStored, IsToldElse, MayTell}
 use Rattle.mvd_replica.specs.Steps.{RepliesTo}

@@ -20,7 +20,7 @@ use Rattle.mvd_site.proofs.Outcomes.{refused_fits}
 use Rattle.mvd_site.proofs.Pushes.{refusal_is}
 use Rattle.mvd_peer.specs.Sides.{SiteFollows, site_follows_on, site_follows_self}
 use Rattle.mvd_replica.specs.Batch.{AnswersOneFrom, AreAmong, HoldsLost, Loses}
-use Rattle.mvd_restore.specs.Kept.{HoldsSite, HoldsStates}
+use Rattle.mvd_replica.specs.Holds.{HoldsSite, HoldsStates}
 use Rattle.mvd_replica.specs.Sides.{AnswersFromStored, HoldsBroken}
 use Rattle.mvd_replica.specs.Whole.{leaves_on, leaves_self, leaves_wider}
 use Rattle.mvd_replica.specs.Turns.{AreUndoneIn, IsFirstBroken, IsToldElse, LeavesTurns, RepliesOne, Turn}

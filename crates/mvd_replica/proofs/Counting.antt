@@ -13,7 +13,7 @@ use Rattle.mvd_site.proofs.Answered.{insert_differs}
 use Rattle.mvd_site.specs.Sites.{SiteValue}
 use Rattle.mvd_kept.specs.declared.prepared.Prepared.{Prepared}
 use Rattle.mvd_kept.specs.declared.prepared.Prepared.TheVariants.{Answer, Change}
-use Rattle.mvd_restore.specs.Kept.{PutsIn}
+use Rattle.mvd_replica.specs.Holds.{PutsIn}
 use Rattle.sqlite_trees.specs.declared.store.Store.{Ghosts}
 use Rattle.mvd_replica.specs.declared.replica.Replica.{Replica}
 use Rattle.mvd_replica.specs.Batch.{CountsAlong, TakesAllFrom, asks_change, changes_asked}

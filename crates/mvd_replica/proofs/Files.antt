@@ -32,7 +32,7 @@ use Rattle.mvd_site.specs.Held.{States}
 use Rattle.mvd_site.specs.Sites.{SiteValue}
 use Rattle.mvd_records.specs.Records.{IsOurs}
 use Rattle.mvd_replica.specs.File.{ClosesFile, HoldsAlone, HoldsFile, IsFoundIn}
-use Rattle.mvd_restore.specs.Kept.{HoldsStates}
+use Rattle.mvd_replica.specs.Holds.{HoldsStates}
 use Rattle.mvd_replica.specs.Opened.{OpensSite}
 use Rattle.mvd_replica.specs.Whole.{LeavesStates}
 use Rattle.mvd_replica.proofs.Follows.{just_these, ours_held}

@@ -11,11 +11,11 @@ use Rattle.sqlite.specs.Effect.{Database}
 use Rattle.sqlite.specs.State.{State}
 use Rattle.mvd_records.specs.Records.{IsOurs}
 use Rattle.mvd_replica.specs.declared.serving.Ended.{Ended}
-use Rattle.mvd_restore.specs.Kept.{HoldsStates}
+use Rattle.mvd_replica.specs.Holds.{HoldsStates}
 use Rattle.mvd_replica.specs.Opened.{IsOpened, IsRefused, OpensSite}
 use Rattle.mvd_replica.specs.Served.{Served, Conversation, WentOut, last_bytes, replies_bytes, result_of}
-use Rattle.mvd_restore.specs.Stored.{SameStates}
-use Rattle.mvd_restore.proofs.Ordered.{held_just, just_one}
+use Rattle.mvd_replica.specs.Readable.{SameStates}
+use Rattle.mvd_replica.proofs.RestoredOrder.{held_just, just_one}
 use Rattle.mvd_replica.proofs.Positions.{GoesOut, GoesOutAfter}
 use Rattle.mvd_replica.proofs.Whole.{replies_bytes-append}
 

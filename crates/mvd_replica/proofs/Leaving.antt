@@ -15,7 +15,7 @@ use Rattle.sqlite.specs.Effect.{Database, IsDatabase}
 use Rattle.sqlite.specs.State.{HasCleanDisk, IsLive, State, Survives}
 use Rattle.sqlite.specs.Tree.{Trees}
 use Rattle.mvd_replica.specs.Batch.{AreAmong, HoldsLost, lost_requests}
-use Rattle.mvd_restore.specs.Kept.{AreSpelled, HoldsSite, HoldsStates}
+use Rattle.mvd_replica.specs.Holds.{AreSpelled, HoldsSite, HoldsStates}
 use Rattle.mvd_replica.specs.Replicas.{StoredSite}
 use Rattle.mvd_replica.specs.Sides.{AnswersFromStored}
 use Rattle.mvd_replica.specs.Steps.{IsSent}

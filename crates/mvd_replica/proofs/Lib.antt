@@ -1,3 +1,6 @@
+pub mod Loading
+pub mod Moving
+pub mod RestoredOrder
 pub mod Positions
 pub mod Storing
 pub mod Answering

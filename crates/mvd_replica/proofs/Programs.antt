@@ -18,13 +18,13 @@ use Rattle.sqlite.specs.Schema.{Schema}
 use Rattle.mvd_replica.specs.declared.replica.Replica.{Replica}
 use Rattle.mvd_replica.specs.File.{HoldsAlone, OpensFile}
 use Rattle.mvd_replica.specs.FileCalls.{IsClosed, file_database, file_of}
-use Rattle.mvd_restore.specs.Kept.{HoldsStates}
+use Rattle.mvd_replica.specs.Holds.{HoldsStates}
 use Rattle.mvd_replica.specs.Programs.{HoldsMore, KeepsFile, WorksOn}
 use Rattle.mvd_replica.specs.Replicas.{site_of}
-use Rattle.mvd_restore.specs.Restored.{HasWrites, IsFresh}
-use Rattle.mvd_restore.specs.Stored.{HasJust}
+use Rattle.mvd_replica.specs.Restored.{HasWrites, IsFresh}
+use Rattle.mvd_replica.specs.Readable.{HasJust}
 use Rattle.mvd_replica.proofs.Follows.{ours_held}
-use Rattle.mvd_restore.proofs.Ordered.{held_just, just_one}
+use Rattle.mvd_replica.proofs.RestoredOrder.{held_just, just_one}
 
 -- ---- a new file
 

@@ -15,7 +15,7 @@ use Rattle.mvd_site.specs.Sites.{SiteValue}
 use Rattle.mvd_replica.specs.Batch.{HoldsLost, lost_requests}
 use Rattle.mvd_site.specs.Installs.{PutsAll, PutsIfWhole, PutsOne, with_group}
 use Rattle.mvd_replica.specs.Groups.{AllComeTo, AreSendable, ComeInOrder, IsSendable, pairs_in, reply_unstored}
-use Rattle.mvd_restore.specs.Kept.{AreSpelled, HoldsSite, HoldsStates, SpellStates}
+use Rattle.mvd_replica.specs.Holds.{AreSpelled, HoldsSite, HoldsStates, SpellStates}
 use Rattle.mvd_replica.specs.Shared.{LeavesPairs}
 use Rattle.mvd_replica.specs.Whole.{after_all}
 use Rattle.mvd_replica.specs.Turns.{AreUndoneIn, LeavesTurns}

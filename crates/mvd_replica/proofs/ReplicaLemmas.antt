@@ -19,7 +19,7 @@ use Rattle.mvd_site.proofs.Pushes.{PushFacts, refusal_is}
 use Rattle.sqlite_trees.specs.declared.store.Store.{Ghosts}
 use Rattle.mvd_replica.specs.declared.replica.Replica.{Replica}
 use Rattle.mvd_replica.specs.Batch.{AnswersOneFrom}
-use Rattle.mvd_restore.specs.Kept.{PutsIn}
+use Rattle.mvd_replica.specs.Holds.{PutsIn}
 use Rattle.mvd_replica.specs.ReplicaCalls.{Answers, PushesState}
 use Rattle.mvd_replica.specs.Replicas.{KeepsCommit, committed_of, site_of, store_of, stored_of}
 use Rattle.mvd_replica.specs.Sides.{AnswersFromStored, replica_follows_self}

@@ -11,7 +11,7 @@ use Rattle.mvd_site.specs.Held.{States}
 use Rattle.mvd_site.specs.Sites.{SiteValue}
 use Rattle.mvd_replica.specs.Batch.{HoldsLost, lost_requests}
 use Rattle.mvd_replica.specs.File.{HoldsFile}
-use Rattle.mvd_restore.specs.Kept.{HoldsSite, HoldsStates}
+use Rattle.mvd_replica.specs.Holds.{HoldsSite, HoldsStates}
 use Rattle.mvd_replica.specs.Restarts.{AddAll, AllAnswered, AreRuns, IsRun, LeavesWholeTurns, Run}
 use Rattle.mvd_replica.specs.Sides.{HoldsBroken}
 use Rattle.mvd_replica.specs.Whole.{after_all}

@@ -27,7 +27,7 @@ use Rattle.mvd_peer.proofs.SiteSides.{is_broken, push_refuses as site_push_refus
 use Rattle.mvd_records.specs.Records.{IsSound}
 use Rattle.sqlite.specs.State.{HasCleanDisk, State as Shown, Survives}
 use Rattle.mvd_site.specs.Installs.{broken_site}
-use Rattle.mvd_restore.specs.Kept.{HoldsSite, HoldsStates, PutsIn}
+use Rattle.mvd_replica.specs.Holds.{HoldsSite, HoldsStates, PutsIn}
 use Rattle.mvd_replica.specs.Stops.{LeavesAnswered}
 use Rattle.mvd_replica.specs.Sides.{AnswersFromStored, HoldsBroken, ReplicaRefuses, StoreRefusedFrom}
 use Rattle.mvd_replica.proofs.Positions.{ReplicaFollows}

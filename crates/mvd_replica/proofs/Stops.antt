@@ -12,7 +12,7 @@ use Rattle.sqlite.specs.Files.{HoldsDatabase}
 use Rattle.sqlite.specs.State.{State, Survives}
 use Rattle.sqlite.specs.Tree.{Trees}
 use Rattle.sqlite.proofs.StateLemmas.{survives_weaker}
-use Rattle.mvd_restore.specs.Kept.{AreSpelled}
+use Rattle.mvd_replica.specs.Holds.{AreSpelled}
 use Rattle.mvd_replica.specs.Stops.{HoldsWhatIsLeft, LeavesAnswered, LeavesChange}
 use Rattle.mvd_replica.proofs.Storing.{stored_broken}
 

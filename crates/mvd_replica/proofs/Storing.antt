@@ -17,7 +17,7 @@ use Rattle.mvd_site.specs.Held.{IsSpelled, States}
 use Rattle.mvd_site.specs.Sites.{SiteValue}
 use Rattle.sqlite.specs.Effect.{Database}
 use Rattle.mvd_site.specs.Installs.{broken_site, changed_site}
-use Rattle.mvd_restore.specs.Kept.{AreSpelled, HoldsSite, HoldsStates, PutsIn, SpellStates, Stores}
+use Rattle.mvd_replica.specs.Holds.{AreSpelled, HoldsSite, HoldsStates, PutsIn, SpellStates, Stores}
 
 some_is : (s t : State) → Some s ≡ Some t → s ≡ t
 some_is s t e = cc

@@ -15,7 +15,7 @@ use Rattle.mvd_site.specs.Known.{Adds}
 use Rattle.mvd_site.specs.Prepared.{IsFrugal}
 use Rattle.mvd_site.specs.Sites.{SiteValue}
 use Rattle.mvd_peer.specs.Sides.{SiteFollows}
-use Rattle.mvd_restore.specs.Kept.{HoldsSite, HoldsStates}
+use Rattle.mvd_replica.specs.Holds.{HoldsSite, HoldsStates}
 use Rattle.mvd_replica.specs.Replicas.{StoredSite}
 use Rattle.mvd_replica.specs.Sides.{AnswersFromStored}
 use Rattle.mvd_replica.specs.Whole.{after_all}

@@ -13,7 +13,7 @@ use Rattle.sqlite.specs.Effect.{Database, IsDatabase}
 use Rattle.sqlite.specs.Files.{AreFoundIn, HoldsDatabase, image_of}
 use Rattle.sqlite.specs.Recovery.{Image}
 use Rattle.sqlite.specs.WalFiles.{outcomes}
-use Rattle.mvd_restore.specs.Kept.{HoldsStates}
+use Rattle.mvd_replica.specs.Holds.{HoldsStates}
 use Rattle.mvd_replica.specs.Opened.{OpensSite, RefusesSite}
 
 -- the image holds this database: the pages that it recovers to are a sound file, whose trees are the database's, and list its schema

@@ -23,10 +23,10 @@ use Rattle.mvd_replica.specs.declared.file.FileFault.{FileFault}
 use Rattle.mvd_replica.specs.declared.file.FileFault.TheVariants.{File}
 use Rattle.mvd_replica.specs.declared.replica.Replica.{Replica}
 use Rattle.mvd_replica.specs.File.{ClosesFile, IsFoundIn, OpensFile}
-use Rattle.mvd_restore.specs.Kept.{HoldsSite, HoldsStates}
+use Rattle.mvd_replica.specs.Holds.{HoldsSite, HoldsStates}
 use Rattle.mvd_replica.specs.Refused.{FailsFile}
 use Rattle.mvd_replica.specs.Replicas.{conn_of, site_of, stored_of}
-use Rattle.mvd_restore.specs.Restored.{HasWrites, IsFresh}
+use Rattle.mvd_replica.specs.Restored.{HasWrites, IsFresh}
 use Rattle.mvd_replica.specs.Whole.{IsAtRest, LeavesStates}
 
 -- there is no such file to open

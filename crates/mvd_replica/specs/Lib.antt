@@ -1,3 +1,6 @@
+pub mod Holds
+pub mod Readable
+pub mod Restored
 pub mod Opened
 pub mod Pushes
 pub mod File

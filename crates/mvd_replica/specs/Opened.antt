@@ -9,9 +9,9 @@ use Rattle.mvd_site.specs.Config.{ConfigValue}
 use Rattle.mvd_site.specs.Sites.{SiteValue}
 use Rattle.sqlite.specs.Effect.{Database}
 use Rattle.sqlite.specs.State.{HasCleanDisk, State}
-use Rattle.mvd_restore.specs.Kept.{HoldsSite}
+use Rattle.mvd_replica.specs.Holds.{HoldsSite}
 use Rattle.mvd_replica.specs.Whole.{IsAtRest}
-use Rattle.mvd_restore.specs.Stored.{AreDamaged, AreReadable, HasJust, HoldsTooMany, Resumes, SameStates}
+use Rattle.mvd_replica.specs.Readable.{AreDamaged, AreReadable, HasJust, HoldsTooMany, Resumes, SameStates}
 
 -- The marks told the site a version; where that was 2 already, the two maps are as they were
 abbrev pub KeepsMoved : ℕ → Database → Database → Type 0

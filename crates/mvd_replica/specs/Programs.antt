@@ -14,10 +14,10 @@ use Rattle.sqlite.specs.Recovery.{Image}
 use Rattle.sqlite.specs.WalFiles.{outcomes}
 use Rattle.sqlite.specs.WalReads.{AreClean}
 use Rattle.mvd_replica.specs.File.{HoldsAlone, HoldsFile, IsFoundIn}
-use Rattle.mvd_restore.specs.Kept.{HoldsSite, HoldsStates}
+use Rattle.mvd_replica.specs.Holds.{HoldsSite, HoldsStates}
 use Rattle.mvd_replica.specs.Replicas.{StoredSite}
 use Rattle.mvd_replica.specs.Whole.{after_all}
-use Rattle.mvd_restore.specs.Stored.{AreReadable, HasJust}
+use Rattle.mvd_replica.specs.Readable.{AreReadable, HasJust}
 
 -- whatever writes the states stood for, they stand for these, and perhaps for more, also where the site is broken
 abbrev pub KeepsWrites : SiteValue → SiteValue → Type 0

@@ -32,7 +32,7 @@ use Rattle.sqlite.specs.State.{IsLive, Survives}
 use Rattle.sqlite_trees.specs.declared.store.Store.{Ghosts}
 use Rattle.mvd_replica.specs.declared.replica.Replica.{Replica}
 use Rattle.mvd_replica.specs.Batch.{AnswersAll, AnswersFront, CountsAlong, changes_asked}
-use Rattle.mvd_restore.specs.Kept.{HoldsSite, HoldsStates, Stores}
+use Rattle.mvd_replica.specs.Holds.{HoldsSite, HoldsStates, Stores}
 use Rattle.mvd_replica.specs.Opened.{IsOpened, IsRefused}
 use Rattle.mvd_replica.specs.Replicas.{CountsChange, CountsUpTo, KeepsCommit, RecordsFollow, TakesIfOpen, WasClean, WasSound, commits_of, committed_of, conn_of, next_count, site_of, store_of, stored_of}
 use Rattle.mvd_replica.specs.Sides.{AnswersFromStored, ReplicaFollows}

@@ -7,7 +7,7 @@ use Rattle.sqlite.specs.Held.{Held, state}
 use Rattle.sqlite.specs.State.{HasCleanDisk, State}
 use Rattle.sqlite_trees.specs.declared.store.Store.{Ghosts}
 use Rattle.mvd_replica.specs.declared.replica.Replica.{Replica}
-use Rattle.mvd_restore.specs.Kept.{HoldsSite}
+use Rattle.mvd_replica.specs.Holds.{HoldsSite}
 
 -- a site, and what the connection of its records shows
 pub record StoredSite : Type 1 where

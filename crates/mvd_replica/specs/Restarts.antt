@@ -11,7 +11,7 @@ use Rattle.mvd_site.specs.Known.{Adds}
 use Rattle.mvd_site.specs.Sites.{SiteValue}
 use Rattle.mvd_replica.specs.Batch.{HoldsLost, TurnsFollow, lost_requests}
 use Rattle.mvd_replica.specs.File.{HoldsFile, OpensFile}
-use Rattle.mvd_restore.specs.Kept.{HoldsStates}
+use Rattle.mvd_replica.specs.Holds.{HoldsStates}
 use Rattle.mvd_replica.specs.Replicas.{StoredSite, stored_by}
 use Rattle.mvd_replica.specs.Served.{Served}
 use Rattle.mvd_replica.specs.declared.serving.Ended.{Ended}

@@ -8,7 +8,7 @@ use Rattle.sqlite.specs.Held.{state}
 use Rattle.sqlite.specs.State.{HasCleanDisk, State, Survives}
 use Rattle.sqlite.specs.Tree.{Trees}
 use Rattle.sqlite_trees.specs.declared.store.Store.{Ghosts}
-use Rattle.mvd_restore.specs.Restored.{committed}
+use Rattle.mvd_replica.specs.Restored.{committed}
 
 -- the disk that is clean now was clean before
 abbrev pub WereClean : {S : Type 0} → Ghosts S → RecordsValue S → RecordsValue S → Type 0

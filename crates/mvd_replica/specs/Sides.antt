@@ -17,7 +17,7 @@ use Rattle.mvd_site.specs.Sites.{SiteValue}
 use Rattle.mvd_peer.specs.PushedStates.{ComesByPushes}
 use Rattle.mvd_peer.proofs.Pushes.{more_pushes, no_pushes}
 use Rattle.mvd_peer.specs.Sides.{SiteFollows, SiteRefuses, site_follows_on, site_follows_self}
-use Rattle.mvd_restore.specs.Kept.{HoldsSite, HoldsStates}
+use Rattle.mvd_replica.specs.Holds.{HoldsSite, HoldsStates}
 use Rattle.mvd_replica.specs.Replicas.{StoredSite}
 use Rattle.mvd_replica.specs.Whole.{LeavesWhole, after_all, leaves_on, leaves_self}
 use Rattle.sqlite.specs.Effect.{Database}

@@ -13,7 +13,7 @@ use Rattle.sqlite.specs.Recovery.{Image}
 use Rattle.sqlite.specs.State.{State}
 use Rattle.sqlite.specs.Tree.{Trees}
 use Rattle.mvd_replica.specs.File.{HoldsFile}
-use Rattle.mvd_restore.specs.Kept.{HoldsSite}
+use Rattle.mvd_replica.specs.Holds.{HoldsSite}
 use Rattle.mvd_replica.specs.Whole.{LeavesStates}
 
 -- the store was open, and the trees are those of the records with a change stored, if the records were a site's

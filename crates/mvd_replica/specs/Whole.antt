@@ -10,7 +10,7 @@ use Rattle.mvd_site.specs.Sites.{SiteValue}
 use Rattle.sqlite.specs.Effect.{Database, IsDatabase}
 use Rattle.sqlite.specs.State.{HasCleanDisk}
 use Rattle.sqlite.specs.Tree.{Trees}
-use Rattle.mvd_restore.specs.Kept.{AreSpelled, HoldsSite, HoldsStates}
+use Rattle.mvd_replica.specs.Holds.{AreSpelled, HoldsSite, HoldsStates}
 use Rattle.mvd_replica.specs.Replicas.{StoredSite}
 
 -- the trees are those of a database that holds these states of a site, and which lists its schema and obeys it

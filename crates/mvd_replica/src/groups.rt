@@ -7,7 +7,7 @@ ghost use Rattle.mvd_site.specs.Installs.{changes_in, is_change};
 ghost use Rattle.mvd_replica.specs.Groups.{ComesTo, FirstWaits, IsApart, IsElsewhere, IsSendable, MayJoin, MustWait};
 ghost use Rattle.mvd_replica.specs.Groups.{SeesAny, StandTogether, pairs_in, reply_unstored};
 ghost use Rattle.mvd_replica.specs.Replicas.{next_count};
-ghost use Rattle.mvd_restore.specs.Restored.{WereSound};
+ghost use Rattle.mvd_replica.specs.Restored.{WereSound};
 ghost use Rattle.mvd_replica.specs.Shared.{IsUnstored, StoresNone, StoresOpen, StoresPairs, SurvivesPairs};
 ghost use Rattle.mvd_replica.specs.Shared.{WereClean};
 

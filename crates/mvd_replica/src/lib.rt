@@ -8,6 +8,7 @@ mod groups;
 pub mod laws;
 mod pushes;
 pub mod replica;
+mod restoring;
 pub mod serving;
 mod side;
 mod turns;

@@ -10,10 +10,10 @@ ghost use Rattle.mvd_site.specs.Prepared.{IsChangeNow, is_refusal};
 ghost use Rattle.mvd_site.specs.Sites.{has_no_room};
 ghost use Rattle.mvd_replica.specs.Pushes.{told_of};
 
+use crate::restoring::site_in;
 use mvd_dots::Refusal;
 use mvd_keys::{Key, KeyState, Path};
 use mvd_records::Records;
-use mvd_restore::site_in;
 use mvd_site::{Change, Config, Prepared, Site};
 use mvd_wire::{Digests, Reply, Request};
 use sqlite::{Alter, Connection};
@@ -31,7 +31,7 @@ pub struct Replica<S: Alter> {
 }
 
 impl<S: Alter> Replica<S> {
-    ghost use Rattle.mvd_restore.specs.Kept.{PutsIn};
+    ghost use Rattle.mvd_replica.specs.Holds.{PutsIn};
     ghost use Rattle.mvd_replica.specs.ReplicaCalls.{Answers, GivesConnection, OpensReplica, PushesState};
     ghost use Rattle.mvd_replica.specs.ReplicaCalls.{CountsPut, KeepsRecords, StoresChange, SurvivesChange};
     ghost use Rattle.mvd_replica.specs.ReplicaCalls.{TellsPage, TellsState, UnlessStored, node_told};

@@ -3,7 +3,7 @@ use Rattle.sqlite.specs.Files.{file_state}
 use Rattle.sqlite_store.specs.Laws.{settled_at}
 use Rattle.mvd_records.specs.Records.{IsSound}
 use Rattle.mvd_replica.specs.File.{ClosesFile}
-use Rattle.mvd_restore.specs.Kept.{HoldsStates}
+use Rattle.mvd_replica.specs.Holds.{HoldsStates}
 use Rattle.mvd_replica.proofs.Files.{FailsToGive, closes, fails_closing}
 use Rattle.mvd_replica.proofs.file.Replica+FileStore+D.close.Goals as goal
 

@@ -12,7 +12,7 @@ use Rattle.mvd_site.proofs.Prepare.{answers_broken, answers_by_answer, answers_b
 use Rattle.mvd_site.proofs.Pushes.{refusal_is}
 use Rattle.mvd_site.proofs.Runs.{fitting}
 use Rattle.sqlite.specs.Held.{state}
-use Rattle.mvd_restore.specs.Kept.{AreSpelled, HoldsSite}
+use Rattle.mvd_replica.specs.Holds.{AreSpelled, HoldsSite}
 use Rattle.mvd_replica.specs.Replicas.{stored_of}
 use Rattle.mvd_replica.specs.Sides.{AnswersFromStored}
 use Rattle.mvd_replica.specs.Whole.{leaves_self}

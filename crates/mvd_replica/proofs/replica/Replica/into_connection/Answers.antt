@@ -1,6 +1,6 @@
 use Rattle.std.proofs.Common.{subst, sym}
 use Rattle.sqlite.specs.Held.{state}
-use Rattle.mvd_restore.specs.Kept.{HoldsStates}
+use Rattle.mvd_replica.specs.Holds.{HoldsStates}
 use Rattle.mvd_replica.proofs.Storing.{holds_states}
 use Rattle.mvd_replica.proofs.replica.Replica.into_connection.Goals as goal
 

@@ -4,10 +4,10 @@ use Rattle.sqlite.specs.Held.{state}
 use Rattle.mvd_records.specs.Records.{IsSound, KeepsStates, TellsVersion, marks_of}
 use Rattle.mvd_replica.specs.Opened.{RefusesSite}
 use Rattle.mvd_replica.proofs.Leaving.{at_rest}
-use Rattle.mvd_restore.proofs.Loading.{holds_opened}
-use Rattle.mvd_restore.proofs.Moving.{same_kept, same_then, same_unchanged}
+use Rattle.mvd_replica.proofs.Loading.{holds_opened}
+use Rattle.mvd_replica.proofs.Moving.{same_kept, same_then, same_unchanged}
 use Rattle.mvd_replica.proofs.OpenRefusals.{open_not_full, read_no_mismatch, read_refusal}
-use Rattle.mvd_restore.proofs.Ordered.{damaged_site, has_just, order_opened, resumes_opened, told_as}
+use Rattle.mvd_replica.proofs.RestoredOrder.{damaged_site, has_just, order_opened, resumes_opened, told_as}
 use Rattle.mvd_replica.proofs.replica.Replica.open.Goals as goal
 
 pub returns-in-Ok-site_in : goal.returns-in-Ok-site_in

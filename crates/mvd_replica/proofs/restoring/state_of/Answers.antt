@@ -1,7 +1,7 @@
 use Rattle.std.proofs.Common.{rules, sym}
 use Rattle.mvd_site.specs.Held.{IsHeldState}
 use Rattle.mvd_wire.specs.Codecs.{spell_state}
-use Rattle.mvd_restore.proofs.restoring.state_of.Goals as goal
+use Rattle.mvd_replica.proofs.restoring.state_of.Goals as goal
 
 pub returns-then-may_be_held-clause-spelled : goal.returns-then-may_be_held-clause-spelled
 unfolding spell_state

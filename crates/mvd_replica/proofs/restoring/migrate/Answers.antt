@@ -3,15 +3,15 @@ use Rattle.std.proofs.lemmas.Iterator.Adapters.{YieldsList-from_vec}
 use Rattle.std.proofs.lemmas.Iterator.Consumers.{YieldsList-end, YieldsList-so_far, YieldsList-turn}
 use Rattle.std.proofs.lemmas.List.{map-id}
 use Rattle.mvd_records.specs.Pairs.{entries_of}
-use Rattle.mvd_restore.specs.Stored.{IsOldStored}
-use Rattle.mvd_restore.proofs.Ordered.{migrated, moved_more, moved_none, not_stored, not_yet, order_ended, order_moved, order_same, order_then, still_there, whole_old}
+use Rattle.mvd_replica.specs.Readable.{IsOldStored}
+use Rattle.mvd_replica.proofs.RestoredOrder.{migrated, moved_more, moved_none, not_stored, not_yet, order_ended, order_moved, order_same, order_then, still_there, whole_old}
 use Rattle.mvd_records.specs.Records.{HoldsRecords}
 use Rattle.mvd_records.specs.declared.loading.StateTable.TheVariants.{Version1}
 use Rattle.mvd_records.proofs.Follows.{finishes_damaged, finishes_finished, finishes_unchanged, loads_damaged, loads_entries, loads_reads, loads_whole}
 use Rattle.mvd_records.proofs.Follows.{moves_damaged, moves_kept, moves_moved}
-use Rattle.mvd_restore.proofs.Loading.{moved_by}
-use Rattle.mvd_restore.proofs.Moving.{ended_same, found_at, moving_more, moving_none, same_then, same_unchanged}
-use Rattle.mvd_restore.proofs.restoring.migrate.Goals as goal
+use Rattle.mvd_replica.proofs.Loading.{moved_by}
+use Rattle.mvd_replica.proofs.Moving.{ended_same, found_at, moving_more, moving_none, same_then, same_unchanged}
+use Rattle.mvd_replica.proofs.restoring.migrate.Goals as goal
 
 pub returns-in-Err-clause-moved : goal.returns-in-Err-clause-moved
 returns-in-Err-clause-moved g c number sound holds =

@@ -1,9 +1,9 @@
 use Rattle.std.proofs.Common.{length, rules}
 use Rattle.std.proofs.lemmas.Iterator.Adapters.{YieldsList-from_vec}
 use Rattle.std.proofs.lemmas.Iterator.Consumers.{YieldsList-turn}
-use Rattle.mvd_restore.specs.Stored.{IsStored}
-use Rattle.mvd_restore.proofs.Ordered.{held_more, not_stored, spelled_more, stored_more}
-use Rattle.mvd_restore.proofs.restoring.states_of.Goals as goal
+use Rattle.mvd_replica.specs.Readable.{IsStored}
+use Rattle.mvd_replica.proofs.RestoredOrder.{held_more, not_stored, spelled_more, stored_more}
+use Rattle.mvd_replica.proofs.restoring.states_of.Goals as goal
 
 pub loop-key-preserved : goal.loop-key-preserved
 loop-key-preserved c = record {

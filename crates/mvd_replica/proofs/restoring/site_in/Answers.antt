@@ -1,8 +1,8 @@
 use Rattle.std.proofs.Common.{◌≡◌, ◌∙◌, arith, inl, refl}
-use Rattle.mvd_restore.proofs.Loading.{loaded_holds, unmoved_not_full, unmoved_unloaded, whenever}
-use Rattle.mvd_restore.proofs.Moving.{same_then, same_unchanged}
-use Rattle.mvd_restore.proofs.Ordered.{alone_ordered, order_by, order_migrated, resumes_moved, resumes_same, too_many_after, too_many_moved}
-use Rattle.mvd_restore.proofs.restoring.site_in.Goals as goal
+use Rattle.mvd_replica.proofs.Loading.{loaded_holds, unmoved_not_full, unmoved_unloaded, whenever}
+use Rattle.mvd_replica.proofs.Moving.{same_then, same_unchanged}
+use Rattle.mvd_replica.proofs.RestoredOrder.{alone_ordered, order_by, order_migrated, resumes_moved, resumes_same, too_many_after, too_many_moved}
+use Rattle.mvd_replica.proofs.restoring.site_in.Goals as goal
 
 pub returns-then-version-eq2 : goal.returns-then-version-eq2
 returns-then-version-eq2 g c =

@@ -2,9 +2,9 @@ use Rattle.std.proofs.Common.{◌≡◌}
 use Rattle.sqlite.specs.Held.{state}
 use Rattle.mvd_records.specs.Records.{HoldsRecords, IsSound}
 use Rattle.mvd_records.specs.Pairs.{entries_of}
-use Rattle.mvd_restore.proofs.Moving.{Moving}
-use Rattle.mvd_restore.proofs.Ordered.{Moved}
-use Rattle.mvd_restore.proofs.restoring.migrate.Given as goal
+use Rattle.mvd_replica.proofs.Moving.{Moving}
+use Rattle.mvd_replica.proofs.RestoredOrder.{Moved}
+use Rattle.mvd_replica.proofs.restoring.migrate.Given as goal
 
 abbrev pub invariant-loop-key : goal.invariant-loop-key
 invariant-loop-key g l = record {

@@ -1,7 +1,7 @@
 use Rattle.std.proofs.Common.{rules}
 use Rattle.mvd_site.specs.Held.{IsHeldState}
-use Rattle.mvd_restore.proofs.Ordered.{not_too_long}
-use Rattle.mvd_restore.proofs.restoring.respelled.Goals as goal
+use Rattle.mvd_replica.proofs.RestoredOrder.{not_too_long}
+use Rattle.mvd_replica.proofs.restoring.respelled.Goals as goal
 
 pub returns-in-Ok-encode_state-clause-spelled : goal.returns-in-Ok-encode_state-clause-spelled
 returns-in-Ok-encode_state-clause-spelled c =

@@ -2,9 +2,9 @@ use Rattle.std.proofs.Common.{◌∙◌, Err, Ok}
 use Rattle.sqlite.specs.Held.{state}
 use Rattle.mvd_records.specs.declared.loading.StateTable.TheVariants.{Version2}
 use Rattle.mvd_records.proofs.Follows.{loads_damaged, loads_entries, loads_reads, loads_whole}
-use Rattle.mvd_restore.proofs.Loading.{whenever, loaded_full, loaded_spelled, states_rise}
-use Rattle.mvd_restore.proofs.Ordered.{loaded_order, not_whole, read_order, too_many}
-use Rattle.mvd_restore.proofs.restoring.load.Goals as goal
+use Rattle.mvd_replica.proofs.Loading.{whenever, loaded_full, loaded_spelled, states_rise}
+use Rattle.mvd_replica.proofs.RestoredOrder.{loaded_order, not_whole, read_order, too_many}
+use Rattle.mvd_replica.proofs.restoring.load.Goals as goal
 
 pub open-requires-clause-rising : goal.open-requires-clause-rising
 open-requires-clause-rising g c = states_rise _ _ c.in-Ok-states_of.ensures.spelled c.in-Ok.ensures.rising

@@ -19,9 +19,9 @@ use Rattle.mvd_records.specs.Records.{EndsMove, HasNone, HoldsRecords, new_state
 use Rattle.mvd_site.specs.Config.{ConfigValue}
 use Rattle.mvd_site.specs.Sites.{SiteValue, opened}
 use Rattle.sqlite.specs.Effect.{Database}
-use Rattle.mvd_restore.specs.Kept.{HoldsSite, SpellStates}
-use Rattle.mvd_restore.specs.Restored.{IsUnloaded, IsUnmoved}
-use Rattle.mvd_restore.specs.Stored.{spelled_entries}
+use Rattle.mvd_replica.specs.Holds.{HoldsSite, SpellStates}
+use Rattle.mvd_replica.specs.Restored.{IsUnloaded, IsUnmoved}
+use Rattle.mvd_replica.specs.Readable.{spelled_entries}
 
 -- what is so, is so where a call gave something
 pub whenever : {A E P : Type 0} (r : Result A E) → P → OnOk r P

@@ -23,7 +23,7 @@ use Rattle.mvd_records.specs.Pairs.{Pair, entries_of}
 use Rattle.mvd_records.specs.States.{States as Stored}
 use Rattle.mvd_records.specs.Records.{AreDisjoint, EndsMove, KeepsStates, MovesState, new_states, old_states}
 use Rattle.sqlite.specs.Effect.{Database}
-use Rattle.mvd_restore.specs.Stored.{HasState, IsOldStored, IsStored, Respells, SameStates, SpelledIn}
+use Rattle.mvd_replica.specs.Readable.{HasState, IsOldStored, IsStored, Respells, SameStates, SpelledIn}
 
 -- ---- an entry of a map
 

@@ -4,11 +4,11 @@ ghost use Rattle.std.specs.List.{AllByRecursion};
 ghost use Rattle.mvd_wire.specs.Codecs.{spell_state};
 ghost use Rattle.mvd_records.specs.Pairs.{entries_of};
 ghost use Rattle.mvd_site.specs.Held.{IsHeldState};
-ghost use Rattle.mvd_restore.specs.Restored.{DamagedIn, HasWrites, IfDamaged, IsFresh, IsUnloaded, IsUnmoved, IsUnread};
-ghost use Rattle.mvd_restore.specs.Restored.{RestoresSite, WereSound};
-ghost use Rattle.mvd_restore.specs.Restored.{LeavesOpen, LoadsFull, LoadsOnly, LoadsOrder, LoadsStates};
-ghost use Rattle.mvd_restore.specs.Restored.{MovesAlike, MovesAll, MovesStates, MovesVersion};
-ghost use Rattle.mvd_restore.specs.Stored.{IsOldStored, IsStored, Respells, spelled_entries};
+ghost use Rattle.mvd_replica.specs.Restored.{DamagedIn, HasWrites, IfDamaged, IsFresh, IsUnloaded, IsUnmoved, IsUnread};
+ghost use Rattle.mvd_replica.specs.Restored.{RestoresSite, WereSound};
+ghost use Rattle.mvd_replica.specs.Restored.{LeavesOpen, LoadsFull, LoadsOnly, LoadsOrder, LoadsStates};
+ghost use Rattle.mvd_replica.specs.Restored.{MovesAlike, MovesAll, MovesStates, MovesVersion};
+ghost use Rattle.mvd_replica.specs.Readable.{IsOldStored, IsStored, Respells, spelled_entries};
 
 use mvd_dots::Refusal;
 use mvd_keys::{Key, KeyState};

@@ -26,9 +26,9 @@ use Rattle.mvd_site.specs.Config.{ConfigValue}
 use Rattle.mvd_site.specs.Held.{IsHeldState, States}
 use Rattle.mvd_site.specs.Sites.{SiteValue, opened}
 use Rattle.sqlite.specs.Effect.{Database}
-use Rattle.mvd_restore.specs.Kept.{AreSpelled, HoldsStates, SpellStates}
-use Rattle.mvd_restore.specs.Stored.{AreDamaged, AreInOrder, AreStored, HasJust, HasState, HoldsTooMany, IsOldStored, IsStored, Migrates, Respells, Resumes, SameStates, spelled_entries}
-use Rattle.mvd_restore.proofs.Moving.{Moving, free2, found_at, less_is_no_tie, below_part, new_at, old_at, none_is_some, some_is, spells_one}
+use Rattle.mvd_replica.specs.Holds.{AreSpelled, HoldsStates, SpellStates}
+use Rattle.mvd_replica.specs.Readable.{AreDamaged, AreInOrder, AreStored, HasJust, HasState, HoldsTooMany, IsOldStored, IsStored, Migrates, Respells, Resumes, SameStates, spelled_entries}
+use Rattle.mvd_replica.proofs.Moving.{Moving, free2, found_at, less_is_no_tie, below_part, new_at, old_at, none_is_some, some_is, spells_one}
 
 -- ---- what is stored
 

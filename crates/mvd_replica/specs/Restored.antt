@@ -13,8 +13,8 @@ use Rattle.sqlite.specs.Effect.{Database}
 use Rattle.sqlite.specs.Held.{state}
 use Rattle.sqlite.specs.State.{HasCleanDisk}
 use Rattle.sqlite_trees.specs.declared.store.Store.{Ghosts}
-use Rattle.mvd_restore.specs.Kept.{SpellStates}
-use Rattle.mvd_restore.specs.Stored.{AreInOrder, AreStored, HoldsTooMany, Migrates, Resumes, SameStates}
+use Rattle.mvd_replica.specs.Holds.{SpellStates}
+use Rattle.mvd_replica.specs.Readable.{AreInOrder, AreStored, HoldsTooMany, Migrates, Resumes, SameStates}
 
 -- ---- refusals
 

@@ -2,8 +2,8 @@ use Rattle.std.proofs.Common.{◌≡◌}
 use Rattle.std.specs.List.{AllByRecursion}
 use Rattle.mvd_records.specs.Pairs.{entries_of}
 use Rattle.mvd_site.specs.Held.{IsHeldState}
-use Rattle.mvd_restore.specs.Stored.{IsStored, spelled_entries}
-use Rattle.mvd_restore.proofs.restoring.states_of.Given as goal
+use Rattle.mvd_replica.specs.Readable.{IsStored, spelled_entries}
+use Rattle.mvd_replica.proofs.restoring.states_of.Given as goal
 
 -- the states of the pairs so far
 abbrev pub invariant-loop-key : goal.invariant-loop-key

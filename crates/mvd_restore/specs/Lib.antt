@@ -1,3 +1,0 @@
-pub mod Kept
-pub mod Stored
-pub mod Restored

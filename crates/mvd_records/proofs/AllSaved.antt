@@ -1,20 +1,16 @@
 -- What a call leaves that saves the states of many keys.
-use Rattle.std.proofs.Common.{◌≡◌, ℕ, List, [], ◌∷◌, ◌++◌, IsTrue, Ok, inl, ◌+◌, take, arith, refl, sym, ap, subst, ◌∙◌}
+use Rattle.std.proofs.Common.{◌≡◌, ℕ, List, [], ◌∷◌, ◌++◌, Ok, inl, ◌+◌, take, arith, refl, sym, ap, subst, ◌∙◌}
 use Rattle.std.proofs.lemmas.List.{map-append}
 use Rattle.std.specs.FinMap.{insert}
 use Rattle.sqlite.specs.declared.types.Value.TheVariants.{Text, Blob}
 use Rattle.sqlite.specs.Effect.{Database, IsDatabase}
-use Rattle.sqlite.specs.Tree.{Trees}
 use Rattle.sqlite.specs.State.{State, Executes}
-use Rattle.sqlite.specs.Held.{Held, state}
 use Rattle.sqlite.specs.Listing.{understood}
 use Rattle.sqlite.proofs.Callers.{runs_as, statement_of}
-use Rattle.sqlite_trees.specs.declared.store.Store.{Ghosts}
 use Rattle.mvd_records.specs.Tables.{all_tables}
 use Rattle.mvd_records.specs.States.{States}
-use Rattle.mvd_records.specs.Records.{HoldsRecords, IsSettled, Leaves, SavesStates, SavesState, StaysInside, with_pairs}
+use Rattle.mvd_records.specs.Records.{HoldsRecords, SavesStates, SavesState, StaysInside, with_pairs}
 use Rattle.mvd_records.specs.Pairs.{Pair, entries_of}
-use Rattle.mvd_records.proofs.Opened.{begun}
 use Rattle.mvd_records.proofs.Saved.{saved}
 use Rattle.mvd_records.proofs.Texts.{save_text, save_command, save_is, save_plain}
 
@@ -37,16 +33,6 @@ one_more a b c pairs key bytes so_far one = record {
   old_same = one.old_same ∙ so_far.old_same;
   saved = one.saved ∙ (ap (λ (m : States). insert m key bytes) so_far.saved ∙ sym (with_more _ pairs (key, bytes)));
 }
-
-module _ {S : Type 0} (g : Ghosts S) (old mid : Held S) where
-  -- what a crash may leave of the commit of many states
-  pub all_leave : (pairs : List (List ℕ × List ℕ)) → IsSettled (state g old)
-      → ((version site : ℕ) → IsTrue (begun g old mid).in_transaction → IsDatabase (begun g old mid).now → HoldsRecords version site (begun g old mid).now → IsDatabase (state g mid).now × (HoldsRecords version site (state g mid).now × SavesStates (begun g old mid).now (state g mid).now pairs))
-      → (db : Trees) → db ≡ (state g mid).now.trees → Leaves (state g old) (λ version site db. HoldsRecords version site db × SavesStates (state g old).committed db pairs) db
-  all_leave pairs settled stored db is version site was holds =
-      let now = settled.settled was in
-      let it = stored version site refl (settled.live was).0 (subst (HoldsRecords version site) (sym now) holds) in
-      ((state g mid).now, it.0, (it.1.0, subst (λ (d : Database). SavesStates d (state g mid).now pairs) now it.1.1), is)
 
 -- nothing was done
 pub stays_self : (a : State) → StaysInside a a

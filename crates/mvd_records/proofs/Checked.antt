@@ -1,8 +1,9 @@
 -- What a call leaves that reads the records.
-use Rattle.std.proofs.Common.{◌≡◌, ◌≢◌, inl, inr, ℕ, List, [], Bool, true, false, IsTrue, MatchBool, Result, Ok, Err, IfOk, IfErr, OnOk, OnErr, refl, sym, ap, subst, ◌∙◌, arith}
+use Rattle.std.proofs.Common.{◌≡◌, ◌≢◌, ◌==◌, inl, inr, ℕ, List, [], ◌∷◌, length, not, Bool, true, false, IsTrue, MatchBool, Result, Ok, Err, IfOk, IfErr, OnOk, OnErr, refl, sym, ap, subst, ◌∙◌, arith}
 use Rattle.std.specs.Bool.{MatchBool}
+use Rattle.std.specs.Cmp.{unsigned_Decides}
 use Rattle.sqlite.specs.Order.{Row}
-use Rattle.sqlite.specs.Effect.{Database}
+use Rattle.sqlite.specs.Effect.{Database, IsDatabase}
 use Rattle.sqlite.specs.Listing.{understood}
 use Rattle.sqlite.specs.Given.{IsPlain}
 use Rattle.sqlite.specs.State.{State, HasCleanDisk, KeepsCommit, Survives, Shown, CommitsShowing}
@@ -70,17 +71,32 @@ maps_of version site old settled was holds =
 abbrev pub Tells : (Type 0) → Bool → Type 0
 Tells P any = MatchBool any (¬ P) P
 
-pub tells_old : (version site : ℕ) (old new : State) (rows : List Row) (any : Bool) → IsSettled old → HoldsRecords version site old.committed → Shown any_old_text [] old new rows → MatchBool any (rows ≢ []) (rows ≡ [])
-    → Tells (HasNone (maps.old_states old.committed)) any
-tells_old version site old new rows any settled holds h is =
-    let was = shown_open any_old_text [] old new rows h in
-    let asked = any_old old new rows (met_schema version site old settled was holds) h in
-    let are = (states_of version site old settled was holds).0 in
-    subst (λ m. Tells (HasNone m) any) (sym (maps_of version site old settled was holds).0) (answer any is asked (apart_in _ are))
+-- whether there is a row
+pub any_row : (empty : Bool) (rows : List Row) → empty ≡ (length rows == 0) → MatchBool (not empty) (rows ≢ []) (rows ≡ [])
+any_row true [] e = refl
+any_row true (r ∷ rows) e = absurd (let none : length (r ∷ rows) ≡ 0 = (unsigned_Decides (length (r ∷ rows)) 0).0 (sym e) in omega (arith, none))
+any_row false [] e = absurd (let no : false ≡ true = e in cc)
+any_row false (r ∷ rows) e = λ none. absurd (let no : r ∷ rows ≡ [] = none in cc)
+
+-- as the connection sees it
+pub tells_inside : (version site : ℕ) (old new : State) (rows : List Row) (any : Bool) → IsDatabase old.now → HoldsRecords version site old.now → Shown any_old_text [] old new rows → MatchBool any (rows ≢ []) (rows ≡ [])
+    → Tells (HasNone (maps.old_states old.now)) any
+tells_inside version site old new rows any sound holds h is =
+    let has = holds.tables.schema in
+    let asked = any_old old new rows has h in
+    let are = old_states_of old.now has sound (holds.tables.rows old_states (inl refl)) in
+    subst (λ m. Tells (HasNone m) any) (sym (ap states_in (rows_there old.now has).0)) (answer any is asked (apart_in _ are))
   where
     answer : (any : Bool) → MatchBool any (rows ≢ []) (rows ≡ []) → (rows ≡ [] → old.now.trees 0 ≡ []) × (old.now.trees 0 ≡ [] → rows ≡ []) → Rattle.mvd_records.proofs.Rows.IsApart (old.now.trees 0) → Tells (HasNone (states_in (old.now.trees 0))) any
     answer true some both apart = λ none. some (both.1 (no_row _ apart none))
     answer false none both apart = no_state _ (both.0 none)
+
+pub tells_old : (version site : ℕ) (old new : State) (rows : List Row) (any : Bool) → IsSettled old → HoldsRecords version site old.committed → Shown any_old_text [] old new rows → MatchBool any (rows ≢ []) (rows ≡ [])
+    → Tells (HasNone (maps.old_states old.committed)) any
+tells_old version site old new rows any settled holds h is =
+    let was = shown_open any_old_text [] old new rows h in
+    let now = settled.settled was in
+    subst (λ (d : Database). Tells (HasNone (maps.old_states d)) any) now (tells_inside version site old new rows any (settled.live was).0 (subst (HoldsRecords version site) (sym now) holds) h is)
 
 pub tells_both : (version site : ℕ) (old new : State) (rows : List Row) (any : Bool) → IsSettled old → HoldsRecords version site old.committed → Shown any_both_text [] old new rows → MatchBool any (rows ≢ []) (rows ≡ [])
     → Tells (AreDisjoint (maps.old_states old.committed) (maps.new_states old.committed)) any

@@ -1,23 +1,26 @@
 -- The relation of each call, from what its clauses on databases say.
-use Rattle.std.proofs.Common.{◌≡◌, ◌⊎◌, inr, ℕ, List, [], ◌∷◌, Vec, Some, Result, Ok, Err, IfOk, IfErr, OnErr, OnOk, arith, refl, sym, ap, subst, subst₂, ◌∙◌}
-use Rattle.std.specs.Prelude.{IsTrue}
+use Rattle.std.proofs.Common.{◌≡◌, ◌⊎◌, inl, inr, ℕ, List, [], ◌∷◌, Vec, Some, Result, Ok, Err, IfOk, IfErr, OnErr, OnOk, arith, refl, sym, ap, subst, subst₂, ◌∙◌}
+use Rattle.std.specs.Prelude.{IsTrue, MatchResult, ⊤}
 use Rattle.std.specs.FinMap.{entries, get, insert, remove}
 use Rattle.std.specs.declared.alloc.Global.{Global}
-use Rattle.sqlite.specs.Effect.{Database}
+use Rattle.sqlite.specs.Effect.{Database, IsDatabase}
 use Rattle.sqlite.specs.Tree.{Trees}
 use Rattle.sqlite.specs.State.{HasCleanDisk, IsUnchanged, KeepsCommit, State, Survives}
 use Rattle.sqlite.proofs.StateLemmas.{survives_then, survives_weaker}
 use Rattle.mvd_dots.specs.declared.refusals.Refusal.{Refusal}
-use Rattle.mvd_dots.specs.declared.refusals.Refusal.TheVariants.{Damaged, Memory, SiteMismatch, Store}
+use Rattle.mvd_dots.specs.declared.refusals.Refusal.TheVariants.{Damaged, Memory, Store}
 use Rattle.mvd_records.specs.declared.loading.StateTable.{StateTable}
 use Rattle.mvd_records.specs.declared.loading.StateTable.TheVariants.{Version1, Version2}
 use Rattle.mvd_records.specs.States.{States}
 use Rattle.mvd_records.specs.Pairs.{Pair, entries_of, rises}
-use Rattle.mvd_records.specs.Records.{EndsMove, HasNone, HoldsRecords, IsOurs, IsSound, IsWhole, Leaves, LeavesMade, LeavesOpened, LeavesRefused, LeavesUnmade, MovesState, OnlyReads, OpensRecords, SavesState, SavesStates, new_states, old_states, states_at, with_pairs}
+use Rattle.mvd_records.specs.Records.{EndsMove, HasNone, HoldsRecords, IsSound, IsWhole, LacksKey, Leaves, LeavesMade, LeavesUnmade, MovesState, OnlyReads, SavesState, SavesStates, marks_of, new_states, old_states, states_at, with_pairs}
 use Rattle.mvd_records.specs.Contents.{Contents, EndsMoves, Holds, MovesKey, SetsStates, map_of}
-use Rattle.mvd_records.specs.Calls.{Commits, LeavesChange, Loads}
+use Rattle.mvd_records.specs.Calls.{Commits, Finishes, IsOpened, IsRefused, LeavesChange, Loads, Moves, SavesAll}
+use Rattle.mvd_records.specs.Foreign.{HoldsForeign}
+use Rattle.mvd_records.specs.Jobs.{DoesWhole, LeavesDone, Meaning, OfRecords, always, finishing, moving, opening}
 use Rattle.mvd_records.proofs.Calls.{same_commit, sound_before}
-use Rattle.mvd_records.proofs.Checked.{if_ok}
+use Rattle.mvd_records.proofs.Checked.{if_err, if_ok}
+use Rattle.mvd_records.proofs.Marked.{told_store}
 use Rattle.mvd_records.proofs.PairLemmas.{pairs_sorted}
 
 -- what a call does to a database of ours of this version and site
@@ -80,64 +83,7 @@ survives_found P C old mid new follows found it =
     let same = found.same early in
     left P C old trees follows same.0.was_open (leaves_as P old mid trees same leaves))) found.nothing it
 
-pub commits : {A : Type 0} (P : Change) (C : Contents → Contents → Type 0) (old mid new : State) (result : Result A Refusal) →
-    Follows P C → IsFound old mid → (IsSound new → IsSound mid)
-    → ((version site : ℕ) → IsSound new → HoldsRecords version site mid.committed → OnOk result (P version site mid.committed new.committed))
-    → Survives mid new (Leaves mid (λ version site db. P version site mid.committed db)) → Commits C old result new
-commits P C old mid new (Ok x) follows found before done survives = record {
-  before = before_found old mid new found before;
-  done = λ was sound holds. (
-      let is = commit_found old mid new found before sound in
-      let it = done was.version was.site sound (subst (HoldsRecords was.version was.site) (sym is) holds.records) in
-      follows was old.committed new.committed holds (subst (λ (d : Database). P was.version was.site d new.committed) is it));
-  survives = survives_found P C old mid new follows found survives;
-}
-commits P C old mid new (Err e) follows found before done survives = record {
-  before = before_found old mid new found before;
-  done = λ _ _ _. tt;
-  survives = survives_found P C old mid new follows found survives;
-}
-
--- ---- an opening of one
-
-made_as : (site : ℕ) (old mid : State) (trees : Trees) → IsUnchanged old mid → LeavesMade mid site trees → LeavesMade old site trees
-made_as site old mid trees same leaves _ ours =
-    let is = same.0.committed_is in
-    let it = leaves same.0.is_open (subst IsOurs (sym is) ours) in
-    (it.0, it.1, it.2, subst (λ (d : Database). OpensRecords it.1 site d it.0) is it.3, it.4)
-
-unmade_as : (e : Refusal) (site : ℕ) (old mid : State) (trees : Trees) → IsUnchanged old mid → LeavesUnmade e mid site trees → LeavesUnmade e old site trees
-unmade_as SiteMismatch site old mid trees same leaves = leaves
-unmade_as Store site old mid trees same leaves = made_as site old mid trees same leaves
-unmade_as _ site old mid trees same leaves = leaves
-
-module _ (site : ℕ) (old mid new : State) (found : IsFound old mid) where
-  pub made_found : Survives mid new (LeavesMade mid site) → Survives old new (LeavesOpened old site)
-  made_found it = survives_then _ _ _ _ _ _ (λ _ _ none. absurd none) (λ clean trees leaves. (
-      let same = found.same (omega (arith, it.clean, clean)) in
-      (same.0.was_open, made_as site old mid trees same leaves))) found.nothing it
-
-pub unmade_found : (e : Refusal) (site : ℕ) (old mid new : State) → IsFound old mid → Survives mid new (LeavesUnmade e mid site) → Survives old new (LeavesRefused e old site)
-unmade_found e site old mid new found it = survives_then _ _ _ _ _ _ (λ _ _ none. absurd none) (λ clean trees leaves. (
-    let same = found.same (omega (arith, it.clean, clean)) in
-    (same.0.was_open, unmade_as e site old mid trees same leaves))) found.nothing it
-
-pub none_made : (e : Refusal) (old new : State) (site : ℕ) → Survives old new (λ _. ⊥) → Survives old new (LeavesRefused e old site)
-none_made e old new site nothing = survives_weaker _ _ _ _ (λ _ _ none. absurd none) nothing
-
 -- ---- a call on a store that was found shut
-
-pub commits_none : {A : Type 0} (C : Contents → Contents → Type 0) (old new : State) (e : Refusal) → (HasCleanDisk new → KeepsCommit old new) →
-    Survives old new (λ _. ⊥) → Commits {A = A} C old (Err e) new
-commits_none C old new e kept nothing = record {
-  before = sound_before old new nothing.clean kept;
-  done = λ _ _ _. tt;
-  survives = survives_weaker _ _ _ _ (λ _ _ none. absurd none) nothing;
-}
-
-pub on_ok_and : {A E : Type 0} (result : Result A E) (P Q : Type 0) → P → OnOk result Q → OnOk result (P × Q)
-on_ok_and (Ok x) P Q p q = (p, q)
-on_ok_and (Err e) P Q p q = tt
 
 -- ---- the changes
 
@@ -180,6 +126,91 @@ ends was a b holds it = (
   record { none = subst HasNone (it.states.old_same ∙ holds.old_is) it.moved; is = refl },
   record { records = it.holds; old_is = it.states.old_same ∙ holds.old_is; new_is = it.states.new_same ∙ holds.new_is },
 )
+
+-- ---- a job in a transaction of its own
+
+-- what a job of records makes of them is a change of what is held
+pub of_records : (P : Database → Database → Type 0) (C : Contents → Contents → Type 0) → Follows (λ version site a b. HoldsRecords version site b × P a b) C
+    → (was : Contents) (a b : Database) → Holds a was → IsDatabase a → OfRecords P a b → IsDatabase b × ((now : Contents) × C was now × Holds b now)
+of_records P C follows was a b holds sound makes = let it = makes was.version was.site sound holds.records in (it.0, follows was a b holds it.1)
+
+module _ {A : Type 0} (job : Meaning A) (C : Contents → Contents → Type 0) (follows : (out : A) (was : Contents) (a b : Database) → Holds a was → IsDatabase a → job.makes out a b → IsDatabase b × ((now : Contents) × C was now × Holds b now)) where
+  leaves_change : (s : State) (result : Result A Refusal) (trees : Trees) → LeavesDone job result s trees → LeavesChange C s trees
+  leaves_change s result trees (told, is_open, (out, db, did, is)) =
+      (is_open, λ was holds. (let n = follows out was s.committed db holds did.0 did.1 in (n.1.0, n.1.1, db, n.0, n.1.2, is)))
+
+  pub commits_whole : (old new : State) (result : Result A Refusal) → DoesWhole job old result new → Commits C old result new
+  commits_whole old new (Ok out) it = record {
+    before = it.before;
+    done = λ was sound holds. (let did = it.made sound in (follows out was old.committed new.committed holds did.0 did.1).1);
+    survives = survives_weaker _ _ _ _ (λ _. leaves_change old (Ok out)) it.survives;
+  }
+  commits_whole old new (Err e) it = record { before = it.before; done = λ _ _ _. tt; survives = survives_weaker _ _ _ _ (λ _. leaves_change old (Err e)) it.survives }
+
+-- a job that is never refused but for 21
+pub only_store : {A : Type 0} (result : Result A Refusal) → IfErr result (λ e. (e ≡ Store) ⊎ ⊥) → IfErr result (λ e. e ≡ Store)
+only_store result it = if_err result _ _ (λ e h. elim h [ inl is ↦ is | inr none ↦ absurd none ]) it
+
+pub saves_all : (P : Database → Database → Type 0) (pairs : List (List ℕ × List ℕ)) (version : ℕ) (old new : State) (result : Result ⊤ Refusal) → Follows (λ version site a b. HoldsRecords version site b × P a b) (SetsStates pairs)
+    → DoesWhole (always P) old result new → SavesAll (record { version = version; store = old }) pairs result (record { version = version; store = new })
+saves_all P pairs version old new result follows it = record {
+  commits = commits_whole (always P) (SetsStates pairs) (λ _. of_records P (SetsStates pairs) follows) old new result it;
+  refusal = only_store result it.refusal;
+  unchanged = it.unchanged;
+  stays_open = it.stays_open;
+  version = refl;
+}
+
+never : (e : Refusal) → e ≡ Store → e ≡ Damaged → ⊥
+never e a b = let apart : Store ≡ Damaged = sym a ∙ b in cc
+
+pub moves_key : (key state : List ℕ) (version : ℕ) (old new : State) (result : Result ⊤ Refusal) → DoesWhole (moving key state) old result new
+    → Moves (record { version = version; store = old }) key state result (record { version = version; store = new })
+moves_key key state version old new result it = record {
+  commits = commits_whole (moving key state) (MovesKey key state) (λ _. of_records (λ a b. MovesState a b key state) (MovesKey key state) (moves key state)) old new result it;
+  refusal = if_err result _ _ (λ e h. elim h [ inl is ↦ inr is | inr is ↦ inl is ]) it.refusal;
+  damaged = λ was sound holds. if_err result _ _ (λ e h is. elim h [
+    | inl store ↦ absurd (never e store is)
+    | inr did ↦ subst (λ (m : States). LacksKey m key) holds.old_is (did.1 was.version was.site did.0 holds.records)
+  ]) (it.refused sound);
+  unchanged = it.unchanged;
+  version = refl;
+}
+
+pub finishes_moves : (version version' : ℕ) (old new : State) (result : Result ⊤ Refusal) → MatchResult result (λ _. version' ≡ 2) (λ _. version' ≡ version) → DoesWhole finishing old result new
+    → Finishes (record { version = version; store = old }) result (record { version = version'; store = new })
+finishes_moves version version' old new result raised it = record {
+  commits = commits_whole finishing EndsMoves (λ _ was a b holds sound makes. (let did = makes was.version was.site sound holds.records in (did.0, ends was a b holds did.1))) old new result it;
+  refusal = if_err result _ _ (λ e h. elim h [ inl is ↦ inr is | inr is ↦ inl is ]) it.refusal;
+  damaged = λ was sound holds. if_err result _ _ (λ e h is. elim h [
+    | inl store ↦ absurd (never e store is)
+    | inr did ↦ subst (λ (m : States). ¬ HasNone m) holds.old_is (did.1 was.version was.site did.0 holds.records)
+  ]) (it.refused sound);
+  unchanged = λ was sound holds. it.unchanged sound;
+  version = raised;
+}
+
+-- what a crash may leave of an opening
+leaves_made : (site : ℕ) (s : State) (result : Result ℕ Refusal) (trees : Trees) → LeavesDone (opening site) result s trees → LeavesMade s site trees
+leaves_made site s result trees (told, is_open, (version, db, did, is)) _ ours = let it = did.1 ours did.0 in (db, version, it.0, it.1, is)
+
+pub opened_whole : (site : ℕ) (old new : State) (version : ℕ) → DoesWhole (opening site) old (Ok version) new → ¬ HoldsForeign old → IsOpened old site (record { version = version; store = new })
+opened_whole site old new version it own = record {
+  before = it.before;
+  opened = λ sound ours. (let did = it.made sound in (did.1 ours did.0).1);
+  autocommit = it.autocommit;
+  survives = survives_weaker _ _ _ _ (λ _ trees left. (left.1, leaves_made site old (Ok version) trees left)) it.survives;
+  own = own;
+}
+
+pub refused_whole : (site : ℕ) (old new : State) (e : Refusal) → DoesWhole (opening site) old (Err e) new → IsRefused old site e new
+refused_whole site old new e it = record {
+  before = it.before;
+  refusal = elim it.refusal [ inl is ↦ inr (inr is) | inr other ↦ elim other [ inl mismatch ↦ inl mismatch | inr damaged ↦ inr (inl damaged) ] ];
+  told = λ sound ours. elim (it.refused sound) [ inl is ↦ told_store (marks_of old.committed) site e is | inr did ↦ did.1 ours ];
+  unchanged = it.unchanged;
+  survives = survives_weaker _ _ _ _ (λ _ trees left. (left.1, subst (λ r. LeavesUnmade r old site trees) (sym left.0) (leaves_made site old (Err e) trees left))) it.survives;
+}
 
 -- why a call is refused, of what was held
 pub lacking : {A : Type 0} (result : Result A Refusal) (P : States → Type 0) (db : Database) (was : Contents) → Holds db was → IfErr result (λ e. e ≡ Damaged → P (old_states db)) → IfErr result (λ e. e ≡ Damaged → P was.old_map)

@@ -2,6 +2,7 @@
 #![tactic(auto)]
 
 pub mod foreign;
+mod jobs;
 mod loading;
 mod moving;
 mod open;

@@ -1,71 +1,45 @@
 //! Opening the records: the tables and the marks, in one transaction.
-ghost use Rattle.std.specs.Prelude.{◌≡◌, ◌≤◌, ◌<◌, ◌^◌, [], map, codes, MatchOption, MatchResult, IsTrue, IfErr, false};
-ghost use Rattle.std.specs.Prelude.{IfOk, OnOk, OnErr, Err};
-ghost use Rattle.sqlite.specs.Effect.{IsDatabase};
+ghost use Rattle.std.specs.Prelude.{◌≡◌, ◌⊎◌, ◌<◌, ◌^◌, map, codes, MatchOption, IfErr};
 ghost use Rattle.sqlite.specs.Held.{state};
-ghost use Rattle.sqlite.specs.State.{HasCleanDisk, KeepsCommit, Survives};
+ghost use Rattle.mvd_records.specs.Jobs.{DoesInside, making_tables, marking, opening, settling, telling};
 ghost use Rattle.mvd_records.specs.States.{AreMarks, IsMark, first_two};
-ghost use Rattle.mvd_records.specs.Tables.{all_tables, meta_tree};
-ghost use Rattle.mvd_records.specs.Records.{IsSettled, IsSound, IsOurs, HasTables, HoldsRecords, OpensRecords};
-ghost use Rattle.mvd_records.specs.Records.{KeepsStates, KeepsRows, Ran, StaysInside, TellsVersion, TellsMarks};
-ghost use Rattle.mvd_records.specs.Records.{LeavesMade, LeavesUnmade, IsOpenRefusal, marks_of};
+ghost use Rattle.mvd_records.specs.Records.{TellsMarks};
 
-use crate::statements::is_settled;
+use crate::jobs::{Job, execute};
 use mvd_dots::Refusal;
 use sqlite::types::ValueRef;
-use sqlite::{Alter, Connection, Row, Transaction, params};
-
-/// Runs a statement that takes no parameter.
-fn run<S: Alter>(tx: &mut Transaction<'_, S>, sql: &str) -> Result<(), Refusal>
-    ensures same_reference { tx.new.conn.ghost_name ≡ tx.old.conn.ghost_name }
-    ensures stays { StaysInside (state S.Store tx.old.conn.now) (state S.Store tx.new.conn.now) }
-    ensures ran { HasCleanDisk (state S.Store tx.new.conn.now) →
-        IsTrue (state S.Store tx.old.conn.now).in_transaction →
-        OnOk result (Ran sql.now [] (state S.Store tx.old.conn.now) (state S.Store tx.new.conn.now)) }
-    ensures refusal { IfErr result (λ e. e ≡ Refusal.Store) }
-{
-    match tx.execute(sql, &[]) {
-        Ok(_) => Ok(()),
-        Err(_) => Err(Refusal::Store),
-    }
-}
+use sqlite::{Alter, Row, Transaction, params};
 
 /// Makes the tables that are missing.
 fn make_tables<S: Alter>(tx: &mut Transaction<'_, S>) -> Result<(), Refusal>
     ensures same_reference { tx.new.conn.ghost_name ≡ tx.old.conn.ghost_name }
-    ensures stays { StaysInside (state S.Store tx.old.conn.now) (state S.Store tx.new.conn.now) }
-    ensures inside { HasCleanDisk (state S.Store tx.new.conn.now) →
-        IsTrue (state S.Store tx.old.conn.now).in_transaction →
-        OnOk result (IsTrue (state S.Store tx.new.conn.now).in_transaction) }
-    ensures tables { HasCleanDisk (state S.Store tx.new.conn.now) →
-        IsTrue (state S.Store tx.old.conn.now).in_transaction → IsOurs (state S.Store tx.old.conn.now).now →
-        OnOk result (HasTables all_tables (state S.Store tx.new.conn.now).now) }
-    ensures rows { HasCleanDisk (state S.Store tx.new.conn.now) →
-        IsTrue (state S.Store tx.old.conn.now).in_transaction → IsOurs (state S.Store tx.old.conn.now).now →
-        OnOk result (KeepsRows (state S.Store tx.old.conn.now).now (state S.Store tx.new.conn.now).now) }
-    ensures sound { HasCleanDisk (state S.Store tx.new.conn.now) →
-        IsTrue (state S.Store tx.old.conn.now).in_transaction → IsOurs (state S.Store tx.old.conn.now).now →
-        IsDatabase (state S.Store tx.old.conn.now).now → OnOk result (IsDatabase (state S.Store tx.new.conn.now).now) }
-    ensures refusal { IfErr result (λ e. e ≡ Refusal.Store) }
+    ensures done { DoesInside making_tables (state S.Store tx.old.conn.now) result
+        (state S.Store tx.new.conn.now) }
 {
-    match run(
+    match execute(
         tx,
         "CREATE TABLE IF NOT EXISTS states (key TEXT PRIMARY KEY NOT NULL, state BLOB NOT NULL) STRICT",
+        &[],
     ) {
-        Ok(()) => {}
+        Ok(_) => {}
         Err(refusal) => return Err(refusal),
     }
-    match run(
+    match execute(
         tx,
         "CREATE TABLE IF NOT EXISTS meta (name TEXT PRIMARY KEY NOT NULL, value INTEGER NOT NULL) STRICT",
+        &[],
     ) {
-        Ok(()) => {}
+        Ok(_) => {}
         Err(refusal) => return Err(refusal),
     }
-    run(
+    match execute(
         tx,
         "CREATE TABLE IF NOT EXISTS states2 (key TEXT PRIMARY KEY NOT NULL, state BLOB NOT NULL) STRICT",
-    )
+        &[],
+    ) {
+        Ok(_) => Ok(()),
+        Err(refusal) => Err(refusal),
+    }
 }
 
 /// The number of the mark of this name, where the row is that mark.
@@ -115,7 +89,7 @@ pub fn marks_in(rows: &[Row]) -> Option<(u32, u32)>
 /// The version that the rows of `meta` tell to a site. No rows tell none.
 fn version_in(rows: &[Row], site: u32) -> Result<Option<u32>, Refusal>
     ensures told { TellsMarks (map first_two rows.now) site result }
-    ensures refusal { IfErr result IsOpenRefusal }
+    ensures refusal { IfErr result (λ e. (e ≡ Refusal.SiteMismatch) ⊎ (e ≡ Refusal.Damaged)) }
 {
     if rows.is_empty() {
         return Ok(None);
@@ -134,17 +108,8 @@ fn version_in(rows: &[Row], site: u32) -> Result<Option<u32>, Refusal>
 
 fn read_version<S: Alter>(tx: &mut Transaction<'_, S>, site: u32) -> Result<Option<u32>, Refusal>
     ensures same_reference { tx.new.conn.ghost_name ≡ tx.old.conn.ghost_name }
-    ensures stays { StaysInside (state S.Store tx.old.conn.now) (state S.Store tx.new.conn.now) }
-    ensures inside { HasCleanDisk (state S.Store tx.new.conn.now) →
-        IsTrue (state S.Store tx.old.conn.now).in_transaction →
-        OnOk result (IsTrue (state S.Store tx.new.conn.now).in_transaction) }
-    ensures same { HasCleanDisk (state S.Store tx.new.conn.now) →
-        HasTables all_tables (state S.Store tx.old.conn.now).now →
-        OnOk result ((state S.Store tx.new.conn.now).now ≡ (state S.Store tx.old.conn.now).now) }
-    ensures told { HasCleanDisk (state S.Store tx.new.conn.now) →
-        HasTables all_tables (state S.Store tx.old.conn.now).now →
-        TellsMarks (marks_of (state S.Store tx.old.conn.now).now) site result }
-    ensures refusal { IfErr result IsOpenRefusal }
+    ensures done { DoesInside (telling site) (state S.Store tx.old.conn.now) result
+        (state S.Store tx.new.conn.now) }
 {
     match tx.query_all("SELECT name, value FROM meta", &[]) {
         Ok(rows) => version_in(&rows, site),
@@ -154,50 +119,24 @@ fn read_version<S: Alter>(tx: &mut Transaction<'_, S>, site: u32) -> Result<Opti
 
 fn write_marks<S: Alter>(tx: &mut Transaction<'_, S>, site: u32) -> Result<(), Refusal>
     ensures same_reference { tx.new.conn.ghost_name ≡ tx.old.conn.ghost_name }
-    ensures stays { StaysInside (state S.Store tx.old.conn.now) (state S.Store tx.new.conn.now) }
-    ensures inside { HasCleanDisk (state S.Store tx.new.conn.now) →
-        IsTrue (state S.Store tx.old.conn.now).in_transaction →
-        OnOk result (IsTrue (state S.Store tx.new.conn.now).in_transaction) }
-    ensures marked { HasCleanDisk (state S.Store tx.new.conn.now) →
-        IsTrue (state S.Store tx.old.conn.now).in_transaction →
-        HasTables all_tables (state S.Store tx.old.conn.now).now → marks_of (state S.Store tx.old.conn.now).now ≡ []
-        → OnOk result (HoldsRecords 2 site (state S.Store tx.new.conn.now).now ×
-        KeepsStates (state S.Store tx.old.conn.now).now (state S.Store tx.new.conn.now).now) }
-    ensures sound { HasCleanDisk (state S.Store tx.new.conn.now) →
-        IsTrue (state S.Store tx.old.conn.now).in_transaction →
-        HasTables all_tables (state S.Store tx.old.conn.now).now →
-        IsDatabase (state S.Store tx.old.conn.now).now → OnOk result (IsDatabase (state S.Store tx.new.conn.now).now) }
-    ensures refusal { IfErr result (λ e. e ≡ Refusal.Store) }
+    ensures done { DoesInside (marking site) (state S.Store tx.old.conn.now) result
+        (state S.Store tx.new.conn.now) }
 {
-    match tx.execute(
+    match execute(
+        tx,
         "INSERT INTO meta (name, value) VALUES ('format', 2), ('site', ?1)",
         params![site],
     ) {
         Ok(_) => Ok(()),
-        Err(_) => Err(Refusal::Store),
+        Err(refusal) => Err(refusal),
     }
 }
 
 /// The version of this site's records. It writes the marks where there are none.
 fn settle<S: Alter>(tx: &mut Transaction<'_, S>, site: u32) -> Result<u32, Refusal>
     ensures same_reference { tx.new.conn.ghost_name ≡ tx.old.conn.ghost_name }
-    ensures stays { StaysInside (state S.Store tx.old.conn.now) (state S.Store tx.new.conn.now) }
-    ensures inside { HasCleanDisk (state S.Store tx.new.conn.now) →
-        IsTrue (state S.Store tx.old.conn.now).in_transaction →
-        OnOk result (IsTrue (state S.Store tx.new.conn.now).in_transaction) }
-    ensures opened { HasCleanDisk (state S.Store tx.new.conn.now) →
-        IsTrue (state S.Store tx.old.conn.now).in_transaction →
-        HasTables all_tables (state S.Store tx.old.conn.now).now →
-        IfOk result (λ version. OpensRecords version site (state S.Store tx.old.conn.now).now
-        (state S.Store tx.new.conn.now).now) }
-    ensures sound { HasCleanDisk (state S.Store tx.new.conn.now) →
-        IsTrue (state S.Store tx.old.conn.now).in_transaction →
-        HasTables all_tables (state S.Store tx.old.conn.now).now →
-        IsDatabase (state S.Store tx.old.conn.now).now → OnOk result (IsDatabase (state S.Store tx.new.conn.now).now) }
-    ensures refused { HasCleanDisk (state S.Store tx.new.conn.now) →
-        HasTables all_tables (state S.Store tx.old.conn.now).now →
-        IfErr result (λ e. TellsVersion (marks_of (state S.Store tx.old.conn.now).now) site (Err e)) }
-    ensures refusal { IfErr result IsOpenRefusal }
+    ensures done { DoesInside (settling site) (state S.Store tx.old.conn.now) result
+        (state S.Store tx.new.conn.now) }
 {
     match read_version(tx, site) {
         Ok(Some(version)) => Ok(version),
@@ -209,57 +148,22 @@ fn settle<S: Alter>(tx: &mut Transaction<'_, S>, site: u32) -> Result<u32, Refus
     }
 }
 
-fn prepare<S: Alter>(tx: &mut Transaction<'_, S>, site: u32) -> Result<u32, Refusal>
-    ensures same_reference { tx.new.conn.ghost_name ≡ tx.old.conn.ghost_name }
-    ensures stays { StaysInside (state S.Store tx.old.conn.now) (state S.Store tx.new.conn.now) }
-    ensures inside { HasCleanDisk (state S.Store tx.new.conn.now) →
-        IsTrue (state S.Store tx.old.conn.now).in_transaction →
-        OnOk result (IsTrue (state S.Store tx.new.conn.now).in_transaction) }
-    ensures opened { HasCleanDisk (state S.Store tx.new.conn.now) →
-        IsTrue (state S.Store tx.old.conn.now).in_transaction → IsOurs (state S.Store tx.old.conn.now).now →
-        IfOk result (λ version. OpensRecords version site (state S.Store tx.old.conn.now).now
-        (state S.Store tx.new.conn.now).now) }
-    ensures sound { HasCleanDisk (state S.Store tx.new.conn.now) →
-        IsTrue (state S.Store tx.old.conn.now).in_transaction → IsOurs (state S.Store tx.old.conn.now).now →
-        IsDatabase (state S.Store tx.old.conn.now).now → OnOk result (IsDatabase (state S.Store tx.new.conn.now).now) }
-    ensures refused { HasCleanDisk (state S.Store tx.new.conn.now) →
-        IsTrue (state S.Store tx.old.conn.now).in_transaction → IsOurs (state S.Store tx.old.conn.now).now →
-        IfErr result (λ e. TellsVersion (marks_of (state S.Store tx.old.conn.now).now) site (Err e)) }
-    ensures refusal { IfErr result IsOpenRefusal }
-{
-    match make_tables(tx) {
-        Ok(()) => {}
-        Err(refusal) => return Err(refusal),
-    }
-    settle(tx, site)
+/// Makes what is missing of the records of a site, and tells their version.
+#[derive(Drop)]
+pub struct Open {
+    pub site: u32,
 }
 
-/// Makes what is missing in one transaction, and tells the version.
-pub fn open<S: Alter>(conn: &mut Connection<S>, site: u32) -> Result<u32, Refusal>
-    ensures before { IsSound (state S.Store conn.new) → IsSound (state S.Store conn.old) }
-    ensures opened { IsSound (state S.Store conn.new) → IsOurs (state S.Store conn.old).committed →
-        IfOk result (λ version. OpensRecords version site (state S.Store conn.old).committed
-        (state S.Store conn.new).committed) }
-    ensures refused { IsSound (state S.Store conn.new) → IsOurs (state S.Store conn.old).committed →
-        IfErr result (λ e. TellsVersion (marks_of (state S.Store conn.old).committed) site (Err e)) }
-    ensures refusal { IfErr result IsOpenRefusal }
-    ensures unchanged { IsSound (state S.Store conn.new) →
-        OnErr result ((state S.Store conn.new).committed ≡ (state S.Store conn.old).committed) }
-    ensures autocommit { OnOk result ((state S.Store conn.new).in_transaction ≡ false) }
-    ensures survives { MatchResult result (λ _. Survives (state S.Store conn.old) (state S.Store conn.new)
-        (LeavesMade (state S.Store conn.old) site)) (λ e. Survives (state S.Store conn.old) (state S.Store conn.new)
-        (LeavesUnmade e (state S.Store conn.old) site)) }
-{
-    if !is_settled(conn) {
-        return Err(Refusal::Store);
-    }
-    let mut tx = conn.transaction();
-    let version = match prepare(&mut tx, site) {
-        Ok(version) => version,
-        Err(refusal) => return Err(refusal),
-    };
-    match tx.commit() {
-        Ok(()) => Ok(version),
-        Err(_) => Err(Refusal::Store),
+impl Job for Open {
+    type Out = u32;
+
+    ghost means = { λ job. opening job.site };
+
+    fn run<S: Alter>(&self, tx: &mut Transaction<'_, S>) -> Result<u32, Refusal> {
+        match make_tables(tx) {
+            Ok(()) => {}
+            Err(refusal) => return Err(refusal),
+        }
+        settle(tx, self.site)
     }
 }

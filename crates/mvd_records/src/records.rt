@@ -4,8 +4,12 @@ ghost use Rattle.sqlite.specs.Held.{state};
 ghost use Rattle.sqlite.specs.State.{IsLive};
 ghost use Rattle.mvd_records.specs.Pairs.{entries_of};
 
+use crate::jobs::in_transaction;
 use crate::loading::StateTable;
-use crate::{foreign, loading, moving, open, statements, storing};
+use crate::moving::{Finish, Move};
+use crate::open::Open;
+use crate::storing::{Save, SaveAll};
+use crate::{foreign, loading, statements};
 use mvd_dots::Refusal;
 use mvd_keys::Key;
 use sqlite::{Alter, Connection};
@@ -50,10 +54,7 @@ impl<S: Alter> Records<S> {
         if foreign::is_foreign(&conn) {
             return Err((Refusal::Damaged, conn));
         }
-        if !statements::is_open(&mut conn) {
-            return Err((Refusal::Store, conn));
-        }
-        match open::open(&mut conn, site) {
+        match in_transaction(&mut conn, &Open { site }) {
             Ok(version) => Ok(Records {
                 alloc,
                 version,
@@ -73,15 +74,13 @@ impl<S: Alter> Records<S> {
         self.version
     }
 
-    /// Sets the state of one key, in one statement.
+    /// Sets the state of one key.
     pub fn save(&mut self, key: &Key, bytes: &[u8]) -> Result<(), Refusal>
         requires { self.old.version ≡ 2 }
         ensures { Saves (seen S.Store self.old) key.now bytes.now result (seen S.Store self.new) }
     {
-        if !statements::is_open(&mut self.conn) {
-            return Err(Refusal::Store);
-        }
-        statements::save(&mut self.conn, key.text(), bytes)
+        let key = key.text();
+        in_transaction(&mut self.conn, &Save { key, bytes })
     }
 
     /// Sets the states of these keys in one transaction, one after the other: all of them, or none.
@@ -89,10 +88,7 @@ impl<S: Alter> Records<S> {
         requires { self.old.version ≡ 2 }
         ensures { SavesAll (seen S.Store self.old) (entries_of pairs.now) result (seen S.Store self.new) }
     {
-        if !statements::is_open(&mut self.conn) {
-            return Err(Refusal::Store);
-        }
-        storing::save_all(&mut self.conn, pairs)
+        in_transaction(&mut self.conn, &SaveAll { pairs })
     }
 
     /// The map of version 2, by rising key. 17 where a key is out of form or in both maps, or an
@@ -131,20 +127,15 @@ impl<S: Alter> Records<S> {
     pub fn move_key(&mut self, key: &Key, bytes: &[u8]) -> Result<(), Refusal>
         ensures { Moves (seen S.Store self.old) key.now bytes.now result (seen S.Store self.new) }
     {
-        if !statements::is_open(&mut self.conn) {
-            return Err(Refusal::Store);
-        }
-        moving::move_key(&mut self.conn, key.text(), bytes)
+        let key = key.text();
+        in_transaction(&mut self.conn, &Move { key, bytes })
     }
 
     /// Ends the move: the version becomes 2. 17 where an old key is left.
     pub fn finish(&mut self) -> Result<(), Refusal>
         ensures { Finishes (seen S.Store self.old) result (seen S.Store self.new) }
     {
-        if !statements::is_open(&mut self.conn) {
-            return Err(Refusal::Store);
-        }
-        match statements::finish(&mut self.conn) {
+        match in_transaction(&mut self.conn, &Finish) {
             Ok(()) => {
                 self.version = 2;
                 Ok(())

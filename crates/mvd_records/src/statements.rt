@@ -4,12 +4,12 @@ ghost use Rattle.sqlite.specs.State.{HasCleanDisk, IsUnchanged, KeepsCommit, Sho
 ghost use Rattle.sqlite.specs.Given.{IsPlain};
 ghost use Rattle.sqlite.specs.Listing.{understood};
 ghost use Rattle.mvd_records.specs.Causes.{FindsShut};
-ghost use Rattle.mvd_records.specs.Records.{IsSettled, IsSound, HoldsRecords, SavesState, KeepsStates, EndsMove};
-ghost use Rattle.mvd_records.specs.Records.{Leaves, OnlyReads, HasNone, AreDisjoint, AreApart, old_states};
+ghost use Rattle.mvd_records.specs.Records.{IsSettled, IsSound, HoldsRecords};
+ghost use Rattle.mvd_records.specs.Records.{OnlyReads, HasNone, AreDisjoint, AreApart, old_states};
 ghost use Rattle.mvd_records.specs.Records.{new_states};
 
 use mvd_dots::Refusal;
-use sqlite::{Alter, Connection, params};
+use sqlite::{Alter, Connection};
 
 /// No transaction is under way, so what the connection sees is what was committed.
 pub fn is_settled<S: Alter>(conn: &Connection<S>) -> bool
@@ -30,36 +30,6 @@ pub fn is_open<S: Alter>(conn: &mut Connection<S>) -> bool
     ensures survives { Survives (state S.Store conn.old) (state S.Store conn.new) (λ _. ⊥) }
 {
     conn.prepare("").is_ok()
-}
-
-/// Sets the state of one key.
-pub fn save<S: Alter>(conn: &mut Connection<S>, key: &str, bytes: &[u8]) -> Result<(), Refusal>
-    ensures before { IsSound (state S.Store conn.new) → IsSound (state S.Store conn.old) }
-    ensures open { HasCleanDisk (state S.Store conn.new) → OnOk result (IsTrue (state S.Store conn.new).is_open) }
-    ensures kept { (version site : _) → IsSound (state S.Store conn.new) →
-        HoldsRecords version site (state S.Store conn.old).committed →
-        HoldsRecords version site (state S.Store conn.new).committed }
-    ensures saved { (version site : _) → IsSound (state S.Store conn.new) →
-        HoldsRecords version site (state S.Store conn.old).committed →
-        OnOk result (SavesState (state S.Store conn.old).committed
-        (state S.Store conn.new).committed key.now bytes.now) }
-    ensures unchanged { IsSound (state S.Store conn.new) →
-        OnErr result ((state S.Store conn.new).committed ≡ (state S.Store conn.old).committed) }
-    ensures refusal { IfErr result (λ e. e ≡ Refusal.Store) }
-    ensures survives { Survives (state S.Store conn.old) (state S.Store conn.new) (Leaves (state S.Store conn.old)
-        (λ version site db. HoldsRecords version site db ×
-        SavesState (state S.Store conn.old).committed db key.now bytes.now)) }
-{
-    if !is_settled(conn) {
-        return Err(Refusal::Store);
-    }
-    match conn.execute(
-        "INSERT INTO states2 (key, state) VALUES (?1, ?2) ON CONFLICT (key) DO UPDATE SET state = excluded.state",
-        params![key, bytes],
-    ) {
-        Ok(_) => Ok(()),
-        Err(_) => Err(Refusal::Store),
-    }
 }
 
 /// Whether a query shows a row.
@@ -83,7 +53,7 @@ fn shows_any<S: Alter>(conn: &mut Connection<S>, sql: &str) -> Result<bool, Refu
 }
 
 /// Whether an old key is left.
-pub fn has_old<S: Alter>(conn: &mut Connection<S>) -> Result<bool, Refusal>
+fn has_old<S: Alter>(conn: &mut Connection<S>) -> Result<bool, Refusal>
     ensures reads { OnlyReads (state S.Store conn.old) (state S.Store conn.new) }
     ensures open { HasCleanDisk (state S.Store conn.new) → OnOk result (IsTrue (state S.Store conn.new).is_open) }
     ensures any { (version site : _) → IsSound (state S.Store conn.new) →
@@ -145,49 +115,4 @@ pub fn check<S: Alter>(conn: &mut Connection<S>, version: u32) -> Result<(), Ref
             Err(refusal) => Err(refusal),
         }
     }
-}
-
-fn set_version<S: Alter>(conn: &mut Connection<S>) -> Result<(), Refusal>
-    ensures before { IsSound (state S.Store conn.new) → IsSound (state S.Store conn.old) }
-    ensures marked { (version site : _) → IsSound (state S.Store conn.new) →
-        HoldsRecords version site (state S.Store conn.old).committed →
-        OnOk result (HoldsRecords 2 site (state S.Store conn.new).committed ×
-        KeepsStates (state S.Store conn.old).committed (state S.Store conn.new).committed) }
-    ensures unchanged { IsSound (state S.Store conn.new) →
-        OnErr result ((state S.Store conn.new).committed ≡ (state S.Store conn.old).committed) }
-    ensures refusal { IfErr result (λ e. e ≡ Refusal.Store) }
-    ensures survives { Survives (state S.Store conn.old) (state S.Store conn.new) (Leaves (state S.Store conn.old)
-        (λ version site db. HoldsRecords 2 site db × KeepsStates (state S.Store conn.old).committed db)) }
-{
-    if !is_settled(conn) {
-        return Err(Refusal::Store);
-    }
-    match conn.execute("UPDATE meta SET value = 2 WHERE name = 'format'", &[]) {
-        Ok(_) => Ok(()),
-        Err(_) => Err(Refusal::Store),
-    }
-}
-
-/// The version becomes 2, where no old key is left.
-pub fn finish<S: Alter>(conn: &mut Connection<S>) -> Result<(), Refusal>
-    ensures before { IsSound (state S.Store conn.new) → IsSound (state S.Store conn.old) }
-    ensures finished { (version site : _) → IsSound (state S.Store conn.new) →
-        HoldsRecords version site (state S.Store conn.old).committed →
-        OnOk result (EndsMove site (state S.Store conn.old).committed (state S.Store conn.new).committed) }
-    ensures damaged { (version site : _) → IsSound (state S.Store conn.new) →
-        HoldsRecords version site (state S.Store conn.old).committed → IfErr result (λ e. e ≡ Refusal.Damaged →
-        ¬ HasNone (old_states (state S.Store conn.old).committed)) }
-    ensures unchanged { (version site : _) → IsSound (state S.Store conn.new) →
-        HoldsRecords version site (state S.Store conn.old).committed →
-        OnErr result ((state S.Store conn.new).committed ≡ (state S.Store conn.old).committed) }
-    ensures refusal { IfErr result (λ e. (e ≡ Refusal.Damaged) ⊎ (e ≡ Refusal.Store)) }
-    ensures survives { Survives (state S.Store conn.old) (state S.Store conn.new) (Leaves (state S.Store conn.old)
-        (λ _ site db. EndsMove site (state S.Store conn.old).committed db)) }
-{
-    match has_old(conn) {
-        Ok(false) => {}
-        Ok(true) => return Err(Refusal::Damaged),
-        Err(refusal) => return Err(refusal),
-    }
-    set_version(conn)
 }

@@ -1,17 +1,11 @@
-use Rattle.std.proofs.Common.{Ok, Err}
+use Rattle.mvd_records.specs.Jobs.{saving}
 use Rattle.mvd_records.proofs.Moved.{put}
-use Rattle.mvd_records.proofs.Inside.{execute_stays, ran_inside}
+use Rattle.mvd_records.proofs.Transacted.{stopped, went}
 use Rattle.mvd_records.proofs.moving.put_new.Goals as goal
 
-pub returns-in-Ok-clause-put : goal.returns-in-Ok-clause-put
-returns-in-Ok-clause-put g c version site clean inside sound holds =
-    put version site _ _ c.args.key.now c.args.bytes.now c.in-Ok.field-0 sound holds (rw (c.params-to_sql.ensures, c.params-to_sql-2.ensures) at (c.in-Ok.ensures.runs clean inside)).0
+pub returns-in-Ok-clause-done : goal.returns-in-Ok-clause-done
+returns-in-Ok-clause-done g c = went (saving c.args.key.now c.args.bytes.now) _ _ c.execute.ensures.stays tt (λ clean inside. (c.in-Ok.ensures.ran clean inside).inside) (λ clean inside version site sound holds.
+    put version site _ _ c.args.key.now c.args.bytes.now c.in-Ok.field-0 sound holds (rw (c.params-to_sql.ensures, c.params-to_sql-2.ensures) at (c.in-Ok.ensures.ran clean inside)).did)
 
-pub returns-in-Ok-clause-stays : goal.returns-in-Ok-clause-stays
-returns-in-Ok-clause-stays g c = execute_stays _ _ _ _ (Ok c.in-Ok.field-0) c.in-Ok.ensures.runs c.in-Ok.ensures.survives
-
-pub returns-in-Ok-clause-inside : goal.returns-in-Ok-clause-inside
-returns-in-Ok-clause-inside g c clean inside = (ran_inside _ _ _ _ c.in-Ok.field-0 (c.in-Ok.ensures.runs clean inside)).inside
-
-pub returns-in-Err-clause-stays : goal.returns-in-Err-clause-stays
-returns-in-Err-clause-stays g c = execute_stays _ _ _ _ (Err c.in-Err.field-0) c.in-Err.ensures.runs c.in-Err.ensures.survives
+pub returns-in-Err-clause-done : goal.returns-in-Err-clause-done
+returns-in-Err-clause-done g c = stopped (saving c.args.key.now c.args.bytes.now) _ _ c.execute.ensures.stays c.in-Err.refusal c.in-Err.ensures.refusal

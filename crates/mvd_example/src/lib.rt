@@ -1,9 +1,8 @@
-//! An example of replicas within a program: two of them write while apart, meet, and one resolves what both wrote. A
-//! program names `mvd_store` where this module says `crate`.
-
+//! An example of replicas within a program: two of them write while apart, meet, and one resolves what both wrote.
+#![tactic(auto)]
 ghost use Rattle.std.specs.Prelude.{◌<◌};
 
-use crate::{
+use mvd_store::{
     Alter, Config, Connection, Context, Defs, Document, Field, Key, KeyState, MemStore, Place,
     Refusal, Replica, SyncFault, Term, sync,
 };

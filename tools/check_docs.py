@@ -5,8 +5,9 @@ usage: tools/check_docs.py [FILE..]      (without a file: README.md, CONTRIBUTIN
 
 In each document it looks at the texts between backquotes, at file names that stand without them (docs/NAME.md), and at the
 width of lines of prose. A name is there if it is a word of the code, the specs, the proofs, the tools or the examples, or of the
-list below. CONTRIBUTING.md has to name each file that tools/places.py prints, and each file of its lists under its crate. Prints
-a line for each that is not found, and ends with 1 if there is one.
+list below. CONTRIBUTING.md has to name each file that tools/places.py prints, and each file of its lists under its crate. The
+floors of docs/ARCHITECTURE.md have to be those of crates.txt. Prints a line for each that is not found, and ends with 1 if there
+is one.
 """
 import pathlib
 import re
@@ -152,6 +153,27 @@ def misplaced(names):
     return [f"CONTRIBUTING.md: no file {name} in that crate" for name in sorted(listed - there)]
 
 
+def floors_drawn():
+    """The crates of the picture of docs/ARCHITECTURE.md, floor by floor from the top, each floor from left to right."""
+    picture = (TOP / "docs/ARCHITECTURE.md").read_text().split("## The floors\n\n```text\n", 1)[1].split("```", 1)[0]
+    drawn = [name for line in picture.splitlines() for name in re.split(r"\s{2,}", line)[1].split(" · ")]
+    return [name if name == "mvd" else f"mvd_{name}" for name in drawn]
+
+
+def misdrawn():
+    """The crates that the picture makes up, and those that use a crate which is not drawn below them or to their right."""
+    uses = {}
+    for line in (TOP / "crates.txt").read_text().splitlines():
+        name, colon, used = line.split("#")[0].partition(":")
+        if colon and not name.endswith("_tests"):
+            uses[name] = used.split()
+    drawn = floors_drawn()
+    faults = [f"draws {name}, which is no crate" for name in drawn if name not in uses]
+    for at, name in enumerate(drawn):
+        faults += [f"draws {name} below {used}, which it uses" for used in uses.get(name, []) if used in drawn[: at + 1]]
+    return [f"docs/ARCHITECTURE.md {fault}" for fault in faults]
+
+
 def main():
     names = tracked()
     documents = sys.argv[1:] or [name for name in names if name.endswith(".md")]
@@ -160,6 +182,8 @@ def main():
     faults = [fault for path in documents for fault in check(path, names, words, sources)]
     if "CONTRIBUTING.md" in documents:
         faults += unlisted_places() + misplaced(names)
+    if "docs/ARCHITECTURE.md" in documents:
+        faults += misdrawn()
     print("\n".join(faults) if faults else f"{len(documents)} documents: all that they name is there")
     return 1 if faults else 0
 

@@ -178,7 +178,7 @@ def answers_at_once():
 builds("README.md")
 for document in ["README.md", "docs/USING.md", "docs/PROTOCOL.md"]:
     runs(document)
-quotes("docs/USING.md", "crates/mvd_store/src/example.rt")
+quotes("docs/USING.md", "crates/mvd_example/src/lib.rt")
 helps()
 answers_at_once()
 old_file()

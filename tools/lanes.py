@@ -6,7 +6,8 @@ usage, at the repository's top: tools/lanes.py COSTS [PROCESSORS..]
 COSTS is what tools/gate_costs.py writes: a line `CRATE PROOF EDITS TESTS` for each crate, in processor seconds. The gate's order is
 followed, with one job for each proof: a crate's proof and its tests wait for the proofs below it, its edits for both, and for a proof
 that is made for them; what has the longest chain of lines behind it goes first, edits last. Building and running what was proved is put
-at four minutes."""
+at four minutes. The last line is the longest chain of proofs, each of which waits for the one before: no processors make the gate
+shorter than that. A crate that COSTS does not name counts as 25 seconds."""
 import glob
 import sys
 
@@ -92,12 +93,23 @@ def minutes(tasks, lanes):
     return (now + LAST) / 60
 
 
+def longest_chain(tasks):
+    """The tasks of the chain that takes the most seconds, each of which waits for the one before it."""
+    chains = {}
+    for key, (under, _, seconds) in tasks.items():
+        longest = max((chains[it] for it in under), default=(0.0, []))
+        chains[key] = longest[0] + seconds, longest[1] + [key]
+    return max(chains.values())
+
+
 def main(file, processors):
     costs = read_costs(file)
     tasks = tasks_of(costs)
     print(f"{sum(map(sum, costs.values())) / 60:.0f} processor minutes")
     for lanes in processors:
         print(f"{minutes(tasks, lanes):.0f} minutes on {lanes} processors")
+    seconds, chain = longest_chain(tasks)
+    print(f"{seconds:.0f} seconds: {', '.join(name if what == 'proof' else f'{name} ({what})' for name, what in chain)}")
 
 
 if __name__ == "__main__":

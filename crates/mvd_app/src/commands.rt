@@ -4,7 +4,7 @@ ghost use Rattle.mvd_app.specs.Stored.{HasFile, HasServed, stored_site};
 ghost use Rattle.mvd_file.specs.Stored.{FollowsAsked, GivesBack};
 ghost use Rattle.mvd_file.specs.declared.closing.Outcome.TheVariants.{Unopened};
 ghost use Rattle.mvd_replica.specs.ReplicaCalls.{ReplicaAnswers};
-ghost use Rattle.mvd_script.specs.Talk.{Asks};
+ghost use Rattle.mvd_shell.specs.Talk.{Asks};
 ghost use Rattle.mvd_input.specs.Orders.{IsInRange, IsSetUp};
 ghost use Rattle.mvd_replica.specs.Programs.{WorksOn};
 ghost use Rattle.mvd_rows.specs.Defs.{no_definitions};

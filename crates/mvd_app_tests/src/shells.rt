@@ -3,7 +3,7 @@ use crate::hints::opened;
 use mvd_dots::Refusal;
 use mvd_input::{Fault, read_defs};
 use mvd_replica::Replica;
-use mvd_script::shell_run;
+use mvd_shell::shell_run;
 use sqlite::{Connection, MemStore};
 use std::alloc::Global;
 use std::test::Fail;

@@ -1,7 +1,7 @@
 -- A shell over a line to a server.
 use Rattle.std.specs.Prelude.{◌≡◌, Result, Ok, OnOk}
 use Rattle.mvd_input.specs.declared.fault.Fault.{Fault}
-use Rattle.mvd_script.specs.Shell.{At, Shells, at}
+use Rattle.mvd_shell.specs.Shell.{At, Shells, at}
 use Rattle.mvd_wire.specs.declared.reply.Reply.{Reply}
 use Rattle.mvd_wire.specs.declared.request.Request.{Request}
 use Rattle.mvd_hint.specs.declared.hint.Stop.{Stop}

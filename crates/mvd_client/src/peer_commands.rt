@@ -7,7 +7,7 @@ ghost use Rattle.mvd_client.specs.Talked.{ShellsOver};
 ghost use Rattle.mvd_print.specs.Text.{root_text};
 ghost use Rattle.mvd_replica.specs.Replicas.{site_of};
 ghost use Rattle.mvd_replica.specs.Sides.{IsTrueSite};
-ghost use Rattle.mvd_script.specs.Shell.{at};
+ghost use Rattle.mvd_shell.specs.Shell.{at};
 ghost use Rattle.mvd_remote.specs.Lines.{IsTrueRemote};
 ghost use Rattle.mvd_remote.specs.Remotes.{RepliesFar};
 
@@ -20,7 +20,7 @@ use mvd_keys::Path;
 use mvd_print::{print_keys, print_root};
 use mvd_remote::{Line, Remote};
 use mvd_replica::Replica;
-use mvd_script::shell_run;
+use mvd_shell::shell_run;
 use mvd_sync::{Left, Report, Side, SyncFault, sync};
 use sqlite::Alter;
 use std::alloc::Global;

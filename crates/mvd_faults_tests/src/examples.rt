@@ -1,5 +1,5 @@
 //! What the example of replicas within a program prints.
-use mvd_store::example;
+use mvd_example::{opened, run};
 use std::test::Fail;
 
 const PRINTED: &str = "\
@@ -13,10 +13,10 @@ found ada
 
 #[test]
 fn two_replicas_meet(rt: HostRuntime) -> Result<(), Fail> {
-    let mut desk = example::opened(rt.alloc(), 1)?;
-    let mut phone = example::opened(rt.alloc(), 2)?;
+    let mut desk = opened(rt.alloc(), 1)?;
+    let mut phone = opened(rt.alloc(), 2)?;
     let mut out = String::new(rt.alloc());
-    example::run(rt.alloc(), &mut desk, &mut phone, &mut out)?;
+    run(rt.alloc(), &mut desk, &mut phone, &mut out)?;
     assert!(rt; out.as_str() == PRINTED);
     Ok(())
 }

@@ -5,10 +5,10 @@ use Rattle.mvd_replica.specs.Replicas.{site_of, store_of, stored_of}
 use Rattle.mvd_replica.specs.Sides.{replica_follows_on, replica_follows_self}
 use Rattle.mvd_replica.specs.declared.replica.Replica.{Replica}
 use Rattle.sqlite_trees.specs.declared.store.Store.{Ghosts}
-use Rattle.mvd_script.specs.Asked.{Exchange}
+use Rattle.mvd_shell.specs.Asked.{Exchange}
 use Rattle.mvd_file.specs.Stored.{FollowsAsked}
 use Rattle.mvd_replica.specs.ReplicaCalls.{ReplicaAnswers}
-use Rattle.mvd_script.specs.Talk.{Answered, Asks}
+use Rattle.mvd_shell.specs.Talk.{Answered, Asks}
 
 module _ {S : Type 0} {g : Ghosts S} where
   all_follow : (exchanges : List Exchange) (old new : Replica S g) → Answered ReplicaAnswers exchanges old new → FollowsAsked old new

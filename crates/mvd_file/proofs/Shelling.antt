@@ -6,9 +6,9 @@ use Rattle.mvd_input.specs.declared.command.Typed.TheVariants.{Ask as Asked, Hel
 use Rattle.mvd_dots.specs.declared.refusals.Refusal.{Refusal}
 use Rattle.mvd_wire.specs.declared.reply.Reply.{Reply}
 use Rattle.mvd_wire.specs.declared.request.Request.{Request}
-use Rattle.mvd_script.specs.Asked.{Exchange}
-use Rattle.mvd_script.specs.Shell.{Shells, TellAll, TellsLine, TellsTyped, at}
-use Rattle.mvd_script.specs.Talk.{Answered, Talks}
+use Rattle.mvd_shell.specs.Asked.{Exchange}
+use Rattle.mvd_shell.specs.Shell.{Shells, TellAll, TellsLine, TellsTyped, at}
+use Rattle.mvd_shell.specs.Talk.{Answered, Talks}
 
 module _ {A B : Type 0} (P : A → A → Request → Reply → Type 0) (Q : B → B → Request → Reply → Type 0) (view : A → B)
     (reads : (old new : A) (request : Request) (reply : Reply) → P old new request reply → Q (view old) (view new) request reply) where

@@ -16,9 +16,9 @@ use Rattle.mvd_replica.specs.ReplicaCalls.{ReplicaAnswers}
 use Rattle.mvd_replica.specs.Replicas.{site_of}
 use Rattle.mvd_replica.specs.declared.file.FileFault.{FileFault}
 use Rattle.mvd_replica.specs.declared.replica.Replica.{Replica}
-use Rattle.mvd_script.specs.Asked.{Exchange}
-use Rattle.mvd_script.specs.Shell.{Shells, at}
-use Rattle.mvd_script.specs.Talk.{Answered, Asks}
+use Rattle.mvd_shell.specs.Asked.{Exchange}
+use Rattle.mvd_shell.specs.Shell.{Shells, at}
+use Rattle.mvd_shell.specs.Talk.{Answered, Asks}
 use Rattle.sqlite.specs.Recovery.{Image}
 use Rattle.sqlite_disk.specs.declared.Disk as disk
 use Rattle.sqlite_store.specs.declared.store.FileStore.{FileStore}

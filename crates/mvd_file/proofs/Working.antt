@@ -11,10 +11,10 @@ use Rattle.sqlite_disk.specs.declared.Disk as disk
 use Rattle.sqlite_store.specs.declared.store.FileStore.{FileStore}
 use Rattle.sqlite.specs.Recovery.{Image}
 use Rattle.sqlite_trees.specs.declared.store.Store.{Ghosts}
-use Rattle.mvd_script.specs.Asked.{Exchange}
+use Rattle.mvd_shell.specs.Asked.{Exchange}
 use Rattle.mvd_client.specs.Synced.{FollowsPushed}
 use Rattle.mvd_replica.specs.ReplicaCalls.{ReplicaAnswers}
-use Rattle.mvd_script.specs.Talk.{Answered, Asks}
+use Rattle.mvd_shell.specs.Talk.{Answered, Asks}
 use Rattle.mvd_site.specs.Config.{ConfigValue}
 use Rattle.mvd_file.proofs.Following.{follows}
 use Rattle.mvd_file.specs.Stored.{EndsWhole, GivesBack}

@@ -1,14 +1,14 @@
 //! Lines of standard input, each answered at once.
 ghost use Rattle.std.specs.Prelude.{Ok, OnOk};
-ghost use Rattle.mvd_script.specs.Shell.{Shells, at};
-ghost use Rattle.mvd_script.specs.Talk.{Asks};
+ghost use Rattle.mvd_shell.specs.Shell.{Shells, at};
+ghost use Rattle.mvd_shell.specs.Talk.{Asks};
 
 use crate::output::Output;
 use mvd_dots::Refusal;
 use mvd_hint::{Hint, Stop};
 use mvd_input::Fault;
 use mvd_peer::Endpoint;
-use mvd_script::shell_run;
+use mvd_shell::shell_run;
 use std::alloc::Global;
 use std::io::{self, BufRead, BufReader, Write};
 

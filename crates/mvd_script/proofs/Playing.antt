@@ -18,12 +18,12 @@ use Rattle.mvd_world.specs.declared.worlds.World.{World}
 use Rattle.mvd_world.specs.Machine.{Knowledge, Setting, is_numbered, is_site}
 use Rattle.mvd_world.specs.Worlds.{IsWorld, Steps}
 use Rattle.mvd_script.specs.declared.member.Member.{Member}
-use Rattle.mvd_script.specs.Asked.{Exchange}
+use Rattle.mvd_shell.specs.Asked.{Exchange}
 use Rattle.mvd_script.specs.Script.{Says, SiteReplies, TellsCommand, TellsSend, TellsStep, asked_step, reply_in}
 use Rattle.mvd_script.specs.Staged.{Acts, ActsFor, Answers, MemberReplies}
-use Rattle.mvd_script.specs.Talk.{Answered, Shows, Speaks, told_text}
-use Rattle.mvd_script.specs.Told.{outcome_text}
-use Rattle.mvd_script.proofs.Talking.{extends_none}
+use Rattle.mvd_shell.specs.Talk.{Answered, Shows, Speaks, told_text}
+use Rattle.mvd_script.specs.Outcomes.{outcome_text}
+use Rattle.mvd_shell.proofs.Talking.{extends_none}
 
 -- ---- one request
 

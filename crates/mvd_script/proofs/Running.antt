@@ -10,21 +10,10 @@ use Rattle.mvd_input.specs.declared.fault.Fault.{Fault}
 use Rattle.mvd_input.specs.declared.fault.Fault.TheVariants as of_fault
 use Rattle.mvd_input.specs.Hexadecimal.{lines_after, lines_of}
 use Rattle.mvd_input.proofs.Lines.{Taking, takes_all, takes_next, takes_none, takes_on}
+use Rattle.mvd_shell.proofs.Pieces.{appends_none, appends_on}
 use Rattle.mvd_script.specs.declared.script.Script.{Script}
 use Rattle.mvd_script.specs.Script.{Blank, Ran, ReadAll, Reads, RunsScript, Stage}
 use Rattle.mvd_script.specs.Staged.{AddsLine, IsStage}
-
--- ---- bytes that are written
-
-pub appends_none : (bytes : Option (List ℕ)) → Appends bytes bytes []
-appends_none None = tt
-appends_none (Some xs) = sym (append-nil xs)
-
-pub appends_on : (old mid new : Option (List ℕ)) (xs ys : List ℕ) → Appends old mid xs → Appends mid new ys → Appends old new (xs ++ ys)
-appends_on None mid new xs ys first then = tt
-appends_on (Some a) None new xs ys first then = absurd first
-appends_on (Some a) (Some b) None xs ys first then = absurd then
-appends_on (Some a) (Some b) (Some c) xs ys first then = then ∙ ap (λ (t : List ℕ). t ++ ys) first ∙ append_assoc a xs ys
 
 -- ---- lines that are read
 

@@ -1,7 +1,3 @@
-pub mod Asked
-pub mod ReadLine
+pub mod Outcomes
 pub mod Script
-pub mod Shell
 pub mod Staged
-pub mod Talk
-pub mod Told

@@ -28,8 +28,8 @@ use Rattle.mvd_world.specs.declared.steps.Step.TheVariants as step
 use Rattle.mvd_world.specs.declared.steps.Outcome.{Outcome}
 use Rattle.mvd_world.specs.declared.steps.Outcome.TheVariants.{Replied, Sent, Met, Failed, NoSuch}
 use Rattle.mvd_world.specs.Machine.{Knowledge, MayStep, Setting, is_site, is_write, nothing_yet, setting_of}
-use Rattle.mvd_script.specs.Talk.{Talks, told_text}
-use Rattle.mvd_script.specs.Told.{outcome_text}
+use Rattle.mvd_shell.specs.Talk.{Talks, told_text}
+use Rattle.mvd_script.specs.Outcomes.{outcome_text}
 
 -- A script as far as it was read: nothing yet; its head, which is the number of sites, the most keys of a site where a line said
 -- it, and the indexes and views; or sites, with what they know

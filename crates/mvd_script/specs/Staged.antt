@@ -16,7 +16,7 @@ use Rattle.mvd_script.specs.declared.member.Member.{Member}
 use Rattle.mvd_script.specs.declared.head.Head.{Head}
 use Rattle.mvd_script.specs.declared.script.Script.{Script}
 use Rattle.mvd_script.specs.Script.{Blank, Headed, IsAtFault, MayNotStand, Plays, Reads, Running, Says, SiteReplies, Stage, TellsCommand, site_in}
-use Rattle.mvd_script.specs.Talk.{Shows}
+use Rattle.mvd_shell.specs.Talk.{Shows}
 
 -- a site of a world replies as a site of the machine does
 pub record MemberReplies (old new : Member) (request : Request) (reply : Reply) : Type 0 where

@@ -7,11 +7,11 @@ ghost use Rattle.mvd_script.specs.Staged.{Acts, ActsFor, Answers};
 
 use crate::member::Member;
 use crate::printing::print_outcome;
-use crate::talk::{begin_line, say, settle};
 use mvd_dots::Refusal;
 use mvd_input::Command;
 use mvd_keys::Key;
 use mvd_print::print_none_such;
+use mvd_shell::{begin_line, say, settle};
 use mvd_world::Step;
 use std::alloc::Global;
 

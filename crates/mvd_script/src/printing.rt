@@ -2,18 +2,15 @@
 ghost use Rattle.std.specs.Prelude.{◌≡◌, ◌++◌, OnOk, string_bytes};
 ghost use Rattle.std.specs.List.{flat_map};
 ghost use Rattle.mvd_print.specs.Added.{Extends, Prints};
-ghost use Rattle.mvd_script.specs.Told.{answer_text, key_left_text, more_text, outcome_text, report_text, tells_terms};
+ghost use Rattle.mvd_script.specs.Outcomes.{key_left_text, more_text, outcome_text, report_text};
 
 use mvd_dots::Refusal;
-use mvd_input::Ask;
 use mvd_print::{
-    print_keys, print_left, print_message, print_more_left, print_none_such, print_reply,
-    print_short,
+    print_keys, print_left, print_message, print_more_left, print_none_such, print_short,
 };
 use mvd_sync::{Left, Report, SyncFault};
-use mvd_wire::Reply;
 use mvd_world::Outcome;
-use std::alloc::{AllocError, Global};
+use std::alloc::AllocError;
 
 /// Prints what a message or a session came to. A refusal is not printed but given back.
 pub fn print_outcome(outcome: &Outcome, out: &mut String) -> Result<(), Refusal>
@@ -59,23 +56,4 @@ fn print_more(refused: u64, named: u64, out: &mut String) -> Result<(), AllocErr
         print_more_left(refused - named, out)?;
     }
     Ok(())
-}
-
-/// Prints the reply to what was asked. A refusal is not printed but given back.
-pub fn print_answer(
-    alloc: Global,
-    ask: Ask<'_>,
-    reply: &Reply,
-    out: &mut String,
-) -> Result<(), Refusal>
-    ensures { Prints (answer_text ask.entry reply.now) (string_bytes out.old) (string_bytes out.new) result }
-{
-    print_reply(alloc, has_terms(ask), reply, out)
-}
-
-/// Whether places are told with their terms.
-fn has_terms(ask: Ask<'_>) -> bool
-    ensures { result ≡ tells_terms ask.entry }
-{
-    matches!(ask, Ask::Range { .. })
 }

@@ -1,4 +1,4 @@
-use Rattle.mvd_script.proofs.Typing.{asks_none}
+use Rattle.mvd_shell.proofs.Typing.{asks_none}
 use Rattle.mvd_file.proofs.typed_lines.answer_lines.Goals as goal
 
 pub returns-in_err-reader : goal.returns-in_err-reader

@@ -1,6 +1,6 @@
 use Rattle.std.proofs.Common.{◌≡◌, ◌++◌, take, string_bytes}
 use Rattle.std.specs.List.{flat_map}
-use Rattle.mvd_script.specs.Told.{key_left_text}
+use Rattle.mvd_script.specs.Outcomes.{key_left_text}
 use Rattle.mvd_script.proofs.printing.print_all_left.Given as goal
 
 abbrev pub invariant-loop-left : goal.invariant-loop-left

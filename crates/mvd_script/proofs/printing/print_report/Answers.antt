@@ -2,7 +2,7 @@ use Rattle.std.proofs.Common.{◌≡◌, ◌++◌, List, OnOk, length, string_by
 use Rattle.std.specs.List.{flat_map}
 use Rattle.mvd_print.specs.Text.{keys_text}
 use Rattle.mvd_sync.specs.declared.report.Left.{Left}
-use Rattle.mvd_script.specs.Told.{key_left_text, more_text}
+use Rattle.mvd_script.specs.Outcomes.{key_left_text, more_text}
 use Rattle.mvd_script.proofs.Reporting.{added_thrice}
 use Rattle.mvd_script.proofs.printing.print_report.Goals as goal
 

@@ -1,7 +1,0 @@
-use Rattle.std.specs.Prelude.{string_bytes}
-use Rattle.mvd_script.proofs.Talking.{SoFar}
-use Rattle.mvd_script.proofs.talk.say_pages.Given as goal
-
--- the pages that were told, and what was printed of them
-abbrev pub invariant-loop : goal.invariant-loop
-invariant-loop g l = SoFar g.A.Endpoint.answers l.fn.asked l.asked l.fn.ask l.fn.request l.request (string_bytes l.fn.out) (string_bytes l.out)

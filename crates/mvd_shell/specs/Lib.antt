@@ -1,0 +1,5 @@
+pub mod Asked
+pub mod ReadLine
+pub mod Shell
+pub mod Talk
+pub mod Told

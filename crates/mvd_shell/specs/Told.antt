@@ -1,0 +1,22 @@
+-- The text of a reply to what a line asks (docs/FORMATS.md, Script), by the texts of replies.
+use Rattle.std.specs.Prelude.{ℕ, Bool, true, false, List, Result}
+use Rattle.mvd_dots.specs.declared.refusals.Refusal.{Refusal}
+use Rattle.mvd_input.specs.declared.command.Ask.{Ask}
+use Rattle.mvd_input.specs.declared.command.Ask.TheVariants.{Put, Delete, Get, Row, Node, Find, Range, Rows}
+use Rattle.mvd_print.specs.Text.{reply_text}
+use Rattle.mvd_wire.specs.declared.reply.Reply.{Reply}
+
+-- whether places are told with their terms: where the terms of a range were asked for
+abbrev pub tells_terms : Ask → Bool
+tells_terms (Put _ _ _) = false
+tells_terms (Delete _ _) = false
+tells_terms (Get _) = false
+tells_terms (Row _ _) = false
+tells_terms (Node _) = false
+tells_terms (Find _ _) = false
+tells_terms (Range _ _) = true
+tells_terms (Rows _) = false
+
+-- the text of a reply to what was asked
+abbrev pub answer_text : Ask → Reply → Result (List ℕ) Refusal
+answer_text ask reply = reply_text (tells_terms ask) reply

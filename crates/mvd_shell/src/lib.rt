@@ -1,0 +1,11 @@
+//! Lines that ask a site: what each line asks, and what is printed of the replies.
+#![tactic(auto)]
+
+mod line_reader;
+mod pages;
+mod shell;
+mod talk;
+mod text_requests;
+
+pub use shell::shell_run;
+pub use talk::{answer, begin_line, say, settle};

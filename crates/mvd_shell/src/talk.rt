@@ -1,0 +1,140 @@
+//! What is asked by one line, and what is printed of it.
+ghost use Rattle.std.specs.Prelude.{◌≡◌, ℕ, [], IfErr, List, OnOk, Result, string_bytes};
+ghost use Rattle.mvd_shell.specs.Talk.{Asks, MayHaveAsked, Prints_line, Shows, Speaks, SpeaksPages, TellsPage, Turns, told_text};
+ghost use Rattle.mvd_shell.specs.Told.{tells_terms};
+
+use crate::pages::next_page;
+use crate::text_requests::request_of;
+use mvd_dots::Refusal;
+use mvd_input::Ask;
+use mvd_peer::Endpoint;
+use mvd_print::{print_refusal, print_reply};
+use mvd_wire::{Reply, Request};
+use std::alloc::Global;
+
+/// As long as the longest line that tells of a write, a message, a session or a refusal.
+pub const LINE: usize = 64;
+
+/// Asks, and puts what is printed of it in place of what `out` held: what is answered, of a list page after page, or
+/// only how it is refused.
+#[tactic(auto, using(crate::proofs::Talking::asks_none, crate::proofs::Talking::speaks_asks, crate::proofs::Talking::none_left, crate::proofs::Talking::speaks_left))]
+pub fn answer<A: Endpoint>(
+    alloc: Global,
+    asked: &mut A,
+    ask: Ask<'_>,
+    out: &mut String,
+) -> Result<(), Refusal>
+    ensures told { OnOk result (Prints_line A.answers asked.old asked.new ask.entry (string_bytes out.new)) }
+    ensures memory { IfErr result (λ refusal. refusal ≡ Refusal.Memory) }
+    // Whatever was refused, what was asked was answered.
+    ensures asked { Asks A.answers asked.old asked.new }
+    ensures left { IfErr result (λ _. MayHaveAsked A.answers asked.old asked.new ask.entry) }
+{
+    begin_line(out)?;
+    let said = say(alloc, asked, ask, out);
+    settle(said, out)
+}
+
+/// Takes away what was printed, and makes room: nothing is done for which there is no room to tell it.
+pub fn begin_line(out: &mut String) -> Result<(), Refusal>
+    ensures empty { string_bytes out.new ≡ [] }
+    ensures memory { IfErr result (λ refusal. refusal ≡ Refusal.Memory) }
+{
+    out.clear();
+    out.reserve(LINE)?;
+    Ok(())
+}
+
+/// Where something was refused, only the refusal is printed.
+pub fn settle(said: Result<(), Refusal>, out: &mut String) -> Result<(), Refusal>
+    ensures told { (told : Result (List ℕ) Refusal) → Shows told [] (string_bytes out.old) said →
+        OnOk result (string_bytes out.new ≡ told_text told) }
+    ensures memory { IfErr result (λ refusal. refusal ≡ Refusal.Memory) }
+{
+    match said {
+        Ok(()) => Ok(()),
+        Err(refusal) => {
+            out.clear();
+            print_refusal(refusal, out)?;
+            Ok(())
+        }
+    }
+}
+
+/// Asks, and prints what is answered. A refusal is not printed but given back.
+pub fn say<A: Endpoint>(
+    alloc: Global,
+    asked: &mut A,
+    ask: Ask<'_>,
+    out: &mut String,
+) -> Result<(), Refusal>
+    ensures { Speaks A.answers asked.old asked.new ask.entry (string_bytes out.old) (string_bytes out.new) result }
+{
+    match request_of(alloc, asked, ask) {
+        Ok(request) => say_pages(alloc, asked, ask, request, out),
+        Err(refusal) => Err(refusal),
+    }
+}
+
+/// Asks for page after page from a request on, and prints them.
+fn say_pages<A: Endpoint>(
+    alloc: Global,
+    asked: &mut A,
+    ask: Ask<'_>,
+    request: Request,
+    out: &mut String,
+) -> Result<(), Refusal>
+    ensures { SpeaksPages A.answers asked.old asked.new ask.entry request (string_bytes out.old)
+        (string_bytes out.new) result }
+{
+    let mut request = request;
+    for _ in 0..u64::MAX {
+        match turn(alloc, asked, ask, request, out) {
+            Ok(Some(next)) => request = next,
+            Ok(None) => return Ok(()),
+            Err(refusal) => return Err(refusal),
+        }
+    }
+    // More pages than can be counted are more than memory holds.
+    drop(request);
+    Err(Refusal::Memory)
+}
+
+/// Asks for one page, prints it, and gives the request for the next one where more is left.
+fn turn<A: Endpoint>(
+    alloc: Global,
+    asked: &mut A,
+    ask: Ask<'_>,
+    request: Request,
+    out: &mut String,
+) -> Result<Option<Request>, Refusal>
+    ensures { Turns A.answers asked.old asked.new ask.entry request (string_bytes out.old)
+        (string_bytes out.new) result }
+{
+    let reply = asked.ask(request);
+    let told = tell(alloc, ask, &reply, out);
+    drop(reply);
+    told
+}
+
+/// Prints a reply, and gives the request for the next page where more is left.
+fn tell(
+    alloc: Global,
+    ask: Ask<'_>,
+    reply: &Reply,
+    out: &mut String,
+) -> Result<Option<Request>, Refusal>
+    ensures { TellsPage ask.entry reply.now (string_bytes out.old) (string_bytes out.new) result }
+{
+    match print_reply(alloc, has_terms(ask), reply, out) {
+        Ok(()) => next_page(alloc, ask, reply),
+        Err(refusal) => Err(refusal),
+    }
+}
+
+/// Whether places are told with their terms.
+fn has_terms(ask: Ask<'_>) -> bool
+    ensures { result ≡ tells_terms ask.entry }
+{
+    matches!(ask, Ask::Range { .. })
+}

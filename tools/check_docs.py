@@ -28,8 +28,14 @@ CODE = (".rt", ".antt", ".py", ".sh", ".txt", ".edit", ".mvd", ".toml", ".rs", "
 
 
 def tracked():
-    out = subprocess.run(["git", "ls-files", "-co", "--exclude-standard"], cwd=TOP, capture_output=True, text=True, check=True)
-    return [name for name in out.stdout.splitlines() if (TOP / name).is_file()]
+    """The files of the repository; where git cannot tell them, all that no build made."""
+    try:
+        out = subprocess.run(["git", "ls-files", "-co", "--exclude-standard"], cwd=TOP, capture_output=True, text=True, check=True)
+        names = out.stdout.splitlines()
+    except (OSError, subprocess.CalledProcessError):
+        paths = [path.relative_to(TOP) for path in TOP.rglob("*")]
+        names = [str(path) for path in paths if not {".git", "out", "target", "__pycache__"} & set(path.parts)]
+    return [name for name in names if (TOP / name).is_file()]
 
 
 def words_of(names):

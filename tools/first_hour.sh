@@ -1,40 +1,81 @@
 #!/bin/sh
 # Runs the blocks `sh` of README.md, docs/USING.md and docs/PROTOCOL.md as they stand, one after the other, in a new folder, and wants
 # of each what its block `text` says is printed; and what else somebody meets in the first hour. It tells what it did, and ends with 1
-# where something else is printed. It needs bash and python3, and port 7007.
-# usage: tools/first_hour.sh [PROGRAM]
-# With no PROGRAM it runs the block `build` of README.md first, which proves and builds it.
+# where something else is printed. It needs bash, python3 and curl, and the ports 7007 and 7080.
+# usage: tools/first_hour.sh [--short] [PROGRAM]
+# With no PROGRAM it runs the block `build` of README.md first, which proves and builds it. With --short, as the gate runs it, free
+# ports stand in the blocks for these two, and where there is no curl the blocks that ask by it are left out.
 set -eu
+short=
+if [ "${1:-}" = --short ]; then
+  short=--short
+  shift
+fi
 top=$(cd "$(dirname "$0")/.." && pwd)
 for tool in bash python3; do
   command -v $tool >/dev/null || { echo "$tool is not installed" >&2; exit 2; }
 done
 room=$(mktemp -d)
 trap 'rm -rf "$room"' EXIT
+trap 'exit 1' HUP INT TERM
 mkdir "$room/bin" "$room/files"
 ln -s "$top/examples" "$room/files/examples"
 if [ $# -gt 0 ]; then
   printf '#!/bin/sh\nexec "%s" "$@"\n' "$(realpath "$1")" >"$room/bin/mvd"
   chmod +x "$room/bin/mvd"
 fi
-PATH="$room/bin:$PATH" python3 - "$top" "$room/files" $# <<'END'
-import atexit, os, re, signal, sqlite3, subprocess, sys
+PATH="$room/bin:$PATH" python3 - "$top" "$room/files" $# $short <<'END'
+import atexit, os, re, shutil, signal, socket, sqlite3, subprocess, sys
 
-top, room, given = sys.argv[1], sys.argv[2], sys.argv[3] != "0"
+top, room, given, is_short = sys.argv[1], sys.argv[2], sys.argv[3] != "0", len(sys.argv) > 4
+# the ports of the documents, and those that are taken
+ports = {"7007": "7007", "7080": "7080"}
+if is_short:
+    with socket.create_server(("127.0.0.1", 0)) as one, socket.create_server(("127.0.0.1", 0)) as two:
+        ports = {"7007": str(one.getsockname()[1]), "7080": str(two.getsockname()[1])}
+signal.signal(signal.SIGTERM, lambda *_: sys.exit(1))
 
 
 def miss(what):
     sys.exit(f"first_hour: {what}")
 
 
+def at_ports(text):
+    """A text of the documents, with the ports that are taken."""
+    return re.sub(r"\b(7007|7080)\b", lambda found: ports[found[0]], text)
+
+
+def start(words, **how):
+    """Starts a process, in a group of its own."""
+    started = subprocess.Popen(words, text=True, start_new_session=True, stdout=subprocess.PIPE, **how)
+    running.append(started)
+    return started
+
+
+def kill(started):
+    """Kills a process, and what it started, as far as these run yet."""
+    running.remove(started)
+    try:
+        os.killpg(started.pid, signal.SIGKILL)
+    except ProcessLookupError:
+        pass
+    started.wait()
+
+
+running = []
+atexit.register(lambda: [kill(started) for started in running[:]])
+
+
 def run(script, stdin="", where=room, seconds=300):
     """What a script prints, on both outputs as they come, and its status."""
-    done = subprocess.run(["bash", "-c", script], cwd=where, input=stdin, text=True, timeout=seconds,
-                          stdout=subprocess.PIPE, stderr=subprocess.STDOUT)
-    return done.stdout, done.returncode
+    started = start(["bash", "-c", script], cwd=where, stdin=subprocess.PIPE, stderr=subprocess.STDOUT)
+    told = started.communicate(stdin, timeout=seconds)[0]
+    kill(started)
+    return told, started.returncode
 
 
 def wants(what, script, wanted, status=0, stdin=""):
+    script, wanted = at_ports(script), at_ports(wanted)
     got, ended = run(script, stdin)
     if (got, ended) != (wanted, status):
         miss(f"{what}: wanted {status}\n{wanted}got {ended}\n{got}")
@@ -61,7 +102,9 @@ def builds(file):
 def runs(file):
     found = blocks(file) + [("", "")]
     for number, (word, text) in enumerate(found):
-        if word == "sh":
+        if word == "sh" and is_short and "curl " in text and not shutil.which("curl"):
+            print(f"left out, as there is no curl: {file}, block {number + 1}")
+        elif word == "sh":
             after, printed = found[number + 1]
             wants(f"{file}, block {number + 1}", text, printed if after == "text" else "")
 
@@ -79,21 +122,10 @@ def quotes(file, source):
 
 def server(db):
     """A server of site 1 on a file, once it listens."""
-    started = subprocess.Popen(["mvd", "serve", "--db", db, "--site", "1", "--port", "7007"], cwd=room, stdout=subprocess.PIPE, text=True)
-    atexit.register(kill, started)
-    if started.stdout.readline() != "listening 127.0.0.1:7007\n":
+    started = start(["mvd", "serve", "--db", db, "--site", "1", "--port", ports["7007"]], cwd=room)
+    if started.stdout.readline() != at_ports("listening 127.0.0.1:7007\n"):
         miss("no server")
     return started
-
-
-def kill(started):
-    """Kills a server that runs yet, and what it started."""
-    if started.poll() is not None:
-        return
-    below = subprocess.run(["pgrep", "-P", str(started.pid)], stdout=subprocess.PIPE, text=True).stdout.split()
-    for process in [int(word) for word in below] + [started.pid]:
-        os.kill(process, signal.SIGKILL)
-    started.wait()
 
 
 def helps():
@@ -114,7 +146,7 @@ def long_session():
     puts = "".join(f"put k{number} - {{}}\n" for number in range(1001))
     wants("1,001 puts", "mvd shell --db many.db --site 1 > puts.txt", "", 0, puts)
     started = server("many.db")
-    out, status = run("mvd sync --db less.db --site 2 --port 7007 --verbose")
+    out, status = run(at_ports("mvd sync --db less.db --site 2 --port 7007 --verbose"))
     if status != 0 or sorted(line.split()[0] for line in out.splitlines()) != ["1000", "keys", "root"] or "keys 1001\n" not in out:
         miss(f"a long session: {out}")
     kill(started)
@@ -162,8 +194,7 @@ def interrupted():
 
 def answers_at_once():
     """A line is answered before the next one is read."""
-    shell = subprocess.Popen(["mvd", "shell", "--db", "once.db", "--site", "1"], cwd=room, text=True, bufsize=1,
-                             stdin=subprocess.PIPE, stdout=subprocess.PIPE)
+    shell = start(["mvd", "shell", "--db", "once.db", "--site", "1"], cwd=room, bufsize=1, stdin=subprocess.PIPE)
     for line, wanted in [("put k - {}", "dot 1:1"), ("", None), ("nothing", "line 3: not a command"), ("get k", "context 1:1"), ("", "1:1 {}")]:
         if line or wanted is None:
             shell.stdin.write(line + "\n")
@@ -172,6 +203,7 @@ def answers_at_once():
     shell.stdin.close()
     if shell.wait() != 0:
         miss("the shell's end")
+    kill(shell)
     print("done: a shell answers at once")
 
 

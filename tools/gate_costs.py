@@ -4,8 +4,10 @@
 usage, at the repository's top: tools/gate_costs.py FILE [COMMAND..]
 
 FILE gets a line `CRATE PROOF EDITS TESTS` for each crate, in processor seconds (a program's proof with its two compilers, the tests with
-their compiler), as tools/lanes.py reads it. At the end the totals are printed: processor minutes, wall minutes, and the most memory that
-all processes took together. A process is looked at twice a second, so of each its last half second may be missing."""
+their compiler), as tools/lanes.py reads it; a line `faults SECONDS` for the refused growths of memory, and a line `users SECONDS` for
+what users run: the scripts over the program, with all that they started. At the end the totals are printed: processor minutes, wall
+minutes, and the most memory that all processes took together. A process is looked at twice a second, so of each its last half second may
+be missing."""
 import os
 import resource
 import subprocess
@@ -14,10 +16,13 @@ import time
 
 TICK = os.sysconf("SC_CLK_TCK")
 PAGE = os.sysconf("SC_PAGE_SIZE")
+# The parts of .ci/run behind the proofs, by their scripts.
+PARTS = {name: "users" for name in ("served.sh", "sessions.py", "web.py", "many.py", "first_hour.sh")} | {"faults.sh": "faults"}
 
 
 def children(root):
-    """The processes below `root`: of each its start, its processor seconds and its bytes of memory."""
+    """The processes below `root`: of each its start, its processor seconds, its bytes of memory, the processor seconds of those that it
+    started and that have ended, and who started it."""
     under, found = {}, {}
     for name in filter(str.isdigit, os.listdir("/proc")):
         try:
@@ -26,7 +31,8 @@ def children(root):
         except OSError:
             continue
         under.setdefault(int(words[1]), []).append(int(name))
-        found[int(name)] = words[19], (int(words[11]) + int(words[12])) / TICK, int(words[21]) * PAGE
+        own, of_ended = (sum(map(int, words[at : at + 2])) / TICK for at in (11, 13))
+        found[int(name)] = words[19], own, int(words[21]) * PAGE, of_ended, int(words[1])
     todo, below = [root], {}
     while todo:
         for pid in under.get(todo.pop(), []):
@@ -36,7 +42,8 @@ def children(root):
 
 
 def job(pid):
-    """Which crate a process works for, and at what: 0 a proof, 1 edits, 2 tests. None for any other process."""
+    """Which crate a process works for, and at what: 0 a proof, 1 edits, 2 tests. Of a script that the gate runs behind the proofs, which
+    part it is, with None. None for any other process."""
     try:
         with open(f"/proc/{pid}/cmdline", "rb") as it:
             words = it.read().decode(errors="replace").split("\0")
@@ -44,7 +51,8 @@ def job(pid):
     except OSError:
         return None
     if "--crate-name" not in words:
-        return None
+        parts = [PARTS[os.path.basename(word)] for word in words[:2] if os.path.basename(word) in PARTS]
+        return (parts[0], None) if parts else None
     crate = words[words.index("--crate-name") + 1]
     return crate, 1 if "rt-edit-" in where else 2 if "--test" in words else 0
 
@@ -54,25 +62,34 @@ def main(file, command):
     gate = subprocess.Popen(command)
     while gate.poll() is None:
         below = children(gate.pid)
-        most = max(most, sum(size for _, _, size in below.values()))
-        for pid, (start, seconds, _) in below.items():
+        most = max(most, sum(it[2] for it in below.values()))
+        for pid, (start, seconds, _, of_ended, by) in below.items():
             # (a number is given again to a later process)
             each = pid, start
             jobs[each] = jobs.get(each) or job(pid)
+            if jobs[each] and jobs[each][1] is None:
+                # what a script starts is counted with the script
+                seconds = 0.0 if by in below and job(by) == jobs[each] else seconds + of_ended
             spent[each] = max(seconds, spent.get(each, 0.0))
         time.sleep(0.5)
-    costs = {}
+    costs, parts = {}, {}
     for each, at in jobs.items():
-        if at:
+        if at and at[1] is None:
+            parts[at[0]] = parts.get(at[0], 0.0) + spent[each]
+        elif at:
             costs.setdefault(at[0], [0.0, 0.0, 0.0])[at[1]] += spent[each]
     with open(file, "w") as out:
         print("# crate, processor seconds of its proof, its edits, its tests", file=out)
         for crate, row in costs.items():
             print(crate, *(f"{it:.0f}" for it in row), file=out)
+        for part, seconds in parts.items():
+            print(part, f"{seconds:.0f}", file=out)
     used = resource.getrusage(resource.RUSAGE_CHILDREN)
     total, wall = used.ru_utime + used.ru_stime, time.time() - began
     told = sum(sum(row) for row in costs.values())
-    print(f"{total / 60:.0f} processor minutes, {told / 60:.0f} of them of crates; {wall / 60:.0f} minutes; {most / 1e9:.1f} GB", file=sys.stderr)
+    of_parts = "".join(f", {seconds:.0f} seconds of {part}" for part, seconds in parts.items())
+    print(f"{total / 60:.0f} processor minutes, {told / 60:.0f} of them of crates{of_parts}; {wall / 60:.0f} minutes; {most / 1e9:.1f} GB",
+          file=sys.stderr)
     return gate.returncode
 
 

@@ -2,9 +2,10 @@
 """Runs `mvd serve` as a process, and many clients of it at once over loopback: first what is to hold, then the figures.
 
 usage: tools/many.py PROGRAM
+       tools/many.py --short PROGRAM
        tools/many.py PROGRAM OTHER
 
-PROGRAM is `mvd` as built. It ends with 1 at the first answer that is not the one wanted, and else prints the rows of the tables in
+With --short, as the gate runs it, it tries what is to hold with fewer kills, and takes no figures. PROGRAM is `mvd` as built. It ends with 1 at the first answer that is not the one wanted, and else prints the rows of the tables in
 docs/PERFORMANCE.md. The files are made in TMPDIR (else /tmp), so the puts are those of its disk. MANY_SECONDS has another time for
 each figure than 3 seconds, and MANY_KILLS another number of servers that are killed than 5. With OTHER, an `mvd` of before, it
 only compares how often one client puts, and eight one after the other, in MANY_TURNS turns (else 9) of a run of each program. Beside
@@ -29,10 +30,11 @@ import time
 
 from measure_stored import REFUSED, context, document, frame, get, memory, processor, short, state
 
-PROGRAMS = [os.path.realpath(path) for path in sys.argv[1:]] if len(sys.argv) in (2, 3) else sys.exit(__doc__)
+IS_SHORT = sys.argv[1:2] == ["--short"]
+PROGRAMS = [os.path.realpath(path) for path in sys.argv[1 + IS_SHORT:]] or sys.exit(__doc__)
 PROGRAM = PROGRAMS[0]
 SECONDS = float(os.environ.get("MANY_SECONDS", "3"))
-KILLS = int(os.environ.get("MANY_KILLS", "5"))
+KILLS = int(os.environ.get("MANY_KILLS", "2" if IS_SHORT else "5"))
 TURNS = int(os.environ.get("MANY_TURNS", "9"))
 PATIENCE = 60
 BYE, DONE = frame(0x2F), frame(0xA3)
@@ -263,9 +265,9 @@ def killed(path):
             with server.client() as peer:
                 for name, counter in seen.items():
                     kind, body = ask(peer, get(name))
-                    there = struct.unpack_from(">Q", body, 8)[0]
+                    there = struct.unpack_from(">Q", body, 8)[0] if len(body) > 6 else 0
                     wanted(f"{counter} of {name} is lost: {there}", kind == STATE and there in (counter, counter + 1))
-                    wanted(f"{name} is torn", body == context(1, there) + body[20:] and document(there) in body)
+                    wanted(f"{name} is torn", not there or body == context(1, there) + body[20:] and document(there) in body)
                     seen[name] = there
                 say_bye(peer)
             server.ended()
@@ -273,8 +275,8 @@ def killed(path):
 
 
 def ends_when_idle(path):
-    """Clients on which no byte moves for a second end, and one that asks now and then does not."""
-    with Server(path, "--conns", "4", "--idle", "1") as server:
+    """Clients on which no byte moves for two seconds end, and one that asks now and then does not."""
+    with Server(path, "--conns", "4", "--idle", "2") as server:
         silent, stopped, deaf = (server.client(4096) for _ in range(3))
         wanted("no big put", ask(deaf, big_put("big"))[0] == WRITTEN)
         stopped.sendall(bytes(3))
@@ -283,9 +285,9 @@ def ends_when_idle(path):
         for peer in silent, stopped:
             wanted("an idle client is not told", take(peer, 6) == READ_FAILED and is_closed(peer))
         seconds = time.perf_counter() - begun
-        wanted(f"an idle client ended after {seconds} s", 0.8 < seconds < 10)
+        wanted(f"an idle client ended after {seconds} s", 1.8 < seconds < 20)
         asks = server.client()
-        for _ in range(9):
+        for _ in range(12):
             time.sleep(0.25)
             wanted("a client that asks has ended", ask(asks, get("k"))[0] == STATE)
         say_bye(asks)
@@ -471,15 +473,18 @@ def compared(folder):
 
 
 def main():
+    signal.signal(signal.SIGTERM, lambda *_: sys.exit(1))
     resource.setrlimit(resource.RLIMIT_NOFILE, (4096, resource.getrlimit(resource.RLIMIT_NOFILE)[1]))
-    checks = [beside_bad_clients, more_than_there_are_places, last_replies, killed, ends_when_idle, gives_up, costs_of_idle]
+    checks = [beside_bad_clients, more_than_there_are_places, last_replies, killed, ends_when_idle, gives_up]
     with tempfile.TemporaryDirectory() as folder:
         if len(PROGRAMS) > 1:
             return compared(folder)
         print("| what | seen |\n|---|---|")
-        for check in checks:
+        for check in checks if IS_SHORT else [*checks, costs_of_idle]:
             path = os.path.join(folder, f"{check.__name__}.db")
             print(f"| {' '.join(check.__doc__.split())} | {check(path)} |", flush=True)
+        if IS_SHORT:
+            return None
         print(f"\nload {os.getloadavg()}\n")
         print_figures(folder)
 

@@ -1,5 +1,5 @@
 #!/bin/sh
-# Makes a file of records with `Records`, in a copy of this tree, and has Debian's sqlite3 test it (apt-get install sqlite3).
+# Makes a file of records with `Records`, in a copy of this tree, and has SQLite test it, as python3 has it.
 # It runs the program unproved, with `rt try`, and takes a minute or two.
 # usage: tools/records_file.sh
 set -eu

@@ -1,13 +1,11 @@
 #!/bin/sh
 # Runs `mvd serve` and `mvd sync` as processes, on files in a new folder, and asks them over sockets. It tells what it did, and
-# ends with 1 at the first answer that is not the one wanted. It needs python3, and sqlite3 (apt-get install sqlite3).
+# ends with 1 at the first answer that is not the one wanted. It needs python3. The gate runs it as it is.
 # usage: tools/served.sh [PROGRAM]
 # With no PROGRAM it proves and builds crates/mvd first.
 set -eu
 top=$(cd "$(dirname "$0")/.." && pwd)
-for tool in python3 sqlite3; do
-  command -v $tool >/dev/null || { echo "$tool is not installed" >&2; exit 2; }
-done
+command -v python3 >/dev/null || { echo "python3 is not installed" >&2; exit 2; }
 program=${1:-}
 if [ -z "$program" ]; then
   (cd "$top/crates/mvd" && rt run -- sim <stdin >/dev/null)
@@ -17,7 +15,16 @@ program=$(realpath "$program")
 room=$(mktemp -d)
 server=
 trap 'if [ -n "$server" ]; then kill -9 "$server" 2>/dev/null || :; fi; rm -rf "$room"' EXIT
+trap 'exit 1' HUP INT TERM
 cd "$room"
+
+# sql FILE STATEMENT..: runs these on a database, and prints what they give.
+sql() {
+  python3 -c 'import sqlite3, sys
+db = sqlite3.connect(sys.argv[1], isolation_level=None)
+print(*(row[0] for text in sys.argv[2:] for row in db.execute(text)))
+db.close()' "$@"
+}
 
 # A client. Each word is a request, answered before the next one is sent; `cut` sends half a frame and leaves, and `gone` sends many
 # requests and leaves at once, with the replies unread.
@@ -48,7 +55,7 @@ def read(peer, count):
         data += more
     return data
 
-with socket.create_connection(("127.0.0.1", int(sys.argv[1])), 20) as peer:
+with socket.create_connection(("127.0.0.1", int(sys.argv[1])), 60) as peer:
     for word in sys.argv[2:]:
         if word == "cut":
             peer.sendall(b"\0\0")
@@ -77,7 +84,7 @@ serve() {
   port=$(python3 -c 'import socket; s = socket.socket(); s.bind(("127.0.0.1", 0)); print(s.getsockname()[1])')
   "$program" serve --port "$port" "$@" >told 2>fault &
   server=$!
-  for _ in $(seq 100); do
+  for _ in $(seq 600); do
     if grep -q "^listening 127.0.0.1:$port$" told; then return; fi
     kill -0 "$server" 2>/dev/null || break
     sleep 0.1
@@ -202,17 +209,17 @@ refused "another site's database" 1 "fault 16 SiteMismatch" "b.db is the file of
 refused "too many keys" 1 "fault 10 Full" "the file has no room for so many keys: raise --max-keys, up to 1000000" \
   b.db serve --db b.db --site 2 --port "$port" --max-keys 1
 cp b.db damaged.db
-sqlite3 damaged.db "PRAGMA journal_mode = delete; UPDATE states2 SET state = x'00' WHERE key = 'b'" >/dev/null
+sql damaged.db "PRAGMA journal_mode = delete" "UPDATE states2 SET state = x'00' WHERE key = 'b'" >/dev/null
 refused "a damaged row" 1 "fault 17 Damaged" \
   "damaged.db is damaged, or of a later version of mvd: name another file, or a copy of this one" \
   damaged.db serve --db damaged.db --site 2 --port "$port"
-sqlite3 other.db "CREATE TABLE note (title TEXT); INSERT INTO note VALUES ('a')"
+sql other.db "CREATE TABLE note (title TEXT)" "INSERT INTO note VALUES ('a')" >/dev/null
 other=$(cksum <other.db)
 refused "another program's database" 1 "fault 17 Damaged" "other.db is the file of another program: name another file" \
   other.db serve --db other.db --site 2 --port "$port"
 same "its bytes" "$other" "$(cksum <other.db)"
 same "no log beside it" "" "$(ls other.db-wal 2>/dev/null || :)"
-same "its journal and its rows" "delete a" "$(sqlite3 other.db 'PRAGMA journal_mode; SELECT title FROM note' | tr '\n' ' ' | sed 's/ $//')"
+same "its journal and its rows" "delete a" "$(sql other.db "PRAGMA journal_mode" "SELECT title FROM note")"
 seq 2000 >none.db
 refused "no database" 1 "fault 21 Store" "none.db is no database of mvd, or damaged: name another file, or a copy of this one" \
   none.db serve --db none.db --site 2 --port "$port"

@@ -9,20 +9,22 @@ PROGRAM is `mvd` as built. It tells what it tried, and ends with 1 at the first 
 - a file that was put back from a copy: the session says that it is older than what its peers saw;
 - a session with what is no server of `mvd`, and with one that ends in the middle;
 - a server that is killed amid a session: what was exchanged stays, and the next session ends well.
-The files are made in TMPDIR (else /tmp).
+The files are made in TMPDIR (else /tmp). The gate runs it as it is.
 """
+import atexit
 import os
 import shutil
+import signal
 import socket
 import subprocess
 import sys
 import tempfile
 import threading
-import time
 
 OTHERS = 100
 WRITES = 10
 LONG = '{"t":"' + "x" * 60_000 + '"}'
+PATIENCE = 120
 
 
 def miss(what):
@@ -35,6 +37,12 @@ class Files:
     def __init__(self, program, folder):
         self.program, self.folder = program, folder
 
+    def start(self, words, **how):
+        """A process, which is killed at the end if it runs then."""
+        process = subprocess.Popen([self.program, *words], text=True, **how)
+        atexit.register(process.kill)
+        return process
+
     def path(self, site):
         return os.path.join(self.folder, f"{site}.db")
 
@@ -46,7 +54,7 @@ class Files:
     def lines(self, site, lines):
         """What a shell on the file of a site prints."""
         words = [self.program, "shell", "--db", self.path(site), "--site", str(site)]
-        done = subprocess.run(words, input="\n".join(lines) + "\n", text=True, capture_output=True, timeout=120)
+        done = subprocess.run(words, input="\n".join(lines) + "\n", text=True, capture_output=True, timeout=PATIENCE)
         if done.returncode:
             miss(f"a shell ended with {done.returncode}: {done.stderr}")
         return done.stdout.splitlines()
@@ -54,22 +62,21 @@ class Files:
     def serve(self, site, *options):
         with socket.create_server(("127.0.0.1", 0)) as free:
             port = free.getsockname()[1]
-        words = [self.program, "serve", "--db", self.path(site), "--site", str(site), "--port", str(port),
-                 "--conns", "1", *options]
-        server = subprocess.Popen(words, stdout=subprocess.PIPE, text=True)
+        words = ["serve", "--db", self.path(site), "--site", str(site), "--port", str(port), "--conns", "1", *options]
+        server = self.start(words, stdout=subprocess.PIPE)
         if not server.stdout.readline().startswith("listening"):
             miss("no server")
         return server, port
 
     def sync(self, site, port):
         words = [self.program, "sync", "--db", self.path(site), "--site", str(site), "--port", str(port), "--idle", "20"]
-        return subprocess.run(words, text=True, capture_output=True, timeout=120)
+        return subprocess.run(words, text=True, capture_output=True, timeout=PATIENCE)
 
     def meet(self, site, other, *options):
         """A session of a site's file with a server on another's."""
         server, port = self.serve(other, *options)
         done = self.sync(site, port)
-        server.communicate(timeout=60)
+        server.communicate(timeout=PATIENCE)
         return done
 
 
@@ -172,21 +179,24 @@ def killed(files):
         files.remove(site)
     files.lines(1, puts(1, "a", 20_000))
     server, port = files.serve(1)
-    session = subprocess.Popen([files.program, "sync", "--db", files.path(2), "--site", "2", "--port", str(port), "--idle", "20"],
-                               stdout=subprocess.PIPE, stderr=subprocess.PIPE, text=True)
-    time.sleep(0.15)
+    words = ["sync", "--db", files.path(2), "--site", "2", "--port", str(port), "--idle", "20", "--verbose"]
+    session = files.start(words, stdout=subprocess.PIPE, stderr=subprocess.PIPE)
+    told = session.stderr.readline()
+    if not told.endswith(" states so far\n"):
+        miss(f"a session that tells how far it is: {told}")
     server.kill()
     server.communicate()
-    told = session.communicate(timeout=60)
+    told = [line for line in session.communicate(timeout=PATIENCE)[1].splitlines() if line.startswith("mvd: ")]
     wants("status of a session whose server was killed", session.returncode, 1)
     first = files.meet(2, 1)
     wants("status of the next session", first.returncode, 0)
     rest = int(first.stdout.splitlines()[0].removeprefix("keys "))
     wants("a session after that", files.meet(2, 1).stdout.splitlines()[0], "keys 0")
-    print(f"done: a server killed amid a session ({told[1].splitlines()[0]}): the next one brings the {rest} keys that were left")
+    print(f"done: a server killed amid a session ({told[0]}): the next one brings the {rest} keys that were left")
 
 
 def main():
+    signal.signal(signal.SIGTERM, lambda *_: sys.exit(1))
     with tempfile.TemporaryDirectory() as folder:
         files = Files(os.path.realpath(sys.argv[1]), folder)
         too_long(files)

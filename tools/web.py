@@ -1,10 +1,11 @@
 #!/usr/bin/env python3
 """Runs `mvd serve --http` as a process and asks it over HTTP: first what is to hold, then the figures.
 
-usage: tools/web.py PROGRAM
+usage: tools/web.py [--short] PROGRAM
 
 PROGRAM is `mvd` as built. It ends with 1 at the first answer that is not the one wanted, and else prints the rows of the table in
-docs/PERFORMANCE.md. The files are made in TMPDIR (else /tmp). WEB_SECONDS has another time for each figure than 3 seconds.
+docs/PERFORMANCE.md. With --short, as the gate runs it, it asks without curl, leaves out the connection with a million requests, and
+takes no figures. The files are made in TMPDIR (else /tmp). WEB_SECONDS has another time for each figure than 3 seconds.
 """
 import atexit
 import contextlib
@@ -24,9 +25,10 @@ import time
 from measure_stored import context, document, frame, short
 from web_table import by_curl
 
-PROGRAM = os.path.realpath(sys.argv[1]) if len(sys.argv) == 2 else sys.exit(__doc__)
+IS_SHORT = sys.argv[1:2] == ["--short"]
+PROGRAM = os.path.realpath(sys.argv[-1]) if len(sys.argv) == 2 + IS_SHORT else sys.exit(__doc__)
 SECONDS = float(os.environ.get("WEB_SECONDS", "3"))
-PATIENCE = 20
+PATIENCE = 60
 DOCUMENT = {"city": "Oslo", "days": 3}
 # as many requests of one connection are answered
 MOST = 1_000_000
@@ -175,11 +177,20 @@ def check_connections(server):
 
 
 def curl(server, path, words):
-    """The status and the body of a request by curl."""
+    """The status and the body of a request by curl, whose words are these."""
     given = ["curl", "-s", "-g", "--path-as-is", "--max-time", str(PATIENCE), "-w", "\n%{http_code}", *words]
     done = subprocess.run([*given, f"http://127.0.0.1:{server.http}{path}"], capture_output=True, timeout=2 * PATIENCE)
     body, status = done.stdout.rsplit(b"\n", 1)
     return int(status), body.decode()
+
+
+def as_curl(server, path, words):
+    """The same without curl. Of HEAD it gives the fields in the place of the body, as curl does."""
+    given = dict(zip(words[::2], words[1::2])) if len(words) > 1 else {}
+    method = given.get("-X", "HEAD" if words else "GET")
+    fields = dict([given["-H"].split(": ", 1)]) if "-H" in given else {}
+    status, body, headers = server.ask(method, path, given.get("--data-binary"), **fields)
+    return status, str(headers).lower() if method == "HEAD" else body
 
 
 def check_table(folder):
@@ -187,11 +198,11 @@ def check_table(folder):
     try:
         count = 0
         for path, words, status, part in by_curl():
-            got = curl(server, path, words)
+            got = (as_curl if IS_SHORT else curl)(server, path, words)
             if got[0] != status or part not in got[1]:
                 wanted(f"{path[:80]} {str(words)[:80]} is {status} with {part}", False, (got[0], got[1][:200]))
             count += 1
-        wanted(f"{count} requests by curl: each row of the table, and each refusal of it", True)
+        wanted(f"{count} requests: each row of the table, and each refusal of it", True)
         server.is_told("as many keys as may be", 201, "dot", "PUT", "/keys/third", "{}")
         server.is_told("and one more is refused", 409, '{"refused":10,"name":"Full"}', "PUT", "/keys/fourth", "{}")
     finally:
@@ -289,15 +300,26 @@ def check_most(folder):
     wanted("which is told as 36", [end[2:] for end in endings] == ["36 TooManyRequests"] * 2 + ["end"], endings)
 
 
+def putting(server, number):
+    """A put over HTTP on its way: what it was told, once it is asked for."""
+    body = b'{"n":%d}' % number
+    if IS_SHORT:
+        client = server.client()
+        client.request("PUT", f"/keys/c{number % 8}", body)
+        return lambda: client.getresponse().read()
+    words = ["curl", "-s", "-X", "PUT", "-d", body, f"http://127.0.0.1:{server.http}/keys/c{number % 8}"]
+    put = subprocess.Popen(words, stdout=subprocess.PIPE)
+    return lambda: put.communicate()[0]
+
+
 def check_together(server):
-    """64 curls at once beside a client of frames."""
-    curls = [subprocess.Popen(["curl", "-s", "-X", "PUT", "-d", '{"n":%d}' % n, f"http://127.0.0.1:{server.http}/keys/c{n % 8}"],
-                              stdout=subprocess.PIPE) for n in range(64)]
+    """64 clients over HTTP at once beside a client of frames."""
+    puts = [putting(server, number) for number in range(64)]
     with socket.create_connection(("127.0.0.1", server.frames), PATIENCE) as peer:
         for number in range(1, 65):
             put_frame(peer, "both", number)
-    dots = sorted(curl.communicate()[0] for curl in curls)
-    wanted("64 curls at once beside frames", all(dot.startswith(b'{"dot":"1:') for dot in dots), dots)
+    dots = sorted(told() for told in puts)
+    wanted("64 clients over HTTP at once beside frames", all(dot.startswith(b'{"dot":"1:') for dot in dots), dots)
     for n in range(8):
         found = json.loads(server.ask("GET", f"/keys/c{n}")[1])
         wanted(f"8 siblings at c{n}", len(found["siblings"]) == 8, found)
@@ -359,13 +381,17 @@ def figure(what, clients):
 
 
 def main():
+    signal.signal(signal.SIGTERM, lambda *_: sys.exit(1))
     with tempfile.TemporaryDirectory() as folder:
         server = Server(folder)
         try:
             for check in check_rows, check_refusals, check_connections, check_pipelines, check_together:
                 check(server)
-            for check in check_table, check_endings, check_no_room, check_most:
+            for check in check_table, check_endings, check_no_room:
                 check(folder)
+            if IS_SHORT:
+                return
+            check_most(folder)
             print("| Clients | a second |\n|---|---:|")
             for number in 1, 8:
                 figure(f"{number} of frames, puts", [frames_put(server, f"f{number}-{n}") for n in range(number)])

@@ -1,59 +1,24 @@
 -- One request to a replica.
-use Rattle.std.proofs.Common.{◌≡◌, ◌≢◌, ◌⊎◌, ◌∙◌, Bool, true, false, List, [], ◌++◌, Result, Ok, Err, IsSomeAnd, refl, sym, ap, subst, inl, inr, true≢false}
+use Rattle.std.proofs.Common.{◌≡◌, ◌≢◌, ◌⊎◌, ◌∙◌, Bool, true, false, List, [], ◌++◌, Result, Ok, Err, refl, sym, ap, subst, inl, inr, true≢false}
 use Rattle.mvd_dots.specs.declared.refusals.Refusal.{Refusal}
-use Rattle.mvd_dots.specs.declared.refusals.Refusal.TheVariants.{Broken, Memory, Store}
-use Rattle.mvd_keys.specs.Writes.{Stands, Write, state}
+use Rattle.mvd_dots.specs.declared.refusals.Refusal.TheVariants.{Broken, Memory}
+use Rattle.mvd_keys.specs.Writes.{Stands, Write}
 use Rattle.mvd_wire.specs.declared.request.Request.{Request}
 use Rattle.mvd_wire.specs.declared.request.Request.TheVariants.{Bye}
 use Rattle.mvd_wire.specs.declared.reply.Reply.{Reply}
 use Rattle.mvd_wire.specs.declared.reply.Reply.TheVariants.{Refused}
 use Rattle.mvd_wire.specs.Replies.{CanBeSent, is_short}
 use Rattle.mvd_site.specs.Config.{ConfigValue}
-use Rattle.mvd_site.specs.Change.{ChangeValue}
-use Rattle.mvd_site.specs.Known.{Adds, Changes}
-use Rattle.mvd_site.specs.Answer.{change_of}
-use Rattle.mvd_site.specs.Prepared.{PreparesChange}
-use Rattle.mvd_site.specs.Sites.{AnswersOne, SiteStands, SiteValue}
+use Rattle.mvd_site.specs.Known.{Adds}
+use Rattle.mvd_site.specs.Sites.{SiteStands, SiteValue}
 use Rattle.mvd_site.proofs.Outcomes.{memory_or_not, refused_fits}
-use Rattle.mvd_site.proofs.Prepare.{answers_by_breaking, refuses_all}
 use Rattle.mvd_site.proofs.Pushes.{refusal_is}
-use Rattle.mvd_site.proofs.Steps.{Adds-nothing, Stands-nothing}
-use Rattle.mvd_replica.specs.Holds.{PutsIn}
+use Rattle.mvd_site.proofs.Steps.{Stands-nothing}
 use Rattle.mvd_replica.specs.Sides.{AnswersFromStored}
 use Rattle.mvd_replica.specs.Turns.{AnswersStored, IsToldElse, MayTell}
 use Rattle.mvd_replica.specs.Steps.{RepliesTo}
 use Rattle.mvd_replica.proofs.Sides.{broke_by}
 use Rattle.mvd_replica.proofs.Replying.{AddsAt-Refused, AddsAt-Refused-none, MayTell-memory}
-
--- what a site does with a request that stores nothing
-pub answers_unstored : (old new : SiteValue) (request : Request) (reply : Reply) → AnswersOne old new request reply → AnswersStored old new request reply
-answers_unstored old new request reply one = record { replies = λ known stands. inl (one.replies known stands); stands = one.stands }
-
--- a change that the store refused
-pub answers_by_store : (old : SiteValue) (request : Request) (change : ChangeValue) → old.broken ≡ false →
-    ((known : List Write) → Stands old.states known → PreparesChange old.config known request change) → AnswersStored old old request (Refused Store)
-answers_by_store old request change whole prepared = record {
-  replies = λ known stands.
-      let here : PreparesChange old.config known request change = prepared known (stands whole) in
-      let changes : Changes old.config known request =
-      subst (λ o. IsSomeAnd o (λ c. c.1 ≢ state c.0 known)) (sym (ap (λ r. change_of known request r) (sym here.answers) ∙ here.leaves)) here.differs in
-      inr (record { told = refl; changes = changes; whole = whole; still = whole });
-  stands = λ known added stands adds unbroken.
-      Stands-nothing old.states known added (stands unbroken) (Adds-nothing [] request (Refused Store) added adds (refuses_all request Store []));
-}
-
--- a change that was not put in
-pub answers_refused : (old new : SiteValue) (request : Request) (change : ChangeValue) (refusal : Refusal) → old.broken ≡ false → PutsIn {A = Unit {0}} old new change (Err refusal) →
-    ((known : List Write) → Stands old.states known → PreparesChange old.config known request change) → AnswersStored old new request (Refused refusal)
-answers_refused old new request change refusal whole (inl store) prepared =
-    subst (λ r. AnswersStored old new request (Refused r)) (sym store.0) (subst (λ s. AnswersStored old s request (Refused Store)) (sym store.1) (answers_by_store old request change whole prepared))
-answers_refused old new request change refusal whole (inr broke) prepared =
-    subst (λ r. AnswersStored old new request (Refused r)) (sym broke.0)
-    (answers_unstored old new request (Refused Broken) (answers_by_breaking old new request change whole (ap (λ (s : SiteValue). s.broken) broke.1) prepared))
-
--- what is told as 22 is not 21
-pub not_store : (refusal : Refusal) → Refused refusal ≡ Refused Broken → refusal ≢ Store
-not_store refusal is store = let bad : Refused Store ≡ Refused Broken = ap (λ r. Refused r) (sym store) ∙ is in absurd cc
 
 -- ---- a frame
 

@@ -1,37 +1,28 @@
 -- Turns of a replica after turns: the records, requests that are answered at once, and the first of some.
-use Rattle.std.proofs.Common.{◌≡◌, ◌≢◌, ◌⊎◌, ◌∙◌, ℕ, Bool, true, false, List, [], ◌∷◌, ◌++◌, Result, Ok, Err, refl, sym, ap, ap₂, subst, subst₂, inl, inr, true≢false, append_assoc, ◌+◌, ◌-◌, ◌<◌, ◌≤◌, arith, length, take, drop, length-append, length-drop}
-use Rattle.std.proofs.Math.Seq.{take-add}
-use Rattle.std.proofs.lemmas.List.{length-map, length-take-le, map-append, take_rest}
-use Rattle.std.specs.Prelude.{IsTrue}
+use Rattle.std.proofs.Common.{◌≡◌, ◌≢◌, ◌⊎◌, ◌∙◌, Bool, true, false, List, [], ◌∷◌, ◌++◌, Result, Err, refl, sym, ap, subst, inl, inr, true≢false, append_assoc, ◌+◌, ◌-◌}
 use Rattle.std.specs.List.{AllByRecursion}
 use Rattle.mvd_dots.specs.declared.refusals.Refusal.{Refusal}
 use Rattle.mvd_dots.specs.declared.refusals.Refusal.TheVariants.{Broken, Memory}
-use Rattle.mvd_keys.specs.Writes.{Write}
 use Rattle.mvd_wire.specs.declared.request.Request.{Request}
 use Rattle.mvd_wire.specs.declared.reply.Reply.{Reply}
 use Rattle.mvd_wire.specs.declared.reply.Reply.TheVariants.{Refused}
 use Rattle.mvd_wire.specs.Replies.{CanBeSent}
 use Rattle.mvd_records.specs.Records.{IsSound}
-use Rattle.mvd_site.specs.FromStates.{after_from}
-use Rattle.mvd_site.specs.Known.{Adds}
-use Rattle.mvd_site.specs.Prepared.{IsFrugal}
 use Rattle.mvd_site.specs.Sites.{SiteValue}
 use Rattle.mvd_site.proofs.Outcomes.{refused_fits}
 use Rattle.mvd_site.proofs.Pushes.{refusal_is}
 use Rattle.mvd_peer.specs.Sides.{SiteFollows, site_follows_on, site_follows_self}
-use Rattle.mvd_replica.specs.Batch.{AnswersOneFrom, AreAmong, HoldsLost, Loses}
-use Rattle.mvd_replica.specs.Holds.{HoldsSite, HoldsStates}
-use Rattle.mvd_replica.specs.Sides.{AnswersFromStored, HoldsBroken}
+use Rattle.mvd_replica.specs.Batch.{AreAmong, HoldsLost, Loses}
+use Rattle.mvd_replica.specs.Holds.{HoldsSite}
 use Rattle.mvd_replica.specs.Whole.{leaves_on, leaves_self, leaves_wider}
-use Rattle.mvd_replica.specs.Turns.{AreUndoneIn, IsFirstBroken, IsToldElse, LeavesTurns, RepliesOne, Turn}
-use Rattle.mvd_replica.proofs.Positions.{AnswersAll, AnswersFront, ReplicaFollows, TakesTurns, TurnsFollow, stored_site}
+use Rattle.mvd_replica.specs.Turns.{AreUndoneIn, IsFirstBroken, IsToldElse, RepliesOne, Turn}
+use Rattle.mvd_replica.proofs.Positions.{TakesTurns, TurnsFollow, stored_site}
 use Rattle.mvd_replica.proofs.Breaking.{else_both, first_kept, first_later}
 use Rattle.mvd_replica.proofs.Leaving.{undone_later, undone_more}
-use Rattle.mvd_replica.proofs.Sides.{follows_by}
 use Rattle.mvd_replica.proofs.Replying.{AddsAt-Refused, AddsAt-Refused-none, HasChoice-append, MayTell-memory, Replies-append, Replies-one, StandsOn-append, StandsOn-one}
 use Rattle.sqlite.specs.Effect.{Database}
 use Rattle.sqlite.specs.State.{HasCleanDisk, State}
-use Rattle.mvd_replica.proofs.Batching.{HasChoice-turn, TakesAllFrom-append, site_broken, still_stands, takes}
+use Rattle.mvd_replica.proofs.Batching.{HasChoice-turn, site_broken, still_stands, takes}
 
 -- ---- the records
 
@@ -119,7 +110,7 @@ breaks_both first second old mid new true is none one other = let found : (reque
 breaks_both first second old mid new false is none one other = let found : (request : Request) × IsFirstBroken second request = other is in (found.0, first_later first second found.0 (none is) found.1)
 
 -- nothing was done
-still_follows : (turns : List Turn) (site : SiteValue) (s : State) → TurnsFollow turns site site s s
+pub still_follows : (turns : List Turn) (site : SiteValue) (s : State) → TurnsFollow turns site site s s
 still_follows turns site s = record {
   site = site_follows_self site;
   sound = λ sound. sound;
@@ -173,122 +164,3 @@ TakesTurns-memory site s asked =
 pub TakesTurns-fault : (site : SiteValue) (s : State) (fault : Refusal) (reply : Reply) → (reply ≡ Refused fault) ⊎ (reply ≡ Refused Memory) → TakesTurns (record { asked = Err fault; reply = reply } ∷ []) site site s s
 TakesTurns-fault site s fault reply told =
     takes _ site site s s (site, (told, refl), refl) (still_follows _ site s)
-
--- one request, answered by itself
-lost_one : (request : Request) (reply : Reply) (site : SiteValue) (db : Database) → reply ≡ Refused Broken → HoldsBroken (λ asked. asked ≡ request) site db → HoldsLost (record { asked = Ok request; reply = reply } ∷ []) site db
-lost_one request reply site db told holds = record {
-  lost = record {
-    before = [];
-    broke = record { asked = Ok request; reply = reply };
-    later = [];
-    all = refl;
-    first = tt;
-    request = holds.request;
-    asked = (ap (λ (r : Request). Ok r) (sym holds.asked), told);
-    changes = holds.changes;
-    rest = [];
-    among = tt;
-  };
-  holds = holds.holds;
-}
-
-pub TakesTurns-one : (old new : SiteValue) (before after : State) (request : Request) (reply : Reply) → AnswersOneFrom old new request reply → (new.broken ≡ true → reply ≡ Refused Broken) →
-    ReplicaFollows (λ asked. asked ≡ request) old new before after → LeavesTurns (record { asked = Ok request; reply = reply } ∷ []) (stored_site old before) (stored_site new after) →
-    TakesTurns (record { asked = Ok request; reply = reply } ∷ []) old new before after
-TakesTurns-one old new before after request reply one told follows leaves =
-    takes _ old new before after (new, one, refl) (record {
-      site = follows.site;
-      sound = follows.store.sound;
-      holds = follows.store.holds;
-      stays = follows.store.stays;
-      stored = λ sound holds whole broken. lost_one request reply new after.committed (told broken) (follows.store.stored sound holds whole broken);
-      clean = follows.store.clean;
-      shut = follows.store.shut;
-      leaves = leaves;
-    })
-
--- ---- requests
-
-pub AnswersAll-none : (site : SiteValue) (s : State) → AnswersAll [] [] site site s s
-AnswersAll-none site s = record { turns = []; asked = refl; told = refl; states = refl; takes = TakesTurns-none site s }
-
-pub AnswersAll-append : (first second : List Request) (told given : List Reply) (old mid new : SiteValue) (before between after : State) → AnswersAll first told old mid before between →
-    AnswersAll second given mid new between after → AnswersAll (first ++ second) (told ++ given) old new before after
-AnswersAll-append first second told given old mid new before between after one other = record {
-  turns = one.turns ++ other.turns;
-  asked = map-append (λ (t : Turn). t.asked) one.turns other.turns ∙ ap₂ (λ a b. a ++ b) one.asked other.asked ∙ sym (map-append (λ (r : Request). Ok r) first second);
-  told = map-append (λ (t : Turn). t.reply) one.turns other.turns ∙ ap₂ (λ a b. a ++ b) one.told other.told;
-  states = TakesAllFrom-append one.turns other.turns old mid new one.states other.states;
-  takes = TakesTurns-append one.turns other.turns old mid new before between after one.takes other.takes;
-}
-
-pub AnswersAll-one : (old new : SiteValue) (before after : State) (request : Request) (reply : Reply) → AnswersOneFrom old new request reply → TakesTurns (record { asked = Ok request; reply = reply } ∷ []) old new before after →
-    AnswersAll (request ∷ []) (reply ∷ []) old new before after
-AnswersAll-one old new before after request reply from one = record { turns = record { asked = Ok request; reply = reply } ∷ []; asked = refl; told = refl; states = (new, from, refl); takes = one }
-
--- a request that was answered by itself
-pub AnswersAll-answered : (old new : SiteValue) (before after : State) (request : Request) (reply : Reply) → AnswersFromStored old new request reply → ((added : List Write) × Adds request reply added) → new.config ≡ old.config →
-    CanBeSent reply → (reply ≡ Refused Broken → new.broken ≡ true) → (new.broken ≡ true → reply ≡ Refused Broken) → (old.broken ≡ true → new ≡ old) → (old.broken ≡ true → after.committed ≡ before.committed) →
-    (IsSound after → IsSound before) → (IsSound after → HoldsSite old before.committed → HoldsSite new after.committed) → (HasCleanDisk after → HasCleanDisk before) →
-    (HasCleanDisk after → IsTrue after.is_open ⊎ (new ≡ old)) →
-    (IsSound after → HoldsSite old before.committed → old.broken ≡ false → reply ≡ Refused Broken → HoldsStates old.config.site (after_from old.config old.states request) after.committed) →
-    LeavesTurns (record { asked = Ok request; reply = reply } ∷ []) (stored_site old before) (stored_site new after) →
-    (IsFrugal old.states request → reply ≢ Refused Memory) → AnswersAll (request ∷ []) (reply ∷ []) old new before after
-AnswersAll-answered old new before after request reply states choice config fits told broken stays same sound holds clean taken stored leaves frugal =
-    let from : AnswersOneFrom old new request reply = record {
-      whole = states;
-      broken = λ was. (broken (site_broken new old (stays was) ∙ was), stays was);
-      told = told;
-      frugal = frugal;
-      fits = fits;
-      choice = choice;
-    } in
-    AnswersAll-one old new before after request reply from (TakesTurns-one old new before after request reply from broken
-    (follows_by old new request reply before after config stays same sound holds clean taken broken states stored) leaves)
-
--- ---- the first of some requests, and those after them
-
-length_replies : (requests : List Request) (replies : List Reply) (old new : SiteValue) (before after : State) → AnswersAll requests replies old new before after → length replies ≡ length requests
-length_replies requests replies old new before after all =
-    ap length (sym all.told) ∙ length-map all.turns (λ (t : Turn). t.reply) ∙ sym (length-map all.turns (λ (t : Turn). t.asked)) ∙ ap length all.asked ∙ length-map requests (λ (r : Request). Ok r)
-
--- at least one reply is added
-pub front_more : (requests : List Request) (told given : List Reply) (old new : SiteValue) (before after : State) → AnswersFront requests told given old new before after →
-    length told + 1 ≤ length given
-front_more requests told given old new before after it =
-    omega (
-      arith,
-      ap length it.appended,
-      length-append told it.replies,
-      it.some,
-      it.within,
-      length_replies (take it.count requests) it.replies old new before after it.answers,
-      length-take-le it.count requests it.within,
-    )
-
--- what is left of the requests, as the code has it
-pub rest_of : (requests : List Request) (n : ℕ) (told : List Reply) → n ≡ length told → take (length requests - n) (drop n requests) ≡ drop (length told) requests
-rest_of requests n told same = take_rest requests n ∙ ap (λ k. drop k requests) same
-
-module _ (requests : List Request) (told given : List Reply) (old mid new : SiteValue) (before between after : State) (few : length told ≤ length requests)
-    (one : AnswersAll (take (length told) requests) told old mid before between) (front : AnswersFront (drop (length told) requests) told given mid new between after) where
-  count_front : length front.replies ≡ front.count
-  count_front = length_replies (take front.count (drop (length told) requests)) front.replies mid new between after front.answers ∙ length-take-le front.count (drop (length told) requests) front.within
-
-  length_front : length given ≡ length told + front.count
-  length_front = ap length front.appended ∙ length-append told front.replies ∙ ap (λ n. length told + n) count_front
-
-  pub front_grows : length told < length given
-  front_grows = omega (arith, length_front, front.some)
-
-  pub front_within : length given ≤ length requests
-  front_within = omega (arith, length_front, front.within, length-drop (length told) requests, few)
-
-  -- those that are answered by then
-  pub front_taken : take (length told) requests ++ take front.count (drop (length told) requests) ≡ take (length given) requests
-  front_taken = sym (ap (λ n. take n requests) length_front ∙ take-add (length told) front.count requests)
-
-  pub front_answers : AnswersAll (take (length given) requests) given old new before after
-  front_answers =
-      subst₂ (λ l r. AnswersAll l r old new before after) front_taken (sym front.appended)
-      (AnswersAll-append (take (length told) requests) (take front.count (drop (length told) requests)) told front.replies old mid new before between after one front.answers)

@@ -56,7 +56,7 @@ module _ (old new : SiteValue) (request : Request) (reply : Reply) (known : List
       subst (λ b. MayReplyStored old.config known old.broken request reply b) (sym is)
       (subst (λ b. MayReplyStored old.config known b request reply true) (sym was) (inl (told, changes_known old.config old.states known request stands changes)))
 
-  may_from : (was : Bool) → old.broken ≡ was → AnswersOneFrom old new request reply → SiteStands old known → MayReplyStored old.config known old.broken request reply new.broken
+  pub may_from : (was : Bool) → old.broken ≡ was → AnswersOneFrom old new request reply → SiteStands old known → MayReplyStored old.config known old.broken request reply new.broken
   may_from true was one stands = may_broken was (one.broken was).0 (one.broken was).1
   may_from false was one stands = elim one.whole [
     | inr store ↦ inr (record {
@@ -82,7 +82,7 @@ still_stands old new known added same stands none = subst (λ m. Stands m (known
 site_states : (a b : SiteValue) → a ≡ b → a.states ≡ b.states
 site_states a b same = ap (λ (s : SiteValue). s.states) same
 
-keeps_from : (old new : SiteValue) (request : Request) (reply : Reply) (was : Bool) → old.broken ≡ was → AnswersOneFrom old new request reply → (known added : List Write) → Stands old.states known → Adds request reply added →
+pub keeps_from : (old new : SiteValue) (request : Request) (reply : Reply) (was : Bool) → old.broken ≡ was → AnswersOneFrom old new request reply → (known added : List Write) → Stands old.states known → Adds request reply added →
     Stands new.states (known ++ added)
 keeps_from old new request reply true was one known added stands adds =
     still_stands old new known added (site_states new old (one.broken was).1) stands (refused_adds request reply Broken added (one.broken was).0 adds)
@@ -101,7 +101,7 @@ was_whole : (old new : SiteValue) (request : Request) (reply : Reply) (was : Boo
 was_whole old new request reply false was one whole = was
 was_whole old new request reply true was one whole = sym (site_broken new old (one.broken was).1) ∙ whole
 
-replies_one : (old new : SiteValue) (request : Request) (reply : Reply) → AnswersOneFrom old new request reply → RepliesOne old new (record { asked = Ok request; reply = reply })
+pub replies_one : (old new : SiteValue) (request : Request) (reply : Reply) → AnswersOneFrom old new request reply → RepliesOne old new (record { asked = Ok request; reply = reply })
 replies_one old new request reply one = record {
   replies = λ known stands. inl (may_from old new request reply known old.broken refl one stands);
   stands = λ known added stands adds whole. keeps_from old new request reply old.broken refl one known added (stands (was_whole old new request reply old.broken refl one whole)) adds;
@@ -166,7 +166,7 @@ module _ (old new : SiteValue) where
   whole_turn (Ok request) reply one whole = was_whole old new request reply old.broken refl one whole
   whole_turn (Err fault) reply one whole = sym (site_broken new old one.1) ∙ whole
 
-  breaks_turn : (asked : Result Request Refusal) (reply : Reply) → TakesFrom old new asked reply → old.broken ≡ false → new.broken ≡ true → (request : Request) × IsToldBroken request (record { asked = asked; reply = reply })
+  pub breaks_turn : (asked : Result Request Refusal) (reply : Reply) → TakesFrom old new asked reply → old.broken ≡ false → new.broken ≡ true → (request : Request) × IsToldBroken request (record { asked = asked; reply = reply })
   breaks_turn (Ok request) reply one whole broken = (
     request,
     (

@@ -17,7 +17,7 @@ use Rattle.mvd_records.specs.Seen.{Seen}
 use Rattle.mvd_records.specs.Records.{HoldsRecords, IsSound, Leaves, SavesState, SavesStates, new_states, old_states, with_pairs}
 use Rattle.mvd_site.specs.Change.{ChangeValue, reply_of}
 use Rattle.mvd_site.specs.Config.{ConfigValue}
-use Rattle.mvd_site.specs.FromStates.{answer_from, change_from, with_change as with_changed}
+use Rattle.mvd_site.specs.FromStates.{after_from, answer_from, change_from, with_change as with_changed}
 use Rattle.mvd_site.specs.Held.{IsSpelled, States, state_at}
 use Rattle.mvd_site.specs.Known.{IsValidRequest}
 use Rattle.mvd_site.specs.Prepared.{IsFrugal, IsPlain, IsReady, PreparesAnswerFrom, PreparesFrom, is_refusal}
@@ -42,6 +42,10 @@ refuses states (Put key seen document) refusal = refl
 refuses states (Delete key seen) refusal = refl
 refuses states (Push key pushed) refusal = refl
 refuses states request refusal = refl
+
+-- a refused request changes nothing
+pub refuses_nothing : (config : ConfigValue) (states : States) (request : Request) (refusal : Refusal) → answer_from config states request ≡ Refused refusal → after_from config states request ≡ states
+refuses_nothing config states request refusal is = ap (with_changed states) (ap (change_from states request) is ∙ refuses states request refusal)
 
 refused_answer : (config : ConfigValue) (states : States) (request : Request) (refusal : Refusal) → Refused refusal ≡ answer_from config states request → PreparesAnswerFrom config states request (Refused refusal)
 refused_answer config states request refusal is =

@@ -1,29 +1,24 @@
 -- What a stop leaves after one commit.
-use Rattle.std.proofs.Common.{◌≡◌, ◌⊎◌, ◌∙◌, Bool, true, false, List, [], ◌∷◌, ◌++◌, Result, Ok, refl, sym, ap, subst, inl, inr, true≢false}
+use Rattle.std.proofs.Common.{◌≡◌, ◌⊎◌, ◌∙◌, Bool, true, false, List, [], ◌∷◌, ◌++◌, Result, refl, sym, ap, subst, inl, inr, true≢false}
 use Rattle.std.specs.Prelude.{IsTrue, ℕ}
 use Rattle.mvd_dots.specs.declared.refusals.Refusal.{Refusal}
-use Rattle.mvd_dots.specs.declared.refusals.Refusal.TheVariants.{Broken, Store}
 use Rattle.mvd_wire.specs.declared.request.Request.{Request}
 use Rattle.mvd_wire.specs.declared.reply.Reply.{Reply}
-use Rattle.mvd_wire.specs.declared.reply.Reply.TheVariants.{Refused}
 use Rattle.mvd_wire.specs.Replies.{is_short}
 use Rattle.mvd_records.specs.Records.{HoldsRecords, IsSound}
-use Rattle.mvd_site.specs.FromStates.{Broke, after_from}
 use Rattle.mvd_site.specs.Held.{States}
 use Rattle.mvd_site.specs.Sites.{SiteValue}
 use Rattle.sqlite.specs.Effect.{Database, IsDatabase}
-use Rattle.sqlite.specs.State.{HasCleanDisk, IsLive, State, Survives}
+use Rattle.sqlite.specs.State.{HasCleanDisk, IsLive, State}
 use Rattle.sqlite.specs.Tree.{Trees}
 use Rattle.mvd_replica.specs.Batch.{AreAmong, HoldsLost, lost_requests}
 use Rattle.mvd_replica.specs.Holds.{AreSpelled, HoldsSite, HoldsStates}
 use Rattle.mvd_replica.specs.Replicas.{StoredSite}
-use Rattle.mvd_replica.specs.Sides.{AnswersFromStored}
 use Rattle.mvd_replica.specs.Steps.{IsSent}
-use Rattle.mvd_replica.specs.Stops.{LeavesAnswered}
+use Rattle.mvd_replica.specs.Stops.{LeavesRequests}
 use Rattle.mvd_replica.specs.Whole.{IsAtRest, LeavesDone, LeavesStates, LeavesWhole, after_all, leaves_wider}
 use Rattle.mvd_replica.specs.Turns.{AreUndoneIn, LeavesTurns, Turn}
 use Rattle.mvd_replica.proofs.Positions.{stored_site}
-use Rattle.mvd_replica.proofs.Sides.{broke_by}
 use Rattle.mvd_replica.proofs.Storing.{holds_states}
 
 -- ---- one commit
@@ -31,11 +26,6 @@ use Rattle.mvd_replica.proofs.Storing.{holds_states}
 -- an open store leaves just its last commit
 abbrev pub IsLast : State → Type 0
 IsLast s = (trees : Trees) → IsTrue s.is_open → s.may_leave trees → trees ≡ s.committed.trees
-
--- the store was open, and the trees hold the states with what these requests change, if the records held the site's
-abbrev pub LeavesAll : StoredSite → List Request → Trees → Type 0
-LeavesAll old requests trees = IsTrue old.store.is_open × (old.site.broken ≡ false → HoldsSite old.site old.store.committed →
-    LeavesStates old.site.config.site (after_all old.site.config old.site.states requests) trees)
 
 same_database : (a b : Database) → a.schema ≡ b.schema → a.trees ≡ b.trees → a ≡ b
 same_database a b schema trees = λ i. record { schema = schema i; trees = trees i }
@@ -58,7 +48,7 @@ at_rest site s last live sound whole fits holds = record {
 
 module _ (AreUndone : List Request → Type 0) (none : AreUndone []) (old new : StoredSite) (requests : List Request)
     (last : IsLast new.store) (was : old.site.broken ≡ false) (spells : AreSpelled old.site.states → AreSpelled new.site.states)
-    (crash : HasCleanDisk new.store → (trees : Trees) → new.store.may_leave trees → old.store.may_leave trees ⊎ LeavesAll old requests trees)
+    (crash : HasCleanDisk new.store → (trees : Trees) → new.store.may_leave trees → old.store.may_leave trees ⊎ LeavesRequests old.site requests old.store trees)
     (taken : HasCleanDisk new.store → IsTrue new.store.is_open ⊎ (new.site ≡ old.site))
     (holds : IsSound new.store → HoldsSite old.site old.store.committed → HoldsSite new.site new.store.committed)
     (shut : HasCleanDisk new.store → new.store.is_open ≡ false → AreUndone requests)
@@ -124,33 +114,6 @@ module _ (AreUndone : List Request → Type 0) (none : AreUndone []) (old new : 
       ]
     ];
   }
-
--- ---- one request
-
--- 21 or 22
-abbrev pub IsUndone : Reply → Type 0
-IsUndone reply = (reply ≡ Refused Store) ⊎ (reply ≡ Refused Broken)
-
-module _ (old new : SiteValue) (before after : State) (request : Request) (reply : Reply) where
-  one_left : Broke old new request → reply ≡ Refused Broken → HoldsStates old.config.site (after_from old.config old.states request) after.committed →
-      (undone : List Request) × AreUndoneIn (record { asked = Ok request; reply = reply } ∷ []) undone
-      × HoldsStates new.config.site (after_all new.config new.states undone) after.committed
-  one_left broke told holds = (
-    request ∷ [],
-    inl ((refl, inr told), tt),
-    subst (λ (s : SiteValue). HoldsStates s.config.site (after_from s.config s.states request) after.committed) (sym broke.site) holds,
-  )
-
-  pub answered_leaves : IsLast after → old.broken ≡ false → (AreSpelled old.states → AreSpelled new.states) → AnswersFromStored old new request reply →
-      Survives before after (LeavesAnswered old request before) → (HasCleanDisk after → IsTrue after.is_open ⊎ (new ≡ old)) →
-      (IsSound after → HoldsSite old before.committed → HoldsSite new after.committed) → (HasCleanDisk after → after.is_open ≡ false → IsUndone reply) →
-      (new.broken ≡ true → reply ≡ Refused Broken) →
-      (IsSound after → HoldsSite old before.committed → old.broken ≡ false → reply ≡ Refused Broken → HoldsStates old.config.site (after_from old.config old.states request) after.committed) →
-      LeavesTurns (record { asked = Ok request; reply = reply } ∷ []) (stored_site old before) (stored_site new after)
-  answered_leaves last was spells answers survives taken holds shut told stored =
-      leaves_commit (AreUndoneIn (record { asked = Ok request; reply = reply } ∷ [])) tt (stored_site old before) (stored_site new after) (request ∷ [])
-      last was spells (λ clean trees may. survives.crash clean trees may) taken holds (λ clean is. inl ((refl, shut clean is), tt))
-      (λ sound rest broken. one_left (broke_by old new request reply was broken answers) (told broken) (stored sound rest.holds was (told broken)))
 
 -- want of memory in place of a reply that takes memory undoes nothing
 sent_undone : (asked : Result Request Refusal) (reply sent : Reply) → IsSent reply sent → (requests : List Request) →

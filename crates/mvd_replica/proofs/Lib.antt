@@ -28,3 +28,5 @@ pub mod Asking
 pub mod ReplicaLemmas
 pub mod Restarts
 pub mod Pushed
+pub mod Commits
+pub mod Fronts

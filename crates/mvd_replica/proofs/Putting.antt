@@ -1,17 +1,19 @@
 -- Replies of requests of one commit, as their changes are put in.
-use Rattle.std.proofs.Common.{◌≡◌, ◌≢◌, ◌∙◌, Bool, true, false, List, [], ◌∷◌, map, Ok, refl, sym, ap, subst, inl, inr, true≢false}
+use Rattle.std.proofs.Common.{◌≡◌, ◌≢◌, ◌∙◌, Bool, true, false, List, [], ◌∷◌, map, None, Ok, Option, Some, refl, sym, ap, subst, inl, inr, true≢false}
 use Rattle.std.specs.FinMap.{insert}
 use Rattle.mvd_dots.specs.declared.refusals.Refusal.{Refusal}
 use Rattle.mvd_dots.specs.declared.refusals.Refusal.TheVariants.{Broken, Memory, Store}
-use Rattle.mvd_keys.specs.Writes.{Write}
+use Rattle.mvd_keys.specs.State.{State as Keyed, join}
+use Rattle.mvd_keys.specs.Writes.{Key, Write}
 use Rattle.mvd_wire.specs.declared.request.Request.{Request}
+use Rattle.mvd_wire.specs.declared.request.Request.TheVariants.{Bye, Node, Push, Row}
 use Rattle.mvd_wire.specs.declared.reply.Reply.{Reply}
-use Rattle.mvd_wire.specs.declared.reply.Reply.TheVariants.{Refused}
+use Rattle.mvd_wire.specs.declared.reply.Reply.TheVariants.{Done, Refused}
 use Rattle.mvd_wire.specs.Replies.{CanBeSent}
 use Rattle.mvd_site.specs.Change.{ChangeValue, reply_of}
 use Rattle.mvd_site.specs.Config.{ConfigValue}
-use Rattle.mvd_site.specs.FromStates.{AnswersFrom}
-use Rattle.mvd_site.specs.Held.{States}
+use Rattle.mvd_site.specs.FromStates.{AnswersFrom, answer_from, change_from}
+use Rattle.mvd_site.specs.Held.{States, state_at}
 use Rattle.mvd_site.specs.Known.{Adds}
 use Rattle.mvd_site.specs.Prepared.{IsFrugal, PreparesChangeFrom, is_refusal}
 use Rattle.mvd_kept.specs.declared.prepared.Prepared.{Prepared}
@@ -19,11 +21,11 @@ use Rattle.mvd_kept.specs.declared.prepared.Prepared.TheVariants.{Answer, Change
 use Rattle.mvd_site.specs.Sites.{SiteValue}
 use Rattle.mvd_site.proofs.Answered.{insert_differs}
 use Rattle.mvd_site.proofs.Installed.{broken_stays, states_with, was_whole, whole_after}
-use Rattle.mvd_site.proofs.Outcomes.{change_plain, refused_fits}
+use Rattle.mvd_site.proofs.Outcomes.{change_plain, join_ok, refused_fits}
 use Rattle.mvd_site.proofs.Prepare.{answers_from_answer, answers_from_breaking, answers_from_change}
 use Rattle.mvd_replica.specs.Batch.{AnswersOneFrom, AreAmong, Loses, TakesAllFrom, lost_requests}
 use Rattle.mvd_site.specs.Installs.{PutsAll, PutsIfWhole, PutsOne, broken_site, with_group, with_one, with_prepared}
-use Rattle.mvd_replica.specs.Groups.{AllComeTo, AreSendable, ComeInOrder, ComesTo, IsReply, IsSendable, pairs_in, reply_unstored}
+use Rattle.mvd_replica.specs.Groups.{AllComeTo, AreSendable, ComeInOrder, ComesTo, IsAlone, IsReply, IsSendable, StandTogether, pairs_in, reply_unstored}
 use Rattle.mvd_replica.specs.Sides.{AnswersFromStored}
 use Rattle.mvd_replica.specs.Whole.{after_all}
 use Rattle.mvd_replica.specs.Turns.{IsToldElse, Turn}
@@ -130,6 +132,48 @@ module _ (old new : SiteValue) (request : Request) where
       AnswersOneFrom old new request reply
   one_answers prepared reply true was comes sendable puts = one_broken reply was (puts.broken was).0 (puts.broken was).1
   one_answers prepared reply false was comes sendable puts = one_puts prepared reply was (comes was) sendable (puts.whole was)
+
+-- ---- one request, prepared alone
+
+-- a broken site prepares no change
+pub whole_change : (broken : Bool) (change : ChangeValue) → (broken ≡ true → Change change ≡ Answer (Refused Broken)) → broken ≡ false
+whole_change false change never = refl
+whole_change true change never = let bad : Change change ≡ Answer (Refused Broken) = never refl in absurd cc
+
+same_answer : (a b : Reply) → Answer a ≡ Answer b → a ≡ b
+same_answer a b is = cc
+
+-- what was prepared as a reply is told
+pub one_prepared : (old : SiteValue) (request : Request) (reply : Reply) → (old.broken ≡ true → Answer reply ≡ Answer (Refused Broken)) →
+    (old.broken ≡ false → ComesTo old.config old.states request (Answer reply) × IsSendable request (Answer reply)) → AnswersOneFrom old old request reply
+one_prepared old request reply broken comes = elim old.broken as (λ b. old.broken ≡ b → AnswersOneFrom old old request reply) [
+  | true ↦ λ was. one_broken old old request reply was (same_answer reply (Refused Broken) (broken was)) refl
+  | false ↦ λ whole. (let it = comes whole in one_whole old old request reply reply whole refl it.1 (inl (answers_same old request reply it.0)) it.0.1)
+] refl
+
+pushed_change : (m : States) (key : Key) (pushed : Keyed) (reply : Reply) (own : Key) (s : Keyed) → change_from m (Push key pushed) reply ≡ Some (own, s) → (own ≡ key) × (s ≡ join (state_at m key) pushed)
+pushed_change m key pushed Done own s is = (let same : ◌≡◌ {A = Key × Keyed} (key, join (state_at m key) pushed) (own, s) = cc in (ap (λ p. p.0) (sym same), ap (λ p. p.1) (sym same)))
+pushed_change m key pushed reply own s is = absurd cc
+
+-- a request that takes no memory is no change
+no_change : (config : ConfigValue) (m : States) (request : Request) (change : ChangeValue) → IsFrugal m request → PreparesChangeFrom config m request change → ⊥
+no_change config m (Push key pushed) change frugal comes =
+    let is = pushed_change m key pushed (answer_from config m (Push key pushed)) change.key change.state comes.leaves in
+    comes.differs (is.1 ∙ sym (join_ok (state_at m key) pushed (state_at m key) frugal).1 ∙ ap (state_at m) (sym is.0))
+no_change config m (Node path) change frugal comes = let bad : ◌≡◌ {A = Option (Key × Keyed)} None (Some (change.key, change.state)) = comes.leaves in absurd cc
+no_change config m (Row view term) change frugal comes = let bad : ◌≡◌ {A = Option (Key × Keyed)} None (Some (change.key, change.state)) = comes.leaves in absurd cc
+no_change config m Bye change frugal comes = let bad : ◌≡◌ {A = Option (Key × Keyed)} None (Some (change.key, change.state)) = comes.leaves in absurd cc
+no_change config m request change frugal comes = absurd frugal
+
+-- memory was refused for a change
+pub one_forgone : (old : SiteValue) (request : Request) (change : ChangeValue) (refusal : Refusal) → old.broken ≡ false → refusal ≡ Memory → IsAlone old request change → AnswersOneFrom old old request (Refused refusal)
+one_forgone old request change refusal whole memory alone =
+    one_whole old old request (Refused Memory) (Refused refusal) whole (ap Refused memory)
+    (record { other = λ bad. cc; fits = refused_fits Memory; choice = nothing_added request Memory })
+    (inl (λ _. inr (inl (ap Refused memory, refl)))) (λ frugal _. absurd (no_change old.config old.states request change frugal alone.0.0))
+
+pub together_alone : (site : SiteValue) (request : Request) (change : ChangeValue) → IsAlone site request change → StandTogether site (request ∷ []) (Change change ∷ [])
+together_alone site request change alone = record { each = (alone.0, tt); ordered = (alone.0, tt); sendable = (alone.1, tt) }
 
 pub ordered_after : (old mid : SiteValue) (prepared : Prepared) (reply : Reply) (requests : List Request) (group : List Prepared) → PutsIfWhole old mid prepared reply →
     (old.broken ≡ false → ComeInOrder old.config (with_prepared old.states prepared) requests group) → mid.broken ≡ false → ComeInOrder mid.config mid.states requests group

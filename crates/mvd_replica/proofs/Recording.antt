@@ -12,21 +12,24 @@ use Rattle.mvd_site.specs.Held.{States}
 use Rattle.mvd_kept.specs.declared.prepared.Prepared.{Prepared}
 use Rattle.mvd_kept.specs.declared.prepared.Prepared.TheVariants.{Answer, Change}
 use Rattle.mvd_site.specs.Sites.{SiteValue}
-use Rattle.mvd_replica.specs.Batch.{HoldsLost, lost_requests}
+use Rattle.mvd_replica.specs.Batch.{HoldsLost, TakesAllFrom, lost_requests}
 use Rattle.mvd_site.specs.Installs.{PutsAll, PutsIfWhole, PutsOne, with_group}
 use Rattle.mvd_replica.specs.Groups.{AllComeTo, AreSendable, ComeInOrder, IsSendable, pairs_in, reply_unstored}
 use Rattle.mvd_replica.specs.Holds.{AreSpelled, HoldsSite, HoldsStates, SpellStates}
 use Rattle.mvd_replica.specs.Shared.{LeavesPairs}
 use Rattle.mvd_replica.specs.Whole.{after_all}
-use Rattle.mvd_replica.specs.Turns.{AreUndoneIn, LeavesTurns}
-use Rattle.mvd_replica.proofs.Leaving.{IsLast, LeavesAll, leaves_commit, lost_undone, undone_skip}
-use Rattle.mvd_replica.proofs.Positions.{AnswersAll, stored_site}
+use Rattle.mvd_replica.specs.Turns.{AreAskedIn, AreUndoneIn, LeavesTurns, Turn}
+use Rattle.mvd_replica.proofs.Leaving.{IsLast, leaves_commit, lost_undone, undone_skip}
+use Rattle.mvd_replica.proofs.Stops.{survives_self}
+use Rattle.sqlite.proofs.StateLemmas.{survives_weaker}
+use Rattle.mvd_replica.specs.Stops.{LeavesRequests, LeavesSome}
+use Rattle.mvd_replica.proofs.Positions.{stored_site}
 use Rattle.mvd_replica.proofs.Storing.{spelled_insert, spelled_with}
 use Rattle.sqlite.specs.State.{HasCleanDisk, State, Survives}
 use Rattle.sqlite.specs.Tree.{Trees}
-use Rattle.mvd_replica.proofs.Batching.{config_all, takes}
+use Rattle.mvd_replica.proofs.Batching.{config_all}
 use Rattle.mvd_site.proofs.Installed.{states_end}
-use Rattle.mvd_replica.proofs.Putting.{AreOne, LostAt, asked_of, lost_end, one_put, one_unstored, still_end, takes_put, takes_unstored, told_of, turns_of}
+use Rattle.mvd_replica.proofs.Putting.{AreOne, LostAt, lost_end, one_put, one_unstored, still_end, takes_put, takes_unstored, turns_of}
 
 -- ---- the records
 
@@ -95,10 +98,30 @@ unstored_undone (request ∷ requests) (Answer reply ∷ group) sendable =
     undone_skip _ (turns_of requests (map reply_unstored group)) (changing requests group) (unstored_undone requests group sendable.1)
 unstored_undone (request ∷ requests) (Change change ∷ group) sendable = inl ((refl, inl refl), unstored_undone requests group sendable.1)
 
+asked_skip : (turn : Turn) (turns : List Turn) (requests : List Request) → AreAskedIn turns requests → AreAskedIn (turn ∷ turns) requests
+asked_skip turn turns [] all = tt
+asked_skip turn turns (request ∷ requests) all = inr all
+
+asked_changing : (requests : List Request) (group : List Prepared) (replies : List Reply) → AreSendable requests group → AreOne requests replies → AreAskedIn (turns_of requests replies) (changing requests group)
+asked_changing [] [] replies sendable one = tt
+asked_changing [] (prepared ∷ group) replies sendable one = absurd sendable
+asked_changing (request ∷ requests) [] replies sendable one = absurd sendable
+asked_changing (request ∷ requests) (prepared ∷ group) [] sendable one = absurd one
+asked_changing (request ∷ requests) (Answer told ∷ group) (reply ∷ replies) sendable one =
+    asked_skip _ (turns_of requests replies) (changing requests group) (asked_changing requests group replies sendable.1 one)
+asked_changing (request ∷ requests) (Change change ∷ group) (reply ∷ replies) sendable one = inl (refl, asked_changing requests group replies sendable.1 one)
+
+no_pairs : (requests : List Request) (group : List Prepared) → AreSendable requests group → changing requests group ≡ [] → pairs_in group ≡ []
+no_pairs [] [] sendable none = refl
+no_pairs [] (prepared ∷ group) sendable none = absurd sendable
+no_pairs (request ∷ requests) [] sendable none = absurd sendable
+no_pairs (request ∷ requests) (Answer told ∷ group) sendable none = no_pairs requests group sendable.1 none
+no_pairs (request ∷ requests) (Change change ∷ group) sendable none = absurd cc
+
 -- what a crash may leave of the commit
 module _ (requests : List Request) (group : List Prepared) (old : SiteValue) (before : State) (ordered : ComeInOrder old.config old.states requests group)
     (sendable : AreSendable requests group) (fits : AreSpelled old.states) where
-  left_group : (trees : Trees) → LeavesPairs before (pairs_in group) trees → LeavesAll (stored_site old before) (changing requests group) trees
+  left_group : (trees : Trees) → LeavesPairs before (pairs_in group) trees → LeavesRequests old (changing requests group) before trees
   left_group trees left = (
     left.0,
     λ was holds. (
@@ -115,11 +138,29 @@ module _ (requests : List Request) (group : List Prepared) (old : SiteValue) (be
         )),
   )
 
+  survives_by : (turns : List Turn) (after : State) → AreAskedIn turns (changing requests group) → (pairs_in group ≡ [] → after ≡ before) → Survives before after (LeavesPairs before (pairs_in group)) →
+      (some : List Request) → changing requests group ≡ some → Survives before after (LeavesSome turns old before)
+  survives_by turns after asked none survives [] is = subst (λ s. Survives before s (LeavesSome turns old before)) (sym (none (no_pairs requests group sendable is))) (survives_self before (LeavesSome turns old before))
+  survives_by turns after asked none survives (request ∷ rest) is = survives_weaker before after (LeavesPairs before (pairs_in group)) (LeavesSome turns old before)
+      (λ _ trees left. (request, rest, subst (AreAskedIn turns) is asked, subst (λ l. LeavesRequests old l before trees) is (left_group trees left))) survives
+
+  pub survives_group : (turns : List Turn) (after : State) → AreAskedIn turns (changing requests group) → (pairs_in group ≡ [] → after ≡ before) → Survives before after (LeavesPairs before (pairs_in group)) →
+      Survives before after (LeavesSome turns old before)
+  survives_group turns after asked none survives = survives_by turns after asked none survives (changing requests group) refl
+
+-- What a commit of turns does to a site and to its store, by its parts
+pub record StoresTurns (turns : List Turn) (old new : SiteValue) (before after : State) : Type 0 where
+  pub takes : TakesAllFrom old new turns
+  pub taken : HasCleanDisk after → IsTrue after.is_open ⊎ (new ≡ old)
+  pub records : IsSound after → HoldsSite old before.committed → HoldsSite new after.committed
+  pub lost : IsSound after → HoldsSite old before.committed → old.broken ≡ false → new.broken ≡ true → HoldsLost turns new after.committed
+  pub survives : Survives before after (LeavesSome turns old before)
+  pub leaves : LeavesTurns turns (stored_site old before) (stored_site new after)
+
 module _ (requests : List Request) (group : List Prepared) (replies : List Reply) (old new : SiteValue) (before after : State) (was : old.broken ≡ false) (ordered : ComeInOrder old.config old.states requests group)
-    (sendable : AreSendable requests group) (all : PutsAll old new group replies) (fits : AreSpelled old.states) (sound : IsSound after → IsSound before) (clean : HasCleanDisk after → HasCleanDisk before)
-    (opened : HasCleanDisk after → IsTrue after.is_open ⊎ (pairs_in group ≡ []))
+    (sendable : AreSendable requests group) (all : PutsAll old new group replies) (fits : AreSpelled old.states) (opened : HasCleanDisk after → IsTrue after.is_open ⊎ (pairs_in group ≡ []))
     (saved : (site : ℕ) → IsSound after → HoldsRecords 2 site before.committed → HoldsRecords 2 site after.committed × SavesStates before.committed after.committed (pairs_in group))
-    (last : IsLast after) (survives : Survives before after (LeavesPairs before (pairs_in group))) where
+    (last : IsLast after) (same : pairs_in group ≡ [] → after ≡ before) (survives : Survives before after (LeavesPairs before (pairs_in group))) where
   config_put : new.config ≡ old.config
   config_put = config_all (turns_of requests replies) old new (takes_put requests group replies old new (λ _. ordered) sendable all)
 
@@ -150,12 +191,6 @@ module _ (requests : List Request) (group : List Prepared) (replies : List Reply
         });
       }
 
-  shut_put : HasCleanDisk after → before.is_open ≡ false → new ≡ old
-  shut_put disk shut = elim (opened disk) [
-    | inl is ↦ absurd (true≢false (sym (sound (record { clean = disk; is_open = is })).is_open ∙ shut))
-    | inr none ↦ still_end group replies old new was none all
-  ]
-
   taken_put : HasCleanDisk after → IsTrue after.is_open ⊎ (new ≡ old)
   taken_put disk = elim (opened disk) [ inl is ↦ inl is | inr none ↦ inr (still_end group replies old new was none all) ]
 
@@ -173,49 +208,33 @@ module _ (requests : List Request) (group : List Prepared) (replies : List Reply
       (λ real rest broken. (let it = lost_put real rest.holds broken in (lost_requests it.lost, lost_undone (turns_of requests replies) new after.committed it, it.holds)))
 
   -- the changes were stored
-  pub answers_put : AnswersAll requests replies old new before after
-  answers_put =
-      let one : AreOne requests replies = one_put requests group replies old new sendable all in
-      record {
-        turns = turns_of requests replies;
-        asked = asked_of requests replies one;
-        told = told_of requests replies one;
-        states = takes_put requests group replies old new (λ _. ordered) sendable all;
-        takes = takes (turns_of requests replies) old new before after (takes_put requests group replies old new (λ _. ordered) sendable all) (record {
-          site = (config_put, λ broken. absurd (true≢false (sym broken ∙ was)));
-          sound = sound;
-          holds = holds_put;
-          stays = λ broken. absurd (true≢false (sym broken ∙ was));
-          stored = λ real holds _ broken. lost_put real holds broken;
-          clean = clean;
-          shut = shut_put;
-          leaves = leaves_put;
-        });
-      }
+  pub stores_put : StoresTurns (turns_of requests replies) old new before after
+  stores_put = record {
+    takes = takes_put requests group replies old new (λ _. ordered) sendable all;
+    taken = taken_put;
+    records = holds_put;
+    lost = λ real holds _ broken. lost_put real holds broken;
+    survives = survives_group requests group old before ordered sendable fits (turns_of requests replies) after
+        (asked_changing requests group replies sendable (one_put requests group replies old new sendable all)) same survives;
+    leaves = leaves_put;
+  }
 
 -- the store refused them
-pub answers_unstored : (requests : List Request) (group : List Prepared) (old : SiteValue) (before after : State) → old.broken ≡ false → AllComeTo old.config old.states requests group →
-    ComeInOrder old.config old.states requests group → AreSendable requests group → AreSpelled old.states →
-    (IsSound after → IsSound before) → (HasCleanDisk after → HasCleanDisk before) → (IsSound after → after.committed ≡ before.committed) →
-    IsLast after → Survives before after (LeavesPairs before (pairs_in group)) → AnswersAll requests (map reply_unstored group) old old before after
-answers_unstored requests group old before after was each ordered sendable fits sound clean same last survives =
-    let one : AreOne requests (map reply_unstored group) = one_unstored requests group sendable in
+pub stores_none : (requests : List Request) (group : List Prepared) (old : SiteValue) (before after : State) → old.broken ≡ false → AllComeTo old.config old.states requests group →
+    ComeInOrder old.config old.states requests group → AreSendable requests group → AreSpelled old.states → (IsSound after → after.committed ≡ before.committed) →
+    IsLast after → (pairs_in group ≡ [] → after ≡ before) → Survives before after (LeavesPairs before (pairs_in group)) →
+    StoresTurns (turns_of requests (map reply_unstored group)) old old before after
+stores_none requests group old before after was each ordered sendable fits same last none survives =
+    let holds = λ (real : IsSound after) (held : HoldsSite old before.committed). subst (HoldsSite old) (sym (same real)) held in
     record {
-      turns = turns_of requests (map reply_unstored group);
-      asked = asked_of requests (map reply_unstored group) one;
-      told = told_of requests (map reply_unstored group) one;
-      states = takes_unstored requests group old was each sendable;
-      takes = takes (turns_of requests (map reply_unstored group)) old old before after (takes_unstored requests group old was each sendable) (record {
-        site = (refl, λ _. refl);
-        sound = sound;
-        holds = λ real holds. subst (HoldsSite old) (sym (same real)) holds;
-        stays = λ broken. absurd (true≢false (sym broken ∙ was));
-        stored = λ real holds whole broken. absurd (true≢false (sym broken ∙ was));
-        clean = clean;
-        shut = λ _ _. refl;
-        leaves = leaves_commit (AreUndoneIn (turns_of requests (map reply_unstored group))) tt (stored_site old before) (stored_site old after) (changing requests group) last was
-            (λ spelled. spelled) (λ disk trees may. elim (survives.crash disk trees may) [ inl first ↦ inl first | inr made ↦ inr (left_group requests group old before ordered sendable fits trees made) ])
-            (λ _. inr refl) (λ real holds. subst (HoldsSite old) (sym (same real)) holds) (λ _ _. unstored_undone requests group sendable)
-            (λ _ _ broken. absurd (true≢false (sym broken ∙ was)));
-      });
+      takes = takes_unstored requests group old was each sendable;
+      taken = λ _. inr refl;
+      records = holds;
+      lost = λ _ _ whole broken. absurd (true≢false (sym broken ∙ whole));
+      survives = survives_group requests group old before ordered sendable fits (turns_of requests (map reply_unstored group)) after
+          (asked_changing requests group (map reply_unstored group) sendable (one_unstored requests group sendable)) none survives;
+      leaves = leaves_commit (AreUndoneIn (turns_of requests (map reply_unstored group))) tt (stored_site old before) (stored_site old after) (changing requests group) last was
+          (λ spelled. spelled) (λ disk trees may. elim (survives.crash disk trees may) [ inl first ↦ inl first | inr made ↦ inr (left_group requests group old before ordered sendable fits trees made) ])
+          (λ _. inr refl) holds (λ _ _. unstored_undone requests group sendable)
+          (λ _ _ broken. absurd (true≢false (sym broken ∙ was)));
     }

@@ -1,6 +1,5 @@
 -- A replica as a side of a session.
-use Rattle.std.proofs.Common.{◌≡◌, ◌≢◌, ◌⊎◌, ◌∙◌, [], ◌∷◌, Bool, true, false, Result, Ok, Err, refl, sym, ap, subst, inl, inr, true≢false, if◌then◌else◌}
-use Rattle.std.specs.Prelude.{IsTrue}
+use Rattle.std.proofs.Common.{◌≡◌, ◌≢◌, ◌∙◌, [], ◌∷◌, Bool, true, false, Result, Ok, Err, refl, sym, ap, inl, inr, true≢false, if◌then◌else◌}
 use Rattle.std.specs.Result.{IfErr, MatchResult, OnOk}
 use Rattle.mvd_dots.specs.declared.refusals.Refusal.{Refusal}
 use Rattle.mvd_dots.specs.declared.refusals.Refusal.TheVariants.{Broken, DotClash, StateTooLarge, Store}
@@ -18,18 +17,14 @@ use Rattle.mvd_site.specs.Prepared.{PreparesChangeFrom, is_refusal}
 use Rattle.mvd_site.specs.Sites.{SiteValue}
 use Rattle.mvd_site.specs.Answer.{is_too_large}
 use Rattle.mvd_site.proofs.Answered.{insert_differs, limited_cases}
-use Rattle.mvd_site.proofs.Prepare.{answers_from_breaking}
 use Rattle.mvd_site.proofs.Pushes.{PushFacts, push_facts, refusal_is}
 use Rattle.mvd_peer.specs.Sides.{SiteRefuses}
 use Rattle.mvd_peer.specs.PushedStates.{ComesByPushes}
 use Rattle.mvd_peer.proofs.Pushes.{no_pushes}
 use Rattle.mvd_peer.proofs.SiteSides.{is_broken, push_refuses as site_push_refuses, put_is_pushed}
-use Rattle.mvd_records.specs.Records.{IsSound}
-use Rattle.sqlite.specs.State.{HasCleanDisk, State as Shown, Survives}
+use Rattle.sqlite.specs.State.{State as Shown}
 use Rattle.mvd_site.specs.Installs.{broken_site}
-use Rattle.mvd_replica.specs.Holds.{HoldsSite, HoldsStates, PutsIn}
-use Rattle.mvd_replica.specs.Stops.{LeavesAnswered}
-use Rattle.mvd_replica.specs.Sides.{AnswersFromStored, HoldsBroken, ReplicaRefuses, StoreRefusedFrom}
+use Rattle.mvd_replica.specs.Sides.{AnswersFromStored, ReplicaRefuses, StoreRefusedFrom}
 use Rattle.mvd_replica.proofs.Positions.{ReplicaFollows}
 
 -- ---- one request, from the states
@@ -37,17 +32,6 @@ use Rattle.mvd_replica.proofs.Positions.{ReplicaFollows}
 -- a change is of the states
 pub changes_states : (old : SiteValue) (request : Request) (change : ChangeValue) → PreparesChangeFrom old.config old.states request change → after_from old.config old.states request ≢ old.states
 changes_states old request change prepared same = insert_differs old.states change.key change.state prepared.differs (sym prepared.after ∙ same)
-
--- a change that was not put in
-pub refused_from : (old new : SiteValue) (request : Request) (change : ChangeValue) (refusal : Refusal) → old.broken ≡ false → PutsIn {A = Unit {0}} old new change (Err refusal) →
-    PreparesChangeFrom old.config old.states request change → AnswersFromStored old new request (Refused refusal)
-refused_from old new request change refusal whole (inl store) prepared = inr (record {
-  told = ap Refused store.0;
-  changes = changes_states old request change prepared;
-  whole = whole;
-  site = store.1;
-})
-refused_from old new request change refusal whole (inr broke) prepared = inl (answers_from_breaking old new request change refusal broke.0 broke.1 (λ _. prepared))
 
 -- ---- a push
 
@@ -114,48 +98,6 @@ broke_by old new request reply whole broken (inl from) = elim (from whole) [
   | inr (inl memory) ↦ absurd (true≢false (sym broken ∙ ap (λ (s : SiteValue). s.broken) memory.1 ∙ whole))
   | inr (inr broke) ↦ broke.1
 ]
-
-module _ (old new : SiteValue) (request : Request) (reply : Reply) (before after : Shown) where
-  abbrev Asked : Request → Type 0
-  Asked asked = asked ≡ request
-
-  holds_broken : Broke old new request → HoldsStates old.config.site (after_from old.config old.states request) after.committed → HoldsBroken Asked new after.committed
-  holds_broken broke holds = subst (λ s. HoldsBroken Asked s after.committed) (sym broke.site) (record { request = request; asked = refl; changes = broke.changes; holds = holds })
-
-  shut_by : IsTrue after.is_open ⊎ (new ≡ old) → (IsSound after → IsSound before) → HasCleanDisk after → before.is_open ≡ false → new ≡ old
-  shut_by (inl is) sound clean shut = absurd (true≢false (sym (sound (record { clean = clean; is_open = is })).is_open ∙ shut))
-  shut_by (inr same) sound clean shut = same
-
-  -- what one request does to the records
-  pub follows_by : new.config ≡ old.config → (old.broken ≡ true → new ≡ old) → (old.broken ≡ true → after.committed ≡ before.committed) → (IsSound after → IsSound before) →
-      (IsSound after → HoldsSite old before.committed → HoldsSite new after.committed) → (HasCleanDisk after → HasCleanDisk before) → (HasCleanDisk after → IsTrue after.is_open ⊎ (new ≡ old)) →
-      (new.broken ≡ true → reply ≡ Refused Broken) → AnswersFromStored old new request reply →
-      (IsSound after → HoldsSite old before.committed → old.broken ≡ false → reply ≡ Refused Broken → HoldsStates old.config.site (after_from old.config old.states request) after.committed) →
-      ReplicaFollows Asked old new before after
-  follows_by config still same sound holds clean taken told answers stored = record {
-    site = (config, still);
-    store = record {
-      sound = sound;
-      holds = holds;
-      stays = same;
-      stored = λ now held whole broken. holds_broken (broke_by old new request reply whole broken answers) (stored now held whole (told broken));
-      clean = clean;
-      shut = λ disk shut. shut_by (taken disk) sound disk shut;
-    };
-  }
-
-the_request : (a b : Request) → ◌≡◌ {A = Result Request Refusal} (Ok a) (Ok b) → a ≡ b
-the_request a b e = cc
-
--- a request that was made
-pub follows_made : (made asked : Request) (old new : SiteValue) (before after : Shown) → ◌≡◌ {A = Result Request Refusal} (Ok asked) (Ok made) → ReplicaFollows (λ request. request ≡ made) old new before after →
-    ReplicaFollows (λ request. request ≡ asked) old new before after
-follows_made made asked old new before after same it = subst (λ r. ReplicaFollows (λ request. request ≡ r) old new before after) (sym (the_request asked made same)) it
-
--- and what a crash leaves
-pub survives_made : (made asked : Request) (old : SiteValue) (before after : Shown) → ◌≡◌ {A = Result Request Refusal} (Ok asked) (Ok made) → Survives before after (LeavesAnswered old made before) →
-    Survives before after (LeavesAnswered old asked before)
-survives_made made asked old before after same it = subst (λ r. Survives before after (LeavesAnswered old r before)) (sym (the_request asked made same)) it
 
 -- the same of any requests of which it holds where the site broke
 pub follows_where : (asks wider : Request → Type 0) (old new : SiteValue) (before after : Shown) → (old.broken ≡ false → new.broken ≡ true → (request : Request) → asks request → wider request) →

@@ -1,5 +1,5 @@
 -- Requests that change nothing leave a replica as it was.
-use Rattle.std.proofs.Common.{arith, ◌≡◌, ◌∙◌, ◌∷◌, [], List, ◌++◌, refl, sym, subst}
+use Rattle.std.proofs.Common.{arith, ◌≡◌, ◌∙◌, ◌∷◌, [], List, refl, sym, subst}
 use Rattle.std.specs.List.{AllByRecursion}
 use Rattle.std.proofs.Props.{props}
 use Rattle.mvd_records.specs.Seen.{RecordsValue}
@@ -12,8 +12,9 @@ use Rattle.mvd_kept.specs.declared.prepared.Prepared.TheVariants.{Answer, Change
 use Rattle.sqlite_trees.specs.declared.store.Store.{Ghosts}
 use Rattle.mvd_replica.specs.declared.replica.Replica.{Replica}
 use Rattle.mvd_replica.specs.Groups.{AllComeTo}
-use Rattle.mvd_replica.specs.ReplicaCalls.{ChangesNothing, StaysStill}
-use Rattle.mvd_replica.specs.Replicas.{site_of}
+use Rattle.mvd_replica.specs.Commits.{ChangesNothing, IsStill}
+use Rattle.mvd_wire.specs.declared.reply.Reply.{Reply}
+use Rattle.mvd_replica.proofs.Putting.{AreOne, turns_of}
 
 -- requests that change nothing are prepared as answers
 pub none_changed : (site : SiteValue) (requests : List Request) (group : List Prepared) → AllComeTo site.config site.states requests group → AllByRecursion (ChangesNothing site) requests →
@@ -26,13 +27,11 @@ none_changed site (r ∷ requests) (Answer reply ∷ group) each still =
 none_changed site (r ∷ requests) (Change change ∷ group) each still =
     absurd (insert_differs site.states change.key change.state each.0.0.differs (sym each.0.0.after ∙ still.0))
 
-still_before : (P : Request → Type 0) (first second : List Request) → AllByRecursion P (first ++ second) → AllByRecursion P first
-still_before P [] second all = tt
-still_before P (r ∷ first) second all = (all.0, still_before P first second all.1)
-
-still_after : (P : Request → Type 0) (first second : List Request) → AllByRecursion P (first ++ second) → AllByRecursion P second
-still_after P [] second all = all
-still_after P (r ∷ first) second all = still_after P first second all.1
+-- turns that change nothing ask nothing that would
+pub still_requests : (site : SiteValue) (requests : List Request) (replies : List Reply) → AreOne requests replies → AllByRecursion (IsStill site) (turns_of requests replies) → AllByRecursion (ChangesNothing site) requests
+still_requests site [] replies one all = tt
+still_requests site (request ∷ requests) [] one all = absurd one
+still_requests site (request ∷ requests) (reply ∷ replies) one all = (all.0 request refl, still_requests site requests replies one all.1)
 
 module _ {S : Type 0} {g : Ghosts S} where
   -- a replica is its site, its records and its count
@@ -41,12 +40,3 @@ module _ {S : Type 0} {g : Ghosts S} where
       let one : IsProp (b.records.version ≡ 2) = hlevel props in
       subst (λ (r : RecordsValue S). (two : r.version ≡ 2) → record { alloc = a.alloc; site = a.site; records = r; commits = a.commits; moved = two } ≡ b) (sym records)
       (λ two. λ i. record { alloc = b.alloc; site = site i; records = b.records; commits = commits i; moved = one two b.moved i }) a.moved
-
-  pub still_none : (old : Replica S g) → StaysStill [] old old
-  still_none old each = refl
-
-  -- requests after requests
-  pub still_then : (first second : List Request) (old mid new : Replica S g) → StaysStill first old mid → StaysStill second mid new → StaysStill (first ++ second) old new
-  still_then first second old mid new one other each =
-      let same : mid ≡ old = one (still_before (ChangesNothing (site_of old)) first second each) in
-      other (subst (λ (r : Replica S g). AllByRecursion (ChangesNothing (site_of r)) second) (sym same) (still_after (ChangesNothing (site_of old)) first second each)) ∙ same

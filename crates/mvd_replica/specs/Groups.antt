@@ -11,7 +11,7 @@ use Rattle.mvd_wire.specs.declared.request.Request.TheVariants.{Get, Put, Delete
 use Rattle.mvd_wire.specs.declared.reply.Reply.{Reply}
 use Rattle.mvd_wire.specs.declared.reply.Reply.TheVariants.{Refused}
 use Rattle.mvd_wire.specs.Replies.{CanBeSent}
-use Rattle.mvd_site.specs.Change.{reply_of}
+use Rattle.mvd_site.specs.Change.{ChangeValue, reply_of}
 use Rattle.mvd_site.specs.Config.{ConfigValue}
 use Rattle.mvd_site.specs.FromStates.{answer_from}
 use Rattle.mvd_site.specs.Held.{IsHeldState, IsSpelled, States}
@@ -87,6 +87,10 @@ pub record StandTogether (site : SiteValue) (requests : List Request) (group : L
   pub each : AllComeTo site.config site.states requests group
   pub ordered : ComeInOrder site.config site.states requests group
   pub sendable : AreSendable requests group
+
+-- the request comes to this change
+abbrev pub IsAlone : SiteValue → Request → ChangeValue → Type 0
+IsAlone site request change = ComesTo site.config site.states request (Change change) × IsSendable request (Change change)
 
 -- a request may be prepared beside these: it sees none of them, and once they are in there is room for a key more
 pub record MayJoin (site : SiteValue) (request : Request) (group : List Prepared) : Type 0 where

@@ -19,5 +19,6 @@ pub mod Groups
 pub mod Shared
 pub mod Asks
 pub mod Replicas
+pub mod Commits
 pub mod ReplicaCalls
 pub mod Restarts

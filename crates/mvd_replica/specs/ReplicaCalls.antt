@@ -1,47 +1,40 @@
 -- What each call of a replica does: one relation for a call, over the replica before it, what it was called with, what it returned,
 -- and the replica after it.
-use Rattle.std.specs.Prelude.{◌≡◌, ◌≢◌, ◌⊎◌, ◌<◌, ◌≤◌, ◌+◌, ◌-◌, ◌^◌, Bool, false, true, ℕ, List, [], ◌∷◌, ◌++◌, length, map, min, take, Option, Vec, Result, Ok, Err, IfErr, IfOk, OnOk, MatchResult}
+use Rattle.std.specs.Prelude.{◌≡◌, ◌≢◌, ◌⊎◌, ◌<◌, ◌≤◌, ◌+◌, ◌-◌, ◌^◌, Bool, false, true, ℕ, List, [], ◌∷◌, ◌++◌, length, map, min, Option, Vec, Result, Ok, Err, IfErr, IfOk, OnOk, MatchResult}
 use Rattle.std.specs.List.{AllByRecursion}
 use Rattle.std.specs.declared.alloc.Global.{Global}
 use Rattle.mvd_dots.specs.Answer.{IsAnswer}
 use Rattle.mvd_dots.specs.declared.refusals.Refusal.{Refusal}
-use Rattle.mvd_dots.specs.declared.refusals.Refusal.TheVariants.{Broken, Damaged, DotClash, Memory, Store}
+use Rattle.mvd_dots.specs.declared.refusals.Refusal.TheVariants.{Broken, Damaged, DotClash, Memory}
 use Rattle.mvd_keys.specs.State.{IsValid, State, clashes, join}
 use Rattle.mvd_keys.specs.Writes.{Key, Stands, Write}
 use Rattle.mvd_tree.specs.HashTree.{node_digest}
 use Rattle.mvd_tree.specs.Page.{is_more_after_page, page_of}
 use Rattle.mvd_wire.specs.declared.reply.Digests.{Digests}
 use Rattle.mvd_wire.specs.declared.reply.Reply.{Reply}
-use Rattle.mvd_wire.specs.declared.reply.Reply.TheVariants.{Refused}
 use Rattle.mvd_wire.specs.declared.request.Request.{Request}
 use Rattle.mvd_wire.specs.declared.request.Request.TheVariants.{Push}
-use Rattle.mvd_wire.specs.Replies.{CanBeSent}
 use Rattle.mvd_records.specs.Foreign.{HoldsForeign}
-use Rattle.mvd_records.specs.Records.{HoldsRecords, IsSound}
+use Rattle.mvd_records.specs.Records.{IsSound}
 use Rattle.mvd_site.specs.Answer.{digests, node_digests}
-use Rattle.mvd_site.specs.Change.{ChangeValue}
 use Rattle.mvd_site.specs.Config.{ConfigValue}
 use Rattle.mvd_site.specs.FromStates.{after_from, bucket_refusal, push_reply, unless_broken, with_state}
 use Rattle.mvd_site.specs.Held.{state_at}
 use Rattle.mvd_site.specs.Installs.{broken_site}
 use Rattle.mvd_site.specs.Known.{Adds}
-use Rattle.mvd_site.specs.Prepared.{IsFrugal, is_refusal}
 use Rattle.mvd_site.specs.Sites.{SiteValue}
 use Rattle.sqlite.specs.Held.{Held, state}
-use Rattle.sqlite.specs.State.{IsLive, Survives}
+use Rattle.sqlite.specs.State.{Survives}
 use Rattle.sqlite_trees.specs.declared.store.Store.{Ghosts}
 use Rattle.mvd_replica.specs.declared.replica.Replica.{Replica}
-use Rattle.mvd_replica.specs.Batch.{AnswersAll, AnswersFront, CountsAlong, changes_asked}
-use Rattle.mvd_replica.specs.Holds.{HoldsSite, HoldsStates, Stores}
+use Rattle.mvd_replica.specs.Commits.{AnswersEach, ChangesNothing}
+use Rattle.mvd_replica.specs.Batch.{CountsAlong, changes_asked}
+use Rattle.mvd_replica.specs.Holds.{HoldsSite, HoldsStates}
 use Rattle.mvd_replica.specs.Opened.{IsOpened, IsRefused}
-use Rattle.mvd_replica.specs.Replicas.{CountsChange, CountsUpTo, KeepsCommit, RecordsFollow, TakesIfOpen, WasClean, WasSound, commits_of, committed_of, conn_of, next_count, site_of, store_of, stored_of}
+use Rattle.mvd_replica.specs.Replicas.{CountsUpTo, KeepsCommit, TakesIfOpen, WasClean, commits_of, committed_of, conn_of, site_of, store_of, stored_of}
 use Rattle.mvd_replica.specs.Sides.{AnswersFromStored, ReplicaFollows}
-use Rattle.mvd_replica.specs.Stops.{LeavesAnswered, LeavesChange}
+use Rattle.mvd_replica.specs.Stops.{LeavesRequests}
 use Rattle.mvd_replica.specs.Turns.{AnswersStored, LeavesTurns, Turn}
-
--- the request would change nothing
-abbrev pub ChangesNothing : SiteValue → Request → Type 0
-ChangesNothing site request = after_from site.config site.states request ≡ site.states
 
 -- ---- questions by reference
 
@@ -100,7 +93,7 @@ module _ {S : Type 0} {g : Ghosts S} where
     pub holds : (site_of replica).broken ≡ false → HoldsSite (site_of replica) (committed_of replica) →
         HoldsStates (site_of replica).config.site (site_of replica).states (state g conn).committed
 
-  -- ---- a change
+  -- ---- push
 
   -- where it breaks the site, the records hold the states that the site had, with what the request changes
   abbrev pub StoresThoughBroken : Replica S g → Request → Type 0 → Replica S g → Type 0
@@ -110,82 +103,10 @@ module _ {S : Type 0} {g : Ghosts S} where
 
   -- a crash leaves what it left before the call, or the states with what the request changes
   abbrev pub SurvivesRequest : Replica S g → Request → Replica S g → Type 0
-  SurvivesRequest old request new = Survives (store_of old) (store_of new) (LeavesAnswered (site_of old) request (store_of old))
+  SurvivesRequest old request new =
+      Survives (store_of old) (store_of new) (LeavesRequests (site_of old) (request ∷ []) (store_of old))
 
-  -- where the store is sound, the records stay those of a site of this number
-  abbrev pub KeepsRecords : Replica S g → Replica S g → Type 0
-  KeepsRecords old new = (number : ℕ) → IsSound (store_of new) → HoldsRecords 2 number (committed_of old) → HoldsRecords 2 number (committed_of new)
-
-  -- and then hold the change, unless the store refused it
-  abbrev pub StoresChange : {A : Type 0} → Replica S g → ChangeValue → Result A Refusal → Replica S g → Type 0
-  StoresChange old change result new =
-      (number : ℕ) → IsSound (store_of new) → HoldsRecords 2 number (committed_of old) → Stores (committed_of old) (committed_of new) change result
-
-  -- a commit is counted, unless the store refused it
-  abbrev pub CountsPut : {A : Type 0} → Replica S g → Result A Refusal → Replica S g → Type 0
-  CountsPut old result new =
-      ((result ≡ Err Store) × (commits_of new ≡ commits_of old)) ⊎ ((result ≢ Err Store) × (commits_of new ≡ next_count (commits_of old)))
-
-  -- a change that the store refused leaves the last commit as it was
-  abbrev pub UnlessStored : {A : Type 0} → Replica S g → Result A Refusal → Replica S g → Type 0
-  UnlessStored old result new = IsSound (store_of new) → result ≡ Err Store → committed_of new ≡ committed_of old
-
-  -- a crash leaves what it left before the call, or the records with the change
-  abbrev pub SurvivesChange : Replica S g → ChangeValue → Replica S g → Type 0
-  SurvivesChange old change new = Survives (store_of old) (store_of new) (LeavesChange (site_of old) change (store_of old))
-
-  -- ---- answer
-
-  -- one request, with its reply
-  pub record Answers (old : Replica S g) (request : Request) (reply : Reply) (new : Replica S g) : Type 0 where
-    -- the reply is one that may be given, from any writes that the states stand for
-    pub answer : AnswersStored (site_of old) (site_of new) request reply
-    -- of a site that is not broken it is what the states alone give, or 20, 21 or 22
-    pub states : AnswersFromStored (site_of old) (site_of new) request reply
-    -- there are writes that it adds, so what `answer` says for all such writes is not empty
-    pub choice : (added : List Write) × Adds request reply added
-    -- what the site was set up with stays
-    pub config : (site_of new).config ≡ (site_of old).config
-    -- the reply is not too long for its frame
-    pub fits : CanBeSent reply
-    -- it counts one commit where the site is not as it was, and else none
-    pub counts : CountsChange old new
-    -- and one for a change that is told done
-    pub counted : (ChangesNothing (site_of old) request → ⊥) → is_refusal reply ≡ false → commits_of new ≡ next_count (commits_of old)
-    -- a request that takes no memory is not told want of it
-    pub frugal : IsFrugal (site_of old).states request → reply ≢ Refused Memory
-    -- where 22 is told, the site is broken
-    pub told : reply ≡ Refused Broken → (site_of new).broken ≡ true
-    -- and where the site is broken, 22 is told
-    pub broken : (site_of new).broken ≡ true → reply ≡ Refused Broken
-    -- a broken replica stays as it is
-    pub stays : (site_of old).broken ≡ true → new ≡ old
-    -- a refusal other than 22 leaves the site as it was
-    pub unchanged : (refusal : Refusal) → reply ≡ Refused refusal → refusal ≢ Broken → site_of new ≡ site_of old
-    -- and, where the store is sound, the last commit; where it is not, the next open may find the change (`survives`)
-    pub unstored : (refusal : Refusal) → IsSound (store_of new) → reply ≡ Refused refusal → refusal ≢ Broken → committed_of new ≡ committed_of old
-    -- what would change nothing leaves all as it was
-    pub still : ChangesNothing (site_of old) request → new ≡ old
-    -- a change is taken only with the store open
-    pub taken : TakesIfOpen old new
-    -- the disk that is clean now was clean before
-    pub clean : WasClean old new
-    -- the store that is sound now was sound before
-    pub before : WasSound old new
-    -- while the store was open, its database listed its schema and obeyed it
-    pub live : IsLive (store_of old)
-    -- where the store is sound, the records follow the states
-    pub records : RecordsFollow old new
-    -- where the change breaks the site, they hold the states with the change in
-    pub stored : StoresThoughBroken old request (reply ≡ Refused Broken) new
-    -- a crash leaves what it left before the call, or the states with the request's change
-    pub survives : SurvivesRequest old request new
-    -- and so of a site at rest the states, and maybe the change where 21 or 22 is told
-    pub leaves : LeavesTurns (record { asked = Ok request; reply = reply } ∷ []) (stored_of old) (stored_of new)
-
-  -- ---- push
-
-  -- What of that an asker may count on
+  -- What of an answer an asker may count on
   pub record ReplicaAnswers (old new : Replica S g) (request : Request) (reply : Reply) : Type 0 where
     -- the reply is one that may be given, from any writes that the states stand for
     pub replies : AnswersStored (site_of old) (site_of new) request reply
@@ -256,23 +177,7 @@ module _ {S : Type 0} {g : Ghosts S} where
   -- requests one after the other
   pub record AnswersMany (old : Replica S g) (requests : List Request) (result : Result (Vec Reply Global) Refusal)
       (new : Replica S g) : Type 0 where
-    -- each request has its reply, as one turn after the other
-    pub answers : IfOk result (λ replies. AnswersAll requests replies.items (stored_of old) (stored_of new))
-    -- it counts a commit only at a turn that changed the site, and at least one unless the site is as it was
-    pub counts : IfOk result (λ replies. CountsCommits requests replies.items old new)
-    -- what would change nothing leaves all as it was
-    pub still : StaysStill requests old new
+    -- each request has its reply, in commits one after the other
+    pub answers : IfOk result (λ replies. AnswersEach requests replies.items old new)
     -- the call itself is refused for want of memory alone, and then nothing was done
     pub memory : IfErr result (λ refusal. (refusal ≡ Memory) × (new ≡ old))
-
-  -- some of the requests, from the first on, whose replies stand behind those before
-  abbrev pub AnswersSome : Replica S g → List Request → List Reply → List Reply → Replica S g → Type 0
-  AnswersSome old requests before after new =
-      (front : AnswersFront requests before after (stored_of old) (stored_of new))
-      × CountsCommits (take front.count requests) front.replies old new × StaysStill (take front.count requests) old new
-
-  -- all of them
-  abbrev pub AnswersEach : Replica S g → List Request → List Reply → List Reply → Replica S g → Type 0
-  AnswersEach old requests before after new =
-      (told : List Reply) × (after ≡ before ++ told)
-      × AnswersAll requests told (stored_of old) (stored_of new) × CountsCommits requests told old new

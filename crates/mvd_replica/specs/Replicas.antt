@@ -67,12 +67,6 @@ module _ {S : Type 0} {g : Ghosts S} where
   abbrev pub CountsUpTo : ℕ → Replica S g → Replica S g → Type 0
   CountsUpTo most old new = commits_of new ≤ commits_of old + most
 
-  -- it counts one more where the site is not as it was, and else none
-  abbrev pub CountsChange : Replica S g → Replica S g → Type 0
-  CountsChange old new =
-      ((site_of new ≡ site_of old) × (commits_of new ≡ commits_of old))
-      ⊎ ((site_of new ≢ site_of old) × (commits_of new ≡ next_count (commits_of old)))
-
   -- the last commit is the same
   abbrev pub KeepsCommit : Replica S g → Replica S g → Type 0
   KeepsCommit old new = IsSound (store_of new) → committed_of new ≡ committed_of old

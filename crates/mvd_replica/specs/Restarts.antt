@@ -44,7 +44,7 @@ abbrev pub left_in : {C : Type 0} → (C → State) → Run C → StoredSite
 left_in f run = record { site = run.new; store = f run.after }
 
 -- What the calls of a run promise. `open_file` opened the file. `serve`, or a host of many clients in its rounds, took the turns.
--- `key_count` tells that the states are held ones. `close` left the file. And the store is sound: nobody else has written the file,
+-- `stands` tells that the states are held ones. `close` left the file. And the store is sound: nobody else has written the file,
 -- its disk has returned what was written, and no failure has shut it.
 pub record IsRun {C : Type 0} (f : C → State) (run : Run C) : Type 0 where
   pub config : run.old.config ≡ run.config

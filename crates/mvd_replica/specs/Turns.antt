@@ -109,6 +109,12 @@ abbrev pub IsFirstBroken : List Turn → Request → Type 0
 IsFirstBroken [] request = ⊥
 IsFirstBroken (turn ∷ turns) request = IsToldBroken request turn ⊎ (IsToldElse turn × IsFirstBroken turns request)
 
+-- some of the turns, in order, asked these requests
+abbrev pub AreAskedIn : List Turn → List Request → Type 0
+AreAskedIn turns [] = ⊤
+AreAskedIn [] (request ∷ requests) = ⊥
+AreAskedIn (turn ∷ turns) (request ∷ requests) = ((turn.asked ≡ Ok request) × AreAskedIn turns requests) ⊎ AreAskedIn turns (request ∷ requests)
+
 -- the turn asked this request, and the store refused it, or it broke the site
 abbrev pub IsToldUndone : Request → Turn → Type 0
 IsToldUndone request turn = (turn.asked ≡ Ok request) × ((turn.reply ≡ Refused Store) ⊎ (turn.reply ≡ Refused Broken))

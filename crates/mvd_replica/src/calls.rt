@@ -7,7 +7,8 @@ ghost use Rattle.mvd_site.specs.Prepared.{IsFrugal};
 ghost use Rattle.mvd_wire.specs.declared.reply.Reply.TheVariants.{Refused};
 ghost use Rattle.mvd_replica.specs.Asks.{ArePlaces, AreRows, IsDone, IsReplyTo, IsRow, IsWritten};
 ghost use Rattle.mvd_replica.specs.Asks.{TellsAnswer, put_reply, question_told, row_told};
-ghost use Rattle.mvd_replica.specs.ReplicaCalls.{Answers, ReplicaAnswers, TellsRoot};
+ghost use Rattle.mvd_replica.specs.Commits.{Answers};
+ghost use Rattle.mvd_replica.specs.ReplicaCalls.{ReplicaAnswers, TellsRoot};
 ghost use Rattle.mvd_replica.specs.Replicas.{site_of};
 
 use crate::replica::Replica;

@@ -2,7 +2,10 @@
 ghost use Rattle.std.specs.Prelude.{◌≡◌, ◌≤◌, ◌<◌, ◌+◌, ◌++◌, [], IfErr, IfOk, drop, false, length, map, take, true, vec_capacity};
 ghost use Rattle.std.specs.List.{AllByRecursion};
 ghost use Rattle.mvd_records.specs.Pairs.{entries_of};
+ghost use Rattle.mvd_dots.specs.declared.refusals.Refusal.TheVariants.{Broken};
+ghost use Rattle.mvd_kept.specs.declared.prepared.Prepared.TheVariants.{Answer};
 ghost use Rattle.mvd_wire.specs.Codecs.{spell_state};
+ghost use Rattle.mvd_wire.specs.declared.reply.Reply.TheVariants.{Refused};
 ghost use Rattle.mvd_site.specs.Installs.{changes_in, is_change};
 ghost use Rattle.mvd_replica.specs.Groups.{ComesTo, FirstWaits, IsApart, IsElsewhere, IsSendable, MayJoin, MustWait};
 ghost use Rattle.mvd_replica.specs.Groups.{SeesAny, StandTogether, pairs_in, reply_unstored};
@@ -96,7 +99,8 @@ fn changes_of(prepared: &Prepared) -> u32
 }
 
 /// What a request comes to, a refusal as the reply that tells it.
-fn prepare_one(site: &Site, request: &Request) -> Prepared
+pub fn prepare_one(site: &Site, request: &Request) -> Prepared
+    ensures broken { site.now.broken ≡ true → result ≡ Answer (Refused Broken) }
     ensures comes { site.now.broken ≡ false →
         ComesTo site.now.config site.now.states request.now result × IsSendable request.now result }
 {

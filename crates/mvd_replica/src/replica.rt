@@ -5,16 +5,17 @@ ghost use Rattle.std.specs.FinMap as map;
 ghost use Rattle.mvd_dots.specs.Answer.{IsAnswer};
 ghost use Rattle.mvd_wire.specs.declared.request.Request.TheVariants.{Push};
 ghost use Rattle.mvd_wire.specs.declared.reply.Reply.TheVariants.{Refused};
-ghost use Rattle.mvd_site.specs.Held.{AreHeld, IsHeldState};
-ghost use Rattle.mvd_site.specs.Prepared.{IsChangeNow, is_refusal};
-ghost use Rattle.mvd_site.specs.Sites.{has_no_room};
+ghost use Rattle.mvd_site.specs.Held.{AreHeld};
+ghost use Rattle.mvd_site.specs.Prepared.{is_refusal};
+ghost use Rattle.sqlite.specs.State.{IsLive};
 ghost use Rattle.mvd_replica.specs.Pushes.{told_of};
 
+use crate::groups::prepare_one;
 use crate::restoring::site_in;
 use mvd_dots::Refusal;
 use mvd_keys::{Key, KeyState, Path};
 use mvd_records::Records;
-use mvd_site::{Change, Config, Prepared, Site};
+use mvd_site::{Config, Prepared, Site};
 use mvd_wire::{Digests, Reply, Request};
 use sqlite::{Alter, Connection};
 use std::alloc::Global;
@@ -31,11 +32,10 @@ pub struct Replica<S: Alter> {
 }
 
 impl<S: Alter> Replica<S> {
-    ghost use Rattle.mvd_replica.specs.Holds.{PutsIn};
-    ghost use Rattle.mvd_replica.specs.ReplicaCalls.{Answers, GivesConnection, OpensReplica, PushesState};
-    ghost use Rattle.mvd_replica.specs.ReplicaCalls.{CountsPut, KeepsRecords, StoresChange, SurvivesChange};
-    ghost use Rattle.mvd_replica.specs.ReplicaCalls.{TellsPage, TellsState, UnlessStored, node_told};
-    ghost use Rattle.mvd_replica.specs.Replicas.{TakesIfOpen, WasClean, WasSound, commits_of, site_of};
+    ghost use Rattle.mvd_replica.specs.Commits.{Answers};
+    ghost use Rattle.mvd_replica.specs.ReplicaCalls.{GivesConnection, OpensReplica, PushesState};
+    ghost use Rattle.mvd_replica.specs.ReplicaCalls.{TellsPage, TellsState, node_told};
+    ghost use Rattle.mvd_replica.specs.Replicas.{commits_of, site_of, store_of};
 
     /// The replica of a site, with the states that its records hold. Records of version 1 are moved to
     /// version 2 first, key by key. A refusal gives the connection back. Another program's database is
@@ -53,18 +53,27 @@ impl<S: Alter> Replica<S> {
         };
         match site_in(alloc, &mut records, config) {
             Ok(site) => {
-                // Here it is known that what is held has spellings, and that the database obeys its schema.
-                let _held = site.key_count();
-                let _version = records.version();
-                Ok(Replica {
+                let replica = Replica {
                     alloc,
                     site,
                     records,
                     commits: 0,
-                })
+                };
+                replica.stands();
+                Ok(replica)
             }
             Err(refusal) => Err((refusal, records.into_connection())),
         }
+    }
+
+    /// What holds of any replica: each key that is held is one, each state has seen a dot and has a spelling within
+    /// the limit, and while its store is open the database lists its schema and obeys it.
+    pub fn stands(&self)
+        ensures held { AreHeld (site_of self.now).states }
+        ensures live { IsLive (store_of self.now) }
+    {
+        let _held = self.site.key_count();
+        let _version = self.records.version();
     }
 
     pub fn config(&self) -> &Config
@@ -77,8 +86,6 @@ impl<S: Alter> Replica<S> {
     pub fn key_count(&self) -> u32
         ensures count { result ≡ map.len (site_of self.now).states }
         ensures room { result ≤ (site_of self.now).config.max_keys }
-        // Each key that is held is one, and each state has seen a dot and has a spelling within the limit.
-        ensures held { AreHeld (site_of self.now).states }
     {
         self.site.key_count()
     }
@@ -102,32 +109,9 @@ impl<S: Alter> Replica<S> {
     pub fn into_connection(self) -> Connection<S>
         ensures { GivesConnection self result }
     {
-        // Here it is known that what is held has spellings.
-        let _held = self.site.key_count();
+        self.stands();
         let Replica { records, .. } = self;
         records.into_connection()
-    }
-
-    /// Stores a change and puts it in.
-    fn put_in(&mut self, change: Change) -> Result<(), Refusal>
-        requires room { has_no_room (site_of self.old).config (site_of self.old).states change.key ≡ false }
-        requires held { IsHeldState change.state }
-        requires fresh { IsChangeNow (site_of self.old) change }
-        ensures site { PutsIn (site_of self.old) (site_of self.new) change result }
-        ensures before { WasSound self.old self.new }
-        ensures kept { KeepsRecords self.old self.new }
-        ensures stored { StoresChange self.old change result self.new }
-        ensures taken { TakesIfOpen self.old self.new }
-        ensures counts { CountsPut self.old result self.new }
-        ensures clean { WasClean self.old self.new }
-        ensures unchanged { UnlessStored self.old result self.new }
-        ensures survives { SurvivesChange self.old change self.new }
-    {
-        match self.records.save(change.key(), change.bytes()) {
-            Ok(()) => self.commits = self.commits.saturating_add(1),
-            Err(refusal) => return Err(refusal),
-        }
-        self.site.install(change)
     }
 
     /// Answers one request: the change is prepared, then stored, and then put in. A refusal other than
@@ -136,21 +120,12 @@ impl<S: Alter> Replica<S> {
     pub fn answer(&mut self, request: &Request) -> Reply
         ensures { Answers self.old request.now result self.new }
     {
-        // Here it is known that the database obeys its schema.
-        let _version = self.records.version();
-        match self.site.prepare(request) {
-            Err(refusal) => Reply::Refused(refusal),
-            Ok(Prepared::Answer(reply)) => reply,
-            Ok(Prepared::Change(change)) => {
-                // Here it is known that what is held and what comes in have spellings.
-                let _held = self.site.key_count();
-                let _state = change.state();
-                let reply = change.reply();
-                match self.put_in(change) {
-                    Ok(()) => reply,
-                    Err(refusal) => Reply::Refused(refusal),
-                }
-            }
+        match prepare_one(&self.site, request) {
+            Prepared::Answer(reply) => reply,
+            Prepared::Change(change) => match self.put_in(change) {
+                Ok(reply) => reply,
+                Err(refusal) => Reply::Refused(refusal),
+            },
         }
     }
 

@@ -79,11 +79,11 @@ impl<S: Alter> Peer for Replica<S> {
     fn push(&mut self, key: &Key, state: &KeyState) -> Result<(), Refusal>
         ensures { PushesOnSide self.old key.now state.now result self.new }
     {
-        // Here it is known that the pushed state's siblings have been seen, and then what holds of any site.
+        // Here it is known that the pushed state's siblings have been seen.
         let _seen = state.context();
-        let _held_before = self.key_count();
+        self.stands();
         let pushed = Replica::push(self, key, state);
-        let _held = self.key_count();
+        self.stands();
         pushed
     }
 
@@ -99,11 +99,11 @@ impl<S: Alter> Peer for Replica<S> {
         ensures unbroken { IsTrueSite (site_of self.old) → IfErr result (IsTrueUnlessBroken self.new) }
         ensures first { IsTrueSite (site_of self.old) → OnErr result (PushesSome self.old pairs.now self.new) }
     {
-        let _held_before = self.key_count();
+        self.stands();
         let mut told = Vec::with_capacity(self.alloc, pairs.len())?;
         let requests = pushes_of(self.alloc, pairs)?;
         let replies = self.answer_all(&requests)?;
-        let _held = self.key_count();
+        self.stands();
         if self.is_broken() {
             return Err(Refusal::Broken);
         }

@@ -2,7 +2,8 @@ use Rattle.std.proofs.Common.{◌≡◌, [], ◌∷◌, sym, ap, subst, ◌∙�
 use Rattle.sqlite.specs.Held.{state}
 use Rattle.mvd_wire.specs.Requests.{request_of}
 use Rattle.mvd_replica.proofs.Answering.{asked_as, refused_frame, replied}
-use Rattle.mvd_replica.proofs.Sides.{follows_wider, follows_by}
+use Rattle.mvd_replica.proofs.Commits.{answer_broken, answer_config, answer_follows, answers_one, answers_stored}
+use Rattle.mvd_replica.proofs.Sides.{follows_wider}
 use Rattle.mvd_replica.specs.Replicas.{stored_of}
 use Rattle.mvd_replica.specs.Sides.{replica_follows_self}
 use Rattle.mvd_replica.specs.Whole.{leaves_self}
@@ -17,9 +18,12 @@ returns-in-Err-clause-told g c =
 pub returns-clause-told : goal.returns-clause-told
 returns-clause-told g c =
     let same : request_of c.args.frame.now.kind c.args.frame.now.payload.items ≡ request_of c.args.frame.now.kind c.deref.result.now = ap (request_of c.args.frame.now.kind) (sym c.deref.ensures.value) in
+    let said = c.answer.ensures in
+    let one = answers_one c.args.replica.now c.answer.new.self c.in-Ok.request c.answer.result said in
     replied c.args.replica.now.site c.answer.new.self.site (request_of c.args.frame.now.kind c.args.frame.now.payload.items) c.in-Ok.request c.answer.result (same ∙ c.in-Ok.ensures.exact)
-    c.answer.ensures.answer c.answer.ensures.states c.answer.ensures.fits (c.is_bye.ensures.no c.if-is_bye.false) c.answer.ensures.choice c.answer.ensures.config c.answer.ensures.broken c.answer.ensures.told
-    (λ broken. ap (λ r. r.site) (c.answer.ensures.stays broken))
+    (answers_stored c.args.replica.now c.answer.new.self c.in-Ok.request c.answer.result said) one.whole one.fits (c.is_bye.ensures.no c.if-is_bye.false) one.choice
+    (answer_config c.args.replica.now c.answer.new.self c.in-Ok.request c.answer.result said) (answer_broken c.args.replica.now c.answer.new.self c.in-Ok.request c.answer.result said) one.told
+    (λ broken. (one.broken broken).1)
 
 pub returns-in-Err-clause-follows : goal.returns-in-Err-clause-follows
 returns-in-Err-clause-follows g c = replica_follows_self _
@@ -31,9 +35,7 @@ pub returns-clause-follows : goal.returns-clause-follows
 returns-clause-follows g c =
     let same : request_of c.args.frame.now.kind c.args.frame.now.payload.items ≡ request_of c.args.frame.now.kind c.deref.result.now = ap (request_of c.args.frame.now.kind) (sym c.deref.ensures.value) in
     follows_wider _ _ _ _ _ _ (λ request is. asked_as (request_of c.args.frame.now.kind c.args.frame.now.payload.items) (request_of c.args.frame.now.kind c.deref.result.now) c.in-Ok.request request same c.in-Ok.ensures.exact is)
-    (follows_by c.args.replica.now.site c.answer.new.self.site c.in-Ok.request c.answer.result (state g.S.Store c.args.replica.now.records.conn) (state g.S.Store c.answer.new.self.records.conn)
-    c.answer.ensures.config (λ broken. ap (λ r. r.site) (c.answer.ensures.stays broken)) (λ broken. ap (λ r. (state g.S.Store r.records.conn).committed) (c.answer.ensures.stays broken))
-    c.answer.ensures.before c.answer.ensures.records c.answer.ensures.clean c.answer.ensures.taken c.answer.ensures.broken c.answer.ensures.states c.answer.ensures.stored)
+    (answer_follows c.args.replica.now c.answer.new.self c.in-Ok.request c.answer.result c.answer.ensures)
 
 pub returns-in-Err-clause-leaves : goal.returns-in-Err-clause-leaves
 returns-in-Err-clause-leaves g c = leaves_self _ _ tt

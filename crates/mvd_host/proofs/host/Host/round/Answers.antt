@@ -6,6 +6,7 @@ use Rattle.mvd_host.proofs.RoundLemmas.{Answered, answered_err, answered_none, a
 use Rattle.std.specs.List.{AllByRecursion}
 use Rattle.mvd_dots.specs.declared.refusals.Refusal.{Refusal}
 use Rattle.mvd_wire.specs.Replies.{CanBeSent}
+use Rattle.mvd_replica.proofs.Commits.{answers_all}
 use Rattle.mvd_replica.proofs.Positions.{AnswersAll}
 use Rattle.sqlite.specs.Held.{state}
 use Rattle.mvd_host.specs.declared.host.Host.TheInside.{Inside}
@@ -22,7 +23,7 @@ queue_replies-requires-clause-due g c =
     let took = c.take_all-refused.ensures.took.0 in
     let all = took.all in
     let taken = c.take_all-refused.new.self in
-    let a = c.in-Ok.ensures.answers in
+    let a = answers_all _ _ _ _ c.in-Ok.ensures.answers in
     let old = c.self.inside.clients.entries in
     let mid = c.take_all-refused.new.clients.entries in
     let ts = zip (map (λ (r : ℕ × Request). r.0) all.requests) a.turns in
@@ -45,7 +46,7 @@ queue_refused-requires g c =
 
 pub queue_replies-requires-clause-fits : goal.queue_replies-requires-clause-fits
 queue_replies-requires-clause-fits g c =
-    let a = c.in-Ok.ensures.answers in
+    let a = answers_all _ _ _ _ c.in-Ok.ensures.answers in
     subst (λ (b : List Reply). AllByRecursion (λ (r : ℕ × Reply). CanBeSent r.1) (zip c.deref-in-Ok.result.now b)) (a.told ∙ sym c.deref-in-Ok-2.ensures.value) (zip_fits c.deref-in-Ok.result.now a.turns a.takes.fits)
 
 pub queue_faults-requires : goal.queue_faults-requires
@@ -60,7 +61,7 @@ queue_faults-requires g c =
     elim c.match-answer_all.branch [
       | in-Ok w ↦ subst (λ (s : Inside). Answered all.requests mid s.clients.entries c.args.replica.now.site c.answer_all.new.self.site (state g.S.Store c.args.replica.now.records.conn) (state g.S.Store c.answer_all.new.self.records.conn)) (sym w.self-inside-is)
           (answered_ok all.requests c.deref.result.now w.deref-in-Ok.result.now w.deref-in-Ok-2.result.now mid w.queue_replies.new.clients.entries _ _ _ _ (c.deref.ensures.value ∙ all.holds.requests_are) (w.deref-in-Ok.ensures.value ∙ all.holds.clients)
-          (subst (λ (l : List Reply). AnswersAll c.deref.result.now l _ _ _ _) (sym w.deref-in-Ok-2.ensures.value) w.in-Ok.ensures.answers) w.queue_replies.ensures.queues)
+          (subst (λ (l : List Reply). AnswersAll c.deref.result.now l _ _ _ _) (sym w.deref-in-Ok-2.ensures.value) (answers_all _ _ _ _ w.in-Ok.ensures.answers)) w.queue_replies.ensures.queues)
       | in-Err w ↦ subst (λ (s : Inside). Answered all.requests mid s.clients.entries c.args.replica.now.site c.answer_all.new.self.site (state g.S.Store c.args.replica.now.records.conn) (state g.S.Store c.answer_all.new.self.records.conn)) (sym w.self-inside-is)
           (subst (λ r. Answered all.requests mid w.queue_refused.new.clients.entries c.args.replica.now.site r.site (state g.S.Store c.args.replica.now.records.conn) (state g.S.Store r.records.conn)) (sym w.in-Err.ensures.memory.1)
           (answered_err all.requests w.deref-in-Err.result.now w.in-Err.refusal mid w.queue_refused.new.clients.entries c.args.replica.now.site (state g.S.Store c.args.replica.now.records.conn) (w.deref-in-Err.ensures.value ∙ all.holds.clients) w.in-Err.ensures.memory.0 w.queue_refused.ensures.queues))
@@ -118,7 +119,7 @@ invariant_of-self-2 g c =
     elim c.match-answer_all.branch [
       | in-Ok w ↦ subst (λ (s : Inside). Answered all.requests mid s.clients.entries c.args.replica.now.site c.answer_all.new.self.site (state g.S.Store c.args.replica.now.records.conn) (state g.S.Store c.answer_all.new.self.records.conn)) (sym w.self-inside-is)
           (answered_ok all.requests c.deref.result.now w.deref-in-Ok.result.now w.deref-in-Ok-2.result.now mid w.queue_replies.new.clients.entries _ _ _ _ (c.deref.ensures.value ∙ all.holds.requests_are) (w.deref-in-Ok.ensures.value ∙ all.holds.clients)
-          (subst (λ (l : List Reply). AnswersAll c.deref.result.now l _ _ _ _) (sym w.deref-in-Ok-2.ensures.value) w.in-Ok.ensures.answers) w.queue_replies.ensures.queues)
+          (subst (λ (l : List Reply). AnswersAll c.deref.result.now l _ _ _ _) (sym w.deref-in-Ok-2.ensures.value) (answers_all _ _ _ _ w.in-Ok.ensures.answers)) w.queue_replies.ensures.queues)
       | in-Err w ↦ subst (λ (s : Inside). Answered all.requests mid s.clients.entries c.args.replica.now.site c.answer_all.new.self.site (state g.S.Store c.args.replica.now.records.conn) (state g.S.Store c.answer_all.new.self.records.conn)) (sym w.self-inside-is)
           (subst (λ r. Answered all.requests mid w.queue_refused.new.clients.entries c.args.replica.now.site r.site (state g.S.Store c.args.replica.now.records.conn) (state g.S.Store r.records.conn)) (sym w.in-Err.ensures.memory.1)
           (answered_err all.requests w.deref-in-Err.result.now w.in-Err.refusal mid w.queue_refused.new.clients.entries c.args.replica.now.site (state g.S.Store c.args.replica.now.records.conn) (w.deref-in-Err.ensures.value ∙ all.holds.clients) w.in-Err.ensures.memory.0 w.queue_refused.ensures.queues))
@@ -148,7 +149,7 @@ returns-clause-round g c =
     elim c.match-answer_all.branch [
       | in-Ok w ↦ subst (λ (s : Inside). Answered all.requests mid s.clients.entries c.args.replica.now.site c.answer_all.new.self.site (state g.S.Store c.args.replica.now.records.conn) (state g.S.Store c.answer_all.new.self.records.conn)) (sym w.self-inside-is)
           (answered_ok all.requests c.deref.result.now w.deref-in-Ok.result.now w.deref-in-Ok-2.result.now mid w.queue_replies.new.clients.entries _ _ _ _ (c.deref.ensures.value ∙ all.holds.requests_are) (w.deref-in-Ok.ensures.value ∙ all.holds.clients)
-          (subst (λ (l : List Reply). AnswersAll c.deref.result.now l _ _ _ _) (sym w.deref-in-Ok-2.ensures.value) w.in-Ok.ensures.answers) w.queue_replies.ensures.queues)
+          (subst (λ (l : List Reply). AnswersAll c.deref.result.now l _ _ _ _) (sym w.deref-in-Ok-2.ensures.value) (answers_all _ _ _ _ w.in-Ok.ensures.answers)) w.queue_replies.ensures.queues)
       | in-Err w ↦ subst (λ (s : Inside). Answered all.requests mid s.clients.entries c.args.replica.now.site c.answer_all.new.self.site (state g.S.Store c.args.replica.now.records.conn) (state g.S.Store c.answer_all.new.self.records.conn)) (sym w.self-inside-is)
           (subst (λ r. Answered all.requests mid w.queue_refused.new.clients.entries c.args.replica.now.site r.site (state g.S.Store c.args.replica.now.records.conn) (state g.S.Store r.records.conn)) (sym w.in-Err.ensures.memory.1)
           (answered_err all.requests w.deref-in-Err.result.now w.in-Err.refusal mid w.queue_refused.new.clients.entries c.args.replica.now.site (state g.S.Store c.args.replica.now.records.conn) (w.deref-in-Err.ensures.value ∙ all.holds.clients) w.in-Err.ensures.memory.0 w.queue_refused.ensures.queues))

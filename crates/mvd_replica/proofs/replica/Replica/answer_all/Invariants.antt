@@ -1,7 +1,5 @@
 use Rattle.std.proofs.Common.{◌-◌, ◌≤◌, length, take, vec_capacity}
-use Rattle.sqlite.specs.Held.{state}
-use Rattle.mvd_replica.specs.ReplicaCalls.{CountsCommits, StaysStill}
-use Rattle.mvd_replica.proofs.Positions.{AnswersAll}
+use Rattle.mvd_replica.specs.Commits.{AnswersEach}
 use Rattle.mvd_replica.proofs.replica.Replica.answer_all.Given as goal
 
 abbrev pub decreases-groups : goal.decreases-groups
@@ -10,9 +8,7 @@ decreases-groups g l = length l.requests - length l.replies.items
 -- those so far are answered
 abbrev pub invariant-groups : goal.invariant-groups
 invariant-groups g l = record {
-  answers : AnswersAll (take (length l.replies.items) l.requests) l.replies.items l.initial.self.site l.self.site (state g.S.Store l.initial.self.records.conn) (state g.S.Store l.self.records.conn);
+  answers : AnswersEach (take (length l.replies.items) l.requests) l.replies.items l.initial.self l.self;
   within : length l.replies.items ≤ length l.requests;
   room : length l.requests ≤ vec_capacity l.replies;
-  counts : CountsCommits (take (length l.replies.items) l.requests) l.replies.items l.initial.self l.self;
-  still : StaysStill (take (length l.replies.items) l.requests) l.initial.self l.self;
 }

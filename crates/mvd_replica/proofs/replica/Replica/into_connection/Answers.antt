@@ -9,5 +9,5 @@ returns g c = record {
   same = c.into_connection.ensures;
   holds = λ whole holds. (
       let site = c.args.self.site in
-      subst (λ k. HoldsStates site.config.site site.states (state g.S.Store k).committed) (sym c.into_connection.ensures) (holds_states site _ whole c.key_count-held.ensures.held.spelled holds));
+      subst (λ k. HoldsStates site.config.site site.states (state g.S.Store k).committed) (sym c.into_connection.ensures) (holds_states site _ whole c.stands.ensures.held.spelled holds));
 }

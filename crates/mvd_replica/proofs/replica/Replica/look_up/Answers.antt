@@ -1,11 +1,17 @@
-use Rattle.std.proofs.Common.{◌≡◌, false, true≢false, Ok, subst}
+use Rattle.std.proofs.Common.{◌≡◌, ◌∙◌, ap, false, sym, true, true≢false, Ok, subst}
+use Rattle.mvd_dots.specs.declared.refusals.Refusal.{Refusal}
 use Rattle.mvd_dots.specs.declared.refusals.Refusal.TheVariants.{Memory}
-use Rattle.mvd_site.specs.Prepared.{IsReady, PreparesFrom}
+use Rattle.mvd_wire.specs.declared.reply.Reply.{Reply}
+use Rattle.mvd_wire.specs.declared.reply.Reply.TheVariants.{Refused}
+use Rattle.mvd_site.specs.Prepared.{IsReady, PreparesFrom, is_refusal}
 use Rattle.mvd_site.proofs.Outcomes.{whole_where_ok}
 use Rattle.mvd_site.proofs.Pushes.{refusal_is}
 use Rattle.mvd_replica.proofs.Asking.{tells_refusal, told_is, whole_tells}
-use Rattle.mvd_replica.proofs.ReplicaLemmas.{plain_no_refusal}
 use Rattle.mvd_replica.proofs.replica.Replica.look_up.Goals as goal
+
+-- a reply that refuses nothing is no refusal
+plain_no_refusal : (reply : Reply) (refusal : Refusal) → is_refusal reply ≡ false → reply ≡ Refused refusal → true ≡ false
+plain_no_refusal reply refusal plain is = sym (ap is_refusal is) ∙ plain
 
 pub returns-in-Ok-Answer-clause-tells : goal.returns-in-Ok-Answer-clause-tells
 returns-in-Ok-Answer-clause-tells g c =

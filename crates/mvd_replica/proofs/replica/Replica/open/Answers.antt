@@ -21,8 +21,8 @@ returns-in-Ok-site_in g c = record {
         let opened = c.in-Ok.ensures.opened (c.in-Ok-site_in.ensures.before sound) ours in
         let both = c.in-Ok-site_in.ensures.holds c.site.result sound opened.holds in
         let none = c.in-Ok-site_in.ensures.alone c.site.result sound opened.holds in
-        at_rest c.in-Ok-site_in.site _ (λ trees is_open may. g.met.S.Store.settled c.site_in.new.records.conn.store trees is_open may) c.version-version.ensures.live sound
-        c.in-Ok-site_in.ensures.config.1 c.key_count-held.ensures.held.spelled
+        at_rest c.in-Ok-site_in.site _ (λ trees is_open may. g.met.S.Store.settled c.site_in.new.records.conn.store trees is_open may) c.stands.ensures.live sound
+        c.in-Ok-site_in.ensures.config.1 c.stands.ensures.held.spelled
         (holds_opened c.in-Ok-site_in.site c.args.config c.site.result _ c.in-Ok-site_in.ensures.config.0 c.site.ensures.site both.0 none both.1));
     opened = λ sound ours. (
         let store = state g.S.Store c.args.conn in
@@ -32,7 +32,7 @@ returns-in-Ok-site_in g c = record {
         let same = same_then _ _ _ (same_kept _ _ opened.states) (c.in-Ok-site_in.ensures.states c.site.result sound opened.holds) in
         record {
           order = order_opened store.committed _ c.in-Ok.records.version c.args.config.site c.site.result c.site.ensures.site opened.told opened.states (c.in-Ok-site_in.ensures.order c.site.result sound opened.holds);
-          spelled = has_just _ _ c.in-Ok-site_in.site.states same none both.1 c.key_count-held.ensures.held.spelled;
+          spelled = has_just _ _ c.in-Ok-site_in.site.states same none both.1 c.stands.ensures.held.spelled;
           holds = holds_opened c.in-Ok-site_in.site c.args.config c.site.result _ c.in-Ok-site_in.ensures.config.0 c.site.ensures.site both.0 none both.1;
           states = same;
           kept = (

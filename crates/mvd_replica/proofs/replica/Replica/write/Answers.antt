@@ -1,5 +1,5 @@
 use Rattle.mvd_replica.proofs.Asking.{is_reply}
-use Rattle.mvd_replica.proofs.ReplicaLemmas.{answers_one}
+use Rattle.mvd_replica.proofs.Commits.{answers_one}
 use Rattle.mvd_replica.proofs.replica.Replica.write.Goals as goal
 
 pub returns-clause-kind : goal.returns-clause-kind

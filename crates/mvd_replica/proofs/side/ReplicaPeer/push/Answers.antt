@@ -23,13 +23,13 @@ returns g c =
     let it = c.push-pushed.ensures in
     record {
       push = it;
-      ok = λ whole. push_ok old new key given whole c.key_count-held.ensures.held result c.context-seen.ensures.valid it.joined;
+      ok = λ whole. push_ok old new key given whole c.stands-2.ensures.held result c.context-seen.ensures.valid it.joined;
       apart = λ _. it.agreed;
-      refused = λ whole. push_refused old new key given whole c.key_count-held.ensures.held result it.unchanged it.told;
-      unbroken = λ whole. push_unbroken old new key given whole c.key_count-held.ensures.held result it.unchanged;
+      refused = λ whole. push_refused old new key given whole c.stands-2.ensures.held result it.unchanged it.told;
+      unbroken = λ whole. push_unbroken old new key given whole c.stands-2.ensures.held result it.unchanged;
       cause = λ whole. cause_stored old new key given whole.0 result it.answer;
       follows = follows_push key given _ _ _ _ it.follows _ it.leaves
-          (push_comes old new key given result c.key_count-held_before.ensures.held c.context-seen.ensures.valid it.joined it.unchanged it.told);
+          (push_comes old new key given result c.stands.ensures.held c.context-seen.ensures.valid it.joined it.unchanged it.told);
       refuses = push_refuses old new key given result it.answer it.told (λ broken. (it.stays broken).0);
       answers = whole_after new old.config _ result it.joined;
     }

@@ -13,6 +13,7 @@ use Rattle.mvd_replica.specs.Replicas.{stored_of}
 use Rattle.mvd_replica.specs.SideCalls.{EndsWindow}
 use Rattle.sqlite_trees.specs.declared.store.Store.{Ghosts}
 use Rattle.mvd_replica.specs.Sides.{ReplicaRefuses, SideFollows, side_follows_self}
+use Rattle.mvd_replica.proofs.Commits.{answers_all}
 use Rattle.mvd_replica.proofs.Pushed.{answered_each, answered_follow, answered_told}
 use Rattle.mvd_replica.proofs.side.ReplicaPeer.push_all.Goals as goal
 
@@ -45,7 +46,7 @@ returns-in_err-replies-clause-first g c whole =
 pub returns-then-is_broken-clause-ended : goal.returns-then-is_broken-clause-ended
 returns-then-is_broken-clause-ended g c =
     let follows = answered_follow c.args.pairs.now c.deref.result.now c.in_ok-replies.replies.items c.args.self.now.site c.answer_all.new.self.site (state g.S.Store c.args.self.now.records.conn) (state g.S.Store c.answer_all.new.self.records.conn)
-    (c.deref.ensures.value ∙ c.in_ok-requests.ensures.pushes) c.in_ok-replies.ensures.answers c.key_count-held_before.ensures.held c.in_ok-requests.ensures.valid in
+    (c.deref.ensures.value ∙ c.in_ok-requests.ensures.pushes) (answers_all _ _ _ _ c.in_ok-replies.ensures.answers) c.stands.ensures.held c.in_ok-requests.ensures.valid in
     record {
       count = (0, omega arith, follows);
       cause = inl (c.answer_all.new.self, (0, follows), inl (refl, sym c.is_broken.ensures ∙ c.if-is_broken.true), (0, side_follows_self _));
@@ -61,11 +62,11 @@ returns-clause-told g c =
     let new = c.answer_all.new.self.site in
     let whole : new.broken ≡ false = sym c.is_broken.ensures ∙ c.if-is_broken.false in
     let told = answered_told c.args.pairs.now c.deref.result.now c.in_ok-replies.replies.items old new (state g.S.Store c.args.self.now.records.conn) (state g.S.Store c.answer_all.new.self.records.conn)
-    (c.deref.ensures.value ∙ c.in_ok-requests.ensures.pushes) c.in_ok-replies.ensures.answers c.key_count-held_before.ensures.held c.in_ok-requests.ensures.valid whole in
+    (c.deref.ensures.value ∙ c.in_ok-requests.ensures.pushes) (answers_all _ _ _ _ c.in_ok-replies.ensures.answers) c.stands.ensures.held c.in_ok-requests.ensures.valid whole in
     let each = answered_each c.args.pairs.now c.deref.result.now c.in_ok-replies.replies.items old new (state g.S.Store c.args.self.now.records.conn) (state g.S.Store c.answer_all.new.self.records.conn)
-    (c.deref.ensures.value ∙ c.in_ok-requests.ensures.pushes) c.in_ok-replies.ensures.answers c.key_count-held_before.ensures.held c.in_ok-requests.ensures.valid in
+    (c.deref.ensures.value ∙ c.in_ok-requests.ensures.pushes) (answers_all _ _ _ _ c.in_ok-replies.ensures.answers) c.stands.ensures.held c.in_ok-requests.ensures.valid in
     let follows = answered_follow c.args.pairs.now c.deref.result.now c.in_ok-replies.replies.items old new (state g.S.Store c.args.self.now.records.conn) (state g.S.Store c.answer_all.new.self.records.conn)
-    (c.deref.ensures.value ∙ c.in_ok-requests.ensures.pushes) c.in_ok-replies.ensures.answers c.key_count-held_before.ensures.held c.in_ok-requests.ensures.valid in
+    (c.deref.ensures.value ∙ c.in_ok-requests.ensures.pushes) (answers_all _ _ _ _ c.in_ok-replies.ensures.answers) c.stands.ensures.held c.in_ok-requests.ensures.valid in
     let items : c.add_told.new.told.items ≡ map told_of c.in_ok-replies.replies.items = c.add_told.ensures.told ∙ ap (λ l. l ++ map told_of c.in_ok-replies.replies.items) c.in_ok-told.ensures.items in
     record {
       count = follows;
@@ -80,7 +81,7 @@ pub returns-clause-alike : goal.returns-clause-alike
 returns-clause-alike g c =
     let replies = c.in_ok-replies.replies.items in
     let items : c.add_told.new.told.items ≡ map told_of replies = c.add_told.ensures.told ∙ ap (λ l. l ++ map told_of replies) c.in_ok-told.ensures.items in
-    (replies, items, subst (λ requests. AnswersAll requests replies (stored_of c.args.self.now) (stored_of c.answer_all.new.self)) (c.deref.ensures.value ∙ c.in_ok-requests.ensures.pushes) c.in_ok-replies.ensures.answers)
+    (replies, items, subst (λ requests. AnswersAll requests replies (stored_of c.args.self.now) (stored_of c.answer_all.new.self)) (c.deref.ensures.value ∙ c.in_ok-requests.ensures.pushes) (answers_all _ _ _ _ c.in_ok-replies.ensures.answers))
 
 pub returns-clause-pushes : goal.returns-clause-pushes
 returns-clause-pushes g c was =
@@ -88,6 +89,6 @@ returns-clause-pushes g c was =
     let new = c.answer_all.new.self.site in
     let whole : new.broken ≡ false = sym c.is_broken.ensures ∙ c.if-is_broken.false in
     let told = answered_told c.args.pairs.now c.deref.result.now c.in_ok-replies.replies.items old new (state g.S.Store c.args.self.now.records.conn) (state g.S.Store c.answer_all.new.self.records.conn)
-    (c.deref.ensures.value ∙ c.in_ok-requests.ensures.pushes) c.in_ok-replies.ensures.answers c.key_count-held_before.ensures.held c.in_ok-requests.ensures.valid whole in
+    (c.deref.ensures.value ∙ c.in_ok-requests.ensures.pushes) (answers_all _ _ _ _ c.in_ok-replies.ensures.answers) c.stands.ensures.held c.in_ok-requests.ensures.valid whole in
     let items : c.add_told.new.told.items ≡ map told_of c.in_ok-replies.replies.items = c.add_told.ensures.told ∙ ap (λ l. l ++ map told_of c.in_ok-replies.replies.items) c.in_ok-told.ensures.items in
-    ((whole, c.key_count-held.ensures.held), subst (λ ts. Pushes old.config.max_keys old.states c.args.pairs.now ts new.states) (sym items) told.0)
+    ((whole, c.stands-2.ensures.held), subst (λ ts. Pushes old.config.max_keys old.states c.args.pairs.now ts new.states) (sym items) told.0)

@@ -8,9 +8,9 @@ use Rattle.sqlite.specs.State.{State, Executes, HasCleanDisk, Survives}
 use Rattle.mvd_dots.specs.declared.refusals.Refusal.{Refusal}
 use Rattle.mvd_dots.specs.declared.refusals.Refusal.TheVariants.{Damaged, SiteMismatch, Store}
 use Rattle.mvd_records.specs.Tables.{all_tables}
-use Rattle.mvd_records.specs.Records.{EndsMove, HasNone, HasTables, HoldsRecords, IsOurs, IsSound, KeepsRows, KeepsStates, LacksKey, MovesState}
-use Rattle.mvd_records.specs.Records.{OpensRecords, SavesState, SavesStates, StaysInside, TakesState, TellsMarks, TellsVersion}
-use Rattle.mvd_records.specs.Records.{marks_of, old_states}
+use Rattle.mvd_records.specs.Records.{EndsMove, HasNone, HasTables, HoldsRecords, IsOurs, IsSound, KeepsRows}
+use Rattle.mvd_records.specs.Records.{KeepsStates, LacksKey, MovesState, OpensRecords, SavesState, SavesStates}
+use Rattle.mvd_records.specs.Records.{StaysInside, TakesState, TellsMarks, TellsVersion, marks_of, old_states}
 
 -- the statement ran inside a transaction, which goes on
 pub record Ran (sql : List ℕ) (params : Row) (old : State) (count : ℕ) (new : State) : Type 0 where
@@ -24,7 +24,8 @@ pub record Meaning (A : Type 0) : Type 1 where
   pub refuses : Refusal → Database → Type 0
 
 -- inside a transaction nothing is committed, and the database is the one that the connection sees
-pub record DoesInside {A : Type 0} (job : Meaning A) (old : State) (result : Result A Refusal) (new : State) : Type 0 where
+pub record DoesInside {A : Type 0} (job : Meaning A) (old : State) (result : Result A Refusal) (new : State)
+    : Type 0 where
   pub stays : StaysInside old new
   pub inside : HasCleanDisk new → IsTrue old.in_transaction → OnOk result (IsTrue new.in_transaction)
   pub made : HasCleanDisk new → IsTrue old.in_transaction → IfOk result (λ out. job.makes out old.now new.now)
@@ -35,13 +36,15 @@ pub record DoesInside {A : Type 0} (job : Meaning A) (old : State) (result : Res
 abbrev pub Did : (Database → Type 0) → Database → Type 0
 Did P db = IsDatabase db × P db
 
--- what a crash may leave of a job that went to its commit, where the store was open: the trees of a database that it made
+-- what a crash may leave of a job that went to its commit, where the store was open: the trees of a database that it
+-- made
 abbrev pub LeavesDone : {A : Type 0} → Meaning A → Result A Refusal → State → Trees → Type 0
 LeavesDone {A} job result s trees = IfErr result (λ e. e ≡ Store) × IsTrue s.is_open ×
     ((out : A) × (db : Database) × Did (λ old. job.makes out old db) s.committed × (trees ≡ db.trees))
 
 -- in a transaction of its own it is done of what was committed, or nothing is
-pub record DoesWhole {A : Type 0} (job : Meaning A) (old : State) (result : Result A Refusal) (new : State) : Type 0 where
+pub record DoesWhole {A : Type 0} (job : Meaning A) (old : State) (result : Result A Refusal) (new : State)
+    : Type 0 where
   pub before : IsSound new → IsSound old
   pub made : IsSound new → IfOk result (λ out. Did (λ db. job.makes out db new.committed) old.committed)
   pub refusal : IfErr result (λ e. (e ≡ Store) ⊎ job.may_refuse e)

@@ -16,8 +16,10 @@ pub trait Job {
     /// What is told once it is done.
     type Out: Drop;
 
+    /// What it makes of a database, and of which it is refused.
     ghost means: { Self → Meaning Self.Out };
 
+    /// Does it inside a transaction.
     fn run<S: Alter>(&self, tx: &mut Transaction<'_, S>) -> Result<Self::Out, Refusal>
         ensures same_reference { tx.new.conn.ghost_name ≡ tx.old.conn.ghost_name }
         ensures done { DoesInside (means self.now) (state S.Store tx.old.conn.now) result

@@ -1,6 +1,6 @@
 -- What is made of the answers to many questions.
-use Rattle.std.proofs.Common.{◌≡◌, inl, inr, ℕ, zero, suc, ◌<◌, ◌≤◌, ◌==◌, ◌∙◌, List, [], ◌∷◌, length, take, get_or, Option, refl, sym, subst, arith, ap, false, true≢false}
-use Rattle.std.specs.Prelude.{Bool, ◌^◌, None, Some, Contains, Result, Ok, Err}
+use Rattle.std.proofs.Common.{◌≡◌, inl, inr, ℕ, zero, suc, ◌<◌, ◌≤◌, ◌==◌, ◌∙◌, List, [], ◌∷◌, length, take, get_or, refl, sym, subst, arith, ap, false, true≢false}
+use Rattle.std.specs.Prelude.{Bool, ◌^◌, None, Some, Contains, Result, Ok, Err, IfOk, IfErr}
 use Rattle.std.specs.declared.vec.Vec.{Vec}
 use Rattle.std.specs.declared.alloc.Global.{Global}
 use Rattle.mvd_wire.specs.declared.reply.Digests.{Digests}
@@ -12,26 +12,26 @@ use Rattle.std.proofs.lemmas.List.{length-take-le, take_all}
 use Rattle.mvd_sync.specs.Questions.{AllAnswered, AnswersEach, ComesToEnd, Keeps, Takes, with_left}
 use Rattle.mvd_peer.specs.Windows.{ForEach}
 use Rattle.mvd_peer.specs.PushedStates.{Each}
-use Rattle.mvd_sync.specs.Made.{EndsMaking, Passes}
+use Rattle.mvd_sync.specs.Made.{EndsMaking, Passes, ReadsAll}
 use Rattle.mvd_peer.specs.Sides.{HasAnswered, HasRefused, SideOf, is_of_question}
 use Rattle.mvd_sync.specs.Faults.{of_answer, of_memory, of_questions, of_side}
-use Rattle.mvd_peer.specs.Windows.{EachAnswer, EachRefusal, EachTold, Ends, RefusesPage}
+use Rattle.mvd_peer.specs.Windows.{Asked, EachAnswer, EachRefusal, EachTold, Ends, Kind, RefusesPage, manner}
 use Rattle.mvd_sync.proofs.Positions.{BlamesBy}
 
 -- ---- lists
 
--- what is so of each answer is so of what was made of it
-pub passed : {Q A B : Type 0} (M : Q → A → Type 0) (P : Type 0) (T : Refusal → Type 0) (R : A → B → Type 0) (N : Q → B → Type 0) → ((q : Q) (a : A) (b : B) → M q a → P → R a b → N q b)
-    → (qs : List Q) (ts : List (Result A Refusal)) (bs : List B) → EachAnswer M qs ts → EachTold P T ts → ForEach (Passes R) ts bs → ForEach N qs bs
-passed M P T R N f [] [] [] m p r = tt
-passed M P T R N f [] [] (b ∷ bs) m p r = absurd r
-passed M P T R N f [] (Ok a ∷ ts) bs m p r = absurd m
-passed M P T R N f [] (Err e ∷ ts) bs m p r = absurd m
-passed M P T R N f (q ∷ qs) [] bs m p r = absurd m
-passed M P T R N f (q ∷ qs) (Ok a ∷ ts) [] m p r = absurd r
-passed M P T R N f (q ∷ qs) (Err e ∷ ts) [] m p r = absurd r
-passed M P T R N f (q ∷ qs) (Ok a ∷ ts) (b ∷ bs) m p r = (f q a b m.0 p.0 r.0, passed M P T R N f qs ts bs m.1 p.1 r.1)
-passed M P T R N f (q ∷ qs) (Err e ∷ ts) (b ∷ bs) m p r = absurd r.0
+-- what is so of each answer, to a question of a sort, is so of what was made of it
+pub passed : {Q A B : Type 0} (In : Q → Type 0) (M : Q → A → Type 0) (P : Type 0) (T : Refusal → Type 0) (R : A → B → Type 0) (N : Q → B → Type 0) → ((q : Q) (a : A) (b : B) → In q → M q a → P → R a b → N q b)
+    → (qs : List Q) (ts : List (Result A Refusal)) (bs : List B) → Each In qs → EachAnswer M qs ts → EachTold P T ts → ForEach (Passes R) ts bs → ForEach N qs bs
+passed In M P T R N f [] [] [] i m p r = tt
+passed In M P T R N f [] [] (b ∷ bs) i m p r = absurd r
+passed In M P T R N f [] (Ok a ∷ ts) bs i m p r = absurd m
+passed In M P T R N f [] (Err e ∷ ts) bs i m p r = absurd m
+passed In M P T R N f (q ∷ qs) [] bs i m p r = absurd m
+passed In M P T R N f (q ∷ qs) (Ok a ∷ ts) [] i m p r = absurd r
+passed In M P T R N f (q ∷ qs) (Err e ∷ ts) [] i m p r = absurd r
+passed In M P T R N f (q ∷ qs) (Ok a ∷ ts) (b ∷ bs) i m p r = (f q a b i.0 m.0 p.0 r.0, passed In M P T R N f qs ts bs i.1 m.1 p.1 r.1)
+passed In M P T R N f (q ∷ qs) (Err e ∷ ts) (b ∷ bs) i m p r = absurd r.0
 
 -- what was told at a place
 told_at : {A : Type 0} (P : Type 0) (T : Refusal → Type 0) (ts : List (Result A Refusal)) (n : ℕ) (a : Result A Refusal) → EachTold P T ts → n < length ts → a ≡ get_or ts n a → EachTold P T (a ∷ [])
@@ -73,27 +73,20 @@ pub each_all : {X : Type 0} (xs : List X) → Each (λ _. Unit {0}) xs
 each_all [] = tt
 each_all (x ∷ xs) = (tt, each_all xs)
 
--- no refusal is of one question alone
-pub none_told : {Q A : Type 0} (qs : List Q) (ts : List (Result A Refusal)) → EachRefusal (λ _ r. is_of_question r ≡ false) qs ts → EachTold (Unit {0}) (λ r. is_of_question r ≡ false) ts
-none_told [] [] h = tt
-none_told [] (Ok a ∷ ts) h = absurd h
-none_told [] (Err r ∷ ts) h = absurd h
-none_told (q ∷ qs) [] h = absurd h
-none_told (q ∷ qs) (Ok a ∷ ts) h = (tt, none_told qs ts h)
-none_told (q ∷ qs) (Err r ∷ ts) h = (h.0, none_told qs ts h.1)
+-- what is so of each refusal, of a question of a sort
+refused_so : {Q A : Type 0} (In : Q → Type 0) (R : Q → Refusal → Type 0) (N : Refusal → Type 0) → ((q : Q) (e : Refusal) → In q → R q e → N e)
+    → (qs : List Q) (ts : List (Result A Refusal)) → Each In qs → EachRefusal R qs ts → EachTold (Unit {0}) N ts
+refused_so In R N f [] [] i h = tt
+refused_so In R N f [] (Ok a ∷ ts) i h = absurd h
+refused_so In R N f [] (Err e ∷ ts) i h = absurd h
+refused_so In R N f (q ∷ qs) [] i h = absurd h
+refused_so In R N f (q ∷ qs) (Ok a ∷ ts) i h = (tt, refused_so In R N f qs ts i.1 h)
+refused_so In R N f (q ∷ qs) (Err e ∷ ts) i h = (f q e i.0 h.0, refused_so In R N f qs ts i.1 h.1)
 
--- nor is that of a page whose path has three digits
+-- no refusal of a page whose path has three digits is of one question alone
 pub page_apart : (path : List ℕ) (refusal : Refusal) → length path ≡ 3 → RefusesPage path refusal → is_of_question refusal ≡ false
 page_apart path BadPath three h = absurd (true≢false (sym (ap (λ n. n == 3) three) ∙ h))
 page_apart path refusal three h = h
-
-pub no_page_told : {A : Type 0} (qs : List (List ℕ × Option (List ℕ))) (ts : List (Result A Refusal)) → Each (λ q. length q.0 ≡ 3) qs → EachRefusal (λ q. RefusesPage q.0) qs ts → EachTold (Unit {0}) (λ r. is_of_question r ≡ false) ts
-no_page_told [] [] deep h = tt
-no_page_told [] (Ok a ∷ ts) deep h = absurd h
-no_page_told [] (Err r ∷ ts) deep h = absurd h
-no_page_told (q ∷ qs) [] deep h = absurd h
-no_page_told (q ∷ qs) (Ok a ∷ ts) deep h = (tt, no_page_told qs ts deep.1 h)
-no_page_told (q ∷ qs) (Err r ∷ ts) deep h = (page_apart q.0 r deep.0 h.0, no_page_told qs ts deep.1 h.1)
 
 -- a node that was made of digests, and a listing of a page
 abbrev pub IsNodeOf : Digests → Node → Type 0
@@ -103,6 +96,12 @@ abbrev pub IsListingOf : Vec (List ℕ × List ℕ) Global × Bool → ListingVa
 IsListingOf page listing = (listing ≡ (page.0.items, page.1)) × IsPage None listing.0 listing.1 × (length listing.0 < 2 ^ 64)
 
 -- ---- the end of some questions, of which as many were asked as were left
+
+-- all of these were answered, or they came to an end
+abbrev pub ReadOrEnded : {S Q B : Type 0} → SideOf S → List Q → ℕ → ℕ → S → S → (Q → B → Type 0) → (Q → B → Type 0) → Result (Vec B Global) Refusal → Type 0
+ReadOrEnded s qs left left' old new May Right result =
+    IfOk result (λ read. AllAnswered s May (AnswersEach s Right qs read.items old new) qs read.items (with_left old left) (with_left new left'))
+    × IfErr result (ComesToEnd s (Keeps s old new) (length qs) (with_left old left) new)
 
 module _ {S Q : Type 0} (s : SideOf S) (qs : List Q) (left left' taken : ℕ) (old new : S) (takes : Takes left left' (length qs) taken) where
   asked_is : length (take taken qs) ≡ taken
@@ -191,3 +190,31 @@ module _ {S Q : Type 0} (s : SideOf S) (qs : List Q) (left left' taken : ℕ) (o
         may = subst (λ qs. ForEach May qs answers) whole may;
         right = λ t. record { kept = (right t).0; right = subst (λ qs. ForEach Right qs answers) whole (right t).1 };
       }
+
+  -- all of it: what was read in the answers, or why the questions came to an end
+  pub read_told : {A B : Type 0} (kind : Kind Q A) (In : Q → Type 0) (IsOf : A → B → Type 0) (IsNone : A → Type 0) (May Right : Q → B → Type 0)
+      → ((q : Q) (a : A) (b : B) → kind.may q a → HasAnswered s.follows s.can_answer old new → IsOf a b → May q b)
+      → ((q : Q) (a : A) (b : B) → In q → kind.right q a → IsOf a b → Right q b)
+      → ((q : Q) (a : A) → In q → kind.right q a → IsNone a → ⊥)
+      → ((q : Q) (refusal : Refusal) → In q → kind.refuses q refusal → is_of_question refusal ≡ false)
+      → (s.is_faithful old → kind.was_faithful) → (s.is_faithful old → Keeps s old new) → Each In qs
+      → (told : Result (Vec (Result A Refusal) Global) Refusal) → IfOk told (λ ts. Asked (manner s.follows s.can_refuse s.can_answer) kind (take taken qs) ts.items old new)
+      → IfErr told (Ends s.follows s.can_refuse (length (take taken qs)) old new) → (s.is_faithful old → IfErr told (λ refusal. is_of_question refusal ≡ false))
+      → (result : Result (Vec B Global) Refusal) → ReadsAll IsOf IsNone told taken (length qs) result → ReadOrEnded s qs left left' old new May Right result
+  read_told kind In IsOf IsNone May Right may right never apart was keeps each (Ok told) asked ends not_of_question (Ok read) it =
+      let here = each-take In qs taken each in (
+        answered_all May Right read.items it.1 asked.count (passed In kind.may _ _ IsOf May (λ q a b _ m h i. may q a b m h i) _ _ _ here asked.may asked.told it.0)
+            (λ t. (keeps t, passed In kind.right _ _ IsOf Right (λ q a b i r _ o. right q a b i r o) _ _ _ here (asked.right (was t)) asked.told it.0)),
+        tt,
+      )
+  read_told kind In IsOf IsNone May Right may right never apart was keeps each (Ok told) asked ends not_of_question (Err refusal) (inl made) =
+      let here = each-take In qs taken each in (
+        tt,
+        ended_making (Keeps s old new) IsNone told.items refusal asked.count asked.told
+            (λ t. refused_so In kind.refuses (λ r. is_of_question r ≡ false) apart (take taken qs) told.items here (asked.not_of_question (was t)))
+            (λ t a. answer_in kind.right In (λ a. IsNone a → ⊥) never (take taken qs) told.items a here (asked.right (was t))) keeps made,
+      )
+  read_told kind In IsOf IsNone May Right may right never apart was keeps each (Ok told) asked ends not_of_question (Err refusal) (inr few) =
+      (tt, ended_few (Keeps s old new) refusal few.0 few.1 asked.count keeps)
+  read_told kind In IsOf IsNone May Right may right never apart was keeps each (Err refusal) asked ends not_of_question result it =
+      subst (ReadOrEnded s qs left left' old new May Right) (sym it) (tt, ended_within (Keeps s old new) refusal ends not_of_question keeps)

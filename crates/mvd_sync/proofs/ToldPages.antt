@@ -7,13 +7,10 @@ use Rattle.std.specs.Cmp.Lexicographic.{slice_cmp, nat_list_cmp_total}
 use Rattle.std.specs.FinMap.{get, entries, entries_sorted, get-entries, find, is_sorted}
 use Rattle.mvd_tree.specs.HashTree.{KeyDigests, is_under}
 use Rattle.mvd_tree.specs.Page.{is_after, is_more_after_page, page_of, rest_of}
-use Rattle.std.specs.Prelude.{Contains, Result, Ok}
 use Rattle.std.specs.declared.vec.Vec.{Vec}
 use Rattle.std.specs.declared.alloc.Global.{Global}
-use Rattle.mvd_dots.specs.declared.refusals.Refusal.{Refusal}
 use Rattle.mvd_sync.specs.Answers.{IsPage, IsPageOf, ListingValue, PageEntry, Rises}
-use Rattle.mvd_peer.specs.Windows.{EachAnswer}
-use Rattle.mvd_sync.proofs.Answering.{IsListingOf, answer_in, each_all}
+use Rattle.mvd_sync.proofs.Answering.{IsListingOf}
 use Rattle.mvd_sync.proofs.Rest.{get-rest}
 
 front : (a b : Bool) → T (a && b) → T a
@@ -72,7 +69,7 @@ pub page_from_first : (after : Option (List ℕ)) (page : List PageEntry) (more 
 page_from_first after [] more h = record { rises = tt; ended = h.ended }
 page_from_first after (e ∷ es) more h = record { rises = (refl, h.rises.1); ended = h.ended }
 
--- ---- many pages
+-- ---- pages that were asked for
 
 abbrev pub Told : Type 0
 Told = Vec (List ℕ × List ℕ) Global × Bool
@@ -85,12 +82,8 @@ abbrev pub TellsPage : KeyDigests → Asking → Told → Type 0
 TellsPage held q page = (page.0.items ≡ page_of held q.0 q.1) × (page.1 ≡ is_more_after_page held q.0 q.1)
 
 -- it tells no page that is none
-pub not_bad : (held : KeyDigests) (qs : List Asking) (ts : List (Result Told Refusal)) (page : Told)
-    → EachAnswer (TellsPage held) qs ts → Contains ts (Ok page) → (IsPage None page.0.items page.1 → ⊥) → ⊥
-not_bad held qs ts page right here bad =
-    bad (answer_in (TellsPage held) (λ _. Unit {0}) (λ p. IsPage None p.0.items p.1)
-    (λ q p _ told. page_from_first q.1 p.0.items p.1 (told_page held q.0 q.1 p.0.items p.1 told.0 told.1))
-    qs ts page (each_all qs) right here)
+pub not_bad : (held : KeyDigests) (q : Asking) (page : Told) → TellsPage held q page → (IsPage None page.0.items page.1 → ⊥) → ⊥
+not_bad held q page told bad = bad (page_from_first q.1 page.0.items page.1 (told_page held q.0 q.1 page.0.items page.1 told.0 told.1))
 
 -- and what is made of its page is this page
 pub listing_right : (held : KeyDigests) (q : Asking) (page : Told) (listing : ListingValue) → TellsPage held q page → IsListingOf page listing → IsPageOf held q.0 q.1 listing.0 listing.1

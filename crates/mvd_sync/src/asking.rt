@@ -4,6 +4,7 @@ ghost use Rattle.std.specs.Prelude.{◌⊎◌, ◌++◌, All, Contains, Some, No
 ghost use Rattle.mvd_site.specs.Answer.{digests};
 ghost use Rattle.mvd_site.specs.Held.{state_at};
 ghost use Rattle.mvd_sync.specs.Answers.{IsPage, IsPageOf};
+ghost use Rattle.mvd_sync.specs.Made.{ReadsAll};
 ghost use Rattle.mvd_sync.specs.Questions.{AllAnswered, AnswersEach, ComesToEnd, IsInner, IsOfKey, IsWindow};
 ghost use Rattle.mvd_sync.specs.Questions.{Keeps, Takes, TakesIn, TakesInFirst, with_left, push_bytes};
 ghost use Rattle.mvd_peer.specs.PushedStates.{Each};
@@ -16,6 +17,7 @@ use mvd_dots::Refusal;
 use mvd_keys::{Key, KeyState, Path};
 use mvd_peer::Peer;
 use mvd_wire::{Digests, state_length};
+use std::alloc::Global;
 
 /// How many questions each side may still be asked.
 #[derive(Clone, Copy, Debug)]
@@ -78,6 +80,29 @@ impl Made<Digests> for Node {
     }
 }
 
+/// What is made of all answers to the questions of a window, of which so many were taken and so many wanted.
+fn read_all<A: Drop, B: Made<A>>(
+    alloc: Global,
+    told: Result<Vec<Result<A, Refusal>>, Refusal>,
+    taken: usize,
+    wanted: usize,
+) -> Result<Vec<B>, Refusal>
+    ensures { ReadsAll B.is_of B.is_none told taken wanted result }
+{
+    let answers = match told {
+        Ok(answers) => answers,
+        Err(refusal) => return Err(refusal),
+    };
+    let read = match made_all(alloc, answers) {
+        Ok(read) => read,
+        Err(refusal) => return Err(refusal),
+    };
+    match are_all(taken, wanted) {
+        Ok(()) => Ok(read),
+        Err(refusal) => Err(refusal),
+    }
+}
+
 /// What a side answers for nodes above the buckets; digests without children are 33.
 pub fn ask_nodes<P: Peer>(
     side: &mut P,
@@ -95,10 +120,8 @@ pub fn ask_nodes<P: Peer>(
         (ComesToEnd s (Keeps s side.old side.new) (length paths.now) (with_left side.old left.old) side.new) }
 {
     let taken = take(left, paths.len());
-    let told = side.nodes(&paths[..taken])?;
-    let nodes = made_all(side.alloc(), told)?;
-    are_all(taken, paths.len())?;
-    Ok(nodes)
+    let told = side.nodes(&paths[..taken]);
+    read_all(side.alloc(), told, taken, paths.len())
 }
 
 /// The first pages of buckets; keys that do not rise, or more without a key, are 33.
@@ -120,10 +143,8 @@ pub fn ask_pages<P: Peer>(
         (ComesToEnd s (Keeps s side.old side.new) (length asked.now) (with_left side.old left.old) side.new) }
 {
     let taken = take(left, asked.len());
-    let told = side.pages(&asked[..taken])?;
-    let listings = made_all(side.alloc(), told)?;
-    are_all(taken, asked.len())?;
-    Ok(listings)
+    let told = side.pages(&asked[..taken]);
+    read_all(side.alloc(), told, taken, asked.len())
 }
 
 /// The states of keys.
@@ -143,10 +164,8 @@ pub fn ask_gets<P: Peer>(
         (ComesToEnd s (Keeps s side.old side.new) (length keys.now) (with_left side.old left.old) side.new) }
 {
     let taken = take(left, keys.len());
-    let told = side.get_all(&keys[..taken])?;
-    let states = made_all(side.alloc(), told)?;
-    are_all(taken, keys.len())?;
-    Ok(states)
+    let told = side.get_all(&keys[..taken]);
+    read_all(side.alloc(), told, taken, keys.len())
 }
 
 /// So many bytes of pushes are sent at once, unless it is one push.

@@ -1,57 +1,29 @@
-use Rattle.std.proofs.Common.{take}
-use Rattle.std.specs.Prelude.{None}
+use Rattle.std.proofs.Common.{◌≡◌, ◌<◌, ◌^◌, None, length}
 use Rattle.mvd_site.specs.Answer.{digests}
-use Rattle.mvd_sync.specs.Answers.{IsPage}
 use Rattle.mvd_peer.specs.PeerSides.{side_of}
-use Rattle.mvd_sync.proofs.Answering.{IsListingOf, answered_all, each-take, ended_few, ended_making, ended_within, no_page_told, passed}
-use Rattle.mvd_peer.proofs.OneByOne.{at_err_same}
-use Rattle.mvd_sync.proofs.ToldPages.{TellsPage, Told, listing_right, not_bad}
+use Rattle.mvd_peer.specs.Sides.{HasAnswered}
+use Rattle.mvd_peer.specs.Windows.{for_pages}
+use Rattle.mvd_sync.specs.Answers.{IsPage, IsPageOf}
+use Rattle.mvd_sync.proofs.Answering.{IsListingOf, ReadOrEnded, page_apart, read_told}
+use Rattle.mvd_sync.proofs.ToldPages.{Told, listing_right, not_bad}
+use Rattle.mvd_sync.proofs.asking.ask_pages.Given.{Over}
 use Rattle.mvd_sync.proofs.asking.ask_pages.Goals as goal
 
-pub returns-in_err-told-clause-ended : goal.returns-in_err-told-clause-ended
-returns-in_err-told-clause-ended g c =
-    let s = side_of g.P.Peer in
-    at_err_same _ _ _ c.in_err-told.field-0.0 c.from_residual.ensures (λ e is. cc)
-    (ended_within s c.args.asked.now c.args.left.now c.take-taken.new.left c.take-taken.result c.args.side.now c.pages.new.self
-    c.take-taken.ensures
-    _ _ c.in_err-told.ensures.ended c.in_err-told.ensures.not_of_question
-    (λ t. let k = c.pages.ensures.kept t in record { still = k.0; states = k.1 }))
-
-pub returns-in_err-listings-clause-ended : goal.returns-in_err-listings-clause-ended
-returns-in_err-listings-clause-ended g c =
-    let s = side_of g.P.Peer in
-    let asked = c.in_ok-told.ensures.told in
-    let answers = c.in_ok-told.told.items in
-    at_err_same _ _ _ c.in_err-listings.field-0.0 c.from_residual-in_err-listings.ensures (λ e is. cc)
-    (ended_making s c.args.asked.now c.args.left.now c.take-taken.new.left c.take-taken.result c.args.side.now c.pages.new.self
-    c.take-taken.ensures
-    _ (λ (p : Told). IsPage None p.0.items p.1 → ⊥) answers _ asked.count asked.told
-    (λ t. no_page_told (take c.take-taken.result c.args.asked.now) answers (each-take _ _ _ c.requires)
-    (asked.not_of_question t))
-    (λ t p. not_bad (digests (g.P.Peer.states c.args.side.now)) (take c.take-taken.result c.args.asked.now) answers p (asked.right t))
-    (λ t. let k = c.pages.ensures.kept t in record { still = k.0; states = k.1 }) c.in_err-listings.ensures.ended)
-
-pub returns-in_err-are_all-clause-ended : goal.returns-in_err-are_all-clause-ended
-returns-in_err-are_all-clause-ended g c =
-    let s = side_of g.P.Peer in
-    let few = c.in_err-are_all.ensures.few in
-    at_err_same _ _ _ c.in_err-are_all.field-0.0 c.from_residual-in_err-are_all.ensures (λ e is. cc)
-    (ended_few s c.args.asked.now c.args.left.now c.take-taken.new.left c.take-taken.result c.args.side.now c.pages.new.self
-    c.take-taken.ensures
-    _ _ few.0 few.1 c.in_ok-told.ensures.told.count
-    (λ t. let k = c.pages.ensures.kept t in record { still = k.0; states = k.1 }))
+both : (g : Over) (c : goal.After-read_all g) → ReadOrEnded (side_of g.P.Peer) c.args.asked.now c.args.left.now c.take-taken.new.left c.args.side.now c.pages-told.new.self
+    (λ _ page. IsPage None page.0 page.1 × (length page.0 < 2 ^ 64) × HasAnswered g.P.Peer.follows g.P.Peer.can_answer c.args.side.now c.pages-told.new.self)
+    (λ q page. IsPageOf (digests (g.P.Peer.states c.args.side.now)) q.0 q.1 page.0 page.1) c.read_all.result
+both g c =
+    let states = g.P.Peer.states c.args.side.now in
+    read_told (side_of g.P.Peer) c.args.asked.now c.args.left.now c.take-taken.new.left c.take-taken.result c.args.side.now c.pages-told.new.self c.take-taken.ensures
+    (for_pages (g.P.Peer.is_faithful c.args.side.now) states) (λ q. length q.0 ≡ 3) IsListingOf (λ (page : Told). IsPage None page.0.items page.1 → ⊥)
+    (λ _ page. IsPage None page.0 page.1 × (length page.0 < 2 ^ 64) × HasAnswered g.P.Peer.follows g.P.Peer.can_answer c.args.side.now c.pages-told.new.self)
+    (λ q page. IsPageOf (digests (g.P.Peer.states c.args.side.now)) q.0 q.1 page.0 page.1)
+    (λ _ _ _ _ answered is. (is.1, is.2, answered)) (λ q page listing _. listing_right (digests states) q page listing) (λ q page _. not_bad (digests states) q page) (λ q refusal. page_apart q.0 refusal)
+    (λ t. t) (λ t. let k = c.pages-told.ensures.kept t in record { still = k.0; states = k.1 }) c.requires
+    c.pages-told.result c.pages-told.ensures.told c.pages-told.ensures.ended c.pages-told.ensures.not_of_question c.read_all.result c.read_all.ensures
 
 pub returns-clause-told : goal.returns-clause-told
-returns-clause-told g c =
-    let s = side_of g.P.Peer in
-    let asked = c.in_ok-told.ensures.told in
-    let made = c.in_ok-listings.ensures.made in
-    answered_all s c.args.asked.now c.args.left.now c.take-taken.new.left c.take-taken.result c.args.side.now c.pages.new.self
-    c.take-taken.ensures
-    _ _ _ c.in_ok-are_all.ensures.all asked.count
-    (passed _ _ _ IsListingOf _ (λ q a b may told is. (is.1, is.2, told)) _ _ _ asked.may asked.told made)
-    (λ t. (
-      let k = c.pages.ensures.kept t in record { still = k.0; states = k.1 },
-      passed (TellsPage (digests (g.P.Peer.states c.args.side.now))) _ _ IsListingOf _
-          (λ q a b right told is. listing_right (digests (g.P.Peer.states c.args.side.now)) q a b right is) _ _ _ (asked.right t) asked.told made,
-    ))
+returns-clause-told g c = (both g c).0
+
+pub returns-clause-ended : goal.returns-clause-ended
+returns-clause-ended g c = (both g c).1

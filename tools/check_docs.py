@@ -11,7 +11,6 @@ is one.
 """
 import pathlib
 import re
-import subprocess
 import sys
 
 sys.dont_write_bytecode = True
@@ -25,17 +24,6 @@ FOREIGN = {
     "Allow", "chunked", "Wary",
 }
 CODE = (".rt", ".antt", ".py", ".sh", ".txt", ".edit", ".mvd", ".toml", ".rs", ".html")
-
-
-def tracked():
-    """The files of the repository; where git cannot tell them, all that no build made."""
-    try:
-        out = subprocess.run(["git", "ls-files", "-co", "--exclude-standard"], cwd=TOP, capture_output=True, text=True, check=True)
-        names = out.stdout.splitlines()
-    except (OSError, subprocess.CalledProcessError):
-        paths = [path.relative_to(TOP) for path in TOP.rglob("*")]
-        names = [str(path) for path in paths if not {".git", "out", "target", "__pycache__"} & set(path.parts)]
-    return [name for name in names if (TOP / name).is_file()]
 
 
 def words_of(names):
@@ -181,7 +169,7 @@ def misdrawn():
 
 
 def main():
-    names = tracked()
+    names = places.tracked()
     documents = sys.argv[1:] or [name for name in names if name.endswith(".md")]
     words = words_of([name for name in names if not name.endswith(".md")])
     sources = sources_of(names)

@@ -474,7 +474,8 @@ def compared(folder):
 
 def main():
     signal.signal(signal.SIGTERM, lambda *_: sys.exit(1))
-    resource.setrlimit(resource.RLIMIT_NOFILE, (4096, resource.getrlimit(resource.RLIMIT_NOFILE)[1]))
+    most = resource.getrlimit(resource.RLIMIT_NOFILE)[1]
+    resource.setrlimit(resource.RLIMIT_NOFILE, (4096 if most == resource.RLIM_INFINITY else min(4096, most), most))
     checks = [beside_bad_clients, more_than_there_are_places, last_replies, killed, ends_when_idle, gives_up]
     with tempfile.TemporaryDirectory() as folder:
         if len(PROGRAMS) > 1:

@@ -20,6 +20,17 @@ DECLARED = {
 }
 
 
+def tracked():
+    """The files of the repository; where git cannot tell them, all that no build made."""
+    try:
+        out = subprocess.run(["git", "ls-files", "-co", "--exclude-standard"], cwd=TOP, capture_output=True, text=True, check=True)
+        names = out.stdout.splitlines()
+    except (OSError, subprocess.CalledProcessError):
+        paths = [path.relative_to(TOP) for path in TOP.rglob("*")]
+        names = [str(path) for path in paths if not {".git", "out", "target", "__pycache__"} & set(path.parts)]
+    return [name for name in names if (TOP / name).is_file()]
+
+
 def cases_of(name):
     body = re.search(r"pub enum %s\b[^{]*\{\n(.*?)\n\}" % name, (TOP / DECLARED[name]).read_text(), re.S).group(1)
     return re.findall(r"^    ([A-Z]\w*)", body, re.M)
@@ -79,8 +90,7 @@ def chained(text, words):
 
 def places_of(name):
     cases = cases_of(name)
-    tracked = subprocess.run(["git", "ls-files", "crates"], cwd=TOP, capture_output=True, text=True, check=True).stdout
-    for path in tracked.splitlines():
+    for path in sorted(path for path in tracked() if path.startswith("crates/")):
         if path.endswith(".rt"):
             found = in_code((TOP / path).read_text(), name)
         elif path.endswith(".antt"):

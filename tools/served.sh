@@ -208,6 +208,8 @@ refused "another site's database" 1 "fault 16 SiteMismatch" "b.db is the file of
   b.db serve --db b.db --site 3 --port "$port"
 refused "too many keys" 1 "fault 10 Full" "the file has no room for so many keys: raise --max-keys, up to 1000000" \
   b.db serve --db b.db --site 2 --port "$port" --max-keys 1
+same "the same file with room for its keys" "context 1:1 1:1 {} context 2:1 2:1 {}" \
+  "$(printf 'get a\nget b\n' | "$program" shell --db b.db --site 2 --max-keys 3 | tr '\n' ' ' | sed 's/ $//')"
 cp b.db damaged.db
 sql damaged.db "PRAGMA journal_mode = delete" "UPDATE states2 SET state = x'00' WHERE key = 'b'" >/dev/null
 refused "a damaged row" 1 "fault 17 Damaged" \

@@ -40,9 +40,9 @@ def wanted(what, holds, seen=""):
         sys.exit(1)
 
 
-def free_port():
-    with socket.create_server(("127.0.0.1", 0)) as free:
-        return free.getsockname()[1]
+def free_ports():
+    with socket.create_server(("127.0.0.1", 0)) as one, socket.create_server(("127.0.0.1", 0)) as two:
+        return one.getsockname()[1], two.getsockname()[1]
 
 
 def has_room(most):
@@ -53,7 +53,7 @@ def has_room(most):
 
 class Server:
     def __init__(self, folder, *words, name="a.db", most=None):
-        self.frames, self.http = free_port(), free_port()
+        self.frames, self.http = free_ports()
         defs = os.path.join(folder, "defs")
         with open(defs, "w") as file:
             file.write("index city\nview visits city days\n")

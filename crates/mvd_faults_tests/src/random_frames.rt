@@ -1,5 +1,7 @@
-//! Random frames, from a generator with a fixed seed.
-use super::replica_calls::{Bytes, counted, end, new_replica, push, replies};
+//! Frames that are cut or changed, each in turn, and random ones, from a generator with a fixed seed.
+use super::replica_calls::{
+    Bytes, CLASH, GET, PUT, WIDE, counted, end, new_replica, push, replies,
+};
 use mvd_replica::Replica;
 use sqlite::Alter;
 use std::alloc::Global;
@@ -302,13 +304,44 @@ fn answered_of_all<S: Alter + Drop>(alloc: Global, replica: &mut Replica<S>) -> 
     (CONNECTIONS, frames)
 }
 
+/// Whether what comes on a connection has nothing but replies, and a question for `k` on the next one a state.
+fn goes_on<S: Alter + Drop>(alloc: Global, replica: &mut Replica<S>, input: &Bytes) -> bool {
+    let (output, _) = replies(alloc, replica, input.bytes());
+    let (_, _, left) = counted(output.as_slice());
+    drop(output);
+    let (state, ended) = replies(alloc, replica, Bytes::of(&[GET]).bytes());
+    let (states, _, behind) = counted(state.as_slice());
+    let is_state = matches!(state.as_slice(), [_, _, _, _, 0xA1, ..]);
+    drop(state);
+    left == 0 && is_state && (states, behind, ended) == (1, 0, "end")
+}
+
+/// The first place at which three requests on one connection do not go on so where they are cut there, or where the byte
+/// there is replaced by its complement; how many bytes they have where there is no such place.
+fn goes_on_to<S: Alter + Drop>(alloc: Global, replica: &mut Replica<S>) -> usize {
+    let whole = Bytes::of(&[PUT, WIDE, CLASH]);
+    for at in 0..whole.len {
+        let mut cut = whole;
+        cut.len = at;
+        let mut changed = whole;
+        if let Some(byte) = changed.room.get_mut(at) {
+            *byte = !*byte;
+        }
+        if !goes_on(alloc, replica, &cut) || !goes_on(alloc, replica, &changed) {
+            return at;
+        }
+    }
+    whole.len
+}
+
 #[test]
-fn random_frames_are_answered(rt: HostRuntime) -> Result<(), Fail> {
+fn frames_of_any_bytes_are_answered(rt: HostRuntime) -> Result<(), Fail> {
     let mut replica = new_replica(rt.alloc(), 1, &[])?;
+    let places = goes_on_to(rt.alloc(), &mut replica);
     let (connections, frames) = answered_of_all(rt.alloc(), &mut replica);
     let keys = replica.key_count();
     end(replica);
     println!(rt; "{frames} frames on {connections} connections, {keys} keys")?;
-    assert!(rt; connections == CONNECTIONS);
+    assert!(rt; places == 120 && connections == CONNECTIONS);
     Ok(())
 }

@@ -9,9 +9,9 @@ use std::time::Instant;
 /// Sites, with a `#` between two. The first line of each has its number, and rows: how many, and of each the bytes
 /// before its number and those behind it; the numbers are the multiples of the word between. Each other line is a
 /// request: its bytes behind its length, up to where rows may stand in it and from there on; whether the rows stand
-/// `in` it, `behind` its frame, or nowhere; what the site says (the kind of its first reply or the number of a
-/// refusal, how many bytes its replies are together, and how the connection ends); and a name. Bytes are hexadecimal
-/// digits, or `-` where there are none.
+/// `in` it, `behind` its frame, or nowhere; what the site says (the first bytes of its first reply, how many bytes its
+/// replies are together, and how the connection ends); and a name. Bytes are hexadecimal digits, or `-` where there are
+/// none.
 ///
 /// The first site holds at the key `k` as many siblings of the shortest document, `{}`, as have room in a state,
 /// 63,887: all but one are delivered, and one is put. The second one is given a context of 70,000 loose counters of
@@ -23,7 +23,7 @@ const ASKED: &str = "\
 2 63886 00000002 1 000000027b7d
 29016b0000000100000002000000000000f98e00000000f98e - in a3 5 end delivered
 22016b00000000000000027b7d - - a2 17 end put
-22016b00000000000000027b7d - - 09 6 end put once more
+22016b00000000000000027b7d - - ee09 6 end put once more
 21016b - - a1 1149993 end read
 23016b0000000100000002000000000000f98f00000000 - - a3 5 end deleted
 21016b - - a1 27 end read again
@@ -36,8 +36,21 @@ const ASKED: &str = "\
 21016b - - a1 560061 end read there
 23016b000000020000000100000000000000010000000000000002000000000000000000011170 - in a3 5 end deleted
 21016b - - a1 560043 end read again
+#1 1000 00000002 1 000000077b2261223a317d
+29016b000000010000000200000000000003e80000000003e8 - in a3 5 end delivered
+2400016103000000000000000100 - - a40003e8 23008 end found, all
+22016b00000000000000077b2261223a317d - - a2 17 end put
+2400016103000000000000000100 - - a40103e8 23008 end found, and more
+2400016103000000000000000101016b0000000200000000000003e7 - - a4000001 31 end found behind these
+#4 149999 - 1 -
+70ffffffffffffff - in ee20 6 end as long as may be
+70ffffffffffffff ff in ee1f 6 FrameTooLong a byte longer
 #4 1000000 0000000970 1 -
 21016b - behind a1 6000011 TooManyRequests too many
+#4 1 0000000021 1 -
+21016b - behind a1 17 FrameTooLong no length
+#4 1 00124f8121 1 -
+21016b - behind a1 17 FrameTooLong a byte too long
 #4 1 ffffffff21 1 -
 21016b - behind a1 17 FrameTooLong too long
 #4 1 0000006321 1 -
@@ -95,36 +108,27 @@ fn request_of(alloc: Global, line: &str, rows: &[u8]) -> Vec<u8> {
     request
 }
 
-/// The kind of a first reply, or the number of a refusal.
-fn kind_of(output: &[u8]) -> u8 {
-    match output {
-        [_, _, _, _, 0xEE, number, ..] => *number,
-        [_, _, _, _, kind, ..] => *kind,
-        _ => 0,
-    }
-}
-
-/// What a site says to a request: the kind of its first reply, how many bytes its replies are, and how the connection
-/// ends.
+/// What a site says to a request: whether its first reply begins as the line says, how many bytes its replies are, and
+/// how the connection ends.
 fn said<S: Alter + Drop>(
     alloc: Global,
     replica: &mut Replica<S>,
     line: &str,
     rows: &[u8],
-) -> (u8, usize, &'static str) {
+) -> (bool, usize, &'static str) {
     let request = request_of(alloc, line, rows);
     let (output, ended) = replies(alloc, replica, request.as_slice());
     drop(request);
-    let kind = kind_of(output.as_slice());
+    let payload = output.as_slice().get(4..).unwrap_or(&[]);
+    let begins = payload.starts_with(digits(line, 3).bytes());
     let len = output.len();
     drop(output);
-    (kind, len, ended)
+    (begins, len, ended)
 }
 
 /// Whether a line says so.
-fn is_wanted(line: &str, said: (u8, usize, &str)) -> bool {
-    let kind = digits(line, 3).room[0];
-    kind == said.0 && number(line, 4) == said.1 as u64 && word(line, 5) == said.2
+fn is_wanted(line: &str, said: (bool, usize, &str)) -> bool {
+    said.0 && number(line, 4) == said.1 as u64 && word(line, 5) == said.2
 }
 
 /// Fails where a site does not say what it should to a request; and tells how long it took.
@@ -137,7 +141,7 @@ fn take<S: Alter + Drop>(
     let start = Instant::now(&rt)?;
     let said = said(rt.alloc(), replica, line, rows);
     let took = start.elapsed(&rt)?.as_millis();
-    println!(rt; "{} of {} bytes in {took} ms: {line}", said.0, said.1)?;
+    println!(rt; "{} bytes in {took} ms: {line}", said.1)?;
     if is_wanted(line, said) {
         Ok(())
     } else {

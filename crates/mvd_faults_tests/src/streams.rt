@@ -10,16 +10,32 @@ use sqlite::Alter;
 use std::alloc::Global;
 use std::test::Fail;
 
-/// Requests, of which the fourth is of no kind, and the fifth is a Bye that is malformed; and the replies.
-const REQUESTS: [&str; 6] = [PUT, WIDE, CLASH, "0000000170", "000000022f00", GET];
+/// Requests, of which the fourth is of no kind, and the fifth is a Bye that is malformed; the last is a row of a view
+/// of the three puts before it. And the replies.
+const REQUESTS: [&str; 10] = [
+    PUT,
+    WIDE,
+    CLASH,
+    "0000000170",
+    "000000022f00",
+    GET,
+    "00000025220161000000000000001a7b22616d6f756e74223a352c2263697479223a224f736c6f227d",
+    "00000026220161000000000000001b7b22616d6f756e74223a2d372c2263697479223a224f736c6f227d",
+    "0000001a220162000000000000000f7b2263697479223a224f736c6f227d",
+    "0000000f2500057370656e640400044f736c6f",
+];
 
-const REPLIES: [&str; 6] = [
+const REPLIES: [&str; 10] = [
     WRITTEN,
     BAD_CONTEXT,
     CLASHES,
     "00000002ee20",
     "00000002ee21",
     STATE,
+    WRITTEN,
+    "0000000da2000000010000000000000002",
+    WRITTEN,
+    "0000002aa50000000000000003fffffffffffffffffffffffffffffffe01fffffffffffffff90000000000000005",
 ];
 
 /// What a connection gives, how it ends, and whether a put of `PUT` is there.

@@ -1,7 +1,10 @@
 //! Replies, and frames of requests and replies that come back.
 use crate::request_frames::{REFUSED_REQUESTS, REQUESTS, is_request, request_fault};
-use mvd_dots::Refusal;
+use mvd_docs::Term;
+use mvd_dots::{Dot, Refusal};
 use mvd_frames::{decode_reply, encode_reply, read_frame};
+use mvd_keys::{Key, Place};
+use mvd_wire::{Items, Reply};
 use std::alloc::Global;
 use std::test::Fail;
 
@@ -64,15 +67,73 @@ fn fault(alloc: Global, kind: u8, payload: &[u8]) -> u8 {
     }
 }
 
+/// The number with which the reading of a frame is refused, or 0; and how many bytes are unread then.
+fn read(alloc: Global, bytes: &[u8]) -> (u8, usize) {
+    let mut input = bytes;
+    let number = match read_frame(alloc, &mut input) {
+        Ok(_) => 0,
+        Err(refusal) => refusal.number(),
+    };
+    (number, input.len())
+}
+
+/// The same of a length and so many bytes behind it.
+fn read_behind(alloc: Global, length: [u8; 4], count: usize) -> Result<(u8, usize), Refusal> {
+    let mut bytes = Vec::new(alloc);
+    bytes.extend_from_slice(&length)?;
+    for _ in 0..count {
+        bytes.push(0x70)?;
+    }
+    Ok(read(alloc, &bytes))
+}
+
+/// A length, how many bytes stand behind it, and what the reading of such a frame comes to.
+const LENGTHS: [([u8; 4], usize, (u8, usize)); 3] = [
+    ([0, 0, 0, 0], 0, (31, 0)),
+    ([0, 0x12, 0x4F, 0x81], 0, (31, 0)),
+    ([0, 0x12, 0x4F, 0x80], 1_200_007, (0, 7)),
+];
+
+fn place(alloc: Global, dot: Dot) -> Result<Place, Refusal> {
+    let term = Term::read(alloc, "1")?;
+    let key = Key::read(alloc, "k")?;
+    Ok(Place { term, key, dot })
+}
+
+/// A page of so many places.
+fn page(alloc: Global, count: u64) -> Result<Reply, Refusal> {
+    let mut places = Vec::new(alloc);
+    for counter in 1..=count {
+        if let Some(dot) = Dot::new(1, counter) {
+            places.push(place(alloc, dot)?)?;
+        }
+    }
+    Ok(Reply::Places(Items::new(places), false))
+}
+
+/// The number with which such a page is refused as a frame, or 0.
+fn page_fault(alloc: Global, count: u64) -> Result<u8, Refusal> {
+    let reply = page(alloc, count)?;
+    Ok(match encode_reply(alloc, &reply) {
+        Ok(_) => 0,
+        Err(refusal) => refusal.number(),
+    })
+}
+
 /// A kind and a payload that are refused as 33.
 const REFUSED: [(u8, &[u8]); 3] = [(0xEE, &[18]), (0xA4, &[2, 0, 0]), (0xA4, &[0, 3, 0xE9])];
 
 #[test]
-fn other_frames_are_refused(rt: HostRuntime) {
+fn other_frames_are_refused(rt: HostRuntime) -> Result<(), Fail> {
     for (kind, payload, number) in REFUSED_REQUESTS {
         assert!(rt; request_fault(rt.alloc(), kind, payload) == number);
     }
     for (kind, payload) in REFUSED {
         assert!(rt; fault(rt.alloc(), kind, payload) == 33);
     }
+    for (length, count, wanted) in LENGTHS {
+        assert!(rt; read_behind(rt.alloc(), length, count)? == wanted);
+    }
+    assert!(rt; page_fault(rt.alloc(), 1_000)? == 0 && page_fault(rt.alloc(), 1_001)? == 33);
+    Ok(())
 }

@@ -31,7 +31,7 @@ pub const REQUESTS: &[&[u8]] = &[
 ];
 
 /// A kind and a payload, and the number with which they are refused.
-pub const REFUSED_REQUESTS: [(u8, &[u8], u8); 15] = [
+pub const REFUSED_REQUESTS: [(u8, &[u8], u8); 18] = [
     (
         0x22,
         b"\x01k\0\0\0\x01\0\0\0\x01\0\0\0\0\0\0\0\x01\0\0\0\x01\0\0\0\0\0\0\0\x02\0\0\0\x07{\"a\":1}",
@@ -48,6 +48,22 @@ pub const REFUSED_REQUESTS: [(u8, &[u8], u8); 15] = [
         2,
     ),
     (0x29, b"\x01k\0\0\0\0\xFF\xFF", 33),
+    // Documents of a push have one form: names rise, and nothing is between.
+    (
+        0x29,
+        b"\x01k\0\0\0\x01\0\0\0\x01\0\0\0\0\0\0\0\x01\0\0\0\0\0\x01\0\0\0\x01\0\0\0\0\0\0\0\x01\0\0\0\x0D{\"b\":1,\"a\":2}",
+        7,
+    ),
+    (
+        0x29,
+        b"\x01k\0\0\0\x01\0\0\0\x01\0\0\0\0\0\0\0\x01\0\0\0\0\0\x01\0\0\0\x01\0\0\0\0\0\0\0\x01\0\0\0\x08{\"a\":1 }",
+        7,
+    ),
+    (
+        0x29,
+        b"\x01k\0\0\0\x01\0\0\0\x01\0\0\0\0\0\0\0\x01\0\0\0\0\0\x01\0\0\0\x01\0\0\0\0\0\0\0\x01\0\0\0\x0A{\"a\":1.5 }",
+        5,
+    ),
     (0x21, b"\0", 1),
     (0x21, b"\x02k", 33),
     (0x01, b"\x01k", 32),

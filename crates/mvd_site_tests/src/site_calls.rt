@@ -4,7 +4,7 @@ use mvd_frames::{decode_request, encode_reply};
 use mvd_kept::{Kept, Work};
 use mvd_keys::Key;
 use mvd_rows::Defs;
-use mvd_site::{Config, Site, no_work};
+use mvd_site::{Config, Prepared, Site, no_work};
 use mvd_start::Start;
 use mvd_tree::key_path;
 use mvd_wire::{Reply, Request};
@@ -35,11 +35,36 @@ const TALK: [Asked; 4] = [
     (0x2F, b"", b"\0\0\0\x01\xA3"),
 ];
 
-fn add_talk(alloc: Global, requests: &mut Vec<Request>) -> Result<(), Refusal> {
-    for (kind, payload, _) in TALK {
-        requests.push(decode_request(alloc, kind, payload)?)?;
+/// Two puts at two keys, and what is there then.
+const APART: [Asked; 4] = [
+    (
+        0x22,
+        b"\x01a\0\0\0\0\0\0\0\x07{\"n\":1}",
+        b"\0\0\0\x0D\xA2\0\0\0\x03\0\0\0\0\0\0\0\x01",
+    ),
+    (
+        0x22,
+        b"\x01b\0\0\0\0\0\0\0\x02{}",
+        b"\0\0\0\x0D\xA2\0\0\0\x03\0\0\0\0\0\0\0\x01",
+    ),
+    (
+        0x21,
+        b"\x01a",
+        b"\0\0\0\x2E\xA1\0\0\0\x01\0\0\0\x03\0\0\0\0\0\0\0\x01\0\0\0\0\0\x01\0\0\0\x03\0\0\0\0\0\0\0\x01\0\0\0\x07{\"n\":1}",
+    ),
+    (
+        0x21,
+        b"\x01b",
+        b"\0\0\0\x29\xA1\0\0\0\x01\0\0\0\x03\0\0\0\0\0\0\0\x01\0\0\0\0\0\x01\0\0\0\x03\0\0\0\0\0\0\0\x01\0\0\0\x02{}",
+    ),
+];
+
+fn requests_of(alloc: Global, asked: &[Asked]) -> Result<Vec<Request>, Refusal> {
+    let mut requests = Vec::new(alloc);
+    for (kind, payload, _) in asked {
+        requests.push(decode_request(alloc, *kind, payload)?)?;
     }
-    Ok(())
+    Ok(requests)
 }
 
 fn is_spelled(alloc: Global, reply: &Reply, bytes: &[u8]) -> Result<bool, Refusal> {
@@ -48,30 +73,76 @@ fn is_spelled(alloc: Global, reply: &Reply, bytes: &[u8]) -> Result<bool, Refusa
 }
 
 /// Whether these are the replies to that.
-fn are_told(alloc: Global, replies: &[Reply]) -> Result<bool, Refusal> {
-    for (reply, (_, _, frame)) in replies.iter().zip(TALK) {
+fn are_told(alloc: Global, replies: &[Reply], asked: &[Asked]) -> Result<bool, Refusal> {
+    for (reply, (_, _, frame)) in replies.iter().zip(asked) {
         if !is_spelled(alloc, reply, frame)? {
             return Ok(false);
         }
     }
-    Ok(replies.len() == TALK.len())
+    Ok(replies.len() == asked.len())
 }
 
-fn is_run(alloc: Global, config: &Config, requests: &[Request]) -> Result<bool, Refusal> {
-    let done = Site::run(alloc, config, requests)?;
-    are_told(alloc, &done.1)
-}
-
-fn talks(alloc: Global) -> Result<bool, Refusal> {
-    let mut requests = Vec::new(alloc);
-    add_talk(alloc, &mut requests)?;
+fn is_run(alloc: Global, requests: &[Request], asked: &[Asked]) -> Result<bool, Refusal> {
     let config = Config::new(3, 9, Defs::new(alloc));
-    is_run(alloc, &config, &requests)
+    let done = Site::run(alloc, &config, requests)?;
+    are_told(alloc, &done.1, asked)
+}
+
+fn talks(alloc: Global, asked: &[Asked]) -> Result<bool, Refusal> {
+    let requests = requests_of(alloc, asked)?;
+    is_run(alloc, &requests, asked)
+}
+
+/// Whether two requests come to changes of two keys, for which the site has room, and both are then installed.
+fn are_installed(site: &mut Site, first: &Request, second: &Request) -> Result<bool, Refusal> {
+    let Prepared::Change(first) = site.prepare(first)? else {
+        return Ok(false);
+    };
+    let Prepared::Change(second) = site.prepare(second)? else {
+        return Ok(false);
+    };
+    let held = site.key_count();
+    if *first.key() == *second.key() || site.config().max_keys() - held < 2 {
+        return Ok(false);
+    }
+    site.install(first)?;
+    site.install(second)?;
+    Ok(true)
+}
+
+/// What a site answers. Nothing is claimed of it, so that no proof here carries an answer's meaning.
+fn answered(site: &mut Site, request: &Request) -> Reply {
+    site.answer(request)
+}
+
+/// Whether a site answers so.
+fn tells(alloc: Global, site: &mut Site, request: &Request, frame: &[u8]) -> Result<bool, Refusal> {
+    let reply = answered(site, request);
+    is_spelled(alloc, &reply, frame)
+}
+
+/// Whether the first two requests are prepared side by side and installed, and the others are then answered so.
+fn are_side_by_side(alloc: Global, site: &mut Site, requests: &[Request]) -> Result<bool, Refusal> {
+    let [first, second, third, fourth] = requests else {
+        return Ok(false);
+    };
+    Ok(
+        are_installed(site, first, second)?
+            && tells(alloc, site, third, APART[2].2)?
+            && tells(alloc, site, fourth, APART[3].2)?,
+    )
+}
+
+fn prepares_two(alloc: Global) -> Result<bool, Refusal> {
+    let requests = requests_of(alloc, &APART)?;
+    let mut site = Site::new(alloc, Config::new(3, 9, Defs::new(alloc)))?;
+    are_side_by_side(alloc, &mut site, &requests)
 }
 
 #[test]
 fn a_site_is_run(rt: HostRuntime) -> Result<(), Fail> {
-    assert!(rt; talks(rt.alloc())?);
+    assert!(rt; talks(rt.alloc(), &TALK)? && talks(rt.alloc(), &APART)?);
+    assert!(rt; prepares_two(rt.alloc())?);
     Ok(())
 }
 

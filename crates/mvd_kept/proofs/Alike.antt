@@ -2,27 +2,14 @@
 use Rattle.std.proofs.Common.{◌≡◌, true, List, refl, sym, ap, ◌∙◌}
 use Rattle.mvd_keys.specs.Writes.{Stands, Write}
 use Rattle.mvd_rows.specs.Answers.{find_answer, range_answer, row_answer, rows_answer}
-use Rattle.mvd_rows.specs.Visible.{visible, visible_in}
+use Rattle.mvd_rows.specs.Visible.{visible_in}
 use Rattle.mvd_wire.specs.declared.request.Request.{Request}
 use Rattle.mvd_wire.specs.declared.request.Request.TheVariants.{Get, Put, Delete, Find, Row, Rows, Node, Bucket, Push, Range, Bye}
-use Rattle.mvd_kept.specs.Answer.{answer, is_question, places_reply, row_reply, rows_reply}
+use Rattle.mvd_kept.specs.Answer.{answer, is_question, places_reply, row_reply, rows_reply, states_of}
 use Rattle.mvd_kept.specs.Config.{ConfigValue}
 use Rattle.mvd_kept.specs.FromStates.{after_from, answer_from}
 use Rattle.mvd_kept.specs.Held.{States}
 use Rattle.mvd_kept.proofs.Answered.{answered}
-
-pub from_writes : (a b : ConfigValue) (known : List Write) (request : Request) → a.defs ≡ b.defs → is_question request ≡ true → answer a known request ≡ answer b known request
-from_writes a b known (Get key) same asks = refl
-from_writes a b known (Put key seen document) same asks = cc
-from_writes a b known (Delete key seen) same asks = cc
-from_writes a b known (Push key pushed) same asks = cc
-from_writes a b known (Find field term after) same asks = ap (λ d. places_reply (find_answer d (visible known) field term after)) same
-from_writes a b known (Range field from to after) same asks = ap (λ d. places_reply (range_answer d (visible known) field from to after)) same
-from_writes a b known (Row view term) same asks = ap (λ d. row_reply (row_answer d (visible known) view term)) same
-from_writes a b known (Rows view after) same asks = ap (λ d. rows_reply (rows_answer d (visible known) view after)) same
-from_writes a b known (Node path) same asks = refl
-from_writes a b known (Bucket path after) same asks = refl
-from_writes a b known Bye same asks = cc
 
 pub from_states : (a b : ConfigValue) (m : States) (request : Request) → a.defs ≡ b.defs → is_question request ≡ true → answer_from a m request ≡ answer_from b m request
 from_states a b m (Get key) same asks = refl
@@ -36,6 +23,9 @@ from_states a b m (Rows view after) same asks = ap (λ d. rows_reply (rows_answe
 from_states a b m (Node path) same asks = refl
 from_states a b m (Bucket path after) same asks = refl
 from_states a b m Bye same asks = cc
+
+pub from_writes : (a b : ConfigValue) (known : List Write) (request : Request) → a.defs ≡ b.defs → is_question request ≡ true → answer a known request ≡ answer b known request
+from_writes a b known request same asks = from_states a b (states_of known) request same asks
 
 -- two maps of states that stand for the same writes
 pub standing : (a b : ConfigValue) (m n : States) (known : List Write) (request : Request) → a.defs ≡ b.defs → is_question request ≡ true → Stands m known → Stands n known →

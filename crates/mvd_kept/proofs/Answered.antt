@@ -1,33 +1,31 @@
 -- The answers from the states, and the states afterwards, are those from the writes that the states stand for.
-use Rattle.std.proofs.Common.{◌≡◌, ◌≢◌, ℕ, Bool, true, false, ◌||◌, ◌&&◌, not, ◌==◌, cond, if◌then◌else◌, List, [], ◌∷◌, ◌++◌, Option, Some, None, refl, sym, ap, ◌∙◌, subst, true≢false, unwrap_or}
+use Rattle.std.proofs.Common.{◌≡◌, ◌≢◌, ℕ, Bool, true, false, ◌||◌, ◌&&◌, not, ◌==◌, cond, if◌then◌else◌, List, ◌++◌, Option, Some, None, refl, sym, ap, ◌∙◌, subst, true≢false, unwrap_or}
 use Rattle.std.specs.Ordering.{eq_by_cmp}
 use Rattle.std.specs.FinMap.{get, get-insert, insert, same_map}
 use Rattle.std.specs.FinSet.{contains, union, contains-union, len-empty}
 use Rattle.mvd_dots.specs.Dot.{DotValue, dot_cmp}
 use Rattle.mvd_dots.specs.Context.{DotSet}
 use Rattle.mvd_dots.proofs.Sets.{dot_total}
-use Rattle.mvd_dots.specs.declared.refusals.Refusal.TheVariants.{DotClash, Full, StateTooLarge}
+use Rattle.mvd_dots.specs.declared.refusals.Refusal.TheVariants.{Full, StateTooLarge}
 use Rattle.mvd_keys.specs.Key.{key_cmp}
 use Rattle.mvd_keys.specs.Minting.{mint}
-use Rattle.mvd_keys.specs.State.{State, Text, after_delete, after_put, clashes, empty_state, join}
-use Rattle.mvd_keys.specs.Writes.{AreOf, Deleted, Key, Stands, Write, Wrote, context, is_empty, state}
+use Rattle.mvd_keys.specs.State.{State, Text, empty_state}
+use Rattle.mvd_keys.specs.Writes.{AreOf, Key, Stands, Write, context, is_empty, state}
 use Rattle.mvd_keys.proofs.KeyOrder.{key_antisymmetric, key_total, same_where_tied, tied_itself_key}
 use Rattle.mvd_keys.proofs.Lists.{join-empty, mint-unseen}
 use Rattle.mvd_keys.proofs.Sets.{IsValid-state}
-use Rattle.mvd_keys.proofs.StatesOfWrites.{join-state, state-delete, state-put}
-use Rattle.mvd_rows.specs.Answers.{find_answer, range_answer, row_answer, rows_answer}
-use Rattle.mvd_rows.proofs.ByKey.{visible_of_writes}
+use Rattle.mvd_keys.proofs.StatesOfWrites.{join-state}
 use Rattle.mvd_wire.specs.declared.request.Request.{Request}
-use Rattle.mvd_wire.specs.declared.request.Request.TheVariants.{Get, Put, Delete, Find, Row, Rows, Node, Bucket, Push, Range, Bye}
+use Rattle.mvd_wire.specs.declared.request.Request.TheVariants.{Put}
 use Rattle.mvd_wire.specs.declared.reply.Reply.{Reply}
-use Rattle.mvd_wire.specs.declared.reply.Reply.TheVariants.{State as Shown, Written, Done, Digests as Told, Refused}
-use Rattle.mvd_kept.specs.Answer.{answer, bucket_answer, change_of, digests, is_full, is_too_large, limited, node_digests, places_reply, put_answer, row_reply, rows_reply}
+use Rattle.mvd_wire.specs.declared.reply.Reply.TheVariants.{Written, Refused}
+use Rattle.mvd_kept.specs.Answer.{answer, change_of, is_full, is_too_large, limited, states_of}
 use Rattle.mvd_kept.specs.Config.{ConfigValue}
-use Rattle.mvd_kept.specs.FromStates.{after_from, answer_from, change_from, push_from, put_from, with_change, with_state, within}
+use Rattle.mvd_kept.specs.FromStates.{after_from, answer_from, change_from, put_from, with_change, with_state}
 use Rattle.mvd_kept.specs.Held.{States, state_at}
 use Rattle.mvd_kept.specs.Known.{Adds}
 use Rattle.mvd_kept.proofs.KnownKeys.{states-stands}
-use Rattle.mvd_kept.proofs.Steps.{Adds-change_of, Adds-nothing, Stands-insert, Stands-nothing, Stands-same, state_at-stands, within-stands}
+use Rattle.mvd_kept.proofs.Steps.{Adds-change_of, Adds-nothing, IsFresh, Stands-insert, Stands-nothing, Stands-same, state_known}
 
 -- ---- what a put and a delete make
 
@@ -41,54 +39,11 @@ minted_fresh : (site : ℕ) (W : List Write) (key : Key) (seen : DotSet) (dot : 
 minted_fresh site W key seen dot minted =
     either_false _ _ (sym (contains-union dot_total (context key W) seen dot) ∙ mint-unseen site (union (context key W) seen) dot minted)
 
-put_state : (m : States) (W : List Write) (key : Key) (dot : DotValue) (seen : DotSet) (document : Text) → Stands m W →
-    (contains (context key W) dot ≡ false) × (contains seen dot ≡ false) →
-    after_put (state_at m key) dot seen document ≡ state key (W ++ Wrote key dot seen document ∷ [])
-put_state m W key dot seen document stands fresh =
-    ap (λ s. after_put s dot seen document) (state_at-stands m W key stands) ∙ sym (state-put key W dot seen document fresh.0 fresh.1)
-
-delete_state : (m : States) (W : List Write) (key : Key) (seen : DotSet) → Stands m W →
-    after_delete (state_at m key) seen ≡ state key (W ++ Deleted key seen ∷ [])
-delete_state m W key seen stands = ap (λ s. after_delete s seen) (state_at-stands m W key stands) ∙ sym (state-delete key W seen)
-
 -- ---- the answers
-
-put_answered : (config : ConfigValue) (m : States) (W : List Write) (key : Key) (seen : DotSet) (document : Text) (o : Option DotValue) →
-    mint config.site (union (context key W) seen) ≡ o → Stands m W → put_from config m key seen document o ≡ put_answer config W key seen document o
-put_answered config m W key seen document None minted stands = refl
-put_answered config m W key seen document (Some dot) minted stands =
-    ap (λ s. within config m key s (Written dot)) (put_state m W key dot seen document stands (minted_fresh config.site W key seen dot minted))
-    ∙ within-stands config m W key (state key (W ++ Wrote key dot seen document ∷ [])) (Written dot) stands
-
-abbrev push_with : ConfigValue → States → Key → State → State → Reply
-push_with config m key pushed s =
-    if is_too_large pushed then Refused StateTooLarge
-    else if clashes s pushed then Refused DotClash
-    else within config m key (join s pushed) Done
-
-push_answered : (config : ConfigValue) (m : States) (W : List Write) (key : Key) (pushed : State) → Stands m W →
-    push_from config m key pushed ≡ answer config W (Push key pushed)
-push_answered config m W key pushed stands =
-    ap (push_with config m key pushed) (state_at-stands m W key stands)
-    ∙ ap (λ r. if is_too_large pushed then Refused StateTooLarge else if clashes (state key W) pushed then Refused DotClash else r)
-    (within-stands config m W key (join (state key W) pushed) Done stands)
 
 -- the answer from the states is that from the writes
 pub answered : (config : ConfigValue) (m : States) (W : List Write) (request : Request) → Stands m W → answer_from config m request ≡ answer config W request
-answered config m W (Get key) stands = ap Shown (state_at-stands m W key stands)
-answered config m W (Put key seen document) stands =
-    ap (put_from config m key seen document) (ap (λ (s : State). mint config.site (union s.context seen)) (state_at-stands m W key stands))
-    ∙ put_answered config m W key seen document (mint config.site (union (context key W) seen)) refl stands
-answered config m W (Delete key seen) stands =
-    ap (λ s. within config m key s Done) (delete_state m W key seen stands) ∙ within-stands config m W key (state key (W ++ Deleted key seen ∷ [])) Done stands
-answered config m W (Push key pushed) stands = push_answered config m W key pushed stands
-answered config m W (Find field term after) stands = ap (λ v. places_reply (find_answer config.defs v field term after)) (visible_of_writes m W stands)
-answered config m W (Range field from to after) stands = ap (λ v. places_reply (range_answer config.defs v field from to after)) (visible_of_writes m W stands)
-answered config m W (Row view term) stands = ap (λ v. row_reply (row_answer config.defs v view term)) (visible_of_writes m W stands)
-answered config m W (Rows view after) stands = ap (λ v. rows_reply (rows_answer config.defs v view after)) (visible_of_writes m W stands)
-answered config m W (Node path) stands = ap (λ n. Told (node_digests (digests n) path)) (states-stands m W stands)
-answered config m W (Bucket path after) stands = ap (λ n. bucket_answer (digests n) path after) (states-stands m W stands)
-answered config m W Bye stands = refl
+answered config m W request stands = ap (λ n. answer_from config n request) (states-stands m W stands)
 
 -- ---- the key that is changed, and its state
 
@@ -103,31 +58,20 @@ limited_cases P config is_held count after reply large full ok =
       ]
     ]
 
--- the dot of an accepted put has been seen neither here nor by the author
-abbrev IsFresh : List Write → Request → Reply → Type 0
-IsFresh W (Put key seen document) (Written dot) = (contains (context key W) dot ≡ false) × (contains seen dot ≡ false)
-IsFresh W request reply = Unit {0}
-
-fresh_put : (config : ConfigValue) (W : List Write) (key : Key) (seen : DotSet) (document : Text) (o : Option DotValue) →
-    mint config.site (union (context key W) seen) ≡ o → IsFresh W (Put key seen document) (put_answer config W key seen document o)
-fresh_put config W key seen document None minted = tt
-fresh_put config W key seen document (Some dot) minted =
+fresh_put : (config : ConfigValue) (m : States) (W : List Write) (key : Key) (seen : DotSet) (document : Text) (o : Option DotValue) →
+    mint config.site (union (context key W) seen) ≡ o → IsFresh W (Put key seen document) (put_from config m key seen document o)
+fresh_put config m W key seen document None minted = tt
+fresh_put config m W key seen document (Some dot) minted =
     limited_cases (IsFresh W (Put key seen document)) config _ _ _ (Written dot) tt tt (minted_fresh config.site W key seen dot minted)
 
-fresh_answer : (config : ConfigValue) (W : List Write) (request : Request) → IsFresh W request (answer config W request)
-fresh_answer config W (Put key seen document) = fresh_put config W key seen document (mint config.site (union (context key W) seen)) refl
+pub fresh_answer : (config : ConfigValue) (W : List Write) (request : Request) → IsFresh W request (answer config W request)
+fresh_answer config W (Put key seen document) =
+    fresh_put config (states_of W) W key seen document _ (ap (λ (s : State). mint config.site (union s.context seen)) (sym (state_known W key)))
 fresh_answer config W request = tt
-
-changes_alike : (m : States) (W : List Write) (request : Request) (reply : Reply) → Stands m W → IsFresh W request reply → change_from m request reply ≡ change_of W request reply
-changes_alike m W (Put key seen document) (Written dot) stands fresh = ap (λ s. Some (key, s)) (put_state m W key dot seen document stands fresh)
-changes_alike m W (Delete key seen) Done stands fresh = ap (λ s. Some (key, s)) (delete_state m W key seen stands)
-changes_alike m W (Push key pushed) Done stands fresh = ap (λ s. Some (key, join s pushed)) (state_at-stands m W key stands)
-changes_alike m W request reply stands fresh = refl
 
 pub changed_alike : (config : ConfigValue) (m : States) (W : List Write) (request : Request) → Stands m W →
     change_from m request (answer_from config m request) ≡ change_of W request (answer config W request)
-changed_alike config m W request stands =
-    ap (change_from m request) (answered config m W request stands) ∙ changes_alike m W request (answer config W request) stands (fresh_answer config W request)
+changed_alike config m W request stands = ap (λ n. change_from n request (answer_from config n request)) (states-stands m W stands)
 
 -- ---- the states afterwards
 
@@ -137,11 +81,11 @@ unseen W V key none =
     sym (join-state key W V)
     ∙ join-empty (state key W) (state key V) (IsValid-state key W) (IsValid-state key V) (ap (λ (s : State). is_empty s.context) (join-state key W V) ∙ none)
 
-changed_stands : (m : States) (W : List Write) (request : Request) (reply : Reply) (added : List Write) (o : Option (Key × State)) → change_of W request reply ≡ o → Stands m W → Adds request reply added →
+changed_stands : (m : States) (W : List Write) (request : Request) (reply : Reply) (added : List Write) (o : Option (Key × State)) → IsFresh W request reply → change_of W request reply ≡ o → Stands m W → Adds request reply added →
     Stands (with_change m o) (W ++ added)
-changed_stands m W request reply added None is stands adds = Stands-nothing m W added stands (Adds-nothing W request reply added adds is)
-changed_stands m W request reply added (Some change) is stands adds =
-    let grown : AreOf change.0 added × (state change.0 (W ++ added) ≡ change.1) = Adds-change_of W request reply added change.0 change.1 adds is in
+changed_stands m W request reply added None fresh is stands adds = Stands-nothing m W added stands (Adds-nothing W request reply added adds is)
+changed_stands m W request reply added (Some change) fresh is stands adds =
+    let grown : AreOf change.0 added × (state change.0 (W ++ added) ≡ change.1) = Adds-change_of W request reply added change.0 change.1 fresh adds is in
     elim (is_empty change.1.context) as (λ b. is_empty change.1.context ≡ b → Stands (if b then m else insert m change.0 change.1) (W ++ added)) [
       | true ↦ λ none. Stands-same m W added change.0 stands grown.0 (unseen W added change.0 (ap (λ (s : State). is_empty s.context) grown.1 ∙ none))
       | false ↦ λ seen. Stands-insert m W added change.0 change.1 stands grown.0 grown.1 seen
@@ -152,7 +96,7 @@ pub after_stands : (config : ConfigValue) (m : States) (W : List Write) (request
     Stands (after_from config m request) (W ++ added)
 after_stands config m W request added stands adds =
     subst (λ o. Stands (with_change m o) (W ++ added)) (sym (changed_alike config m W request stands))
-    (changed_stands m W request (answer config W request) added (change_of W request (answer config W request)) refl stands adds)
+    (changed_stands m W request (answer config W request) added (change_of W request (answer config W request)) (fresh_answer config W request) refl stands adds)
 
 -- ---- one state put in
 

@@ -2,6 +2,7 @@
 use Rattle.std.proofs.Common.{◌≡◌, ℕ, zero, suc, ◌+◌, ◌*◌, ◌≤◌, ◌<◌, Bool, true, false, cond, List, [], ◌∷◌, ◌++◌, length, take, get_or, refl, sym, ap, ap₂, subst, append-nil, Option, ◌∙◌, arith, Some, Ok, Err, Result}
 use Rattle.std.proofs.Math.Seq.{take-nil}
 use Rattle.std.proofs.lemmas.List.{take_more}
+use Rattle.std.proofs.lemmas.List.Sums.{sum_by-cons, sum_by_push}
 use Rattle.std.specs.Prelude.{⊤, nat_eq}
 use Rattle.std.specs.Set.{is_member}
 use Rattle.std.specs.declared.cmp.Ordering.TheVariants.{Less, Equal, Greater}
@@ -79,18 +80,24 @@ module _ (group : List Prepared) (i : ℕ) (item : Prepared) (low : i < length g
       so_far ∙ sym (append-nil (digests_in (take i group))) ∙ ap (λ l. digests_in (take i group) ++ l) (sym (ap (λ p. digests_in (p ∷ [])) reply-is))
       ∙ sym (digests_more (take i group) item) ∙ ap digests_in (sym next)
 
-  pub counts_next : (change : ChangeValue) (a b c : Hashed) → item ≡ Change change → Hashes (changes_in (take i group)) (bytes_in (take i group)) a b → Hashes 1 (length (spelled change.key change.state)) b c
-      → Hashes (changes_in (take (i + 1) group)) (bytes_in (take (i + 1) group)) a c
+  pub counts_next : (change : ChangeValue) (a b c : Hashed) → item ≡ Change change → Hashes (2 * changes_in (take i group)) (bytes_in (take i group) + changed_bytes (digests_in (take i group))) a b
+      → Hashes 2 (length (spelled change.key change.state) + length change.key) b c
+      → Hashes (2 * changes_in (take (i + 1) group)) (bytes_in (take (i + 1) group) + changed_bytes (digests_in (take (i + 1) group))) a c
   counts_next change a b c change-is so_far one =
       let changes = ap changes_in next ∙ changes_more (take i group) item ∙ ap (λ p. changes_in (take i group) + is_change p) change-is in
       let bytes = ap bytes_in next ∙ bytes_more (take i group) item ∙ ap (λ p. bytes_in (take i group) + bytes_of p) change-is in
-      hashes_then (changes_in (take i group)) (bytes_in (take i group)) 1 (length (spelled change.key change.state)) _ _ a b c (omega (arith, changes)) (omega (arith, bytes)) so_far one
+      let keys = ap changed_bytes (ap digests_in next ∙ digests_more (take i group) item ∙ ap (λ p. digests_in (take i group) ++ digests_in (p ∷ [])) change-is)
+      ∙ sum_by_push (λ (e : Key × Option (List ℕ)). length e.0) (digests_in (take i group)) (change.key, Some (digest_of change)) in
+      hashes_then (2 * changes_in (take i group)) (bytes_in (take i group) + changed_bytes (digests_in (take i group))) 2 (length (spelled change.key change.state) + length change.key) _ _ a b c
+      (omega (arith, changes)) (omega (arith, bytes, keys)) so_far one
 
-  pub counts_skip : (reply : Reply) (a b : Hashed) → item ≡ Answer reply → Hashes (changes_in (take i group)) (bytes_in (take i group)) a b → Hashes (changes_in (take (i + 1) group)) (bytes_in (take (i + 1) group)) a b
+  pub counts_skip : (reply : Reply) (a b : Hashed) → item ≡ Answer reply → Hashes (2 * changes_in (take i group)) (bytes_in (take i group) + changed_bytes (digests_in (take i group))) a b
+      → Hashes (2 * changes_in (take (i + 1) group)) (bytes_in (take (i + 1) group) + changed_bytes (digests_in (take (i + 1) group))) a b
   counts_skip reply a b reply-is so_far =
       let changes = ap changes_in next ∙ changes_more (take i group) item ∙ ap (λ p. changes_in (take i group) + is_change p) reply-is in
       let bytes = ap bytes_in next ∙ bytes_more (take i group) item ∙ ap (λ p. bytes_in (take i group) + bytes_of p) reply-is in
-      hashes_then (changes_in (take i group)) (bytes_in (take i group)) 0 0 _ _ a b b (omega (arith, changes)) (omega (arith, bytes)) so_far (no_hash b)
+      let keys = ap changed_bytes (sym (digests_skip reply (digests_in (take i group)) reply-is refl)) in
+      hashes_then (2 * changes_in (take i group)) (bytes_in (take i group) + changed_bytes (digests_in (take i group))) 0 0 _ _ a b b (omega (arith, changes)) (omega (arith, bytes, keys)) so_far (no_hash b)
 
 -- the first have no more than all
 few_changes : (n : ℕ) (group : List Prepared) → changes_in (take n group) ≤ changes_in group
@@ -103,11 +110,22 @@ few_bytes n [] = subst (λ l. bytes_in l ≤ 0) (sym (take-nil n)) (omega arith)
 few_bytes zero (p ∷ group) = omega arith
 few_bytes (suc n) (p ∷ group) = let rest = few_bytes n group in omega (arith, rest)
 
-pub counts_part : (n : ℕ) (group : List Prepared) (a b : Hashed) → Hashes (changes_in (take n group)) (bytes_in (take n group)) a b → Hashes (changes_in group) (bytes_in group) a b
+few_keys : (n : ℕ) (group : List Prepared) → changed_bytes (digests_in (take n group)) ≤ changed_bytes (digests_in group)
+few_keys n [] = subst (λ l. changed_bytes (digests_in l) ≤ 0) (sym (take-nil n)) (omega arith)
+few_keys zero (p ∷ group) = omega arith
+few_keys (suc n) (Answer reply ∷ group) = few_keys n group
+few_keys (suc n) (Change change ∷ group) =
+    let rest = few_keys n group in
+    let first = sum_by-cons (λ (e : Key × Option (List ℕ)). length e.0) (change.key, Some (digest_of change)) (digests_in (take n group)) in
+    let all = sum_by-cons (λ (e : Key × Option (List ℕ)). length e.0) (change.key, Some (digest_of change)) (digests_in group) in omega (arith, rest, first, all)
+
+pub counts_part : (n : ℕ) (group : List Prepared) (a b : Hashed) → Hashes (2 * changes_in (take n group)) (bytes_in (take n group) + changed_bytes (digests_in (take n group))) a b
+    → Hashes (2 * changes_in group) (bytes_in group + changed_bytes (digests_in group)) a b
 counts_part n group a b so_far =
     let changes = few_changes n group in
     let bytes = few_bytes n group in
-    hashes_then (changes_in (take n group)) (bytes_in (take n group)) 0 0 _ _ a b b (omega (arith, changes)) (omega (arith, bytes)) so_far (no_hash b)
+    let keys = few_keys n group in
+    hashes_then (2 * changes_in (take n group)) (bytes_in (take n group) + changed_bytes (digests_in (take n group))) 0 0 _ _ a b b (omega (arith, changes)) (omega (arith, bytes, keys)) so_far (no_hash b)
 
 -- ---- keys in buckets, as more are put in
 
@@ -148,36 +166,39 @@ front_grows held p (suc n) (Change change ∷ group) = front_grows (changed held
 
 -- ---- what the hash tree takes
 
-length_digests : (group : List Prepared) → length (digests_in group) ≡ changes_in group
-length_digests [] = refl
-length_digests (Answer reply ∷ group) = let rest = length_digests group in omega (arith, rest)
-length_digests (Change change ∷ group) = let rest = length_digests group in omega (arith, rest)
-
-module _ (group : List Prepared) (held grown : KeyDigests) (a b c : Hashed) (digested : Hashes (changes_in group) (bytes_in group) a b) where
+module _ (group : List Prepared) (held grown : KeyDigests) (a b c : Hashed) (digested : Hashes (2 * changes_in group) (bytes_in group + changed_bytes (digests_in group)) a b) where
   both_take : keys_touched grown (digests_in group) ≤ keys_touched (changed_all held (digests_in group)) (digests_in group)
-      → Hashes (length (digests_in group) + count_touched 0 (digests_in group) + inner_touched (digests_in group))
-      (changed_bytes (digests_in group) + 32 * keys_touched grown (digests_in group) + 512 * inner_touched (digests_in group)) b c
+      → Hashes (count_touched 0 (digests_in group) + inner_touched (digests_in group)) (32 * keys_touched grown (digests_in group) + 512 * inner_touched (digests_in group)) b c
       → TreeCosts held group a c
   both_take few hashes =
-      let all = length_digests group in
-      hashes_then (changes_in group) (bytes_in group) _ _ _ _ a b c (omega (arith, all)) (omega (arith, few)) digested hashes
+      hashes_then (2 * changes_in group) (bytes_in group + changed_bytes (digests_in group)) _ _ _ _ a b c (omega arith) (omega (arith, few)) digested hashes
 
   takes : (result : Result ⊤ Refusal) → ChangesAll (digests_in group) held grown result b c → TreeCosts held group a c
   takes (Ok done) changes = both_take (let same = ap (λ m. keys_touched m (digests_in group)) changes.ok in omega (arith, same)) changes.hashes
   takes (Err refusal) changes =
       let first = changes.err.1 in
-      let same = ap (λ m. keys_touched m (digests_in group)) first.1 in
+      let same = ap (λ m. keys_touched m (digests_in group)) first.2 in
       let few = front_grows held (λ key. is_member nat_eq (touched 0 (digests_in group)) (bucket_of key)) first.0 group in
       both_take (omega (arith, same, few)) changes.hashes
 
   pub tree_takes : (changes : Changes) (result : Result ⊤ Refusal) → changes ≡ digests_in group → ChangesAll changes held grown result b c → TreeCosts held group a c
   tree_takes changes result is changed = takes result (subst (λ l. ChangesAll l held grown result b c) is changed)
 
+-- one change alone
+pub one_takes : (held grown : KeyDigests) (change : ChangeValue) (k : Key) (digest : List ℕ) (changes : Changes) (result : Result ⊤ Refusal) (a b c d : Hashed) → k ≡ change.key → digest ≡ digest_of change
+    → changes ≡ (k, Some digest) ∷ [] → Hashes 1 (length (spelled change.key change.state)) a b → Hashes 1 (length k) b c → ChangesAll changes held grown result c d → TreeCosts held (Change change ∷ []) a d
+one_takes held grown change k digest changes result a b c d key is alone digested placed changed =
+    let bytes = sum_by-cons (λ (e : Key × Option (List ℕ)). length e.0) (change.key, Some (digest_of change)) [] in
+    let long : length k ≡ length change.key = ap length key in
+    tree_takes (Change change ∷ []) held grown a c d
+    (hashes_then 1 (length (spelled change.key change.state)) 1 (length k) _ _ a b c (omega arith) (omega (arith, bytes, long)) digested placed)
+    changes result (alone ∙ (λ i. (key i, Some (is i)) ∷ [])) changed
+
 -- with no change it stays
 stays : (group : List Prepared) (held grown : KeyDigests) (b c : Hashed) (result : Result ⊤ Refusal) → changes_in group ≡ 0 → ChangesAll (digests_in group) held grown result b c → grown ≡ held
 stays group held grown b c (Ok done) none changes = changes.ok ∙ ap (changed_all held) (no_digests group none)
 stays group held grown b c (Err refusal) none changes =
-    changes.err.1.1 ∙ ap (λ l. changed_all held (take changes.err.1.0 l)) (no_digests group none) ∙ ap (changed_all held) (take-nil changes.err.1.0)
+    changes.err.1.2 ∙ ap (λ l. changed_all held (take changes.err.1.0 l)) (no_digests group none) ∙ ap (changed_all held) (take-nil changes.err.1.0)
 
 pub tree_stays : (group : List Prepared) (changes : Changes) (held grown : KeyDigests) (b c : Hashed) (result : Result ⊤ Refusal) → changes ≡ digests_in group → ChangesAll changes held grown result b c → changes_in group ≡ 0 → grown ≡ held
 tree_stays group changes held grown b c result is changed none = stays group held grown b c result none (subst (λ l. ChangesAll l held grown result b c) is changed)

@@ -24,12 +24,16 @@ turned : (b : Bool) (s : State) → cond (not b) (Some s) None ≡ cond b None (
 turned true s = refl
 turned false s = refl
 
--- a map that stands for the writes is that of the states which follow from them
-pub states-stands : (m : States) (W : List Write) → Stands m W → m ≡ states_of W
+-- the states which follow from writes stand for them
+pub states_of-stands : (W : List Write) → Stands (states_of W) W
 unfolding states_of
-states-stands m W stands =
-    same_map key_total key_antisymmetric _ _ (λ q.
-    stands.at q
-    ∙ sym (turned (is_empty (context q W)) (state q W))
-    ∙ sym (get-from_entries key_total (map (λ k. (k, state k W)) (items (keys W))) q ∙ find_keys (λ k. state k W) (items (keys W)) q
-    ∙ ap (λ b. cond b (Some (state q W)) None) (sym (contains-items (keys W) q) ∙ contains-keys W q)))
+states_of-stands W = record {
+  at = λ q.
+      get-from_entries key_total (map (λ k. (k, state k W)) (items (keys W))) q ∙ find_keys (λ k. state k W) (items (keys W)) q
+      ∙ ap (λ b. cond b (Some (state q W)) None) (sym (contains-items (keys W) q) ∙ contains-keys W q)
+      ∙ turned (is_empty (context q W)) (state q W);
+}
+
+-- and a map that stands for the writes is theirs
+pub states-stands : (m : States) (W : List Write) → Stands m W → m ≡ states_of W
+states-stands m W stands = same_map key_total key_antisymmetric _ _ (λ q. stands.at q ∙ sym ((states_of-stands W).at q))

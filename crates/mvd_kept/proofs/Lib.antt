@@ -1,5 +1,6 @@
 pub mod Alike
 pub mod Answered
+pub mod AnsweredAtOnce
 pub mod Clashes
 pub mod Digested
 pub mod Installed

@@ -26,8 +26,8 @@ use Rattle.mvd_kept.specs.Prepared.{PreparesChange, PreparesChangeFrom, Prepares
 use Rattle.mvd_kept.specs.Sites.{AnswersOne, SiteValue}
 use Rattle.mvd_kept.specs.declared.prepared.Prepared.{Prepared}
 use Rattle.mvd_kept.specs.declared.prepared.Prepared.TheVariants.{Answer, Change}
-use Rattle.mvd_kept.proofs.Answered.{answered, changed_alike, insert_differs, with_state-same, with_state-seen}
-use Rattle.mvd_kept.proofs.Steps.{Adds-change_of, Adds-nothing, Stands-insert, Stands-nothing, Stands-same, state_at-stands}
+use Rattle.mvd_kept.proofs.Answered.{answered, changed_alike, fresh_answer, insert_differs, with_state-same, with_state-seen}
+use Rattle.mvd_kept.proofs.Steps.{Adds-change_of, Adds-nothing, IsFresh, Stands-insert, Stands-nothing, Stands-same, state_at-stands}
 
 -- ---- what is prepared, from the states
 
@@ -143,11 +143,11 @@ known_at site request result from = λ whole known stands.
 -- ---- the step
 
 -- where the state afterwards is the one before, the map stands for the writes added too
-stands_still : (m : States) (known : List Write) (request : Request) (reply : Reply) (added : List Write) (after : Option (Key × State)) → change_of known request reply ≡ after → Stands m known → Adds request reply added →
+stands_still : (m : States) (known : List Write) (request : Request) (reply : Reply) (added : List Write) (after : Option (Key × State)) → IsFresh known request reply → change_of known request reply ≡ after → Stands m known → Adds request reply added →
     IfSome after (λ c. c.1 ≡ state c.0 known) → Stands m (known ++ added)
-stands_still m known request reply added None e stands adds still = Stands-nothing m known added stands (Adds-nothing known request reply added adds e)
-stands_still m known request reply added (Some change) e stands adds still =
-    let grown : AreOf change.0 added × (state change.0 (known ++ added) ≡ change.1) = Adds-change_of known request reply added change.0 change.1 adds e in
+stands_still m known request reply added None fresh e stands adds still = Stands-nothing m known added stands (Adds-nothing known request reply added adds e)
+stands_still m known request reply added (Some change) fresh e stands adds still =
+    let grown : AreOf change.0 added × (state change.0 (known ++ added) ≡ change.1) = Adds-change_of known request reply added change.0 change.1 fresh adds e in
     Stands-same m known added change.0 stands grown.0 (grown.1 ∙ still)
 
 -- a site that is not broken, whose reply was prepared with nothing to change
@@ -155,7 +155,8 @@ pub answers_by_answer : (old : SiteValue) (request : Request) (reply : Reply) �
     ((known : List Write) → Stands old.states known → PreparesAnswer old.config known request reply) → AnswersOne old old request reply
 answers_by_answer old request reply whole prepared = record {
   replies = λ known stands. subst (λ b. MayReply old.config known b request reply b) (sym whole) (inl (prepared known (stands whole)).answers);
-  stands = λ known added stands adds _. stands_still old.states known request reply added (change_of known request reply) refl (stands whole) adds (prepared known (stands whole)).still;
+  stands = λ known added stands adds _. stands_still old.states known request reply added (change_of known request reply)
+      (subst (IsFresh known request) (sym (prepared known (stands whole)).answers) (fresh_answer old.config known request)) refl (stands whole) adds (prepared known (stands whole)).still;
 }
 
 -- and one whose change was installed
@@ -168,7 +169,8 @@ answers_by_change old new request change reply whole installed seen told prepare
       (subst (λ b. MayReply old.config known false request reply b) (sym (ap (λ (s : SiteValue). s.broken) installed)) (inl (told ∙ (prepared known (stands whole)).answers)));
   stands = λ known added stands adds _.
       let grown : AreOf change.key added × (state change.key (known ++ added) ≡ change.state) =
-      Adds-change_of known request reply added change.key change.state adds (ap (change_of known request) told ∙ (prepared known (stands whole)).leaves) in
+      Adds-change_of known request reply added change.key change.state
+      (subst (IsFresh known request) (sym (told ∙ (prepared known (stands whole)).answers)) (fresh_answer old.config known request)) adds (ap (change_of known request) told ∙ (prepared known (stands whole)).leaves) in
       subst (λ m. Stands m (known ++ added)) (sym (ap (λ (s : SiteValue). s.states) installed))
       (Stands-insert old.states known added change.key change.state (stands whole) grown.0 grown.1 seen);
 }
@@ -211,14 +213,14 @@ answers_broken old request broken = record {
 
 -- ---- the step, from the states
 
-refuses_from : (states : States) (request : Request) (refusal : Refusal) → change_from states request (Refused refusal) ≡ None
+pub refuses_from : (states : States) (request : Request) (refusal : Refusal) → change_from states request (Refused refusal) ≡ None
 refuses_from states (Put key seen document) refusal = refl
 refuses_from states (Delete key seen) refusal = refl
 refuses_from states (Push key pushed) refusal = refl
 refuses_from states request refusal = refl
 
 -- a site that is not broken, and has the states that it had
-whole_site : (site : SiteValue) (states : States) → site.broken ≡ false → states ≡ site.states → site ≡ record { config = site.config; states = states; broken = false }
+pub whole_site : (site : SiteValue) (states : States) → site.broken ≡ false → states ≡ site.states → site ≡ record { config = site.config; states = states; broken = false }
 whole_site site states whole same = λ i. record { config = site.config; states = sym same i; broken = whole i }
 
 pub answers_from_answer : (old : SiteValue) (request : Request) (reply : Reply) →

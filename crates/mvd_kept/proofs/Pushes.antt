@@ -43,7 +43,7 @@ module _ (config : ConfigValue) (m : States) (key : Key) (pushed : State) where
   clash_is false true e = refl
   clash_is false false e = absurd (within_is_no DotClash (λ d. cc) (λ d. cc) e)
 
-  never_broken : (large clash : Bool) → Refused Broken ≢ outer large clash
+  pub never_broken : (large clash : Bool) → Refused Broken ≢ outer large clash
   never_broken true clash e = cc
   never_broken false true e = cc
   never_broken false false e = within_is_no Broken (λ d. cc) (λ d. cc) e

@@ -1,5 +1,6 @@
 -- What work comes to.
-use Rattle.std.proofs.Common.{◌≡◌, ◌≢◌, ℕ, ◌+◌, ◌*◌, ◌≤◌, Bool, false, length, ap, sym, subst, subst₂, ◌∙◌, arith, Some, None, unwrap_or, Result, Ok, Err}
+use Rattle.std.proofs.Common.{◌≡◌, ◌≢◌, ℕ, ◌+◌, ◌*◌, ◌≤◌, Bool, false, List, [], ◌∷◌, refl, length, Option, ap, sym, subst, subst₂, ◌∙◌, arith, Some, None, unwrap_or, Result, Ok, Err}
+use Rattle.std.proofs.lemmas.List.Sums.{sum_by-cons}
 use Rattle.std.specs.FinMap.{insert}
 use Rattle.mvd_count.specs.Counted.{RoseBy}
 use Rattle.mvd_dots.specs.declared.refusals.Refusal.{Refusal}
@@ -11,14 +12,16 @@ use Rattle.mvd_rows.specs.Counted.{Within}
 use Rattle.mvd_rows.specs.Stands.{definitions_of}
 use Rattle.mvd_rows.specs.declared.changes.Rows.{Rows as Kept}
 use Rattle.mvd_rows.specs.declared.meters.Meter.{Meter}
-use Rattle.mvd_tree.specs.Change.{changed}
+use Rattle.mvd_tree.specs.Change.{changed, changed_all}
 use Rattle.mvd_digest.specs.Counted.{Hashes}
 use Rattle.mvd_tree.specs.Counted.{keys_beside}
 use Rattle.mvd_tree.specs.HashTree.{KeyDigests}
 use Rattle.mvd_tree.specs.States.{key_digest}
+use Rattle.mvd_tree.specs.Touched.{Changes, changed_bytes, count_touched, inner_touched, keys_touched}
 use Rattle.mvd_digest.specs.declared.digest.Hashed.{Hashed}
 use Rattle.mvd_tree.proofs.Counts.{hashes_then}
 use Rattle.mvd_tree.proofs.Held.{digests_of-insert}
+use Rattle.mvd_tree.proofs.Wholly.{one_touched}
 use Rattle.mvd_wire.specs.declared.request.Request.{Request}
 use Rattle.mvd_wire.specs.declared.request.Request.TheVariants.{Get, Put, Delete, Find, Row, Rows, Node, Bucket, Push, Range, Bye}
 use Rattle.mvd_wire.specs.declared.reply.Reply.{Reply}
@@ -27,6 +30,7 @@ use Rattle.mvd_kept.specs.Answer.{digests, spelled}
 use Rattle.mvd_kept.specs.Config.{ConfigValue}
 use Rattle.mvd_kept.specs.Costs.{AnswerCosts, ChangeCosts, Costs, PrepareCosts, WriteCosts, page_looks}
 use Rattle.mvd_kept.specs.Held.{States, state_at}
+use Rattle.mvd_kept.specs.Installs.{TreeCosts}
 use Rattle.mvd_kept.specs.Prepared.{PreparesChangeFrom}
 use Rattle.mvd_kept.specs.Change.{ChangeValue}
 use Rattle.mvd_kept.specs.Sites.{KeepsKeys, SiteValue}
@@ -42,6 +46,10 @@ no_more : (n m : ℕ) → n ≤ n + m
 no_more n m = omega arith
 
 -- no work is within any bounds
+-- work with other counts of what was hashed
+abbrev pub with_hashed : Work → Hashed → Work
+with_hashed work hashed = record { looks = work.looks; rows = work.rows; hashed = hashed }
+
 pub free : (a b c d e : ℕ) (work : Work) → Costs a b c d e work work
 free a b c d e work = record {
   on_states = record { least = same _; most = no_more _ a };
@@ -86,29 +94,46 @@ refused_unlooked refusal old new none = refused_looks refusal old new (record { 
     wider : (x y : ℕ) → y ≤ x + 0 → y ≤ x + 1002
     wider x y e = omega arith
 
--- a change was put in: the tree of the digests before has grown, and the rows have followed
-pub put_in_costs : (config : ConfigValue) (states : States) (broken : Bool) (tree grown : KeyDigests) (rows : Kept) (key k : Key) (s t : State) (old new : Work) (first then : Hashed)
-    → KeepsKeys config states tree rows broken → broken ≡ false → k ≡ key → t ≡ s
-    → grown ≡ changed tree key (Some (key_digest spelled key s))
-    → Hashes 1 (length (spelled key s)) old.hashed first
-    → Hashes 5 (length k + 32 * keys_beside grown k + 3 * 512) first then
+-- what it takes the hash tree that one key changes
+tree_took : (states : States) (tree : KeyDigests) (change : ChangeValue) (a c : Hashed) → tree ≡ digests states → TreeCosts tree (Change change ∷ []) a c
+    → Hashes 6 (length (spelled change.key change.state) + length change.key + 32 * keys_beside (digests (insert states change.key change.state)) change.key + 1536) a c
+tree_took states tree change a c is took =
+    let moved : Changes = (change.key, Some (key_digest spelled change.key change.state)) ∷ [] in
+    let all : changed_all tree moved ≡ digests (insert states change.key change.state) =
+    ap (λ t. changed t change.key (Some (key_digest spelled change.key change.state))) is ∙ sym (digests_of-insert spelled states change.key change.state) in
+    let keys : keys_touched (changed_all tree moved) moved ≡ keys_beside (digests (insert states change.key change.state)) change.key =
+    one_touched (changed_all tree moved) change.key (Some (key_digest spelled change.key change.state)) ∙ ap (λ t. keys_beside t change.key) all in
+    let four : count_touched 0 moved + inner_touched moved ≡ 4 = refl in
+    let three : inner_touched moved ≡ 3 = refl in
+    let bytes : changed_bytes moved ≡ length change.key = sum_by-cons (λ (e : Key × Option (List ℕ)). length e.0) (change.key, Some (key_digest spelled change.key change.state)) [] ∙ omega arith in
+    hashes_then _ _ 0 0 6 _ a c c (omega (arith, four)) (omega (arith, keys, three, bytes)) took (record { ends = omega arith; reads = omega arith; least_ends = omega arith; least_reads = omega arith })
+
+-- a change was put in: the hash tree has taken it, and the rows have followed
+pub put_in_costs : (config : ConfigValue) (states : States) (broken : Bool) (tree : KeyDigests) (rows : Kept) (change : ChangeValue) (k : Key) (t : State) (old new : Work) (then : Hashed)
+    → KeepsKeys config states tree rows broken → broken ≡ false → k ≡ change.key → t ≡ change.state
+    → TreeCosts tree (Change change ∷ []) old.hashed then
     → new.hashed ≡ then
     → RoseBy 1 old.looks new.looks
     → Within (differing (state_at states k) t * updates_each (definitions_of rows)) (differing (state_at states k) t * looks_each (definitions_of rows)) old.rows new.rows
-    → ChangeCosts 0 (record { config = config; states = states; broken = broken }) key s old new
-put_in_costs config states broken tree grown rows key k s t old new first then keeps whole one same grew digested changing hashed rose within =
-    let all : grown ≡ digests (insert states key s) =
-    grew ∙ ap (λ t. changed t key (Some (key_digest spelled key s))) (keeps.digested whole) ∙ sym (digests_of-insert spelled states key s) in
-    let beside : length k + 32 * keys_beside grown k ≡ length key + 32 * keys_beside (digests (insert states key s)) key = λ i. length (one i) + 32 * keys_beside (all i) (one i) in
+    → ChangeCosts 0 (record { config = config; states = states; broken = broken }) change.key change.state old new
+put_in_costs config states broken tree rows change k t old new then keeps whole one same took hashed rose within =
     let defs = (keeps.listed whole).defs in
-    let moved : differing (state_at states k) t ≡ differing (state_at states key) s = λ i. differing (state_at states (one i)) (same i) in
+    let moved : differing (state_at states k) t ≡ differing (state_at states change.key) change.state = λ i. differing (state_at states (one i)) (same i) in
     record {
       on_states = rose;
-      on_rows = subst (λ p. Within p (differing (state_at states key) s * looks_each config.defs) old.rows new.rows) (λ i. moved i * updates_each (defs i))
+      on_rows = subst (λ p. Within p (differing (state_at states change.key) change.state * looks_each config.defs) old.rows new.rows) (λ i. moved i * updates_each (defs i))
           (subst (λ p. Within (differing (state_at states k) t * updates_each (definitions_of rows)) p old.rows new.rows) (λ i. moved i * looks_each (defs i)) within);
-      hashes = subst (Hashes 6 (length (spelled key s) + length key + 32 * keys_beside (digests (insert states key s)) key + 1536) old.hashed) (sym hashed)
-          (hashes_then 1 (length (spelled key s)) 5 (length k + 32 * keys_beside grown k + 3 * 512) 6 _ old.hashed first then (omega arith) (omega (arith, beside)) digested changing);
+      hashes = subst (Hashes 6 (length (spelled change.key change.state) + length change.key + 32 * keys_beside (digests (insert states change.key change.state)) change.key + 1536) old.hashed) (sym hashed)
+          (tree_took states tree change old.hashed then (keeps.digested whole) took);
     }
+
+-- and where the hash tree was refused memory, that is all
+pub not_put_in_costs : (config : ConfigValue) (states : States) (broken : Bool) (tree : KeyDigests) (rows : Kept) (change : ChangeValue) (work : Work) (then : Hashed)
+    → KeepsKeys config states tree rows broken → broken ≡ false → TreeCosts tree (Change change ∷ []) work.hashed then
+    → ChangeCosts 0 (record { config = config; states = states; broken = broken }) change.key change.state work (with_hashed work then)
+not_put_in_costs config states broken tree rows change work then keeps whole took =
+    let none = free 1 (differing (state_at states change.key) change.state * looks_each config.defs) (differing (state_at states change.key) change.state * updates_each config.defs) 0 0 work in
+    record { on_states = none.on_states; on_rows = none.on_rows; hashes = tree_took states tree change work.hashed then (keeps.digested whole) took }
 
 -- one look, and then other work
 look_then : (p q r t u : ℕ) (x y z : Work) → Costs 1 0 0 0 0 x y → Costs p q r t u y z → Costs (1 + p) q r t u x z

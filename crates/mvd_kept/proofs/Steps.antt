@@ -1,28 +1,28 @@
 -- One request: the map of states follows the writes known.
-use Rattle.std.proofs.Common.{◌≡◌, Bool, true, false, not, ◌&&◌, ◌==◌, cond, if◌then◌else◌, List, [], ◌++◌, Option, Some, None, is_some, refl, sym, ap, ap₂, ◌∙◌, subst, true≢false, append-nil, unwrap_or}
+use Rattle.std.proofs.Common.{◌≡◌, Bool, true, false, not, ◌&&◌, ◌==◌, cond, if◌then◌else◌, List, [], ◌++◌, Option, Some, None, is_some, refl, sym, ap, ◌∙◌, subst, true≢false, append-nil, unwrap_or}
 use Rattle.std.specs.Ordering.{eq_by_cmp}
 use Rattle.std.specs.FinMap.{get, get-insert, insert as insert_at, len as len_of}
-use Rattle.std.specs.FinSet.{len-empty}
+use Rattle.std.specs.FinSet.{contains, len-empty}
 use Rattle.mvd_dots.specs.Dot.{dot_cmp}
 use Rattle.mvd_dots.specs.declared.refusals.Refusal.TheVariants.{StateTooLarge, Full}
 use Rattle.mvd_keys.specs.Key.{key_cmp}
-use Rattle.mvd_keys.specs.State.{State, empty_state, join}
+use Rattle.mvd_keys.specs.State.{State, after_delete, after_put, empty_state, join}
 use Rattle.mvd_keys.specs.Writes.{Key, Write, AreOf, Stands, context, held, is_empty, state}
 use Rattle.mvd_keys.proofs.KeyOrder.{key_total, same_where_tied}
-use Rattle.mvd_keys.proofs.StatesOfWrites.{state-untouched, join-state, key_tied}
+use Rattle.mvd_keys.proofs.StatesOfWrites.{join-state, key_tied, state-delete, state-put, state-untouched}
 use Rattle.mvd_keys.proofs.Sets.{IsValid-state}
-use Rattle.mvd_keys.proofs.Held.{contains-keys, is_some-held, len-stands}
 use Rattle.mvd_keys.proofs.Lists.{state_of_empty}
 use Rattle.mvd_wire.specs.declared.request.Request.{Request}
 use Rattle.mvd_wire.specs.declared.request.Request.TheVariants.{Put, Delete, Push}
 use Rattle.mvd_wire.specs.declared.reply.Reply.{Reply}
 use Rattle.mvd_wire.specs.declared.reply.Reply.TheVariants.{Written, Done, Refused}
-use Rattle.mvd_kept.specs.Answer.{change_of, is_too_large, limited, within_limits}
+use Rattle.mvd_kept.specs.Answer.{change_of, is_too_large, states_of}
 use Rattle.mvd_kept.specs.Config.{ConfigValue}
 use Rattle.mvd_kept.specs.Held.{States, state_at}
 use Rattle.mvd_kept.specs.Known.{Adds}
 use Rattle.mvd_kept.specs.FromStates.{within}
 use Rattle.mvd_kept.specs.Sites.{has_no_room}
+use Rattle.mvd_kept.proofs.KnownKeys.{states_of-stands}
 
 pub state_at-stands : (m : States) (W : List Write) (key : Key) → Stands m W → state_at m key ≡ state key W
 state_at-stands m W key stands =
@@ -33,14 +33,6 @@ state_at-stands m W key stands =
     ] refl
 
 -- ---- the limits
-
--- the same limits, from the map of states
-pub within-stands : (config : ConfigValue) (m : States) (W : List Write) (key : Key) (after : State) (reply : Reply) → Stands m W →
-    within config m key after reply ≡ within_limits config W key after reply
-within-stands config m W key after reply stands =
-    ap₂ (λ a b. limited config a b after reply)
-    (ap is_some (stands.at key) ∙ is_some-held W key ∙ sym (contains-keys W key))
-    (len-stands m W stands)
 
 pub within-large : (config : ConfigValue) (m : States) (key : Key) (after : State) (reply : Reply) → is_too_large after ≡ true → within config m key after reply ≡ Refused StateTooLarge
 within-large config m key after reply large = ap (λ b. if b then Refused StateTooLarge else if has_no_room config m key && not (is_empty after.context) then Refused Full else reply) large
@@ -77,16 +69,27 @@ renamed W V k key s after e own is =
     let pair : ◌≡◌ {A = Key × State} (k, s) (key, after) = cc in
     (subst (λ q. AreOf q V) (ap (λ p. p.0) pair) own, subst (λ q. state q (W ++ V) ≡ after) (ap (λ p. p.0) pair) (is ∙ ap (λ p. p.1) pair))
 
+-- the state that a key has once its writes are known
+pub state_known : (W : List Write) (key : Key) → state_at (states_of W) key ≡ state key W
+state_known W key = state_at-stands (states_of W) W key (states_of-stands W)
+
+-- the dot of an accepted put has been seen neither here nor by the author
+abbrev pub IsFresh : List Write → Request → Reply → Type 0
+IsFresh W (Put key seen document) (Written dot) = (contains (context key W) dot ≡ false) × (contains seen dot ≡ false)
+IsFresh W request reply = Unit {0}
+
 -- an accepted request adds writes of its key, and they make the state after it
-pub Adds-change_of : (W : List Write) (request : Request) (reply : Reply) (V : List Write) (key : Key) (after : State) → Adds request reply V → change_of W request reply ≡ Some (key, after) →
+pub Adds-change_of : (W : List Write) (request : Request) (reply : Reply) (V : List Write) (key : Key) (after : State) → IsFresh W request reply → Adds request reply V → change_of W request reply ≡ Some (key, after) →
     AreOf key V × (state key (W ++ V) ≡ after)
-Adds-change_of W (Put k seen document) (Written dot) V key after adds e =
-    renamed W V k key _ after e (subst (AreOf k) (sym adds) (refl, tt)) (ap (λ X. state k (W ++ X)) adds)
-Adds-change_of W (Delete k seen) Done V key after adds e =
-    renamed W V k key _ after e (subst (AreOf k) (sym adds) (refl, tt)) (ap (λ X. state k (W ++ X)) adds)
-Adds-change_of W (Push k pushed) Done V key after adds e =
-    renamed W V k key _ after e adds.0 (sym (join-state k W V) ∙ ap (join (state k W)) adds.1)
-Adds-change_of W request reply V key after adds e = cc
+Adds-change_of W (Put k seen document) (Written dot) V key after fresh adds e =
+    renamed W V k key _ after e (subst (AreOf k) (sym adds) (refl, tt))
+    (ap (λ X. state k (W ++ X)) adds ∙ state-put k W dot seen document fresh.0 fresh.1 ∙ ap (λ s. after_put s dot seen document) (sym (state_known W k)))
+Adds-change_of W (Delete k seen) Done V key after fresh adds e =
+    renamed W V k key _ after e (subst (AreOf k) (sym adds) (refl, tt))
+    (ap (λ X. state k (W ++ X)) adds ∙ state-delete k W seen ∙ ap (λ s. after_delete s seen) (sym (state_known W k)))
+Adds-change_of W (Push k pushed) Done V key after fresh adds e =
+    renamed W V k key _ after e adds.0 (sym (join-state k W V) ∙ ap (join (state k W)) adds.1 ∙ ap (λ s. join s pushed) (sym (state_known W k)))
+Adds-change_of W request reply V key after fresh adds e = cc
 
 -- and any other request adds nothing
 pub Adds-nothing : (W : List Write) (request : Request) (reply : Reply) (V : List Write) → Adds request reply V → change_of W request reply ≡ None → V ≡ []

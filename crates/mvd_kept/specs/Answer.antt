@@ -1,22 +1,24 @@
--- The answer to a request, from the writes known.
+-- The answer to a request, and the states afterwards.
 --
--- The answers are those of a multi-value register at each key (Shapiro, Preguiça, Baquero, Zawirski, INRIA RR-7506):
--- each is computed from the whole set of writes, and no state that a site keeps stands in it.
-use Rattle.std.specs.Prelude.{ℕ, ℤ, Bool, true, false, not, ◌&&◌, ◌==◌, nat_lt, if◌then◌else◌, List, [], ◌∷◌, ◌++◌, length, map, Option, Some, None, Result, Ok, Err}
-use Rattle.std.specs.FinMap.{FinMap, from_entries}
-use Rattle.std.specs.FinSet.{union, contains, items, len}
+-- The answers are those of a multi-value register at each key (Shapiro, Preguiça, Baquero, Zawirski, INRIA RR-7506). There
+-- is one table, over the states of the keys. Where they follow from a set of writes (`state` of specs/Writes in mvd_keys says
+-- how), each answer is computed from the whole set, and nothing that a site keeps stands in it.
+use Rattle.std.specs.Prelude.{ℕ, ℤ, Bool, true, false, not, ◌&&◌, ◌==◌, nat_lt, if◌then◌else◌, List, ◌++◌, length, map, is_some, Option, Some, None, Result, Ok, Err}
+use Rattle.std.specs.FinMap.{FinMap, from_entries, get, insert, len as map_len}
+use Rattle.std.specs.FinSet.{union, items}
 use Rattle.mvd_dots.specs.Dot.{DotValue}
 use Rattle.mvd_dots.specs.Context.{DotSet}
 use Rattle.mvd_dots.specs.declared.refusals.Refusal.{Refusal}
 use Rattle.mvd_dots.specs.declared.refusals.Refusal.TheVariants.{Exhausted, StateTooLarge, Full, DotClash, BadPath}
 use Rattle.mvd_keys.specs.Key.{key_cmp}
 use Rattle.mvd_keys.specs.Minting.{mint}
-use Rattle.mvd_keys.specs.State.{State, Text, clashes, join}
-use Rattle.mvd_keys.specs.Writes.{Key, Write, Wrote, Deleted, context, is_empty, keys, state}
+use Rattle.mvd_keys.specs.State.{State, Text, after_delete, after_put, clashes, join}
+use Rattle.mvd_keys.specs.Writes.{Key, Write, is_empty, keys, state}
 use Rattle.mvd_docs.specs.declared.term.Term.{Term}
 use Rattle.mvd_keys.specs.declared.places.Place.{Place}
 use Rattle.mvd_rows.specs.Answers.{find_answer, range_answer, row_answer, rows_answer}
-use Rattle.mvd_rows.specs.Visible.{visible}
+use Rattle.mvd_rows.specs.Changes.{state_in}
+use Rattle.mvd_rows.specs.Visible.{visible_in}
 use Rattle.mvd_tree.specs.HashTree.{KeyDigests, node_digest}
 use Rattle.mvd_tree.specs.Page.{children_digests, is_more_after_page, page_of}
 use Rattle.mvd_tree.specs.States.{digests_of}
@@ -27,6 +29,18 @@ use Rattle.mvd_wire.specs.declared.reply.Reply.{Reply}
 use Rattle.mvd_wire.specs.declared.reply.Reply.TheVariants.{State as Shown, Written, Done, Places, Row as RowTold, Rows as RowsTold, Digests as Told, Keys, Refused}
 use Rattle.mvd_wire.specs.declared.reply.Digests.{Digests}
 use Rattle.mvd_kept.specs.Config.{ConfigValue}
+
+-- key states by key
+abbrev pub States : Type 0
+States = FinMap key_cmp State
+
+-- the key's state, or the empty one
+abbrev pub state_at : States → Key → State
+state_at = state_in
+
+-- the states that follow from the writes, by key
+unfoldable pub states_of : List Write → States
+states_of known = from_entries (map (λ key. (key, state key known)) (items (keys known)))
 
 -- the state's spelling is longer than it may be
 abbrev pub is_too_large : State → Bool
@@ -43,27 +57,14 @@ limited config is_held count after reply =
     else if is_full config is_held count && not (is_empty after.context) then Refused Full
     else reply
 
--- the limits, from the writes known
-abbrev pub within_limits : ConfigValue → List Write → Key → State → Reply → Reply
-within_limits config known key after reply = limited config (contains (keys known) key) (len (keys known)) after reply
-
--- a put, with the dot that is minted for it
-abbrev pub put_answer : ConfigValue → List Write → Key → DotSet → Text → Option DotValue → Reply
-put_answer config known key seen document None = Refused Exhausted
-put_answer config known key seen document (Some dot) = within_limits config known key (state key (known ++ Wrote key dot seen document ∷ [])) (Written dot)
-
 -- ---- the hash tree (DeCandia et al. 2007)
-
--- the states that follow from the writes, by key
-unfoldable pub states_of : List Write → FinMap key_cmp State
-states_of known = from_entries (map (λ key. (key, state key known)) (items (keys known)))
 
 -- a key in a state as it is spelled for its digest: the key, and then the state
 unfoldable pub spelled : Key → State → List ℕ
 spelled key s = spelled_key.spell key ++ spell_state s
 
 -- the digests of the keys that are held in these states
-abbrev pub digests : FinMap key_cmp State → KeyDigests
+abbrev pub digests : States → KeyDigests
 digests states = digests_of spelled states
 
 -- the digest of a node and, above the buckets, those of its children
@@ -91,24 +92,37 @@ abbrev pub rows_reply : Result (List (Term × ℕ × ℤ × Option (ℤ × ℤ))
 rows_reply (Ok page) = RowsTold page.0 page.1
 rows_reply (Err refusal) = Refused refusal
 
--- ---- all requests
+-- ---- all requests, from the states of the keys
 
--- The answer to a request, from the writes known
-abbrev pub answer : ConfigValue → List Write → Request → Reply
-answer config known (Get key) = Shown (state key known)
-answer config known (Put key seen document) = put_answer config known key seen document (mint config.site (union (context key known) seen))
-answer config known (Delete key seen) = within_limits config known key (state key (known ++ Deleted key seen ∷ [])) Done
-answer config known (Push key pushed) =
+-- the limits, from the states
+abbrev pub within : ConfigValue → States → Key → State → Reply → Reply
+within config states key after reply = limited config (is_some (get states key)) (map_len states) after reply
+
+-- a put, with the dot that is minted for it
+abbrev pub put_from : ConfigValue → States → Key → DotSet → Text → Option DotValue → Reply
+put_from config states key seen document None = Refused Exhausted
+put_from config states key seen document (Some dot) = within config states key (after_put (state_at states key) dot seen document) (Written dot)
+
+-- a push: the first refusal that applies, or done
+abbrev pub push_from : ConfigValue → States → Key → State → Reply
+push_from config states key pushed =
     if is_too_large pushed then Refused StateTooLarge
-    else if clashes (state key known) pushed then Refused DotClash
-    else within_limits config known key (join (state key known) pushed) Done
-answer config known (Find field term after) = places_reply (find_answer config.defs (visible known) field term after)
-answer config known (Range field from to after) = places_reply (range_answer config.defs (visible known) field from to after)
-answer config known (Row view term) = row_reply (row_answer config.defs (visible known) view term)
-answer config known (Rows view after) = rows_reply (rows_answer config.defs (visible known) view after)
-answer config known (Node path) = Told (node_digests (digests (states_of known)) path)
-answer config known (Bucket path after) = bucket_answer (digests (states_of known)) path after
-answer config known Bye = Done
+    else if clashes (state_at states key) pushed then Refused DotClash
+    else within config states key (join (state_at states key) pushed) Done
+
+-- the answer to a request
+abbrev pub answer_from : ConfigValue → States → Request → Reply
+answer_from config states (Get key) = Shown (state_at states key)
+answer_from config states (Put key seen document) = put_from config states key seen document (mint config.site (union (state_at states key).context seen))
+answer_from config states (Delete key seen) = within config states key (after_delete (state_at states key) seen) Done
+answer_from config states (Push key pushed) = push_from config states key pushed
+answer_from config states (Find field term after) = places_reply (find_answer config.defs (visible_in states) field term after)
+answer_from config states (Range field from to after) = places_reply (range_answer config.defs (visible_in states) field from to after)
+answer_from config states (Row view term) = row_reply (row_answer config.defs (visible_in states) view term)
+answer_from config states (Rows view after) = rows_reply (rows_answer config.defs (visible_in states) view after)
+answer_from config states (Node path) = Told (node_digests (digests states) path)
+answer_from config states (Bucket path after) = bucket_answer (digests states) path after
+answer_from config states Bye = Done
 
 -- the request only asks: for the state of a key, for places, for rows of a view, or for digests of the hash tree
 abbrev pub is_question : Request → Bool
@@ -122,8 +136,28 @@ is_question (Bucket path after) = true
 is_question request = false
 
 -- a key, and the state that it has after the request, where the reply accepts one
+abbrev pub change_from : States → Request → Reply → Option (Key × State)
+change_from states (Put key seen document) (Written dot) = Some (key, after_put (state_at states key) dot seen document)
+change_from states (Delete key seen) Done = Some (key, after_delete (state_at states key) seen)
+change_from states (Push key pushed) Done = Some (key, join (state_at states key) pushed)
+change_from states request reply = None
+
+-- the states with one key's state put in; a key whose state has seen nothing is not held
+abbrev pub with_state : States → Key → State → States
+with_state states key s = if is_empty s.context then states else insert states key s
+
+abbrev pub with_change : States → Option (Key × State) → States
+with_change states None = states
+with_change states (Some change) = with_state states change.0 change.1
+
+-- the states after the request
+abbrev pub after_from : ConfigValue → States → Request → States
+after_from config states request = with_change states (change_from states request (answer_from config states request))
+
+-- ---- and from the writes known: the answer is that from the states which follow from them
+
+abbrev pub answer : ConfigValue → List Write → Request → Reply
+answer config known = answer_from config (states_of known)
+
 abbrev pub change_of : List Write → Request → Reply → Option (Key × State)
-change_of known (Put key seen document) (Written dot) = Some (key, state key (known ++ Wrote key dot seen document ∷ []))
-change_of known (Delete key seen) Done = Some (key, state key (known ++ Deleted key seen ∷ []))
-change_of known (Push key pushed) Done = Some (key, join (state key known) pushed)
-change_of known request reply = None
+change_of known = change_from (states_of known)

@@ -1,17 +1,13 @@
 -- What a site may hold at a key.
 use Rattle.std.specs.Prelude.{ℕ, map, ◌≡◌, false, true, List, Some}
-use Rattle.std.specs.FinMap.{FinMap, get}
-use Rattle.mvd_keys.specs.Key.{is_key, key_cmp}
+use Rattle.std.specs.FinMap.{get}
+use Rattle.mvd_keys.specs.Key.{is_key}
 use Rattle.mvd_keys.specs.State.{IsValid, State}
 use Rattle.mvd_keys.specs.Writes.{Key, is_empty}
-use Rattle.mvd_rows.specs.Changes.{state_in}
 use Rattle.mvd_tree.specs.States.{key_digest}
 use Rattle.mvd_wire.specs.Codecs.{layout2, state}
 use Rattle.mvd_kept.specs.Answer.{is_too_large, spelled}
-
--- key states by key
-abbrev pub States : Type 0
-States = FinMap key_cmp State
+pub use Rattle.mvd_kept.specs.Answer.{States, state_at}
 
 -- a state that has seen a dot, and whose spelling is not too long
 pub record IsHeldState (s : State) : Type 0 where
@@ -37,7 +33,3 @@ pub record AreHeld (states : States) : Type 0 where
 -- keys with the digests that they have in these states
 abbrev pub key_digests : List (Key × State) → List (Key × List ℕ)
 key_digests states = map (λ e. (e.0, key_digest spelled e.0 e.1)) states
-
--- the key's state, or the empty one
-abbrev pub state_at : States → Key → State
-state_at = state_in

@@ -1,4 +1,5 @@
 pub mod Answer
+pub mod AtOnce
 pub mod Change
 pub mod Config
 pub mod Costs

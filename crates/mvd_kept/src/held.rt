@@ -60,10 +60,16 @@ impl Held {
         self.states.get(key)
     }
 
+    /// What is true of all that is held.
+    pub fn stands(&self)
+        ensures { AreHeld self.now }
+    {
+        let _ = &self.states;
+    }
+
     /// The number of keys that are held.
     pub fn len(&self) -> usize
-        ensures len { result ≡ map.len self.now }
-        ensures kept { AreHeld self.now }
+        ensures { result ≡ map.len self.now }
     {
         self.states.len()
     }

@@ -8,6 +8,7 @@ ghost use Rattle.mvd_rows.specs.Changes.{IsRoomy, differing, looks_each, updates
 ghost use Rattle.mvd_rows.specs.Stands.{IsRowsOf};
 ghost use Rattle.mvd_tree.specs.Change.{changed_all};
 ghost use Rattle.mvd_tree.specs.States.{key_digest};
+ghost use Rattle.mvd_tree.specs.Touched.{changed_bytes};
 ghost use Rattle.mvd_kept.specs.Answer.{spelled};
 ghost use Rattle.mvd_kept.specs.Costs.{ChangeCosts, Costs};
 ghost use Rattle.mvd_kept.specs.Held.{IsHeldState, state_at};
@@ -23,25 +24,22 @@ use crate::kept::Kept;
 use crate::prepared::{Change, Prepared};
 use crate::work::Work;
 use mvd_dots::Refusal;
-use mvd_keys::Key;
 use mvd_rows::Rows;
-use mvd_tree::{Hashed, Tree};
+use mvd_tree::{Hashed, KeyChange, Tree};
 use mvd_wire::Reply;
 use std::alloc::Global;
+use std::slice;
 
 /// A key with its digest once the change is made.
-fn digest_of(
-    alloc: Global,
-    change: &Change,
-    hashed: &mut Hashed,
-) -> Result<(Key, Option<[u8; 32]>), Refusal>
+fn moved_key(alloc: Global, change: &Change, hashed: &mut Hashed) -> Result<KeyChange, Refusal>
     ensures key { IfOk result (λ pair. pair.0 ≡ change.now.key) }
     ensures digest { IfOk result (λ pair. pair.1 ≡ Some (key_digest spelled change.now.key change.now.state)) }
-    ensures counts { Hashes 1 (length (spelled change.now.key change.now.state)) hashed.old hashed.new }
+    ensures counts { Hashes 2 (length (spelled change.now.key change.now.state) + length change.now.key)
+        hashed.old hashed.new }
 {
     let digest = change.digest(hashed);
     let key = change.key().copy(alloc)?;
-    Ok((key, Some(digest)))
+    Ok(KeyChange::new(key, Some(digest), hashed))
 }
 
 /// The keys that change, with their digests then.
@@ -49,14 +47,15 @@ fn digests_of(
     alloc: Global,
     group: &[Prepared],
     hashed: &mut Hashed,
-) -> Result<Vec<(Key, Option<[u8; 32]>)>, Refusal>
+) -> Result<Vec<KeyChange>, Refusal>
     ensures digests { IfOk result (λ changes. changes.items ≡ digests_in group.now) }
-    ensures counts { Hashes (changes_in group.now) (bytes_in group.now) hashed.old hashed.new }
+    ensures counts { Hashes (2 * changes_in group.now) (bytes_in group.now + changed_bytes (digests_in group.now))
+        hashed.old hashed.new }
 {
     let mut changes = Vec::new(alloc);
     for prepared in group {
         if let Prepared::Change(change) = prepared {
-            let pair = digest_of(alloc, change, hashed)?;
+            let pair = moved_key(alloc, change, hashed)?;
             changes.push(pair)?;
         }
     }
@@ -75,7 +74,7 @@ fn change_tree(
     ensures counts { TreeCosts tree.old group.now hashed.old hashed.new }
 {
     let changes = digests_of(alloc, group, hashed)?;
-    tree.change_all(&changes, hashed)
+    tree.change(&changes, hashed)
 }
 
 /// The same, unless the site is broken: whether the hash tree follows.
@@ -119,7 +118,7 @@ fn put_change(
 {
     // Here it is known that there are few keys, and few siblings of each.
     let _most = config.max_keys();
-    let _held = states.len();
+    states.stands();
     let (key, state) = change.into_parts();
     states.replace(alloc, rows, key, state, work)
 }
@@ -223,7 +222,7 @@ impl Kept {
         ensures { IsRoomy self.now.states }
     {
         let _most = self.config.max_keys();
-        let _held = self.states.len();
+        self.states.stands();
     }
 
     /// Puts in the change of one key, and changes no other: its state, its digest and its rows. Where memory is
@@ -245,9 +244,10 @@ impl Kept {
         self.few();
         let digest = change.digest(&mut work.hashed);
         let (key, state) = change.into_parts();
+        let moved = KeyChange::new(key, Some(digest), &mut work.hashed);
         let digested = self
             .tree
-            .change(&key, Some(digest), &mut work.hashed)
+            .change(slice::from_ref(&moved), &mut work.hashed)
             .is_ok();
         if !digested {
             self.broken = true;
@@ -255,7 +255,7 @@ impl Kept {
         }
         match self
             .states
-            .replace(self.alloc, &mut self.rows, key, state, work)
+            .replace(self.alloc, &mut self.rows, moved.into_key(), state, work)
         {
             Ok(()) => Ok(()),
             Err(_) => {

@@ -1,23 +1,22 @@
 //! What a site keeps, and the answers to requests from that. The work is added to counts that are handed in.
-ghost use Rattle.std.specs.Prelude.{◌≡◌, ◌≢◌, ◌≤◌, List, false, true, None, Some, Err, Ok};
+ghost use Rattle.std.specs.Prelude.{◌≡◌, ◌≢◌, ◌≤◌, false, true, None, Some, Err, Ok};
 ghost use Rattle.std.specs.Prelude.{is_some, IfOk, IfErr, OnOk};
 ghost use Rattle.std.specs.FinMap as map;
 ghost use Rattle.mvd_count.specs.Counted.{RoseBy};
-ghost use Rattle.mvd_dots.specs.declared.refusals.Refusal.{Refusal};
 ghost use Rattle.mvd_dots.specs.declared.refusals.Refusal.TheVariants.{Broken, DotClash, Memory};
 ghost use Rattle.mvd_keys.specs.State.{IsValid, clashes, empty_state};
-ghost use Rattle.mvd_keys.specs.Writes.{Write, is_empty};
+ghost use Rattle.mvd_keys.specs.Writes.{is_empty};
 ghost use Rattle.mvd_wire.specs.declared.request.Request.TheVariants.{Get, Put, Delete, Push};
-ghost use Rattle.mvd_wire.specs.declared.reply.Reply.TheVariants.{Refused, State as Shown};
-ghost use Rattle.mvd_wire.specs.Replies.{CanBeSent};
+ghost use Rattle.mvd_wire.specs.declared.reply.Reply.TheVariants.{State as Shown};
 ghost use Rattle.mvd_kept.specs.Costs.{AnswerCosts, Costs, PrepareCosts};
+ghost use Rattle.mvd_kept.specs.AtOnce.{AnswersRequest};
 ghost use Rattle.mvd_kept.specs.FromStates.{AnswersFrom, joined_site, push_reply, unless_broken};
 ghost use Rattle.mvd_kept.specs.Held.{AreHeld, IsKept, state_at};
 ghost use Rattle.mvd_kept.specs.Installs.{broken_site};
-ghost use Rattle.mvd_kept.specs.Known.{Adds, IsValidRequest};
+ghost use Rattle.mvd_kept.specs.Known.{IsValidRequest};
 ghost use Rattle.mvd_kept.specs.Prepared.{IsFrugal, IsReady, LimitsTo, PreparesAt, PreparesFrom};
 ghost use Rattle.mvd_kept.specs.Prepared.{PreparesFromStates, PreparesReply};
-ghost use Rattle.mvd_kept.specs.Sites.{AnswersOne, SiteValue};
+ghost use Rattle.mvd_kept.specs.Sites.{SiteValue};
 
 use crate::config::Config;
 use crate::held::Held;
@@ -69,6 +68,15 @@ impl Kept {
         &self.config
     }
 
+    /// What is true of all that it keeps: it holds no more keys than it may, each is one, and each state has seen a dot and
+    /// has a spelling within the limit.
+    pub fn stands(&self)
+        ensures held { AreHeld self.now.states }
+        ensures room { map.len self.now.states ≤ self.now.config.max_keys }
+    {
+        self.states.stands();
+    }
+
     /// The number of keys that are held.
     pub fn key_count(&self) -> u32
         ensures count { result ≡ map.len self.now.states }
@@ -77,6 +85,7 @@ impl Kept {
         ensures held { AreHeld self.now.states }
     {
         let most = self.config.max_keys();
+        self.states.stands();
         let count = self.states.len();
         prove!(count <= most as usize);
         count as u32
@@ -153,20 +162,7 @@ impl Kept {
 
     /// Answers one request. A refusal other than `Broken` leaves the site as it was.
     pub fn answer(&mut self, request: &Request, work: &mut Work) -> Reply
-        ensures answer { AnswersOne self.old self.new request.now result }
-        ensures states { AnswersFrom self.old self.new request.now result }
-        // There is a set of writes that it adds.
-        ensures choice { (added : List Write) × Adds request.now result added }
-        ensures config { self.new.config ≡ self.old.config }
-        // Whether it is broken, and for good.
-        ensures told { result ≡ Refused Broken → self.new.broken ≡ true }
-        ensures broken { self.new.broken ≡ true → result ≡ Refused Broken }
-        ensures stays { self.old.broken ≡ true → self.new ≡ self.old }
-        ensures unchanged { (refusal : Refusal) → result ≡ Refused refusal → refusal ≢ Broken → self.new ≡ self.old }
-        // A question of a node or of a row, Bye, and a push of what is held already take no memory.
-        ensures frugal { IsFrugal self.old.states request.now → result ≢ Refused Memory }
-        // It is not too long for its frame.
-        ensures fits { CanBeSent result }
+        ensures answer { AnswersRequest self.old self.new request.now result }
         ensures costs { AnswerCosts self.old request.now result work.old work.new }
         ensures idle { self.old.broken ≡ true → work.new ≡ work.old }
     {

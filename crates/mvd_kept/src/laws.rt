@@ -1,24 +1,32 @@
 //! What holds of a site's states and of its answers, each law as the contract of an empty function.
-ghost use Rattle.std.specs.Prelude.{◌≡◌, ◌≢◌, ◌≤◌, ℕ, List, ◌++◌, length, true, false};
+ghost use Rattle.std.specs.Prelude.{◌≡◌, ◌≢◌, ◌≤◌, ◌↔◌, ℕ, List, ◌++◌, length, true, false};
 ghost use Rattle.std.specs.FinMap.{insert};
-ghost use Rattle.mvd_dots.specs.declared.refusals.Refusal.TheVariants.{DotClash};
-ghost use Rattle.mvd_keys.specs.Writes.{Agree, SameWrites, Stands, Write};
+ghost use Rattle.mvd_dots.specs.declared.refusals.Refusal.{Refusal};
+ghost use Rattle.mvd_dots.specs.declared.refusals.Refusal.TheVariants.{Broken, DotClash};
+ghost use Rattle.mvd_keys.specs.Writes.{Agree, Key, SameWrites, Stands, Write, state};
+ghost use Rattle.mvd_rows.specs.Visible.{visible, visible_in};
 ghost use Rattle.mvd_tree.specs.Hashed.{HashesTellApart, HaveOneText, SameUnder};
 ghost use Rattle.mvd_tree.specs.HashTree.{node_digest};
 ghost use Rattle.mvd_wire.specs.declared.request.Request.{Request};
+ghost use Rattle.mvd_wire.specs.declared.reply.Reply.{Reply};
 ghost use Rattle.mvd_wire.specs.declared.reply.Reply.TheVariants.{Refused};
 ghost use Rattle.mvd_kept.specs.Answer.{answer, digests, is_question, spelled, states_of};
+ghost use Rattle.mvd_kept.specs.AtOnce.{AnswersRequest};
 ghost use Rattle.mvd_kept.specs.Change.{ChangeValue};
 ghost use Rattle.mvd_kept.specs.Config.{ConfigValue};
 ghost use Rattle.mvd_kept.specs.FromStates.{IsClash, after_from, answer_from};
-ghost use Rattle.mvd_kept.specs.Held.{AreHeld, States};
+ghost use Rattle.mvd_kept.specs.Held.{AreHeld, States, state_at};
 ghost use Rattle.mvd_kept.specs.Known.{Adds};
 ghost use Rattle.mvd_kept.specs.Prepared.{IsChangeNow};
-ghost use Rattle.mvd_kept.specs.Sites.{SiteValue, has_no_room};
+ghost use Rattle.mvd_kept.specs.Sites.{AnswersOne, SiteValue, has_no_room};
 
 /// Where states stand for a set of writes, the answer from the states is that from the writes, and the states
 /// afterwards stand for the writes with what the request added.
 pub fn answers_from_states()
+    // The states that follow from writes are those of the multi-value register, and what indexes and views show is what
+    // the writes show.
+    ensures state { (known : List Write) (key : Key) → state_at (states_of known) key ≡ state key known }
+    ensures visible { (known : List Write) → visible_in (states_of known) ≡ visible known }
     ensures answer { (config : ConfigValue) (states : States) (known : List Write) (request : Request) →
         Stands states known → answer_from config states request ≡ answer config known request }
     ensures after { (config : ConfigValue) (states : States) (known : List Write) (request : Request)
@@ -30,6 +38,22 @@ pub fn answers_from_states()
     // Two sets of writes with the same states have the same answers.
     ensures alike { (config : ConfigValue) (states : States) (V W : List Write) (request : Request) →
         Stands states V → Stands states W → answer config V request ≡ answer config W request }
+{}
+
+/// What a site does with one request, as a reader of its states may say it, and one of the writes that it knows.
+pub fn answers_follow()
+    // From any writes that its states stood for, the reply is one that it may give, and its states stand for what it
+    // added too.
+    ensures known { (old new : SiteValue) (request : Request) (reply : Reply) →
+        AnswersRequest old new request reply → AnswersOne old new request reply }
+    ensures config { (old new : SiteValue) (request : Request) (reply : Reply) →
+        AnswersRequest old new request reply → new.config ≡ old.config }
+    // It says that it is broken just where it is from then on.
+    ensures told { (old new : SiteValue) (request : Request) (reply : Reply) →
+        AnswersRequest old new request reply → (reply ≡ Refused Broken) ↔ (new.broken ≡ true) }
+    // What is refused changes nothing, unless it breaks.
+    ensures unchanged { (old new : SiteValue) (request : Request) (reply : Reply) (refusal : Refusal) →
+        AnswersRequest old new request reply → reply ≡ Refused refusal → refusal ≢ Broken → new ≡ old }
 {}
 
 /// Sites that know the same writes give equal answers: to a question, of the configuration only the definitions of

@@ -82,8 +82,7 @@ impl Kept {
         ensures ready { IfOk result (IsReady self.now) }
         ensures whole { IfErr result (λ refusal. refusal ≢ Broken) }
     {
-        // Here it is known that what is held are keys.
-        let _held = self.states.len();
+        self.states.stands();
         let (keys, is_more) = self.bucket(path, after)?;
         Ok(Prepared::Answer(Reply::Keys(Items::new(keys), is_more)))
     }
@@ -105,8 +104,7 @@ impl Kept {
         ensures whole { IfErr result (λ refusal. refusal ≢ Broken) }
         ensures looks { Within 0 (prepared_looks result) meter.old meter.new }
     {
-        // Here it is known that what is held are keys.
-        let _held = self.states.len();
+        self.states.stands();
         let after = copy_spot(self.alloc, after)?;
         let (places, is_more) = self.rows.find(field, term, after, meter)?;
         Ok(Prepared::Answer(Reply::Places(Items::new(places), is_more)))
@@ -130,8 +128,7 @@ impl Kept {
         ensures whole { IfErr result (λ refusal. refusal ≢ Broken) }
         ensures looks { Within 0 (prepared_looks result) meter.old meter.new }
     {
-        // Here it is known that what is held are keys.
-        let _held = self.states.len();
+        self.states.stands();
         let after = copy_place(self.alloc, after)?;
         let (places, is_more) = self.rows.range(field, from, to, after, meter)?;
         Ok(Prepared::Answer(Reply::Places(Items::new(places), is_more)))

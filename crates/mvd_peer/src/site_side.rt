@@ -63,10 +63,10 @@ impl Peer for Site {
 
     #[tactic(auto, using(crate::proofs::SiteSides::push_ok, crate::proofs::SiteSides::push_refused, crate::proofs::SiteSides::push_unbroken))]
     fn push(&mut self, key: &Key, state: &KeyState) -> Result<(), Refusal> {
-        // Here it is known that the pushed state's siblings have been seen, and then what holds of any site.
+        // Here it is known that the pushed state's siblings have been seen.
         let _seen = state.context();
         let pushed = Site::push(self, key, state);
-        let _held = self.key_count();
+        self.stands();
         pushed
     }
 }

@@ -1,5 +1,6 @@
 pub use Rattle.mvd_kept.proofs.Alike
 pub use Rattle.mvd_kept.proofs.Answered
+pub use Rattle.mvd_kept.proofs.AnsweredAtOnce
 pub use Rattle.mvd_kept.proofs.Clashes
 pub use Rattle.mvd_kept.proofs.Digested
 pub use Rattle.mvd_kept.proofs.HeldMaps

@@ -1,4 +1,5 @@
 pub use Rattle.mvd_kept.specs.Answer
+pub use Rattle.mvd_kept.specs.AtOnce
 pub use Rattle.mvd_kept.specs.Change
 pub use Rattle.mvd_kept.specs.Config
 pub use Rattle.mvd_kept.specs.Costs

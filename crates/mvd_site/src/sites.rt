@@ -5,22 +5,20 @@ ghost use Rattle.std.specs.List.{AllByRecursion};
 ghost use Rattle.std.specs.Option.{option_copied};
 ghost use Rattle.std.specs.FinMap as map;
 ghost use Rattle.mvd_dots.specs.Answer.{IsAnswer};
-ghost use Rattle.mvd_dots.specs.declared.refusals.Refusal.{Refusal};
 ghost use Rattle.mvd_dots.specs.declared.refusals.Refusal.TheVariants.{Broken, DotClash, Memory};
 ghost use Rattle.mvd_keys.specs.Key.{key_cmp};
 ghost use Rattle.mvd_keys.specs.State.{IsValid, clashes};
 ghost use Rattle.mvd_keys.specs.Writes.{Write, Stands};
 ghost use Rattle.mvd_tree.specs.Page.{is_more_after_page, page_of};
-ghost use Rattle.mvd_wire.specs.declared.reply.Reply.TheVariants.{Refused};
 ghost use Rattle.mvd_wire.specs.declared.request.Request.TheVariants.{Push};
-ghost use Rattle.mvd_wire.specs.Replies.{CanBeSent};
 ghost use Rattle.mvd_kept.specs.Answer.{digests, node_digests};
+ghost use Rattle.mvd_kept.specs.AtOnce.{AnswersRequest};
 ghost use Rattle.mvd_kept.specs.FromStates.{AnswersFrom, bucket_refusal, joined_site, push_reply, unless_broken};
 ghost use Rattle.mvd_kept.specs.Held.{AreHeld, IsHeldState, state_at};
 ghost use Rattle.mvd_kept.specs.Installs.{InstallsAll, MayAllBeIn, broken_site, changed_site};
-ghost use Rattle.mvd_kept.specs.Known.{Adds, Event, IsValidRequest, Tells};
+ghost use Rattle.mvd_kept.specs.Known.{Event, IsValidRequest, Tells};
 ghost use Rattle.mvd_kept.specs.Prepared.{IsChangeNow, IsFrugal, IsReady, PreparesAt, PreparesFromStates};
-ghost use Rattle.mvd_kept.specs.Sites.{AnswersAll, AnswersOne, SiteValue, has_no_room, opened};
+ghost use Rattle.mvd_kept.specs.Sites.{AnswersAll, SiteValue, has_no_room, opened};
 
 use crate::uncounted::no_work;
 use mvd_dots::Refusal;
@@ -86,6 +84,15 @@ impl Site {
         ensures { result.now ≡ self.now.config }
     {
         self.kept.config()
+    }
+
+    /// What is true of every site: it holds no more keys than it may, each is one, and each state has seen a dot and has a
+    /// spelling within the limit.
+    pub fn stands(&self)
+        ensures held { AreHeld self.now.states }
+        ensures room { map.len self.now.states ≤ self.now.config.max_keys }
+    {
+        self.kept.stands();
     }
 
     /// The number of keys that are held.
@@ -180,20 +187,7 @@ impl Site {
 
     /// Answers one request. A refusal other than `Broken` leaves the site as it was.
     pub fn answer(&mut self, request: &Request) -> Reply
-        ensures answer { AnswersOne self.old self.new request.now result }
-        ensures states { AnswersFrom self.old self.new request.now result }
-        // There is a set of writes that it adds.
-        ensures choice { (added : List Write) × Adds request.now result added }
-        ensures config { self.new.config ≡ self.old.config }
-        // Whether it is broken, and for good.
-        ensures told { result ≡ Refused Broken → self.new.broken ≡ true }
-        ensures broken { self.new.broken ≡ true → result ≡ Refused Broken }
-        ensures stays { self.old.broken ≡ true → self.new ≡ self.old }
-        ensures unchanged { (refusal : Refusal) → result ≡ Refused refusal → refusal ≢ Broken → self.new ≡ self.old }
-        // A question of a node or of a row, Bye, and a push of what is held already take no memory.
-        ensures frugal { IsFrugal self.old.states request.now → result ≢ Refused Memory }
-        // It is not too long for its frame.
-        ensures fits { CanBeSent result }
+        ensures { AnswersRequest self.old self.new request.now result }
     {
         self.kept.answer(request, &mut begun())
     }

@@ -115,12 +115,11 @@ whole_so old new (Rows v after) reply whole held valid from = tt
 whole_so old new (Range f start to after) reply whole held valid from = tt
 
 -- THE REPLY OF A SITE is a true one, also where it is broken
-pub replies_truly : (old new : SiteValue) (q : Request) (reply : Reply) → AreHeld old.states → IsValidRequest q → AnswersFrom old new q reply → (old.broken ≡ true → new ≡ old) → (new.broken ≡ true → reply ≡ Refused Broken) → TrueReply old.config.max_keys old.states q reply new.states
-replies_truly old new q reply held valid from stays told = elim old.broken as (λ b. old.broken ≡ b → TrueReply old.config.max_keys old.states q reply new.states) [
+pub replies_truly : (old new : SiteValue) (q : Request) (reply : Reply) → AreHeld old.states → IsValidRequest q → AnswersFrom old new q reply → (old.broken ≡ true → (reply ≡ Refused Broken) × (new ≡ old)) → TrueReply old.config.max_keys old.states q reply new.states
+replies_truly old new q reply held valid from stays = elim old.broken as (λ b. old.broken ≡ b → TrueReply old.config.max_keys old.states q reply new.states) [
   | true ↦ λ was.
       let same = stays was in
-      let is : reply ≡ Refused Broken = told (ap (λ (v : SiteValue). v.broken) same ∙ was) in
-      subst (λ (r : Reply). TrueReply old.config.max_keys old.states q r new.states) (sym is) (refused_so old.config.max_keys old.states new.states q Broken (ap (λ (v : SiteValue). v.states) same) refl (λ key s. tt))
+      subst (λ (r : Reply). TrueReply old.config.max_keys old.states q r new.states) (sym same.0) (refused_so old.config.max_keys old.states new.states q Broken (ap (λ (v : SiteValue). v.states) same.1) refl (λ key s. tt))
   | false ↦ λ was. whole_so old new q reply was held valid from
 ] refl
 

@@ -31,7 +31,7 @@ impl Served {
         ensures waiting { result.waiting.items ≡ [] }
         ensures held { AreHeld result.site.states }
     {
-        let _held = site.key_count();
+        site.stands();
         Served {
             alloc,
             site,
@@ -48,10 +48,10 @@ impl Served {
         ensures held { AreHeld self.new.site.states }
         ensures waiting { self.new.waiting.items ≡ self.old.waiting.items }
     {
-        let _held_before = self.site.key_count();
+        self.site.stands();
         is_valid(request);
         let reply = self.site.answer(request);
-        let _held = self.site.key_count();
+        self.site.stands();
         reply
     }
 

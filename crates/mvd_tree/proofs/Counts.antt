@@ -6,12 +6,9 @@ use Rattle.std.specs.Cmp.Lexicographic.{nat_list_cmp_total}
 use Rattle.std.proofs.Math.Seq.{take-suc}
 use Rattle.std.proofs.lemmas.List.{map-append}
 use Rattle.std.proofs.lemmas.Grind.{flat_map-append}
-use Rattle.mvd_tree.specs.HashTree.{KeyDigests, under}
+use Rattle.mvd_tree.specs.HashTree.{KeyDigests}
 use Rattle.mvd_digest.specs.Counted.{Hashes}
-use Rattle.mvd_tree.specs.Counted.{all_keys, key_bytes, keys_beside}
-use Rattle.mvd_tree.specs.Layout.{AreApart, bucket_of, gathered, path_of_three}
-use Rattle.mvd_tree.proofs.Changes.{any_default}
-use Rattle.mvd_tree.proofs.Gathered.{entries_under, path_of_bucket}
+use Rattle.mvd_tree.specs.Counted.{all_keys, key_bytes}
 use Rattle.mvd_digest.specs.declared.digest.Hashed.{Hashed}
 
 pub hashes_then : (a b p q m n : ℕ) (x y z : Hashed) → a + p ≤ m → b + q ≤ n → Hashes a b x y → Hashes p q y z → Hashes m n x z
@@ -74,14 +71,6 @@ bytes_within es rest all e is =
     let bytes = ap key_bytes is in
     let longer = length-append es (e ∷ rest) in
     let keys = ap length is in (omega (arith, joined, both, last, bytes), omega (arith, longer, keys))
-
--- the keys with a key's place are those of its bucket
-pub beside_in_bucket : (bs : List KeyDigests) (key : List ℕ) (n : ℕ) (own : KeyDigests) → AreApart bs → n < length bs → n ≡ bucket_of key → own ≡ get_or bs n own → keys_beside (gathered bs) key ≡ length (entries own)
-beside_in_bucket bs key n own apart within at is =
-    len-entries _
-    ∙ ap (λ path. length (entries (under path (gathered bs)))) (sym (path_of_bucket key) ∙ ap path_of_three (sym at))
-    ∙ ap length (entries_under bs apart n)
-    ∙ ap (λ b. length (entries b)) (sym (is ∙ any_default bs n own empty within))
 
 -- the keys of one bucket more
 pub keys_next : (bs : List KeyDigests) (n : ℕ) (d : KeyDigests) → n < length bs → all_keys (take (n + 1) bs) ≡ all_keys (take n bs) + len (get_or bs n d)

@@ -1,5 +1,5 @@
 -- Many keys change at once: the numbers of the nodes over them, and the buckets.
-use Rattle.std.proofs.Common.{◌≡◌, ℕ, ◌+◌, ◌/◌, ◌<◌, Bool, true, false, cond, ◌||◌, List, [], ◌∷◌, ◌++◌, length, get_or, map, take, refl, sym, ap, subst, ◌∙◌, add-one, Option}
+use Rattle.std.proofs.Common.{◌≡◌, ℕ, zero, suc, ◌+◌, ◌/◌, ◌<◌, ◌≤◌, Bool, true, false, ◌||◌, List, [], ◌∷◌, ◌++◌, length, length-append, get_or, set, map, take, refl, sym, ap, subst, ◌∙◌, add-one, arith, Option}
 use Rattle.std.specs.Prelude.{nat_eq}
 use Rattle.std.specs.Cmp.{unsigned_Decides}
 use Rattle.std.specs.List.{AllByRecursion, IsDistinct, list_any}
@@ -7,11 +7,14 @@ use Rattle.std.specs.Set.{is_member}
 use Rattle.std.proofs.Math.Seq.{take-suc}
 use Rattle.std.proofs.lemmas.List.{length-set, map-append}
 use Rattle.std.proofs.lemmas.List.Folds.{list_any-append}
+use Rattle.mvd_digest.specs.Counted.{Hashes}
+use Rattle.mvd_digest.specs.declared.digest.Hashed.{Hashed}
 use Rattle.mvd_tree.specs.Change.{changed_all}
 use Rattle.mvd_tree.specs.HashTree.{KeyDigests}
 use Rattle.mvd_tree.specs.Layout.{bucket_of, gathered, AreApart}
-use Rattle.mvd_tree.specs.Renewed.{AreQuotients, with_changes, with_once}
+use Rattle.mvd_tree.specs.Renewed.{AreQuotients, Renews, set_each, with_changes}
 use Rattle.mvd_tree.specs.Touched.{Changes}
+use Rattle.mvd_tree.proofs.Counts.{hashes_then, map_next}
 use Rattle.mvd_tree.proofs.Gathered.{new_buckets-apart, new_buckets-gathered}
 
 -- numbers that are compared the other way round
@@ -64,28 +67,92 @@ or_same true b h = refl
 or_same false true h = h refl
 or_same false false h = refl
 
--- those of one number more
-pub one_quotient : (numbers : List ℕ) (by : ℕ) (found : List ℕ) (n : ℕ) → AreQuotients numbers by found → AreQuotients (numbers ++ n ∷ []) by (with_once found (n / by))
-one_quotient numbers by found n are =
-    elim (list_any (λ m. nat_eq m (n / by)) found) as (λ b. list_any (λ m. nat_eq m (n / by)) found ≡ b → AreQuotients (numbers ++ n ∷ []) by (cond b found (found ++ (n / by) ∷ []))) [
-      | true ↦ λ there. record {
-        once = are.once;
-        same = λ q.
-            are.same q ∙ or_same (is_member nat_eq (map (λ m. m / by) numbers) q) (nat_eq q (n / by)) (λ e.
-            ap (is_member nat_eq (map (λ m. m / by) numbers)) ((unsigned_Decides q (n / by)).0 e) ∙ sym (are.same (n / by)) ∙ sym (member_turned found (n / by)) ∙ there)
-            ∙ sym (joined q);
-      }
-      | false ↦ λ none. record {
-        once = distinct_more found (n / by) are.once none;
-        same = λ q. list_any-append (nat_eq q) found ((n / by) ∷ []) ∙ (λ i. are.same q i || or_false (nat_eq q (n / by)) i) ∙ sym (joined q);
-      }
-    ] refl
+joined : (numbers : List ℕ) (by n q : ℕ) → is_member nat_eq (map (λ m. m / by) (numbers ++ n ∷ [])) q ≡ (is_member nat_eq (map (λ m. m / by) numbers) q || nat_eq q (n / by))
+joined numbers by n q =
+    ap (list_any (nat_eq q)) (map-append (λ m. m / by) numbers (n ∷ []))
+    ∙ list_any-append (nat_eq q) (map (λ m. m / by) numbers) ((n / by) ∷ [])
+    ∙ (λ i. is_member nat_eq (map (λ m. m / by) numbers) q || or_false (nat_eq q (n / by)) i)
+
+-- those of one number more, whose quotient is there or is not
+old_quotient : (numbers : List ℕ) (by : ℕ) (found : List ℕ) (n : ℕ) → AreQuotients numbers by found → is_member nat_eq found (n / by) ≡ true → AreQuotients (numbers ++ n ∷ []) by found
+old_quotient numbers by found n are there = record {
+  once = are.once;
+  same = λ q.
+      are.same q ∙ or_same (is_member nat_eq (map (λ m. m / by) numbers) q) (nat_eq q (n / by)) (λ e.
+      ap (is_member nat_eq (map (λ m. m / by) numbers)) ((unsigned_Decides q (n / by)).0 e) ∙ sym (are.same (n / by)) ∙ there)
+      ∙ sym (joined numbers by n q);
+}
+
+new_quotient : (numbers : List ℕ) (by : ℕ) (found : List ℕ) (n : ℕ) → AreQuotients numbers by found → is_member nat_eq found (n / by) ≡ false → AreQuotients (numbers ++ n ∷ []) by (found ++ (n / by) ∷ [])
+new_quotient numbers by found n are none = record {
+  once = distinct_more found (n / by) are.once (member_turned found (n / by) ∙ none);
+  same = λ q. list_any-append (nat_eq q) found ((n / by) ∷ []) ∙ (λ i. are.same q i || or_false (nat_eq q (n / by)) i) ∙ sym (joined numbers by n q);
+}
+
+pub fused : (by : ℕ) (all : Changes) → map (λ m. m / by) (map (λ c. bucket_of c.0) all) ≡ map (λ c. bucket_of c.0 / by) all
+fused by [] = refl
+fused by (c ∷ all) = ap (λ ns. bucket_of c.0 / by ∷ ns) (fused by all)
+
+-- ---- the nodes over the first keys
+
+-- the node over a key is among those over all
+pub stands_at : (by : ℕ) (cs : Changes) (i : ℕ) (d : List ℕ × Option (List ℕ)) → i < length cs → is_member nat_eq (map (λ c. bucket_of c.0 / by) cs) (bucket_of (get_or cs i d).0 / by) ≡ true
+stands_at by [] i d within = absurd (omega arith)
+stands_at by (c ∷ cs) zero d within =
+    ap (λ b. b || is_member nat_eq (map (λ e. bucket_of e.0 / by) cs) (bucket_of c.0 / by)) ((unsigned_Decides (bucket_of c.0 / by) (bucket_of c.0 / by)).1 refl)
+stands_at by (c ∷ cs) (suc i) d within =
+    ap (λ b. nat_eq (bucket_of (get_or cs i d).0 / by) (bucket_of c.0 / by) || b) (stands_at by cs i d (omega arith)) ∙ or_true _
   where
-    joined : (q : ℕ) → is_member nat_eq (map (λ m. m / by) (numbers ++ n ∷ [])) q ≡ (is_member nat_eq (map (λ m. m / by) numbers) q || nat_eq q (n / by))
-    joined q =
-        ap (list_any (nat_eq q)) (map-append (λ m. m / by) numbers (n ∷ []))
-        ∙ list_any-append (nat_eq q) (map (λ m. m / by) numbers) ((n / by) ∷ [])
-        ∙ (λ i. is_member nat_eq (map (λ m. m / by) numbers) q || or_false (nat_eq q (n / by)) i)
+    or_true : (a : Bool) → (a || true) ≡ true
+    or_true true = refl
+    or_true false = refl
+
+set_each-more : (told : ℕ → Option (List ℕ)) (ns : List ℕ) (q : ℕ) (nodes : List (Option (List ℕ))) → set_each told (ns ++ q ∷ []) nodes ≡ set (set_each told ns nodes) q (told q)
+set_each-more told [] q nodes = refl
+set_each-more told (n ∷ ns) q nodes = set_each-more told ns q (set nodes n (told n))
+
+module _ (told : ℕ → Option (List ℕ)) (bytes : List ℕ → ℕ) (by : ℕ) (cs : Changes) where
+  -- none yet
+  pub renews_none : (nodes : List (Option (List ℕ))) (h : Hashed) → Renews told bytes by (take 0 cs) nodes nodes h h
+  renews_none nodes h = record {
+    found = [];
+    are = no_quotients by [] refl;
+    nodes = refl;
+    hashes = record { ends = omega arith; reads = omega arith; least_ends = omega arith; least_reads = omega arith };
+  }
+
+  -- and the next, which was made anew before
+  pub renews_again : (i : ℕ) (d : List ℕ × Option (List ℕ)) (old mid : List (Option (List ℕ))) (b m : Hashed) → i < length cs
+      → is_member nat_eq (map (λ c. bucket_of c.0 / by) (take i cs)) (bucket_of (get_or cs i d).0 / by) ≡ true
+      → Renews told bytes by (take i cs) old mid b m → Renews told bytes by (take (i + 1) cs) old mid b m
+  renews_again i d old mid b m within there r = record {
+    found = r.found;
+    are = subst (λ ns. AreQuotients ns by r.found) (sym (map_next (λ (c : List ℕ × Option (List ℕ)). bucket_of c.0) cs i d within))
+        (old_quotient _ by r.found (bucket_of (get_or cs i d).0) r.are
+        (r.are.same _ ∙ ap (λ ns. is_member nat_eq ns (bucket_of (get_or cs i d).0 / by)) (fused by (take i cs)) ∙ there));
+    nodes = r.nodes;
+    hashes = r.hashes;
+  }
+
+  -- or is made anew now
+  pub renews_first : (i : ℕ) (d : List ℕ × Option (List ℕ)) (w : ℕ) (old mid new : List (Option (List ℕ))) (b m a : Hashed) → i < length cs
+      → is_member nat_eq (map (λ c. bucket_of c.0 / by) (take i cs)) (bucket_of (get_or cs i d).0 / by) ≡ false
+      → ((ns : List ℕ) → bytes ns + w ≤ bytes (ns ++ (bucket_of (get_or cs i d).0 / by) ∷ []))
+      → new ≡ set mid (bucket_of (get_or cs i d).0 / by) (told (bucket_of (get_or cs i d).0 / by)) → Hashes 1 w m a
+      → Renews told bytes by (take i cs) old mid b m → Renews told bytes by (take (i + 1) cs) old new b a
+  renews_first i d w old mid new b m a within none more is one r =
+      let q = bucket_of (get_or cs i d).0 / by in
+      record {
+        found = r.found ++ q ∷ [];
+        are = subst (λ ns. AreQuotients ns by (r.found ++ q ∷ [])) (sym (map_next (λ (c : List ℕ × Option (List ℕ)). bucket_of c.0) cs i d within))
+            (new_quotient _ by r.found (bucket_of (get_or cs i d).0) r.are
+            (r.are.same _ ∙ ap (λ ns. is_member nat_eq ns q) (fused by (take i cs)) ∙ none));
+        nodes = is ∙ ap (λ ns. set ns q (told q)) r.nodes ∙ sym (set_each-more told r.found q old);
+        hashes = hashes_then (length r.found) (bytes r.found) 1 w (length (r.found ++ q ∷ [])) (bytes (r.found ++ q ∷ [])) b m a
+            (omega (arith, length-append r.found (q ∷ []))) (more r.found) r.hashes one;
+      }
+
+-- ---- the buckets
 
 -- the buckets once one key more has changed
 with_changes-append : (cs ds : Changes) (bs : List KeyDigests) → with_changes (cs ++ ds) bs ≡ with_changes ds (with_changes cs bs)

@@ -1,6 +1,6 @@
 -- The tree once many keys have changed, and the nodes over them were made anew.
 use Rattle.std.proofs.Common.{◌≡◌, ◌≢◌, inl, inr, ℕ, zero, suc, ◌+◌, ◌*◌, ◌/◌, ◌^◌, ◌<◌, ◌≤◌, Bool, true, false, cond, ◌||◌, List, [], ◌∷◌, length, get_or, set, map, take, refl, sym, ap, subst, ◌∙◌, arith, None, Option}
-use Rattle.std.specs.Prelude.{All, IsTrue, nat_eq, slice_range}
+use Rattle.std.specs.Prelude.{⊤, IfErr, IsTrue, OnErr, OnOk, Result, Ok, Err, nat_eq, slice_range}
 use Rattle.std.specs.Cmp.{nat_eq_equiv, unsigned_Decides}
 use Rattle.std.specs.FinMap.{entries, empty, len, len-entries, retain_keys}
 use Rattle.std.specs.FinMap.Entries.{where_key}
@@ -8,19 +8,22 @@ use Rattle.std.specs.List.{IsDistinct, AllByRecursion, sum_by}
 use Rattle.std.specs.Set.{distinct_count, is_member, unique_keys}
 use Rattle.std.proofs.lemmas.List.{get_or-set_same, get_or-set_other, length-set}
 use Rattle.std.proofs.lemmas.List.Sums.{sum_by-cons}
-use Rattle.std.proofs.lemmas.Map.Made.{All-is_member, length-from_keys}
+use Rattle.std.proofs.lemmas.Map.Made.{length-from_keys}
+use Rattle.std.proofs.Math.Seq.{take-length}
+use Rattle.mvd_dots.specs.declared.refusals.Refusal.{Refusal}
+use Rattle.mvd_dots.specs.declared.refusals.Refusal.TheVariants.{Broken}
 use Rattle.mvd_tree.specs.Change.{changed, changed_all}
 use Rattle.mvd_tree.specs.HashTree.{KeyDigests, is_under, path_of_key, under}
 use Rattle.mvd_tree.specs.Kept.{kept_bucket, kept_inner, kept_node}
 use Rattle.mvd_tree.specs.Layout.{bucket_of, path_of_one, path_of_two, path_of_three, gathered, AreApart, KeepsLevel, KeepsTree}
-use Rattle.mvd_tree.specs.Renewed.{AreQuotients, set_each, with_changes}
+use Rattle.mvd_tree.specs.Renewed.{AreQuotients, Renews, set_each, with_changes}
 use Rattle.mvd_tree.specs.Counted.{keys_beside}
-use Rattle.mvd_tree.specs.Touched.{Changes, changed_bytes, count_touched, inner_touched, keys_touched, touched}
+use Rattle.mvd_tree.specs.Touched.{Changes, ChangesAll, count_touched, inner_touched, keys_touched, touched}
 use Rattle.mvd_tree.proofs.Changes.{children_of_one, children_of_root, children_of_two}
 use Rattle.mvd_tree.proofs.Entries.{Entry, entries-retain_keys, order}
 use Rattle.mvd_tree.proofs.Gathered.{bucket_of-limit, entries_under, get-changed_other, path_of_bucket, same_or_not, stands_under, under_one, under_two, under_three}
 use Rattle.mvd_tree.proofs.KeptNodes.{bucket-kept, inner-kept, kept_node-same}
-use Rattle.mvd_tree.proofs.Renewing.{buckets_after, or_false}
+use Rattle.mvd_tree.proofs.Renewing.{buckets_after, fused, or_false}
 use Rattle.mvd_digest.specs.Counted.{Hashes}
 use Rattle.mvd_digest.specs.declared.digest.Hashed.{Hashed}
 use Rattle.mvd_tree.proofs.Counts.{hashes_then}
@@ -80,23 +83,7 @@ set_right levels count path_of held told right (m ∷ ns) nodes all others =
       | inr e ↦ get_or-set_other nodes m n (told m) None e ∙ others n l ((λ i. not_equal n m e i || is_member nat_eq ns n) ∙ none)
     ])
 
--- each quotient is within what bounds that of a key
-member_within : (by bound : ℕ) → ((key : List ℕ) → bucket_of key / by < bound) → (all : Changes) (q : ℕ) → is_member nat_eq (map (λ m. m / by) (map (λ c. bucket_of c.0) all)) q ≡ true → q < bound
-member_within by bound low [] q h = absurd (cc)
-member_within by bound low (c ∷ all) q h =
-    elim (nat_eq q (bucket_of c.0 / by)) as (λ b. nat_eq q (bucket_of c.0 / by) ≡ b → (b || is_member nat_eq (map (λ m. m / by) (map (λ c. bucket_of c.0) all)) q) ≡ true → q < bound) [
-      | true ↦ λ e _. subst (λ k. k < bound) (sym ((unsigned_Decides q (bucket_of c.0 / by)).0 e)) (low c.0)
-      | false ↦ λ _ rest. member_within by bound low all q rest
-    ] refl h
-
-pub quotients_within : (by bound : ℕ) (all : Changes) (numbers found : List ℕ) → ((key : List ℕ) → bucket_of key / by < bound) → numbers ≡ map (λ c. bucket_of c.0) all → AreQuotients numbers by found → All (λ n. n < bound) found
-quotients_within by bound all numbers found low is are k d l =
-    member_within by bound low all (get_or found k d)
-    (ap (λ ns. is_member nat_eq (map (λ m. m / by) ns) (get_or found k d)) (sym is) ∙ sym (are.same (get_or found k d)) ∙ All-is_member nat_eq_equiv found k d l)
-
-pub lowest_within : (key : List ℕ) → bucket_of key / 1 < 4096
-lowest_within key = omega (arith, bucket_of-limit key)
-
+-- what bounds the number of the node over a key
 pub middle_within : (key : List ℕ) → bucket_of key / 16 < 256
 middle_within key = omega (arith, bucket_of-limit key)
 
@@ -105,16 +92,16 @@ upper_within key = omega (arith, bucket_of-limit key)
 
 -- ---- the tree
 
-module _ (all : Changes) (k : ℕ) (bs : List KeyDigests) (numbers : List ℕ) (is : numbers ≡ map (λ c. bucket_of c.0) all) where
+module _ (all : Changes) (k : ℕ) (bs : List KeyDigests) where
   -- a node that was not touched keeps what it kept
-  untouched : (levels by : ℕ) (path : List ℕ) (n : ℕ) (found : List ℕ) → AreQuotients numbers by found → ((key : List ℕ) → IsTrue (is_under path key) → bucket_of key / by ≡ n) → is_member nat_eq found n ≡ false
+  untouched : (levels by : ℕ) (path : List ℕ) (n : ℕ) (found : List ℕ) → AreQuotients (map (λ c. bucket_of c.0) all) by found → ((key : List ℕ) → IsTrue (is_under path key) → bucket_of key / by ≡ n) → is_member nat_eq found n ≡ false
       → kept_node levels (gathered bs) path ≡ kept_node levels (changed_all (gathered bs) (take k all)) path
   untouched levels by path n found are at none =
-      kept_away levels path (take k all) (gathered bs) (away path n by at k all (ap (λ ns. is_member nat_eq (map (λ m. m / by) ns) n) (sym is) ∙ sym (are.same n) ∙ none))
+      kept_away levels path (take k all) (gathered bs) (away path n by at k all (sym (are.same n) ∙ none))
 
-  pub all_after : (bs' : List KeyDigests) (lowest middle upper lowest' middle' upper' : List (Option (List ℕ))) (root root' : Option (List ℕ)) (L M U : List ℕ)
+  all_after : (bs' : List KeyDigests) (lowest middle upper lowest' middle' upper' : List (Option (List ℕ))) (root root' : Option (List ℕ)) (L M U : List ℕ)
       → KeepsTree bs lowest middle upper root
-      → AreQuotients numbers 1 L → AreQuotients numbers 16 M → AreQuotients numbers 256 U
+      → AreQuotients (map (λ c. bucket_of c.0) all) 1 L → AreQuotients (map (λ c. bucket_of c.0) all) 16 M → AreQuotients (map (λ c. bucket_of c.0) all) 256 U
       → bs' ≡ with_changes (take k all) bs
       → lowest' ≡ set_each (λ n. kept_bucket (entries (get_or bs' n empty))) L lowest
       → middle' ≡ set_each (λ n. kept_inner (slice_range lowest' (n * 16) (n * 16 + 16))) M middle
@@ -153,23 +140,6 @@ module _ (all : Changes) (k : ℕ) (bs : List KeyDigests) (numbers : List ℕ) (
         },
       )
 
-  -- the same, step by step
-  pub tree_after_all : (bs₁ bs' : List KeyDigests) (lowest middle upper l₁ l₂ m₁ m₂ u₁ u₂ : List (Option (List ℕ))) (root root' : Option (List ℕ)) (L M U : List ℕ)
-      → KeepsTree bs lowest middle upper root
-      → AreQuotients numbers 1 L → AreQuotients numbers 16 M → AreQuotients numbers 256 U
-      → bs₁ ≡ with_changes (take k all) bs → bs' ≡ bs₁
-      → l₁ ≡ set_each (λ n. kept_bucket (entries (get_or bs₁ n empty))) L lowest → l₂ ≡ l₁
-      → m₁ ≡ set_each (λ n. kept_inner (slice_range l₁ (n * 16) (n * 16 + 16))) M middle → m₂ ≡ m₁
-      → u₁ ≡ set_each (λ n. kept_inner (slice_range m₁ (n * 16) (n * 16 + 16))) U upper → u₂ ≡ u₁
-      → root' ≡ kept_inner (slice_range u₁ (0 * 16) (0 * 16 + 16))
-      → (gathered bs' ≡ changed_all (gathered bs) (take k all)) × KeepsTree bs' l₂ m₂ u₂ root'
-  tree_after_all bs₁ bs' lowest middle upper l₁ l₂ m₁ m₂ u₁ u₂ root root' L M U tree ls ms us new_bs same_bs new_l same_l new_m same_m new_u same_u new_root =
-      let after = all_after bs₁ lowest middle upper l₁ m₁ u₁ root root' L M U tree ls ms us new_bs new_l new_m new_u new_root in (
-        ap gathered same_bs ∙ after.0,
-        subst (λ b. KeepsTree b l₂ m₂ u₂ root') (sym same_bs)
-            (subst (λ l. KeepsTree bs₁ l m₂ u₂ root') (sym same_l) (subst (λ m. KeepsTree bs₁ l₁ m u₂ root') (sym same_m) (subst (λ u. KeepsTree bs₁ l₁ m₁ u root') (sym same_u) after.1))),
-      )
-
 -- ---- counts
 
 length-set_each : (told : ℕ → Option (List ℕ)) (ns : List ℕ) (nodes : List (Option (List ℕ))) → length (set_each told ns nodes) ≡ length nodes
@@ -184,15 +154,11 @@ pub still_buckets : (cs : Changes) (bs after : List KeyDigests) → length bs �
 still_buckets [] bs after all is = ap length is ∙ all
 still_buckets (c ∷ cs) bs after all is = still_buckets cs _ after (length-set bs (bucket_of c.0) _ ∙ all) is
 
-fused : (by : ℕ) (all : Changes) → map (λ m. m / by) (map (λ c. bucket_of c.0) all) ≡ map (λ c. bucket_of c.0 / by) all
-fused by [] = refl
-fused by (c ∷ all) = ap (λ ns. bucket_of c.0 / by ∷ ns) (fused by all)
-
 -- the quotients are as many as the nodes that are touched
-pub count_quotients : (by : ℕ) (all : Changes) (numbers found : List ℕ) → numbers ≡ map (λ c. bucket_of c.0) all → AreQuotients numbers by found → length found ≡ distinct_count nat_eq (map (λ c. bucket_of c.0 / by) all)
-count_quotients by all numbers found is are =
+count_quotients : (by : ℕ) (all : Changes) (found : List ℕ) → AreQuotients (map (λ c. bucket_of c.0) all) by found → length found ≡ distinct_count nat_eq (map (λ c. bucket_of c.0 / by) all)
+count_quotients by all found are =
     length-from_keys nat_eq_equiv found (map (λ c. bucket_of c.0 / by) all) are.once
-    (λ q. are.same q ∙ ap (λ ns. is_member nat_eq (map (λ m. m / by) ns) q) is ∙ ap (λ ns. is_member nat_eq ns q) (fused by all))
+    (λ q. are.same q ∙ ap (λ ns. is_member nat_eq ns q) (fused by all))
 
 some_unique : (x : ℕ) (xs : List ℕ) → 1 ≤ length (unique_keys nat_eq (x ∷ xs))
 some_unique x [] = omega arith
@@ -265,16 +231,16 @@ bucket_keys bs apart (n ∷ ns) d =
     apart_from n (m ∷ ns) none = (λ i. none.0 i || is_member nat_eq ns n) ∙ apart_from n ns none.1
 
 -- and they are those that have the place of a key that changes
-pub keys_of_touched : (bs : List KeyDigests) (all : Changes) (numbers found : List ℕ) → AreApart bs → numbers ≡ map (λ c. bucket_of c.0) all → AreQuotients numbers 1 found
+keys_of_touched : (bs : List KeyDigests) (all : Changes) (found : List ℕ) → AreApart bs → AreQuotients (map (λ c. bucket_of c.0) all) 1 found
     → sum_by (λ n. len (get_or bs n empty)) found ≡ keys_touched (gathered bs) all
-keys_of_touched bs all numbers found apart is are =
+keys_of_touched bs all found apart are =
     bucket_keys bs apart found are.once
     ∙ ap length (sym (entries-retain_keys (gathered bs) (λ key. is_member nat_eq found (bucket_of key))))
     ∙ sym (len-entries _)
     ∙ (λ i. len (retain_keys (gathered bs) (λ key. same key i)))
   where
     same : (key : List ℕ) → is_member nat_eq found (bucket_of key) ≡ is_member nat_eq (touched 0 all) (bucket_of key)
-    same key = are.same (bucket_of key) ∙ ap (λ ns. is_member nat_eq (map (λ m. m / 1) ns) (bucket_of key)) is ∙ ap (λ ns. is_member nat_eq ns (bucket_of key)) (fused 1 all)
+    same key = are.same (bucket_of key) ∙ ap (λ ns. is_member nat_eq ns (bucket_of key)) (fused 1 all)
 
 -- one key touches the keys with its place
 pub one_touched : (held : KeyDigests) (key : List ℕ) (digest : Option (List ℕ)) → keys_touched held ((key, digest) ∷ []) ≡ keys_beside held key
@@ -297,31 +263,84 @@ hashes_within x y m n a f p q h = record {
 }
 
 -- all that is hashed
-pub counts_after : (all : Changes) (bs bs' : List KeyDigests) (numbers L M U : List ℕ) (a b c d e f : Hashed) → 0 < length all → bs' ≡ bs → AreApart bs
-    → numbers ≡ map (λ c. bucket_of c.0) all → AreQuotients numbers 1 L → AreQuotients numbers 16 M → AreQuotients numbers 256 U
-    → Hashes (length all) (changed_bytes all) a b
+counts_after : (all : Changes) (bs : List KeyDigests) (L M U : List ℕ) (b c d e f : Hashed) → 0 < length all → AreApart bs
+    → AreQuotients (map (λ c. bucket_of c.0) all) 1 L → AreQuotients (map (λ c. bucket_of c.0) all) 16 M → AreQuotients (map (λ c. bucket_of c.0) all) 256 U
     → Hashes (length L) (32 * sum_by (λ n. len (get_or bs n empty)) L) b c
     → Hashes (length M) (512 * length M) c d → Hashes (length U) (512 * length U) d e → Hashes 1 512 e f
-    → Hashes (length all + count_touched 0 all + inner_touched all) (changed_bytes all + 32 * keys_touched (gathered bs') all + 512 * inner_touched all) a f
-counts_after all bs bs' numbers L M U a b c d e f some same apart is ls ms us places buckets middle upper root =
-    let l = count_quotients 1 all numbers L is ls in
-    let m = count_quotients 16 all numbers M is ms in
-    let u = count_quotients 256 all numbers U is us in
+    → Hashes (count_touched 0 all + inner_touched all) (32 * keys_touched (gathered bs) all + 512 * inner_touched all) b f
+counts_after all bs L M U b c d e f some apart ls ms us buckets middle upper root =
+    let l = count_quotients 1 all L ls in
+    let m = count_quotients 16 all M ms in
+    let u = count_quotients 256 all U us in
     let r = some_touched 3 all some in
     let S = sum_by (λ n. len (get_or bs n empty)) L in
-    let keys : S ≡ keys_touched (gathered bs') all = keys_of_touched bs all numbers L apart is ls ∙ ap (λ b. keys_touched (gathered b) all) (sym same) in
-    sums (length all) (changed_bytes all) (length L) S (length M) (length U)
-    (count_touched 0 all) (count_touched 1 all) (count_touched 2 all) (count_touched 3 all) (keys_touched (gathered bs') all)
+    let keys : S ≡ keys_touched (gathered bs) all = keys_of_touched bs all L apart ls in
+    sums (length L) S (length M) (length U)
+    (count_touched 0 all) (count_touched 1 all) (count_touched 2 all) (count_touched 3 all) (keys_touched (gathered bs) all)
     l m u r keys
-    (hashes_then (length all) (changed_bytes all) (length L + (length M + (length U + 1))) (32 * S + (512 * length M + (512 * length U + 512)))
-    (length all + (length L + (length M + (length U + 1)))) (changed_bytes all + (32 * S + (512 * length M + (512 * length U + 512)))) a b f (omega arith) (omega arith) places
     (hashes_then (length L) (32 * S) (length M + (length U + 1)) (512 * length M + (512 * length U + 512))
     (length L + (length M + (length U + 1))) (32 * S + (512 * length M + (512 * length U + 512))) b c f (omega arith) (omega arith) buckets
     (hashes_then (length M) (512 * length M) (length U + 1) (512 * length U + 512)
     (length M + (length U + 1)) (512 * length M + (512 * length U + 512)) c d f (omega arith) (omega arith) middle
-    (hashes_then (length U) (512 * length U) 1 512 (length U + 1) (512 * length U + 512) d e f (omega arith) (omega arith) upper root))))
+    (hashes_then (length U) (512 * length U) 1 512 (length U + 1) (512 * length U + 512) d e f (omega arith) (omega arith) upper root)))
   where
-    sums : (n bytes l keys m u t₀ t₁ t₂ t₃ k : ℕ) → l ≡ t₀ → m ≡ t₁ → u ≡ t₂ → 1 ≤ t₃ → keys ≡ k
-        → Hashes (n + (l + (m + (u + 1)))) (bytes + (32 * keys + (512 * m + (512 * u + 512)))) a f
-        → Hashes (n + t₀ + (t₁ + t₂ + t₃)) (bytes + 32 * k + 512 * (t₁ + t₂ + t₃)) a f
-    sums n bytes l keys m u t₀ t₁ t₂ t₃ k p q r s t h = hashes_within (n + (l + (m + (u + 1)))) (bytes + (32 * keys + (512 * m + (512 * u + 512)))) (n + t₀ + (t₁ + t₂ + t₃)) (bytes + 32 * k + 512 * (t₁ + t₂ + t₃)) a f (omega (arith, p, q, r, s)) (omega (arith, q, r, s, t)) h
+    sums : (l keys m u t₀ t₁ t₂ t₃ k : ℕ) → l ≡ t₀ → m ≡ t₁ → u ≡ t₂ → 1 ≤ t₃ → keys ≡ k
+        → Hashes (l + (m + (u + 1))) (32 * keys + (512 * m + (512 * u + 512))) b f
+        → Hashes (t₀ + (t₁ + t₂ + t₃)) (32 * k + 512 * (t₁ + t₂ + t₃)) b f
+    sums l keys m u t₀ t₁ t₂ t₃ k p q r s t h = hashes_within (l + (m + (u + 1))) (32 * keys + (512 * m + (512 * u + 512))) (t₀ + (t₁ + t₂ + t₃)) (32 * k + 512 * (t₁ + t₂ + t₃)) b f (omega (arith, p, q, r, s)) (omega (arith, q, r, s, t)) h
+
+-- ---- all that a change of many does, step by step
+
+pub record TreeAfter (all : Changes) (held : KeyDigests) (bs : List KeyDigests) (lowest middle upper : List (Option (List ℕ))) (root : Option (List ℕ)) (before after : Hashed) : Type 0 where
+  pub holds : gathered bs ≡ held
+  pub keeps : KeepsTree bs lowest middle upper root
+  pub hashes : Hashes (count_touched 0 all + inner_touched all) (32 * keys_touched (gathered bs) all + 512 * inner_touched all) before after
+
+pub tree_after : (all : Changes) (k : ℕ) (bs bs₁ bs' : List KeyDigests) (lowest middle upper l₁ l₂ m₁ m₂ u₁ u₂ : List (Option (List ℕ))) (root root' : Option (List ℕ)) (a b c d e : Hashed)
+    → 0 < length all → KeepsTree bs lowest middle upper root → bs₁ ≡ with_changes (take k all) bs → bs' ≡ bs₁
+    → Renews (λ n. kept_bucket (entries (get_or bs₁ n empty))) (λ ns. 32 * sum_by (λ n. len (get_or bs₁ n empty)) ns) 1 all lowest l₁ a b → l₂ ≡ l₁
+    → Renews (λ n. kept_inner (slice_range l₁ (n * 16) (n * 16 + 16))) (λ ns. 512 * length ns) 16 all middle m₁ b c → m₂ ≡ m₁
+    → Renews (λ n. kept_inner (slice_range m₁ (n * 16) (n * 16 + 16))) (λ ns. 512 * length ns) 256 all upper u₁ c d → u₂ ≡ u₁
+    → root' ≡ kept_inner (slice_range u₁ (0 * 16) (0 * 16 + 16)) → Hashes 1 512 d e
+    → TreeAfter all (changed_all (gathered bs) (take k all)) bs' l₂ m₂ u₂ root' a e
+tree_after all k bs bs₁ bs' lowest middle upper l₁ l₂ m₁ m₂ u₁ u₂ root root' a b c d e some tree new_bs same_bs ls same_l ms same_m us same_u new_root last =
+    let after = all_after all k bs bs₁ lowest middle upper l₁ m₁ u₁ root root' ls.found ms.found us.found tree ls.are ms.are us.are new_bs ls.nodes ms.nodes us.nodes new_root in
+    subst (λ x. TreeAfter all (changed_all (gathered bs) (take k all)) x l₂ m₂ u₂ root' a e) (sym same_bs)
+    (subst (λ l. TreeAfter all (changed_all (gathered bs) (take k all)) bs₁ l m₂ u₂ root' a e) (sym same_l)
+    (subst (λ m. TreeAfter all (changed_all (gathered bs) (take k all)) bs₁ l₁ m u₂ root' a e) (sym same_m)
+    (subst (λ u. TreeAfter all (changed_all (gathered bs) (take k all)) bs₁ l₁ m₁ u root' a e) (sym same_u)
+    (record {
+      holds = after.0;
+      keeps = after.1;
+      hashes = counts_after all bs₁ ls.found ms.found us.found a b c d e some after.1.apart ls.are ms.are us.are ls.hashes ms.hashes us.hashes last;
+    }))))
+
+-- how many of the first are changed
+pub record ChangesTo (result : Result ⊤ Refusal) (all : Changes) (bs bs₁ : List KeyDigests) : Type 0 where
+  pub k : ℕ
+  pub is : bs₁ ≡ with_changes (take k all) bs
+  pub ok : OnOk result (take k all ≡ all)
+  pub err : IfErr result (λ refusal. (refusal ≡ Broken) × (k < length all))
+
+pub changes_to : (result : Result ⊤ Refusal) (all : Changes) (bs bs₁ : List KeyDigests) → OnOk result (bs₁ ≡ with_changes all bs) → IfErr result (λ refusal. refusal ≡ Broken)
+    → OnErr result ((n : ℕ) × (n < length all) × (bs₁ ≡ with_changes (take n all) bs)) → ChangesTo result all bs bs₁
+changes_to (Ok done) all bs bs₁ ok broken err = record {
+  k = length all;
+  is = ok ∙ ap (λ cs. with_changes cs bs) (sym (take-length all));
+  ok = take-length all;
+  err = tt;
+}
+changes_to (Err refusal) all bs bs₁ ok broken err = record { k = err.0; is = err.2; ok = tt; err = (broken, err.1) }
+
+pub changes_all : (result : Result ⊤ Refusal) (all : Changes) (bs bs₁ bs' : List KeyDigests) (to : ChangesTo result all bs bs₁) (held : KeyDigests) (lowest middle upper : List (Option (List ℕ))) (root : Option (List ℕ)) (b a : Hashed)
+    → gathered bs ≡ held → TreeAfter all (changed_all (gathered bs) (take to.k all)) bs' lowest middle upper root b a → ChangesAll all held (gathered bs') result b a
+changes_all (Ok done) all bs bs₁ bs' to held lowest middle upper root b a was after = record {
+  ok = after.holds ∙ ap (changed_all (gathered bs)) to.ok ∙ ap (λ h. changed_all h all) was;
+  err = tt;
+  hashes = after.hashes;
+}
+changes_all (Err refusal) all bs bs₁ bs' to held lowest middle upper root b a was after = record {
+  ok = tt;
+  err = (to.err.0, (to.k, to.err.1, after.holds ∙ ap (λ h. changed_all h (take to.k all)) was));
+  hashes = after.hashes;
+}

@@ -1,5 +1,5 @@
 //! The buckets of a tree, by number.
-ghost use Rattle.std.specs.Prelude.{◌≡◌, ℕ, ◌<◌, ◌≤◌, T, slice_index_or, slice_set, length, IfOk, OnOk, OnErr, List};
+ghost use Rattle.std.specs.Prelude.{◌≡◌, ℕ, ◌<◌, ◌≤◌, T, slice_index_or, slice_set, length, IfErr, IfOk, OnOk, OnErr, List};
 ghost use Rattle.std.specs.FinMap.{empty, insert, is_sorted, from_entries};
 ghost use Rattle.mvd_keys.specs.Key.{key_cmp};
 ghost use Rattle.mvd_tree.specs.Change.{changed};
@@ -23,7 +23,8 @@ pub(crate) fn bucket_number(key: &Key, hashed: &mut Hashed) -> usize
     digest[0] as usize * 16 + digest[1] as usize / 16
 }
 
-/// Gives a key a digest in its bucket, or takes it out of it.
+/// Gives a key a digest in its bucket, or takes it out of it. Where memory is refused, which is `Broken`, the buckets
+/// are as before.
 pub(crate) fn change_bucket(
     buckets: &mut Vec<Bucket>,
     alloc: Global,
@@ -34,9 +35,13 @@ pub(crate) fn change_bucket(
     requires { number < length buckets.old.items }
     ensures ok { OnOk result (buckets.new.items ≡
         slice_set buckets.old.items number (changed (slice_index_or buckets.old.items number empty) key.now digest)) }
+    ensures broken { IfErr result (λ refusal. refusal ≡ Refusal.Broken) }
     ensures err { OnErr result (buckets.new.items ≡ buckets.old.items) }
 {
-    buckets[number].change(alloc, key, digest)
+    match buckets[number].change(alloc, key, digest) {
+        Ok(()) => Ok(()),
+        Err(_) => Err(Refusal::Broken),
+    }
 }
 
 fn put_in(

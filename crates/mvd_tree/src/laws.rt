@@ -32,8 +32,9 @@ pub fn equal_roots_are_of_equal_maps<S>()
     ensures { (spelled : List ℕ → S → List ℕ) → EqualRootsAreOfEqualMaps spelled }
 {}
 
-/// Of one key, what `Tree::change_all` may cost is what `Tree::change` may.
-pub fn one_change_is_counted_alike()
+/// A change of one key takes five computations: of its path, its bucket, and the three nodes above. These read the
+/// digests of the keys with its path.
+pub fn one_change_is_counted()
     ensures keys { (held : KeyDigests) (key : List ℕ) (digest : Option (List ℕ)) →
         keys_touched held ((key, digest) ∷ []) ≡ keys_beside held key }
     ensures nodes { (key : List ℕ) (digest : Option (List ℕ)) →

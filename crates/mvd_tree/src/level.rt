@@ -153,20 +153,4 @@ impl Level {
         self.nodes[number] = kept;
         forget(&mut self.midstates, number / 4);
     }
-
-    /// Keeps this of a node, and tells what is to be kept of the one over it.
-    pub(crate) fn set(
-        &mut self,
-        number: usize,
-        kept: Option<[u8; 32]>,
-        hashed: &mut Hashed,
-    ) -> Option<[u8; 32]>
-        requires { number < length self.old }
-        ensures nodes { self.new ≡ slice_set self.old number kept }
-        ensures over { result ≡ kept_inner (slice_range self.new (number / 16 * 16) (number / 16 * 16 + 16)) }
-        ensures counts { Hashes 1 512 hashed.old hashed.new }
-    {
-        self.put(number, kept);
-        self.over(number / 16, hashed)
-    }
 }

@@ -24,6 +24,7 @@ use mvd_digest::text_digest;
 use mvd_dots::Refusal;
 use mvd_keys::{Key, Path};
 use std::alloc::Global;
+pub use touched::KeyChange;
 pub use tree::Tree;
 
 /// The path of a key in the tree: the first three hexadecimal digits of its bytes' SHA-256, which is one computation.

@@ -4,19 +4,18 @@ ghost use Rattle.std.specs.FinMap.{empty, entries, is_sorted, from_entries};
 ghost use Rattle.mvd_keys.specs.Key.{key_cmp};
 ghost use Rattle.mvd_tree.specs.HashTree.{node_digest};
 ghost use Rattle.mvd_tree.specs.Kept.{kept_node};
-ghost use Rattle.mvd_tree.specs.Change.{changed};
 ghost use Rattle.mvd_digest.specs.Counted.{Hashes};
-ghost use Rattle.mvd_tree.specs.Counted.{key_bytes, keys_beside};
+ghost use Rattle.mvd_tree.specs.Counted.{key_bytes};
 ghost use Rattle.mvd_tree.specs.Page.{children_digests, rest_of, page_of, is_more_after_page};
 ghost use Rattle.mvd_tree.specs.Layout.{IsPath};
 ghost use Rattle.mvd_tree.specs.Touched.{ChangesAll};
 
 use crate::bucket::{Bucket, copies};
-use crate::buckets::{bucket_number, change_bucket, filled};
+use crate::buckets::filled;
 use crate::level::Level;
 use crate::node_text::or_zeros;
 use crate::nodes::{all_or_zeros, bucket_nodes};
-use crate::touched::{Touched, change_buckets, renew_buckets, renew_nodes};
+use crate::touched::{KeyChange, change_buckets, renew_buckets, renew_nodes};
 use mvd_digest::Hashed;
 use mvd_dots::Refusal;
 use mvd_keys::{Key, Path};
@@ -119,61 +118,21 @@ impl Tree {
         })
     }
 
-    /// Gives a key a digest, or lets it be held no more. Where memory is refused, which is `Broken`, the tree is as
-    /// before.
-    pub fn change(
-        &mut self,
-        key: &Key,
-        digest: Option<[u8; 32]>,
-        hashed: &mut Hashed,
-    ) -> Result<(), Refusal>
-        ensures ok { OnOk result (self.new ≡ changed self.old key.now digest) }
-        ensures err { IfErr result (λ refusal. refusal ≡ Refusal.Broken) }
-        ensures unchanged { OnErr result (self.new ≡ self.old) }
-        // The computations of its path, its bucket and the three nodes above. They read the key, the digests of the
-        // keys with its path, and at most sixteen digests of each node.
-        ensures counts { Hashes 5 (length key.now + 32 * keys_beside self.new key.now + 3 * 512) hashed.old hashed.new }
-        ensures refused { IfErr result (λ _. Hashes 1 (length key.now) hashed.old hashed.new) }
-    {
-        let lowest = bucket_number(key, hashed);
-        let middle = lowest / 16;
-        let upper = middle / 16;
-        if change_bucket(&mut self.buckets, self.alloc, lowest, key, digest).is_err() {
-            return Err(Refusal::Broken);
-        }
-        let kept = self.buckets[lowest].digest(hashed);
-        let over = self.lowest.set(lowest, kept, hashed);
-        let over = self.middle.set(middle, over, hashed);
-        self.root = self.upper.set(upper, over, hashed);
-        Ok(())
-    }
-
-    /// Changes many keys at once, each as `change` does, the later ones after the earlier ones. It computes the path
-    /// of each key, each bucket that they touch and each node above once. Where memory is refused, which is `Broken`,
-    /// some of the first are changed.
-    pub fn change_all(
-        &mut self,
-        changes: &[(Key, Option<[u8; 32]>)],
-        hashed: &mut Hashed,
-    ) -> Result<(), Refusal>
+    /// Changes keys, the later ones after the earlier ones. It computes each bucket that they touch and each node above
+    /// once, and takes memory for the keys that are put in alone. Where it is refused, which is `Broken`, some of the
+    /// first are changed, and not all.
+    pub fn change(&mut self, changes: &[KeyChange], hashed: &mut Hashed) -> Result<(), Refusal>
         ensures { ChangesAll changes.now self.old self.new result hashed.old hashed.new }
     {
         if changes.is_empty() {
             return Ok(());
         }
-        let touched = match Touched::by(self.alloc, changes, hashed) {
-            Ok(touched) => touched,
-            Err(_) => return Err(Refusal::Broken),
-        };
-        let done = change_buckets(&mut self.buckets, self.alloc, &touched.of_keys, changes);
-        renew_buckets(&mut self.buckets, &mut self.lowest, &touched.lowest, hashed);
-        renew_nodes(&mut self.lowest, &mut self.middle, &touched.middle, hashed);
-        renew_nodes(&mut self.middle, &mut self.upper, &touched.upper, hashed);
+        let done = change_buckets(&mut self.buckets, self.alloc, changes);
+        renew_buckets(&mut self.buckets, &mut self.lowest, changes, hashed);
+        renew_nodes(&mut self.lowest, &mut self.middle, 16, changes, hashed);
+        renew_nodes(&mut self.middle, &mut self.upper, 256, changes, hashed);
         self.root = self.upper.over(0, hashed);
-        match done {
-            Ok(()) => Ok(()),
-            Err(_) => Err(Refusal::Broken),
-        }
+        done
     }
 
     /// What is kept of a node.

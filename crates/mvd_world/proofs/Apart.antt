@@ -16,7 +16,7 @@ use Rattle.mvd_site.specs.Held.{States, state_at}
 use Rattle.mvd_site.specs.Known.{MayReply}
 use Rattle.mvd_site.proofs.Answered.{answered}
 use Rattle.mvd_site.proofs.Clashes.{clash_alone}
-use Rattle.mvd_site.proofs.OfTheSet.{states_of-stands}
+use Rattle.mvd_site.proofs.KnownKeys.{states_of-stands}
 use Rattle.mvd_site.proofs.Steps.{state_at-stands}
 use Rattle.mvd_sync.specs.Session.{Before, CannotMeet}
 use Rattle.mvd_peer.specs.PushedStates.{Each}

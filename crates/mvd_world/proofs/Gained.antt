@@ -20,7 +20,7 @@ use Rattle.mvd_keys.proofs.StatesOfWrites.{join-state}
 use Rattle.mvd_site.specs.Answer.{states_of}
 use Rattle.mvd_site.specs.Held.{AreHeld, States, state_at}
 use Rattle.mvd_site.specs.Sites.{SiteStands, SiteValue}
-use Rattle.mvd_site.proofs.OfTheSet.{states_of-stands}
+use Rattle.mvd_site.proofs.KnownKeys.{states_of-stands}
 use Rattle.mvd_site.proofs.Steps.{state_at-stands}
 use Rattle.mvd_sync.specs.Session.{AreFew, CanMeet, HasAllThatDiffer, HasJoined, IsIn, is_member}
 use Rattle.mvd_peer.specs.Sides.{IsBroken, SideOf, SiteFollows, SiteRefuses, Stays, is_of_question, is_site_refusal, tells_broken}

@@ -17,15 +17,15 @@ use Rattle.mvd_wire.specs.declared.reply.Reply.{Reply}
 use Rattle.mvd_wire.specs.declared.reply.Reply.TheVariants.{Done, Refused}
 use Rattle.std.proofs.Common.{IfOk}
 use Rattle.mvd_rows.specs.Defs.{Definitions}
-use Rattle.mvd_site.specs.Answer.{answer, change_of}
+use Rattle.mvd_site.specs.Answer.{answer}
 use Rattle.mvd_site.specs.Config.{ConfigValue}
-use Rattle.mvd_site.specs.FromStates.{Answered, AnswersFrom, after_from, answer_from, change_from, unless_broken, with_change}
+use Rattle.mvd_site.specs.FromStates.{AnswersFrom, unless_broken}
 use Rattle.mvd_site.specs.Held.{States, state_at}
-use Rattle.mvd_site.specs.Known.{Adds, Changes, MayReply}
+use Rattle.mvd_site.specs.Known.{Adds, MayReply}
 use Rattle.mvd_site.specs.Sites.{AnswersOne, SiteStands, SiteValue}
-use Rattle.mvd_site.proofs.Answered.{after_stands, answered, changed_alike, with_state-same}
-use Rattle.mvd_site.proofs.Prepare.{Stands-none, refuses_all}
-use Rattle.mvd_site.proofs.Steps.{Adds-Refused, Stands-nothing, state_at-stands}
+use Rattle.mvd_site.proofs.AnsweredAtOnce.{one_known}
+use Rattle.mvd_site.proofs.Prepare.{Stands-none}
+use Rattle.mvd_site.proofs.Steps.{state_at-stands}
 use Rattle.mvd_peer.proofs.SiteSides.{is_broken}
 use Rattle.mvd_sync.specs.Session.{ReportsDone}
 use Rattle.mvd_sync.specs.declared.report.Report.{Report}
@@ -102,60 +102,6 @@ answers_lead old new number s s' request reply change own one choice setting bef
 
 -- ---- a message that comes
 
--- what a site does with one request from its states, as from the writes known
-changes_known : (config : ConfigValue) (m : States) (W : List Write) (request : Request) → Stands m W → after_from config m request ≢ m → Changes config W request
-changes_known config m W request stands differs =
-    elim (change_of W request (answer config W request)) as (λ o. change_from m request (answer_from config m request) ≡ o → IsSomeAnd o (λ change. change.1 ≢ state change.0 W)) [
-      | None ↦ λ e. absurd (differs (ap (with_change m) e))
-      | Some change ↦ λ e same. differs (ap (with_change m) e ∙ with_state-same m change.0 change.1 (same ∙ sym (state_at-stands m W change.0 stands)))
-    ] (changed_alike config m W request stands)
-
-refused_adds : (m : States) (W : List Write) (request : Request) (refusal : Refusal) (added : List Write) → Stands m W → Adds request (Refused refusal) added → Stands m (W ++ added)
-refused_adds m W request refusal added stands adds = Stands-nothing m W added stands (Adds-Refused request (Refused refusal) added (refuses_all request refusal) adds)
-
-record Replied_from (s s' : SiteValue) (W : List Write) (request : Request) (reply : Reply) : Type 0 where
-  replies : MayReply s.config W s.broken request reply s'.broken
-  stands : (added : List Write) → Adds request reply added → SiteStands s' (W ++ added)
-
-replied_whole : (s s' : SiteValue) (W : List Write) (request : Request) (reply : Reply) → s.broken ≡ false → Stands s.states W → AnswersFrom s s' request reply → Replied_from s s' W request reply
-replied_whole s s' W request reply whole stands answers = ⊎_elim
-    (λ (here : Answered s s' request reply).
-    let still : s'.broken ≡ false = ap (λ (v : SiteValue). v.broken) here.site in
-    let is : reply ≡ answer s.config W request = here.answers ∙ answered s.config s.states W request stands in
-    record {
-      replies = subst₂ (λ a b. MayReply s.config W a request reply b) (sym whole) (sym still) (inl is);
-      stands = λ added adds _. subst (λ m. Stands m (W ++ added)) (sym (ap (λ (v : SiteValue). v.states) here.site))
-          (after_stands s.config s.states W request added stands (subst (λ r. Adds request r added) is adds));
-    })
-    (λ rest. ⊎_elim
-    (λ memory.
-    let still : s'.broken ≡ false = ap (λ (v : SiteValue). v.broken) memory.1 ∙ whole in
-    record {
-      replies = subst₂ (λ a b. MayReply s.config W a request reply b) (sym whole) (sym still) (inr memory.0);
-      stands = λ added adds _. subst (λ (v : SiteValue). Stands v.states (W ++ added)) (sym memory.1) (refused_adds s.states W request Memory added stands (subst (λ r. Adds request r added) memory.0 adds));
-    })
-    (λ broke.
-    let breaks : s'.broken ≡ true = ap (λ (v : SiteValue). v.broken) broke.1.site in
-    record {
-      replies = subst₂ (λ a b. MayReply s.config W a request reply b) (sym whole) (sym breaks) (broke.0, changes_known s.config s.states W request stands broke.1.changes);
-      stands = λ added adds still. absurd (true≢false (sym breaks ∙ still));
-    })
-    rest)
-    (answers whole)
-
-replied_broken : (s s' : SiteValue) (W : List Write) (request : Request) (reply : Reply) → s.broken ≡ true → (reply ≡ Refused Broken) × (s'.broken ≡ true) → Replied_from s s' W request reply
-replied_broken s s' W request reply broken told = record {
-  replies = subst₂ (λ a b. MayReply s.config W a request reply b) (sym broken) (sym told.1) told.0;
-  stands = λ added adds still. absurd (true≢false (sym told.1 ∙ still));
-}
-
-replied_from : (s s' : SiteValue) (W : List Write) (request : Request) (reply : Reply) → SiteStands s W → AnswersFrom s s' request reply → (s.broken ≡ true → (reply ≡ Refused Broken) × (s'.broken ≡ true)) → Replied_from s s' W request reply
-replied_from s s' W request reply stands answers stays =
-    elim s.broken as (λ b. s.broken ≡ b → Replied_from s s' W request reply) [
-      | true ↦ λ broken. replied_broken s s' W request reply broken (stays broken)
-      | false ↦ λ whole. replied_whole s s' W request reply whole (stands whole) answers
-    ] refl
-
 received_adds : (key : Key) (writes : List Write) (reply : Reply) → AreOf key writes → Adds (Push key (state key writes)) reply (received reply writes)
 received_adds key writes Done of = (of, refl)
 received_adds key writes reply of = refl
@@ -175,7 +121,7 @@ receives_lead old new number message index m s s' reply change here at answers s
     let sending = found.0 in
     let there : slice_get before.messages (message - 1) ≡ Some sending = ap (slice_get before.messages) at ∙ found.1 in
     let push : Request = Push sending.key (state sending.key sending.writes) in
-    let does : Replied_from s s' (before.known number) push reply = replied_from s s' (before.known number) push reply site.stands (subst (λ (x : Message). AnswersFrom s s' (Push x.key x.state) reply) found.2 answers) stays in
+    let does : AnswersOne s s' push reply = one_known s s' push reply (subst (λ (x : Message). AnswersFrom s s' (Push x.key x.state) reply) found.2 answers) stays in
     let added = received reply sending.writes in
     let after : Knowledge = record { known = learns before.known number added; broken = becomes before.broken number s'.broken; messages = before.messages; made = before.made } in
     let told : Receives setting before number message reply after = record {
@@ -184,14 +130,14 @@ receives_lead old new number message index m s s' reply change here at answers s
       broken = s'.broken;
       sending = sending;
       sent = there;
-      replies = subst (λ b. MayReply s.config (before.known number) b push reply s'.broken) site.broken does.replies;
+      replies = subst (λ b. MayReply s.config (before.known number) b push reply s'.broken) site.broken (does.replies (before.known number) site.stands);
       is = refl;
     } in
     let of = world.sound.of_key sending (found_in before.messages (message - 1) sending there) in (
       after,
       (
         told,
-        world_changed setting old new before number s s' added before.made world change (does.stands added (received_adds sending.key sending.writes reply of)) after refl
+        world_changed setting old new before number s s' added before.made world change (does.stands (before.known number) added site.stands (received_adds sending.key sending.writes reply of)) after refl
             (sound_receives setting before number message reply after world.sound told),
       ),
     )

@@ -7,7 +7,7 @@ use Rattle.mvd_dots.specs.Dot.{DotValue}
 use Rattle.mvd_dots.specs.Context.{DotSet}
 use Rattle.mvd_dots.specs.declared.refusals.Refusal.TheVariants.{Broken, Memory}
 use Rattle.mvd_keys.specs.Minting.{mint}
-use Rattle.mvd_keys.specs.State.{Text}
+use Rattle.mvd_keys.specs.State.{State, Text}
 use Rattle.mvd_keys.specs.Writes.{AreOf, Key, Write, Wrote, Deleted, context}
 use Rattle.mvd_keys.proofs.Minted.{minted_next, minted_unwritten}
 use Rattle.mvd_keys.proofs.Sets.{Contains-either, Contains-head, Contains-later, none_empty}
@@ -16,9 +16,10 @@ use Rattle.mvd_wire.specs.declared.request.Request.{Request}
 use Rattle.mvd_wire.specs.declared.request.Request.TheVariants.{Put, Delete, Push}
 use Rattle.mvd_wire.specs.declared.reply.Reply.{Reply}
 use Rattle.mvd_wire.specs.declared.reply.Reply.TheVariants.{Written, Done, Refused}
-use Rattle.mvd_site.specs.Answer.{answer, is_question, put_answer}
+use Rattle.mvd_site.specs.Answer.{States, answer, is_question, put_from, states_of}
 use Rattle.mvd_site.specs.Config.{ConfigValue}
 use Rattle.mvd_site.specs.Known.{Adds, MayReply}
+use Rattle.mvd_site.proofs.Steps.{state_known}
 use Rattle.mvd_site.proofs.Answered.{limited_cases}
 use Rattle.mvd_sync.specs.declared.report.Report.{Report}
 use Rattle.mvd_sync.specs.declared.report.SyncFault.{SyncFault}
@@ -106,9 +107,9 @@ IsNew-put before site key dot seen document sound minted =
     }
 
 -- a put that is answered with a dot has it from the mint
-answer_written : (config : ConfigValue) (known : List Write) (key : Key) (seen : DotSet) (document : Text) (dot : DotValue) (minted : Option DotValue) → Written dot ≡ put_answer config known key seen document minted → minted ≡ Some dot
-answer_written config known key seen document dot None e = cc
-answer_written config known key seen document dot (Some d) e =
+answer_written : (config : ConfigValue) (m : States) (key : Key) (seen : DotSet) (document : Text) (dot : DotValue) (minted : Option DotValue) → Written dot ≡ put_from config m key seen document minted → minted ≡ Some dot
+answer_written config m key seen document dot None e = cc
+answer_written config m key seen document dot (Some d) e =
     limited_cases (λ r. Written dot ≡ r → ◌≡◌ {A = Option DotValue} (Some d) (Some dot)) config _ _ _ (Written d) (λ e. cc) (λ e. cc) (λ e. let one : dot ≡ d = cc in ap Some (sym one)) e
 
 may_written : (config : ConfigValue) (known : List Write) (was : Bool) (request : Request) (reply : Reply) (is : Bool) → MayReply config known was request reply is →
@@ -127,7 +128,8 @@ pub IsNew-adds : (config : ConfigValue) (before : Knowledge) (site : ℕ) (reque
 IsNew-adds config before site (Put key seen document) (Written dot) added sound number own told adds = subst (IsNew before site) (sym adds)
     (IsNew-put before site key dot seen document sound
     (subst (λ n. mint n (union (context key (before.known site)) seen) ≡ Some dot) (sym number)
-    (answer_written config (before.known site) key seen document dot (mint config.site (union (context key (before.known site)) seen)) (told dot refl))))
+    (ap (λ (s : State). mint config.site (union s.context seen)) (sym (state_known (before.known site) key))
+    ∙ answer_written config (states_of (before.known site)) key seen document dot _ (told dot refl))))
 IsNew-adds config before site (Delete key seen) Done added sound number own told adds = subst (IsNew before site) (sym adds) (IsNew-delete before site key seen)
 IsNew-adds config before site (Push key pushed) reply added sound number own told adds = cc
 IsNew-adds config before site request reply added sound number own told adds = IsNew-none before site added adds

@@ -19,10 +19,11 @@ fn session(alloc: Global, local: &mut Site, peer: &mut Site) -> Result<Report, S
     if peer.is_broken() {
         return Err(SyncFault::Peer(Refusal::Broken));
     }
-    // Here it is known of both sites what holds of any: before the session, and after it.
-    let _held = (local.key_count(), peer.key_count());
+    local.stands();
+    peer.stands();
     let ended = sync(alloc, local, peer);
-    let _held = (local.key_count(), peer.key_count());
+    local.stands();
+    peer.stands();
     ended
 }
 

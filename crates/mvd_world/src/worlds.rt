@@ -140,8 +140,7 @@ impl World {
         ensures short { AreShort self.old → AreShort self.new }
     {
         let sender = &self.sites[site as usize - 1];
-        // Here it is known that each state that a site holds has a spelling within the limit.
-        let _held = sender.key_count();
+        sender.stands();
         match sender.get(key) {
             Err(refusal) => Outcome::Replied(Reply::Refused(refusal)),
             Ok(state) => match self.append(key, state) {
@@ -178,8 +177,7 @@ impl World {
     {
         let message = &self.messages[message as usize - 1];
         let taker = &mut self.sites[site as usize - 1];
-        // Here it is known that each state that it holds has a spelling within the limit.
-        let _held = taker.key_count();
+        taker.stands();
         match taker.push(&message.key, &message.state) {
             Ok(()) => Reply::Done,
             Err(refusal) => Reply::Refused(refusal),

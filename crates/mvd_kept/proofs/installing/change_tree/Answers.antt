@@ -4,10 +4,10 @@ use Rattle.mvd_kept.proofs.installing.change_tree.Goals as goal
 
 pub returns-clause-still : goal.returns-clause-still
 returns-clause-still c none =
-    tree_stays c.args.group.now c.deref.result.now c.args.tree.now c.change_all.new.self c.digests_of.new.hashed c.change_all.new.hashed c.change_all.result
-    (c.deref.ensures.value ∙ c.in_ok-changes.ensures.digests) c.change_all.ensures none
+    tree_stays c.args.group.now c.deref.result.now c.args.tree.now c.change.new.self c.digests_of.new.hashed c.change.new.hashed c.change.result
+    (c.deref.ensures.value ∙ c.in_ok-changes.ensures.digests) c.change.ensures none
 
 pub returns-clause-counts : goal.returns-clause-counts
 returns-clause-counts c =
-    tree_takes c.args.group.now c.args.tree.now c.change_all.new.self c.args.hashed.now c.digests_of.new.hashed c.change_all.new.hashed c.in_ok-changes.ensures.counts
-    c.deref.result.now c.change_all.result (c.deref.ensures.value ∙ c.in_ok-changes.ensures.digests) c.change_all.ensures
+    tree_takes c.args.group.now c.args.tree.now c.change.new.self c.args.hashed.now c.digests_of.new.hashed c.change.new.hashed c.in_ok-changes.ensures.counts
+    c.deref.result.now c.change.result (c.deref.ensures.value ∙ c.in_ok-changes.ensures.digests) c.change.ensures

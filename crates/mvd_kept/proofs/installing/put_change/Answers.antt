@@ -5,7 +5,7 @@ use Rattle.mvd_kept.proofs.Room.{is_roomy}
 use Rattle.mvd_kept.proofs.installing.put_change.Goals as goal
 
 pub replace-requires-clause-few : goal.replace-requires-clause-few
-replace-requires-clause-few c = is_roomy c.args.states.now c.args.config.now.max_keys c.len-held.ensures.kept c.requires.few c.max_keys-most.ensures.valid.keys_high
+replace-requires-clause-few c = is_roomy c.args.states.now c.args.config.now.max_keys c.stands.ensures c.requires.few c.max_keys-most.ensures.valid.keys_high
 
 pub returns-clause-stand : goal.returns-clause-stand
 returns-clause-stand c =

@@ -1,7 +1,17 @@
 use Rattle.std.proofs.Common.{sym, ◌∙◌}
+use Rattle.mvd_rows.proofs.ByKey.{visible_of_writes}
+use Rattle.mvd_kept.specs.Answer.{states_of}
+use Rattle.mvd_kept.proofs.KnownKeys.{states_of-stands}
+use Rattle.mvd_kept.proofs.Steps.{state_known}
 use Rattle.mvd_kept.proofs.Answered.{after_stands, answered}
 use Rattle.mvd_kept.proofs.Clashes.{clash_alone}
 use Rattle.mvd_kept.proofs.laws.answers_from_states.Goals as goal
+
+pub returns-clause-state : goal.returns-clause-state
+returns-clause-state c = λ known key. state_known known key
+
+pub returns-clause-visible : goal.returns-clause-visible
+returns-clause-visible c = λ known. visible_of_writes (states_of known) known (states_of-stands known)
 
 pub returns-clause-answer : goal.returns-clause-answer
 returns-clause-answer c = λ config states known request stands. answered config states known request stands

@@ -19,9 +19,9 @@ pub returns-clause-exchange : goal.returns-clause-exchange
 returns-clause-exchange c =
     let whole : c.args.local.now.broken ≡ false = sym c.is_broken.ensures ∙ c.if-is_broken.false in
     let whole' : c.args.peer.now.broken ≡ false = sym c.is_broken-2.ensures ∙ c.if-is_broken-2.false in
-    let mine : (c.args.local.now.broken ≡ false) × AreHeld c.args.local.now.states = (whole, c.key_count.ensures.held) in
-    let theirs : (c.args.peer.now.broken ≡ false) × AreHeld c.args.peer.now.states = (whole', c.key_count-2.ensures.held) in
-    sites_meet c.args.local.now c.args.peer.now c.sync-ended.new.local c.sync-ended.new.peer c.sync-ended.result mine theirs c.key_count-3.ensures.held c.key_count-4.ensures.held c.sync-ended.ensures.session
+    let mine : (c.args.local.now.broken ≡ false) × AreHeld c.args.local.now.states = (whole, c.stands.ensures.held) in
+    let theirs : (c.args.peer.now.broken ≡ false) × AreHeld c.args.peer.now.states = (whole', c.stands-2.ensures.held) in
+    sites_meet c.args.local.now c.args.peer.now c.sync-ended.new.local c.sync-ended.new.peer c.sync-ended.result mine theirs c.stands-3.ensures.held c.stands-4.ensures.held c.sync-ended.ensures.session
 
 pub returns-clause-local_config : goal.returns-clause-local_config
 returns-clause-local_config c = c.sync-ended.ensures.session.course.follows.0.0

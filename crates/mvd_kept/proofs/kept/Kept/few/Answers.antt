@@ -7,4 +7,4 @@ use Rattle.mvd_kept.proofs.kept.Kept.few.Goals as goal
 pub returns : goal.returns
 returns c =
     subst IsRoomy (ap (λ (s : SiteValue). s.states) c.self.view_is)
-    (is_roomy c.self.inside.states c.self.inside.config.max_keys c.len-held.ensures.kept c.self.invariant.room c.max_keys-most.ensures.valid.keys_high)
+    (is_roomy c.self.inside.states c.self.inside.config.max_keys c.stands.ensures c.self.invariant.room c.max_keys-most.ensures.valid.keys_high)

@@ -1,14 +1,10 @@
 use Rattle.std.proofs.Common.{◌∙◌, ap, subst}
-use Rattle.mvd_digest.specs.declared.digest.Hashed.{Hashed}
 use Rattle.mvd_tree.specs.Change.{changed_all}
 use Rattle.mvd_kept.specs.Installs.{InstallCosts, TreeCosts, changes_in, digests_in}
-use Rattle.mvd_kept.specs.declared.work.Work.{Work}
+use Rattle.mvd_kept.proofs.Spent.{with_hashed}
 use Rattle.mvd_kept.proofs.Installed.{keeps_installed}
 use Rattle.mvd_kept.proofs.InstallSpent.{all_take}
 use Rattle.mvd_kept.proofs.kept.Kept.install_all.Goals as goal
-
-abbrev with_hashed : Work → Hashed → Work
-with_hashed work hashed = record { looks = work.looks; rows = work.rows; hashed = hashed }
 
 pub invariant_of-self : goal.invariant_of-self
 invariant_of-self c =

@@ -14,7 +14,7 @@ returns-clause-ready c =
     let states = c.args.self.now.states in
     let path = c.args.path.now in
     let after = option_copied c.args.after in
-    let kept : AreHeld states = subst AreHeld (ap (λ (s : SiteValue). s.states) c.self.view_is) c.len-held.ensures.kept in
+    let kept : AreHeld states = subst AreHeld (ap (λ (s : SiteValue). s.states) c.self.view_is) c.stands.ensures in
     let page : c.new.result ≡ page_of (digests states) path after = c.new.ensures ∙ c.in_ok-keys.ensures.keys in
     record {
       accepts = refl;

@@ -27,7 +27,7 @@ returns-clause-ready c =
     let defs = c.self.inside.config.defs in
     let states = c.self.inside.states in
     let unbroken : c.self.inside.broken ≡ false = ap (λ (s : SiteValue). s.broken) c.self.view_is ∙ c.requires in
-    let page = ranged_page defs states c.args.field.now c.args.from.now c.args.to.now c.in_ok-after.after c.in_ok-places.places.items c.in_ok-places.is_more c.len-held.ensures.kept (c.in_ok-places.ensures.found defs states (c.self.invariant.listed unbroken)) in
+    let page = ranged_page defs states c.args.field.now c.args.from.now c.args.to.now c.in_ok-after.after c.in_ok-places.places.items c.in_ok-places.is_more c.stands.ensures (c.in_ok-places.ensures.found defs states (c.self.invariant.listed unbroken)) in
     record { accepts = refl; fits = subst (λ l. CanBeSent (Places l c.in_ok-places.is_more)) (sym c.new.ensures) (places_can_be_sent c.in_ok-places.places.items c.in_ok-places.is_more page.each page.few) }
 
 pub returns-clause-looks : goal.returns-clause-looks

@@ -2,7 +2,7 @@ use Rattle.mvd_peer.proofs.SiteSides.{push_answers, push_cause, push_follows, pu
 use Rattle.mvd_peer.proofs.site_side.SitePeer.push.Goals as goal
 
 pub returns-clause-ok : goal.returns-clause-ok
-returns-clause-ok c u = push_ok _ _ _ _ u c.key_count-held.ensures.held _ c.context-seen.ensures.valid c.push-pushed.ensures.joined
+returns-clause-ok c u = push_ok _ _ _ _ u c.stands.ensures.held _ c.context-seen.ensures.valid c.push-pushed.ensures.joined
 
 pub returns-clause-follows : goal.returns-clause-follows
 returns-clause-follows c = push_follows _ _ _ _ c.push-pushed.ensures.joined c.push-pushed.ensures.unchanged c.push-pushed.ensures.told c.push-pushed.ensures.stays

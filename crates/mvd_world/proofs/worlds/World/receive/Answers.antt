@@ -62,7 +62,7 @@ returns-in-Err-clause-same c =
     let here : slice_get old.sites.items (c.args.site - 1) ≡ Some s = slice_get_read old.sites.items (length old.sites.items) (c.args.site - 1) s refl (omega (arith, c.requires.some, c.requires.within)) c.index_mut-taker.ensures.value in
     let there : slice_get old.messages.items (c.args.message - 1) ≡ Some m = slice_get_read old.messages.items (length old.messages.items) (c.args.message - 1) m refl (omega (arith, c.requires.some_message, c.requires.within_messages)) c.index-message.ensures in
     stays_the_same old new c.args.site c.args.message s m (Refused c.in-Err.refusal)
-    (repeats_refused old new c.args.site c.args.message s c.push.new.self m c.in-Err.refusal c.requires.some here there (same_again old (c.args.site - 1) s c.push.new.self here) c.key_count-held.ensures.held c.in-Err.ensures.answer
+    (repeats_refused old new c.args.site c.args.message s c.push.new.self m c.in-Err.refusal c.requires.some here there (same_again old (c.args.site - 1) s c.push.new.self here) c.stands.ensures.held c.in-Err.ensures.answer
     (λ broken. (refused_so s c.push.new.self c.in-Err.refusal (c.in-Err.ensures.stays broken) c.in-Err.ensures.told).0) c.in-Err.ensures.unchanged c.in-Err.ensures.told)
 
 pub returns-in-Err-clause-known : goal.returns-in-Err-clause-known
@@ -74,7 +74,7 @@ returns-in-Err-clause-known c =
     let here : slice_get old.sites.items (c.args.site - 1) ≡ Some s = slice_get_read old.sites.items (length old.sites.items) (c.args.site - 1) s refl (omega (arith, c.requires.some, c.requires.within)) c.index_mut-taker.ensures.value in
     let there : slice_get old.messages.items (c.args.message - 1) ≡ Some m = slice_get_read old.messages.items (length old.messages.items) (c.args.message - 1) m refl (omega (arith, c.requires.some_message, c.requires.within_messages)) c.index-message.ensures in
     known_changes_nothing old new c.args.site c.args.message s m (Refused c.in-Err.refusal)
-    (repeats_refused old new c.args.site c.args.message s c.push.new.self m c.in-Err.refusal c.requires.some here there (same_again old (c.args.site - 1) s c.push.new.self here) c.key_count-held.ensures.held c.in-Err.ensures.answer
+    (repeats_refused old new c.args.site c.args.message s c.push.new.self m c.in-Err.refusal c.requires.some here there (same_again old (c.args.site - 1) s c.push.new.self here) c.stands.ensures.held c.in-Err.ensures.answer
     (λ broken. (refused_so s c.push.new.self c.in-Err.refusal (c.in-Err.ensures.stays broken) c.in-Err.ensures.told).0) c.in-Err.ensures.unchanged c.in-Err.ensures.told)
 
 pub returns-in-Ok-clause-short : goal.returns-in-Ok-clause-short

@@ -46,4 +46,4 @@ returns-in-Ok-append-clause-short c = λ short.
     let s = c.index-sender.result.now in
     let m : Message = record { key = c.args.key.now; state = c.in-Ok.state } in
     subst (AllByRecursion (λ (x : Message). is_too_large x.state ≡ false)) (sym c.in-Ok-append.ensures.ok)
-    (short_push c.args.self.now.messages.items m short (ap is_too_large c.in-Ok.ensures.state ∙ short_at s.states c.args.key.now c.key_count-held.ensures.held))
+    (short_push c.args.self.now.messages.items m short (ap is_too_large c.in-Ok.ensures.state ∙ short_at s.states c.args.key.now c.stands.ensures.held))

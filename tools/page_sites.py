@@ -32,7 +32,7 @@ def free_ports(count):
 
 
 class Site:
-    """A file and its server, which stops while the file is in a session of its own."""
+    """A file and its server."""
 
     def __init__(self, folder, number):
         self.number, self.path = number, os.path.join(folder, f"{number}.db")
@@ -53,13 +53,13 @@ class Site:
         self.server.communicate(timeout=PATIENCE)
 
     def meet(self, other, keys):
-        """A session with the other site's server, which exchanges so many keys, and both have one root."""
-        self.stop()
-        done = subprocess.run(self.words("sync", "--port", other.frames), capture_output=True, text=True, timeout=PATIENCE)
+        """A session of both servers, which exchanges so many keys, and both have one root."""
+        words = [PROGRAM, "sync", "--port", str(self.frames), "--with", str(other.frames)]
+        done = subprocess.run(words, capture_output=True, text=True, timeout=PATIENCE)
         root = other.client.ask("GET", "/root")["root"]
-        is_so(f"a session exchanges {keys} keys", (done.returncode, done.stdout) == (0, f"keys {keys}\nroot {root}\n"),
+        roots = "".join(f"root 127.0.0.1:{site.frames} {root}\n" for site in (self, other))
+        is_so(f"a session exchanges {keys} keys", (done.returncode, done.stdout) == (0, f"keys {keys}\n{roots}"),
               "" if done.returncode == 0 else done.stderr)
-        self.serve()
 
     def documents(self, key):
         return [one["document"] for one in self.client.get(key)["siblings"]]

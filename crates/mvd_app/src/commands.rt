@@ -5,6 +5,7 @@ ghost use Rattle.mvd_file.specs.Stored.{FollowsAsked, GivesBack};
 ghost use Rattle.mvd_file.specs.declared.closing.Outcome.TheVariants.{Unopened};
 ghost use Rattle.mvd_replica.specs.ReplicaCalls.{ReplicaAnswers};
 ghost use Rattle.mvd_shell.specs.Talk.{Asks};
+ghost use Rattle.mvd_input.specs.Addresses.{IsAddressList};
 ghost use Rattle.mvd_input.specs.Orders.{IsInRange, IsSetUp};
 ghost use Rattle.mvd_replica.specs.Programs.{WorksOn};
 ghost use Rattle.mvd_rows.specs.Defs.{no_definitions};
@@ -12,7 +13,7 @@ ghost use Rattle.mvd_replica.specs.Replicas.{stored_of};
 ghost use Rattle.sqlite.specs.WalFiles.{image_at};
 
 use crate::looping::loop_run;
-use mvd_client::{remote_shell_run, sync_run, tell_report};
+use mvd_client::{MeetingTerms, meet_run, remote_shell_run, sync_run, tell_report};
 use mvd_dots::Refusal;
 use mvd_file::{
     Outcome, Output, answer_lines, finish, input, is_missing, shell_unmade, sync_unmade, unopened,
@@ -78,6 +79,20 @@ pub fn run<'a, S: Start>(
         } => {
             let work = Work::Sync(address, idle, verbose);
             run_unserved(rt, db, setup, work, start)
+        }
+        Order::Meet {
+            address,
+            with,
+            repeat,
+            idle,
+            verbose,
+        } => {
+            let terms = MeetingTerms {
+                repeat,
+                idle,
+                verbose,
+            };
+            no_file(run_meeting(rt, address, with, terms), start)
         }
     }
 }
@@ -205,6 +220,26 @@ fn run_remote_shell<'a>(rt: &HostRuntime, address: SocketAddr, idle: u32) -> Res
         idle,
         &mut reader,
         &mut io::writer(rt),
+    )
+}
+
+/// Runs sessions between servers.
+fn run_meeting<'a>(
+    rt: &HostRuntime,
+    address: SocketAddr,
+    with: &str,
+    terms: MeetingTerms,
+) -> Result<(), Stop<'a>>
+    requires { IsAddressList with.now }
+{
+    meet_run(
+        rt,
+        rt.alloc(),
+        address,
+        with,
+        terms,
+        &mut io::writer(rt),
+        &mut rt.stderr(),
     )
 }
 

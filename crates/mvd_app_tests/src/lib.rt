@@ -1,4 +1,4 @@
-//! Tests of the commands: inputs, a connection within one process, links, shells, and hints.
+//! Tests of the commands: inputs, a connection within one process, links, sessions of two servers, shells, and hints.
 #![tactic(auto)]
 
 #[cfg(test)]
@@ -7,5 +7,7 @@ mod hints;
 mod inputs;
 #[cfg(test)]
 mod links;
+#[cfg(test)]
+mod meetings;
 #[cfg(test)]
 mod shells;

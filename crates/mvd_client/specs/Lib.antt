@@ -1,3 +1,4 @@
+pub mod Met
 pub mod Reported
 pub mod Synced
 pub mod Talked

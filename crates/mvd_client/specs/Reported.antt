@@ -1,7 +1,11 @@
 -- What is printed of a session with a server, and of all that a site holds.
-use Rattle.std.specs.Prelude.{ℕ, ◌≡◌, ◌⊎◌, List, [], ◌∷◌, ◌++◌, codes, nat_lt, if◌then◌else◌, Option, None, Some, Result, Ok, Err}
+use Rattle.std.specs.Prelude.{ℕ, Bool, ◌||◌, ◌≡◌, ◌⊎◌, List, [], ◌∷◌, ◌++◌, codes, nat_lt, if◌then◌else◌, Option, None, Some, Result, Ok, Err}
 use Rattle.std.specs.Fmt.{decimal}
+use Rattle.std.specs.declared.net.socket_addr.SocketAddr.{SocketAddr}
+use Rattle.std.specs.Net.Text.{socket_text}
 use Rattle.std.specs.Io.KnownBytes.{Appends}
+use Rattle.hex.specs.Hex.{encode_lower}
+use Rattle.mvd_client.specs.declared.meeting.Root.{Root}
 use Rattle.mvd_print.specs.Text.{keys_text, root_text}
 use Rattle.mvd_site.specs.Answer.{digests, node_digests}
 use Rattle.mvd_site.specs.Held.{States}
@@ -29,9 +33,30 @@ abbrev pub IsOfFirst : List Left → Fault → Type 0
 IsOfFirst [] fault = ⊥
 IsOfFirst (left ∷ others) fault = fault ≡ Stopped left.refusal
 
--- All is printed of a session that left no key, and of one that left some: then the command is stopped with the refusal of the
+-- where keys were left, a command is stopped with the refusal of the first of them
+abbrev pub StopsLeft : Report → Result (Unit {0}) Stop → Type 0
+StopsLeft report (Ok done) = report.first_refused ≡ []
+StopsLeft report (Err stop) = (stop.hint ≡ Some Hint.Left) × IsOfFirst report.first_refused stop.fault
+
+-- the root digest of a server, with its address
+abbrev pub root_at_text : Root → List ℕ
+root_at_text root = codes "root " ++ (socket_text root.address ++ (codes " " ++ (encode_lower root.digest ++ codes "\n")))
+
+-- how many keys a session of two servers exchanged and refused, and the digest of all that each of them holds then
+abbrev pub meeting_text : Report → Root → Root → List ℕ
+meeting_text report near far = keys_text report.keys ++ (refused_text report.refused ++ (root_at_text near ++ root_at_text far))
+
+-- how many keys a session with a server exchanged: always, or where there were some
+abbrev pub met_text : SocketAddr → ℕ → Bool → List ℕ
+met_text address keys always =
+    if (nat_lt 0 keys || always) then socket_text address ++ (codes " keys " ++ (decimal keys ++ codes "\n")) else []
+
+-- This is all printed of a session that left no key, and of one that left some: then the command is stopped with the refusal of the
 -- first of them. It may also be stopped, without a hint, since not all could be printed
+abbrev pub ReportsAs : List ℕ → Report → Option (List ℕ) → Option (List ℕ) → Result (Unit {0}) Stop → Type 0
+ReportsAs text report out out' (Ok done) = (report.first_refused ≡ []) × Appends out out' text
+ReportsAs text report out out' (Err stop) = (stop.hint ≡ None)
+    ⊎ ((stop.hint ≡ Some Hint.Left) × IsOfFirst report.first_refused stop.fault × Appends out out' text)
+
 abbrev pub Reports : Report → States → Option (List ℕ) → Option (List ℕ) → Result (Unit {0}) Stop → Type 0
-Reports report states out out' (Ok done) = (report.first_refused ≡ []) × Appends out out' (session_text report states)
-Reports report states out out' (Err stop) = (stop.hint ≡ None)
-    ⊎ ((stop.hint ≡ Some Hint.Left) × IsOfFirst report.first_refused stop.fault × Appends out out' (session_text report states))
+Reports report states out out' result = ReportsAs (session_text report states) report out out' result

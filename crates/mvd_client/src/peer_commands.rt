@@ -1,7 +1,7 @@
 //! The commands that meet a server: sessions of a stored site, and shells.
 ghost use Rattle.std.specs.Prelude.{◌≡◌, ◌≢◌, ◌++◌, [], IsErr, OnOk, string_bytes};
 ghost use Rattle.std.specs.Io.KnownBytes.{Appends};
-ghost use Rattle.mvd_client.specs.Reported.{Reports, refused_text, root_of, session_text};
+ghost use Rattle.mvd_client.specs.Reported.{Reports, StopsLeft, refused_text, root_of, session_text};
 ghost use Rattle.mvd_client.specs.Synced.{FollowsPushed, MeetsFar};
 ghost use Rattle.mvd_client.specs.Talked.{ShellsOver};
 ghost use Rattle.mvd_print.specs.Text.{root_text};
@@ -29,12 +29,14 @@ use std::io::{self, BufRead, Read, Write};
 use std::net::{Net, OpenStream, SocketAddr};
 use std::time::Duration;
 
-/// A stream to the server at an address, on which no read and no write waits for more than so many seconds.
+/// A stream to the server at an address, on which no read and no write waits for more than so many seconds. What is
+/// written leaves at once.
 pub fn connected<N: Net>(rt: &N, address: SocketAddr, idle: u32) -> io::Result<N::Stream> {
     let most = Duration::from_secs(u64::from(idle));
     let stream = rt.connect_timeout(address, most)?;
     stream.set_read_timeout(Some(most))?;
     stream.set_write_timeout(Some(most))?;
+    stream.set_nodelay(true)?;
     Ok(stream)
 }
 
@@ -126,6 +128,13 @@ pub fn tell_report<'a, S: Alter + Drop, W: Write, E: Write>(
     if report.old > 0 {
         let _ = writeln!(errors, "mvd: {}", Older(report.old));
     }
+    left_with(report)
+}
+
+/// Keys that were refused are what a command is stopped with.
+pub(crate) fn left_with<'a>(report: &Report) -> Result<(), Stop<'a>>
+    ensures { StopsLeft report.now result }
+{
     match report.first_refused.as_slice().first() {
         Some(left) => Err(Stop::left(left.refusal)),
         None => Ok(()),
@@ -149,7 +158,7 @@ fn tell_counts<S: Alter + Drop, W: Write>(
 }
 
 /// Adds a line with how many keys were refused, where some were.
-fn print_refused(count: u64, lines: &mut String) -> Result<(), Refusal>
+pub(crate) fn print_refused(count: u64, lines: &mut String) -> Result<(), Refusal>
     ensures { OnOk result (string_bytes lines.new ≡ string_bytes lines.old ++ refused_text count) }
 {
     if count > 0 {

@@ -1,5 +1,6 @@
 //! A fault, and what there is to do about it.
-ghost use Rattle.std.specs.Prelude.{◌≡◌, ℕ, Some};
+ghost use Rattle.std.specs.Prelude.{◌≡◌, ◌≢◌, ℕ, IsSomeAnd, Some};
+ghost use Rattle.mvd_hint.specs.Named.{NamesServer};
 ghost use Rattle.mvd_dots.specs.declared.refusals.Refusal.TheVariants.{BadBody, BadKind, Damaged, DotClash, FrameTooLong, Full, ReadFailed, SiteMismatch, Store};
 ghost use Rattle.mvd_input.specs.declared.fault.Fault.TheVariants.{Stopped};
 ghost use Rattle.mvd_input.specs.declared.fault.Fault.TheVariants as faults;
@@ -227,6 +228,8 @@ impl<'a> Stop<'a> {
         ensures long { refusal ≡ FrameTooLong → result.hint ≡ Some (Hint.NoPeer address) }
         ensures kind { refusal ≡ BadKind → result.hint ≡ Some (Hint.NoPeer address) }
         ensures body { refusal ≡ BadBody → result.hint ≡ Some (Hint.NoPeer address) }
+        // No other hint than that of a clash leaves the address out.
+        ensures named { refusal ≢ DotClash → IsSomeAnd result.hint (NamesServer address) }
     {
         let hint = match refusal {
             Refusal::DotClash => Hint::Clash,

@@ -1,3 +1,4 @@
+mod Addressed
 mod Asked
 mod Commands
 mod Consumed

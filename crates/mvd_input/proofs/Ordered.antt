@@ -1,5 +1,5 @@
 -- What the words ask for.
-use Rattle.std.proofs.Common.{◌≡◌, ◌∙◌, ap, refl, sym, subst, ℕ, List, Option, Some, None, Result, Ok, Err, true, false, is_some, codes, find, option_and_then, option_map, IsSomeAnd}
+use Rattle.std.proofs.Common.{◌≡◌, ◌∙◌, ap, refl, sym, subst, ℕ, List, Bor, Option, Some, None, Result, Ok, Err, true, false, is_some, codes, find, option_and_then, option_map, IsSomeAnd}
 use Rattle.std.specs.Prelude.{Box}
 use Rattle.std.specs.Box.{box_value}
 use Rattle.std.specs.Option.{option_map_or}
@@ -19,12 +19,15 @@ use Rattle.clap.specs.declared.parser.matches.MatchedArg.{MatchedArg}
 use Rattle.clap.specs.declared.parser.matches.ValueSource.{ValueSource}
 use Rattle.clap.specs.declared.parser.matches.SubCommand.{SubCommand}
 use Rattle.clap.specs.declared.parser.matches.ArgMatches.TheViews.{out-ArgMatches, out-SubCommand}
-use Rattle.mvd_input.specs.Orders.{AskFor, Gives, HasBadNumber, IsAddressOf, IsFaultBy, IsOrderOf, IsOutOfRange, IsSeconds, IsUnread, ReadsGiven, ReadsOrder, ReadsWords, is_given, is_word, names_server, sets_up, source_in}
+use Rattle.mvd_input.specs.Orders.{AskFor, Gives, HasBadNumber, IsAddressOf, IsDbOf, IsFaultBy, IsOrderOf, IsOutOfRange, IsRepeatOf, IsSeconds, IsSetupOf, IsTimes, IsUnread, ReadsGiven, ReadsOrder, ReadsWords, has_file, is_given, is_repeated, is_word, names_server, sets_up, source_in}
+use Rattle.mvd_input.specs.Addresses.{IsAddressList}
 use Rattle.mvd_input.specs.Words.{program}
 use Rattle.mvd_input.specs.declared.order.Order.{Order}
-use Rattle.mvd_input.specs.declared.order.Order.TheVariants.{Sim, Loop, Serve, Shell, RemoteShell, Sync}
-use Rattle.mvd_input.specs.declared.order.Unread.{Unread}
-use Rattle.mvd_input.specs.declared.order.Unread.TheVariants as unread
+use Rattle.mvd_input.specs.declared.order.Order.TheVariants.{Sim, Loop, Serve, Shell, RemoteShell, Sync, Meet}
+use Rattle.mvd_input.specs.declared.options.Unread.{Unread}
+use Rattle.mvd_input.specs.declared.options.Unread.TheVariants as unread
+use Rattle.mvd_input.specs.declared.order.Setup.{Setup}
+use Rattle.mvd_input.specs.declared.options.Repeat.{Repeat}
 use Rattle.mvd_input.specs.declared.order.OrderFault.{OrderFault}
 use Rattle.mvd_input.specs.declared.order.OrderFault.TheVariants.{Words, Range, Stopped}
 
@@ -58,6 +61,7 @@ serve_meets rows (Serve _ _ address _ idle _) h = ((address, h.3), (idle, h.5))
 serve_meets rows (Shell _ _) h = differ _ _ h.0 refl
 serve_meets rows (RemoteShell _ _) h = differ _ _ h.0 refl
 serve_meets rows (Sync _ _ _ _ _) h = differ _ _ h.0 refl
+serve_meets rows (Meet _ _ _ _ _) h = differ _ _ h.0 refl
 
 pub sync_meets : (rows : List Row) (order : Order) → IsOrderOf (codes "sync") rows order → Meets rows
 sync_meets rows Sim h = differ _ _ h refl
@@ -66,6 +70,7 @@ sync_meets rows (Serve _ _ _ _ _ _) h = differ _ _ h.0 refl
 sync_meets rows (Shell _ _) h = differ _ _ h.0 refl
 sync_meets rows (RemoteShell _ _) h = differ _ _ h.0 refl
 sync_meets rows (Sync _ _ address idle _) h = ((address, h.3), (idle, h.4))
+sync_meets rows (Meet address _ _ idle _) h = ((address, h.3), (idle, h.5))
 
 pub remote_meets : (rows : List Row) → first_of (codes "db") rows ≡ None → (order : Order) → IsOrderOf (codes "shell") rows order → Meets rows
 remote_meets rows e Sim h = differ _ _ h refl
@@ -74,6 +79,7 @@ remote_meets rows e (Serve _ _ _ _ _ _) h = differ _ _ h.0 refl
 remote_meets rows e (Shell _ _) h = absurd (cc (h.1, e))
 remote_meets rows e (RemoteShell address idle) h = ((address, h.2), (idle, h.3))
 remote_meets rows e (Sync _ _ _ _ _) h = differ _ _ h.0 refl
+remote_meets rows e (Meet _ _ _ _ _) h = differ _ _ h.0 refl
 
 -- nor is a shell that names both a database and a server, or a server and how a site is set up
 pub no_server_beside : (rows : List Row) (db : Text) → first_of (codes "db") rows ≡ Some db → names_server rows ≡ true → (order : Order) → IsOrderOf (codes "shell") rows order → ⊥
@@ -83,6 +89,7 @@ no_server_beside rows db e named (Serve _ _ _ _ _ _) h = differ _ _ h.0 refl
 no_server_beside rows db e named (Shell _ _) h = cc (h.3, named)
 no_server_beside rows db e named (RemoteShell _ _) h = cc (h.1, e)
 no_server_beside rows db e named (Sync _ _ _ _ _) h = differ _ _ h.0 refl
+no_server_beside rows db e named (Meet _ _ _ _ _) h = differ _ _ h.0 refl
 
 pub no_setup_beside : (rows : List Row) → first_of (codes "db") rows ≡ None → sets_up rows ≡ true → (order : Order) → IsOrderOf (codes "shell") rows order → ⊥
 no_setup_beside rows e set Sim h = differ _ _ h refl
@@ -91,6 +98,61 @@ no_setup_beside rows e set (Serve _ _ _ _ _ _) h = differ _ _ h.0 refl
 no_setup_beside rows e set (Shell _ _) h = cc (h.1, e)
 no_setup_beside rows e set (RemoteShell _ _) h = cc (h.4, set)
 no_setup_beside rows e set (Sync _ _ _ _ _) h = differ _ _ h.0 refl
+no_setup_beside rows e set (Meet _ _ _ _ _) h = differ _ _ h.0 refl
+
+-- nor is a session that names both a database and servers, or more than one round without them
+pub no_file_beside : (rows : List Row) (list : Text) → first_of (codes "with") rows ≡ Some list → has_file rows ≡ true → (order : Order) → IsOrderOf (codes "sync") rows order → ⊥
+no_file_beside rows list e named Sim h = differ _ _ h refl
+no_file_beside rows list e named (Loop _) h = differ _ _ h.0 refl
+no_file_beside rows list e named (Serve _ _ _ _ _ _) h = differ _ _ h.0 refl
+no_file_beside rows list e named (Shell _ _) h = differ _ _ h.0 refl
+no_file_beside rows list e named (RemoteShell _ _) h = differ _ _ h.0 refl
+no_file_beside rows list e named (Sync _ _ _ _ _) h = cc (h.6, e)
+no_file_beside rows list e named (Meet _ _ _ _ _) h = cc (h.7, named)
+
+pub no_rounds_beside : (rows : List Row) → first_of (codes "with") rows ≡ None → is_repeated rows ≡ true → (order : Order) → IsOrderOf (codes "sync") rows order → ⊥
+no_rounds_beside rows e named Sim h = differ _ _ h refl
+no_rounds_beside rows e named (Loop _) h = differ _ _ h.0 refl
+no_rounds_beside rows e named (Serve _ _ _ _ _ _) h = differ _ _ h.0 refl
+no_rounds_beside rows e named (Shell _ _) h = differ _ _ h.0 refl
+no_rounds_beside rows e named (RemoteShell _ _) h = differ _ _ h.0 refl
+no_rounds_beside rows e named (Sync _ _ _ _ _) h = cc (h.7, named)
+no_rounds_beside rows e named (Meet _ _ _ _ _) h = cc (h.1, e)
+
+-- nor one with what is no list
+pub no_list : (rows : List Row) (list : Text) → first_of (codes "with") rows ≡ Some list → (IsAddressList list → ⊥) → (order : Order) → IsOrderOf (codes "sync") rows order → ⊥
+no_list rows list e none Sim h = differ _ _ h refl
+no_list rows list e none (Loop _) h = differ _ _ h.0 refl
+no_list rows list e none (Serve _ _ _ _ _ _) h = differ _ _ h.0 refl
+no_list rows list e none (Shell _ _) h = differ _ _ h.0 refl
+no_list rows list e none (RemoteShell _ _) h = differ _ _ h.0 refl
+no_list rows list e none (Sync _ _ _ _ _) h = cc (h.6, e)
+no_list rows list e none (Meet _ with _ _ _) h = let same : with.now ≡ list = cc (h.1, e) in none (subst IsAddressList same h.2)
+
+-- how often servers meet again tells how many rounds there are
+pub repeat_times : (rows : List Row) (repeat : Option Repeat) → IsRepeatOf rows repeat → (times : Option ℕ) × IsTimes rows times
+repeat_times rows None h = (None, h.1)
+repeat_times rows (Some repeat) h = (repeat.times, h.1)
+
+-- of a session with servers the words tell how often they meet again, and of one with a database its file and its site
+pub meet_repeats : (rows : List Row) (list : Text) → first_of (codes "with") rows ≡ Some list → (order : Order) → IsOrderOf (codes "sync") rows order → (repeat : Option Repeat) × IsRepeatOf rows repeat
+meet_repeats rows list e Sim h = differ _ _ h refl
+meet_repeats rows list e (Loop _) h = differ _ _ h.0 refl
+meet_repeats rows list e (Serve _ _ _ _ _ _) h = differ _ _ h.0 refl
+meet_repeats rows list e (Shell _ _) h = differ _ _ h.0 refl
+meet_repeats rows list e (RemoteShell _ _) h = differ _ _ h.0 refl
+meet_repeats rows list e (Sync _ _ _ _ _) h = absurd (cc (h.6, e))
+meet_repeats rows list e (Meet _ _ repeat _ _) h = (repeat, h.4)
+
+pub sync_sets_up : (rows : List Row) → first_of (codes "with") rows ≡ None → (order : Order) → IsOrderOf (codes "sync") rows order
+    → ((db : Bor (List ℕ)) × IsDbOf rows db) × ((setup : Setup) × IsSetupOf rows setup)
+sync_sets_up rows e Sim h = differ _ _ h refl
+sync_sets_up rows e (Loop _) h = differ _ _ h.0 refl
+sync_sets_up rows e (Serve _ _ _ _ _ _) h = differ _ _ h.0 refl
+sync_sets_up rows e (Shell _ _) h = differ _ _ h.0 refl
+sync_sets_up rows e (RemoteShell _ _) h = differ _ _ h.0 refl
+sync_sets_up rows e (Sync db setup _ _ _) h = ((db, h.1), (setup, h.2))
+sync_sets_up rows e (Meet _ _ _ _ _) h = absurd (cc (h.1, e))
 
 -- ---- where a value came from
 

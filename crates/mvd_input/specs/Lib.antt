@@ -1,3 +1,4 @@
+pub mod Addresses
 pub mod Definitions
 pub mod Ends
 pub mod Hexadecimal

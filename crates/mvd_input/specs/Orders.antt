@@ -15,15 +15,17 @@ use Rattle.clap.specs.declared.parser.matches.ValueSource.{ValueSource}
 use Rattle.clap.specs.declared.parser.matches.ValueSource.TheVariants.{DefaultValue, CommandLine}
 use Rattle.clap.specs.declared.error.kind.ErrorKind.TheVariants.{OutOfMemory}
 use Rattle.mvd_dots.specs.declared.refusals.Refusal.TheVariants.{Memory}
+use Rattle.mvd_input.specs.Addresses.{IsAddressList}
 use Rattle.mvd_input.specs.Lines.{IsNoNumber, IsNumber}
 use Rattle.mvd_input.specs.Words.{program}
 use Rattle.mvd_input.specs.declared.order.Order.{Order}
-use Rattle.mvd_input.specs.declared.order.Order.TheVariants.{Sim, Loop, Serve, Shell, RemoteShell, Sync}
+use Rattle.mvd_input.specs.declared.order.Order.TheVariants.{Sim, Loop, Serve, Shell, RemoteShell, Sync, Meet}
 use Rattle.mvd_input.specs.declared.order.OrderFault.{OrderFault}
 use Rattle.mvd_input.specs.declared.order.OrderFault.TheVariants.{Words, Range, Stopped}
 use Rattle.mvd_input.specs.declared.order.Setup.{Setup}
-use Rattle.mvd_input.specs.declared.order.Unread.{Unread}
-use Rattle.mvd_input.specs.declared.order.Unread.TheVariants as unread
+use Rattle.mvd_input.specs.declared.options.Repeat.{Repeat}
+use Rattle.mvd_input.specs.declared.options.Unread.{Unread}
+use Rattle.mvd_input.specs.declared.options.Unread.TheVariants as unread
 
 -- a site is 1..=2^32 - 1, and it holds 1..=1,000,000 keys at the most
 abbrev pub IsSetUp : Setup → Type 0
@@ -44,6 +46,10 @@ IsPort port = ForSome port (λ n. (1 ≤ n) × (n ≤ 65535))
 abbrev pub IsIdle : ℕ → Type 0
 IsIdle seconds = (1 ≤ seconds) × (seconds ≤ 86400)
 
+-- servers meet again after 1..=3,600 seconds, and 1..=1,000,000 times where that is counted
+abbrev pub IsRounds : Repeat → Type 0
+IsRounds repeat = (1 ≤ repeat.every) × (repeat.every ≤ 3600) × ForSome repeat.times (λ n. (1 ≤ n) × (n ≤ 1000000))
+
 -- a site may be set up with the numbers of an order
 abbrev pub IsInRange : Order → Type 0
 IsInRange Sim = ⊤
@@ -52,6 +58,7 @@ IsInRange (Serve _ setup address conns idle http) = IsSetUp setup × HasPort add
 IsInRange (Shell _ setup) = IsSetUp setup
 IsInRange (RemoteShell address idle) = HasPort address × IsIdle idle
 IsInRange (Sync _ setup address idle _) = IsSetUp setup × HasPort address × IsIdle idle
+IsInRange (Meet address with repeat idle _) = HasPort address × IsAddressList with.now × ForSome repeat IsRounds × IsIdle idle
 
 -- ---- the order that the words are
 
@@ -84,7 +91,8 @@ ReadsGiven rows option most (Err (unread.Text _)) = (number : ℕ) → Gives row
 abbrev pub HasBadNumber : List Row → Type 0
 HasBadNumber rows = IsOutOfRange rows (codes "site") 4294967295 ⊎ (IsOutOfRange rows (codes "max-keys") 1000000
     ⊎ (IsOutOfRange rows (codes "port") 65535 ⊎ (IsOutOfRange rows (codes "conns") 1000
-    ⊎ (IsOutOfRange rows (codes "idle") 86400 ⊎ IsOutOfRange rows (codes "http") 65535))))
+    ⊎ (IsOutOfRange rows (codes "idle") 86400 ⊎ (IsOutOfRange rows (codes "http") 65535
+    ⊎ (IsOutOfRange rows (codes "every") 3600 ⊎ IsOutOfRange rows (codes "times") 1000000))))))
 
 -- why the values of options mean nothing of a kind: a number is out of its range, or nothing of the kind has these values
 abbrev pub IsUnread : {X : Type 0} → List Row → (List Row → X → Type 0) → Unread → Type 0
@@ -120,6 +128,16 @@ abbrev pub IsHttp : List Row → Option ℕ → Type 0
 IsHttp rows None = first_of (codes "http") rows ≡ None
 IsHttp rows (Some number) = Gives rows (codes "http") number
 
+-- how many rounds there are, where they are counted
+abbrev pub IsTimes : List Row → Option ℕ → Type 0
+IsTimes rows None = first_of (codes "times") rows ≡ None
+IsTimes rows (Some number) = Gives rows (codes "times") number
+
+-- how often servers meet again, where that is told
+abbrev pub IsRepeatOf : List Row → Option Repeat → Type 0
+IsRepeatOf rows None = (first_of (codes "every") rows ≡ None) × (first_of (codes "times") rows ≡ None)
+IsRepeatOf rows (Some repeat) = Gives rows (codes "every") repeat.every × IsTimes rows repeat.times
+
 abbrev pub IsSeconds : List Row → ℕ → Type 0
 IsSeconds rows seconds = Gives rows (codes "idle") seconds
 
@@ -141,6 +159,14 @@ names_server rows = is_given rows (codes "port") || (is_given rows (codes "addre
 abbrev pub sets_up : List Row → Bool
 sets_up rows = is_given rows (codes "site") || (is_given rows (codes "defs") || is_given rows (codes "max-keys"))
 
+-- the words name a database, or say how a site is set up
+abbrev pub has_file : List Row → Bool
+has_file rows = is_given rows (codes "db") || sets_up rows
+
+-- the words ask for more than one round
+abbrev pub is_repeated : List Row → Bool
+is_repeated rows = is_given rows (codes "every") || is_given rows (codes "times")
+
 -- the order that a command with the values of its options is
 abbrev pub IsOrderOf : List ℕ → List Row → Order → Type 0
 IsOrderOf name rows Sim = name ≡ codes "sim"
@@ -152,6 +178,10 @@ IsOrderOf name rows (RemoteShell address idle) = (name ≡ codes "shell") × (fi
     × IsSeconds rows idle × (sets_up rows ≡ false)
 IsOrderOf name rows (Sync db setup address idle verbose) = (name ≡ codes "sync") × IsDbOf rows db
     × IsSetupOf rows setup × IsAddressOf rows address × IsSeconds rows idle × (IsTrue verbose ↔ (first_of (codes "verbose") rows ≡ Some (codes "true")))
+    × (first_of (codes "with") rows ≡ None) × (is_repeated rows ≡ false)
+IsOrderOf name rows (Meet address with repeat idle verbose) = (name ≡ codes "sync") × (first_of (codes "with") rows ≡ Some with.now)
+    × IsAddressList with.now × IsAddressOf rows address × IsRepeatOf rows repeat × IsSeconds rows idle
+    × (IsTrue verbose ↔ (first_of (codes "verbose") rows ≡ Some (codes "true"))) × (has_file rows ≡ false)
 
 -- the order in its ranges, or why there is none
 abbrev pub ReadsOptions : List ℕ → List Row → Result Order Unread → Type 0

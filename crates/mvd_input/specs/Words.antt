@@ -54,6 +54,15 @@ http = number_option (codes "http")
 abbrev pub conns : Rule
 conns = number_option (codes "conns")
 
+abbrev pub with : Rule
+with = text_option (codes "with")
+
+abbrev pub every : Rule
+every = number_option (codes "every")
+
+abbrev pub times : Rule
+times = number_option (codes "times")
+
 abbrev pub idle : Text → Rule
 idle seconds = by_default seconds (number_option (codes "idle"))
 
@@ -86,7 +95,7 @@ shell_words = leaf (codes "shell")
 
 abbrev pub sync_words : App
 sync_words = leaf (codes "sync")
-    (database ++ needed port ∷ idle (codes "60") ∷ verbose ∷ [])
+    (db ∷ site ∷ defs ∷ max_keys ∷ address ∷ needed port ∷ with ∷ every ∷ times ∷ idle (codes "60") ∷ verbose ∷ [])
 
 -- the program: a command has to be given, and `--version` may be
 unfoldable pub program : App

@@ -45,8 +45,16 @@ mvd shell --db <FILE> --site <N> [--defs <FILE>] [--max-keys <N>]
 const SHELL_PORT: &str = "The port of a server, 1 to 65535, in place of a database.";
 
 const SYNC: &str =
-    "Runs a session of a database with a server, after which both hold all that one of them held. It prints how \
-                    many keys differed, and the digest of all that the database holds then.";
+    "Runs a session of a database with a server, or of a server with each of a list, after which both sides hold all that \
+                    one of them held before. It prints how many keys differed, and the digest of all that is held then.";
+
+const SYNC_USAGE: &str = "\
+mvd sync --db <FILE> --site <N> --port <P> [--defs <FILE>] [--max-keys <N>] [--address <IP>] [--idle <S>] [--verbose]
+       mvd sync --port <P> --with <LIST> [--every <S>] [--times <N>] [--address <IP>] [--idle <S>] [--verbose]";
+
+const WITH: &str =
+    "The servers that meet the one at the port, in place of a database: 1 to 16 items with commas between them, each a port \
+                    at the same IP address, or an address with its port, as 192.0.2.1:7007 or [::1]:7007.";
 
 /// The program's command, with one command below it for each order.
 pub fn command<'a>(alloc: Global) -> Result<Command<'a>, AllocError>
@@ -155,12 +163,15 @@ fn sync_command<'a>(alloc: Global) -> Result<Command<'a>, AllocError>
     ensures { IfOk result (λ command. app_of command ≡ spec.sync_words) }
 {
     let options = vec![in alloc;
-        db(alloc),
-        site(alloc),
+        db(alloc).required(false),
+        site(alloc).required(false),
         defs(alloc),
         max_keys(alloc),
         address(alloc),
         port(alloc, "The port of the server, 1 to 65535."),
+        with(alloc),
+        every(alloc),
+        times(alloc),
         idle(alloc, IDLE, "60"),
         verbose(alloc),
     ]?;
@@ -168,8 +179,9 @@ fn sync_command<'a>(alloc: Global) -> Result<Command<'a>, AllocError>
         alloc,
         "sync",
         SYNC,
-        "Example: mvd sync --db b.db --site 2 --port 7007",
+        "Example: mvd sync --db b.db --site 2 --port 7007\n         mvd sync --port 7007 --with 7008 --every 5",
     )
+    .override_usage(SYNC_USAGE)
     .args(options)
 }
 
@@ -264,6 +276,34 @@ fn conns<'a>(alloc: Global) -> Arg<'a>
         "conns",
         "C",
         "How many connections are served in all, 1 to 1000. It goes on until it is stopped where this is left out.",
+    )
+}
+
+fn with<'a>(alloc: Global) -> Arg<'a>
+    ensures { rule_of result ≡ spec.with }
+{
+    text(alloc, "with", "LIST", WITH)
+}
+
+fn every<'a>(alloc: Global) -> Arg<'a>
+    ensures { rule_of result ≡ spec.every }
+{
+    number(
+        alloc,
+        "every",
+        "S",
+        "The servers meet again so many seconds after they met, 1 to 3600, until it is stopped.",
+    )
+}
+
+fn times<'a>(alloc: Global) -> Arg<'a>
+    ensures { rule_of result ≡ spec.times }
+{
+    number(
+        alloc,
+        "times",
+        "N",
+        "How often the servers meet in all, 1 to 1000000, where --every is given.",
     )
 }
 

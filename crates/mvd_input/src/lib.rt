@@ -2,17 +2,21 @@
 //! lines of hexadecimal digits, each within its limit.
 #![tactic(auto)]
 
+mod addresses;
 mod command;
 mod command_words;
 mod defs_file;
 mod fault;
 mod hexadecimal;
 mod input;
+mod options;
 mod order;
 
+pub use addresses::addresses_of;
 pub use command::{Ask, Command, Line, Typed, View, line_of, typed_of};
 pub use defs_file::{DEFS_MAX, add_index, add_view, read_defs, text_of};
 pub use fault::Fault;
 pub use hexadecimal::{BYTES_MAX, HEX_MAX, first_line, hex_bytes};
 pub use input::{read_input, tell, write_out};
+pub use options::Repeat;
 pub use order::{MOST_KEYS, Order, OrderFault, Setup, order_of};

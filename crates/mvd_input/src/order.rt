@@ -1,36 +1,35 @@
 //! The command line.
-ghost use Rattle.std.specs.Prelude.{◌≡◌, ◌<◌, ◌≤◌, ◌^◌, ℕ, List, IfErr, IfOk, IfSome, Some, codes, false, option_map};
-ghost use Rattle.std.specs.Option.{option_map_or};
+ghost use Rattle.std.specs.Prelude.{◌≡◌, ◌↔◌, IfErr, IfOk, IsTrue, Some, codes, false};
+ghost use Rattle.mvd_input.specs.Addresses.{IsAddressList};
 ghost use Rattle.clap.specs.Walk.{texts};
 ghost use Rattle.clap.specs.Words.{first_of};
-ghost use Rattle.mvd_input.specs.Orders.{HasPort, IsAddressOf, IsConns, IsDbOf, IsHttp, IsIdle, IsInRange, IsIpOf, IsPort, IsSeconds, IsSetUp, IsSetupOf, IsUnread, ReadsGiven, ReadsNumber, ReadsOptions, ReadsOrder, ReadsWords, is_given, is_word, names_server, options_of, sets_up};
+ghost use Rattle.mvd_input.specs.Orders.{IsInRange, IsSetUp, IsSetupOf, IsUnread, ReadsOptions, ReadsOrder, ReadsWords, has_file, is_repeated, names_server, options_of, sets_up};
 
-use crate::command::number_of;
+use crate::addresses::is_address_list;
 use crate::command_words::{command, command_of};
+use crate::options::{
+    Repeat, Unread, address_in, conns_in, db_in, given_in, http_in, idle_in, is_given, repeat_in,
+    text_in,
+};
 use clap::error::ErrorKind;
-use clap::parser::ValueSource;
 use clap::{ArgMatches, Command, Error};
 use mvd_dots::Refusal;
 use std::alloc::{AllocError, Global};
-use std::net::{IpAddr, SocketAddr};
+use std::net::SocketAddr;
 
 /// The most keys that a site may hold, and how many it may where no option says.
 pub const MOST_KEYS: u32 = 1_000_000;
 
-/// The most connections that a server may be asked to serve.
-const MOST_CONNECTIONS: u64 = 1_000;
-
-/// The last port.
-const MOST_PORT: u64 = 65_535;
-
-/// The most seconds for which no byte need move.
-const MOST_IDLE: u64 = 86_400;
-
-/// What a shell needs.
-const NEITHER: &str = "'--db <FILE>' with '--site <N>', or '--port <P>', is missing";
-
 /// What a shell cannot have together.
 const BOTH: &str = "a shell has '--db <FILE>' with its options, or '--port <P>' with its own";
+
+/// What a session cannot have together, and what goes with more than one round alone.
+const FILE_AND_SERVERS: &str =
+    "a session has '--db <FILE>' with its options, or '--with <LIST>' between servers";
+const ONE_SESSION: &str = "'--every <S>' and '--times <N>' go with '--with <LIST>'";
+
+/// What is told of a list that is none.
+const NO_LIST: &str = "invalid value for '--with <LIST>': it is no list of 1 to 16 ports and addresses with ports";
 
 /// What a site is set up with: its number is at least 1, and it may hold 1 to 1,000,000 keys. A file may define its
 /// indexes and views.
@@ -76,6 +75,14 @@ pub enum Order<'a> {
         idle: u32,
         verbose: bool,
     },
+    /// Run sessions between a server and each of a list, which `addresses_of` reads.
+    Meet {
+        address: SocketAddr,
+        with: &'a str,
+        repeat: Option<Repeat>,
+        idle: u32,
+        verbose: bool,
+    },
 }
 
 /// Why a command line asks for nothing.
@@ -112,15 +119,6 @@ impl From<AllocError> for OrderFault {
     fn from(_error: AllocError) -> OrderFault {
         OrderFault::Stopped(Refusal::Memory)
     }
-}
-
-/// Why the options of a command mean no order.
-#[derive(Clone, Copy)]
-enum Unread {
-    /// A number is out of its range.
-    Range,
-    /// This is amiss.
-    Text(&'static str),
 }
 
 /// What the words ask for, of which the first is the program's own name.
@@ -179,13 +177,42 @@ fn serve_of<'a>(matches: &ArgMatches<'a>) -> Result<Order<'a>, Unread>
 fn sync_of<'a>(matches: &ArgMatches<'a>) -> Result<Order<'a>, Unread>
     ensures { ReadsOptions (codes "sync") (options_of matches.now) result }
 {
-    Ok(Order::Sync {
-        db: db_in(matches)?,
-        setup: setup_in(matches)?,
-        address: address_in(matches)?,
+    match text_in(matches, "with") {
+        Some(_) if has_file(matches) => Err(Unread::Text(FILE_AND_SERVERS)),
+        None if is_repeated(matches) => Err(Unread::Text(ONE_SESSION)),
+        Some(with) if is_address_list(with) => meet_of(matches, with),
+        Some(_) => Err(Unread::Text(NO_LIST)),
+        None => Ok(Order::Sync {
+            db: db_in(matches)?,
+            setup: setup_in(matches)?,
+            address: address_in(matches)?,
+            idle: idle_in(matches)?,
+            verbose: is_verbose(matches),
+        }),
+    }
+}
+
+/// A session of a server with each of a list.
+fn meet_of<'a>(matches: &ArgMatches<'a>, with: &'a str) -> Result<Order<'a>, Unread>
+    requires with { first_of (codes "with") (options_of matches.now) ≡ Some with.now }
+    requires list { IsAddressList with.now }
+    requires alone { has_file (options_of matches.now) ≡ false }
+    ensures { ReadsOptions (codes "sync") (options_of matches.now) result }
+{
+    Ok(Order::Meet {
+        with,
+        repeat: repeat_in(matches)?,
         idle: idle_in(matches)?,
-        verbose: text_in(matches, "verbose") == Some("true"),
+        verbose: is_verbose(matches),
+        address: address_in(matches)?,
     })
+}
+
+/// Whether it is told how far a session is.
+fn is_verbose(matches: &ArgMatches<'_>) -> bool
+    ensures { IsTrue result ↔ (first_of (codes "verbose") (options_of matches.now) ≡ Some (codes "true")) }
+{
+    text_in(matches, "verbose") == Some("true")
 }
 
 fn shell_of<'a>(matches: &ArgMatches<'a>) -> Result<Order<'a>, Unread>
@@ -212,29 +239,25 @@ fn names_server(matches: &ArgMatches<'_>) -> bool
     is_given(matches, "port") || is_given(matches, "address") || is_given(matches, "idle")
 }
 
-/// Whether the words of a shell say how a site is set up.
+/// Whether the words name a database, or say how a site is set up.
+fn has_file(matches: &ArgMatches<'_>) -> bool
+    ensures { result ≡ has_file (options_of matches.now) }
+{
+    is_given(matches, "db") || sets_up(matches)
+}
+
+/// Whether the words ask for more than one round.
+fn is_repeated(matches: &ArgMatches<'_>) -> bool
+    ensures { result ≡ is_repeated (options_of matches.now) }
+{
+    is_given(matches, "every") || is_given(matches, "times")
+}
+
+/// Whether the words say how a site is set up.
 fn sets_up(matches: &ArgMatches<'_>) -> bool
     ensures { result ≡ sets_up (options_of matches.now) }
 {
     is_given(matches, "site") || is_given(matches, "defs") || is_given(matches, "max-keys")
-}
-
-/// Whether an option is among the words, and has not its default.
-fn is_given(matches: &ArgMatches<'_>, option: &str) -> bool
-    ensures { result ≡ is_given (options_of matches.now) option.now }
-{
-    is_word(matches.value_source(option))
-}
-
-/// Whether a value came from the words.
-fn is_word(source: Option<ValueSource>) -> bool
-    ensures { result ≡ option_map_or is_word source false }
-{
-    match source {
-        Some(ValueSource::CommandLine) => true,
-        Some(ValueSource::DefaultValue) => false,
-        None => false,
-    }
 }
 
 /// What the options of a site say.
@@ -248,112 +271,6 @@ fn setup_in<'a>(matches: &ArgMatches<'a>) -> Result<Setup<'a>, Unread>
         defs: text_in(matches, "defs"),
         max_keys: given_in(matches, "max-keys", u64::from(MOST_KEYS))? as u32,
     })
-}
-
-/// The value of an option, as it is written, or its default.
-fn text_in<'a>(matches: &ArgMatches<'a>, option: &str) -> Option<&'a str>
-    ensures { first_of option.now (options_of matches.now) ≡ option_map (λ text. text.now) result }
-{
-    matches.get_str(option)
-}
-
-/// The file of a database.
-fn db_in<'a>(matches: &ArgMatches<'a>) -> Result<&'a str, Unread>
-    ensures found { IfOk result (IsDbOf (options_of matches.now)) }
-    ensures fault { IfErr result (IsUnread (options_of matches.now) IsDbOf) }
-{
-    match text_in(matches, "db") {
-        Some(db) => Ok(db),
-        None => Err(Unread::Text("the option '--db <FILE>' is missing")),
-    }
-}
-
-/// The number of an option, where it is given: `Range` where it is 0 or too great.
-fn number_in(matches: &ArgMatches<'_>, option: &str, most: u64) -> Result<Option<u64>, Unread>
-    ensures { ReadsNumber (options_of matches.now) option.now most result }
-{
-    let Some(text) = text_in(matches, option) else {
-        return Ok(None);
-    };
-    match number_of(text) {
-        Some(number) if number == 0 || number > most => Err(Unread::Range),
-        Some(number) => Ok(Some(number)),
-        None => Err(Unread::Text("a number has a sign, or a zero that leads")),
-    }
-}
-
-/// The number of an option that is given: `Range` where it is 0 or too great.
-fn given_in(matches: &ArgMatches<'_>, option: &str, most: u64) -> Result<u64, Unread>
-    ensures { ReadsGiven (options_of matches.now) option.now most result }
-{
-    match number_in(matches, option, most)? {
-        Some(number) => Ok(number),
-        None => Err(Unread::Text(missing(option))),
-    }
-}
-
-/// What is told where an option is missing that has no default. Only a shell can come to that.
-fn missing(option: &str) -> &'static str {
-    match option {
-        "site" => "the option '--site <N>' is missing",
-        _ => NEITHER,
-    }
-}
-
-fn conns_in(matches: &ArgMatches<'_>) -> Result<Option<u32>, Unread>
-    ensures range { IfOk result (λ found. IfSome found (λ n. (1 ≤ n) × (n ≤ 1000))) }
-    ensures count { IfOk result (IsConns (options_of matches.now)) }
-    ensures fault { IfErr result (IsUnread (options_of matches.now) IsConns) }
-{
-    match number_in(matches, "conns", MOST_CONNECTIONS)? {
-        Some(number) => Ok(Some(number as u32)),
-        None => Ok(None),
-    }
-}
-
-/// The port at which HTTP is served.
-fn http_in(matches: &ArgMatches<'_>) -> Result<Option<u16>, Unread>
-    ensures range { IfOk result IsPort }
-    ensures port { IfOk result (IsHttp (options_of matches.now)) }
-    ensures fault { IfErr result (IsUnread (options_of matches.now) IsHttp) }
-{
-    match number_in(matches, "http", MOST_PORT)? {
-        Some(number) => Ok(Some(number as u16)),
-        None => Ok(None),
-    }
-}
-
-/// The seconds for which no byte need move.
-fn idle_in(matches: &ArgMatches<'_>) -> Result<u32, Unread>
-    ensures range { IfOk result IsIdle }
-    ensures idle { IfOk result (IsSeconds (options_of matches.now)) }
-    ensures fault { IfErr result (IsUnread (options_of matches.now) IsSeconds) }
-{
-    Ok(given_in(matches, "idle", MOST_IDLE)? as u32)
-}
-
-/// The address of a server, with its port.
-fn address_in(matches: &ArgMatches<'_>) -> Result<SocketAddr, Unread>
-    ensures range { IfOk result HasPort }
-    ensures address { IfOk result (IsAddressOf (options_of matches.now)) }
-    ensures fault { IfErr result (IsUnread (options_of matches.now) IsAddressOf) }
-{
-    let port = given_in(matches, "port", MOST_PORT)? as u16;
-    Ok(SocketAddr::new(ip_in(matches)?, port))
-}
-
-/// The IP address of a server. Its text is read here, since `clap` reads numbers alone.
-fn ip_in(matches: &ArgMatches<'_>) -> Result<IpAddr, Unread>
-    ensures found { IfOk result (IsIpOf (options_of matches.now)) }
-    ensures fault { IfErr result (IsUnread (options_of matches.now) IsIpOf) }
-{
-    let Some(text) = text_in(matches, "address") else {
-        return Err(Unread::Text("an option is missing"));
-    };
-    match text.parse::<IpAddr>() {
-        Ok(address) => Ok(address),
-        Err(_) => Err(Unread::Text("invalid value for '--address <IP>': it is no IP address")),
-    }
 }
 
 /// What is told of words that are none of the program's, with the usage of the command of a name.

@@ -1,5 +1,5 @@
 //! What command lines ask for.
-use mvd_input::{Order, OrderFault, Setup, order_of};
+use mvd_input::{Order, OrderFault, Repeat, Setup, addresses_of, order_of};
 use std::alloc::{AllocError, Global};
 use std::net::{IpAddr, Ipv4Addr, SocketAddr};
 use std::test::Fail;
@@ -31,12 +31,34 @@ fn address(ip: Ipv4Addr, port: u16) -> SocketAddr {
 enum Wanted {
     Serve,
     Sync,
+    MeetOnce,
+    Meet,
+    MeetCounted,
     Loop,
     Sim,
     Shell,
     RemoteShell,
     Range,
     Says(&'static str),
+}
+
+/// Sessions of the server at port 1 with these.
+fn meet_of(
+    with: &str,
+    repeat: Option<(u32, Option<u32>)>,
+    idle: u32,
+    verbose: bool,
+) -> Order<'_> {
+    Order::Meet {
+        address: address(Ipv4Addr::LOCALHOST, 1),
+        with,
+        repeat: match repeat {
+            Some((every, times)) => Some(Repeat { every, times }),
+            None => None,
+        },
+        idle,
+        verbose,
+    }
 }
 
 /// The order that is asked for, if one is.
@@ -57,6 +79,9 @@ fn order_wanted(wanted: Wanted) -> Option<Order<'static>> {
             idle: 86_400,
             verbose: true,
         },
+        Wanted::MeetOnce => meet_of("2", None, 60, false),
+        Wanted::Meet => meet_of("2,10.0.0.1:7007", Some((5, None)), 60, false),
+        Wanted::MeetCounted => meet_of("[::1]:65535", Some((3_600, Some(1_000_000))), 1, true),
         Wanted::Loop => Order::Loop(set_up(7, None, 1_000_000)),
         Wanted::Sim => Order::Sim,
         Wanted::Shell => Order::Shell {
@@ -114,6 +139,15 @@ const LINES: &[(&str, Wanted)] = &[
         "mvd sync --db f --site 4294967295 --port 65535 --defs d --max-keys 1 --address 10.0.0.1 --idle 86400 --verbose",
         Wanted::Sync,
     ),
+    ("mvd sync --port 1 --with 2", Wanted::MeetOnce),
+    (
+        "mvd sync --port 1 --with 2,10.0.0.1:7007 --every 5",
+        Wanted::Meet,
+    ),
+    (
+        "mvd sync --port 1 --with [::1]:65535 --every 3600 --times 1000000 --idle 1 --verbose",
+        Wanted::MeetCounted,
+    ),
     ("mvd loop --site 7", Wanted::Loop),
     ("mvd sim", Wanted::Sim),
     ("mvd shell --db f --site 2 --max-keys 9", Wanted::Shell),
@@ -147,6 +181,13 @@ const LINES: &[(&str, Wanted)] = &[
         "mvd sync --db f --site 1 --port 1 --max-keys 0",
         Wanted::Range,
     ),
+    ("mvd sync --port 1 --with 2 --every 0", Wanted::Range),
+    ("mvd sync --port 1 --with 2 --every 3601", Wanted::Range),
+    ("mvd sync --port 1 --with 2 --every 1 --times 0", Wanted::Range),
+    (
+        "mvd sync --port 1 --with 2 --every 1 --times 1000001",
+        Wanted::Range,
+    ),
     ("mvd loop --site 1 --max-keys 1000001", Wanted::Range),
     ("mvd shell --db f --site 0", Wanted::Range),
     // Words that are refused, or ask for help.
@@ -159,6 +200,39 @@ const LINES: &[(&str, Wanted)] = &[
     (
         "mvd sync --db f --site 1 --port 1 --http 2",
         Wanted::Says(""),
+    ),
+    ("mvd sync --port 1", Wanted::Says("'--db <FILE>' is missing")),
+    (
+        "mvd sync --port 1 --with 0",
+        Wanted::Says("'--with <LIST>': it is no list"),
+    ),
+    ("mvd sync --port 1 --with 2,", Wanted::Says("it is no list")),
+    ("mvd sync --port 1 --with 02", Wanted::Says("it is no list")),
+    ("mvd sync --port 1 --with a:1", Wanted::Says("it is no list")),
+    (
+        "mvd sync --port 1 --with 10.0.0.1:0",
+        Wanted::Says("it is no list"),
+    ),
+    (
+        "mvd sync --port 1 --with 1,2,3,4,5,6,7,8,9,10,11,12,13,14,15,16,17",
+        Wanted::Says("it is no list"),
+    ),
+    (
+        "mvd sync --port 1 --with 2 --db f",
+        Wanted::Says("'--db <FILE>' with its options, or '--with <LIST>'"),
+    ),
+    (
+        "mvd sync --port 1 --with 2 --site 1",
+        Wanted::Says("Usage: mvd sync --db <FILE>"),
+    ),
+    (
+        "mvd sync --db f --site 1 --port 1 --every 5",
+        Wanted::Says("go with '--with <LIST>'"),
+    ),
+    ("mvd sync --port 1 --every 5", Wanted::Says("")),
+    (
+        "mvd sync --port 1 --with 2 --times 5",
+        Wanted::Says("'--times <N>' goes with '--every <S>'"),
     ),
     ("mvd loop --site 1 --idle 1", Wanted::Says("")),
     ("mvd loop --help", Wanted::Says("")),
@@ -204,5 +278,30 @@ fn lines_ask_for_orders(rt: HostRuntime) -> Result<(), Fail> {
     for (line, wanted) in LINES {
         assert!(rt; comes_of(rt.alloc(), line, *wanted)?, "{line}");
     }
+    Ok(())
+}
+
+/// The last of the addresses of a list at 10.0.0.1, and how many there are.
+fn last_of(alloc: Global, list: &str) -> Result<(usize, Option<SocketAddr>), AllocError> {
+    let ip = IpAddr::V4(Ipv4Addr::new(10, 0, 0, 1));
+    let line = format!(in alloc; "mvd sync --port 1 --with {list}")?;
+    let words = words_of(alloc, line.as_str())?;
+    match order_of(alloc, &words) {
+        Ok(Order::Meet { with, .. }) => {
+            let found = addresses_of(alloc, ip, with)?;
+            Ok((found.len(), found.last().copied()))
+        }
+        _ => Ok((0, None)),
+    }
+}
+
+#[test]
+fn lists_have_all_their_addresses(rt: HostRuntime) -> Result<(), Fail> {
+    let here = address(Ipv4Addr::new(10, 0, 0, 1), 9);
+    let there = address(Ipv4Addr::LOCALHOST, 7);
+    let alloc = rt.alloc();
+    assert!(rt; last_of(alloc, "9")? == (1, Some(here)));
+    assert!(rt; last_of(alloc, "9,127.0.0.1:7")? == (2, Some(there)));
+    assert!(rt; last_of(alloc, "1,2,3,4,5,6,7,8,9,10,11,12,13,14,15,9")? == (16, Some(here)));
     Ok(())
 }

@@ -32,3 +32,9 @@ returns-in-Sync g c = record {
   kept = rw c.in-Sync.is c.run_unserved-in-Sync.ensures.kept;
   served = rw c.in-Sync.is (unasked c.run_unserved-in-Sync.result);
 }
+
+pub returns-in-Meet : goal.returns-in-Meet
+returns-in-Meet g c = record {
+  kept = rw c.in-Meet.is (gives_same _ (Unopened c.args.start) c.no_file-in-Meet.result refl c.no_file-in-Meet.ensures);
+  served = rw c.in-Meet.is (unasked c.no_file-in-Meet.result);
+}

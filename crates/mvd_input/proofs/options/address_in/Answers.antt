@@ -4,7 +4,7 @@ use Rattle.std.specs.Net.Socket.{socket_port}
 use Rattle.clap.specs.Words.{found_of, rows_of}
 use Rattle.mvd_input.specs.Orders.{IsAddressOf, IsIpOf}
 use Rattle.mvd_input.proofs.Ordered.{within, without}
-use Rattle.mvd_input.proofs.order.address_in.Goals as goal
+use Rattle.mvd_input.proofs.options.address_in.Goals as goal
 
 pub returns-in_err-port-clause-fault : goal.returns-in_err-port-clause-fault
 returns-in_err-port-clause-fault c =

@@ -1,0 +1,199 @@
+//! Sessions of two servers, and what is told of them.
+ghost use Rattle.std.specs.Prelude.{None, []};
+ghost use Rattle.std.specs.FinMap.{empty};
+
+use mvd_client::{Root, Watched, meet_over, root_over, tell_meeting};
+use mvd_docs::Document;
+use mvd_dots::{Context, Refusal};
+use mvd_frames::{decode_request, encode_reply, read_frame};
+use mvd_hint::Stop;
+use mvd_input::Fault;
+use mvd_keys::Key;
+use mvd_remote::{Line, Remote};
+use mvd_rows::Defs;
+use mvd_site::{Config, Site};
+use mvd_sync::Report;
+use mvd_wire::{Frame, Reply, Request};
+use std::alloc::Global;
+use std::collections::VecDeque;
+use std::net::{IpAddr, Ipv4Addr, SocketAddr};
+use std::test::Fail;
+
+/// A line to a site at hand. Nothing is claimed of it.
+#[derive(Drop)]
+struct Near {
+    alloc: Global,
+    site: Site,
+    replies: VecDeque<Reply>,
+}
+
+impl Near {
+    fn take(&mut self, frame: &Frame) -> Result<(), Refusal> {
+        let request = decode_request(self.alloc, frame.kind, &frame.payload)?;
+        let reply = self.site.answer(&request);
+        match self.replies.push_back(reply) {
+            Ok(()) => Ok(()),
+            Err(_) => Err(Refusal::Memory),
+        }
+    }
+}
+
+impl Line for Near {
+    ghost remaining = { λ _. None };
+
+    ghost contents = { λ _. None };
+
+    ghost is_true = { λ _. ⊥ };
+
+    ghost far = { λ _. record { states = empty; due = []; most = 0 } };
+
+    ghost in_form = { λ _ never. absurd never };
+
+    fn send(&mut self, frames: &[u8]) -> Result<(), Refusal> {
+        let mut rest = frames;
+        for _turn in 0..frames.len() {
+            match read_frame(self.alloc, &mut rest) {
+                Ok(Some(frame)) => match self.take(&frame) {
+                    Ok(()) => {}
+                    Err(_) => return Err(Refusal::WriteFailed),
+                },
+                Ok(None) => return Ok(()),
+                Err(_) => return Err(Refusal::WriteFailed),
+            }
+        }
+        Ok(())
+    }
+
+    fn receive(&mut self, alloc: Global) -> Result<Option<Frame>, Refusal> {
+        let Some(reply) = self.replies.pop_front() else {
+            return Ok(None);
+        };
+        match encode_reply(alloc, &reply) {
+            Ok(bytes) => read_frame(alloc, &mut bytes.as_slice()),
+            Err(_) => Err(Refusal::Memory),
+        }
+    }
+}
+
+/// A server of a site of this number, which holds a key.
+fn server(
+    alloc: Global,
+    number: u32,
+    max_keys: u32,
+    key: &str,
+) -> Result<Remote<Near>, Refusal>
+    requires site { 0 < number }
+    requires keys { (0 < max_keys) × (max_keys ≤ 1000000) }
+{
+    let config = Config::new(number, max_keys, Defs::new(alloc));
+    let mut site = Site::new(alloc, config)?;
+    let document = Document::read(alloc, "{}")?;
+    let put = Request::Put(Key::read(alloc, key)?, Context::new(alloc), document);
+    let _reply = site.answer(&put);
+    let line = Near {
+        alloc,
+        site,
+        replies: VecDeque::new(alloc),
+    };
+    Ok(Remote::over(alloc, line))
+}
+
+fn at(port: u16) -> SocketAddr {
+    SocketAddr::new(IpAddr::V4(Ipv4Addr::LOCALHOST), port)
+}
+
+/// What is told of a session of two servers: the report, the roots, and what is printed on both outputs.
+#[derive(Drop)]
+struct Told {
+    keys: u64,
+    refused: u64,
+    is_one: bool,
+    out: Vec<u8>,
+    errors: Vec<u8>,
+    is_left: bool,
+}
+
+fn met(alloc: Global, max_keys: u32) -> Result<Told, Refusal>
+    requires { (0 < max_keys) × (max_keys ≤ 1000000) }
+{
+    let mut near = server(alloc, 1, 9, "a")?;
+    let mut far = Watched {
+        side: server(alloc, 2, max_keys, "b")?,
+        moved: 0,
+        told: None::<&mut Vec<u8>>,
+    };
+    let report = match meet_over(alloc, &mut near, &mut far) {
+        Ok(report) => report,
+        Err(_) => return Err(Refusal::Broken),
+    };
+    let first = root_over(alloc, &mut near)?;
+    let second = root_over(alloc, &mut far.side)?;
+    told(alloc, &report, first, second)
+}
+
+fn told(
+    alloc: Global,
+    report: &Report,
+    first: [u8; 32],
+    second: [u8; 32],
+) -> Result<Told, Refusal> {
+    let near = Root {
+        address: at(1),
+        digest: first,
+    };
+    let far = Root {
+        address: at(2),
+        digest: second,
+    };
+    let mut out = Vec::new(alloc);
+    let mut errors = Vec::new(alloc);
+    let ended = tell_meeting(alloc, report, near, far, &mut out, &mut errors);
+    Ok(Told {
+        keys: report.keys,
+        refused: report.refused,
+        is_one: first == second,
+        out,
+        errors,
+        is_left: is_left(&ended),
+    })
+}
+
+/// Whether a command is stopped with 10.
+fn is_left(ended: &Result<(), Stop<'_>>) -> bool {
+    match ended {
+        Ok(()) => false,
+        Err(stop) => matches!(stop.fault, Fault::Stopped(Refusal::Full)),
+    }
+}
+
+fn begins(bytes: &[u8], front: &str) -> bool {
+    bytes.starts_with(front.as_bytes())
+}
+
+/// Two servers that each hold another key: both come to hold both, and are told with one root.
+#[test]
+fn two_servers_come_to_one_root(rt: HostRuntime) -> Result<(), Fail> {
+    match met(rt.alloc(), 9) {
+        Ok(told) => {
+            assert!(rt; (told.keys, told.refused, told.is_one, told.is_left) == (2, 0, true, false));
+            assert!(rt; begins(&told.out, "keys 2\nroot 127.0.0.1:1 "));
+            assert!(rt; told.out.len() == 7 + 2 * 82 && told.errors.is_empty());
+        }
+        Err(_) => assert!(rt; false),
+    }
+    Ok(())
+}
+
+/// The second has no room for the first's key, which is named with that server's address.
+#[test]
+fn a_refused_key_is_told_with_its_server(rt: HostRuntime) -> Result<(), Fail> {
+    match met(rt.alloc(), 1) {
+        Ok(told) => {
+            assert!(rt; (told.keys, told.refused, told.is_one, told.is_left) == (1, 1, false, true));
+            assert!(rt; begins(&told.out, "keys 1\nrefused 1\nroot 127.0.0.1:1 "));
+            assert!(rt; told.errors.as_slice() == b"mvd: key a: 10 Full at 127.0.0.1:2\n");
+        }
+        Err(_) => assert!(rt; false),
+    }
+    Ok(())
+}

@@ -1,0 +1,216 @@
+//! The servers that meet, the connections with them, and one session of two of them.
+ghost use Rattle.mvd_client.specs.Met.{IsFailureOf};
+
+use crate::meeting::{Root, meet_over, root_over};
+use crate::peer_commands::connected;
+use crate::progress::Watched;
+use crate::wire::Wire;
+use mvd_dots::Refusal;
+use mvd_hint::Stop;
+use mvd_input::{Fault, Repeat};
+use mvd_remote::Remote;
+use mvd_sync::{Report, Side, SyncFault};
+use std::alloc::Global;
+use std::fmt::Write as Print;
+use std::io::{Read, Write};
+use std::net::{Net, SocketAddr};
+
+/// A connection over which as many frames came is made anew: a server takes 1,000,000.
+const MOST_FRAMES: u32 = 500_000;
+
+/// So often a session goes on over new connections, where a server takes no more frames of the old ones.
+const MOST_ANEW: u32 = 8;
+
+/// How servers meet: how often again, how many seconds a server may be silent, and whether it is told how far a session
+/// is.
+#[derive(Clone, Copy)]
+pub struct MeetingTerms {
+    pub repeat: Option<Repeat>,
+    pub idle: u32,
+    pub verbose: bool,
+}
+
+/// A server, the connection with it where one is open, and whether the last session failed by it.
+#[derive(Drop)]
+pub(crate) struct End<T: Read + Write + Drop> {
+    pub(crate) address: SocketAddr,
+    wire: Option<Wire<T>>,
+    is_failing: bool,
+}
+
+/// Why a session failed, and by which of its sides.
+#[derive(Clone, Copy)]
+pub(crate) struct Failure<'a> {
+    pub(crate) side: Side,
+    pub(crate) stop: Stop<'a>,
+}
+
+impl<T: Read + Write + Drop> End<T> {
+    pub(crate) fn new(address: SocketAddr) -> Self {
+        End {
+            address,
+            wire: None,
+            is_failing: false,
+        }
+    }
+
+    /// Says Bye where a connection is open, which ends.
+    pub(crate) fn part(&mut self, alloc: Global) -> Result<(), Refusal> {
+        match self.wire.take() {
+            Some(wire) => Remote::over(alloc, wire).bye(),
+            None => Ok(()),
+        }
+    }
+
+    /// Keeps a connection for the next session, unless too many frames came over it.
+    fn keep(&mut self, alloc: Global, wire: Wire<T>) {
+        let is_used = wire.frames >= MOST_FRAMES;
+        self.wire = Some(wire);
+        if is_used {
+            let _ = self.part(alloc);
+        }
+    }
+
+    /// The digest of all that the server holds, over the connection that is open.
+    pub(crate) fn root<'a>(&mut self, alloc: Global) -> Result<Root, Stop<'a>> {
+        let address = self.address;
+        let Some(wire) = self.wire.take() else {
+            return Err(Stop::at_server(address, Refusal::Truncated));
+        };
+        let mut remote = Remote::over(alloc, wire);
+        match root_over(alloc, &mut remote) {
+            Ok(digest) => {
+                self.wire = Some(remote.into_line());
+                Ok(Root { address, digest })
+            }
+            Err(refusal) => Err(Stop::at_server(address, refusal)),
+        }
+    }
+
+    /// Tells that a session failed by the server, unless the one before had.
+    fn fails<E: Write>(&mut self, stop: Stop<'_>, errors: &mut E) {
+        if !self.is_failing {
+            let fault = stop.fault;
+            let _ = writeln!(errors, "mvd: {}: {fault}; it is tried again", self.address);
+        }
+        self.is_failing = true;
+    }
+
+    /// Tells that the server was met again, where the session before failed by it.
+    pub(crate) fn answers<E: Write>(&mut self, errors: &mut E) {
+        if self.is_failing {
+            let _ = writeln!(errors, "mvd: {}: met again", self.address);
+        }
+        self.is_failing = false;
+    }
+}
+
+/// A session, over new connections as often as a server takes no more frames of the old ones.
+pub(crate) fn meet<'a, N: Net, E: Write>(
+    rt: &N,
+    alloc: Global,
+    near: &mut End<N::Stream>,
+    far: &mut End<N::Stream>,
+    terms: MeetingTerms,
+    errors: &mut E,
+) -> Result<Report, Failure<'a>> {
+    for _anew in 0..MOST_ANEW {
+        match session(rt, alloc, near, far, terms.idle, told(errors, terms.verbose)) {
+            Err(failure) if is_spent(failure.stop.fault) => {}
+            ended => return ended,
+        }
+    }
+    session(rt, alloc, near, far, terms.idle, told(errors, terms.verbose))
+}
+
+/// Who is told how far a session is.
+fn told<E: Write>(errors: &mut E, is_verbose: bool) -> Option<&mut E> {
+    if is_verbose { Some(errors) } else { None }
+}
+
+/// Whether as many questions were asked as may be over one connection.
+fn is_spent(fault: Fault) -> bool {
+    matches!(fault, Fault::Stopped(Refusal::TooManyRequests))
+}
+
+/// A session over the connections that are open, or over new ones. After a fault neither is kept.
+fn session<'a, N: Net, E: Write>(
+    rt: &N,
+    alloc: Global,
+    near: &mut End<N::Stream>,
+    far: &mut End<N::Stream>,
+    idle: u32,
+    told: Option<&mut E>,
+) -> Result<Report, Failure<'a>> {
+    let side = Side::Local;
+    let near_wire = match opened(rt, alloc, near, idle) {
+        Ok(wire) => wire,
+        Err(stop) => return Err(Failure { side, stop }),
+    };
+    let side = Side::Peer;
+    let far_wire = match opened(rt, alloc, far, idle) {
+        Ok(wire) => wire,
+        Err(stop) => {
+            near.wire = Some(near_wire);
+            return Err(Failure { side, stop });
+        }
+    };
+    let mut local = Remote::over(alloc, near_wire);
+    let mut peer = Watched {
+        side: Remote::over(alloc, far_wire),
+        moved: 0,
+        told,
+    };
+    let report = match meet_over(alloc, &mut local, &mut peer) {
+        Ok(report) => report,
+        Err(fault) => return Err(failed(near.address, far.address, fault)),
+    };
+    near.keep(alloc, local.into_line());
+    far.keep(alloc, peer.side.into_line());
+    Ok(report)
+}
+
+/// The connection with a server that is open, or a new one.
+fn opened<'a, N: Net>(
+    rt: &N,
+    alloc: Global,
+    end: &mut End<N::Stream>,
+    idle: u32,
+) -> Result<Wire<N::Stream>, Stop<'a>> {
+    if let Some(wire) = end.wire.take() {
+        return Ok(wire);
+    }
+    match connected(rt, end.address, idle) {
+        Ok(stream) => Ok(Wire::new(alloc, stream)?),
+        Err(error) => Err(Stop::unanswered(end.address, error)),
+    }
+}
+
+/// Tells that a session failed, by which server, and how.
+pub(crate) fn tell_failure<T: Read + Write + Drop, E: Write>(
+    near: &mut End<T>,
+    far: &mut End<T>,
+    failure: Failure<'_>,
+    errors: &mut E,
+) {
+    match failure.side {
+        Side::Local => near.fails(failure.stop, errors),
+        Side::Peer => far.fails(failure.stop, errors),
+    }
+}
+
+/// A session failed by one of its sides.
+fn failed<'a>(near: SocketAddr, far: SocketAddr, fault: SyncFault) -> Failure<'a>
+    ensures { IsFailureOf near far fault result }
+{
+    match fault {
+        SyncFault::Local(refusal) => Failure {
+            side: Side::Local,
+            stop: Stop::at_server(near, refusal),
+        },
+        SyncFault::Peer(refusal) => Failure {
+            side: Side::Peer,
+            stop: Stop::at_server(far, refusal),
+        },
+    }
+}

@@ -1,0 +1,126 @@
+//! A session between two servers, each at the other end of a line, and what is printed of it.
+ghost use Rattle.std.specs.Prelude.{◌≡◌, ◌≢◌, ◌++◌, [], IfOk, IsErr, OnOk, string_bytes};
+ghost use Rattle.std.specs.Io.KnownBytes.{Appends};
+ghost use Rattle.mvd_client.specs.Met.{MeetsFars};
+ghost use Rattle.mvd_client.specs.Reported.{ReportsAs, meeting_text, root_at_text, root_of};
+ghost use Rattle.mvd_remote.specs.Lines.{IsTrueRemote, far_of};
+
+use crate::peer_commands::{left_with, print_refused};
+use crate::progress::Watched;
+use mvd_dots::Refusal;
+use mvd_hint::Stop;
+use mvd_input::{Fault, tell};
+use mvd_keys::Path;
+use mvd_peer::Peer;
+use mvd_print::print_keys;
+use mvd_remote::{Line, Remote};
+use mvd_sync::{Left, Report, Side, SyncFault, sync};
+use std::alloc::Global;
+use std::fmt::Write as Print;
+use std::io::Write;
+use std::net::SocketAddr;
+
+/// A server, and the digest of all that it holds.
+#[derive(Clone, Copy)]
+pub struct Root {
+    pub address: SocketAddr,
+    pub digest: [u8; 32],
+}
+
+/// Runs a session of two servers, each at the other end of a line. Where both lines are true, both servers' states are
+/// joined, and where no fault is told all that differed, but for the keys that the report names.
+pub fn meet_over<L: Line, M: Line, E: Write>(
+    alloc: Global,
+    near: &mut Remote<L>,
+    far: &mut Watched<'_, Remote<M>, E>,
+) -> Result<Report, SyncFault>
+    ensures meets { IsTrueRemote L.is_true L.far near.old → IsTrueRemote M.is_true M.far far.old.side →
+        MeetsFars L.Line M.Line near.old near.new far.old.side far.new.side result }
+{
+    sync(alloc, near, far)
+}
+
+/// The digest of all that the server at the other end of a line holds.
+pub fn root_over<L: Line>(alloc: Global, remote: &mut Remote<L>) -> Result<[u8; 32], Refusal>
+    ensures { IsTrueRemote L.is_true L.far remote.old →
+        IfOk result (λ digest. digest ≡ root_of (far_of L.far remote.old).states) }
+{
+    let path = Path::new(alloc, &[])?;
+    match remote.node(&path) {
+        Ok(digests) => Ok(digests.own),
+        Err(refusal) => Err(refusal),
+    }
+}
+
+/// Tells how many keys a session exchanged, how many were refused, and the root digest of either server; and on
+/// `errors` which keys were refused, by which server. Keys that were refused are what the command is stopped with.
+pub fn tell_meeting<'a, W: Write, E: Write>(
+    alloc: Global,
+    report: &Report,
+    near: Root,
+    far: Root,
+    writer: &mut W,
+    errors: &mut E,
+) -> Result<(), Stop<'a>>
+    ensures told { ReportsAs (meeting_text report.now near far) report.now (W.contents writer.old)
+        (W.contents writer.new) result }
+    ensures left { report.now.first_refused ≢ [] → IsErr result }
+{
+    tell_met(alloc, report, near, far, writer)?;
+    tell_refused(
+        report.first_refused.as_slice(),
+        near.address,
+        far.address,
+        errors,
+    );
+    left_with(report)
+}
+
+fn tell_met<W: Write>(
+    alloc: Global,
+    report: &Report,
+    near: Root,
+    far: Root,
+    writer: &mut W,
+) -> Result<(), Fault>
+    ensures told { OnOk result (Appends (W.contents writer.old) (W.contents writer.new)
+        (meeting_text report.now near far)) }
+{
+    let mut lines = String::new(alloc);
+    print_keys(report.keys, &mut lines)?;
+    print_refused(report.refused, &mut lines)?;
+    print_root_at(alloc, near, &mut lines)?;
+    print_root_at(alloc, far, &mut lines)?;
+    tell(writer, &mut lines)
+}
+
+/// Adds a line with the root digest of a server.
+fn print_root_at(alloc: Global, root: Root, lines: &mut String) -> Result<(), Refusal>
+    ensures { OnOk result (string_bytes lines.new ≡ string_bytes lines.old ++ root_at_text root) }
+{
+    let digest = hex::encode(alloc, root.digest)?;
+    let address = root.address;
+    writeln!(lines, "root {address} {digest}")?;
+    Ok(())
+}
+
+/// Tells which keys were refused, by which server, and how. A line that cannot be written is left out.
+pub(crate) fn tell_refused<E: Write>(
+    refused: &[Left],
+    near: SocketAddr,
+    far: SocketAddr,
+    errors: &mut E,
+) {
+    for left in refused {
+        let address = match left.side {
+            Side::Local => near,
+            Side::Peer => far,
+        };
+        let _ = writeln!(
+            errors,
+            "mvd: key {}: {} at {address}",
+            left.key.text(),
+            left.refusal
+        );
+    }
+}

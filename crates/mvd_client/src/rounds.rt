@@ -1,0 +1,308 @@
+//! Sessions between a server and each of a list, one after the other: once, or again and again.
+ghost use Rattle.std.specs.Prelude.{◌≡◌, ◌≤◌, OnOk};
+ghost use Rattle.std.specs.Io.KnownBytes.{Appends};
+ghost use Rattle.mvd_input.specs.Addresses.{IsAddressList};
+ghost use Rattle.mvd_client.specs.Reported.{met_text};
+
+use crate::ends::{End, MeetingTerms, meet, tell_failure};
+use crate::meeting::{tell_meeting, tell_refused};
+use crate::peer_commands::left_with;
+use mvd_dots::Refusal;
+use mvd_hint::Stop;
+use mvd_input::{Fault, Repeat, addresses_of, tell};
+use mvd_sync::Left;
+use mvd_wire::Items;
+use std::alloc::Global;
+use std::fmt::Write as Print;
+use std::io::{Read, Write};
+use std::net::{Net, SocketAddr};
+use std::thread;
+use std::time::{Clock, Duration};
+
+/// The most seconds until a session is tried again, unless the rounds are further apart.
+const MOST_PAUSE: u32 = 60;
+
+/// Where rounds are as many seconds apart, no connection is kept from one to the next.
+const APART: u32 = 60;
+
+/// How a session ended: it exchanged all that it could, it exchanged nothing and left keys, or it failed.
+#[derive(Clone, Copy, PartialEq, Eq)]
+enum Ended {
+    Well,
+    Stuck,
+    Failed,
+}
+
+/// A server of the list: how the last session with it ended, how many before that ended so in a row, how many seconds it
+/// is still waited for, and which keys were left.
+#[derive(Drop)]
+struct Partner<T: Read + Write + Drop> {
+    end: End<T>,
+    last: Ended,
+    row: u32,
+    wait: u32,
+    left: Option<Items<Left>>,
+}
+
+impl<T: Read + Write + Drop> Partner<T> {
+    fn new(address: SocketAddr) -> Self {
+        Partner {
+            end: End::new(address),
+            last: Ended::Well,
+            row: 0,
+            wait: 0,
+            left: None,
+        }
+    }
+
+    /// Waits as is due after a session that ended so.
+    fn waits(&mut self, ended: Ended, every: u32) {
+        self.row = if ended == self.last {
+            self.row.saturating_add(1)
+        } else {
+            0
+        };
+        self.last = ended;
+        self.wait = pause_after(ended, self.row, every);
+    }
+
+    /// Tells which keys were left, unless the session before left the same.
+    fn leaves<E: Write>(&mut self, left: Items<Left>, near: SocketAddr, errors: &mut E) {
+        let are_told = match &self.left {
+            Some(told) => are_same(told.as_slice(), left.as_slice()),
+            None => false,
+        };
+        if !are_told {
+            tell_refused(left.as_slice(), near, self.end.address, errors);
+        }
+        self.left = Some(left);
+    }
+}
+
+/// Whether the same keys were refused, by the same sides and in the same way.
+fn are_same(first: &[Left], second: &[Left]) -> bool {
+    first.len() == second.len()
+        && first
+            .iter()
+            .zip(second)
+            .all(|(a, b)| a.key == b.key && a.side == b.side && a.refusal == b.refusal)
+}
+
+/// The seconds until the next session, after one that ended so and so many before it. They double in a row of sessions
+/// that ended badly.
+fn pause_after(ended: Ended, row: u32, every: u32) -> u32
+    ensures { ended ≡ Ended.Well → result ≡ every }
+{
+    let first = match ended {
+        Ended::Well => return every,
+        Ended::Stuck => every.saturating_mul(2),
+        Ended::Failed => 1,
+    };
+    let most = every.max(MOST_PAUSE);
+    first.saturating_mul(1 << row.min(12)).min(most)
+}
+
+/// Runs sessions between the server at an address and each of a list, one after the other. Where nothing is repeated and
+/// the list has one server, the roots of both are told.
+pub fn meet_run<'a, N: Net + Clock, W: Write, E: Write>(
+    rt: &N,
+    alloc: Global,
+    address: SocketAddr,
+    with: &str,
+    terms: MeetingTerms,
+    writer: &mut W,
+    errors: &mut E,
+) -> Result<(), Stop<'a>>
+    requires { IsAddressList with.now }
+{
+    let Ok(addresses) = addresses_of(alloc, address.ip(), with) else {
+        return Err(Stop::from(Refusal::Memory));
+    };
+    let mut near = End::new(address);
+    match terms.repeat {
+        Some(repeat) => meet_again(rt, alloc, &mut near, &addresses, repeat, terms, writer, errors),
+        None => match addresses.as_slice() {
+            [far] => meet_one(rt, alloc, &mut near, *far, terms, writer, errors),
+            all => meet_each(rt, alloc, &mut near, all, terms, writer, errors),
+        },
+    }
+}
+
+/// One session with one server.
+fn meet_one<'a, N: Net, W: Write, E: Write>(
+    rt: &N,
+    alloc: Global,
+    near: &mut End<N::Stream>,
+    far: SocketAddr,
+    terms: MeetingTerms,
+    writer: &mut W,
+    errors: &mut E,
+) -> Result<(), Stop<'a>> {
+    let mut far = End::new(far);
+    let report = match meet(rt, alloc, near, &mut far, terms, errors) {
+        Ok(report) => report,
+        Err(failure) => return Err(failure.stop),
+    };
+    let near_root = near.root(alloc)?;
+    let far_root = far.root(alloc)?;
+    if let Err(refusal) = near.part(alloc) {
+        return Err(Stop::at_server(near.address, refusal));
+    }
+    if let Err(refusal) = far.part(alloc) {
+        return Err(Stop::at_server(far.address, refusal));
+    }
+    tell_meeting(alloc, &report, near_root, far_root, writer, errors)
+}
+
+/// One session with each server. What stops one of them does not stop the others, and the first is told in the end.
+fn meet_each<'a, N: Net, W: Write, E: Write>(
+    rt: &N,
+    alloc: Global,
+    near: &mut End<N::Stream>,
+    addresses: &[SocketAddr],
+    terms: MeetingTerms,
+    writer: &mut W,
+    errors: &mut E,
+) -> Result<(), Stop<'a>> {
+    let mut first = Ok(());
+    for address in addresses {
+        let mut far = End::new(*address);
+        let ended = match meet(rt, alloc, near, &mut far, terms, errors) {
+            Ok(report) => {
+                tell_keys(alloc, *address, report.keys, terms.verbose, writer)?;
+                tell_refused(
+                    report.first_refused.as_slice(),
+                    near.address,
+                    *address,
+                    errors,
+                );
+                left_with(&report)
+            }
+            Err(failure) => {
+                tell_failure(near, &mut far, failure, errors);
+                Err(failure.stop)
+            }
+        };
+        let _ = far.part(alloc);
+        if first.is_ok() {
+            first = ended;
+        }
+    }
+    let _ = near.part(alloc);
+    first
+}
+
+/// Rounds of sessions, until it is stopped or as many as there are.
+fn meet_again<'a, N: Net + Clock, W: Write, E: Write>(
+    rt: &N,
+    alloc: Global,
+    near: &mut End<N::Stream>,
+    addresses: &[SocketAddr],
+    repeat: Repeat,
+    terms: MeetingTerms,
+    writer: &mut W,
+    errors: &mut E,
+) -> Result<(), Stop<'a>> {
+    let mut partners = Vec::new(alloc);
+    for address in addresses {
+        if partners.push(Partner::new(*address)).is_err() {
+            return Err(Stop::from(Refusal::Memory));
+        }
+    }
+    let times = match repeat.times {
+        Some(times) => u64::from(times),
+        None => u64::MAX,
+    };
+    for round in 0..times {
+        if round > 0 {
+            pause(rt, &mut partners);
+        }
+        for partner in &mut partners {
+            if partner.wait == 0 {
+                meet_partner(
+                    rt,
+                    alloc,
+                    near,
+                    partner,
+                    repeat.every,
+                    terms,
+                    writer,
+                    errors,
+                )?;
+            }
+        }
+        if repeat.every >= APART {
+            let _ = near.part(alloc);
+        }
+    }
+    let _ = near.part(alloc);
+    for partner in &mut partners {
+        let _ = partner.end.part(alloc);
+    }
+    Ok(())
+}
+
+/// Waits until the next of them is due.
+fn pause<C: Clock, T: Read + Write + Drop>(rt: &C, partners: &mut [Partner<T>]) {
+    let mut least = u32::MAX;
+    for partner in partners.iter() {
+        least = least.min(partner.wait);
+    }
+    thread::sleep(rt, Duration::from_secs(u64::from(least)));
+    for partner in partners.iter_mut() {
+        partner.wait = partner.wait.saturating_sub(least);
+    }
+}
+
+/// A session of a round. A fault is told, and does not end the rounds.
+fn meet_partner<'a, N: Net, W: Write, E: Write>(
+    rt: &N,
+    alloc: Global,
+    near: &mut End<N::Stream>,
+    partner: &mut Partner<N::Stream>,
+    every: u32,
+    terms: MeetingTerms,
+    writer: &mut W,
+    errors: &mut E,
+) -> Result<(), Stop<'a>> {
+    let report = match meet(rt, alloc, near, &mut partner.end, terms, errors) {
+        Ok(report) => report,
+        Err(failure) => {
+            tell_failure(near, &mut partner.end, failure, errors);
+            partner.waits(Ended::Failed, every);
+            return Ok(());
+        }
+    };
+    near.answers(errors);
+    partner.end.answers(errors);
+    let address = partner.end.address;
+    tell_keys(alloc, address, report.keys, terms.verbose, writer)?;
+    let ended = if report.keys == 0 && report.refused > 0 {
+        Ended::Stuck
+    } else {
+        Ended::Well
+    };
+    partner.leaves(report.first_refused, near.address, errors);
+    partner.waits(ended, every);
+    if every >= APART {
+        let _ = partner.end.part(alloc);
+    }
+    Ok(())
+}
+
+/// Tells how many keys a session with a server exchanged: always, or where there were some.
+fn tell_keys<W: Write>(
+    alloc: Global,
+    address: SocketAddr,
+    keys: u64,
+    always: bool,
+    writer: &mut W,
+) -> Result<(), Fault>
+    ensures { OnOk result (Appends (W.contents writer.old) (W.contents writer.new) (met_text address keys always)) }
+{
+    let mut lines = String::new(alloc);
+    if keys > 0 || always {
+        writeln!(lines, "{address} keys {keys}")?;
+    }
+    tell(writer, &mut lines)
+}

@@ -1,0 +1,196 @@
+//! What the options of a command say.
+ghost use Rattle.std.specs.Prelude.{◌≡◌, ◌≤◌, IfErr, IfOk, IfSome, false, option_map};
+ghost use Rattle.std.specs.Option.{option_map_or};
+ghost use Rattle.clap.specs.Words.{first_of};
+ghost use Rattle.mvd_input.specs.Orders.{HasPort, IsAddressOf, IsConns, IsDbOf, IsHttp, IsIdle, IsIpOf, IsPort, IsRepeatOf, IsRounds, IsSeconds, IsTimes, IsUnread, ReadsGiven, ReadsNumber, is_given, is_word, options_of};
+
+use crate::command::number_of;
+use clap::ArgMatches;
+use clap::parser::ValueSource;
+use std::net::{IpAddr, SocketAddr};
+
+/// The most connections that a server may be asked to serve.
+const MOST_CONNECTIONS: u64 = 1_000;
+
+/// The last port.
+const MOST_PORT: u64 = 65_535;
+
+/// The most seconds for which no byte need move.
+const MOST_IDLE: u64 = 86_400;
+
+/// The most seconds between two rounds of sessions, and the most rounds.
+const MOST_EVERY: u64 = 3_600;
+const MOST_TIMES: u64 = 1_000_000;
+
+/// What a shell needs.
+const NEITHER: &str = "'--db <FILE>' with '--site <N>', or '--port <P>', is missing";
+
+/// How often servers meet again: so many seconds, 1 to 3,600, after each round, until it is stopped or so many rounds,
+/// 1 to 1,000,000, are done.
+#[derive(Clone, Copy, PartialEq, Eq)]
+pub struct Repeat {
+    pub every: u32,
+    pub times: Option<u32>,
+}
+
+/// Why the options of a command mean no order.
+#[derive(Clone, Copy)]
+pub(crate) enum Unread {
+    /// A number is out of its range.
+    Range,
+    /// This is amiss.
+    Text(&'static str),
+}
+
+/// Whether an option is among the words, and has not its default.
+pub(crate) fn is_given(matches: &ArgMatches<'_>, option: &str) -> bool
+    ensures { result ≡ is_given (options_of matches.now) option.now }
+{
+    is_word(matches.value_source(option))
+}
+
+/// Whether a value came from the words.
+fn is_word(source: Option<ValueSource>) -> bool
+    ensures { result ≡ option_map_or is_word source false }
+{
+    match source {
+        Some(ValueSource::CommandLine) => true,
+        Some(ValueSource::DefaultValue) => false,
+        None => false,
+    }
+}
+
+/// The value of an option, as it is written, or its default.
+pub(crate) fn text_in<'a>(matches: &ArgMatches<'a>, option: &str) -> Option<&'a str>
+    ensures { first_of option.now (options_of matches.now) ≡ option_map (λ text. text.now) result }
+{
+    matches.get_str(option)
+}
+
+/// The file of a database.
+pub(crate) fn db_in<'a>(matches: &ArgMatches<'a>) -> Result<&'a str, Unread>
+    ensures found { IfOk result (IsDbOf (options_of matches.now)) }
+    ensures fault { IfErr result (IsUnread (options_of matches.now) IsDbOf) }
+{
+    match text_in(matches, "db") {
+        Some(db) => Ok(db),
+        None => Err(Unread::Text("the option '--db <FILE>' is missing")),
+    }
+}
+
+/// The number of an option, where it is given: `Range` where it is 0 or too great.
+fn number_in(matches: &ArgMatches<'_>, option: &str, most: u64) -> Result<Option<u64>, Unread>
+    ensures { ReadsNumber (options_of matches.now) option.now most result }
+{
+    let Some(text) = text_in(matches, option) else {
+        return Ok(None);
+    };
+    match number_of(text) {
+        Some(number) if number == 0 || number > most => Err(Unread::Range),
+        Some(number) => Ok(Some(number)),
+        None => Err(Unread::Text("a number has a sign, or a zero that leads")),
+    }
+}
+
+/// The number of an option that is given: `Range` where it is 0 or too great.
+pub(crate) fn given_in(matches: &ArgMatches<'_>, option: &str, most: u64) -> Result<u64, Unread>
+    ensures { ReadsGiven (options_of matches.now) option.now most result }
+{
+    match number_in(matches, option, most)? {
+        Some(number) => Ok(number),
+        None => Err(Unread::Text(missing(option))),
+    }
+}
+
+/// What is told where an option is missing that has no default. Only a shell and `sync` can come to that.
+fn missing(option: &str) -> &'static str {
+    match option {
+        "site" => "the option '--site <N>' is missing",
+        _ => NEITHER,
+    }
+}
+
+pub(crate) fn conns_in(matches: &ArgMatches<'_>) -> Result<Option<u32>, Unread>
+    ensures range { IfOk result (λ found. IfSome found (λ n. (1 ≤ n) × (n ≤ 1000))) }
+    ensures count { IfOk result (IsConns (options_of matches.now)) }
+    ensures fault { IfErr result (IsUnread (options_of matches.now) IsConns) }
+{
+    match number_in(matches, "conns", MOST_CONNECTIONS)? {
+        Some(number) => Ok(Some(number as u32)),
+        None => Ok(None),
+    }
+}
+
+/// The port at which HTTP is served.
+pub(crate) fn http_in(matches: &ArgMatches<'_>) -> Result<Option<u16>, Unread>
+    ensures range { IfOk result IsPort }
+    ensures port { IfOk result (IsHttp (options_of matches.now)) }
+    ensures fault { IfErr result (IsUnread (options_of matches.now) IsHttp) }
+{
+    match number_in(matches, "http", MOST_PORT)? {
+        Some(number) => Ok(Some(number as u16)),
+        None => Ok(None),
+    }
+}
+
+/// The seconds for which no byte need move.
+pub(crate) fn idle_in(matches: &ArgMatches<'_>) -> Result<u32, Unread>
+    ensures range { IfOk result IsIdle }
+    ensures idle { IfOk result (IsSeconds (options_of matches.now)) }
+    ensures fault { IfErr result (IsUnread (options_of matches.now) IsSeconds) }
+{
+    Ok(given_in(matches, "idle", MOST_IDLE)? as u32)
+}
+
+/// How often servers meet again, where that is told.
+pub(crate) fn repeat_in(matches: &ArgMatches<'_>) -> Result<Option<Repeat>, Unread>
+    ensures range { IfOk result (λ found. IfSome found IsRounds) }
+    ensures repeat { IfOk result (IsRepeatOf (options_of matches.now)) }
+    ensures fault { IfErr result (IsUnread (options_of matches.now) IsRepeatOf) }
+{
+    let times = times_in(matches)?;
+    match number_in(matches, "every", MOST_EVERY)? {
+        Some(every) => Ok(Some(Repeat {
+            every: every as u32,
+            times,
+        })),
+        None if times.is_some() => Err(Unread::Text("'--times <N>' goes with '--every <S>'")),
+        None => Ok(None),
+    }
+}
+
+/// How many rounds there are, where they are counted.
+fn times_in(matches: &ArgMatches<'_>) -> Result<Option<u32>, Unread>
+    ensures range { IfOk result (λ found. IfSome found (λ n. (1 ≤ n) × (n ≤ 1000000))) }
+    ensures count { IfOk result (IsTimes (options_of matches.now)) }
+    ensures fault { IfErr result (IsUnread (options_of matches.now) IsTimes) }
+{
+    match number_in(matches, "times", MOST_TIMES)? {
+        Some(number) => Ok(Some(number as u32)),
+        None => Ok(None),
+    }
+}
+
+/// The address of a server, with its port.
+pub(crate) fn address_in(matches: &ArgMatches<'_>) -> Result<SocketAddr, Unread>
+    ensures range { IfOk result HasPort }
+    ensures address { IfOk result (IsAddressOf (options_of matches.now)) }
+    ensures fault { IfErr result (IsUnread (options_of matches.now) IsAddressOf) }
+{
+    let port = given_in(matches, "port", MOST_PORT)? as u16;
+    Ok(SocketAddr::new(ip_in(matches)?, port))
+}
+
+/// The IP address of a server. Its text is read here, since `clap` reads numbers alone.
+fn ip_in(matches: &ArgMatches<'_>) -> Result<IpAddr, Unread>
+    ensures found { IfOk result (IsIpOf (options_of matches.now)) }
+    ensures fault { IfErr result (IsUnread (options_of matches.now) IsIpOf) }
+{
+    let Some(text) = text_in(matches, "address") else {
+        return Err(Unread::Text("an option is missing"));
+    };
+    match text.parse::<IpAddr>() {
+        Ok(address) => Ok(address),
+        Err(_) => Err(Unread::Text("invalid value for '--address <IP>': it is no IP address")),
+    }
+}

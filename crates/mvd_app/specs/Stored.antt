@@ -78,11 +78,11 @@ GivesBack g image (Some (db, setup)) files = LeavesFile g image setup.site files
 GivesBack g image None files = ⊥
 
 -- no file comes back
-pub record IsWithoutFile {D : Type 0} (ended : Result (Unit {0}) Stop) (ran : Ran D) : Type 0 where
+pub record IsWithoutFile {D : Type 0} (how : Result (Unit {0}) Stop) (ran : Ran D) : Type 0 where
   pub files : ran.files ≡ None
-  pub ended : ran.ended ≡ ended
+  pub ended : ran.ended ≡ how
 
-module _ {D : Type 0} {g : disk.Ghosts D} where
+module _ {D : Type 0} (g : disk.Ghosts D) where
   -- The site was not opened: its file is lost, which the hint says, and the log is still there; or the files refuse it
   abbrev pub CannotOpen : Image → ConfigValue → Bor (List ℕ) → Stop → Type 0
   CannotOpen image config db stop = (stop.hint ≡ Some (Hint.Lost db)) ⊎ ((fault : FileFault D g) × FailsFile image config fault)
@@ -101,7 +101,7 @@ module _ {D : Type 0} {g : disk.Ghosts D} (f : Ghosts (FileStore D g)) where
   abbrev pub HasNoFile : Image → Bor (List ℕ) → Setup → Stop → Type 0
   HasNoFile image db setup stop =
       ((file : Bor (List ℕ)) × (setup.defs ≡ Some file)) ⊎
-      ((config : ConfigValue) × IsConfigFor setup config × (CannotOpen {g = g} image config db stop ⊎ CannotEnd image config))
+      ((config : ConfigValue) × IsConfigFor setup config × (CannotOpen g image config db stop ⊎ CannotEnd image config))
 
   -- the order works on none; or the command is stopped, and this is why
   abbrev pub GivesNone : Image → Option (Bor (List ℕ) × Setup) → Result (Unit {0}) Stop → Type 0

@@ -30,7 +30,7 @@ pub fn opened<'a, S: Start>(
     start: S,
 ) -> Result<Replica<FileStore<FileFrom<S>>>, Stop<'a>>
     ensures opened { IfOk result (λ replica. OpensAsSite (image_at S.Start) config (Ok replica)) }
-    ensures refused { IfErr result (CannotOpen (image_at S.Start) config db.entry) }
+    ensures refused { IfErr result (CannotOpen ⟦<FileFrom<S> as Disk>⟧ (image_at S.Start) config db.entry) }
 {
     let is_new = matches!(fs::exists(rt, db), Ok(false));
     if is_new && matches!(has_pages(rt, db), Ok(true)) {

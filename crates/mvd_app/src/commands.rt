@@ -2,7 +2,7 @@
 ghost use Rattle.std.specs.Prelude.{◌≡◌, IfNone, IfOk, IfSome, IsOk, IsOkAnd, None, Some};
 ghost use Rattle.mvd_app.specs.Stored.{FollowsAsked, GivesBack, GivesNone, IsConfigFor, IsWithoutFile, file_in};
 ghost use Rattle.mvd_input.specs.Orders.{IsInRange, IsSetUp};
-ghost use Rattle.mvd_replica.specs.Programs.{LeavesFile, WorksOn};
+ghost use Rattle.mvd_replica.specs.Programs.{WorksOn};
 ghost use Rattle.mvd_replica.specs.ReplicaCalls.{ReplicaAnswers};
 ghost use Rattle.mvd_replica.specs.Replicas.{stored_of};
 ghost use Rattle.mvd_rows.specs.Defs.{no_definitions};
@@ -119,13 +119,20 @@ fn run_stored<'a, S: Start>(
     start: S,
 ) -> Ran<'a, FileFrom<S>>
     requires { IsSetUp setup }
-    ensures kept { IfSome result.files (LeavesFile ⟦<FileFrom<S> as Disk>⟧ (image_at S.Start) setup.entry.site) }
+    ensures kept { IfSome result.files
+        (GivesBack ⟦<FileFrom<S> as Disk>⟧ (image_at S.Start) (Some (db.entry, setup.entry))) }
     ensures given { IfNone result.files
         (GivesNone ⟦<FileStore<FileFrom<S>> as Store>⟧ (image_at S.Start) (Some (db.entry, setup.entry)) result.ended) }
 {
     let config = match config_in(rt, setup) {
         Ok(config) => config,
-        Err(stop) => return without_file(Err(stop), start),
+        Err(stop) => {
+            drop(start);
+            return Ran {
+                files: None,
+                ended: Err(stop),
+            };
+        }
     };
     match opened(rt, db, config, start) {
         Ok(mut replica) => {

@@ -1,13 +1,28 @@
-use Rattle.std.proofs.Common.{inl, inr, ◌∙◌, refl, sym}
-use Rattle.mvd_app.proofs.Ending.{stops_else, stops_same}
+use Rattle.std.proofs.Common.{◌∙◌, ap, inl, inr, refl, sym}
+use Rattle.mvd_app.proofs.Ending.{stops_broken, stops_same, stops_unclosed}
+use Rattle.mvd_hint.specs.declared.hint.Stop.{Stop}
 use Rattle.mvd_replica.specs.Replicas.{site_of}
 use Rattle.mvd_app.proofs.closing.finish.Goals as goal
 
 pub returns-then-is_broken : goal.returns-then-is_broken
-returns-then-is_broken g c = ?
+returns-then-is_broken g c =
+    let yes = sym c.is_broken.ensures ∙ c.if-is_broken.true in
+    record {
+      files = inl yes;
+      ended = stops_broken (site_of c.args.replica).broken c.and-ended.result c.args.worked c.from.result c.and-ended.ensures yes
+          (ap (λ (s : Stop). s.fault) c.from.ensures);
+    }
 
 pub returns-in-Ok : goal.returns-in-Ok
-returns-in-Ok g c = ?
+returns-in-Ok g c = record {
+  files = (sym c.is_broken.ensures ∙ c.if-is_broken.false, c.in-Ok.ensures.closed);
+  ended = stops_same (site_of c.args.replica).broken c.args.worked c.args.worked c.in-Ok.files refl;
+}
 
 pub returns-in-Err : goal.returns-in-Err
-returns-in-Err g c = ?
+returns-in-Err g c =
+    let no = sym c.is_broken.ensures ∙ c.if-is_broken.false in
+    record {
+      files = inr ((c.in-Err.error, c.in-Err.store), c.in-Err.ensures.failed);
+      ended = stops_unclosed (site_of c.args.replica).broken c.and-ended-in-Err.result c.args.worked c.in_file.result c.and-ended-in-Err.ensures no c.in_file.ensures;
+    }

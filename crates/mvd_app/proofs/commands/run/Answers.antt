@@ -1,5 +1,4 @@
-use Rattle.sqlite.specs.WalFiles.{image_at}
-use Rattle.mvd_app.proofs.Ending.{file_as, none_asked, none_back}
+use Rattle.mvd_app.proofs.Ending.{none_asked, none_back}
 use Rattle.mvd_app.proofs.commands.run.Goals as goal
 
 pub returns-in-Sim : goal.returns-in-Sim
@@ -22,18 +21,18 @@ returns-in-RemoteShell g c = record {
 
 pub returns-in-Serve : goal.returns-in-Serve
 returns-in-Serve g c = record {
-  kept = rw c.in-Serve.is (file_as (image_at g.S.Start) c.in-Serve.db c.in-Serve.setup c.run_stored.result.files c.run_stored.ensures.kept);
+  kept = rw c.in-Serve.is c.run_stored.ensures.kept;
   given = rw c.in-Serve.is c.run_stored.ensures.given;
 }
 
 pub returns-in-Shell : goal.returns-in-Shell
 returns-in-Shell g c = record {
-  kept = rw c.in-Shell.is (file_as (image_at g.S.Start) c.in-Shell.db c.in-Shell.setup c.run_stored-in-Shell.result.files c.run_stored-in-Shell.ensures.kept);
+  kept = rw c.in-Shell.is c.run_stored-in-Shell.ensures.kept;
   given = rw c.in-Shell.is c.run_stored-in-Shell.ensures.given;
 }
 
 pub returns-in-Sync : goal.returns-in-Sync
 returns-in-Sync g c = record {
-  kept = rw c.in-Sync.is (file_as (image_at g.S.Start) c.in-Sync.db c.in-Sync.setup c.run_stored-in-Sync.result.files c.run_stored-in-Sync.ensures.kept);
+  kept = rw c.in-Sync.is c.run_stored-in-Sync.ensures.kept;
   given = rw c.in-Sync.is c.run_stored-in-Sync.ensures.given;
 }

@@ -1,6 +1,6 @@
 -- What a command is stopped with, and what comes back of its file.
 use Rattle.std.proofs.Common.{◌≡◌, ℕ, Bool, List, Option, Some, None, Result, Ok, Err, false, inr, refl, subst, sym, true, true≢false}
-use Rattle.std.specs.Prelude.{IfNone, IfSome, IsOk, if◌then◌else◌}
+use Rattle.std.specs.Prelude.{IfNone, IfSome, if◌then◌else◌}
 use Rattle.std.specs.Borrow.{Bor}
 use Rattle.std.specs.Result.{result_and}
 use Rattle.mvd_app.specs.Stored.{CannotEnd, ClosesOrNot, EndsAs, GivesBack, GivesNone, IsConfigFor, IsWithoutFile}
@@ -23,7 +23,7 @@ use Rattle.sqlite_trees.specs.declared.store.Store.{Ghosts}
 
 -- ---- what it is stopped with
 
-module _ {D : Type 0} (broken : Bool) (ended : Result (Unit {0}) Stop) where
+module _ (D : Type 0) (broken : Bool) (ended : Result (Unit {0}) Stop) where
   -- its file was not closed
   stops_else : (worked : Result (Unit {0}) Stop) (stop : Stop) → ended ≡ result_and worked (Err stop) →
       stop.fault ≡ Stopped (if broken then Broken else Store) → EndsAs {D = D} worked None broken ended
@@ -32,11 +32,11 @@ module _ {D : Type 0} (broken : Bool) (ended : Result (Unit {0}) Stop) where
 
   pub stops_broken : (worked : Result (Unit {0}) Stop) (stop : Stop) → ended ≡ result_and worked (Err stop) → broken ≡ true → stop.fault ≡ Stopped Broken →
       EndsAs {D = D} worked None broken ended
-  stops_broken worked stop is yes says = stops_else worked stop is (rw yes says)
+  stops_broken worked stop is broke says = stops_else worked stop is (rw broke says)
 
   pub stops_unclosed : (worked : Result (Unit {0}) Stop) (stop : Stop) → ended ≡ result_and worked (Err stop) → broken ≡ false → stop.fault ≡ Stopped Store →
       EndsAs {D = D} worked None broken ended
-  stops_unclosed worked stop is no says = stops_else worked stop is (rw no says)
+  stops_unclosed worked stop is whole says = stops_else worked stop is (rw whole says)
 
   -- its file was closed
   pub stops_same : (worked : Result (Unit {0}) Stop) (files : Files D) → ended ≡ worked → EndsAs worked (Some files) broken ended
@@ -44,10 +44,9 @@ module _ {D : Type 0} (broken : Bool) (ended : Result (Unit {0}) Stop) where
   stops_same (Err other) files is = is
 
 -- only a file of definitions stops a command before its own file is opened
-pub by_definitions : {A E : Type 0} (defs : Option (Bor (List ℕ))) (stop : E) → (defs ≡ None → IsOk {T = A} (Err stop)) →
-    (file : Bor (List ℕ)) × (defs ≡ Some file)
-by_definitions (Some file) stop none = (file, refl)
-by_definitions None stop none = absurd (true≢false (sym (none refl)))
+pub by_definitions : (defs : Option (Bor (List ℕ))) → (defs ≡ None → false ≡ true) → (file : Bor (List ℕ)) × (defs ≡ Some file)
+by_definitions (Some file) none = (file, refl)
+by_definitions None none = absurd (true≢false (sym (none refl)))
 
 -- ---- what comes back
 

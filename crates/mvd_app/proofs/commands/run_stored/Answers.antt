@@ -4,7 +4,7 @@ use Rattle.mvd_app.proofs.Ending.{by_definitions, file_back, no_file_back}
 use Rattle.mvd_app.proofs.commands.run_stored.Goals as goal
 
 pub returns-in-Err : goal.returns-in-Err
-returns-in-Err g c = record { kept = tt; given = inl (by_definitions c.args.setup.defs c.in-Err.stop c.in-Err.ensures.none) }
+returns-in-Err g c = record { kept = tt; given = inl (by_definitions c.args.setup.defs c.in-Err.ensures.none) }
 
 pub returns-in-Ok-opened : goal.returns-in-Ok-opened
 returns-in-Ok-opened g c = record {

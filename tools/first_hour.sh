@@ -137,17 +137,17 @@ def helps():
         if status != 2 or not example:
             miss(f"{command} --help: {status}\n{out}")
         if command == "shell":
-            wants("an example of the help", "mkdir pasted; cd pasted; " + example[1], "dot 1:1\n")
+            wants("an example of the help", "mkdir pasted; cd pasted; " + example[1], "mvd: a.db is new: the file of site 1\ndot 1:1\n")
     print("done: help")
 
 
 def long_session():
     """A session tells how far it is."""
     puts = "".join(f"put k{number} - {{}}\n" for number in range(1001))
-    wants("1,001 puts", "mvd shell --db many.db --site 1 > puts.txt", "", 0, puts)
+    wants("1,001 puts", "mvd shell --db many.db --site 1 > puts.txt", "mvd: many.db is new: the file of site 1\n", 0, puts)
     started = server("many.db")
     out, status = run(at_ports("mvd sync --db less.db --site 2 --port 7007 --verbose"))
-    if status != 0 or sorted(line.split()[0] for line in out.splitlines()) != ["1000", "keys", "root"] or "keys 1001\n" not in out:
+    if status != 0 or sorted(line.split()[0] for line in out.splitlines()) != ["1000", "keys", "mvd:", "root"] or "keys 1001\n" not in out:
         miss(f"a long session: {out}")
     kill(started)
     print("done: a long session")

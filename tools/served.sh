@@ -159,38 +159,47 @@ case $(python3 client.py "$port" 'get k' bye) in
 esac
 ended
 
-# A missing file is made only where something is to be stored.
-# files NAME: the file of this name and its log, as far as they are there.
-files() {
-  ls "$1" "$1-wal" 2>/dev/null | tr '\n' ' ' | sed 's/ $//' || :
+# A missing file is made by the command that opens it, which says so.
+# made FILE SITE: standard error says just that this file is new, and it is there.
+made() {
+  same "what is said of $1" "mvd: $1 is new: the file of site $2" "$(cat fault)"
+  [ -s "$1" ] || miss "$1 is not there"
 }
 
-printf 'get k\ndel k -\nput k - []\nroot\n' | "$program" shell --db read.db --site 4 >out || miss "a shell that reads"
-same "what a shell says without a file" "context - ok refused 4 NotObject" "$(head -n 3 out | tr '\n' ' ' | sed 's/ $//')"
-same "its file" "" "$(files read.db)"
+printf 'get k\ndel k -\nput k - []\nroot\n' | "$program" shell --db read.db --site 4 >out 2>fault || miss "a shell that reads"
+same "what a shell says on a new file" "context - ok refused 4 NotObject" "$(head -n 3 out | tr '\n' ' ' | sed 's/ $//')"
+made read.db 4
 empty=$(tail -n 1 out)
-printf 'get k\nput k - {"n":1}\nget k\nput k @ {"n":2}\n' | "$program" shell --db write.db --site 4 >out || miss "a shell that writes"
-same "what a shell says that makes a file" 'context - dot 4:1 context 4:1 4:1 {"n":1} dot 4:2' "$(tr '\n' ' ' <out | sed 's/ $//')"
-same "what the file holds" 'context 4:2 4:2 {"n":2}' \
-  "$(echo 'get k' | "$program" shell --db write.db --site 4 | tr '\n' ' ' | sed 's/ $//')"
-"$top/tools/integrity.sh" write.db || miss "write.db is not whole"
-ln -s no/b.db lost.db
-status=0
-printf 'get k\nput k - {}\nget k\nput k - {}\n' | "$program" shell --db lost.db --site 4 >out 2>fault || status=$?
-same "a write that cannot be stored" "1 context - refused 21 Store context - refused 21 Store" "$status $(tr '\n' ' ' <out | sed 's/ $//')"
-same "why" "lost.db: unable to open database file; see to its folder, its rights and the disk" "$(tail -n 1 fault | sed 's/^mvd: //')"
+printf 'get k\nput k - {"n":1}\nget k\nput k @ {"n":2}\n' | "$program" shell --db read.db --site 4 >out 2>fault || miss "a shell that writes"
+same "what a shell says that writes" 'context - dot 4:1 context 4:1 4:1 {"n":1} dot 4:2' "$(tr '\n' ' ' <out | sed 's/ $//')"
+same "what is said of a file that is there" "" "$(cat fault)"
+"$top/tools/integrity.sh" read.db || miss "read.db is not whole"
 serve --db empty.db --site 5 --conns 4
-same "a server's file" "empty.db" "$(files empty.db | cut -d ' ' -f 1)"
-"$program" sync --db sync.db --site 6 --port "$port" >one || miss "no session with an empty server"
+made empty.db 5
+"$program" sync --db sync.db --site 6 --port "$port" >one 2>fault || miss "no session with an empty server"
 same "a session with an empty server" "keys 0 $empty" "$(tr '\n' ' ' <one | sed 's/ $//' | sed 's/root //')"
-same "its file" "" "$(files sync.db)"
+made sync.db 6
 python3 client.py "$port" 'put k {}' 'put l {}' bye >out
-"$program" sync --db sync.db --site 6 --port "$port" >one || miss "no session that makes a file"
-"$program" sync --db sync.db --site 6 --port "$port" >two || miss "no session after one that made a file"
+"$program" sync --db sync2.db --site 7 --port "$port" >one 2>fault || miss "no session that makes a file"
+made sync2.db 7
+"$program" sync --db sync2.db --site 7 --port "$port" >two || miss "no session after one that made a file"
 ended
-same "sessions that make a file" "keys 2 keys 0" "$(grep -h keys one two | tr '\n' ' ' | sed 's/ $//')"
+same "sessions of a file that one of them made" "keys 2 keys 0" "$(grep -h keys one two | tr '\n' ' ' | sed 's/ $//')"
 same "their roots" "$(grep root told) $(grep root told)" "$(grep root one) $(grep root two)"
-"$top/tools/integrity.sh" sync.db || miss "sync.db is not whole"
+"$top/tools/integrity.sh" sync2.db || miss "sync2.db is not whole"
+
+# A file that was lost, whose log is there with what was stored: it is not made anew, and the log stays.
+serve --db lost.db --site 8
+python3 client.py "$port" 'put k {}' bye >out
+kill -9 "$server"
+wait "$server" 2>/dev/null || :
+server=
+mv lost.db kept.db
+refused "a lost file" 1 "fault 21 Store" "lost.db is missing, but its log is there: put the file back, docs/USING.md tells how" \
+  lost.db-wal shell --db lost.db --site 8
+[ ! -e lost.db ] || miss "lost.db was made"
+mv kept.db lost.db
+same "the file, put back" "context 8:1 8:1 {}" "$(echo 'get k' | "$program" shell --db lost.db --site 8 | tr '\n' ' ' | sed 's/ $//')"
 
 serve --db a.db --site 1
 at="127.0.0.1:$port"

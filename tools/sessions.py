@@ -59,6 +59,12 @@ class Files:
             miss(f"a shell ended with {done.returncode}: {done.stderr}")
         return done.stdout.splitlines()
 
+    def alone(self, site, lines):
+        """The same on a copy of the file, without its log."""
+        with tempfile.TemporaryDirectory() as folder:
+            shutil.copy(self.path(site), folder)
+            return Files(self.program, folder).lines(site, lines)
+
     def serve(self, site, *options):
         with socket.create_server(("127.0.0.1", 0)) as free:
             port = free.getsockname()[1]
@@ -104,6 +110,8 @@ def too_long(files):
     for site, prefix in (1, "b"), (2, "a"):
         crossed = files.lines(site, [f"get {prefix}{number}" for number in range(OTHERS // 2)])
         wants(f"what crossed to site {site}", len([line for line in crossed if line.endswith(f'{{"of":{3 - site}}}')]), OTHERS // 2)
+    wants("keys that crossed, in a copy of the file without its log", files.alone(2, [f"get a{number}" for number in range(OTHERS // 2)]),
+          files.lines(2, [f"get a{number}" for number in range(OTHERS // 2)]))
     for site in 1, 2:
         kept = files.lines(site, ["get poison"])
         wants(f"what site {site} keeps of the key", len(kept), 1 + WRITES)
@@ -181,6 +189,7 @@ def killed(files):
     server, port = files.serve(1)
     words = ["sync", "--db", files.path(2), "--site", "2", "--port", str(port), "--idle", "20", "--verbose"]
     session = files.start(words, stdout=subprocess.PIPE, stderr=subprocess.PIPE)
+    session.stderr.readline()  # that the file is new
     told = session.stderr.readline()
     if not told.endswith(" states so far\n"):
         miss(f"a session that tells how far it is: {told}")

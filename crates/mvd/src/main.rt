@@ -19,8 +19,8 @@ fn obey(rt: &HostRuntime, words: &[String]) -> io::Result<ExitCode> {
     let texts = texts(rt, words)?;
     match order_of(rt.alloc(), &texts) {
         // A torn write is taken to leave each byte old or new.
-        Ok(order) => match run(rt, order, Unknown) {
-            Ok(_outcome) => Ok(ExitCode::SUCCESS),
+        Ok(order) => match run(rt, order, Unknown).ended {
+            Ok(()) => Ok(ExitCode::SUCCESS),
             Err(stop) => Ok(tell_stop(rt, &stop)),
         },
         Err(fault) => Ok(refused(rt, &fault)),

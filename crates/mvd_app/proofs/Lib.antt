@@ -1,1 +1,4 @@
+pub mod Ending
+pub mod Following
+pub mod Memory
 pub mod Working

@@ -1,21 +1,48 @@
--- What a server does with a stored site keeps the writes known, and its records follow.
-use Rattle.std.proofs.Common.{◌≡◌, Result, Ok, Err, subst, sym}
-use Rattle.std.specs.Prelude.{IfOk}
-use Rattle.mvd_file.specs.Stored.{EndsWhole}
-use Rattle.mvd_file.specs.declared.closing.Outcome.{Outcome}
-use Rattle.mvd_file.specs.declared.closing.Outcome.TheVariants.{Closed, Unopened}
-use Rattle.sqlite_disk.specs.declared.Disk as disk
-use Rattle.mvd_replica.proofs.Keeping.{turns_keep}
+-- Whatever a command does with a stored site keeps the writes known, and its records follow.
+use Rattle.std.proofs.Common.{List, [], ◌∷◌, subst, sym}
+use Rattle.mvd_app.proofs.Following.{follows}
+use Rattle.mvd_client.specs.Synced.{FollowsPushed}
+use Rattle.mvd_replica.proofs.Keeping.{keeps_on, keeps_self, pushes_keep, turns_keep}
 use Rattle.mvd_replica.specs.Batch.{lost_requests}
-use Rattle.mvd_replica.specs.Programs.{WorksOn}
+use Rattle.mvd_replica.specs.Programs.{KeepsWrites, WorksOn}
+use Rattle.mvd_replica.specs.ReplicaCalls.{ReplicaAnswers}
 use Rattle.mvd_replica.specs.Replicas.{site_of, stored_of}
 use Rattle.mvd_replica.specs.declared.replica.Replica.{Replica}
+use Rattle.mvd_shell.specs.Asked.{Exchange}
+use Rattle.mvd_shell.specs.Talk.{Answered, Asks}
 use Rattle.mvd_server.specs.Rounds.{IsServed}
-use Rattle.mvd_app.specs.Stored.{HasFile}
-use Rattle.sqlite_store.specs.declared.store.FileStore.{FileStore}
 use Rattle.sqlite_trees.specs.declared.store.Store.{Ghosts}
 
 module _ {S : Type 0} {g : Ghosts S} where
+  -- a shell
+  all_keep : (exchanges : List Exchange) (old new : Replica S g) → Answered ReplicaAnswers exchanges old new → KeepsWrites (site_of old) (site_of new)
+  unfolding Answered
+  all_keep [] old new same = subst (λ (r : Replica S g). KeepsWrites (site_of old) (site_of r)) (sym same) (keeps_self (site_of old))
+  all_keep (exchange ∷ exchanges) old new (between, one, others) =
+      keeps_on (site_of old) (site_of between) (site_of new) (λ known stands. (one.choice.0, one.keeps known one.choice.0 stands one.choice.1))
+      (all_keep exchanges between new others)
+
+  pub asks_work : (old new : Replica S g) → Asks ReplicaAnswers old new → WorksOn (stored_of old) (stored_of new)
+  asks_work old new asks =
+      let it = follows old new asks in
+      record {
+        config = it.site.0;
+        keeps = all_keep asks.exchanges old new asks.answered;
+        sound = it.store.sound;
+        holds = it.store.holds;
+        stored = λ sound held whole broken. let more = it.store.stored sound held whole broken in (more.request ∷ [], more.holds);
+      }
+
+  -- a session
+  pub pushed_works : (old new : Replica S g) → FollowsPushed old new → WorksOn (stored_of old) (stored_of new)
+  pushed_works old new it = record {
+    config = it.site.0;
+    keeps = pushes_keep (site_of old) (site_of new) it.comes;
+    sound = it.store.sound;
+    holds = it.store.holds;
+    stored = λ sound held whole broken. let more = it.store.stored sound held whole broken in (more.request ∷ more.rest, more.holds);
+  }
+
   -- a server
   pub served_works : (old new : Replica S g) → IsServed old new → WorksOn (stored_of old) (stored_of new)
   served_works old new it = record {
@@ -25,20 +52,3 @@ module _ {S : Type 0} {g : Ghosts S} where
     holds = it.serves.follows.holds;
     stored = λ sound held whole broken. let more = it.serves.follows.stored sound held whole broken in (lost_requests more.lost, more.holds);
   }
-
--- what comes back of an order that works on no file
-pub gives_same : {A E : Type 0} (P : A → Type 0) (x : A) (result : Result A E) → P x → IfOk result (λ y. y ≡ x) → IfOk result P
-gives_same P x (Ok y) known is = subst P (sym is) known
-gives_same P x (Err error) known is = tt
-
--- a file that was worked on to the end comes back
-pub has_file : {D S E : Type 0} {g : disk.Ghosts D} {f : Ghosts (FileStore D g)} (replica : Replica (FileStore D g) f) (result : Result (Outcome D S) E) →
-    IfOk result (EndsWhole replica) → IfOk result HasFile
-has_file replica (Ok (Closed files)) ends = tt
-has_file replica (Ok (Unopened named)) ends = absurd ends
-has_file replica (Err error) ends = tt
-
--- no server was asked for
-pub unasked : {A E : Type 0} (result : Result A E) → IfOk result (λ _. Unit {0})
-unasked (Ok outcome) = tt
-unasked (Err error) = tt

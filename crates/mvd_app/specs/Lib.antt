@@ -1,1 +1,3 @@
+pub mod Output
+pub mod Refused
 pub mod Stored

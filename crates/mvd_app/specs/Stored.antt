@@ -1,23 +1,110 @@
--- What an order works on.
-use Rattle.std.specs.Prelude.{ℕ, Option, Some, None}
-use Rattle.mvd_file.specs.declared.closing.Outcome.{Outcome}
-use Rattle.mvd_file.specs.declared.closing.Outcome.TheVariants.{Closed, Unopened}
+-- What the commands do to a stored site, and what comes back of its file.
+use Rattle.std.specs.Prelude.{◌≡◌, ◌⊎◌, ⊤, true, false, if◌then◌else◌, ℕ, Bool, List, Option, Some, None, Result, Ok, Err, IsErrAnd}
+use Rattle.std.specs.Borrow.{Bor}
+use Rattle.std.specs.FinMap.{empty as no_states}
+use Rattle.mvd_app.specs.declared.closing.Ran.{Ran}
+use Rattle.mvd_dots.specs.declared.refusals.Refusal.TheVariants.{Broken, Store}
+use Rattle.mvd_hint.specs.declared.hint.Hint.TheVariants as Hint
+use Rattle.mvd_hint.specs.declared.hint.Stop.{Stop}
+use Rattle.mvd_input.specs.declared.fault.Fault.TheVariants.{Stopped}
 use Rattle.mvd_input.specs.declared.order.Order.{Order}
 use Rattle.mvd_input.specs.declared.order.Order.TheVariants as order
+use Rattle.mvd_input.specs.declared.order.Setup.{Setup}
+use Rattle.mvd_replica.specs.FileCalls.{ClosesInto, FailsClosing, OpensAsSite}
+use Rattle.mvd_replica.specs.Programs.{LeavesFile, WorksOn}
+use Rattle.mvd_replica.specs.Refused.{FailsFile}
+use Rattle.mvd_replica.specs.Replicas.{site_of, stored_of}
+use Rattle.mvd_replica.specs.Sides.{ReplicaFollows}
+use Rattle.mvd_replica.specs.declared.file.FileFault.{FileFault}
+use Rattle.mvd_replica.specs.declared.replica.Replica.{Replica}
+use Rattle.mvd_rows.specs.Defs.{no_definitions}
+use Rattle.mvd_site.specs.Config.{ConfigValue}
+use Rattle.mvd_site.specs.Sites.{SiteValue}
+use Rattle.sqlite.specs.Recovery.{Image}
+use Rattle.sqlite.specs.declared.error.Error.{Error}
+use Rattle.sqlite_disk.specs.declared.Disk as disk
+use Rattle.sqlite_disk.specs.declared.Files.{Files}
+use Rattle.sqlite_store.specs.declared.store.FileStore.{FileStore}
+use Rattle.sqlite_trees.specs.declared.store.Store.{Ghosts}
 
--- the site whose file an order works on, if it works on one
-abbrev pub stored_site : Order → Option ℕ
-stored_site (order.Serve db setup address conns idle http) = Some setup.site
-stored_site (order.Shell db setup) = Some setup.site
-stored_site (order.Sync db setup address idle verbose) = Some setup.site
-stored_site _ = None
+module _ {S : Type 0} {g : Ghosts S} where
+  -- whatever it is asked, its records follow
+  abbrev pub FollowsAsked : Replica S g → Replica S g → Type 0
+  FollowsAsked old new = ReplicaFollows (λ _. Unit {0}) (stored_of old) (stored_of new)
 
--- it opened a file
-abbrev pub HasFile : {D S : Type 0} → Outcome D S → Type 0
-HasFile (Closed files) = Unit {0}
-HasFile (Unopened named) = ⊥
+-- the site that is set up so, without a key
+abbrev pub site_without_keys : ConfigValue → SiteValue
+site_without_keys config = record { config = config; states = no_states; broken = false }
 
--- a server always does
-abbrev pub HasServed : {D S : Type 0} → Order → Outcome D S → Type 0
-HasServed (order.Serve db setup address conns idle http) outcome = HasFile outcome
-HasServed _ outcome = Unit {0}
+-- ---- what an order works on
+
+-- the file that an order works on, with what the site in it is set up with
+abbrev pub file_in : Order → Option (Bor (List ℕ) × Setup)
+file_in (order.Serve db setup address conns idle http) = Some (db, setup)
+file_in (order.Shell db setup) = Some (db, setup)
+file_in (order.Sync db setup address idle verbose) = Some (db, setup)
+file_in _ = None
+
+-- a site is set up so
+pub record IsConfigFor (setup : Setup) (config : ConfigValue) : Type 0 where
+  pub site : config.site ≡ setup.site
+  pub keys : config.max_keys ≡ setup.max_keys
+  pub none : setup.defs ≡ None → config.defs ≡ no_definitions
+
+-- ---- the end of the work
+
+-- a command is stopped with what its work was stopped with; else, where no file comes back, since the site is broken or its file
+-- cannot be closed
+abbrev pub EndsAs : {D : Type 0} → Result (Unit {0}) Stop → Option (Files D) → Bool → Result (Unit {0}) Stop → Type 0
+EndsAs (Err stop) files broken ended = ended ≡ Err stop
+EndsAs (Ok done) (Some files) broken ended = ended ≡ Ok tt
+EndsAs (Ok done) None broken ended = IsErrAnd ended (λ stop. stop.fault ≡ Stopped (if broken then Broken else Store))
+
+module _ {D : Type 0} {g : disk.Ghosts D} {f : Ghosts (FileStore D g)} where
+  -- a site that is not broken, whose file cannot be closed
+  abbrev pub CannotClose : Replica (FileStore D g) f → Type 0
+  CannotClose replica = (failed : Error × FileStore D g) × FailsClosing replica failed
+
+  -- the site is whole and its file closed; or there is no such file, since the site is broken or the file cannot be closed
+  abbrev pub ClosesOrNot : Replica (FileStore D g) f → Option (Files D) → Type 0
+  ClosesOrNot replica (Some files) = ((site_of replica).broken ≡ false) × ClosesInto replica files
+  ClosesOrNot replica None = ((site_of replica).broken ≡ true) ⊎ CannotClose replica
+
+-- ---- what comes back
+
+-- the file of the order's site, as a run leaves it
+abbrev pub GivesBack : {D : Type 0} → disk.Ghosts D → Image → Option (Bor (List ℕ) × Setup) → Files D → Type 0
+GivesBack g image (Some (db, setup)) files = LeavesFile g image setup.site files
+GivesBack g image None files = ⊥
+
+-- no file comes back
+pub record IsWithoutFile {D : Type 0} (how : Result (Unit {0}) Stop) (ran : Ran D) : Type 0 where
+  pub files : ran.files ≡ None
+  pub ended : ran.ended ≡ how
+
+module _ {D : Type 0} (g : disk.Ghosts D) where
+  -- The site was not opened: its file is lost, which the hint says, and the log is still there; or the files refuse it
+  abbrev pub CannotOpen : Image → ConfigValue → Bor (List ℕ) → Stop → Type 0
+  CannotOpen image config db stop = (stop.hint ≡ Some (Hint.Lost db)) ⊎ ((fault : FileFault D g) × FailsFile image config fault)
+
+module _ {D : Type 0} {g : disk.Ghosts D} (f : Ghosts (FileStore D g)) where
+  -- the site was opened and worked on, which broke it, or its file cannot be closed
+  pub record CannotEnd (image : Image) (config : ConfigValue) : Type 0 where
+    pub old : Replica (FileStore D g) f
+    pub new : Replica (FileStore D g) f
+    pub opened : OpensAsSite image config (Ok old)
+    pub works : WorksOn (stored_of old) (stored_of new)
+    pub ends : ((site_of new).broken ≡ true) ⊎ CannotClose new
+
+  -- WHY NO FILE COMES BACK of a command that works on one: a file of definitions stopped it, which the order names; or the site that
+  -- is set up so was not opened, or not closed
+  abbrev pub HasNoFile : Image → Bor (List ℕ) → Setup → Stop → Type 0
+  HasNoFile image db setup stop =
+      ((file : Bor (List ℕ)) × (setup.defs ≡ Some file)) ⊎
+      ((config : ConfigValue) × IsConfigFor setup config × (CannotOpen g image config db stop ⊎ CannotEnd image config))
+
+  -- the order works on none; or the command is stopped, and this is why
+  abbrev pub GivesNone : Image → Option (Bor (List ℕ) × Setup) → Result (Unit {0}) Stop → Type 0
+  GivesNone image None ended = ⊤
+  GivesNone image (Some (db, setup)) (Ok done) = ⊥
+  GivesNone image (Some (db, setup)) (Err stop) = HasNoFile image db setup stop

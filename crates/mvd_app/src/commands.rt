@@ -1,32 +1,32 @@
 //! What a command line asks for, done: with standard input and output, files and sockets.
-ghost use Rattle.std.specs.Prelude.{◌≡◌, IfOk, None, Some};
-ghost use Rattle.mvd_app.specs.Stored.{HasFile, HasServed, stored_site};
-ghost use Rattle.mvd_file.specs.Stored.{FollowsAsked, GivesBack};
-ghost use Rattle.mvd_file.specs.declared.closing.Outcome.TheVariants.{Unopened};
-ghost use Rattle.mvd_replica.specs.ReplicaCalls.{ReplicaAnswers};
-ghost use Rattle.mvd_shell.specs.Talk.{Asks};
+ghost use Rattle.std.specs.Prelude.{◌≡◌, IfNone, IfOk, IfSome, IsOk, IsOkAnd, None, Some};
+ghost use Rattle.mvd_app.specs.Stored.{FollowsAsked, GivesBack, GivesNone, IsConfigFor, IsWithoutFile, file_in};
 ghost use Rattle.mvd_input.specs.Addresses.{IsAddressList};
 ghost use Rattle.mvd_input.specs.Orders.{IsInRange, IsSetUp};
 ghost use Rattle.mvd_replica.specs.Programs.{WorksOn};
-ghost use Rattle.mvd_rows.specs.Defs.{no_definitions};
+ghost use Rattle.mvd_replica.specs.ReplicaCalls.{ReplicaAnswers};
 ghost use Rattle.mvd_replica.specs.Replicas.{stored_of};
+ghost use Rattle.mvd_rows.specs.Defs.{no_definitions};
+ghost use Rattle.mvd_shell.specs.Talk.{Asks};
 ghost use Rattle.sqlite.specs.WalFiles.{image_at};
 
+use crate::closing::{Ran, finish};
 use crate::looping::loop_run;
+use crate::opening::opened;
+use crate::output::Output;
+use crate::typed_lines::{answer_lines, input};
 use mvd_client::{MeetingTerms, meet_run, remote_shell_run, sync_run, tell_report};
 use mvd_dots::Refusal;
-use mvd_file::{
-    Outcome, Output, answer_lines, finish, input, is_missing, shell_unmade, sync_unmade, unopened,
-};
 use mvd_hint::{Hint, Stop};
 use mvd_input::{DEFS_MAX, Fault, Order, Setup, read_defs, read_input};
-use mvd_replica::{Replica, open_file};
+use mvd_replica::Replica;
 use mvd_rows::Defs;
 use mvd_script::sim;
 use mvd_server::{Terms, serve_run};
 use mvd_site::Config;
-use sqlite::{Alter, FileFrom, Start};
+use sqlite::{Alter, FileFrom, FileStore, Start};
 use sqlite_disk::Disk;
+use sqlite_trees::store::Store;
 use std::net::SocketAddr;
 use std::{fs, io};
 
@@ -38,24 +38,20 @@ enum Work {
     Sync(SocketAddr, u32, bool),
 }
 
-/// Runs an order, from standard input where it reads, and to standard output. A file that it opens holds what `start`
-/// names. It gives that file and its log back, closed; or `start`, where it opened none: the order works on no file,
-/// or nothing was to be written into one that is missing.
-pub fn run<'a, S: Start>(
-    rt: &'a HostRuntime,
-    order: Order<'a>,
-    start: S,
-) -> Result<Outcome<FileFrom<S>, S>, Stop<'a>>
+/// Runs an order, from standard input where it reads, and to standard output. A file that it works on is made where it
+/// is missing, and comes back with its log, closed, also where the command was stopped. What stands in it at first is
+/// what `start` names, which no code reads.
+pub fn run<'a, S: Start>(rt: &'a HostRuntime, order: Order<'a>, start: S) -> Ran<'a, FileFrom<S>>
     requires { IsInRange order }
-    // If it ends well, and the files are clean, no write is lost that they held, of either version; and new files
-    // hold the site.
-    ensures kept { IfOk result (GivesBack ⟦<FileFrom<S> as Disk>⟧ (image_at S.Start) start (stored_site order.entry)) }
-    // A server has opened its file.
-    ensures served { IfOk result (HasServed order.entry) }
+    // If files come back clean, no write is lost that they held, of either version; and new files hold the site.
+    ensures kept { IfSome result.files (GivesBack ⟦<FileFrom<S> as Disk>⟧ (image_at S.Start) (file_in order.entry)) }
+    // Where none come back, the order works on none, or the command is stopped for a cause.
+    ensures given { IfNone result.files
+        (GivesNone ⟦<FileStore<FileFrom<S>> as Store>⟧ (image_at S.Start) (file_in order.entry) result.ended) }
 {
     match order {
-        Order::Sim => no_file(run_sim(rt), start),
-        Order::Loop(setup) => no_file(run_loop(rt, setup), start),
+        Order::Sim => without_file(run_sim(rt), start),
+        Order::Loop(setup) => without_file(run_loop(rt, setup), start),
         Order::Serve {
             db,
             setup,
@@ -65,21 +61,19 @@ pub fn run<'a, S: Start>(
             http,
         } => {
             let work = Work::Serve(address, Terms { http, conns, idle });
-            let config = config_in(rt, setup)?;
-            run_stored(rt, db, config, work, start)
+            run_stored(rt, db, setup, work, start)
         }
-        Order::Shell { db, setup } => run_unserved(rt, db, setup, Work::Shell, start),
-        Order::RemoteShell { address, idle } => no_file(run_remote_shell(rt, address, idle), start),
+        Order::Shell { db, setup } => run_stored(rt, db, setup, Work::Shell, start),
+        Order::RemoteShell { address, idle } => {
+            without_file(run_remote_shell(rt, address, idle), start)
+        }
         Order::Sync {
             db,
             setup,
             address,
             idle,
             verbose,
-        } => {
-            let work = Work::Sync(address, idle, verbose);
-            run_unserved(rt, db, setup, work, start)
-        }
+        } => run_stored(rt, db, setup, Work::Sync(address, idle, verbose), start),
         Order::Meet {
             address,
             with,
@@ -92,22 +86,17 @@ pub fn run<'a, S: Start>(
                 idle,
                 verbose,
             };
-            no_file(run_meeting(rt, address, with, terms), start)
+            without_file(run_meeting(rt, address, with, terms), start)
         }
     }
 }
 
-/// What a command gives back that works on no file.
-fn no_file<'a, D: Disk + Drop, S: Drop>(
-    ran: Result<(), Stop<'a>>,
-    start: S,
-) -> Result<Outcome<D, S>, Stop<'a>>
-    ensures { IfOk result (λ outcome. outcome ≡ Unopened start) }
+/// How a command ends that works on no file.
+fn without_file<'a, S: Start>(ended: Result<(), Stop<'a>>, start: S) -> Ran<'a, FileFrom<S>>
+    ensures { IsWithoutFile ended.entry result }
 {
-    match ran {
-        Ok(()) => Ok(Outcome::Unopened(start)),
-        Err(stop) => Err(stop),
-    }
+    drop(start);
+    Ran { files: None, ended }
 }
 
 fn run_sim<'a>(rt: &HostRuntime) -> Result<(), Stop<'a>> {
@@ -131,51 +120,41 @@ fn run_loop<'a>(rt: &HostRuntime, setup: Setup<'a>) -> Result<(), Stop<'a>>
     }
 }
 
-/// Works on a stored site. Where its file is missing, it is made only if there is something to store.
-fn run_unserved<'a, S: Start>(
-    rt: &'a HostRuntime,
+/// Opens the site that a file holds, which is made where it is missing, works on it, and closes it: what the log holds
+/// is copied into the file, and both are given back. It is proved for whatever stands in the file.
+fn run_stored<'a, S: Start>(
+    rt: &HostRuntime,
     db: &'a str,
     setup: Setup<'a>,
     work: Work,
     start: S,
-) -> Result<Outcome<FileFrom<S>, S>, Stop<'a>>
+) -> Ran<'a, FileFrom<S>>
     requires { IsSetUp setup }
-    ensures kept { IfOk result (GivesBack ⟦<FileFrom<S> as Disk>⟧ (image_at S.Start) start (Some setup.entry.site)) }
+    ensures kept { IfSome result.files
+        (GivesBack ⟦<FileFrom<S> as Disk>⟧ (image_at S.Start) (Some (db.entry, setup.entry))) }
+    ensures given { IfNone result.files
+        (GivesNone ⟦<FileStore<FileFrom<S>> as Store>⟧ (image_at S.Start) (Some (db.entry, setup.entry)) result.ended) }
 {
-    let config = config_in(rt, setup)?;
-    let missing = matches!(is_missing(rt, db), Ok(true));
-    match work {
-        Work::Shell if missing => shell_unmade(rt, db, config, start),
-        Work::Sync(address, idle, verbose) if missing => {
-            sync_unmade(rt, db, config, start, address, idle, verbose)
+    let config = match config_in(rt, setup) {
+        Ok(config) => config,
+        Err(stop) => {
+            drop(start);
+            return Ran {
+                files: None,
+                ended: Err(stop),
+            };
         }
-        _ => run_stored(rt, db, config, work, start),
-    }
-}
-
-/// Opens the site that a file holds, which is made where it is missing, works on it, and closes it: what the log
-/// holds is copied into the file, and both are given back. It is proved for whatever stands in the file; `start`
-/// names that, and no code reads it. Where the site broke on the way the program stops with `Broken`: what was stored
-/// stands in the log.
-fn run_stored<'a, S: Start>(
-    rt: &HostRuntime,
-    db: &'a str,
-    config: Config,
-    work: Work,
-    start: S,
-) -> Result<Outcome<FileFrom<S>, S>, Stop<'a>>
-    // If it ends well, and the files are clean, no write is lost that they held, of either version; and new files
-    // hold the site.
-    ensures kept { IfOk result (GivesBack ⟦<FileFrom<S> as Disk>⟧ (image_at S.Start) start (Some config.site)) }
-    // It has opened the file.
-    ensures opened { IfOk result HasFile }
-{
-    let mut replica = match open_file(rt, db, start, config) {
-        Ok(replica) => replica,
-        Err(fault) => return Err(unopened(rt, db, fault)),
     };
-    let worked = work_on(rt, &mut replica, work);
-    finish(db, replica, worked)
+    match opened(rt, db, config, start) {
+        Ok(mut replica) => {
+            let worked = work_on(rt, &mut replica, work);
+            finish(db, replica, worked)
+        }
+        Err(stop) => Ran {
+            files: None,
+            ended: Err(stop),
+        },
+    }
 }
 
 /// Does what is to be done with a stored site.
@@ -246,9 +225,9 @@ fn run_meeting<'a>(
 /// What a site is set up with.
 fn config_in<'a>(rt: &HostRuntime, setup: Setup<'a>) -> Result<Config, Stop<'a>>
     requires { IsSetUp setup }
-    ensures site { IfOk result (λ config. config.site ≡ setup.entry.site) }
-    ensures keys { IfOk result (λ config. config.max_keys ≡ setup.entry.max_keys) }
-    ensures none { setup.entry.defs ≡ None → IfOk result (λ config. config.defs ≡ no_definitions) }
+    ensures config { IfOk result (IsConfigFor setup.entry) }
+    // It is stopped only by a file of definitions.
+    ensures none { setup.entry.defs ≡ None → IsOk result }
 {
     let defs = defs_in(rt, setup.defs)?;
     Ok(Config::new(setup.site, setup.max_keys, defs))
@@ -256,7 +235,7 @@ fn config_in<'a>(rt: &HostRuntime, setup: Setup<'a>) -> Result<Config, Stop<'a>>
 
 /// The indexes and views of a file of definitions, or none.
 fn defs_in<'a>(rt: &HostRuntime, file: Option<&'a str>) -> Result<Defs, Stop<'a>>
-    ensures { file.entry ≡ None → IfOk result (λ defs. defs ≡ no_definitions) }
+    ensures { file.entry ≡ None → IsOkAnd result (λ defs. defs ≡ no_definitions) }
 {
     let Some(file) = file else {
         return Ok(Defs::new(rt.alloc()));

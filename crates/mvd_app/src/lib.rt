@@ -1,10 +1,15 @@
 //! What the commands of the program do: with standard input and output, and with a stored site.
 #![tactic(auto)]
 
+mod closing;
 mod commands;
 mod looping;
+mod opening;
+mod output;
+mod typed_lines;
 
+pub use closing::Ran;
 pub use commands::run;
 pub use looping::loop_run;
-pub use mvd_file::{Outcome, Output, refused_in};
 pub use mvd_hint::Stop;
+pub use opening::refused_in;

@@ -1,15 +1,17 @@
 //! A client and a server over one connection within this process.
-ghost use Rattle.std.specs.Prelude.{◌<◌, ◌≤◌, length};
+ghost use Rattle.std.specs.Prelude.{◌≡◌, ◌<◌, ◌≤◌, IfOk, length};
+ghost use Rattle.mvd_app.specs.Stored.{site_without_keys};
+ghost use Rattle.mvd_replica.specs.Replicas.{site_of};
 ghost use Rattle.mvd_wire.specs.Frames.{frame_limit};
 
 use mvd_dots::Refusal;
-use mvd_file::in_memory;
 use mvd_frames::read_frame;
 use mvd_input::{BYTES_MAX, Fault, HEX_MAX, hex_bytes, read_input, write_out};
-use mvd_replica::{Ended, serve};
+use mvd_replica::{Ended, Replica, serve};
 use mvd_server::How;
 use mvd_site::Config;
 use mvd_wire::Frame;
+use sqlite::{Connection, MemStore};
 use std::alloc::Global;
 use std::fmt::Write as Print;
 use std::io::{self, BufReader, ErrorKind, Read, Write};
@@ -105,6 +107,20 @@ fn served<R: Read, W: Write>(
     let ended = serve(alloc, reader, writer, &mut replica);
     drop(replica);
     Ok(ended)
+}
+
+/// A replica of a site with no key, stored in memory.
+fn in_memory(alloc: Global, config: Config) -> Result<Replica<MemStore>, Refusal>
+    ensures { IfOk result (λ replica. site_of replica ≡ site_without_keys config) }
+{
+    let conn = Connection::open_in_memory(alloc)?;
+    match Replica::open(alloc, conn, config) {
+        Ok(replica) => Ok(replica),
+        Err((refusal, conn)) => {
+            drop(conn);
+            Err(refusal)
+        }
+    }
 }
 
 /// Sends the replies, unless there are too many, and closes. What was left unread is read first: a stream that is

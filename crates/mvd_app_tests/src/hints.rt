@@ -106,8 +106,12 @@ enum Cause {
     NoPeer,
     /// A line without its form.
     Line,
+    /// A file that was lost.
+    Lost,
     /// One without a hint.
     Memory,
+    /// The same in a session with a server.
+    MemoryThere,
 }
 
 fn at(port: u16) -> SocketAddr {
@@ -120,11 +124,13 @@ fn stop_of(cause: Cause) -> Stop<'static> {
         Cause::NoRight => Stop::unheard(at(80), io::Error::from(ErrorKind::PermissionDenied)),
         Cause::NoPeer => Stop::at_server(at(7007), Refusal::BadKind),
         Cause::Line => Stop::in_input(Fault::Line(3), Hint::Hexadecimal),
+        Cause::Lost => Stop::in_lost("a.db"),
         Cause::Memory => Stop::from(Refusal::Memory),
+        Cause::MemoryThere => Stop::at_server(at(7007), Refusal::Memory),
     }
 }
 
-const TOLD: [(Cause, &str); 5] = [
+const TOLD: [(Cause, &str); 7] = [
     (
         Cause::InUse,
         "mvd: fault 34 ReadFailed\nmvd: 127.0.0.1:7007 is in use: end the program that listens there, or name another port",
@@ -141,7 +147,12 @@ const TOLD: [(Cause, &str); 5] = [
         Cause::Line,
         "mvd: line 3: not a command\nmvd: standard input: a line has two hexadecimal digits for each byte",
     ),
+    (
+        Cause::Lost,
+        "mvd: fault 21 Store\nmvd: a.db is missing, but its log is there: put the file back, docs/USING.md tells how",
+    ),
     (Cause::Memory, "mvd: fault 20 Memory"),
+    (Cause::MemoryThere, "mvd: fault 20 Memory"),
 ];
 
 #[test]

@@ -76,12 +76,7 @@ impl Line for Near {
 }
 
 /// A server of a site of this number, which holds a key.
-fn server(
-    alloc: Global,
-    number: u32,
-    max_keys: u32,
-    key: &str,
-) -> Result<Remote<Near>, Refusal>
+fn server(alloc: Global, number: u32, max_keys: u32, key: &str) -> Result<Remote<Near>, Refusal>
     requires site { 0 < number }
     requires keys { (0 < max_keys) × (max_keys ≤ 1000000) }
 {
@@ -175,7 +170,9 @@ fn begins(bytes: &[u8], front: &str) -> bool {
 fn two_servers_come_to_one_root(rt: HostRuntime) -> Result<(), Fail> {
     match met(rt.alloc(), 9) {
         Ok(told) => {
-            assert!(rt; (told.keys, told.refused, told.is_one, told.is_left) == (2, 0, true, false));
+            assert!(rt;
+                (told.keys, told.refused, told.is_one, told.is_left) == (2, 0, true, false)
+            );
             assert!(rt; begins(&told.out, "keys 2\nroot 127.0.0.1:1 "));
             assert!(rt; told.out.len() == 7 + 2 * 82 && told.errors.is_empty());
         }
@@ -189,7 +186,9 @@ fn two_servers_come_to_one_root(rt: HostRuntime) -> Result<(), Fail> {
 fn a_refused_key_is_told_with_its_server(rt: HostRuntime) -> Result<(), Fail> {
     match met(rt.alloc(), 1) {
         Ok(told) => {
-            assert!(rt; (told.keys, told.refused, told.is_one, told.is_left) == (1, 1, false, true));
+            assert!(rt;
+                (told.keys, told.refused, told.is_one, told.is_left) == (1, 1, false, true)
+            );
             assert!(rt; begins(&told.out, "keys 1\nrefused 1\nroot 127.0.0.1:1 "));
             assert!(rt; told.errors.as_slice() == b"mvd: key a: 10 Full at 127.0.0.1:2\n");
         }

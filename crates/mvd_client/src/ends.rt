@@ -115,12 +115,26 @@ pub(crate) fn meet<'a, N: Net, E: Write>(
     errors: &mut E,
 ) -> Result<Report, Failure<'a>> {
     for _anew in 0..MOST_ANEW {
-        match session(rt, alloc, near, far, terms.idle, told(errors, terms.verbose)) {
+        match session(
+            rt,
+            alloc,
+            near,
+            far,
+            terms.idle,
+            told(errors, terms.verbose),
+        ) {
             Err(failure) if is_spent(failure.stop.fault) => {}
             ended => return ended,
         }
     }
-    session(rt, alloc, near, far, terms.idle, told(errors, terms.verbose))
+    session(
+        rt,
+        alloc,
+        near,
+        far,
+        terms.idle,
+        told(errors, terms.verbose),
+    )
 }
 
 /// Who is told how far a session is.

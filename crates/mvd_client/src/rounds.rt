@@ -82,10 +82,9 @@ impl<T: Read + Write + Drop> Partner<T> {
 /// Whether the same keys were refused, by the same sides and in the same way.
 fn are_same(first: &[Left], second: &[Left]) -> bool {
     first.len() == second.len()
-        && first
-            .iter()
-            .zip(second)
-            .all(|(a, b)| a.key == b.key && a.side == b.side && a.refusal == b.refusal)
+        && first.iter().zip(second).all(|(a, b)| a.key == b.key
+            && a.side == b.side
+            && a.refusal == b.refusal)
 }
 
 /// The seconds until the next session, after one that ended so and so many before it. They double in a row of sessions
@@ -120,7 +119,9 @@ pub fn meet_run<'a, N: Net + Clock, W: Write, E: Write>(
     };
     let mut near = End::new(address);
     match terms.repeat {
-        Some(repeat) => meet_again(rt, alloc, &mut near, &addresses, repeat, terms, writer, errors),
+        Some(repeat) => meet_again(
+            rt, alloc, &mut near, &addresses, repeat, terms, writer, errors,
+        ),
         None => match addresses.as_slice() {
             [far] => meet_one(rt, alloc, &mut near, *far, terms, writer, errors),
             all => meet_each(rt, alloc, &mut near, all, terms, writer, errors),

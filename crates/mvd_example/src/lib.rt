@@ -1,5 +1,6 @@
 //! An example of replicas within a program: two of them write while apart, meet, and one resolves what both wrote.
 #![tactic(auto)]
+
 ghost use Rattle.std.specs.Prelude.{◌<◌};
 
 use mvd_store::{

@@ -1,7 +1,7 @@
 //! A fault, and what there is to do about it.
-ghost use Rattle.std.specs.Prelude.{◌≡◌, ◌≢◌, ℕ, IsSomeAnd, Some};
+ghost use Rattle.std.specs.Prelude.{◌≡◌, ◌≢◌, ℕ, IsSomeAnd, None, Some};
 ghost use Rattle.mvd_hint.specs.Named.{NamesServer};
-ghost use Rattle.mvd_dots.specs.declared.refusals.Refusal.TheVariants.{BadBody, BadKind, Damaged, DotClash, FrameTooLong, Full, ReadFailed, SiteMismatch, Store};
+ghost use Rattle.mvd_dots.specs.declared.refusals.Refusal.TheVariants.{BadBody, BadKind, Damaged, DotClash, FrameTooLong, Full, Memory, ReadFailed, SiteMismatch, Store};
 ghost use Rattle.mvd_input.specs.declared.fault.Fault.TheVariants.{Stopped};
 ghost use Rattle.mvd_input.specs.declared.fault.Fault.TheVariants as faults;
 
@@ -32,6 +32,8 @@ pub enum Hint<'a> {
     InUse(&'a str),
     #[error("{0} is no database of mvd, or damaged: name another file, or a copy of this one")]
     NoDatabase(&'a str),
+    #[error("{0} is missing, but its log is there: put the file back, docs/USING.md tells how")]
+    Lost(&'a str),
     #[error("{0}: {1}; see to its folder, its rights and the disk")]
     Unusable(&'a str, sqlite::Error),
     #[error("{0} is the file of site {1}: name that site by --site, or another file")]
@@ -163,6 +165,14 @@ impl<'a> Stop<'a> {
         Stop::new(Refusal::Store, hint)
     }
 
+    /// A file is missing, and its log still has what was stored.
+    pub fn in_lost(file: &'a str) -> Stop<'a>
+        ensures fault { result.fault ≡ Stopped Store }
+        ensures hint { result.hint ≡ Some (Hint.Lost file.entry) }
+    {
+        Stop::new(Refusal::Store, Hint::Lost(file))
+    }
+
     /// The records of a file are refused. Their marks name this site, where they can be read.
     pub fn in_records(file: &'a str, refusal: Refusal, owner: Option<u32>) -> Stop<'a>
         ensures fault { result.fault ≡ Stopped refusal }
@@ -221,17 +231,20 @@ impl<'a> Stop<'a> {
         }
     }
 
-    /// The server at an address refuses, or the connection with it breaks.
+    /// The server at an address refuses, or the connection with it breaks. Memory may have been refused at either end
+    /// of it, so then no hint names one.
     pub fn at_server(address: SocketAddr, refusal: Refusal) -> Stop<'a>
         ensures fault { result.fault ≡ Stopped refusal }
+        ensures memory { refusal ≡ Memory → result.hint ≡ None }
         ensures clash { refusal ≡ DotClash → result.hint ≡ Some Hint.Clash }
         ensures long { refusal ≡ FrameTooLong → result.hint ≡ Some (Hint.NoPeer address) }
         ensures kind { refusal ≡ BadKind → result.hint ≡ Some (Hint.NoPeer address) }
         ensures body { refusal ≡ BadBody → result.hint ≡ Some (Hint.NoPeer address) }
-        // No other hint than that of a clash leaves the address out.
-        ensures named { refusal ≢ DotClash → IsSomeAnd result.hint (NamesServer address) }
+        // Else the hint names the address, but for that of a clash.
+        ensures named { refusal ≢ DotClash → refusal ≢ Memory → IsSomeAnd result.hint (NamesServer address) }
     {
         let hint = match refusal {
+            Refusal::Memory => return Stop::from(refusal),
             Refusal::DotClash => Hint::Clash,
             Refusal::FrameTooLong | Refusal::BadKind | Refusal::BadBody => Hint::NoPeer(address),
             _ if refusal.number() < 30 => Hint::Refused(address),

@@ -199,7 +199,7 @@ fn db<'a>(alloc: Global) -> Arg<'a>
         alloc,
         "db",
         "FILE",
-        "The file of the database. Where it is missing, the first write makes it, or serve.",
+        "The file of the database. It is made where it is missing.",
     )
     .required(true)
 }

@@ -20,6 +20,7 @@ const MOST_IDLE: u64 = 86_400;
 
 /// The most seconds between two rounds of sessions, and the most rounds.
 const MOST_EVERY: u64 = 3_600;
+
 const MOST_TIMES: u64 = 1_000_000;
 
 /// What a shell needs.

@@ -26,10 +26,12 @@ const BOTH: &str = "a shell has '--db <FILE>' with its options, or '--port <P>' 
 /// What a session cannot have together, and what goes with more than one round alone.
 const FILE_AND_SERVERS: &str =
     "a session has '--db <FILE>' with its options, or '--with <LIST>' between servers";
+
 const ONE_SESSION: &str = "'--every <S>' and '--times <N>' go with '--with <LIST>'";
 
 /// What is told of a list that is none.
-const NO_LIST: &str = "invalid value for '--with <LIST>': it is no list of 1 to 16 ports and addresses with ports";
+const NO_LIST: &str =
+    "invalid value for '--with <LIST>': it is no list of 1 to 16 ports and addresses with ports";
 
 /// What a site is set up with: its number is at least 1, and it may hold 1 to 1,000,000 keys. A file may define its
 /// indexes and views.

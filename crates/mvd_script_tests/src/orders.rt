@@ -43,12 +43,7 @@ enum Wanted {
 }
 
 /// Sessions of the server at port 1 with these.
-fn meet_of(
-    with: &str,
-    repeat: Option<(u32, Option<u32>)>,
-    idle: u32,
-    verbose: bool,
-) -> Order<'_> {
+fn meet_of(with: &str, repeat: Option<(u32, Option<u32>)>, idle: u32, verbose: bool) -> Order<'_> {
     Order::Meet {
         address: address(Ipv4Addr::LOCALHOST, 1),
         with,
@@ -183,7 +178,10 @@ const LINES: &[(&str, Wanted)] = &[
     ),
     ("mvd sync --port 1 --with 2 --every 0", Wanted::Range),
     ("mvd sync --port 1 --with 2 --every 3601", Wanted::Range),
-    ("mvd sync --port 1 --with 2 --every 1 --times 0", Wanted::Range),
+    (
+        "mvd sync --port 1 --with 2 --every 1 --times 0",
+        Wanted::Range,
+    ),
     (
         "mvd sync --port 1 --with 2 --every 1 --times 1000001",
         Wanted::Range,
@@ -201,14 +199,20 @@ const LINES: &[(&str, Wanted)] = &[
         "mvd sync --db f --site 1 --port 1 --http 2",
         Wanted::Says(""),
     ),
-    ("mvd sync --port 1", Wanted::Says("'--db <FILE>' is missing")),
+    (
+        "mvd sync --port 1",
+        Wanted::Says("'--db <FILE>' is missing"),
+    ),
     (
         "mvd sync --port 1 --with 0",
         Wanted::Says("'--with <LIST>': it is no list"),
     ),
     ("mvd sync --port 1 --with 2,", Wanted::Says("it is no list")),
     ("mvd sync --port 1 --with 02", Wanted::Says("it is no list")),
-    ("mvd sync --port 1 --with a:1", Wanted::Says("it is no list")),
+    (
+        "mvd sync --port 1 --with a:1",
+        Wanted::Says("it is no list"),
+    ),
     (
         "mvd sync --port 1 --with 10.0.0.1:0",
         Wanted::Says("it is no list"),

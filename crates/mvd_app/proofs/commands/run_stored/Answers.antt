@@ -1,11 +1,19 @@
 use Rattle.sqlite.specs.WalFiles.{image_at}
-use Rattle.mvd_file.proofs.Working.{gives_back}
-use Rattle.mvd_app.proofs.Working.{has_file}
+use Rattle.std.proofs.Common.{inl, inr}
+use Rattle.mvd_app.proofs.Ending.{by_definitions, file_back, no_file_back}
 use Rattle.mvd_app.proofs.commands.run_stored.Goals as goal
 
-pub returns : goal.returns
-returns g c = record {
-  kept = gives_back (image_at g.S.Start) c.args.config c.in-Ok.replica c.work_on-worked.new.replica c.args.start c.finish.result c.in-Ok.ensures.opens
-      c.work_on-worked.ensures.works c.finish.ensures.closed;
-  opened = has_file c.work_on-worked.new.replica c.finish.result c.finish.ensures.closed;
+pub returns-in-Err : goal.returns-in-Err
+returns-in-Err g c = record { kept = tt; given = inl (by_definitions c.args.setup.defs c.in-Err.ensures.none) }
+
+pub returns-in-Ok-opened : goal.returns-in-Ok-opened
+returns-in-Ok-opened g c = record {
+  kept = file_back (image_at g.S.Start) c.args.db c.args.setup c.in-Ok.config c.in-Ok.ensures.config c.in-Ok-opened.replica c.work_on-worked.new.replica
+      c.in-Ok-opened.ensures.opened c.finish.result.files c.work_on-worked.ensures.works c.finish.ensures.files;
+  given = no_file_back (image_at g.S.Start) c.args.db c.args.setup c.in-Ok.config c.in-Ok.ensures.config c.in-Ok-opened.replica c.work_on-worked.new.replica
+      c.in-Ok-opened.ensures.opened c.finish.result.files c.work_on-worked.result c.finish.result.ended c.work_on-worked.ensures.works c.finish.ensures.files
+      c.finish.ensures.ended;
 }
+
+pub returns-in-Err-opened : goal.returns-in-Err-opened
+returns-in-Err-opened g c = record { kept = tt; given = inr (c.in-Ok.config, c.in-Ok.ensures.config, inl c.in-Err-opened.ensures.refused) }

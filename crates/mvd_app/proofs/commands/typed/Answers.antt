@@ -1,4 +1,4 @@
-use Rattle.mvd_file.proofs.Following.{follows}
+use Rattle.mvd_app.proofs.Following.{follows}
 use Rattle.mvd_app.proofs.commands.typed.Goals as goal
 
 pub returns : goal.returns

@@ -1,5 +1,4 @@
-use Rattle.mvd_file.proofs.Working.{asks_work, pushed_works}
-use Rattle.mvd_app.proofs.Working.{served_works}
+use Rattle.mvd_app.proofs.Working.{asks_work, pushed_works, served_works}
 use Rattle.mvd_app.proofs.commands.work_on.Goals as goal
 
 pub returns-in-Serve : goal.returns-in-Serve

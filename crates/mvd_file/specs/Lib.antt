@@ -1,4 +1,0 @@
-pub mod Output
-pub mod Refused
-pub mod Stored
-pub mod Waiting

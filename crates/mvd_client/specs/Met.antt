@@ -3,7 +3,7 @@ use Rattle.std.specs.Prelude.{◌≡◌, ◌≢◌, IsSomeAnd, None, Result}
 use Rattle.std.specs.declared.net.socket_addr.SocketAddr.{SocketAddr}
 use Rattle.mvd_client.specs.declared.ends.Failure.{Failure}
 use Rattle.mvd_dots.specs.declared.refusals.Refusal.{Refusal}
-use Rattle.mvd_dots.specs.declared.refusals.Refusal.TheVariants.{DotClash}
+use Rattle.mvd_dots.specs.declared.refusals.Refusal.TheVariants.{DotClash, Memory}
 use Rattle.mvd_hint.specs.Named.{NamesServer}
 use Rattle.mvd_hint.specs.declared.hint.Stop.{Stop}
 use Rattle.mvd_input.specs.declared.fault.Fault.TheVariants.{Stopped}
@@ -34,9 +34,10 @@ MeetsFars near_line far_line near near' far far' result =
       peer_true = IsTrueRemote far_line.is_true far_line.far far';
     }) result
 
--- it is of this refusal, by the server at this address
+-- it is of this refusal, by the server at this address; want of memory may be of either end, and names none
 abbrev pub IsAt : SocketAddr → Refusal → Stop → Type 0
-IsAt address refusal stop = (stop.fault ≡ Stopped refusal) × (refusal ≢ DotClash → IsSomeAnd stop.hint (NamesServer address))
+IsAt address refusal stop =
+    (stop.fault ≡ Stopped refusal) × (refusal ≢ DotClash → refusal ≢ Memory → IsSomeAnd stop.hint (NamesServer address))
 
 -- a session failed by the side that the fault names
 abbrev pub IsFailureOf : SocketAddr → SocketAddr → SyncFault → Failure → Type 0

@@ -62,15 +62,6 @@ impl<T: Read + Write + Drop> End<T> {
         }
     }
 
-    /// Keeps a connection for the next session, unless too many frames came over it.
-    fn keep(&mut self, alloc: Global, wire: Wire<T>) {
-        let is_used = wire.frames >= MOST_FRAMES;
-        self.wire = Some(wire);
-        if is_used {
-            let _ = self.part(alloc);
-        }
-    }
-
     /// The digest of all that the server holds, over the connection that is open.
     pub(crate) fn root<'a>(&mut self, alloc: Global) -> Result<Root, Stop<'a>> {
         let address = self.address;
@@ -87,7 +78,7 @@ impl<T: Read + Write + Drop> End<T> {
         }
     }
 
-    /// Tells that a session failed by the server, unless the one before had.
+    /// Tells that a session failed by the server, which is tried again, unless the one before had.
     fn fails<E: Write>(&mut self, stop: Stop<'_>, errors: &mut E) {
         if !self.is_failing {
             let fault = stop.fault;
@@ -105,7 +96,8 @@ impl<T: Read + Write + Drop> End<T> {
     }
 }
 
-/// A session, over new connections as often as a server takes no more frames of the old ones.
+/// A session. It goes on over new connections where a server takes no more frames of the old ones, or where one that was
+/// kept since the session before was cut meanwhile.
 pub(crate) fn meet<'a, N: Net, E: Write>(
     rt: &N,
     alloc: Global,
@@ -115,26 +107,27 @@ pub(crate) fn meet<'a, N: Net, E: Write>(
     errors: &mut E,
 ) -> Result<Report, Failure<'a>> {
     for _anew in 0..MOST_ANEW {
-        match session(
-            rt,
-            alloc,
-            near,
-            far,
-            terms.idle,
-            told(errors, terms.verbose),
-        ) {
+        let is_near_kept = near.wire.is_some();
+        let is_far_kept = far.wire.is_some();
+        let told = told(errors, terms.verbose);
+        match session(rt, alloc, near, far, terms.idle, told) {
             Err(failure) if is_spent(failure.stop.fault) => {}
+            Err(failure) if is_near_kept && is_cut(failure, Side::Local) => {}
+            Err(failure) if is_far_kept && is_cut(failure, Side::Peer) => {}
             ended => return ended,
         }
     }
-    session(
-        rt,
-        alloc,
-        near,
-        far,
-        terms.idle,
-        told(errors, terms.verbose),
-    )
+    let told = told(errors, terms.verbose);
+    session(rt, alloc, near, far, terms.idle, told)
+}
+
+/// Whether the connection with this side was cut.
+fn is_cut(failure: Failure<'_>, side: Side) -> bool {
+    failure.side == side
+        && matches!(
+            failure.stop.fault,
+            Fault::Stopped(Refusal::Truncated | Refusal::ReadFailed | Refusal::WriteFailed)
+        )
 }
 
 /// Who is told how far a session is.
@@ -179,12 +172,12 @@ fn session<'a, N: Net, E: Write>(
         Ok(report) => report,
         Err(fault) => return Err(failed(near.address, far.address, fault)),
     };
-    near.keep(alloc, local.into_line());
-    far.keep(alloc, peer.side.into_line());
+    near.wire = Some(local.into_line());
+    far.wire = Some(peer.side.into_line());
     Ok(report)
 }
 
-/// The connection with a server that is open, or a new one.
+/// The connection with a server that is open, unless too many frames came over it, or a new one.
 fn opened<'a, N: Net>(
     rt: &N,
     alloc: Global,
@@ -192,7 +185,10 @@ fn opened<'a, N: Net>(
     idle: u32,
 ) -> Result<Wire<N::Stream>, Stop<'a>> {
     if let Some(wire) = end.wire.take() {
-        return Ok(wire);
+        if wire.frames < MOST_FRAMES {
+            return Ok(wire);
+        }
+        let _ = Remote::over(alloc, wire).bye();
     }
     match connected(rt, end.address, idle) {
         Ok(stream) => Ok(Wire::new(alloc, stream)?),
@@ -200,7 +196,21 @@ fn opened<'a, N: Net>(
     }
 }
 
-/// Tells that a session failed, by which server, and how.
+/// Tells by which server a session failed, and how.
+pub(crate) fn tell_fault<E: Write>(
+    near: SocketAddr,
+    far: SocketAddr,
+    failure: Failure<'_>,
+    errors: &mut E,
+) {
+    let address = match failure.side {
+        Side::Local => near,
+        Side::Peer => far,
+    };
+    let _ = writeln!(errors, "mvd: {address}: {}", failure.stop.fault);
+}
+
+/// The same of a session that is tried again: once in a row.
 pub(crate) fn tell_failure<T: Read + Write + Drop, E: Write>(
     near: &mut End<T>,
     far: &mut End<T>,

@@ -4,7 +4,7 @@ ghost use Rattle.std.specs.Io.KnownBytes.{Appends};
 ghost use Rattle.mvd_input.specs.Addresses.{IsAddressList};
 ghost use Rattle.mvd_client.specs.Reported.{met_text};
 
-use crate::ends::{End, MeetingTerms, meet, tell_failure};
+use crate::ends::{End, MeetingTerms, meet, tell_failure, tell_fault};
 use crate::meeting::{tell_meeting, tell_refused};
 use crate::peer_commands::left_with;
 use mvd_dots::Refusal;
@@ -33,11 +33,12 @@ enum Ended {
     Failed,
 }
 
-/// A server of the list: how the last session with it ended, how many before that ended so in a row, how many seconds it
-/// is still waited for, and which keys were left.
+/// A server of the list: how often it was tried, how the last session with it ended, how many before that ended so in a
+/// row, how many seconds it is still waited for, and which keys were left.
 #[derive(Drop)]
 struct Partner<T: Read + Write + Drop> {
     end: End<T>,
+    tried: u32,
     last: Ended,
     row: u32,
     wait: u32,
@@ -48,10 +49,19 @@ impl<T: Read + Write + Drop> Partner<T> {
     fn new(address: SocketAddr) -> Self {
         Partner {
             end: End::new(address),
+            tried: 0,
             last: Ended::Well,
             row: 0,
             wait: 0,
             left: None,
+        }
+    }
+
+    /// Whether it is to be tried again, where each server is tried so often, or for good.
+    fn is_wanted(&self, times: Option<u32>) -> bool {
+        match times {
+            Some(times) => self.tried < times,
+            None => true,
         }
     }
 
@@ -146,13 +156,19 @@ fn meet_one<'a, N: Net, W: Write, E: Write>(
     };
     let near_root = near.root(alloc)?;
     let far_root = far.root(alloc)?;
-    if let Err(refusal) = near.part(alloc) {
+    let told = tell_meeting(alloc, &report, near_root, far_root, writer, errors);
+    let near_parted = near.part(alloc);
+    let far_parted = far.part(alloc);
+    if told.is_err() {
+        return told;
+    }
+    if let Err(refusal) = near_parted {
         return Err(Stop::at_server(near.address, refusal));
     }
-    if let Err(refusal) = far.part(alloc) {
-        return Err(Stop::at_server(far.address, refusal));
+    match far_parted {
+        Ok(()) => Ok(()),
+        Err(refusal) => Err(Stop::at_server(far.address, refusal)),
     }
-    tell_meeting(alloc, &report, near_root, far_root, writer, errors)
 }
 
 /// One session with each server. What stops one of them does not stop the others, and the first is told in the end.
@@ -180,7 +196,7 @@ fn meet_each<'a, N: Net, W: Write, E: Write>(
                 left_with(&report)
             }
             Err(failure) => {
-                tell_failure(near, &mut far, failure, errors);
+                tell_fault(near.address, *address, failure, errors);
                 Err(failure.stop)
             }
         };
@@ -193,7 +209,7 @@ fn meet_each<'a, N: Net, W: Write, E: Write>(
     first
 }
 
-/// Rounds of sessions, until it is stopped or as many as there are.
+/// Sessions with each server again and again, until it is stopped, or each was tried as often as is wanted.
 fn meet_again<'a, N: Net + Clock, W: Write, E: Write>(
     rt: &N,
     alloc: Global,
@@ -210,16 +226,9 @@ fn meet_again<'a, N: Net + Clock, W: Write, E: Write>(
             return Err(Stop::from(Refusal::Memory));
         }
     }
-    let times = match repeat.times {
-        Some(times) => u64::from(times),
-        None => u64::MAX,
-    };
-    for round in 0..times {
-        if round > 0 {
-            pause(rt, &mut partners);
-        }
+    for _turn in 0..u64::MAX {
         for partner in &mut partners {
-            if partner.wait == 0 {
+            if partner.is_wanted(repeat.times) && partner.wait == 0 {
                 meet_partner(
                     rt,
                     alloc,
@@ -235,6 +244,9 @@ fn meet_again<'a, N: Net + Clock, W: Write, E: Write>(
         if repeat.every >= APART {
             let _ = near.part(alloc);
         }
+        if !pause(rt, &mut partners, repeat.times) {
+            break;
+        }
     }
     let _ = near.part(alloc);
     for partner in &mut partners {
@@ -243,16 +255,26 @@ fn meet_again<'a, N: Net + Clock, W: Write, E: Write>(
     Ok(())
 }
 
-/// Waits until the next of them is due.
-fn pause<C: Clock, T: Read + Write + Drop>(rt: &C, partners: &mut [Partner<T>]) {
-    let mut least = u32::MAX;
+/// Waits until the next of them is due. It is false where each was tried so often: then none is.
+fn pause<C: Clock, T: Read + Write + Drop>(
+    rt: &C,
+    partners: &mut [Partner<T>],
+    times: Option<u32>,
+) -> bool {
+    let mut due = None;
     for partner in partners.iter() {
-        least = least.min(partner.wait);
+        if partner.is_wanted(times) {
+            due = Some(partner.wait.min(due.unwrap_or(u32::MAX)));
+        }
     }
-    thread::sleep(rt, Duration::from_secs(u64::from(least)));
+    let Some(due) = due else {
+        return false;
+    };
+    thread::sleep(rt, Duration::from_secs(u64::from(due)));
     for partner in partners.iter_mut() {
-        partner.wait = partner.wait.saturating_sub(least);
+        partner.wait = partner.wait.saturating_sub(due);
     }
+    true
 }
 
 /// A session of a round. A fault is told, and does not end the rounds.
@@ -266,6 +288,7 @@ fn meet_partner<'a, N: Net, W: Write, E: Write>(
     writer: &mut W,
     errors: &mut E,
 ) -> Result<(), Stop<'a>> {
+    partner.tried = partner.tried.saturating_add(1);
     let report = match meet(rt, alloc, near, &mut partner.end, terms, errors) {
         Ok(report) => report,
         Err(failure) => {

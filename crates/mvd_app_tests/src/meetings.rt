@@ -190,7 +190,9 @@ fn a_refused_key_is_told_with_its_server(rt: HostRuntime) -> Result<(), Fail> {
                 (told.keys, told.refused, told.is_one, told.is_left) == (1, 1, false, true)
             );
             assert!(rt; begins(&told.out, "keys 1\nrefused 1\nroot 127.0.0.1:1 "));
-            assert!(rt; told.errors.as_slice() == b"mvd: key a: 10 Full at 127.0.0.1:2\n");
+            assert!(rt;
+                told.errors.as_slice() == b"mvd: key a: 10 Full at 127.0.0.1:2\n".as_slice()
+            );
         }
         Err(_) => assert!(rt; false),
     }

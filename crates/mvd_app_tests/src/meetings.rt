@@ -123,10 +123,10 @@ fn met(alloc: Global, max_keys: u32) -> Result<Told, Refusal>
     };
     let first = root_over(alloc, &mut near)?;
     let second = root_over(alloc, &mut far.side)?;
-    told(alloc, &report, first, second)
+    as_told(alloc, &report, first, second)
 }
 
-fn told(
+fn as_told(
     alloc: Global,
     report: &Report,
     first: [u8; 32],

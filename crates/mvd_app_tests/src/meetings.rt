@@ -1,5 +1,5 @@
 //! Sessions of two servers, and what is told of them.
-ghost use Rattle.std.specs.Prelude.{None, []};
+ghost use Rattle.std.specs.Prelude.{◌<◌, ◌≤◌, None, []};
 ghost use Rattle.std.specs.FinMap.{empty};
 
 use mvd_client::{Root, Watched, meet_over, root_over, tell_meeting};

@@ -8,6 +8,6 @@ mod inputs;
 #[cfg(test)]
 mod links;
 #[cfg(test)]
-mod meetings;
+mod met_servers;
 #[cfg(test)]
 mod shells;

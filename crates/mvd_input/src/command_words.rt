@@ -303,7 +303,7 @@ fn times<'a>(alloc: Global) -> Arg<'a>
         alloc,
         "times",
         "N",
-        "How often the servers meet in all, 1 to 1000000, where --every is given.",
+        "How often each server is tried in all, 1 to 1000000, where --every is given.",
     )
 }
 

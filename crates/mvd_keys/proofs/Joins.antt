@@ -93,7 +93,7 @@ join_groups s t u p q r =
 -- ---- a join once more
 
 -- where no dot has two documents, the two do not clash
-apart_of : (s t : State) → ((q : DotValue) → differ (get s.siblings q) (get t.siblings q) ≡ false) → clashes s t ≡ false
+pub apart_of : (s t : State) → ((q : DotValue) → differ (get s.siblings q) (get t.siblings q) ≡ false) → clashes s t ≡ false
 unfolding clashes
 apart_of s t apart = never _ _ apart
 

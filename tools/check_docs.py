@@ -1,16 +1,20 @@
 #!/usr/bin/env python3
-"""Checks what the documents name: files and folders, crates, functions, types, clauses, options and definitions.
+"""Checks what the documents name, and how long they are.
 
-usage: tools/check_docs.py [FILE..]      (without a file: README.md, CONTRIBUTING.md, CHANGELOG.md and docs/)
+usage: tools/check_docs.py [FILE..]      (without a file: every page of the repository)
 
-In each document it looks at the texts between backquotes, at file names that stand without them (docs/NAME.md), and at the
-width of lines of prose. A name is there if it is a word of the code, the specs, the proofs, the tools or the examples, or of the
-list below. CONTRIBUTING.md has to name each file that tools/places.py prints, and each file of its lists under its crate. The
-floors of docs/ARCHITECTURE.md have to be those of crates.txt. Prints a line for each that is not found, and ends with 1 if there
-is one.
+In each page it looks at the texts between backquotes, at file names that stand without them (docs/NAME.md), at the width of lines
+and the length of sentences. A file, a folder or a crate has to be there. A name that looks like a function or a type has to be one:
+a word of the code outside comments and texts; behind `Type::` a member of that type, behind `module::` a name of that module. Any
+other word has to stand somewhere in the code, the specs, the proofs, the tools or the examples, or in the list below.
+
+CONTRIBUTING.md has to name each file that tools/places.py prints, and each file of its lists under its crate. The floors of
+docs/ARCHITECTURE.md have to be those of crates.txt, and the lines of docs/GATE.md those of tools/lanes.py. Each page keeps its
+length. Prints a line for each fault, and ends with 1 if there is one.
 """
 import pathlib
 import re
+import subprocess
 import sys
 
 sys.dont_write_bytecode = True
@@ -18,24 +22,91 @@ import places
 
 TOP = pathlib.Path(__file__).resolve().parent.parent
 WIDTH = 100
-# Words of other projects, of the toolchain and of the command line that no file of ours has.
+SENTENCE = 45
+# The most lines of a page, of a crate's page, and of all pages of docs/ together.
+LINES = {"README.md": 150, "docs/THEOREM.md": 120, "docs/PROOFS.md": 150}
+CRATE_LINES = 30
+DOCS_LINES = 3200
+# Words of other projects, of the toolchain, of HTTP and of the command line that no file of ours has as a name.
 FOREIGN = {
     "rt", "cargo", "valgrind", "perf", "top", "du", "sqlite3", "taskset", "sha256sum", "curl", "chromium", "python3", "Wait",
-    "Allow", "chunked", "Wary",
+    "Allow", "chunked", "Wary", "core.hooksPath", "NAME",
 }
 CODE = (".rt", ".antt", ".py", ".sh", ".txt", ".edit", ".mvd", ".toml", ".rs", ".html")
+NAME = r"[A-Za-z_][A-Za-z0-9_]*"
 
 
-def words_of(names):
-    """All words of the code, and each part of its paths."""
-    words = set()
-    for name in names:
-        words.update(re.findall(r"[A-Za-z_][A-Za-z0-9_-]*", name))
-        if name.endswith(CODE) or "/" in name and name.split("/")[0] in (".ci", "tools"):
-            text = (TOP / name).read_text(errors="replace")
-            words.update(re.findall(r"[A-Za-z_][A-Za-z0-9_]*(?:-[A-Za-z0-9_]+)*", text))
-            words.update(re.findall(r"[A-Za-z_][A-Za-z0-9_]*", text))
-    return words
+class Code:
+    """The words of the code: all of them; those outside comments and texts; of each type its members, of each module its names."""
+
+    def __init__(self, names):
+        self.paths, self.words, self.declared, self.called = "", set(), set(), set()
+        self.members, self.modules, self.sources = {}, {}, {}
+        for name in names:
+            self.words.update(re.findall(r"[A-Za-z_][A-Za-z0-9_-]*", name))
+            if name.endswith(CODE) or "/" in name and name.split("/")[0] in (".ci", "tools"):
+                self.read(name, (TOP / name).read_text(errors="replace"))
+
+    def read(self, name, text):
+        self.words.update(re.findall(NAME + r"(?:-[A-Za-z0-9_]+)*", text))
+        self.words.update(re.findall(NAME, text))
+        if name.endswith(".rt"):
+            bare = re.sub(r'"(?:[^"\\]|\\.)*"', '""', re.sub(r"//.*", "", text), flags=re.S)
+            self.read_code(name, bare)
+        elif name.endswith(".antt"):
+            bare = re.sub(r"(^|\s)--.*", "", text)
+            self.declared.update(re.findall(NAME + r"(?:-[A-Za-z0-9_]+)*", bare))
+        else:
+            self.declared.update(re.findall(NAME, text))
+            return
+        self.declared.update(re.findall(NAME, bare))
+
+    def read_code(self, name, bare):
+        """The members of each type that stands in a file, and the names of its module and its crate."""
+        crate, stem = name.split("/")[1], pathlib.Path(name).stem
+        self.called.update(re.findall(r"\b(\w+)::(\w+)", bare))
+        found = set(re.findall(r"(?:fn|struct|enum|trait|const|type|mod|static) (\w+)", bare))
+        self.modules.setdefault(stem, {}).setdefault(crate, set()).update(re.findall(NAME, bare))
+        passed = " ".join(re.findall(r"^pub use ([^;]*);", bare, re.M))
+        self.sources.setdefault(crate, set()).update({stem} | found | set(re.findall(r"\w+", passed)))
+        for head, body in re.findall(r"^((?:pub(?:\(crate\))? )?(?:unsafe )?(?:impl|trait|enum|struct)\b[^;{]*)\{\n(.*?)^\}", bare, re.M | re.S):
+            kind = re.sub(r"<.*", "", re.sub(r"^(?:pub(?:\(crate\))? )?(?:unsafe )?\w+\s*(?:<(?:[^<>]|<[^<>]*>)*>)?\s*", "", head))
+            whose = re.search(r"\bfor (\w+)", head) if "impl" in head else None
+            for owner in {whose.group(1) if whose else kind.strip(), kind.strip()}:
+                here = self.members.setdefault(owner, set())
+                here.update(re.findall(r"^    (?:pub(?:\(crate\))? )?(?:ghost |const )?(?:fn )?(\w+)", body, re.M))
+
+    def unknown(self, text, crate):
+        """The faults of a text between backquotes, which is no path."""
+        if re.search(r"[^A-Za-z0-9_:.\-<>(),&'*\[\]; ]", text) or " " in text:
+            return []
+        faults = [f"no {whose}::{word}" for whose, word in re.findall(r"\b(\w+)::(\w+)", text) if not self.has(whose, word, crate)]
+        for word in re.findall(NAME + r"(?:-[A-Za-z0-9_]+)*", text):
+            if not self.is_known(word):
+                faults.append(f"no name {word}")
+        return faults
+
+    def has(self, whose, word, crate):
+        """Whether a word is one of a crate, a module or a type; of those that are not ours, any word is."""
+        if (whose, word) in self.called:
+            return True
+        if whose in self.sources:
+            return word in self.sources[whose]
+        if whose in self.modules:
+            there = self.modules[whose]
+            return word in there.get(crate, set()) if crate in there else any(word in words for words in there.values())
+        return word in self.members[whose] if whose in self.members else True
+
+    def is_known(self, word):
+        """A word that ends with _ stands for all that begin so; goals of proofs and the kit's name are the toolchain's."""
+        if word in FOREIGN or len(word) < 3 or word.isupper() or re.match(r"[A-Z]+-|returns-|rattle-kit-", word):
+            return True
+        if word.endswith("_"):
+            return any(known.startswith(word) for known in self.declared)
+        if re.fullmatch(r"mvd_\w+", word):
+            return word in self.sources or word in self.declared
+        looks_declared = "_" in word.strip("_") or re.match(r"[A-Z][a-z]", word) and "-" not in word
+        return word in (self.declared if looks_declared else self.words)
 
 
 def is_path(token):
@@ -47,10 +118,8 @@ def path_is_there(token, names):
     token = token.rstrip("/")
     if "/out/" in token or token.startswith(("target/", "out/")):
         return True  # made by a build
-    pattern = re.escape(token).replace(r"\*", "[^/]*").replace("NAME", "[^/]+").replace("MODULE", "[^/]+")
-    pattern = pattern.replace("FUNCTION", "[^/]+").replace("TYPE", "[^/]+").replace("METHOD", "[^/]+")
-    shape = re.compile(r"(^|/)" + pattern + r"($|/|\.antt$|\.rt$)")
-    return any(shape.search(name) for name in names)
+    pattern = re.sub(r"NAME|MODULE|FUNCTION|TYPE|METHOD", r"[^/\\n]+", re.escape(token).replace(r"\*", r"[^/\n]*"))
+    return re.search(r"(?:^|/)" + pattern + r"(?:$|/|\.antt$|\.rt$)", names, re.M) is not None
 
 
 def tokens(line):
@@ -60,62 +129,55 @@ def tokens(line):
         yield text
 
 
-def unknown_words(text, words):
-    """The words of a name such as `Type::call`, `crate::module`, `--option` or `word` that stand nowhere in the code."""
-    if re.search(r"[^A-Za-z0-9_:.\-<>(),&'*\[\]; ]", text) or " " in text:
-        return []
-    found = re.findall(r"[A-Za-z_][A-Za-z0-9_]*(?:-[A-Za-z0-9_]+)*", text)
-    return [word for word in found if not is_known(word, words)]
-
-
-def strangers(text, sources):
-    """The names behind a crate's, as in `mvd_faults_tests::clients`, that are no word of its code and no module of it."""
-    return [f"{crate}::{name}" for crate, name in re.findall(r"\b(mvd\w*)::(\w+)", text) if crate in sources and name not in sources[crate]]
-
-
-def sources_of(names):
-    """Of each crate the words of its code and its modules."""
-    sources = {}
-    for name in names:
-        if name.startswith("crates/") and name.endswith(".rt"):
-            words = sources.setdefault(name.split("/")[1], set())
-            words.add(pathlib.Path(name).stem)
-            words.update(re.findall(r"(?:fn|struct|enum|trait|const|type|mod) (\w+)", (TOP / name).read_text()))
-            words.update(re.findall(r"\w+", " ".join(re.findall(r"^pub use ([^;]*);", (TOP / name).read_text(), re.M))))
-    return sources
-
-
-def is_known(word, words):
-    """A word that ends with _ stands for all that begin so; goals of proofs and the kit's name are the toolchain's."""
-    if word in words or word in FOREIGN or len(word) < 3 or word.isupper() or re.match(r"[A-Z]+-|returns-|rattle-kit-", word):
-        return True
-    return word.endswith("_") and any(known.startswith(word) for known in words)
-
-
-def check(path, names, words, sources):
-    faults = []
+def prose(path):
+    """The lines of a page outside blocks, with their numbers."""
     in_block = False
     for number, line in enumerate((TOP / path).read_text().splitlines(), 1):
         if line.lstrip().startswith("```"):
             in_block = not in_block
-            continue
-        if in_block:
-            continue
+        elif not in_block:
+            yield number, line
+
+
+def long_sentences(path):
+    """The sentences that have too many words; a text between backquotes is one word. A table has none."""
+    faults, part, begun = [], [], 1
+    for number, line in [*prose(path), (0, "")]:
+        if not line.strip() or re.match(r"\s*(-|\d+\.|>) |[#|]", line):
+            for sentence in re.split(r"(?<=[.!?])[*_)\"]*\s+", " ".join(part)):
+                if len(sentence.split()) > SENTENCE:
+                    faults.append(f"{path}:{begun}: {len(sentence.split())} words: {sentence[:60]}..")
+            part, begun = [], number
+        if line.strip() and not re.match("[#|]", line):
+            part.append(re.sub(r"`[^`]+`", "x", line))
+    return faults
+
+
+def check(path, code):
+    faults = []
+    crate = path.split("/")[1] if path.startswith("crates/") else ""
+    for number, line in prose(path):
         if len(line) > WIDTH and not line.startswith("|") and "](" not in line:
             faults.append(f"{path}:{number}: {len(line)} columns")
         for text in tokens(line):
             if is_path(text):
-                if not path_is_there(text, names):
+                if not path_is_there(text, code.paths):
                     faults.append(f"{path}:{number}: no file {text}")
                 continue
-            for name in strangers(text, sources):
-                faults.append(f"{path}:{number}: no {name}")
-            for word in unknown_words(text, words):
-                faults.append(f"{path}:{number}: no name {word} (in `{text}`)")
+            faults += [f"{path}:{number}: {fault} (in `{text}`)" for fault in code.unknown(text, crate)]
         for target in re.findall(r"\]\(([^)#]+)\)", line):
             if "://" not in target and not ((TOP / path).parent / target).exists() and not (TOP / target).exists():
                 faults.append(f"{path}:{number}: no link {target}")
-    return faults
+    return faults + long_sentences(path)
+
+
+def too_long(names):
+    """The pages that have more lines than they may."""
+    count = {name: (TOP / name).read_bytes().count(b"\n") for name in names if name.endswith(".md")}
+    most = {name: LINES.get(name, CRATE_LINES if re.fullmatch(r"crates/\w+/README\.md", name) else None) for name in count}
+    faults = [f"{name}: {count[name]} lines, and at most {most[name]}" for name in count if most[name] and count[name] > most[name]]
+    told = sum(lines for name, lines in count.items() if re.fullmatch(r"docs/[^/]*\.md", name))
+    return faults + ([f"docs/: {told} lines, and at most {DOCS_LINES}"] if told > DOCS_LINES else [])
 
 
 def listed_places(*sections):
@@ -163,22 +225,32 @@ def misdrawn():
             uses[name] = used.split()
     drawn = floors_drawn()
     faults = [f"draws {name}, which is no crate" for name in drawn if name not in uses]
+    faults += [f"does not draw {name}" for name in uses if name not in drawn]
     for at, name in enumerate(drawn):
         faults += [f"draws {name} below {used}, which it uses" for used in uses.get(name, []) if used in drawn[: at + 1]]
     return [f"docs/ARCHITECTURE.md {fault}" for fault in faults]
 
 
+def miscounted():
+    """Whether docs/GATE.md has just the lines that tools/lanes.py makes of tools/costs.txt."""
+    made = subprocess.run([sys.executable, "tools/lanes.py", "tools/costs.txt", "--page"], cwd=TOP, capture_output=True, text=True).stdout
+    page = (TOP / "docs/GATE.md").read_text()
+    return [] if f"--page -->\n\n{made}\n<!-- end -->" in page else ["docs/GATE.md: other lines than tools/lanes.py tools/costs.txt --page makes"]
+
+
 def main():
     names = places.tracked()
     documents = sys.argv[1:] or [name for name in names if name.endswith(".md")]
-    words = words_of([name for name in names if not name.endswith(".md")])
-    sources = sources_of(names)
-    faults = [fault for path in documents for fault in check(path, names, words, sources)]
+    code = Code([name for name in names if not name.endswith(".md")])
+    code.paths = "\n".join(names)
+    faults = [fault for path in documents for fault in check(path, code)] + too_long(names)
     if "CONTRIBUTING.md" in documents:
         faults += unlisted_places() + misplaced(names)
     if "docs/ARCHITECTURE.md" in documents:
         faults += misdrawn()
-    print("\n".join(faults) if faults else f"{len(documents)} documents: all that they name is there")
+    if "docs/GATE.md" in documents:
+        faults += miscounted()
+    print("\n".join(faults) if faults else f"{len(documents)} documents: all that they name is there, and none is too long")
     return 1 if faults else 0
 
 

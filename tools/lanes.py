@@ -2,6 +2,7 @@
 """How long the gate would take on so many processors, from what each crate costs.
 
 usage, at the repository's top: tools/lanes.py COSTS [PROCESSORS..]
+                                tools/lanes.py COSTS --page      (the lines of docs/GATE.md)
 
 COSTS is what tools/gate_costs.py writes: a line `CRATE PROOF EDITS TESTS` for each crate, in processor seconds. The gate's order is
 followed, with one job for each proof: a crate's proof and its tests wait for the proofs below it, its edits for both, and for a proof
@@ -9,7 +10,9 @@ that is made for them; what has the longest chain of lines behind it goes first,
 at four minutes. The last line is the longest chain of proofs, each of which waits for the one before: no processors make the gate
 shorter than that. A crate that COSTS does not name counts as 25 seconds."""
 import glob
+import re
 import sys
+import textwrap
 
 LAST = 240
 
@@ -102,6 +105,23 @@ def longest_chain(tasks):
     return max(chains.values())
 
 
+def page(file):
+    """The lines of docs/GATE.md: the totals, a line for each crate, and the longest chain."""
+    costs = read_costs(file)
+    tasks = tasks_of(costs)
+    notes = dict(re.findall(r"^# (run|seen): (.*)$", open(file).read(), re.M))
+    told = " and ".join(f"{minutes(tasks, lanes):.0f} on {lanes}" for lanes in (2, 4, 8))
+    lines = [f"Sampled: {notes['run']}.", f"Seen: {notes['seen']}."]
+    lines += [f"Reckoned from the table: {sum(map(sum, costs.values())) / 60:.0f} processor minutes; minutes by processors: {told}.", ""]
+    lines += ["| Crate | Its proof, seconds | Edits in the gate | Their seconds | Its tests, seconds |", "|---|---|---|---|---|"]
+    for name, (proof, edits, tests) in costs.items():
+        row = [f"`{name}`", f"{proof:.0f}", EDITS[name] or "none", f"{edits:.0f}" if edits else "", f"{tests:.0f}" if tests else ""]
+        lines.append(f"| {' | '.join(map(str, row))} |")
+    seconds, chain = longest_chain(tasks)
+    lines += ["", f"The longest chain of proofs takes {seconds:.0f} seconds:", f"{', '.join(f'`{name}`' for name, _ in chain)}."]
+    return [part for line in lines for part in (textwrap.wrap(line, 100) if line and line[0] != "|" else [line])]
+
+
 def main(file, processors):
     costs = read_costs(file)
     tasks = tasks_of(costs)
@@ -115,4 +135,6 @@ def main(file, processors):
 if __name__ == "__main__":
     if len(sys.argv) < 2:
         sys.exit(__doc__)
+    if sys.argv[2:] == ["--page"]:
+        sys.exit(print("\n".join(page(sys.argv[1]))))
     main(sys.argv[1], [int(it) for it in sys.argv[2:]] or [4, 2])

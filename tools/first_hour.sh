@@ -1,10 +1,10 @@
 #!/bin/sh
-# Runs the blocks `sh` of README.md, docs/USING.md and docs/PROTOCOL.md as they stand, one after the other, in a new folder, and wants
-# of each what its block `text` says is printed; and what else somebody meets in the first hour. It tells what it did, and ends with 1
-# where something else is printed. It needs bash, python3 and curl, and the ports 7007 and 7080.
+# Runs the blocks `sh` of README.md and of docs/USING.md, PROTOCOL.md and FORMATS.md as they stand, one after the other, in a new folder,
+# and wants of each what its block `text` says is printed; and what else somebody meets in the first hour. It tells what it did, and ends with 1
+# where something else is printed. It needs bash, python3 and curl, and the ports 7007, 7008 and 7080.
 # usage: tools/first_hour.sh [--short] [PROGRAM]
 # With no PROGRAM it runs the block `build` of README.md first, which proves and builds it. With --short, as the gate runs it, free
-# ports stand in the blocks for these two, and where there is no curl the blocks that ask by it are left out.
+# ports stand in the blocks for these, and where there is no curl the blocks that ask by it are left out.
 set -eu
 short=
 if [ "${1:-}" = --short ]; then
@@ -29,10 +29,12 @@ import atexit, os, re, shutil, signal, socket, sqlite3, subprocess, sys
 
 top, room, given, is_short = sys.argv[1], sys.argv[2], sys.argv[3] != "0", len(sys.argv) > 4
 # the ports of the documents, and those that are taken
-ports = {"7007": "7007", "7080": "7080"}
+ports = {"7007": "7007", "7008": "7008", "7080": "7080"}
 if is_short:
-    with socket.create_server(("127.0.0.1", 0)) as one, socket.create_server(("127.0.0.1", 0)) as two:
-        ports = {"7007": str(one.getsockname()[1]), "7080": str(two.getsockname()[1])}
+    taken = [socket.create_server(("127.0.0.1", 0)) for _ in ports]
+    ports = {port: str(free.getsockname()[1]) for port, free in zip(ports, taken)}
+    for free in taken:
+        free.close()
 signal.signal(signal.SIGTERM, lambda *_: sys.exit(1))
 
 
@@ -42,7 +44,7 @@ def miss(what):
 
 def at_ports(text):
     """A text of the documents, with the ports that are taken."""
-    return re.sub(r"\b(7007|7080)\b", lambda found: ports[found[0]], text)
+    return re.sub(r"\b(7007|7008|7080)\b", lambda found: ports[found[0]], text)
 
 
 def start(words, **how):
@@ -208,7 +210,7 @@ def answers_at_once():
 
 
 builds("README.md")
-for document in ["README.md", "docs/USING.md", "docs/PROTOCOL.md"]:
+for document in ["README.md", "docs/USING.md", "docs/PROTOCOL.md", "docs/FORMATS.md"]:
     runs(document)
 quotes("docs/USING.md", "crates/mvd_example/src/lib.rt")
 helps()

@@ -4,7 +4,7 @@
 usage, at the repository's top: tools/gate_costs.py FILE [COMMAND..]
 
 FILE gets a line `CRATE PROOF EDITS TESTS` for each crate, in processor seconds (a program's proof with its two compilers, the tests with
-their compiler), as tools/lanes.py reads it; a line `faults SECONDS` for the refused growths of memory, and a line `users SECONDS` for
+their compiler), as tools/lanes.py reads it; above them what was run and what it took, for docs/GATE.md; a line `faults SECONDS` for the refused growths of memory, and a line `users SECONDS` for
 what users run: the scripts over the program, with all that they started. At the end the totals are printed: processor minutes, wall
 minutes, and the most memory that all processes took together. A process is looked at twice a second, so of each its last half second may
 be missing."""
@@ -57,6 +57,12 @@ def job(pid):
     return crate, 1 if "rt-edit-" in where else 2 if "--test" in words else 0
 
 
+def commit():
+    """The commit that is run, or that none is told."""
+    told = subprocess.run(["git", "rev-parse", "--short=8", "HEAD"], capture_output=True, text=True)
+    return f"commit {told.stdout.strip()}" if told.returncode == 0 else "no commit"
+
+
 def main(file, command):
     jobs, spent, most, began = {}, {}, 0, time.time()
     gate = subprocess.Popen(command)
@@ -78,14 +84,16 @@ def main(file, command):
             parts[at[0]] = parts.get(at[0], 0.0) + spent[each]
         elif at:
             costs.setdefault(at[0], [0.0, 0.0, 0.0])[at[1]] += spent[each]
+    used = resource.getrusage(resource.RUSAGE_CHILDREN)
+    total, wall = used.ru_utime + used.ru_stime, time.time() - began
     with open(file, "w") as out:
+        print(f"# run: `{' '.join(command)}`, {commit()}, {time.strftime('%Y-%m-%d')}, {os.cpu_count()} processors", file=out)
+        print(f"# seen: {wall / 60:.0f} minutes, {total / 60:.0f} processor minutes, {most / 1e9:.1f} GB of memory at most", file=out)
         print("# crate, processor seconds of its proof, its edits, its tests", file=out)
         for crate, row in costs.items():
             print(crate, *(f"{it:.0f}" for it in row), file=out)
         for part, seconds in parts.items():
             print(part, f"{seconds:.0f}", file=out)
-    used = resource.getrusage(resource.RUSAGE_CHILDREN)
-    total, wall = used.ru_utime + used.ru_stime, time.time() - began
     told = sum(sum(row) for row in costs.values())
     of_parts = "".join(f", {seconds:.0f} seconds of {part}" for part, seconds in parts.items())
     print(f"{total / 60:.0f} processor minutes, {told / 60:.0f} of them of crates{of_parts}; {wall / 60:.0f} minutes; {most / 1e9:.1f} GB",

@@ -2,7 +2,8 @@
 """How long the gate would take on so many processors, from what each crate costs.
 
 usage, at the repository's top: tools/lanes.py COSTS [PROCESSORS..]
-                                tools/lanes.py COSTS --page      (the lines of docs/GATE.md)
+                                tools/lanes.py COSTS --page      prints what docs/GATE.md has of it
+                                tools/lanes.py COSTS --write     writes that into docs/GATE.md
 
 COSTS is what tools/gate_costs.py writes: a line `CRATE PROOF EDITS TESTS` for each crate, in processor seconds. The gate's order is
 followed, with one job for each proof: a crate's proof and its tests wait for the proofs below it, its edits for both, and for a proof
@@ -53,7 +54,7 @@ def read_costs(file):
         words = line.split("#")[0].split()
         if words and words[0] in BELOW_OF:
             costs[words[0]] = tuple(map(float, words[1:4]))
-    return costs
+    return {name: costs[name] for name in BELOW_OF if name in costs}
 
 
 def tasks_of(costs):
@@ -106,20 +107,26 @@ def longest_chain(tasks):
 
 
 def page(file):
-    """The lines of docs/GATE.md: the totals, a line for each crate, and the longest chain."""
+    """The lines of docs/GATE.md: the totals, a row for each crate, and the longest chain. (Nothing that hangs on lines of code.)"""
     costs = read_costs(file)
-    tasks = tasks_of(costs)
     notes = dict(re.findall(r"^# (run|seen): (.*)$", open(file).read(), re.M))
-    told = " and ".join(f"{minutes(tasks, lanes):.0f} on {lanes}" for lanes in (2, 4, 8))
-    lines = [f"Sampled: {notes['run']}.", f"Seen: {notes['seen']}."]
-    lines += [f"Reckoned from the table: {sum(map(sum, costs.values())) / 60:.0f} processor minutes; minutes by processors: {told}.", ""]
+    lines = [f"- Sampled: {notes['run']}.", f"- Seen: {notes['seen']}."]
+    lines += [f"- In the table: {sum(map(sum, costs.values())) / 60:.0f} processor minutes.", ""]
     lines += ["| Crate | Its proof, seconds | Edits in the gate | Their seconds | Its tests, seconds |", "|---|---|---|---|---|"]
     for name, (proof, edits, tests) in costs.items():
         row = [f"`{name}`", f"{proof:.0f}", EDITS[name] or "none", f"{edits:.0f}" if edits else "", f"{tests:.0f}" if tests else ""]
         lines.append(f"| {' | '.join(map(str, row))} |")
-    seconds, chain = longest_chain(tasks)
-    lines += ["", f"The longest chain of proofs takes {seconds:.0f} seconds:", f"{', '.join(f'`{name}`' for name, _ in chain)}."]
-    return [part for line in lines for part in (textwrap.wrap(line, 100) if line and line[0] != "|" else [line])]
+    seconds, chain = longest_chain(tasks_of(costs))
+    lines += ["", f"- The longest chain of proofs, {seconds:.0f} seconds: {', '.join(f'`{name}`' for name, _ in chain)}."]
+    return [part for line in lines for part in (textwrap.wrap(line, 100, subsequent_indent="  ") if line[:1] == "-" else [line])]
+
+
+def write(lines):
+    """Puts the lines into docs/GATE.md, between its two marks."""
+    with open("docs/GATE.md") as it:
+        before, mark, rest = it.read().partition("--page -->\n")
+    with open("docs/GATE.md", "w") as it:
+        it.write(before + mark + "\n" + "\n".join(lines) + "\n\n" + rest[rest.index("<!-- end -->") :])
 
 
 def main(file, processors):
@@ -137,4 +144,6 @@ if __name__ == "__main__":
         sys.exit(__doc__)
     if sys.argv[2:] == ["--page"]:
         sys.exit(print("\n".join(page(sys.argv[1]))))
+    if sys.argv[2:] == ["--write"]:
+        sys.exit(write(page(sys.argv[1])))
     main(sys.argv[1], [int(it) for it in sys.argv[2:]] or [4, 2])

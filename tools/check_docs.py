@@ -216,6 +216,13 @@ def floors_drawn():
     return [name if name == "mvd" else f"mvd_{name}" for name in drawn]
 
 
+def floors_of_graph():
+    """The crates of the second picture, in the same order: its nodes are the floors."""
+    graph = (TOP / "docs/ARCHITECTURE.md").read_text().split("```mermaid\n", 1)[1].split("```", 1)[0]
+    drawn = [name for floor in re.findall(r'\["[a-z ]+: ([^"]*)"\]', graph) for name in re.split(r" · |<br>", floor)]
+    return [name if name == "mvd" else f"mvd_{name}" for name in drawn]
+
+
 def misdrawn():
     """The crates that the picture makes up, and those that use a crate which is not drawn below them or to their right."""
     uses = {}
@@ -224,7 +231,8 @@ def misdrawn():
         if colon and not name.endswith("_tests"):
             uses[name] = used.split()
     drawn = floors_drawn()
-    faults = [f"draws {name}, which is no crate" for name in drawn if name not in uses]
+    faults = [] if floors_of_graph() == drawn else ["draws two pictures of the floors that differ"]
+    faults += [f"draws {name}, which is no crate" for name in drawn if name not in uses]
     faults += [f"does not draw {name}" for name in uses if name not in drawn]
     for at, name in enumerate(drawn):
         faults += [f"draws {name} below {used}, which it uses" for used in uses.get(name, []) if used in drawn[: at + 1]]

@@ -3,8 +3,8 @@
 
 usage: tools/check_docs.py [FILE..]      (without a file: every page of the repository)
 
-In each page it looks at the texts between backquotes, at file names that stand without them (docs/NAME.md), at the width of lines
-and the length of sentences. A file, a folder or a crate has to be there. A name that looks like a function or a type has to be one:
+In each page it looks at the texts between backquotes, at file names that stand without them (docs/NAME.md), at the sections that it
+names (docs/NAME.md, "SECTION"), at the width of lines and the length of sentences. A file, a folder or a crate has to be there. A name that looks like a function or a type has to be one:
 a word of the code outside comments and texts; behind `Type::` a member of that type, behind `module::` a name of that module. Any
 other word has to stand somewhere in the code, the specs, the proofs, the tools or the examples, or in the list below.
 
@@ -168,7 +168,25 @@ def check(path, code):
         for target in re.findall(r"\]\(([^)#]+)\)", line):
             if "://" not in target and not ((TOP / path).parent / target).exists() and not (TOP / target).exists():
                 faults.append(f"{path}:{number}: no link {target}")
-    return faults + long_sentences(path)
+    return faults + long_sentences(path) + lost_sections(path)
+
+
+def headings(page):
+    """The headings of a page, and the words that begin a paragraph in bold."""
+    if not (TOP / page).is_file():
+        return set()
+    return {found.strip("*. ") for _, line in prose(page) for found in re.findall(r"^#+ (.*)|^\s*(?:- )?\*\*([^*]+)\*\*", line) for found in found if found}
+
+
+def lost_sections(path):
+    """The sections of other pages that a page names, as docs/OPEN.md, "Counts", and that are not there."""
+    text = " ".join(re.sub(r"^\s*(?:- |> )?", "", line) for _, line in prose(path))
+    faults = []
+    for page, titles in re.findall(r'((?:[a-z]+/)*[A-Z]+\.md),? ("[^"]+"(?:(?:,| and) "[^"]+")*)', text):
+        there = headings(page)
+        named = [title.strip(".,") for title in re.findall(r'"([^"]+)"', titles)]
+        faults += [f'{path}: no section "{title}" of {page}' for title in named if not any(it.startswith(title) for it in there)]
+    return faults
 
 
 def too_long(names):

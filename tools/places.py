@@ -91,10 +91,11 @@ def chained(text, words):
 def places_of(name):
     cases = cases_of(name)
     for path in sorted(path for path in tracked() if path.startswith("crates/")):
-        if path.endswith(".rt"):
-            found = in_code((TOP / path).read_text(), name)
-        elif path.endswith(".antt"):
-            text = (TOP / path).read_text()
+        text = (TOP / path).read_text() if path.endswith((".rt", ".antt")) else ""
+        # (most files name no case)
+        if path.endswith(".rt") and f"{name}::" in text:
+            found = in_code(text, name)
+        elif path.endswith(".antt") and f"{name}.TheVariants" in text:
             words = shown_names(text, name, cases)
             found = in_logic(text, words)
             for function, named in chained(text, words).items():

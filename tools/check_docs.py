@@ -51,7 +51,8 @@ class Code:
         self.words.update(re.findall(NAME + r"(?:-[A-Za-z0-9_]+)*", text))
         self.words.update(re.findall(NAME, text))
         if name.endswith(".rt"):
-            bare = re.sub(r'"(?:[^"\\]|\\.)*"', '""', re.sub(r"//.*", "", text), flags=re.S)
+            bare = re.sub(r"b?'(?:\\.|[^'\\])'", "''", re.sub(r"//.*", "", text))
+            bare = re.sub(r'"(?:[^"\\]|\\.)*"', '""', bare, flags=re.S)
             self.read_code(name, bare)
         elif name.endswith(".antt"):
             bare = re.sub(r"(^|\s)--.*", "", text)

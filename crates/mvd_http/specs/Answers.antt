@@ -1,5 +1,5 @@
 -- What a reply of a site is as a response: its status and its body, by what was asked (statuses of RFC 9110).
-use Rattle.std.specs.Prelude.{ℕ, ◌==◌, ◌≡◌, ◌≢◌, ◌++◌, ◌⊎◌, if◌then◌else◌, List, [], length, Option, Some, None, Result, Ok, Err}
+use Rattle.std.specs.Prelude.{ℕ, ◌==◌, ◌≡◌, ◌++◌, ◌⊎◌, if◌then◌else◌, Bool, true, false, List, [], length, Option, Some, None, Result, Ok, Err}
 use Rattle.std.specs.FinMap.{entries}
 use Rattle.mvd_dots.specs.declared.refusals.Refusal.{Refusal}
 use Rattle.mvd_dots.specs.declared.refusals.Refusal.TheVariants.{BadKey, BadContext, BadDocument, NotObject, BadNumber, DocumentTooLong, NotCanonical, Exhausted, StateTooLarge, Full, DotClash, NoIndex, NoView, BadPath, BadTerm, Memory, Store, Broken, BadBody, BadKind}
@@ -89,10 +89,16 @@ pub record IsTold (told : Told) (status : ℕ) (body : List ℕ) : Type 0 where
   pub status_is : status ≡ told.status
   pub body_is : body ≡ told.body
 
--- This is told, or the refusal. Want of memory may be told in place of a body alone: a refusal, and what has no body, stay as they are.
-abbrev pub Responds : Result Told Refusal → ℕ → List ℕ → Type 0
-Responds (Ok told) status body = IsTold told status body ⊎ ((told.body ≢ []) × IsTold (refused_told Memory) status body)
-Responds (Err refusal) status body = IsTold (refused_told refusal) status body
+-- the reply of a change, which is stored by then
+abbrev pub is_stored : Reply → Bool
+is_stored (reply.Written dot) = true
+is_stored reply.Done = true
+is_stored _ = false
+
+-- This is told, or the refusal. Want of memory may be told in its place, but never of a change that is stored.
+abbrev pub Responds : Bool → Result Told Refusal → ℕ → List ℕ → Type 0
+Responds stored (Ok told) status body = IsTold told status body ⊎ ((stored ≡ false) × IsTold (refused_told Memory) status body)
+Responds stored (Err refusal) status body = IsTold (refused_told refusal) status body
 
 -- the body came behind a text, and its status is given; a refusal is given back, and so is want of memory
 abbrev pub Pushes : Result Told Refusal → List ℕ → List ℕ → Result ℕ Refusal → Type 0

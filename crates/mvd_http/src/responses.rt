@@ -3,7 +3,7 @@ ghost use Rattle.std.specs.Prelude.{◌≡◌, ◌++◌, Ok, OnOk, IfOk, IsOkUnl
 ghost use Rattle.std.specs.List.{flat_map};
 ghost use Rattle.mvd_dots.specs.Text.{text_of};
 ghost use Rattle.mvd_dots.specs.declared.refusals.Refusal.TheVariants.{Memory};
-ghost use Rattle.mvd_http.specs.Answers.{IsTold, Pushes, Responds, found_status as status_found, key_asked as asked_key, ok_told, refused_status as status_of, refused_told, reply_told, row_told, state_told, term_asked as asked_term};
+ghost use Rattle.mvd_http.specs.Answers.{IsTold, Pushes, Responds, found_status as status_found, is_stored as stored, key_asked as asked_key, ok_told, refused_status as status_of, refused_told, reply_told, row_told, state_told, term_asked as asked_term};
 ghost use Rattle.mvd_wire.specs.declared.reply.Reply.TheVariants.{Done};
 ghost use Rattle.mvd_http.specs.Json.{children_text, commaed, digest_text, led, keys_text, node_text, places_text, refused_text, root_text, rows_text, state_text, written_text};
 
@@ -59,21 +59,31 @@ pub fn refused_response(out: &mut String, refusal: Refusal) -> Result<u16, Alloc
     Ok(refused_status(refusal))
 }
 
-/// Puts the body of a reply in place of what `out` held, and gives its status.
+/// Puts the body of a reply in place of what `out` held, and gives its status. Where there is no memory for the body of
+/// a reply to a change, nothing is to be told: the change is stored.
 pub fn response_of(
     alloc: Global,
     request: &Request,
     reply: &Reply,
     out: &mut String,
 ) -> Result<u16, AllocError>
-    ensures told { IfOk result (λ status. Responds (reply_told request.now reply.now) status (string_bytes out.new)) }
+    ensures told { IfOk result (λ status.
+        Responds (stored reply.now) (reply_told request.now reply.now) status (string_bytes out.new)) }
     ensures done { reply.now ≡ Done → result ≡ Ok 204 }
 {
     out.clear();
     match push_reply(alloc, request, reply, out) {
         Ok(status) => Ok(status),
+        Err(_) if is_stored(reply) => Err(AllocError),
         Err(refusal) => refused_response(out, refusal),
     }
+}
+
+/// Whether it is the reply of a change, which is stored by then.
+fn is_stored(reply: &Reply) -> bool
+    ensures { result ≡ stored reply.now }
+{
+    matches!(reply, Reply::Written(_) | Reply::Done)
 }
 
 /// The key whose state is asked for.

@@ -3,14 +3,14 @@ use crate::metrics::{Counts, Now};
 use crate::talks::{feed, sent};
 use http::StatusCode;
 use mvd_dots::Refusal;
-use mvd_frames::{decode_reply, encode_request, read_frame};
+use mvd_frames::{decode_reply, encode_request};
 use mvd_host::Host;
 use mvd_http::{
     Answer, Content, Methods, PAGE, Question, push_root, refused_response, response_of,
 };
 use mvd_replica::Replica;
 use mvd_web::{Asked, WebConnection};
-use mvd_wire::Reply;
+use mvd_wire::{Reply, Request};
 use sqlite::Alter;
 use std::alloc::Global;
 
@@ -177,7 +177,8 @@ fn tell_metrics<S: Alter + Drop>(
     }
 }
 
-/// Queues the response to the request of a client that the host has answered.
+/// Queues the response to the request of a client that the host has answered. Where there is no memory for the response
+/// to a change, which may be stored, the connection ends without one.
 pub(crate) fn answer(
     alloc: Global,
     host: &mut Host,
@@ -190,12 +191,16 @@ pub(crate) fn answer(
         _ => return,
     };
     sent(host, number, count);
-    tell_reply(alloc, web, &reply, counts);
-    drop(reply);
+    tell_reply(alloc, web, reply, counts);
 }
 
 /// Queues the response to the request that waits, which is answered by this reply.
-fn tell_reply(alloc: Global, web: &mut WebConnection, reply: &Reply, counts: &mut Counts) {
+fn tell_reply(
+    alloc: Global,
+    web: &mut WebConnection,
+    reply: Result<Reply, Refusal>,
+    counts: &mut Counts,
+) {
     let mut body = String::new(alloc);
     let status = match web.asked() {
         Some(asked) => put_body(alloc, asked, reply, &mut body),
@@ -207,28 +212,45 @@ fn tell_reply(alloc: Global, web: &mut WebConnection, reply: &Reply, counts: &mu
     }
 }
 
-/// The reply that these bytes are.
-fn reply_in(alloc: Global, bytes: &[u8]) -> Reply {
-    let mut rest = bytes;
-    match read_frame(alloc, &mut rest) {
-        Ok(Some(frame)) => match decode_reply(alloc, frame.kind, &frame.payload) {
-            Ok(reply) => reply,
-            Err(refusal) => Reply::Refused(refusal),
-        },
-        Ok(None) => Reply::Refused(Refusal::Truncated),
-        Err(refusal) => Reply::Refused(refusal),
+/// The reply that the frame in front of these bytes is, or why it cannot be read. A Written, a Done and a Refused are
+/// read without memory.
+fn reply_in(alloc: Global, bytes: &[u8]) -> Result<Reply, Refusal> {
+    match frame_in(bytes) {
+        Some((kind, payload)) => decode_reply(alloc, kind, payload),
+        None => Err(Refusal::Truncated),
     }
 }
 
-/// Puts the body of a response into `body`, and gives its status.
+/// The kind byte and the payload of the frame in front of these bytes.
+fn frame_in(bytes: &[u8]) -> Option<(u8, &[u8])> {
+    if bytes.len() < 4 {
+        return None;
+    }
+    let mut head = [0u8; 4];
+    head.copy_from_slice(&bytes[..4]);
+    let length = u32::from_be_bytes(head) as usize;
+    let (kind, payload) = bytes[4..].get(..length)?.split_first()?;
+    Some((*kind, payload))
+}
+
+/// Puts the body of a response into `body`, and gives its status. Of a change whose reply cannot be read nothing is
+/// told.
 fn put_body(
     alloc: Global,
     asked: &Asked,
-    reply: &Reply,
+    reply: Result<Reply, Refusal>,
     body: &mut String,
 ) -> Result<u16, Refusal> {
-    match &asked.question {
-        Ok(Question::Ask(request)) => Ok(response_of(alloc, request, reply, body)?),
-        _ => Err(Refusal::BadKind),
+    let Ok(Question::Ask(request)) = &asked.question else {
+        return Err(Refusal::BadKind);
+    };
+    match reply {
+        Ok(reply) => Ok(response_of(alloc, request, &reply, body)?),
+        Err(refusal) if is_change(request) => Err(refusal),
+        Err(refusal) => Ok(refused_response(body, refusal)?),
     }
+}
+
+fn is_change(request: &Request) -> bool {
+    matches!(request, Request::Put(..) | Request::Delete(..))
 }

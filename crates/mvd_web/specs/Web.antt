@@ -156,13 +156,13 @@ Takes old false new = LooksIf (is_free old) old new
 abbrev pub unasked : WebValue → WebValue
 unasked w = record w { asked = None }
 
--- these bytes are queued behind what waits, or the connection is stopped for want of memory
+-- these bytes are queued behind what waits, or none of them is, and the connection is stopped for want of memory
 abbrev pub with_waits : WebValue → List ℕ → WebValue
 with_waits w waits = record w { waits = waits; rests = false }
 
 abbrev pub Queues : WebValue → List ℕ → WebValue → Type 0
 Queues old bytes new =
-    (new ≡ with_waits old (old.waits ++ bytes)) ⊎ ((waits : List ℕ) × (new ≡ stopped_by (with_waits old waits) Memory))
+    (new ≡ with_waits old (old.waits ++ bytes)) ⊎ (new ≡ stopped_by (with_waits old old.waits) Memory)
 
 -- no request is read after those that were
 abbrev pub is_closed : State → Bool

@@ -1,5 +1,5 @@
 //! The bytes of a response.
-ghost use Rattle.std.specs.Prelude.{◌≡◌, ◌++◌, OnOk, IfOk};
+ghost use Rattle.std.specs.Prelude.{◌≡◌, ◌++◌, OnOk, OnErr, IfOk};
 ghost use Rattle.http1.specs.Head.{header_parts, pairs, response_text};
 ghost use Rattle.http1_typed.specs.Parts.{reason_of};
 ghost use Rattle.http_server.specs.Response.{fields as pairs_of, fields_of};
@@ -74,8 +74,9 @@ fn listed<'a>(
 
 /// Writes a head.
 fn put_head(out: &mut BytesMut, status: StatusCode, fields: &[Header<'_>]) -> Result<(), AllocError>
-    ensures { OnOk result (out.new.items ≡
+    ensures ok { OnOk result (out.new.items ≡
         out.old.items ++ response_text 1 status (reason_of status) (pairs fields.now)) }
+    ensures err { OnErr result (out.new.items ≡ out.old.items) }
 {
     let reason = status.canonical_reason().unwrap_or("").as_bytes();
     match write_response(out, 1, status.as_u16(), reason, fields, &[]) {
@@ -84,7 +85,7 @@ fn put_head(out: &mut BytesMut, status: StatusCode, fields: &[Header<'_>]) -> Re
     }
 }
 
-/// Puts the bytes of a response behind those of `out`.
+/// Puts the bytes of a response behind those of `out`: all of them, or none where memory is refused.
 pub(crate) fn push_response(
     alloc: Global,
     out: &mut BytesMut,
@@ -92,17 +93,26 @@ pub(crate) fn push_response(
     body: &str,
     manner: Manner,
 ) -> Result<(), AllocError>
-    ensures { OnOk result (out.new.items ≡ out.old.items ++ response_bytes answer body.now manner) }
+    ensures ok { OnOk result (out.new.items ≡ out.old.items ++ response_bytes answer body.now manner) }
+    ensures err { OnErr result (out.new.items ≡ out.old.items) }
 {
     let mut filled = Response::new(alloc);
     fill(&mut filled, answer, "")?;
+    let before = out.len();
     push_head(alloc, out, &filled, body.len(), manner.is_last)?;
-    push_body(out, body, manner.is_head || filled.status.as_u16() == 204)
+    match push_body(out, body, manner.is_head || filled.status.as_u16() == 204) {
+        Ok(()) => Ok(()),
+        Err(error) => {
+            out.truncate(before);
+            Err(error)
+        }
+    }
 }
 
 /// Puts a body behind what `out` holds, unless it is left out.
 fn push_body(out: &mut BytesMut, body: &str, is_left_out: bool) -> Result<(), AllocError>
-    ensures { OnOk result (out.new.items ≡ out.old.items ++ body_sent is_left_out body.now) }
+    ensures ok { OnOk result (out.new.items ≡ out.old.items ++ body_sent is_left_out body.now) }
+    ensures err { OnErr result (out.new.items ≡ out.old.items) }
 {
     if is_left_out {
         return Ok(());
@@ -118,9 +128,10 @@ fn push_head(
     length: usize,
     is_last: bool,
 ) -> Result<(), AllocError>
-    ensures { OnOk result (out.new.items ≡ out.old.items
+    ensures ok { OnOk result (out.new.items ≡ out.old.items
         ++ response_text 1 filled.now.status (reason_of filled.now.status)
         (fields_of filled.now ++ framing_of filled.now.status length is_last)) }
+    ensures err { OnErr result (out.new.items ≡ out.old.items) }
 {
     let digits = format!(in alloc; "{length}")?;
     let fields = listed(alloc, filled, digits.as_bytes(), is_last)?;

@@ -199,7 +199,7 @@ impl WebConnection {
         !matches!(self.parser.state(), State::Open)
     }
 
-    /// Queues a response.
+    /// Queues a response. Where memory is refused, nothing of it leaves.
     fn queue(&mut self, answer: Answer, body: &str, manner: Manner)
         ensures { Queues (web_of self.old) (response_bytes answer body.now manner) (web_of self.new) }
     {

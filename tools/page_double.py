@@ -282,7 +282,8 @@ class Double(BaseHTTPRequestHandler):
             self.reply(200 if siblings else 404, {"key": key, "context": print_context(seen), "siblings": shown})
         elif self.command == "PUT":
             seen = read_context("-" if context is None else context)
-            self.reply(201, {"dot": dot_text(self.site.put(key, seen, read_document(body)))})
+            dot = self.site.put(key, seen, read_document(body))
+            self.reply(201, {"dot": dot_text(dot), "context": print_context(seen | {dot})})
         elif context is None:
             raise Refused(2)
         else:

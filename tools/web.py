@@ -102,11 +102,11 @@ class Server:
 def check_rows(server):
     told = server.is_told
     told("a key without a sibling is 404, with its context", 404, '{"key":"ada","context":"-","siblings":[]}', "GET", "/keys/ada")
-    told("a put is 201", 201, '{"dot":"1:1"}', "PUT", "/keys/ada", DOCUMENT)
-    told("a blind put becomes a sibling", 201, '{"dot":"1:2"}', "PUT", "/keys/ada", '{ "city" : "Rome" }')
+    told("a put is 201", 201, '{"dot":"1:1","context":"1:1"}', "PUT", "/keys/ada", DOCUMENT)
+    told("a blind put becomes a sibling", 201, '{"dot":"1:2","context":"1:0+2"}', "PUT", "/keys/ada", '{ "city" : "Rome" }')
     told("a get has both, compact", 200, '"context":"1:2","siblings":[{"dot":"1:1","document":{"city":"Oslo","days":3}},'
          '{"dot":"1:2","document":{"city":"Rome"}}]}', "GET", "/keys/ada")
-    told("a put with the context replaces both", 201, '{"dot":"1:3"}', "PUT", "/keys/ada", DOCUMENT, mvd_context="1:2")
+    told("a put with the context replaces both", 201, '{"dot":"1:3","context":"1:3"}', "PUT", "/keys/ada", DOCUMENT, mvd_context="1:2")
     told("escapes are undone", 200, '"key":"ada"', "GET", "/keys/%61da")
     told("an index", 200, '{"places":[{"term":"Oslo","key":"ada","dot":"1:3"}]}', "GET", "/index/city?is=%22Oslo%22")
     told("a part of an index", 200, '"key":"ada"', "GET", "/index/city?from=%22A%22&to=%22Z%22")
@@ -121,6 +121,20 @@ def check_rows(server):
     told("a delete without a context is refused", 400, '{"refused":2,"name":"BadContext"}', "DELETE", "/keys/ada")
     told("a delete is 204", 204, "", "DELETE", "/keys/ada", mvd_context="1:3")
     told("and then nothing is there", 404, '"context":"1:3","siblings":[]', "GET", "/keys/ada")
+
+
+def check_contexts(server):
+    """Each write goes on from what the one before it was told, and leaves what its author had not seen."""
+    seen = "7:2+4,9:1"
+    for number in range(3):
+        status, text, _ = server.ask("PUT", "/keys/again", {"n": number}, mvd_context=seen)
+        seen = json.loads(text)["context"]
+        wanted(f"write {number + 1} is told what its author has seen then", (status, seen) == (201, f"1:{number + 1},7:2+4,9:1"), text)
+    server.ask("PUT", "/keys/again", {"n": "blind"})
+    text = server.ask("PUT", "/keys/again", {"n": 3}, mvd_context=seen)[1]
+    wanted("and nothing that another wrote in between", json.loads(text) == {"dot": "1:5", "context": "1:3+5,7:2+4,9:1"}, text)
+    found = [one["dot"] for one in json.loads(server.ask("GET", "/keys/again")[1])["siblings"]]
+    wanted("which stays beside it", found == ["1:4", "1:5"], found)
 
 
 def check_refusals(server):
@@ -385,7 +399,7 @@ def main():
     with tempfile.TemporaryDirectory() as folder:
         server = Server(folder)
         try:
-            for check in check_rows, check_refusals, check_connections, check_pipelines, check_together:
+            for check in check_rows, check_contexts, check_refusals, check_connections, check_pipelines, check_together:
                 check(server)
             for check in check_table, check_endings, check_no_room:
                 check(folder)

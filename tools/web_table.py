@@ -13,7 +13,7 @@ def by_curl():
     """The path of each request, the words of curl, the status, and a part of the body."""
     rome, last = '{"city":"Rome","days":2}', "1:281474976710655"
     yield "/keys/t", [], 404, '{"key":"t","context":"-","siblings":[]}'
-    yield "/keys/t", put('{ "city": "Rome",\n"days": 2}'), 201, '{"dot":"1:1"}'
+    yield "/keys/t", put('{ "city": "Rome",\n"days": 2}'), 201, '{"dot":"1:1","context":"1:1"}'
     yield "/keys/t", [], 200, '{"key":"t","context":"1:1","siblings":[{"dot":"1:1","document":' + rome + '}]}'
     yield "/keys/%74", [], 200, '"key":"t"'
     yield "/index/city?is=%22Rome%22", [], 200, '{"places":[{"term":"Rome","key":"t","dot":"1:1"}]}'

@@ -1,6 +1,9 @@
 -- What a reply of a site is as a response: its status and its body, by what was asked (statuses of RFC 9110).
 use Rattle.std.specs.Prelude.{ℕ, ◌==◌, ◌≡◌, ◌++◌, ◌⊎◌, if◌then◌else◌, Bool, true, false, List, [], length, Option, Some, None, Result, Ok, Err}
 use Rattle.std.specs.FinMap.{entries}
+use Rattle.std.specs.FinSet as set
+use Rattle.mvd_dots.specs.Context.{DotSet}
+use Rattle.mvd_dots.specs.Dot.{DotValue}
 use Rattle.mvd_dots.specs.declared.refusals.Refusal.{Refusal}
 use Rattle.mvd_dots.specs.declared.refusals.Refusal.TheVariants.{BadKey, BadContext, BadDocument, NotObject, BadNumber, DocumentTooLong, NotCanonical, Exhausted, StateTooLarge, Full, DotClash, NoIndex, NoView, BadPath, BadTerm, Memory, Store, Broken, BadBody, BadKind}
 use Rattle.mvd_docs.specs.declared.term.Term.{Term}
@@ -10,7 +13,7 @@ use Rattle.mvd_wire.specs.declared.reply.RowValue.{RowValue}
 use Rattle.mvd_wire.specs.declared.reply.Reply.{Reply}
 use Rattle.mvd_wire.specs.declared.reply.Reply.TheVariants as reply
 use Rattle.mvd_wire.specs.declared.request.Request.{Request}
-use Rattle.mvd_wire.specs.declared.request.Request.TheVariants.{Get, Row}
+use Rattle.mvd_wire.specs.declared.request.Request.TheVariants.{Get, Put, Row}
 use Rattle.mvd_http.specs.Json.{state_text, written_text, places_text, rows_text, keys_text, row_text, node_text, refused_text}
 
 -- a status and a body
@@ -71,10 +74,19 @@ abbrev pub row_told : Option Term → RowValue → Result Told Refusal
 row_told None row = Err BadKind
 row_told (Some term) row = Ok (ok_told (row_text term row.count row.sum row.ends))
 
+-- what the author of a write had seen
+abbrev pub seen_by : Request → DotSet
+seen_by (Put key seen document) = seen
+seen_by _ = set.empty
+
+-- what its author has seen then: that, and the write's own dot
+abbrev pub seen_then : Request → DotValue → DotSet
+seen_then request dot = set.insert (seen_by request) dot
+
 -- The status and the body, or the refusal that is told in their place. A reply of a kind that answers no such request is 32.
 abbrev pub reply_told : Request → Reply → Result Told Refusal
 reply_told request (reply.State state) = state_told (key_asked request) state
-reply_told request (reply.Written dot) = Ok (record { status = 201; body = written_text dot })
+reply_told request (reply.Written dot) = Ok (record { status = 201; body = written_text dot (seen_then request dot) })
 reply_told request reply.Done = Ok (record { status = 204; body = [] })
 reply_told request (reply.Places places more) = Ok (ok_told (places_text places more))
 reply_told request (reply.Row row) = row_told (term_asked request) row

@@ -6,6 +6,7 @@ use Rattle.std.specs.FinMap.{entries}
 use Rattle.serde_json.specs.Data.{string}
 use Rattle.serde_json.specs.Written.{compact_text}
 use Rattle.hex.specs.Hex.{encode_lower}
+use Rattle.mvd_dots.specs.Context.{DotSet}
 use Rattle.mvd_dots.specs.Dot.{DotValue}
 use Rattle.mvd_dots.specs.Text.{text_of}
 use Rattle.mvd_dots.specs.Refusal.{number_of, name_of}
@@ -88,8 +89,9 @@ abbrev pub state_text : Key → State → List ℕ
 state_text key state =
     codes "{\"key\":" ++ (quoted key ++ (codes ",\"context\":\"" ++ (text_of state.context ++ (codes "\",\"siblings\":[" ++ (siblings_text (entries state.siblings) ++ codes "]}")))))
 
-abbrev pub written_text : DotValue → List ℕ
-written_text dot = codes "{\"dot\":\"" ++ (dot_text dot ++ codes "\"}")
+-- the dot of a write, and the context to write with next
+abbrev pub written_text : DotValue → DotSet → List ℕ
+written_text dot context = codes "{\"dot\":\"" ++ (dot_text dot ++ (codes "\",\"context\":\"" ++ (text_of context ++ codes "\"}")))
 
 -- a page of a list, under its name, and the text for the next page
 abbrev pub page_text : {X : Type 0} → List ℕ → (X → List ℕ) → (X → List ℕ) → List X → Bool → List ℕ

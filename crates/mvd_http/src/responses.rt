@@ -3,7 +3,7 @@ ghost use Rattle.std.specs.Prelude.{◌≡◌, ◌++◌, Ok, OnOk, IfOk, IsOkUnl
 ghost use Rattle.std.specs.List.{flat_map};
 ghost use Rattle.mvd_dots.specs.Text.{text_of};
 ghost use Rattle.mvd_dots.specs.declared.refusals.Refusal.TheVariants.{Memory};
-ghost use Rattle.mvd_http.specs.Answers.{IsTold, Pushes, Responds, found_status as status_found, is_stored as stored, key_asked as asked_key, ok_told, refused_status as status_of, refused_told, reply_told, row_told, state_told, term_asked as asked_term};
+ghost use Rattle.mvd_http.specs.Answers.{IsTold, Pushes, Responds, found_status as status_found, is_stored as stored, key_asked as asked_key, ok_told, refused_status as status_of, refused_told, reply_told, row_told, seen_then as then_seen, state_told, term_asked as asked_term};
 ghost use Rattle.mvd_wire.specs.declared.reply.Reply.TheVariants.{Done};
 ghost use Rattle.mvd_http.specs.Json.{children_text, commaed, digest_text, led, keys_text, node_text, places_text, refused_text, root_text, rows_text, state_text, written_text};
 
@@ -117,7 +117,7 @@ fn push_reply(
 {
     match reply {
         Reply::State(state) => push_found(alloc, key_asked(request), state, out),
-        Reply::Written(dot) => push_written(out, *dot),
+        Reply::Written(dot) => push_written(out, *dot, &seen_then(alloc, request, *dot)?),
         Reply::Done => Ok(204),
         Reply::Places(places, more) => push_places_of(alloc, out, places.as_slice(), *more),
         Reply::Row(row) => push_row_of(alloc, term_asked(request), row, out),
@@ -212,12 +212,27 @@ fn push_state(alloc: Global, key: &Key, state: &KeyState, out: &mut String) -> R
     Ok(())
 }
 
-fn push_written(out: &mut String, dot: Dot) -> Result<u16, Refusal>
-    ensures { Pushes (Ok (record { status = 201; body = written_text dot })) (string_bytes out.old)
+/// What the author of a write has seen once it is made: what it had seen, and the write's own dot.
+fn seen_then(alloc: Global, request: &Request, dot: Dot) -> Result<Context, Refusal>
+    ensures ok { IfOk result (λ seen. seen ≡ then_seen request.now dot) }
+    ensures memory { IsOkUnless result Refusal.Memory }
+{
+    let mut seen = match request {
+        Request::Put(_, seen, _) => seen.copy()?,
+        _ => Context::new(alloc),
+    };
+    seen.add(dot)?;
+    Ok(seen)
+}
+
+fn push_written(out: &mut String, dot: Dot, seen: &Context) -> Result<u16, Refusal>
+    ensures { Pushes (Ok (record { status = 201; body = written_text dot seen.now })) (string_bytes out.old)
         (string_bytes out.new) result }
 {
     push_word(out, "{\"dot\":\"")?;
     push_dot(out, dot)?;
+    push_word(out, "\",\"context\":\"")?;
+    push_context(out, seen)?;
     push_word(out, "\"}")?;
     Ok(201)
 }

@@ -10,7 +10,7 @@ pub const LISTS: &[Row] = &[
         None,
         b"{\"amount\":5,\"city\":\"Oslo\"}",
         201,
-        "{\"dot\":\"1:1\"}",
+        "{\"dot\":\"1:1\",\"context\":\"1:1\"}",
     ),
     (
         "PUT",
@@ -18,7 +18,7 @@ pub const LISTS: &[Row] = &[
         None,
         b"{\"amount\":-7,\"city\":\"Oslo\"}",
         201,
-        "{\"dot\":\"1:2\"}",
+        "{\"dot\":\"1:2\",\"context\":\"1:0+2\"}",
     ),
     (
         "PUT",
@@ -26,7 +26,7 @@ pub const LISTS: &[Row] = &[
         None,
         b"{\"city\":\"Rome\"}",
         201,
-        "{\"dot\":\"1:1\"}",
+        "{\"dot\":\"1:1\",\"context\":\"1:1\"}",
     ),
     (
         "GET",

@@ -1,8 +1,11 @@
 #!/bin/bash
 # Refuses growths of memory, one a run, in each test that is made for it: each run must pass. docs/FAULTS.md has the counts.
-# It runs the proved tests (`rt test` in their crates, or `rt ci`, first), and needs a C compiler.
+# It runs the proved tests (`rt test` in their crates, or `rt ci`, first), and needs a C compiler. And it does the same to
+# the program as a server that is asked one put over HTTP (tools/refused_web.py).
 # usage: tools/faults.sh                each growth of each test
-#        tools/faults.sh --short        each growth of the cheapest test, and each 50th of the others: what the gate runs
+#        tools/faults.sh --short        each growth of the cheapest test and of the put, and each 50th of the others: what the
+#                                       gate runs
+#        tools/faults.sh web            each growth of the server with the put
 #        tools/faults.sh CRATE TEST     each growth of one test
 set -eu
 top=$(cd "$(dirname "$0")/.." && pwd)
@@ -81,10 +84,16 @@ sweep_all() { # STEP: that of all tests but the cheapest
     sweep mvd_site_tests refused_growth::a_refused_allocation_leaves_old_states_or_joins "$1"
 }
 
+web() { # [--short]: the server with one put over HTTP
+    "$top/tools/refused_web.py" "$@" "$top/crates/mvd/out/mvd" "$room/refuse.so" || well=1
+}
+
 well=0
-case $# in
-2) sweep "$1" "$2" ;;
-1) [ "$1" = --short ] || { echo "faults.sh: $1 is no option" >&2; exit 2; }; sweep_all 50 ;;
-*) sweep_all 1 ;;
+case $#:${1:-} in
+2:*) sweep "$1" "$2" ;;
+1:--short) sweep_all 50; web --short ;;
+1:web) web ;;
+1:*) echo "faults.sh: $1 is no option" >&2; exit 2 ;;
+*) sweep_all 1; web ;;
 esac
 exit "$well"

@@ -8,3 +8,4 @@ pub mod ToldLemmas
 pub mod Serving
 pub mod RoundLemmas
 pub mod Runs
+pub mod Growths

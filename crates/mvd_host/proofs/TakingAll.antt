@@ -10,7 +10,7 @@ use Rattle.mvd_wire.specs.Frames.{FrameValue}
 use Rattle.mvd_conn.specs.History.{History}
 use Rattle.mvd_host.specs.Hosts.{IfClient, client_in}
 use Rattle.mvd_host.specs.Course.{Both, own}
-use Rattle.mvd_host.specs.Taking.{AreFaults, Grows, HasFrame, Holds, IsFair, IsIdle, IsMore, IsNone, TakesAll, TakesMore, TakesOf, TakesOn, TakesOnly}
+use Rattle.mvd_host.specs.Taking.{AreFaults, Extends, HasFrame, Holds, IsFair, IsIdle, IsMore, IsNone, TakesAll, TakesMore, TakesOf, TakesOn, TakesOnly}
 use Rattle.mvd_host.specs.declared.taking.Taken.{Taken}
 use Rattle.mvd_host.proofs.Frames.{none_moved, same, takes_on, then_none}
 use Rattle.mvd_host.proofs.Holding.{holds_same}
@@ -180,13 +180,13 @@ none_any : (es : List (ℕ × Refusal)) (client : ℕ) → length es ≡ 0 → l
 none_any [] client none any = true≢false (sym any)
 none_any (e ∷ es) client none any = omega arith
 
-idle_here : (client : ℕ) (new : List (ℕ × History)) (before after : Taken) → IsNone after → Grows before after
+idle_here : (client : ℕ) (new : List (ℕ × History)) (before after : Taken) → IsNone after → Extends before after
     → (IsMore before after ⊎ ((list_any (λ (e : ℕ × Refusal). e.0 == client) before.faults.items ≡ true) ⊎ IfClient (client_in new client) IsIdle)) → IfClient (client_in new client) IsIdle
 idle_here client new before after none grows (inl more) = absurd (omega (arith, none, more))
 idle_here client new before after none grows (inr (inl any)) = absurd (none_any before.faults.items client (let f = grows.faults in omega (arith, none, f)) any)
 idle_here client new before after none grows (inr (inr idle)) = idle
 
-pub idle_all : (ready : List ℕ) (at : ℕ) (mid new : List (ℕ × History)) (before after : Taken) → TakesOf (slice_index ready at) mid new before after → Grows before after → IsNone after
+pub idle_all : (ready : List ℕ) (at : ℕ) (mid new : List (ℕ × History)) (before after : Taken) → TakesOf (slice_index ready at) mid new before after → Extends before after → IsNone after
     → (IsMore before after ⊎ ((list_any (λ (e : ℕ × Refusal). e.0 == slice_index ready at) before.faults.items ≡ true) ⊎ IfClient (client_in new (slice_index ready at)) IsIdle))
     → (IsNone before → (i : ℕ) → i < at → IfClient (client_in mid (slice_index ready i)) IsIdle) → (i : ℕ) → i < at + 1 → IfClient (client_in new (slice_index ready i)) IsIdle
 idle_all ready at mid new before after took grows none ends so_far i below =

@@ -5,3 +5,4 @@ pub mod Taking
 pub mod Queueing
 pub mod Round
 pub mod Runs
+pub mod Grown

@@ -116,6 +116,6 @@ abbrev pub IsNone : Taken → Type 0
 IsNone taken = length taken.clients.items + length taken.faults.items ≡ 0
 
 -- what was taken is there still
-pub record Grows (before after : Taken) : Type 0 where
+pub record Extends (before after : Taken) : Type 0 where
   pub clients : length before.clients.items ≤ length after.clients.items
   pub faults : length before.faults.items ≤ length after.faults.items

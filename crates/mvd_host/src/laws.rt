@@ -2,8 +2,12 @@
 ghost use Rattle.std.specs.Prelude.{◌≡◌, ◌∷◌, ◌++◌, ℕ, List, Some};
 ghost use Rattle.mvd_conn.specs.History.{History};
 ghost use Rattle.mvd_host.specs.Course.{own};
+ghost use Rattle.mvd_host.specs.Grown.{Grows};
 ghost use Rattle.mvd_host.specs.Hosts.{HostValue, client_of, new_host};
+ghost use Rattle.mvd_host.specs.Round.{Round};
 ghost use Rattle.mvd_host.specs.Runs.{Goes, Happening, Moment, OneList, Runs, TellsOwn, after_run, side_of, turns_in};
+ghost use Rattle.mvd_replica.specs.Turns.{Turn};
+ghost use Rattle.mvd_site.specs.Held.{AreHeld};
 ghost use Rattle.sqlite.specs.Held.{Held, state};
 
 use sqlite::Alter;
@@ -21,4 +25,12 @@ pub fn rounds_are_one_list<S: Alter>()
         Runs (state S.Store) (after_run start before) (Goes n host ∷ after) →
         client_of (after_run start before).host n ≡ Some h →
         TellsOwn (own n (turns_in (before ++ Goes n host ∷ after))) h }
+{}
+
+/// Whatever clients ask in a round, and whatever they push, each key's state afterwards includes its state before: what
+/// the site held it holds, or a write that had seen it replaced it.
+pub fn rounds_only_grow<S: Alter>()
+    ensures { (ready : List ℕ) (turns : List (ℕ × Turn)) (old new : Moment (Held S)) → AreHeld old.site.states →
+        Round ready turns (side_of (state S.Store) old) (side_of (state S.Store) new) →
+        Grows old.site.states new.site.states }
 {}

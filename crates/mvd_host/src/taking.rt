@@ -30,7 +30,7 @@ pub(crate) struct Taken {
 impl Taken {
     ghost use Rattle.mvd_host.specs.Course.{own};
     ghost use Rattle.mvd_host.specs.Hosts.{IfClient, client_in};
-    ghost use Rattle.mvd_host.specs.Taking.{EndsTaking, Grows, HasRoom, Holds, IsIdle, Keeps, IsMore, IsNone};
+    ghost use Rattle.mvd_host.specs.Taking.{EndsTaking, Extends, HasRoom, Holds, IsIdle, Keeps, IsMore, IsNone};
     ghost use Rattle.mvd_host.specs.Taking.{Takes, TakesFairly, TakesMore, TakesOf, TakesRequests};
 
     pub(crate) fn new(alloc: Global) -> Taken
@@ -77,7 +77,7 @@ impl Taken {
     ) -> Result<bool, Refusal>
         requires room { HasRoom 1 self.old }
         ensures took { TakesMore client connection.old connection.new self.old self.new }
-        ensures grows { Grows self.old self.new }
+        ensures grows { Extends self.old self.new }
         ensures more { IfOk result (λ more. more ≡ true →
             TakesRequests client connection.old connection.new self.old self.new) }
         ensures one { IfOk result (λ more. more ≡ true →
@@ -109,7 +109,7 @@ impl Taken {
         connection: &mut Connection,
     ) -> Result<(), Refusal>
         ensures took { TakesMore client connection.old connection.new self.old self.new }
-        ensures grows { Grows self.old self.new }
+        ensures grows { Extends self.old self.new }
         ensures end { OnOk result (EndsTaking connection.new self.old self.new) }
     {
         self.make_room()?;
@@ -129,7 +129,7 @@ impl Taken {
         client: u64,
     ) -> bool
         ensures took { TakesOf client clients.old.entries clients.new.entries self.old self.new }
-        ensures grows { Grows self.old self.new }
+        ensures grows { Extends self.old self.new }
         ensures idle { result ≡ false → IsMore self.old self.new
             ⊎ ((list_any (λ fault. fault.0 == client) self.old.faults.items ≡ true)
             ⊎ IfClient (client_in clients.new.entries client) IsIdle) }

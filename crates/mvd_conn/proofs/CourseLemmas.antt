@@ -1,5 +1,5 @@
 -- The frames that are taken follow from the bytes that came.
-use Rattle.std.proofs.Common.{◌≡◌, ℕ, ◌<◌, ◌≤◌, true, eqb, List, [], ◌∷◌, ◌++◌, length, Option, Some, Result, Ok, refl, sym, ap, subst, ◌∙◌, arith, append_assoc, inl, inr}
+use Rattle.std.proofs.Common.{◌≡◌, ℕ, ◌<◌, ◌≤◌, true, eqb, List, [], ◌∷◌, ◌++◌, length, Option, Some, Ok, refl, sym, ap, subst, ◌∙◌, arith, append_assoc, inl, inr}
 use Rattle.std.specs.List.{All}
 use Rattle.std.proofs.lemmas.Bool.{cases_lt, eqb-true}
 use Rattle.std.proofs.lemmas.List.{get_or_past, nil_from_length}
@@ -8,8 +8,7 @@ use Rattle.mvd_keys.proofs.Lists.{and_true}
 use Rattle.mvd_wire.specs.declared.request.Request.TheVariants.{Bye}
 use Rattle.mvd_wire.specs.Requests.{request_of}
 use Rattle.mvd_frames.proofs.RequestLaws.{request_found}
-use Rattle.mvd_dots.specs.declared.refusals.Refusal.{Refusal}
-use Rattle.mvd_wire.specs.Frames.{FrameValue, frame_at}
+use Rattle.mvd_wire.specs.Frames.{FrameValue}
 use Rattle.mvd_wire.proofs.Laws.{IsBytes, ok_is}
 use Rattle.mvd_conn.specs.History.{History, is_bye}
 use Rattle.mvd_conn.specs.Stands.{AreFirst, Stands, spelled}

@@ -1,5 +1,5 @@
 -- What each call keeps of a connection.
-use Rattle.std.proofs.Common.{◌≡◌, ℕ, zero, suc, false, ◌+◌, ◌-◌, ◌*◌, ◌<◌, ◌≤◌, eqb, cond, List, [], ◌∷◌, ◌++◌, length, take, drop, Option, Some, None, refl, sym, ap, subst, ◌∙◌, arith, length-append, inl, inr, Global}
+use Rattle.std.proofs.Common.{◌≡◌, ℕ, zero, suc, Bool, true, false, ◌⊎◌, ◌+◌, ◌-◌, ◌*◌, ◌<◌, ◌≤◌, eqb, cond, List, [], ◌∷◌, ◌++◌, length, take, drop, Option, Some, None, refl, sym, ap, subst, ◌∙◌, arith, length-append, inl, inr, Global}
 use Rattle.bytes.specs.declared.unique.BytesMut.{BytesMut}
 use Rattle.http_server.specs.declared.log.Log.{Log}
 use Rattle.mvd_conn.specs.declared.connection.Connection.TheInside.{Inside}
@@ -13,12 +13,13 @@ use Rattle.mvd_conn.specs.declared.ending.Ending.{Ending}
 use Rattle.mvd_conn.specs.declared.ending.Ending.TheVariants as ending
 use Rattle.mvd_conn.specs.declared.ending.Source.{Source}
 use Rattle.mvd_conn.specs.declared.ending.Source.TheVariants as source
-use Rattle.mvd_conn.specs.History.{History, Stops, Waits, due, fed, frame_most, is_bye, is_held_up, next_of, piece_most, replied, stopped, taking}
+use Rattle.mvd_conn.specs.History.{History, Stops, Waits, due, ends_long, fed, frame_most, is_bye, is_held_up, may_be_long, next_of, piece_most, replied, short_most, stopped, taking}
 use Rattle.mvd_conn.specs.Inside.{IsKept, history_of}
 use Rattle.mvd_conn.specs.Stands.{IsBounded, Stands, frame_of}
 use Rattle.mvd_conn.specs.declared.scan.Found.TheVariants as found
 use Rattle.mvd_conn.specs.Front.{IsFound}
 use Rattle.mvd_conn.proofs.LengthLemmas.{refused_length}
+use Rattle.mvd_conn.proofs.Owing.{ends_long-more, only_short, owed_less, owed_most, owed_none}
 use Rattle.mvd_conn.proofs.StandLemmas.{free_of, stands_closed, stands_fed, stands_replied, stands_stopped, stands_taking, waits_few}
 
 pub kept_closed : (c : Inside) (new : Source) → c.source ≡ source.Open → IsKept c → IsKept (record c { source = new })
@@ -27,6 +28,7 @@ kept_closed c new opened k = record {
   bounded = record { few_held = k.bounded.few_held; few_due = k.bounded.few_due; few_waiting = k.bounded.few_waiting };
   count = k.count;
   due = k.due;
+  long = k.long;
   hand = k.hand;
   whole_hand = k.whole_hand;
   room = k.room;
@@ -62,6 +64,7 @@ kept_fed c input reads bytes going next hand few grown logged k =
       });
       count = k.count;
       due = k.due;
+      long = k.long;
       hand = omega (arith, none);
       whole_hand = inl none;
       room = k.room;
@@ -69,30 +72,33 @@ kept_fed c input reads bytes going next hand few grown logged k =
     }
 
 -- a reply was queued
-replied_history : (c : Inside) (output : BytesMut Global) (replies : Log (BytesMut Global) ℕ) (due : ℕ) (frame : List ℕ) → output.items ≡ c.output.items ++ frame → replies.items ≡ c.replies.items ++ (output, length c.output.items) ∷ []
-    → history_of (record c { output = output; replies = replies; due = due }) ≡ replied (history_of c) frame
-replied_history c output replies due frame grown logged =
+replied_history : (c : Inside) (output : BytesMut Global) (replies : Log (BytesMut Global) ℕ) (large : Bool) (due : ℕ) (frame : List ℕ) → output.items ≡ c.output.items ++ frame → replies.items ≡ c.replies.items ++ (output, length c.output.items) ∷ []
+    → history_of (record c { output = output; grown = large; replies = replies; due = due }) ≡ replied (history_of c) frame
+replied_history c output replies large due frame grown logged =
     let new : drop (length c.output.items) output.items ≡ frame = ap (drop (length c.output.items)) grown ∙ drop_at c.output.items frame (length c.output.items) refl in
     let log = map-append (λ (r : BytesMut Global × ℕ). drop r.1 r.0.items) c.replies.items ((output, length c.output.items) ∷ []) in
     rw (logged, log, new, grown) refl
 
-pub kept_replied : (c : Inside) (output : BytesMut Global) (replies : Log (BytesMut Global) ℕ) (frame : List ℕ) → length (history_of c).answers < length (history_of c).taken → length frame ≤ frame_most
+pub kept_replied : (c : Inside) (output : BytesMut Global) (replies : Log (BytesMut Global) ℕ) (large : Bool) (frame : List ℕ) → length (history_of c).answers < length (history_of c).taken
+    → (length frame ≤ short_most) ⊎ ((due (history_of c) ≡ 1) × (ends_long (history_of c).taken ≡ true) × (length frame ≤ frame_most))
     → output.items ≡ c.output.items ++ frame → replies.items ≡ c.replies.items ++ (output, length c.output.items) ∷ []
-    → 17 * (c.due - 1) ≤ output.spare → (c.last ≡ None → 17 * (c.due - 1) + 6 ≤ output.spare) → IsKept c → IsKept (record c { output = output; replies = replies; due = c.due - 1 })
-kept_replied c output replies frame some few grown logged room last_room k =
-    let same = replied_history c output replies (c.due - 1) frame grown logged in
+    → 17 * (c.due - 1) ≤ output.spare → (c.last ≡ None → 17 * (c.due - 1) + 6 ≤ output.spare) → IsKept c → IsKept (record c { output = output; grown = large; replies = replies; due = c.due - 1 })
+kept_replied c output replies large frame some few grown logged room last_room k =
+    let same = replied_history c output replies large (c.due - 1) frame grown logged in
     let h = history_of c in
     let more : length (h.answers ++ frame ∷ []) ≡ length h.answers + 1 = length-append h.answers (frame ∷ []) in
     let longer : length (h.waits ++ frame) ≡ length h.waits + length frame = length-append h.waits frame in
+    let paid = owed_less (ends_long h.taken) (due (replied h frame)) (due h) (length frame) (omega (arith, some, more)) few in
     record {
       stands = subst Stands (sym same) (stands_replied h frame some k.stands);
       bounded = subst IsBounded (sym same) (record {
         few_held = k.bounded.few_held;
         few_due = omega (arith, k.bounded.few_due, more);
-        few_waiting = omega (arith, k.bounded.few_waiting, more, longer, some, few);
+        few_waiting = omega (arith, k.bounded.few_waiting, longer, paid);
       });
       count = k.count;
       due = subst (λ (t : History). (c.due - 1) + length t.answers ≡ length t.taken) (sym same) (omega (arith, k.due, some, more));
+      long = k.long;
       hand = k.hand;
       whole_hand = k.whole_hand;
       room = room;
@@ -113,51 +119,59 @@ kept_stopped c output refusal free next all grown k =
       bounded = subst IsBounded (sym same) (record {
         few_held = k.bounded.few_held;
         few_due = k.bounded.few_due;
-        few_waiting = omega (arith, open_.waits, all, longer);
+        few_waiting = omega (arith, open_.room, owed_none (ends_long h.taken) (due h) all, longer);
       });
       count = k.count;
       due = k.due;
+      long = k.long;
       hand = k.hand;
       whole_hand = k.whole_hand;
       room = omega (arith, none);
       last_room = λ e. absurd cc;
     }
 
+-- all that came and is not taken is held
+held_all : (c : Inside) → c.hand ≡ 0 → c.input.items ≡ (history_of c).held
+held_all c none = rw none refl
+
 positive : (n : ℕ) → 5 ≤ n → eqb n 0 ≡ false
 positive zero some = absurd (omega (arith, some))
 positive (suc n) some = eqb-suc-zero n
 
 -- a frame was taken in hand
-taken_history : (c : Inside) (output : BytesMut Global) (frames : Log (BytesMut Global) ℕ) (size count due : ℕ) (last : Option Ending) → c.hand ≡ 0 → 5 ≤ size → output.items ≡ c.output.items → frames.items ≡ c.frames.items ++ (c.input, size) ∷ []
+taken_history : (c : Inside) (output : BytesMut Global) (frames : Log (BytesMut Global) ℕ) (size count due : ℕ) (last : Option Ending) (long : Bool) → c.hand ≡ 0 → 5 ≤ size → output.items ≡ c.output.items → frames.items ≡ c.frames.items ++ (c.input, size) ∷ []
     → last ≡ cond (is_bye (frame_of (take size c.input.items))) (Some ending.Bye) c.last
-    → history_of (record c { output = output; frames = frames; hand = size; count = count; due = due; last = last }) ≡ taking (history_of c) (frame_of (take size (history_of c).held)) (drop size (history_of c).held)
-taken_history c output frames size count due last none some same logged is =
+    → history_of (record c { output = output; frames = frames; hand = size; count = count; due = due; last = last; long = long }) ≡ taking (history_of c) (frame_of (take size (history_of c).held)) (drop size (history_of c).held)
+taken_history c output frames size count due last long none some same logged is =
     let log = map-append (λ (r : BytesMut Global × ℕ). frame_of (take r.1 r.0.items)) c.frames.items ((c.input, size) ∷ []) in
     rw (logged, log, same, is, positive size some, none) refl
 
-pub kept_taken : (c : Inside) (output : BytesMut Global) (frames : Log (BytesMut Global) ℕ) (size : ℕ) (last : Option Ending) → is_held_up (history_of c) ≡ false → IsFound (history_of c) (found.Frame size) → (history_of c).hand ≡ None
+pub kept_taken : (c : Inside) (output : BytesMut Global) (frames : Log (BytesMut Global) ℕ) (size : ℕ) (last : Option Ending) (long : Bool) → is_held_up (history_of c) ≡ false → IsFound (history_of c) (found.Frame size) → (history_of c).hand ≡ None
     → output.items ≡ c.output.items → 17 * (c.due + 1) + 6 ≤ output.spare → frames.items ≡ c.frames.items ++ (c.input, size) ∷ [] → last ≡ cond (is_bye (frame_of (take size c.input.items))) (Some ending.Bye) c.last
-    → IsKept c → IsKept (record c { output = output; frames = frames; hand = size; count = c.count + 1; due = c.due + 1; last = last })
-kept_taken c output frames size last free whole_frame hand same room logged is k =
+    → long ≡ may_be_long (frame_of (take size c.input.items)).kind → IsKept c → IsKept (record c { output = output; frames = frames; hand = size; count = c.count + 1; due = c.due + 1; last = last; long = long })
+kept_taken c output frames size last long free whole_frame hand same room logged is is_long k =
     let h = history_of c in
     let f : FrameValue = frame_of (take size h.held) in
     let rest : List ℕ = drop size h.held in
     let none : c.hand ≡ 0 = no_hand c.hand (frame_of (take c.hand c.input.items)) hand in
     let whole = whole_frame.0 in
     let free_ = free_of h free in
-    let now = taken_history c output frames size (c.count + 1) (c.due + 1) last none whole.some same logged is in
+    let now = taken_history c output frames size (c.count + 1) (c.due + 1) last long none whole.some same logged is in
     let held : h.held ≡ spell_frame f ++ rest = sym (take-append-drop size h.held) ∙ ap (λ (t : List ℕ). t ++ rest) whole.spelled in
-    let long : length f.payload + 5 ≡ size = omega (arith, length-drop 5 (take size h.held), length-take size h.held, whole.within, whole.some) in
+    let wide : length f.payload + 5 ≡ size = omega (arith, length-drop 5 (take size h.held), length-take size h.held, whole.within, whole.some) in
     let more : length (h.taken ++ f ∷ []) ≡ length h.taken + 1 = length-append h.taken (f ∷ []) in
+    let short = only_short (ends_long h.taken) (due h) (length h.waits) free_.room in
+    let most = owed_most (ends_long (h.taken ++ f ∷ [])) (due (taking h f rest)) (due h) (omega (arith, more, k.stands.in_turn)) in
     record {
-      stands = subst Stands (sym now) (stands_taking h f rest free_.last held (omega (arith, long, whole.few)) whole_frame.2 k.stands);
+      stands = subst Stands (sym now) (stands_taking h f rest free_.last held (omega (arith, wide, whole.few)) whole_frame.2 k.stands);
       bounded = subst IsBounded (sym now) (record {
-        few_held = omega (arith, long, k.bounded.few_held, length-drop size h.held, whole.within);
-        few_due = omega (arith, free_.due, more);
-        few_waiting = omega (arith, free_.due, free_.waits, more);
+        few_held = omega (arith, wide, k.bounded.few_held, length-drop size h.held, whole.within);
+        few_due = omega (arith, short, more);
+        few_waiting = omega (arith, short, most);
       });
       count = subst (λ (t : History). c.count + 1 ≡ length t.taken) (sym now) (omega (arith, k.count, more));
       due = subst (λ (t : History). (c.due + 1) + length t.answers ≡ length t.taken) (sym now) (omega (arith, k.due, more));
+      long = subst (λ (t : History). long ≡ ends_long t.taken) (sym now) (is_long ∙ ap (λ (t : List ℕ). may_be_long (frame_of (take size t)).kind) (held_all c none) ∙ sym (ends_long-more h.taken f));
       hand = omega (arith, whole.within, none, length-drop c.hand c.input.items);
       whole_hand = inr whole.some;
       room = omega (arith, room);

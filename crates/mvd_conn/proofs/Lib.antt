@@ -2,4 +2,5 @@ pub mod CourseLemmas
 pub mod FrontLemmas
 pub mod KeptLemmas
 pub mod LengthLemmas
+pub mod Owing
 pub mod StandLemmas

@@ -14,7 +14,7 @@ use Rattle.mvd_conn.specs.declared.ending.Source.{Source}
 use Rattle.mvd_conn.specs.declared.ending.Source.TheVariants as source
 use Rattle.mvd_conn.specs.declared.ending.Ending.{Ending}
 use Rattle.mvd_conn.specs.declared.ending.Ending.TheVariants as ending
-use Rattle.mvd_conn.specs.History.{Gives, History, Next, Over, Stops, Waits, due, fed, frame_most, frames_most, is_bye, is_held_up, last_bytes, next_held, next_of, next_of_source, over, replied, stopped, taking, waits_most}
+use Rattle.mvd_conn.specs.History.{Gives, History, Next, Over, Stops, Waits, due, fed, frame_most, frames_most, is_bye, is_held_up, last_bytes, next_held, next_of, next_of_source, over, owed, replied, stopped, taking, waits_most}
 use Rattle.mvd_conn.specs.Stands.{AreFirst, GoOn, IsLast, Stands, spelled}
 
 abbrev pub Fit : List FrameValue → Type 0
@@ -44,15 +44,13 @@ none_of (Some x) e = absurd cc
 -- what it means that nothing holds the connection up
 pub record Free (h : History) : Type 0 where
   pub last : h.last ≡ None
-  pub waits : length h.waits < waits_most
-  pub due : due h < 64
+  pub room : length h.waits + owed h < waits_most
 
 pub free_of : (h : History) → is_held_up h ≡ false → Free h
 free_of h e =
-    let a = or_false (is_some h.last || h.failed || leb waits_most (length h.waits)) (leb 64 (due h)) e in
-    let b = or_false (is_some h.last || h.failed) (leb waits_most (length h.waits)) a.0 in
+    let b = or_false (is_some h.last || h.failed) (leb waits_most (length h.waits + owed h)) e in
     let c = or_false (is_some h.last) h.failed b.0 in
-    record { last = none_of h.last c.0; waits = leb-false _ _ b.1; due = leb-false _ _ a.1 }
+    record { last = none_of h.last c.0; room = leb-false _ _ b.1 }
 
 -- ---- more input
 

@@ -1,5 +1,6 @@
 -- What went through a connection, and what each call makes of it.
-use Rattle.std.specs.Prelude.{◌≡◌, ℕ, ◌-◌, Bool, true, false, ◌==◌, ◌&&◌, ◌||◌, nat_le, if◌then◌else◌, List, [], ◌∷◌, ◌++◌, length, take, drop, Option, Some, None, is_some, Result, Ok, Err}
+use Rattle.std.specs.Prelude.{◌≡◌, ℕ, ◌+◌, ◌*◌, ◌-◌, Bool, true, false, ◌==◌, ◌&&◌, ◌||◌, nat_le, if◌then◌else◌, List, [], ◌∷◌, ◌++◌, length, take, drop, Option, Some, None, is_some, Result, Ok, Err}
+use Rattle.std.specs.List.{last_or}
 use Rattle.mvd_dots.specs.declared.refusals.Refusal.{Refusal}
 use Rattle.mvd_dots.specs.declared.refusals.Refusal.TheVariants.{FrameTooLong, Memory, Truncated, TooManyRequests, WriteFailed}
 use Rattle.mvd_dots.specs.Refusal.{number_of}
@@ -35,11 +36,7 @@ pub record History : Type 0 where
 abbrev pub frames_most : ℕ
 frames_most = 1000000
 
--- as many frames may be taken and not answered
-abbrev pub due_most : ℕ
-due_most = 64
-
--- where as many bytes wait, nothing more is taken and nothing more is wanted
+-- where as many bytes wait or are owed, nothing more is taken, and where as many wait, nothing more is wanted
 abbrev pub waits_most : ℕ
 waits_most = 262144
 
@@ -51,11 +48,35 @@ piece_most = 65536
 abbrev pub frame_most : ℕ
 frame_most = 1200004
 
+-- and a short reply as many
+abbrev pub short_most : ℕ
+short_most = 17
+
 -- ---- what comes next
 
 -- the number of frames that were taken and are not answered
 abbrev pub due : History → ℕ
 due h = length h.taken - length h.answers
+
+-- the reply to a frame of this kind may be as long as a frame: but for a Put, a Delete and a Push, whose replies are short
+abbrev pub may_be_long : ℕ → Bool
+may_be_long kind = if kind == 0x22 then false else (if kind == 0x23 then false else (if kind == 0x29 then false else true))
+
+abbrev pub is_long_last : Option FrameValue → Bool
+is_long_last None = false
+is_long_last (Some f) = may_be_long f.kind
+
+-- the reply to the last frame that was taken may be as long as a frame
+abbrev pub ends_long : List FrameValue → Bool
+ends_long taken = is_long_last (last_or None taken)
+
+-- so many replies have at most as many bytes, of which all are short, or all but the last
+abbrev pub owed_by : Bool → ℕ → ℕ
+owed_by long count = if count == 0 then 0 else (if long then short_most * (count - 1) + frame_most else short_most * count)
+
+-- the replies that are due have at most as many bytes
+abbrev pub owed : History → ℕ
+owed h = owed_by (ends_long h.taken) (due h)
 
 -- the frame of a Bye
 abbrev pub is_bye : FrameValue → Bool
@@ -87,7 +108,7 @@ next_of h = if length h.taken == frames_most then Stops TooManyRequests else nex
 
 -- nothing more is taken, or not before replies are queued or leave
 abbrev pub is_held_up : History → Bool
-is_held_up h = is_some h.last || h.failed || nat_le waits_most (length h.waits) || nat_le due_most (due h)
+is_held_up h = is_some h.last || h.failed || nat_le waits_most (length h.waits + owed h)
 
 -- more bytes are wanted: no whole frame is held, and there is room for replies
 pub record WantsInput (h : History) : Type 0 where

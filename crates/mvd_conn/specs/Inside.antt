@@ -1,7 +1,7 @@
 -- What a connection keeps, and what of it is true.
 use Rattle.std.specs.Prelude.{◌≡◌, ◌+◌, ◌*◌, ◌≤◌, ◌⊎◌, ◌==◌, if◌then◌else◌, length, take, drop, map, flat_map, Some, None}
 use Rattle.mvd_conn.specs.declared.connection.Connection.TheInside.{Inside}
-use Rattle.mvd_conn.specs.History.{History}
+use Rattle.mvd_conn.specs.History.{History, ends_long}
 use Rattle.mvd_conn.specs.Stands.{IsBounded, Stands, frame_of}
 
 abbrev pub history_of : Inside → History
@@ -23,6 +23,7 @@ pub record IsKept (c : Inside) : Type 0 where
   pub bounded : IsBounded (history_of c)
   pub count : c.count ≡ length (history_of c).taken
   pub due : c.due + length (history_of c).answers ≡ length (history_of c).taken
+  pub long : c.long ≡ ends_long (history_of c).taken
   pub hand : c.hand ≤ length c.input.items
   pub whole_hand : (c.hand ≡ 0) ⊎ (5 ≤ c.hand)
   -- room for a short reply to each frame that is due, and for what tells of the end

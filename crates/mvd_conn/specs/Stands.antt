@@ -1,5 +1,5 @@
 -- What is true of every connection.
-use Rattle.std.specs.Prelude.{◌≡◌, ℕ, ◌+◌, ◌*◌, ◌≤◌, ◌⊎◌, true, false, List, [], ◌∷◌, ◌++◌, length, drop, slice_index, flat_map, Option, Some, None, Ok}
+use Rattle.std.specs.Prelude.{◌≡◌, ℕ, ◌+◌, ◌≤◌, ◌⊎◌, true, false, List, [], ◌∷◌, ◌++◌, length, drop, slice_index, flat_map, Option, Some, None, Ok}
 use Rattle.std.specs.List.{AllByRecursion, concat}
 use Rattle.mvd_dots.specs.declared.refusals.Refusal.TheVariants.{Memory}
 use Rattle.mvd_wire.specs.declared.reply.Reply.{Reply}
@@ -8,7 +8,7 @@ use Rattle.mvd_wire.specs.Frames.{FrameValue, frame_at, frame_limit, spell_frame
 use Rattle.mvd_wire.specs.Replies.{is_short}
 use Rattle.mvd_conn.specs.declared.ending.Ending.{Ending}
 use Rattle.mvd_conn.specs.declared.ending.Ending.TheVariants as ending
-use Rattle.mvd_conn.specs.History.{History, Over, Stops, due, due_most, frame_most, frames_most, is_bye, last_bytes, next_of}
+use Rattle.mvd_conn.specs.History.{History, Over, Stops, due, frames_most, is_bye, last_bytes, next_of, owed}
 
 -- the frame that these bytes spell
 abbrev pub frame_of : List ℕ → FrameValue
@@ -53,9 +53,13 @@ pub record Stands (h : History) : Type 0 where
 abbrev pub held_most : ℕ
 held_most = 1265539
 
--- 262,143 bytes and 64 replies
+-- 262,143 bytes, and the longest reply
 abbrev pub queue_most : ℕ
-queue_most = 77062399
+queue_most = 1462147
+
+-- as many short replies have 262,144 bytes or more
+abbrev pub due_most : ℕ
+due_most = 15421
 
 -- the length of the frame in hand
 abbrev pub hand_length : Option FrameValue → ℕ
@@ -65,7 +69,7 @@ hand_length (Some f) = 5 + length f.payload
 pub record IsBounded (h : History) : Type 0 where
   pub few_held : hand_length h.hand + length h.held ≤ held_most
   pub few_due : due h ≤ due_most
-  pub few_waiting : length h.waits + frame_most * due h ≤ queue_most
+  pub few_waiting : length h.waits + owed h ≤ queue_most
 
 -- the reply that is queued: want of memory may stand in place of one that has no short frame
 abbrev pub IsQueued : Reply → Reply → Type 0

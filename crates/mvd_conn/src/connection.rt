@@ -1,12 +1,12 @@
 //! One connection: from the bytes that came to the bytes that leave.
-ghost use Rattle.std.specs.Prelude.{◌≡◌, ◌≤◌, ◌<◌, ◌==◌, ◌↔◌, ◌⊎◌, if◌then◌else◌, length, take, drop, true, false, None, IsTrue, IfOk, IfErr, OnOk, option_map};
+ghost use Rattle.std.specs.Prelude.{◌≡◌, ◌≤◌, ◌<◌, ◌==◌, ◌↔◌, ◌⊎◌, if◌then◌else◌, [], length, take, drop, true, false, None, IsTrue, IfOk, IfErr, OnOk, option_map};
 ghost use Rattle.mvd_dots.specs.declared.refusals.Refusal.TheVariants as Refusal;
 ghost use Rattle.mvd_wire.specs.declared.reply.Reply.{Reply};
 ghost use Rattle.mvd_wire.specs.Replies.{CanBeSent, reply_bytes};
 
 use crate::ending::{Ending, Source};
 use crate::room::make_room;
-use crate::scan::{Found, Front, front_of, last_after};
+use crate::scan::{Found, Front, front_of, last_after, may_be_long};
 use bytes::BytesMut;
 use http_server::Log;
 use mvd_dots::Refusal;
@@ -18,14 +18,14 @@ use std::marker::Model;
 /// As many frames of a connection are taken.
 pub const FRAMES_MAX: u32 = 1_000_000;
 
-/// As many frames may be taken and not answered.
-pub const DUE_MAX: u32 = 64;
-
-/// Where as many bytes wait to leave, no frame is taken and no input is wanted.
+/// Where as many bytes wait to leave, no input is wanted; and no frame is taken where as many wait or are owed.
 pub const WAITS_MAX: usize = 262_144;
 
 /// As many bytes may come at once.
 pub const PIECE_MAX: usize = 65_536;
+
+/// The longest reply, in bytes.
+const FRAME_MAX: usize = 1_200_004;
 
 /// The longest short reply, in bytes.
 const SHORT_MAX: usize = 17;
@@ -42,9 +42,13 @@ pub struct Connection {
     /// The length of the frame in hand, or 0.
     hand: usize,
     output: BytesMut,
+    /// Whether a long reply was put into the output since that was last empty.
+    grown: bool,
     /// The number of frames taken, and of those that are not answered.
     count: u32,
     due: u32,
+    /// Whether the reply to the last frame that was taken may be long.
+    long: bool,
     source: Source,
     last: Option<Ending>,
     failed: bool,
@@ -71,7 +75,7 @@ impl Model for Connection {
 }
 
 impl Connection {
-    ghost use Rattle.mvd_conn.specs.History.{NextRefused, Over, Stops, WantsInput, after_next, closed, cut, due, ending_of, fed, frame_most, is_done, is_held_up, new_history, next_of, over, piece_most, released, replied, sent, stopped};
+    ghost use Rattle.mvd_conn.specs.History.{NextRefused, Over, Stops, WantsInput, after_next, closed, cut, due, ending_of, ends_long, fed, frame_most, is_done, is_held_up, new_history, next_of, over, owed, piece_most, released, replied, sent, stopped};
     ghost use Rattle.mvd_conn.specs.Stands.{IsBounded, IsQueued, Stands};
     ghost use Rattle.mvd_conn.specs.Front.{IsFound, Takes};
     ghost use Rattle.mvd_conn.specs.declared.scan.Found.TheVariants as Found;
@@ -89,8 +93,10 @@ impl Connection {
             input,
             hand: 0,
             output,
+            grown: false,
             count: 0,
             due: 0,
+            long: false,
             source: Source::Open,
             last: None,
             failed: false,
@@ -172,8 +178,8 @@ impl Connection {
         Some((bytes[4], &bytes[5..]))
     }
 
-    /// Queues the reply to the first frame that has none. A Written, a Done and a Refused need no memory; where it is
-    /// refused for any other reply, a Refused with that is queued in its place.
+    /// Queues the reply to the first frame that has none. A Written, a Done and a Refused need no memory. Where it is
+    /// refused for any other reply, or there is no room for a long one, a Refused with that is queued in its place.
     pub fn reply(&mut self, reply: &Reply)
         requires due { length self.old.answers < length self.old.taken }
         requires fits { CanBeSent reply.now }
@@ -183,7 +189,9 @@ impl Connection {
             self.queue_short(short.bytes());
             return;
         }
-        if let Ok(bytes) = encode_reply(self.alloc, reply)
+        if self.long
+            && self.due == 1
+            && let Ok(bytes) = encode_reply(self.alloc, reply)
             && self.queue(&bytes)
         {
             return;
@@ -205,6 +213,9 @@ impl Connection {
     {
         self.writes = self.writes.and(&self.output, &count);
         self.output.advance(count);
+        if self.grown && self.due == 0 && self.output.is_empty() {
+            self.shrink();
+        }
     }
 
     /// Tells that the writer failed: no further frame is taken.
@@ -254,10 +265,36 @@ impl Connection {
         }
     }
 
+    /// Gives the memory of a long reply back, where there is memory for an output without it.
+    fn shrink(&mut self)
+        requires empty { self.old.waits ≡ [] }
+        requires answered { due self.old ≡ 0 }
+        ensures { self.new ≡ self.old }
+    {
+        if let Ok(output) = BytesMut::with_capacity(self.alloc, SHORT_MAX) {
+            self.output = output;
+            self.grown = false;
+        }
+    }
+
+    /// As many bytes the replies that are due have at most.
+    fn owed(&self) -> usize
+        ensures { result ≡ owed self.now }
+    {
+        let due = self.due as usize;
+        if due == 0 {
+            0
+        } else if self.long {
+            SHORT_MAX * (due - 1) + FRAME_MAX
+        } else {
+            SHORT_MAX * due
+        }
+    }
+
     fn is_held_up(&self) -> bool
         ensures { result ≡ is_held_up self.now }
     {
-        self.last.is_some() || self.failed || self.output.len() >= WAITS_MAX || self.due >= DUE_MAX
+        self.last.is_some() || self.failed || self.output.len() + self.owed() >= WAITS_MAX
     }
 
     /// What comes next.
@@ -293,6 +330,7 @@ impl Connection {
         make_room(&mut self.output, room)?;
         let frame = &self.input.as_slice()[..size];
         self.last = last_after(frame[4], &frame[5..], self.last);
+        self.long = may_be_long(frame[4]);
         self.frames = self.frames.and(&self.input, &size);
         self.hand = size;
         self.count += 1;
@@ -333,21 +371,22 @@ impl Connection {
         self.due -= 1;
     }
 
-    /// Queues the frame of a reply, where there is memory for it.
+    /// Queues the frame of the one reply that is due and may be long, where there is memory for it.
     fn queue(&mut self, frame: &[u8]) -> bool
-        requires due { length self.old.answers < length self.old.taken }
+        requires due { due self.old ≡ 1 }
+        requires long { ends_long self.old.taken ≡ true }
         requires few { length frame.now ≤ frame_most }
         ensures yes { result ≡ true → self.new ≡ replied self.old frame.now }
         ensures no { result ≡ false → self.new ≡ self.old }
     {
-        let room = frame.len() + SHORT_MAX * self.due as usize + LAST_MAX;
-        match make_room(&mut self.output, room) {
+        match make_room(&mut self.output, frame.len() + LAST_MAX) {
             Ok(()) => {}
             Err(_) => return false,
         }
         let at = self.output.len();
         self.output.extend_reserved(frame);
         self.replies = self.replies.and(&self.output, &at);
+        self.grown = self.grown || frame.len() > PIECE_MAX;
         self.due -= 1;
         true
     }

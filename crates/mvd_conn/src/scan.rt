@@ -1,7 +1,7 @@
 //! What stands at the front of the input.
 ghost use Rattle.std.specs.Prelude.{◌≡◌, if◌then◌else◌, Some};
 ghost use Rattle.mvd_conn.specs.declared.ending.Ending.TheVariants as Ending;
-ghost use Rattle.mvd_conn.specs.History.{is_bye};
+ghost use Rattle.mvd_conn.specs.History.{is_bye, may_be_long};
 ghost use Rattle.mvd_conn.specs.Front.{IsFront};
 
 use crate::ending::Ending;
@@ -60,4 +60,11 @@ pub(crate) fn last_after(kind: u8, payload: &[u8], last: Option<Ending>) -> Opti
     } else {
         last
     }
+}
+
+/// Whether the reply to a frame of this kind may be as long as a frame. That to a Put, a Delete or a Push is short.
+pub(crate) fn may_be_long(kind: u8) -> bool
+    ensures { result ≡ may_be_long kind }
+{
+    !matches!(kind, 0x22 | 0x23 | 0x29)
 }

@@ -13,6 +13,7 @@ invariant_of-self-2 c =
     let bytes : List ℕ = take c.args.size c.self.inside.input.items in
     let all : take (length bytes - 5) (drop 5 bytes) ≡ drop 5 bytes = take_all (length bytes - 5) (drop 5 bytes) (omega (arith, length-drop 5 bytes)) in
     let last = (rw c.as_slice.ensures at c.last_after-self-inside.ensures) ∙ ap (λ (t : List ℕ). cond (is_bye (record { kind = slice_index bytes 4; payload = t })) (Some ending.Bye) c.self.inside.last) all in
-    kept_taken c.self.inside c.make_room.new.buffer c.and-self-inside.result c.args.size c.last_after-self-inside.result
+    let long = (rw c.as_slice.ensures at c.may_be_long-self-inside.ensures) in
+    kept_taken c.self.inside c.make_room.new.buffer c.and-self-inside.result c.args.size c.last_after-self-inside.result c.may_be_long-self-inside.result
     (ap is_held_up is ∙ c.requires.free) (subst (λ (h : History). IsFound h (found.Frame c.args.size)) (sym is) c.requires.found) (ap (λ (h : History). h.hand) is ∙ c.requires.idle)
-    c.make_room.ensures.items c.in_ok-make_room.ensures.spare.1 c.and-self-inside.ensures last c.self.invariant
+    c.make_room.ensures.items c.in_ok-make_room.ensures.spare.1 c.and-self-inside.ensures last long c.self.invariant

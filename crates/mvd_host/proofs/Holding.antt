@@ -80,6 +80,14 @@ kept_more client h k before between after same more = record {
   holds = λ asked faults holds. more.holds asked faults (record { clients = same.clients ∙ holds.clients; requests_are = same.requests ∙ holds.requests_are; faults = subst (AreFaults faults) (sym same.faults) holds.faults });
 }
 
+pub kept_requests : (client : ℕ) (h k : History) (before between after : Taken) → Keeps before between → TakesRequests client h k between after → TakesRequests client h k before after
+unfolding kept_more
+kept_requests client h k before between after same one = record {
+  took = kept_more client h k before between after same one.took;
+  none = one.none;
+  faults = one.faults ∙ same.faults;
+}
+
 pub kept_nothing : (client : ℕ) (h k : History) (before after : Taken) → Keeps before after → TakesOn [] [] h k → TakesMore client h k before after
 kept_nothing client h k before after same none = record {
   requests = [];

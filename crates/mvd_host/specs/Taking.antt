@@ -46,10 +46,10 @@ pub record TakesMore (client : ℕ) (old new : History) (before after : Taken) :
   pub holds : (asked : List (ℕ × Request)) (faults : List (ℕ × FrameValue)) → Holds asked faults before →
       Holds (asked ++ map (λ r. (client, r)) requests) (faults ++ map (λ f. (client, f)) faulty) after
 
--- there is room for so many requests, and for one frame that is none
-pub record HasRoom (n : ℕ) (taken : Taken) : Type 0 where
-  pub clients : vec_len taken.clients + n ≤ vec_capacity taken.clients
-  pub requests : vec_len taken.requests + n ≤ vec_capacity taken.requests
+-- there is room for one frame more
+pub record HasRoom (taken : Taken) : Type 0 where
+  pub clients : vec_len taken.clients + 1 ≤ vec_capacity taken.clients
+  pub requests : vec_len taken.requests + 1 ≤ vec_capacity taken.requests
   pub faults : vec_len taken.faults + 1 ≤ vec_capacity taken.faults
 
 -- what was taken is the same

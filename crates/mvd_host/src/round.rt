@@ -13,7 +13,7 @@ use sqlite::Alter;
 impl Host {
     ghost use Rattle.mvd_host.specs.Round.{GoesForward, Round, side_of};
 
-    /// Takes at most 64 frames of each ready client, answers them together, queues each reply on its own client's
+    /// Takes at most 1,024 frames of each ready client, answers them together, queues each reply on its own client's
     /// connection, and counts what was done and refused. Gives whether there may be more to do at once: after `false`
     /// no frame can be taken of a ready client now, and after `true` some was. It is refused where memory was for a
     /// frame; what else was taken is answered.

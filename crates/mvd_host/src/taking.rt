@@ -15,8 +15,8 @@ use mvd_wire::Request;
 use std::alloc::{AllocError, Global};
 use std::collections::BTreeMap;
 
-/// As many frames of a client are taken in one round.
-const FRAMES_MAX: usize = 64;
+/// As many frames of a client are taken in one round: as many as share a commit.
+const FRAMES_MAX: usize = 1_024;
 
 /// The frames that were taken: requests, each with its client, and then those that are none, or that were refused
 /// memory. A client has at most one of these, which is its last.
@@ -57,13 +57,13 @@ impl Taken {
         self.faults.iter().any(|fault| fault.0 == client)
     }
 
-    /// Makes room for the frames of one client.
+    /// Makes room for one frame more.
     fn make_room(&mut self) -> Result<(), AllocError>
         ensures same { Keeps self.old self.new }
-        ensures room { OnOk result (HasRoom 64 self.new) }
+        ensures room { OnOk result (HasRoom self.new) }
     {
-        self.clients.reserve(FRAMES_MAX)?;
-        self.requests.reserve(FRAMES_MAX)?;
+        self.clients.reserve(1)?;
+        self.requests.reserve(1)?;
         self.faults.reserve(1)
     }
 
@@ -75,14 +75,13 @@ impl Taken {
         client: u64,
         connection: &mut Connection,
     ) -> Result<bool, Refusal>
-        requires room { HasRoom 1 self.old }
+        requires room { HasRoom self.old }
         ensures took { TakesMore client connection.old connection.new self.old self.new }
         ensures grows { Extends self.old self.new }
         ensures more { IfOk result (λ more. more ≡ true →
             TakesRequests client connection.old connection.new self.old self.new) }
         ensures one { IfOk result (λ more. more ≡ true →
             length self.new.clients.items ≡ length self.old.clients.items + 1) }
-        ensures room { (n : ℕ) → HasRoom (n + 1) self.old → IfOk result (λ more. more ≡ true → HasRoom n self.new) }
         ensures end { IfOk result (λ more. more ≡ false → EndsTaking connection.new self.old self.new) }
     {
         if !connection.next()? {
@@ -101,7 +100,8 @@ impl Taken {
         }
     }
 
-    /// Takes frames of a client, until there is none, or one that is no request.
+    /// Takes frames of a client, until there is none, or one that is no request, or as many were taken as may be. Its
+    /// connection gives none once the replies to those that were taken may fill what it lets wait.
     fn take(
         &mut self,
         alloc: Global,
@@ -112,8 +112,8 @@ impl Taken {
         ensures grows { Extends self.old self.new }
         ensures end { OnOk result (EndsTaking connection.new self.old self.new) }
     {
-        self.make_room()?;
         for _frame in 0..FRAMES_MAX {
+            self.make_room()?;
             if !self.take_one(alloc, client, connection)? {
                 return Ok(());
             }

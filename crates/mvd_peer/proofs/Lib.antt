@@ -3,3 +3,4 @@ pub mod Pushes
 pub mod OneByOne
 pub mod SiteSides
 pub mod ManyPushes
+pub mod Growths

@@ -2,3 +2,4 @@ pub mod PushedStates
 pub mod Sides
 pub mod PeerSides
 pub mod Windows
+pub mod Live

@@ -1,6 +1,6 @@
 //! Sessions of two servers, and what is told of them.
-ghost use Rattle.std.specs.Prelude.{◌<◌, ◌≤◌, None, []};
-ghost use Rattle.std.specs.FinMap.{empty};
+ghost use Rattle.std.specs.Prelude.{◌<◌, ◌≤◌, None};
+ghost use Rattle.mvd_remote.specs.Lines.{nowhere};
 
 use mvd_client::{Root, Watched, meet_over, root_over, tell_meeting};
 use mvd_docs::Document;
@@ -45,7 +45,7 @@ impl Line for Near {
 
     ghost is_true = { λ _. ⊥ };
 
-    ghost far = { λ _. record { states = empty; due = []; most = 0 } };
+    ghost far = { λ _. nowhere };
 
     ghost in_form = { λ _ never. absurd never };
 

@@ -3,13 +3,15 @@ use Rattle.std.proofs.Common.{◌≡◌, ◌⊎◌, inl, inr, ℕ, Option, sym, 
 use Rattle.std.specs.Prelude.{Result, Ok, Err, IfOk}
 use Rattle.mvd_dots.specs.declared.refusals.Refusal.{Refusal}
 use Rattle.mvd_wire.specs.declared.request.Request.TheVariants.{Bye}
-use Rattle.mvd_wire.specs.declared.reply.Reply.TheVariants.{Done}
+use Rattle.mvd_wire.specs.declared.reply.Reply.{Reply}
+use Rattle.mvd_wire.specs.declared.reply.Reply.TheVariants.{Done, Refused}
 use Rattle.mvd_client.specs.Synced.{FollowsPushed}
 use Rattle.mvd_replica.specs.Replicas.{stored_of}
 use Rattle.mvd_replica.specs.Sides.{side_follows_self}
 use Rattle.mvd_replica.specs.declared.replica.Replica.{Replica}
+use Rattle.mvd_site.specs.Config.{ConfigValue}
 use Rattle.mvd_site.specs.Held.{States}
-use Rattle.mvd_remote.specs.Lines.{AnswersTruly}
+use Rattle.mvd_remote.specs.Lines.{AnswersTruly, SiteReplies}
 use Rattle.mvd_sync.specs.Session.{HasJoined}
 use Rattle.mvd_sync.specs.declared.report.Report.{Report}
 use Rattle.mvd_sync.specs.declared.report.SyncFault.{SyncFault}
@@ -21,12 +23,17 @@ pub pushed_none : {S : Type 0} {g : Ghosts S} (replica : Replica S g) → Follow
 pushed_none replica = side_follows_self (stored_of replica)
 
 -- a Bye changes nothing at the other end
-pub bye_keeps : (most : ℕ) (old new : States) (result : Result (Unit {0}) Refusal) → AnswersTruly (λ _. Done) most old Bye result new → new ≡ old
-bye_keeps most old new (Ok done) h = h
-bye_keeps most old new (Err refusal) (inl h) = h
-bye_keeps most old new (Err refusal) (inr (inl h)) = h.1
-bye_keeps most old new (Err refusal) (inr (inr (e, inl same))) = same
-bye_keeps most old new (Err refusal) (inr (inr (e, inr h))) = h.1
+bye_replied : (config : ConfigValue) (old new : States) (reply : Reply) → SiteReplies config old Bye reply new → new ≡ old
+bye_replied config old new reply (inl h) = h.1
+bye_replied config old new reply (inr (refusal, is, own, inl same)) = same
+bye_replied config old new reply (inr (refusal, is, own, inr broke)) = broke.1
+
+pub bye_keeps : (config : ConfigValue) (old new : States) (result : Result (Unit {0}) Refusal) → AnswersTruly (λ _. Done) config old Bye result new → new ≡ old
+bye_keeps config old new (Ok done) h = bye_replied config old new Done h
+bye_keeps config old new (Err refusal) (inl h) = bye_replied config old new (Refused refusal) h
+bye_keeps config old new (Err refusal) (inr (inl h)) = h.1
+bye_keeps config old new (Err refusal) (inr (inr (e, inl same))) = same
+bye_keeps config old new (Err refusal) (inr (inr (e, inr h))) = bye_replied config old new h.0 h.1
 
 -- what two sides came to have, they have after it
 pub after_bye : (local_true peer_true later_true : Type 0) (most_local most_peer : ℕ) (number : Option ℕ) (a b a' b' b'' : States) (result told : Result Report SyncFault) (m : MeetsBy local_true peer_true most_local most_peer number a b a' b' result) → peer_true → b'' ≡ b' → IfOk told (ReportsDoneBy most_local most_peer number a b m.joined m.given) → MeetsBy local_true later_true most_local most_peer number a b a' b'' told

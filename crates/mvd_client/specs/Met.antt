@@ -25,8 +25,8 @@ MeetsFars near_line far_line near near' far far' result =
     let theirs = far_of far_line.far far in
     Meets (record {
       held = record { local = mine.states; peer = theirs.states };
-      most_local = mine.most;
-      most_peer = theirs.most;
+      most_local = mine.config.max_keys;
+      most_peer = theirs.config.max_keys;
       number = None;
     }) (record {
       held = record { local = (far_of near_line.far near').states; peer = (far_of far_line.far far').states };

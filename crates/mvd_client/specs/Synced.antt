@@ -23,7 +23,7 @@ module _ {S : Type 0} {g : Ghosts S} {L : Type 0} (is_true : L → Type 0) (far 
       Meets (record {
         held = record { local = (site_of old).states; peer = (far_of far before).states };
         most_local = (site_of old).config.max_keys;
-        most_peer = (far_of far before).most;
+        most_peer = (far_of far before).config.max_keys;
         number = Some (site_of old).config.site;
       }) (record {
         held = record { local = (site_of new).states; peer = (far_of far after).states };

@@ -1,6 +1,6 @@
 //! A connection to a server that stays open from one session to the next.
-ghost use Rattle.std.specs.Prelude.{None, []};
-ghost use Rattle.std.specs.FinMap.{empty};
+ghost use Rattle.std.specs.Prelude.{None};
+ghost use Rattle.mvd_remote.specs.Lines.{nowhere};
 
 use mvd_dots::Refusal;
 use mvd_frames::{read_frame, write_frame};
@@ -36,7 +36,7 @@ impl<T: Read + Write + Drop> Line for Wire<T> {
     // No truth is claimed of a stream.
     ghost is_true = { λ _. ⊥ };
 
-    ghost far = { λ _. record { states = empty; due = []; most = 0 } };
+    ghost far = { λ _. nowhere };
 
     ghost in_form = { λ _ never. absurd never };
 

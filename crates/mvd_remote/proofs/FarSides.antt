@@ -14,6 +14,7 @@ use Rattle.mvd_wire.specs.Codecs.{spell_state, state_limit}
 use Rattle.mvd_wire.specs.Frames.{frame_limit, spell_frame}
 use Rattle.mvd_wire.specs.Requests.{framed as frame_within, push, request_frame}
 use Rattle.mvd_site.specs.Answer.{is_too_large}
+use Rattle.mvd_site.specs.Config.{ConfigValue}
 use Rattle.mvd_site.specs.Held.{States}
 use Rattle.mvd_remote.specs.Lines.{AnswersTruly, EndsOpen, SettleTruly, SettlesTruly, TrueReplies, TrueReply, and_framed, framed}
 use Rattle.mvd_peer.specs.PushedStates.{pushed}
@@ -25,8 +26,8 @@ use Rattle.mvd_peer.proofs.ManyPushes.{open_not_of_key}
 
 -- what is so of a request that changes nothing, and is refused so
 pub record IsQuestion (q : Request) (May : Refusal → Type 0) : Type 0 where
-  pub keeps : (most : ℕ) (old : States) (r : Reply) (new : States) → TrueReply most old q r new → new ≡ old
-  pub refuses : (most : ℕ) (old : States) (refusal : Refusal) (new : States) → TrueReply most old q (reply.Refused refusal) new → May refusal
+  pub keeps : (config : ConfigValue) (old : States) (r : Reply) (new : States) → TrueReply config old q r new → new ≡ old
+  pub refuses : (config : ConfigValue) (old : States) (refusal : Refusal) (new : States) → TrueReply config old q (reply.Refused refusal) new → May refusal
   pub unframed : (refusal : Refusal) → request_frame q ≡ Err refusal → May refusal
   pub unsure : (refusal : Refusal) → leaves_open refusal ≡ true → May refusal
 
@@ -36,38 +37,38 @@ too_long kind payload refusal e = elim (nat_le (length payload + 1) frame_limit)
   | false ↦ λ e. cc
 ] e
 
-get_keeps : (key : Key) (most : ℕ) (old : States) (r : Reply) (new : States) → TrueReply most old (Get key) r new → new ≡ old
-get_keeps key most old (reply.State s) new h = h.1
-get_keeps key most old (reply.Refused refusal) new h = h.1
-get_keeps key most old (reply.Written d) new h = absurd h
-get_keeps key most old reply.Done new h = absurd h
-get_keeps key most old (reply.Places ps more) new h = absurd h
-get_keeps key most old (reply.Row r) new h = absurd h
-get_keeps key most old (reply.Rows rs more) new h = absurd h
-get_keeps key most old (reply.Digests d) new h = absurd h
-get_keeps key most old (reply.Keys ks more) new h = absurd h
+get_keeps : (key : Key) (config : ConfigValue) (old : States) (r : Reply) (new : States) → TrueReply config old (Get key) r new → new ≡ old
+get_keeps key config old (reply.State s) new h = h.1
+get_keeps key config old (reply.Refused refusal) new h = h.1
+get_keeps key config old (reply.Written d) new h = absurd h
+get_keeps key config old reply.Done new h = absurd h
+get_keeps key config old (reply.Places ps more) new h = absurd h
+get_keeps key config old (reply.Row r) new h = absurd h
+get_keeps key config old (reply.Rows rs more) new h = absurd h
+get_keeps key config old (reply.Digests d) new h = absurd h
+get_keeps key config old (reply.Keys ks more) new h = absurd h
 
-node_keeps : (path : List ℕ) (most : ℕ) (old : States) (r : Reply) (new : States) → TrueReply most old (Node path) r new → new ≡ old
-node_keeps path most old (reply.Digests d) new h = h.1
-node_keeps path most old (reply.Refused refusal) new h = h.1
-node_keeps path most old (reply.State s) new h = absurd h
-node_keeps path most old (reply.Written d) new h = absurd h
-node_keeps path most old reply.Done new h = absurd h
-node_keeps path most old (reply.Places ps more) new h = absurd h
-node_keeps path most old (reply.Row r) new h = absurd h
-node_keeps path most old (reply.Rows rs more) new h = absurd h
-node_keeps path most old (reply.Keys ks more) new h = absurd h
+node_keeps : (path : List ℕ) (config : ConfigValue) (old : States) (r : Reply) (new : States) → TrueReply config old (Node path) r new → new ≡ old
+node_keeps path config old (reply.Digests d) new h = h.1
+node_keeps path config old (reply.Refused refusal) new h = h.1
+node_keeps path config old (reply.State s) new h = absurd h
+node_keeps path config old (reply.Written d) new h = absurd h
+node_keeps path config old reply.Done new h = absurd h
+node_keeps path config old (reply.Places ps more) new h = absurd h
+node_keeps path config old (reply.Row r) new h = absurd h
+node_keeps path config old (reply.Rows rs more) new h = absurd h
+node_keeps path config old (reply.Keys ks more) new h = absurd h
 
-bucket_keeps : (path : List ℕ) (after : Option Key) (most : ℕ) (old : States) (r : Reply) (new : States) → TrueReply most old (Bucket path after) r new → new ≡ old
-bucket_keeps path after most old (reply.Keys ks more) new h = h.2
-bucket_keeps path after most old (reply.Refused refusal) new h = h.1
-bucket_keeps path after most old (reply.State s) new h = absurd h
-bucket_keeps path after most old (reply.Written d) new h = absurd h
-bucket_keeps path after most old reply.Done new h = absurd h
-bucket_keeps path after most old (reply.Places ps more) new h = absurd h
-bucket_keeps path after most old (reply.Row r) new h = absurd h
-bucket_keeps path after most old (reply.Rows rs more) new h = absurd h
-bucket_keeps path after most old (reply.Digests d) new h = absurd h
+bucket_keeps : (path : List ℕ) (after : Option Key) (config : ConfigValue) (old : States) (r : Reply) (new : States) → TrueReply config old (Bucket path after) r new → new ≡ old
+bucket_keeps path after config old (reply.Keys ks more) new h = h.2
+bucket_keeps path after config old (reply.Refused refusal) new h = h.1
+bucket_keeps path after config old (reply.State s) new h = absurd h
+bucket_keeps path after config old (reply.Written d) new h = absurd h
+bucket_keeps path after config old reply.Done new h = absurd h
+bucket_keeps path after config old (reply.Places ps more) new h = absurd h
+bucket_keeps path after config old (reply.Row r) new h = absurd h
+bucket_keeps path after config old (reply.Rows rs more) new h = absurd h
+bucket_keeps path after config old (reply.Digests d) new h = absurd h
 
 -- a refusal that leaves open whether something was done is of no path
 open_page : (path : List ℕ) (refusal : Refusal) → leaves_open refusal ≡ true → RefusesPage path refusal
@@ -78,110 +79,110 @@ open_page path DotClash e = absurd (cc)
 open_page path refusal e = refl
 
 pub get_asks : (key : Key) → IsQuestion (Get key) (λ refusal. is_of_question refusal ≡ false)
-get_asks key = record { keeps = get_keeps key; refuses = λ most old refusal new h. h.0; unframed = λ refusal e. ap is_of_question (too_long _ _ refusal e); unsure = open_not_of_key }
+get_asks key = record { keeps = get_keeps key; refuses = λ config old refusal new h. h.0; unframed = λ refusal e. ap is_of_question (too_long _ _ refusal e); unsure = open_not_of_key }
 
 pub node_asks : (path : List ℕ) → IsQuestion (Node path) (λ refusal. is_of_question refusal ≡ false)
-node_asks path = record { keeps = node_keeps path; refuses = λ most old refusal new h. h.0; unframed = λ refusal e. ap is_of_question (too_long _ _ refusal e); unsure = open_not_of_key }
+node_asks path = record { keeps = node_keeps path; refuses = λ config old refusal new h. h.0; unframed = λ refusal e. ap is_of_question (too_long _ _ refusal e); unsure = open_not_of_key }
 
 pub bucket_asks : (path : List ℕ) (after : Option Key) → IsQuestion (Bucket path after) (RefusesPage path)
-bucket_asks path after = record { keeps = bucket_keeps path after; refuses = λ most old refusal new h. h.0; unframed = λ refusal e. subst (RefusesPage path) (sym (too_long _ _ refusal e)) refl; unsure = open_page path }
+bucket_asks path after = record { keeps = bucket_keeps path after; refuses = λ config old refusal new h. h.0; unframed = λ refusal e. subst (RefusesPage path) (sym (too_long _ _ refusal e)) refl; unsure = open_page path }
 
-module _ {A : Type 0} (as_reply : A → Reply) (most : ℕ) where
+module _ {A : Type 0} (as_reply : A → Reply) (config : ConfigValue) where
   -- one question
-  pub one_kept : (q : Request) {May : Refusal → Type 0} → IsQuestion q May → (old new : States) (result : Result A Refusal) → AnswersTruly as_reply most old q result new → new ≡ old
-  one_kept q is old new (Ok a) h = is.keeps most old (as_reply a) new h
-  one_kept q is old new (Err refusal) (inl h) = is.keeps most old (reply.Refused refusal) new h
+  pub one_kept : (q : Request) {May : Refusal → Type 0} → IsQuestion q May → (old new : States) (result : Result A Refusal) → AnswersTruly as_reply config old q result new → new ≡ old
+  one_kept q is old new (Ok a) h = is.keeps config old (as_reply a) new h
+  one_kept q is old new (Err refusal) (inl h) = is.keeps config old (reply.Refused refusal) new h
   one_kept q is old new (Err refusal) (inr (inl h)) = h.1
   one_kept q is old new (Err refusal) (inr (inr (e, inl same))) = same
-  one_kept q is old new (Err refusal) (inr (inr (e, inr h))) = is.keeps most old h.0 new h.1
+  one_kept q is old new (Err refusal) (inr (inr (e, inr h))) = is.keeps config old h.0 new h.1
 
-  pub one_not_of_key : (q : Request) {May : Refusal → Type 0} → IsQuestion q May → (old new : States) (result : Result A Refusal) → AnswersTruly as_reply most old q result new → IfErr result May
+  pub one_not_of_key : (q : Request) {May : Refusal → Type 0} → IsQuestion q May → (old new : States) (result : Result A Refusal) → AnswersTruly as_reply config old q result new → IfErr result May
   one_not_of_key q is old new (Ok a) h = tt
-  one_not_of_key q is old new (Err refusal) (inl h) = is.refuses most old refusal new h
+  one_not_of_key q is old new (Err refusal) (inl h) = is.refuses config old refusal new h
   one_not_of_key q is old new (Err refusal) (inr (inl h)) = is.unframed refusal h.0
   one_not_of_key q is old new (Err refusal) (inr (inr h)) = is.unsure refusal h.0
 
-  pub one_right : (P : A → Type 0) (q : Request) (old new : States) (result : Result A Refusal) → ((a : A) → TrueReply most old q (as_reply a) new → P a) → AnswersTruly as_reply most old q result new → IfOk result P
+  pub one_right : (P : A → Type 0) (q : Request) (old new : States) (result : Result A Refusal) → ((a : A) → TrueReply config old q (as_reply a) new → P a) → AnswersTruly as_reply config old q result new → IfOk result P
   one_right P q old new (Ok a) f h = f a h
   one_right P q old new (Err refusal) f h = tt
 
   -- many questions
   module _ {Q : Type 0} (request : Q → Request) {May : Q → Refusal → Type 0} (is : (q : Q) → IsQuestion (request q) (May q)) where
-    one_settles : (q : Q) (old new : States) (t : Result A Refusal) → SettlesTruly as_reply most old (request q) t new → new ≡ old
-    one_settles q old new (Ok a) h = (is q).keeps most old (as_reply a) new h
-    one_settles q old new (Err refusal) (inl h) = (is q).keeps most old (reply.Refused refusal) new h.1
+    one_settles : (q : Q) (old new : States) (t : Result A Refusal) → SettlesTruly as_reply config old (request q) t new → new ≡ old
+    one_settles q old new (Ok a) h = (is q).keeps config old (as_reply a) new h
+    one_settles q old new (Err refusal) (inl h) = (is q).keeps config old (reply.Refused refusal) new h.1
     one_settles q old new (Err refusal) (inr h) = h.1
 
-    pub all_kept : (qs : List Q) (ts : List (Result A Refusal)) (old new : States) → SettleTruly as_reply most old (map request qs) ts new → new ≡ old
+    pub all_kept : (qs : List Q) (ts : List (Result A Refusal)) (old new : States) → SettleTruly as_reply config old (map request qs) ts new → new ≡ old
     all_kept [] [] old new h = h
     all_kept [] (t ∷ ts) old new h = absurd h
     all_kept (q ∷ qs) [] old new h = absurd h
     all_kept (q ∷ qs) (t ∷ ts) old new h = all_kept qs ts h.0 new h.2 ∙ one_settles q old h.0 t h.1
 
-    pub all_right : (Right : Q → A → Type 0) (old : States) → ((q : Q) (a : A) (new : States) → TrueReply most old (request q) (as_reply a) new → Right q a) → (qs : List Q) (ts : List (Result A Refusal)) (mid new : States) → mid ≡ old → SettleTruly as_reply most mid (map request qs) ts new → EachAnswer Right qs ts
+    pub all_right : (Right : Q → A → Type 0) (old : States) → ((q : Q) (a : A) (new : States) → TrueReply config old (request q) (as_reply a) new → Right q a) → (qs : List Q) (ts : List (Result A Refusal)) (mid new : States) → mid ≡ old → SettleTruly as_reply config mid (map request qs) ts new → EachAnswer Right qs ts
     all_right Right old f [] [] mid new e h = tt
     all_right Right old f [] (t ∷ ts) mid new e h = absurd h
     all_right Right old f (q ∷ qs) [] mid new e h = absurd h
-    all_right Right old f (q ∷ qs) (Ok a ∷ ts) mid new e h = (f q a h.0 (subst (λ m. TrueReply most m (request q) (as_reply a) h.0) e h.1), all_right Right old f qs ts h.0 new (one_settles q mid h.0 (Ok a) h.1 ∙ e) h.2)
+    all_right Right old f (q ∷ qs) (Ok a ∷ ts) mid new e h = (f q a h.0 (subst (λ m. TrueReply config m (request q) (as_reply a) h.0) e h.1), all_right Right old f qs ts h.0 new (one_settles q mid h.0 (Ok a) h.1 ∙ e) h.2)
     all_right Right old f (q ∷ qs) (Err refusal ∷ ts) mid new e h = all_right Right old f qs ts h.0 new (one_settles q mid h.0 (Err refusal) h.1 ∙ e) h.2
 
-    pub all_not_of_key : (qs : List Q) (ts : List (Result A Refusal)) (old new : States) → SettleTruly as_reply most old (map request qs) ts new → EachRefusal May qs ts
+    pub all_not_of_key : (qs : List Q) (ts : List (Result A Refusal)) (old new : States) → SettleTruly as_reply config old (map request qs) ts new → EachRefusal May qs ts
     all_not_of_key [] [] old new h = tt
     all_not_of_key [] (t ∷ ts) old new h = absurd h
     all_not_of_key (q ∷ qs) [] old new h = absurd h
     all_not_of_key (q ∷ qs) (Ok a ∷ ts) old new h = all_not_of_key qs ts h.0 new h.2
-    all_not_of_key (q ∷ qs) (Err refusal ∷ ts) old new h = (elim h.1 [ inl told ↦ (is q).refuses most old refusal h.0 told.1 | inr none ↦ (is q).unframed refusal none.0 ], all_not_of_key qs ts h.0 new h.2)
+    all_not_of_key (q ∷ qs) (Err refusal ∷ ts) old new h = (elim h.1 [ inl told ↦ (is q).refuses config old refusal h.0 told.1 | inr none ↦ (is q).unframed refusal none.0 ], all_not_of_key qs ts h.0 new h.2)
 
     -- a window that was refused
-    first_kept : (q : Q) (qs : List Q) (f : Result (List ℕ) Refusal) (old new : States) (n : ℕ) (rs : List Reply) → ((old : States) (n : ℕ) (rs : List Reply) → TrueReplies most old (take n (framed (map request qs))) rs new → new ≡ old) → TrueReplies most old (take n (and_framed (request q) f (framed (map request qs)))) rs new → new ≡ old
+    first_kept : (q : Q) (qs : List Q) (f : Result (List ℕ) Refusal) (old new : States) (n : ℕ) (rs : List Reply) → ((old : States) (n : ℕ) (rs : List Reply) → TrueReplies config old (take n (framed (map request qs))) rs new → new ≡ old) → TrueReplies config old (take n (and_framed (request q) f (framed (map request qs)))) rs new → new ≡ old
     first_kept q qs (Ok frame) old new zero [] later h = h
     first_kept q qs (Ok frame) old new zero (r ∷ rs) later h = absurd h
     first_kept q qs (Ok frame) old new (suc n) [] later h = absurd h
-    first_kept q qs (Ok frame) old new (suc n) (r ∷ rs) later h = later h.0 n rs h.2 ∙ (is q).keeps most old r h.0 h.1
+    first_kept q qs (Ok frame) old new (suc n) (r ∷ rs) later h = later h.0 n rs h.2 ∙ (is q).keeps config old r h.0 h.1
     first_kept q qs (Err refusal) old new n rs later h = later old n rs h
 
-    none_first : (n : ℕ) (rs : List Reply) (old new : States) → TrueReplies most old (take n []) rs new → new ≡ old
+    none_first : (n : ℕ) (rs : List Reply) (old new : States) → TrueReplies config old (take n []) rs new → new ≡ old
     none_first zero [] old new h = h
     none_first zero (r ∷ rs) old new h = absurd h
     none_first (suc n) [] old new h = h
     none_first (suc n) (r ∷ rs) old new h = absurd h
 
-    pub first_all_kept : (qs : List Q) (new old : States) (n : ℕ) (rs : List Reply) → TrueReplies most old (take n (framed (map request qs))) rs new → new ≡ old
+    pub first_all_kept : (qs : List Q) (new old : States) (n : ℕ) (rs : List Reply) → TrueReplies config old (take n (framed (map request qs))) rs new → new ≡ old
     first_all_kept [] new old n rs h = none_first n rs old new h
     first_all_kept (q ∷ qs) new old n rs h = first_kept q qs (request_frame (request q)) old new n rs (first_all_kept qs new) h
 
     -- a window, at any end
     module _ {V : Type 0} (items : V → List (Result A Refusal)) (qs : List Q) (old new : States) where
-      pub window_kept : (result : Result V Refusal) → MatchResult result (λ v. SettleTruly as_reply most old (map request qs) (items v) new) (λ refusal. EndsOpen most old (map request qs) refusal new) → new ≡ old
+      pub window_kept : (result : Result V Refusal) → MatchResult result (λ v. SettleTruly as_reply config old (map request qs) (items v) new) (λ refusal. EndsOpen config old (map request qs) refusal new) → new ≡ old
       window_kept (Ok v) h = all_kept qs (items v) old new h
       window_kept (Err refusal) h = first_all_kept qs new old h.1.0 h.1.1 h.1.2
 
-      pub window_not_of_key : (result : Result V Refusal) → MatchResult result (λ v. SettleTruly as_reply most old (map request qs) (items v) new) (λ refusal. EndsOpen most old (map request qs) refusal new) → IfErr result (λ refusal. is_of_question refusal ≡ false)
+      pub window_not_of_key : (result : Result V Refusal) → MatchResult result (λ v. SettleTruly as_reply config old (map request qs) (items v) new) (λ refusal. EndsOpen config old (map request qs) refusal new) → IfErr result (λ refusal. is_of_question refusal ≡ false)
       window_not_of_key (Ok v) h = tt
       window_not_of_key (Err refusal) h = open_not_of_key refusal h.0
 
 -- ---- pushes
 
 -- why a push has no frame
-unframed_push : (most : ℕ) (old : States) (key : Key) (s : State) (refusal : Refusal) → request_frame (Push key s) ≡ Err refusal → CannotTake most old key s refusal
-unframed_push most old key s refusal e = elim (nat_le (length (spell_state s)) state_limit) as (λ b. nat_le (length (spell_state s)) state_limit ≡ b → (if b then frame_within 0x29 (push.spell (key, s)) else Err StateTooLarge) ≡ Err refusal → CannotTake most old key s refusal) [
-  | true ↦ λ is e. subst (CannotTake most old key s) (sym (too_long 0x29 (push.spell (key, s)) refusal e)) tt
+unframed_push : (config : ConfigValue) (old : States) (key : Key) (s : State) (refusal : Refusal) → request_frame (Push key s) ≡ Err refusal → CannotTake config.max_keys old key s refusal
+unframed_push config old key s refusal e = elim (nat_le (length (spell_state s)) state_limit) as (λ b. nat_le (length (spell_state s)) state_limit ≡ b → (if b then frame_within 0x29 (push.spell (key, s)) else Err StateTooLarge) ≡ Err refusal → CannotTake config.max_keys old key s refusal) [
+  | true ↦ λ is e. subst (CannotTake config.max_keys old key s) (sym (too_long 0x29 (push.spell (key, s)) refusal e)) tt
   | false ↦ λ is e.
       let large : refusal ≡ StateTooLarge = cc in
       let long : is_too_large s ≡ true = grind (arith, nat_tests) in
-      subst (CannotTake most old key s) (sym large) (inl long)
+      subst (CannotTake config.max_keys old key s) (sym large) (inl long)
 ] refl e
 
 -- a refusal that leaves a push open has no cause in the key
-open_cause : (most : ℕ) (old : States) (key : Key) (s : State) (refusal : Refusal) → leaves_open refusal ≡ true → CannotTake most old key s refusal
-open_cause most old key s BadPath e = absurd (cc)
-open_cause most old key s StateTooLarge e = absurd (cc)
-open_cause most old key s Full e = absurd (cc)
-open_cause most old key s DotClash e = absurd (cc)
-open_cause most old key s refusal e = tt
+open_cause : (config : ConfigValue) (old : States) (key : Key) (s : State) (refusal : Refusal) → leaves_open refusal ≡ true → CannotTake config.max_keys old key s refusal
+open_cause config old key s BadPath e = absurd (cc)
+open_cause config old key s StateTooLarge e = absurd (cc)
+open_cause config old key s Full e = absurd (cc)
+open_cause config old key s DotClash e = absurd (cc)
+open_cause config old key s refusal e = tt
 
-module _ (most : ℕ) where
-  open_leaves : (old new : States) (key : Key) (s : State) (refusal : Refusal) (r : Reply) → leaves_open refusal ≡ true → TrueReply most old (Push key s) r new → Leaves old key s new refusal
+module _ (config : ConfigValue) where
+  open_leaves : (old new : States) (key : Key) (s : State) (refusal : Refusal) (r : Reply) → leaves_open refusal ≡ true → TrueReply config old (Push key s) r new → Leaves old key s new refusal
   open_leaves old new key s refusal reply.Done e h = inr (e, h)
   open_leaves old new key s refusal (reply.Refused told) e (inl h) = inl h.1
   open_leaves old new key s refusal (reply.Refused told) e (inr h) = inr (e, h.1)
@@ -194,11 +195,11 @@ module _ (most : ℕ) where
   open_leaves old new key s refusal (reply.Keys ks more) e h = absurd h
 
   -- one push
-  pub push_taken : (old new : States) (key : Key) (s : State) (result : Result (Unit {0}) Refusal) → AnswersTruly (λ _. reply.Done) most old (Push key s) result new → OnOk result (Takes old key s new)
+  pub push_taken : (old new : States) (key : Key) (s : State) (result : Result (Unit {0}) Refusal) → AnswersTruly (λ _. reply.Done) config old (Push key s) result new → OnOk result (Takes old key s new)
   push_taken old new key s (Ok done) h = h
   push_taken old new key s (Err refusal) h = tt
 
-  pub push_leaves : (old new : States) (key : Key) (s : State) (result : Result (Unit {0}) Refusal) → AnswersTruly (λ _. reply.Done) most old (Push key s) result new → IfErr result (Leaves old key s new)
+  pub push_leaves : (old new : States) (key : Key) (s : State) (result : Result (Unit {0}) Refusal) → AnswersTruly (λ _. reply.Done) config old (Push key s) result new → IfErr result (Leaves old key s new)
   push_leaves old new key s (Ok done) h = tt
   push_leaves old new key s (Err refusal) (inl (inl h)) = inl h.1
   push_leaves old new key s (Err refusal) (inl (inr h)) = inr (ap leaves_open h.0, h.1)
@@ -206,40 +207,40 @@ module _ (most : ℕ) where
   push_leaves old new key s (Err refusal) (inr (inr (e, inl same))) = inl same
   push_leaves old new key s (Err refusal) (inr (inr (e, inr h))) = open_leaves old new key s refusal h.0 e h.1
 
-  pub push_cause : (old new : States) (key : Key) (s : State) (result : Result (Unit {0}) Refusal) → AnswersTruly (λ _. reply.Done) most old (Push key s) result new → IfErr result (CannotTake most old key s)
+  pub push_cause : (old new : States) (key : Key) (s : State) (result : Result (Unit {0}) Refusal) → AnswersTruly (λ _. reply.Done) config old (Push key s) result new → IfErr result (CannotTake config.max_keys old key s)
   push_cause old new key s (Ok done) h = tt
   push_cause old new key s (Err refusal) (inl (inl h)) = h.0
-  push_cause old new key s (Err refusal) (inl (inr h)) = subst (CannotTake most old key s) (sym h.0) tt
-  push_cause old new key s (Err refusal) (inr (inl h)) = unframed_push most old key s refusal h.0
-  push_cause old new key s (Err refusal) (inr (inr h)) = open_cause most old key s refusal h.0
+  push_cause old new key s (Err refusal) (inl (inr h)) = subst (CannotTake config.max_keys old key s) (sym h.0) tt
+  push_cause old new key s (Err refusal) (inr (inl h)) = unframed_push config old key s refusal h.0
+  push_cause old new key s (Err refusal) (inr (inr h)) = open_cause config old key s refusal h.0
 
   -- many pushes
   abbrev asked : Key × State → Request
   asked p = Push p.0 p.1
 
-  pushes_from : (old mid new : States) (ps : List (Key × State)) (ts : List (Result (Unit {0}) Refusal)) → mid ≡ old → Pushes most mid ps ts new → Pushes most old ps ts new
-  pushes_from old mid new ps ts e h = subst (λ m. Pushes most m ps ts new) e h
+  pushes_from : (old mid new : States) (ps : List (Key × State)) (ts : List (Result (Unit {0}) Refusal)) → mid ≡ old → Pushes config.max_keys mid ps ts new → Pushes config.max_keys old ps ts new
+  pushes_from old mid new ps ts e h = subst (λ m. Pushes config.max_keys m ps ts new) e h
 
-  pub all_pushed : (ps : List (Key × State)) (ts : List (Result (Unit {0}) Refusal)) (old new : States) → SettleTruly (λ _. reply.Done) most old (map asked ps) ts new → Pushes most old ps ts new
+  pub all_pushed : (ps : List (Key × State)) (ts : List (Result (Unit {0}) Refusal)) (old new : States) → SettleTruly (λ _. reply.Done) config old (map asked ps) ts new → Pushes config.max_keys old ps ts new
   all_pushed [] [] old new h = h
   all_pushed [] (t ∷ ts) old new h = absurd h
   all_pushed (p ∷ ps) [] old new h = absurd h
   all_pushed (p ∷ ps) (Ok done ∷ ts) old new h = (h.1.0, pushes_from (pushed old p.0 p.1) h.0 new ps ts h.1.1 (all_pushed ps ts h.0 new h.2))
   all_pushed (p ∷ ps) (Err refusal ∷ ts) old new (mid, inl (other, inl why), later) = (why.0, pushes_from old mid new ps ts why.1 (all_pushed ps ts mid new later))
   all_pushed (p ∷ ps) (Err refusal ∷ ts) old new (mid, inl (other, inr broke), later) = absurd (other broke.0)
-  all_pushed (p ∷ ps) (Err refusal ∷ ts) old new (mid, inr none, later) = (unframed_push most old p.0 p.1 refusal none.0, pushes_from old mid new ps ts none.1 (all_pushed ps ts mid new later))
+  all_pushed (p ∷ ps) (Err refusal ∷ ts) old new (mid, inr none, later) = (unframed_push config old p.0 p.1 refusal none.0, pushes_from old mid new ps ts none.1 (all_pushed ps ts mid new later))
 
   -- the first of them
   abbrev First : States → List (Key × State) → States → Type 0
-  First old ps new = (n : ℕ) × (ts : List (Result (Unit {0}) Refusal)) × Pushes most old (take n ps) ts new
+  First old ps new = (n : ℕ) × (ts : List (Result (Unit {0}) Refusal)) × Pushes config.max_keys old (take n ps) ts new
 
   and_taken : (p : Key × State) (ps : List (Key × State)) (old mid new : States) → Takes old p.0 p.1 mid → First mid ps new → First old (p ∷ ps) new
   and_taken p ps old mid new took f = (suc f.0, Ok tt ∷ f.1, (took.0, pushes_from (pushed old p.0 p.1) mid new (take f.0 ps) f.1 took.1 f.2))
 
-  and_refused : (p : Key × State) (ps : List (Key × State)) (old mid new : States) (refusal : Refusal) → CannotTake most old p.0 p.1 refusal → mid ≡ old → First mid ps new → First old (p ∷ ps) new
+  and_refused : (p : Key × State) (ps : List (Key × State)) (old mid new : States) (refusal : Refusal) → CannotTake config.max_keys old p.0 p.1 refusal → mid ≡ old → First mid ps new → First old (p ∷ ps) new
   and_refused p ps old mid new refusal why same f = (suc f.0, Err refusal ∷ f.1, (why, pushes_from old mid new (take f.0 ps) f.1 same f.2))
 
-  and_replied : (p : Key × State) (ps : List (Key × State)) (old mid new : States) (r : Reply) → TrueReply most old (asked p) r mid → First mid ps new → First old (p ∷ ps) new
+  and_replied : (p : Key × State) (ps : List (Key × State)) (old mid new : States) (r : Reply) → TrueReply config old (asked p) r mid → First mid ps new → First old (p ∷ ps) new
   and_replied p ps old mid new reply.Done h f = and_taken p ps old mid new h f
   and_replied p ps old mid new (reply.Refused refusal) (inl h) f = and_refused p ps old mid new refusal h.0 h.1 f
   and_replied p ps old mid new (reply.Refused refusal) (inr h) f = and_taken p ps old mid new h.1 f
@@ -251,33 +252,33 @@ module _ (most : ℕ) where
   and_replied p ps old mid new (reply.Digests d) h f = absurd h
   and_replied p ps old mid new (reply.Keys ks more) h f = absurd h
 
-  first_step : (p : Key × State) (ps : List (Key × State)) (f : Result (List ℕ) Refusal) → request_frame (asked p) ≡ f → (old new : States) (n : ℕ) (rs : List Reply) → ((old : States) (n : ℕ) (rs : List Reply) → TrueReplies most old (take n (framed (map asked ps))) rs new → First old ps new) → TrueReplies most old (take n (and_framed (asked p) f (framed (map asked ps)))) rs new → First old (p ∷ ps) new
+  first_step : (p : Key × State) (ps : List (Key × State)) (f : Result (List ℕ) Refusal) → request_frame (asked p) ≡ f → (old new : States) (n : ℕ) (rs : List Reply) → ((old : States) (n : ℕ) (rs : List Reply) → TrueReplies config old (take n (framed (map asked ps))) rs new → First old ps new) → TrueReplies config old (take n (and_framed (asked p) f (framed (map asked ps)))) rs new → First old (p ∷ ps) new
   first_step p ps (Ok frame) e old new zero [] later h = (0, [], h)
   first_step p ps (Ok frame) e old new zero (r ∷ rs) later h = absurd h
   first_step p ps (Ok frame) e old new (suc n) [] later h = absurd h
   first_step p ps (Ok frame) e old new (suc n) (r ∷ rs) later h = and_replied p ps old h.0 new r h.1 (later h.0 n rs h.2)
-  first_step p ps (Err refusal) e old new n rs later h = and_refused p ps old old new refusal (unframed_push most old p.0 p.1 refusal e) refl (later old n rs h)
+  first_step p ps (Err refusal) e old new n rs later h = and_refused p ps old old new refusal (unframed_push config old p.0 p.1 refusal e) refl (later old n rs h)
 
-  first_none : (n : ℕ) (rs : List Reply) (old new : States) → TrueReplies most old (take n []) rs new → First old [] new
+  first_none : (n : ℕ) (rs : List Reply) (old new : States) → TrueReplies config old (take n []) rs new → First old [] new
   first_none zero [] old new h = (0, [], h)
   first_none zero (r ∷ rs) old new h = absurd h
   first_none (suc n) [] old new h = (0, [], h)
   first_none (suc n) (r ∷ rs) old new h = absurd h
 
-  first_pushed : (ps : List (Key × State)) (new old : States) (n : ℕ) (rs : List Reply) → TrueReplies most old (take n (framed (map asked ps))) rs new → First old ps new
+  first_pushed : (ps : List (Key × State)) (new old : States) (n : ℕ) (rs : List Reply) → TrueReplies config old (take n (framed (map asked ps))) rs new → First old ps new
   first_pushed [] new old n rs h = first_none n rs old new h
   first_pushed (p ∷ ps) new old n rs h = first_step p ps (request_frame (asked p)) refl old new n rs (first_pushed ps new) h
 
   module _ {V : Type 0} (items : V → List (Result (Unit {0}) Refusal)) (ps : List (Key × State)) (old new : States) where
-    pub window_pushed : (still : Type 0) → still → (result : Result V Refusal) → MatchResult result (λ v. SettleTruly (λ _. reply.Done) most old (map asked ps) (items v) new) (λ refusal. EndsOpen most old (map asked ps) refusal new) → IfOk result (λ v. still × Pushes most old ps (items v) new)
+    pub window_pushed : (still : Type 0) → still → (result : Result V Refusal) → MatchResult result (λ v. SettleTruly (λ _. reply.Done) config old (map asked ps) (items v) new) (λ refusal. EndsOpen config old (map asked ps) refusal new) → IfOk result (λ v. still × Pushes config.max_keys old ps (items v) new)
     window_pushed still t (Ok v) h = (t, all_pushed ps (items v) old new h)
     window_pushed still t (Err refusal) h = tt
 
-    pub window_first : (still : Type 0) (result : Result V Refusal) → MatchResult result (λ v. SettleTruly (λ _. reply.Done) most old (map asked ps) (items v) new) (λ refusal. EndsOpen most old (map asked ps) refusal new) → OnErr result (PushesFirst still most old ps new)
+    pub window_first : (still : Type 0) (result : Result V Refusal) → MatchResult result (λ v. SettleTruly (λ _. reply.Done) config old (map asked ps) (items v) new) (λ refusal. EndsOpen config old (map asked ps) refusal new) → OnErr result (PushesFirst still config.max_keys old ps new)
     window_first still (Ok v) h = tt
     window_first still (Err refusal) h = let f = first_pushed ps new old h.1.0 h.1.1 h.1.2 in (f.0, f.1, new, f.2, λ _. refl)
 
-    pub pushes_open : (result : Result V Refusal) → MatchResult result (λ v. SettleTruly (λ _. reply.Done) most old (map asked ps) (items v) new) (λ refusal. EndsOpen most old (map asked ps) refusal new) → IfErr result IsLeftOpen
+    pub pushes_open : (result : Result V Refusal) → MatchResult result (λ v. SettleTruly (λ _. reply.Done) config old (map asked ps) (items v) new) (λ refusal. EndsOpen config old (map asked ps) refusal new) → IfErr result IsLeftOpen
     pushes_open (Ok v) h = tt
     pushes_open (Err refusal) h = h.0
 

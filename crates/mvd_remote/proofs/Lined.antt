@@ -12,6 +12,7 @@ use Rattle.mvd_wire.specs.declared.request.Request.{Request}
 use Rattle.mvd_wire.specs.declared.reply.Reply.{Reply}
 use Rattle.mvd_wire.specs.declared.reply.Reply.TheVariants.{Refused}
 use Rattle.mvd_wire.specs.Requests.{IsRequest, request_frame}
+use Rattle.mvd_site.specs.Config.{ConfigValue}
 use Rattle.mvd_site.specs.Held.{States}
 use Rattle.mvd_remote.specs.LinkWindows.{Answers, Frames, and_frame, frames_after, frames_of}
 use Rattle.mvd_remote.specs.Lines.{AllToldTruly, AnswersTruly, AreFrames, AreSpelled, DueTurn, DueTurns, EndsOpen, Far, IsNext, IsSettled, IsSpelled, IsTaken, IsTrueRemote, MayTake, SettleTruly, SettlesTruly, TakesAll, TakesDue, TakesFirst, TellsAllTruly, ToldTruly, Took, TrueReplies, TrueReply, and_framed, framed}
@@ -123,71 +124,71 @@ spelled_more f view xs i x frame low at before gives fits some =
 
 -- ---- what was told in turn
 
-one_told : (most : ℕ) (old mid : States) (q : Request) (r : Reply) (t : Result Reply Refusal) → TrueReply most old q r mid → IsTaken r t → ToldTruly most old q t mid
-one_told most old mid q r t h (inl e) = subst (λ (t : Result Reply Refusal). ToldTruly most old q t mid) (sym e) h
-one_told most old mid q r t h (inr e) = subst (λ (t : Result Reply Refusal). ToldTruly most old q t mid) (sym e) (inr (refl, (r, h)))
+one_told : (config : ConfigValue) (old mid : States) (q : Request) (r : Reply) (t : Result Reply Refusal) → TrueReply config old q r mid → IsTaken r t → ToldTruly config old q t mid
+one_told config old mid q r t h (inl e) = subst (λ (t : Result Reply Refusal). ToldTruly config old q t mid) (sym e) h
+one_told config old mid q r t h (inr e) = subst (λ (t : Result Reply Refusal). ToldTruly config old q t mid) (sym e) (inr (refl, (r, h)))
 
-module _ (most : ℕ) (q : Request) (qs : List Request) (left : List Reply) (new : States) (later : (old : States) (rs : List Reply) (ts : List (Result Reply Refusal)) → TrueReplies most old (framed qs) rs new → DueTurns (nones_of qs) ts rs left → AllToldTruly most old qs ts new × (left ≡ [])) where
-  told_step : (f : Result (List ℕ) Refusal) → request_frame q ≡ f → (old : States) (rs : List Reply) (ts : List (Result Reply Refusal)) → TrueReplies most old (and_framed q f (framed qs)) rs new → DueTurns (none_of f ∷ nones_of qs) ts rs left → AllToldTruly most old (q ∷ qs) ts new × (left ≡ [])
+module _ (config : ConfigValue) (q : Request) (qs : List Request) (left : List Reply) (new : States) (later : (old : States) (rs : List Reply) (ts : List (Result Reply Refusal)) → TrueReplies config old (framed qs) rs new → DueTurns (nones_of qs) ts rs left → AllToldTruly config old qs ts new × (left ≡ [])) where
+  told_step : (f : Result (List ℕ) Refusal) → request_frame q ≡ f → (old : States) (rs : List Reply) (ts : List (Result Reply Refusal)) → TrueReplies config old (and_framed q f (framed qs)) rs new → DueTurns (none_of f ∷ nones_of qs) ts rs left → AllToldTruly config old (q ∷ qs) ts new × (left ≡ [])
   told_step (Ok frame) e old [] ts h d = absurd h
   told_step (Ok frame) e old (r ∷ rs) [] h d = absurd d
   told_step (Ok frame) e old (r ∷ rs) (t ∷ ts) h d =
       let rest = later h.0 rs ts h.2 d.1 in
-      ((h.0, one_told most old h.0 q r t h.1 d.0, rest.0), rest.1)
+      ((h.0, one_told config old h.0 q r t h.1 d.0, rest.0), rest.1)
   told_step (Err refusal) e old rs [] h d = absurd d
   told_step (Err refusal) e old rs (t ∷ ts) h d =
       let rest = later old rs ts h d.1 in
-      ((old, subst (λ (t : Result Reply Refusal). ToldTruly most old q t old) (sym d.0) (inl (e, refl)), rest.0), rest.1)
+      ((old, subst (λ (t : Result Reply Refusal). ToldTruly config old q t old) (sym d.0) (inl (e, refl)), rest.0), rest.1)
 
-told_truly : (most : ℕ) (qs : List Request) (left : List Reply) (new old : States) (rs : List Reply) (ts : List (Result Reply Refusal)) → TrueReplies most old (framed qs) rs new → DueTurns (nones_of qs) ts rs left → AllToldTruly most old qs ts new × (left ≡ [])
-told_truly most [] left new old [] [] h d = (h, d)
-told_truly most [] left new old [] (t ∷ ts) h d = absurd d
-told_truly most [] left new old (r ∷ rs) ts h d = absurd h
-told_truly most (q ∷ qs) left new old rs ts h d = told_step most q qs left new (told_truly most qs left new) (request_frame q) refl old rs ts h d
+told_truly : (config : ConfigValue) (qs : List Request) (left : List Reply) (new old : States) (rs : List Reply) (ts : List (Result Reply Refusal)) → TrueReplies config old (framed qs) rs new → DueTurns (nones_of qs) ts rs left → AllToldTruly config old qs ts new × (left ≡ [])
+told_truly config [] left new old [] [] h d = (h, d)
+told_truly config [] left new old [] (t ∷ ts) h d = absurd d
+told_truly config [] left new old (r ∷ rs) ts h d = absurd h
+told_truly config (q ∷ qs) left new old rs ts h d = told_step config q qs left new (told_truly config qs left new) (request_frame q) refl old rs ts h d
 
 -- all of them were taken
-pub all_taken : (old new : Far) (qs : List Request) → TakesAll old qs new → TakesFirst old.most old.states qs new.states
-all_taken old new qs all = (length qs, all.replies, subst (λ (xs : List Request). TrueReplies old.most old.states xs all.replies new.states) (sym (take_all (length qs) qs (omega arith))) all.are_true)
+pub all_taken : (old new : Far) (qs : List Request) → TakesAll old qs new → TakesFirst old.config old.states qs new.states
+all_taken old new qs all = (length qs, all.replies, subst (λ (xs : List Request). TrueReplies old.config old.states xs all.replies new.states) (sym (take_all (length qs) qs (omega arith))) all.are_true)
 
 -- A WINDOW THAT WENT OUT and was told of in turn
-pub window_told : (old mid new : Far) (qs : List Request) (frames : Frames) (ts : List (Result Reply Refusal)) → frames ≡ frames_of qs → old.due ≡ [] → TakesAll old (framed qs) mid → new.states ≡ mid.states → DueTurns frames.1 ts mid.due new.due → TellsAllTruly old.most old.states qs ts new.states × (new.due ≡ [])
+pub window_told : (old mid new : Far) (qs : List Request) (frames : Frames) (ts : List (Result Reply Refusal)) → frames ≡ frames_of qs → old.due ≡ [] → TakesAll old (framed qs) mid → new.states ≡ mid.states → DueTurns frames.1 ts mid.due new.due → TellsAllTruly old.config old.states qs ts new.states × (new.due ≡ [])
 window_told old mid new qs frames ts is none all same due =
     let nones : frames.1 ≡ nones_of qs = ap (λ (f : Frames). f.1) (is ∙ after_is ([], []) qs) in
     let now : mid.due ≡ all.replies = all.due ∙ ap (λ d. d ++ all.replies) none in
-    let true_then = subst (TrueReplies old.most old.states (framed qs) all.replies) (sym same) all.are_true in
+    let true_then = subst (TrueReplies old.config old.states (framed qs) all.replies) (sym same) all.are_true in
     let turns = subst (λ d. DueTurns (nones_of qs) ts d new.due) now (subst (λ ns. DueTurns ns ts mid.due new.due) nones due) in
-    let told = told_truly old.most qs new.due new.states old.states all.replies ts true_then turns in
+    let told = told_truly old.config qs new.due new.states old.states all.replies ts true_then turns in
     let taken = all_taken old mid (framed qs) all in
-    ((told.0, subst (TakesFirst old.most old.states (framed qs)) (sym same) taken), told.1)
+    ((told.0, subst (TakesFirst old.config old.states (framed qs)) (sym same) taken), told.1)
 
 -- ---- answers
 
 module _ {A : Type 0} (as_reply : A → Reply) where
-  one_settled : (most : ℕ) (old new : States) (q : Request) (t : Result Reply Refusal) (a : Result A Refusal) → ToldTruly most old q t new → Answers as_reply t a → IsSettled t a → SettlesTruly as_reply most old q a new
-  one_settled most old new q t (Ok v) h e s = subst (λ (t : Result Reply Refusal). ToldTruly most old q t new) e h
-  one_settled most old new q t (Err refusal) h (inl e) s = inl (λ broken. s.1 (ap Err broken), subst (λ (t : Result Reply Refusal). ToldTruly most old q t new) e h)
-  one_settled most old new q t (Err refusal) h (inr e) s = elim (subst (λ (t : Result Reply Refusal). ToldTruly most old q t new) e h) [
+  one_settled : (config : ConfigValue) (old new : States) (q : Request) (t : Result Reply Refusal) (a : Result A Refusal) → ToldTruly config old q t new → Answers as_reply t a → IsSettled t a → SettlesTruly as_reply config old q a new
+  one_settled config old new q t (Ok v) h e s = subst (λ (t : Result Reply Refusal). ToldTruly config old q t new) e h
+  one_settled config old new q t (Err refusal) h (inl e) s = inl (λ broken. s.1 (ap Err broken), subst (λ (t : Result Reply Refusal). ToldTruly config old q t new) e h)
+  one_settled config old new q t (Err refusal) h (inr e) s = elim (subst (λ (t : Result Reply Refusal). ToldTruly config old q t new) e h) [
     | inl none ↦ inr none
     | inr memory ↦ absurd (s.0 (e ∙ ap Err memory.0))
   ]
 
-  settled : (most : ℕ) (old new : States) (qs : List Request) (ts : List (Result Reply Refusal)) (us : List (Result A Refusal)) → AllToldTruly most old qs ts new → ForEach (Answers as_reply) ts us → ForEach IsSettled ts us → SettleTruly as_reply most old qs us new
-  settled most old new [] [] [] h e s = h
-  settled most old new [] [] (u ∷ us) h e s = absurd e
-  settled most old new [] (t ∷ ts) us h e s = absurd h
-  settled most old new (q ∷ qs) [] us h e s = absurd h
-  settled most old new (q ∷ qs) (t ∷ ts) [] h e s = absurd e
-  settled most old new (q ∷ qs) (t ∷ ts) (u ∷ us) h e s = (h.0, one_settled most old h.0 q t u h.1 e.0 s.0, settled most h.0 new qs ts us h.2 e.1 s.1)
+  settled : (config : ConfigValue) (old new : States) (qs : List Request) (ts : List (Result Reply Refusal)) (us : List (Result A Refusal)) → AllToldTruly config old qs ts new → ForEach (Answers as_reply) ts us → ForEach IsSettled ts us → SettleTruly as_reply config old qs us new
+  settled config old new [] [] [] h e s = h
+  settled config old new [] [] (u ∷ us) h e s = absurd e
+  settled config old new [] (t ∷ ts) us h e s = absurd h
+  settled config old new (q ∷ qs) [] us h e s = absurd h
+  settled config old new (q ∷ qs) (t ∷ ts) [] h e s = absurd e
+  settled config old new (q ∷ qs) (t ∷ ts) (u ∷ us) h e s = (h.0, one_settled config old h.0 q t u h.1 e.0 s.0, settled config h.0 new qs ts us h.2 e.1 s.1)
 
 open_end : {X : Type 0} (refusal : Refusal) → (refusal ≡ Memory) ⊎ ((refusal ≡ Broken) × X) → leaves_open refusal ≡ true
 open_end refusal (inl memory) = ap leaves_open memory
 open_end refusal (inr broken) = ap leaves_open broken.0
 
 -- what is made of a window that was told of
-pub window_answered : {A V : Type 0} (X : Type 0) (as_reply : A → Reply) (items : V → List (Result A Refusal)) (most : ℕ) (old new : States) (qs : List Request) (ts : List (Result Reply Refusal)) (made : Result V Refusal) → TellsAllTruly most old qs ts new → IfOk made (λ v. ForEach (Answers as_reply) ts (items v)) → IfOk made (λ v. ForEach IsSettled ts (items v))
-    → IfErr made (λ refusal. (refusal ≡ Memory) ⊎ ((refusal ≡ Broken) × X)) → MatchResult made (λ v. SettleTruly as_reply most old qs (items v) new) (λ refusal. EndsOpen most old qs refusal new)
-window_answered X as_reply items most old new qs ts (Ok v) told e s ended = settled as_reply most old new qs ts (items v) told.0 e s
-window_answered X as_reply items most old new qs ts (Err refusal) told e s ended = (open_end refusal ended, told.1)
+pub window_answered : {A V : Type 0} (X : Type 0) (as_reply : A → Reply) (items : V → List (Result A Refusal)) (config : ConfigValue) (old new : States) (qs : List Request) (ts : List (Result Reply Refusal)) (made : Result V Refusal) → TellsAllTruly config old qs ts new → IfOk made (λ v. ForEach (Answers as_reply) ts (items v)) → IfOk made (λ v. ForEach IsSettled ts (items v))
+    → IfErr made (λ refusal. (refusal ≡ Memory) ⊎ ((refusal ≡ Broken) × X)) → MatchResult made (λ v. SettleTruly as_reply config old qs (items v) new) (λ refusal. EndsOpen config old qs refusal new)
+window_answered X as_reply items config old new qs ts (Ok v) told e s ended = settled as_reply config old new qs ts (items v) told.0 e s
+window_answered X as_reply items config old new qs ts (Err refusal) told e s ended = (open_end refusal ended, told.1)
 
 -- ---- a remote side
 
@@ -207,34 +208,34 @@ module _ {L : Type 0} (is_true : L → Type 0) (far : L → Far) (remote : Remot
 -- ---- one question
 
 -- what a request was taken for
-may_take : (most : ℕ) (old new : States) (q : Request) (n : ℕ) (rs : List Reply) → TrueReplies most old (take n (q ∷ [])) rs new → MayTake most old q new
-may_take most old new q zero [] h = inl h
-may_take most old new q zero (r ∷ rs) h = absurd h
-may_take most old new q (suc n) [] h = absurd h
-may_take most old new q (suc zero) (r ∷ []) h = inr (r, subst (TrueReply most old q r) (sym h.2) h.1)
-may_take most old new q (suc zero) (r ∷ s ∷ rs) h = absurd h.2
-may_take most old new q (suc (suc n)) (r ∷ []) h = inr (r, subst (TrueReply most old q r) (sym h.2) h.1)
-may_take most old new q (suc (suc n)) (r ∷ s ∷ rs) h = absurd h.2
+may_take : (config : ConfigValue) (old new : States) (q : Request) (n : ℕ) (rs : List Reply) → TrueReplies config old (take n (q ∷ [])) rs new → MayTake config old q new
+may_take config old new q zero [] h = inl h
+may_take config old new q zero (r ∷ rs) h = absurd h
+may_take config old new q (suc n) [] h = absurd h
+may_take config old new q (suc zero) (r ∷ []) h = inr (r, subst (TrueReply config old q r) (sym h.2) h.1)
+may_take config old new q (suc zero) (r ∷ s ∷ rs) h = absurd h.2
+may_take config old new q (suc (suc n)) (r ∷ []) h = inr (r, subst (TrueReply config old q r) (sym h.2) h.1)
+may_take config old new q (suc (suc n)) (r ∷ s ∷ rs) h = absurd h.2
 
 -- the writer failed
-pub not_sent : {A : Type 0} (as_reply : A → Reply) (most : ℕ) (old new : States) (q : Request) (refusal : Refusal) → TakesFirst most old (q ∷ []) new → leaves_open refusal ≡ true → AnswersTruly as_reply most old q (Err refusal) new
-not_sent as_reply most old new q refusal first e = inr (inr (e, may_take most old new q first.0 first.1 first.2))
+pub not_sent : {A : Type 0} (as_reply : A → Reply) (config : ConfigValue) (old new : States) (q : Request) (refusal : Refusal) → TakesFirst config old (q ∷ []) new → leaves_open refusal ≡ true → AnswersTruly as_reply config old q (Err refusal) new
+not_sent as_reply config old new q refusal first e = inr (inr (e, may_take config old new q first.0 first.1 first.2))
 
 -- the reply to one request is due
-one_due : (most : ℕ) (old mid : States) (q : Request) (rs : List Reply) → TrueReplies most old (q ∷ []) rs mid → (r : Reply) × TrueReply most old q r mid × (rs ≡ r ∷ [])
-one_due most old mid q [] h = absurd h
-one_due most old mid q (r ∷ []) h = (r, subst (TrueReply most old q r) (sym h.2) h.1, refl)
-one_due most old mid q (r ∷ s ∷ rs) h = absurd h.2
+one_due : (config : ConfigValue) (old mid : States) (q : Request) (rs : List Reply) → TrueReplies config old (q ∷ []) rs mid → (r : Reply) × TrueReply config old q r mid × (rs ≡ r ∷ [])
+one_due config old mid q [] h = absurd h
+one_due config old mid q (r ∷ []) h = (r, subst (TrueReply config old q r) (sym h.2) h.1, refl)
+one_due config old mid q (r ∷ s ∷ rs) h = absurd h.2
 
-module _ {L : Type 0} (is_true : L → Type 0) (far : L → Far) (new : Remote L) (most : ℕ) (old : States) (q : Request) (r : Reply) (is : TrueReply most old q r (far new.line).states) (due : List Reply) (one : due ≡ r ∷ []) where
+module _ {L : Type 0} (is_true : L → Type 0) (far : L → Far) (new : Remote L) (config : ConfigValue) (old : States) (q : Request) (r : Reply) (is : TrueReply config old q r (far new.line).states) (due : List Reply) (one : due ≡ r ∷ []) where
   abbrev Ends : Result Reply Refusal → Type 0
-  Ends told = IsTrueRemote is_true far new × AnswersTruly (λ reply. reply) most old q told (far new.line).states
+  Ends told = IsTrueRemote is_true far new × AnswersTruly (λ reply. reply) config old q told (far new.line).states
 
   took : (told : Result Reply Refusal) (kind : ℕ) (before after : Option (List ℕ)) → is_true new.line → (new.refused ≡ None → TakesDue due (far new.line).due told) → ((refusal : Refusal) → new.refused ≡ Some refusal → leaves_open refusal ≡ true) → ReadsReply before after kind new.refused told → Ends told
   took (Ok reply) kind before after t d own reads =
       let taken : IsTaken r (Ok reply) × ((far new.line).due ≡ []) = subst (λ ds. TakesDue ds (far new.line).due (Ok reply)) one (d reads.1) in
       let same : reply ≡ r = elim taken.0 [ inl e ↦ cc | inr e ↦ absurd (cc) ] in
-      (still_goes is_true far new t reads.1 taken.1, subst (λ (x : Reply). TrueReply most old q x (far new.line).states) (sym same) is)
+      (still_goes is_true far new t reads.1 taken.1, subst (λ (x : Reply). TrueReply config old q x (far new.line).states) (sym same) is)
   took (Err refusal) kind before after t d own (inl broke) =
       (now_refuses is_true far new refusal t broke.1 (own refusal broke.1), inr (inr (own refusal broke.1, inr (r, is))))
   took (Err refusal) kind before after t d own (inr none) =
@@ -244,38 +245,38 @@ module _ {L : Type 0} (is_true : L → Type 0) (far : L → Far) (new : Remote L
 
 -- A REQUEST WENT OUT over a true line, and what came was taken
 pub one_answered : {L : Type 0} (is_true : L → Type 0) (far : L → Far) (old mid new : Remote L) (q : Request) (told : Result Reply Refusal) (kind : ℕ) (before after : Option (List ℕ)) → (far old.line).due ≡ [] → TakesAll (far old.line) (q ∷ []) (far mid.line) → Took is_true far mid new told → ReadsReply before after kind new.refused told
-    → IsTrueRemote is_true far new × AnswersTruly (λ reply. reply) (far old.line).most (far old.line).states q told (far new.line).states
+    → IsTrueRemote is_true far new × AnswersTruly (λ reply. reply) (far old.line).config (far old.line).states q told (far new.line).states
 one_answered is_true far old mid new q told kind before after none all taken reads =
-    let one = one_due (far old.line).most (far old.line).states (far mid.line).states q all.replies all.are_true in
+    let one = one_due (far old.line).config (far old.line).states (far mid.line).states q all.replies all.are_true in
     let due : (far mid.line).due ≡ one.0 ∷ [] = all.due ∙ ap (λ d. d ++ all.replies) none ∙ one.2 in
-    took is_true far new (far old.line).most (far old.line).states q one.0 (subst (TrueReply (far old.line).most (far old.line).states q one.0) (sym taken.states) one.1) (far mid.line).due due told kind before after taken.line taken.due taken.own reads
+    took is_true far new (far old.line).config (far old.line).states q one.0 (subst (TrueReply (far old.line).config (far old.line).states q one.0) (sym taken.states) one.1) (far mid.line).due due told kind before after taken.line taken.due taken.own reads
 
 -- ---- a window
 
 -- turns broke the link
-pub turns_broke : {L : Type 0} (is_true : L → Type 0) (far : L → Far) (new : Remote L) (old mid : Far) (qs : List Request) (refusal : Refusal) → TakesAll old (framed qs) mid → is_true new.line → (far new.line).states ≡ mid.states → leaves_open refusal ≡ true → new.refused ≡ Some refusal → IsTrueRemote is_true far new × EndsOpen old.most old.states qs refusal (far new.line).states
-turns_broke is_true far new old mid qs refusal all t same e now = (now_refuses is_true far new refusal t now e, (e, subst (TakesFirst old.most old.states (framed qs)) (sym same) (all_taken old mid (framed qs) all)))
+pub turns_broke : {L : Type 0} (is_true : L → Type 0) (far : L → Far) (new : Remote L) (old mid : Far) (qs : List Request) (refusal : Refusal) → TakesAll old (framed qs) mid → is_true new.line → (far new.line).states ≡ mid.states → leaves_open refusal ≡ true → new.refused ≡ Some refusal → IsTrueRemote is_true far new × EndsOpen old.config old.states qs refusal (far new.line).states
+turns_broke is_true far new old mid qs refusal all t same e now = (now_refuses is_true far new refusal t now e, (e, subst (TakesFirst old.config old.states (framed qs)) (sym same) (all_taken old mid (framed qs) all)))
 
 -- its frames did not all go out
-pub send_broke : {L : Type 0} (is_true : L → Type 0) (far : L → Far) (new : Remote L) (old : Far) (line : L) (qs : List Request) (refusal result : Refusal) → new.line ≡ line → new.refused ≡ Some refusal → result ≡ refusal → refusal ≡ WriteFailed → is_true line → TakesFirst old.most old.states (framed qs) (far line).states → IsTrueRemote is_true far new × EndsOpen old.most old.states qs result (far new.line).states
+pub send_broke : {L : Type 0} (is_true : L → Type 0) (far : L → Far) (new : Remote L) (old : Far) (line : L) (qs : List Request) (refusal result : Refusal) → new.line ≡ line → new.refused ≡ Some refusal → result ≡ refusal → refusal ≡ WriteFailed → is_true line → TakesFirst old.config old.states (framed qs) (far line).states → IsTrueRemote is_true far new × EndsOpen old.config old.states qs result (far new.line).states
 send_broke is_true far new old line qs refusal result same now gives why t first = (
   now_refuses is_true far new refusal (subst is_true (sym same) t) now (ap leaves_open why),
-  (ap leaves_open (gives ∙ why), subst (λ l. TakesFirst old.most old.states (framed qs) (far l).states) (sym same) first),
+  (ap leaves_open (gives ∙ why), subst (λ l. TakesFirst old.config old.states (framed qs) (far l).states) (sym same) first),
 )
 
 -- the frame of one request did not all go out
-pub one_broke : {L A : Type 0} (is_true : L → Type 0) (far : L → Far) (as_reply : A → Reply) (new : Remote L) (old : Far) (line : L) (q : Request) (refusal result : Refusal) → new.line ≡ line → new.refused ≡ Some refusal → result ≡ refusal → refusal ≡ WriteFailed → is_true line → TakesFirst old.most old.states (q ∷ []) (far line).states → IsTrueRemote is_true far new × AnswersTruly as_reply old.most old.states q (Err result) (far new.line).states
+pub one_broke : {L A : Type 0} (is_true : L → Type 0) (far : L → Far) (as_reply : A → Reply) (new : Remote L) (old : Far) (line : L) (q : Request) (refusal result : Refusal) → new.line ≡ line → new.refused ≡ Some refusal → result ≡ refusal → refusal ≡ WriteFailed → is_true line → TakesFirst old.config old.states (q ∷ []) (far line).states → IsTrueRemote is_true far new × AnswersTruly as_reply old.config old.states q (Err result) (far new.line).states
 one_broke is_true far as_reply new old line q refusal result same now gives why t first = (
   now_refuses is_true far new refusal (subst is_true (sym same) t) now (ap leaves_open why),
-  not_sent as_reply old.most old.states (far new.line).states q result (subst (λ l. TakesFirst old.most old.states (q ∷ []) (far l).states) (sym same) first) (ap leaves_open (gives ∙ why)),
+  not_sent as_reply old.config old.states (far new.line).states q result (subst (λ l. TakesFirst old.config old.states (q ∷ []) (far l).states) (sym same) first) (ap leaves_open (gives ∙ why)),
 )
 
 -- ---- what one question is answered with
 
 -- nothing was sent
-pub none_asked : {A : Type 0} (as_reply : A → Reply) (most : ℕ) (old : States) (q : Request) (refusal : Refusal) → leaves_open refusal ≡ true → AnswersTruly as_reply most old q (Err refusal) old
-none_asked as_reply most old q refusal e = inr (inr (e, inl refl))
+pub none_asked : {A : Type 0} (as_reply : A → Reply) (config : ConfigValue) (old : States) (q : Request) (refusal : Refusal) → leaves_open refusal ≡ true → AnswersTruly as_reply config old q (Err refusal) old
+none_asked as_reply config old q refusal e = inr (inr (e, inl refl))
 
 -- a reply that accepts nothing is a refusal
-pub told_none : {A : Type 0} (as_reply : A → Reply) (most : ℕ) (old new : States) (q : Request) (reply : Reply) (refusal : Refusal) → TrueReply most old q reply new → reply ≡ Refused refusal → AnswersTruly as_reply most old q (Err refusal) new
-told_none as_reply most old new q reply refusal h e = inl (subst (λ (r : Reply). TrueReply most old q r new) e h)
+pub told_none : {A : Type 0} (as_reply : A → Reply) (config : ConfigValue) (old new : States) (q : Request) (reply : Reply) (refusal : Refusal) → TrueReply config old q reply new → reply ≡ Refused refusal → AnswersTruly as_reply config old q (Err refusal) new
+told_none as_reply config old new q reply refusal h e = inl (subst (λ (r : Reply). TrueReply config old q r new) e h)

@@ -1,8 +1,10 @@
 -- A line to a far side: the frames of requests go out, and those of its replies come in. A true one is what a transport
 -- is that hands on what is written and what is read, where the far side is faithful.
 use Rattle.std.proofs.Common.{refl, ◌∙◌}
-use Rattle.std.specs.Prelude.{◌≡◌, ◌≢◌, ◌⊎◌, ℕ, true, false, List, [], ◌∷◌, ◌++◌, take, Option, Some, None}
+use Rattle.std.specs.Prelude.{◌≡◌, ◌≢◌, ◌≤◌, ◌⊎◌, ℕ, true, false, List, [], ◌∷◌, ◌++◌, take, Option, Some, None}
 use Rattle.std.specs.Prelude.{IfSome, Result, Ok, Err, IfOk, IfErr}
+use Rattle.std.specs.FinMap.{empty}
+use Rattle.mvd_dots.specs.Refusal.{number_of}
 use Rattle.mvd_dots.specs.declared.refusals.Refusal.{Refusal}
 use Rattle.mvd_dots.specs.declared.refusals.Refusal.TheVariants.{Broken, Memory}
 use Rattle.mvd_keys.specs.State.{State}
@@ -10,7 +12,7 @@ use Rattle.mvd_keys.specs.Writes.{Key}
 use Rattle.mvd_tree.specs.Page.{is_more_after_page, page_of}
 use Rattle.mvd_wire.specs.declared.frame.Frame.{Frame}
 use Rattle.mvd_wire.specs.declared.request.Request.{Request}
-use Rattle.mvd_wire.specs.declared.request.Request.TheVariants.{Get, Node, Bucket, Push, Bye}
+use Rattle.mvd_wire.specs.declared.request.Request.TheVariants.{Get, Node, Bucket, Push}
 use Rattle.mvd_wire.specs.declared.reply.Digests.{Digests}
 use Rattle.mvd_wire.specs.declared.reply.Reply.{Reply}
 use Rattle.mvd_wire.specs.declared.reply.Reply.TheVariants.{State as Shown, Done, Digests as Told, Keys, Refused}
@@ -18,17 +20,27 @@ use Rattle.mvd_wire.specs.Frames.{FrameValue, frame_value}
 use Rattle.mvd_wire.specs.Requests.{IsRequest, request_frame}
 use Rattle.mvd_wire.specs.Replies.{reply_of}
 use Rattle.mvd_site.specs.Answer.{digests}
+use Rattle.mvd_site.specs.Config.{ConfigValue}
+use Rattle.mvd_site.specs.FromStates.{after_from, answer_from}
 use Rattle.mvd_site.specs.Held.{States, state_at}
 use Rattle.mvd_peer.specs.Sides.{Stays, is_of_question, stays_on}
 use Rattle.mvd_peer.specs.Windows.{CannotTake, IsNode, PageValue, RefusesPage, Takes, leaves_open}
 use Rattle.mvd_remote.specs.declared.remote.Remote.{Remote}
 
 -- the far end: the key states that it holds once all that went out is answered, the replies that are still to be read,
--- and how many keys it holds at most
+-- and what it was set up with
 pub record Far : Type 0 where
   pub states : States
   pub due : List Reply
-  pub most : ℕ
+  pub config : ConfigValue
+
+-- the far end of a line of which nothing is claimed
+abbrev pub nowhere : Far
+nowhere = record {
+  states = empty;
+  due = [];
+  config = record { site = 0; max_keys = 0; defs = record { indexes = []; views = [] } };
+}
 
 -- ---- what a faithful side replies
 
@@ -41,31 +53,38 @@ abbrev pub RefusesPush : ℕ → States → Key → State → Refusal → States
 RefusesPush most old key state refusal new =
     (CannotTake most old key state refusal × (new ≡ old)) ⊎ ((refusal ≡ Broken) × Takes old key state new)
 
--- The reply of a faithful side to a request, from the states that it holds, and those that it holds then. Of requests
--- that no session makes nothing is said.
-abbrev pub TrueReply : ℕ → States → Request → Reply → States → Type 0
-TrueReply most old (Get key) (Shown state) new = (state ≡ state_at old key) × (new ≡ old)
-TrueReply most old (Get key) (Refused refusal) new = RefusesQuestion old refusal new
-TrueReply most old (Get key) reply new = ⊥
-TrueReply most old (Node path) (Told node) new = IsNode (digests old) path node × (new ≡ old)
-TrueReply most old (Node path) (Refused refusal) new = RefusesQuestion old refusal new
-TrueReply most old (Node path) reply new = ⊥
-TrueReply most old (Bucket path after) (Keys page more) new =
+-- a site answers as its states and what it was set up with say, and has the states after that; or it refuses for its
+-- own sake, with a refusal from 20 on, and has done nothing, or broke, and may have done it
+abbrev pub SiteReplies : ConfigValue → States → Request → Reply → States → Type 0
+SiteReplies config old request reply new =
+    ((reply ≡ answer_from config old request) × (new ≡ after_from config old request))
+    ⊎ ((refusal : Refusal) × (reply ≡ Refused refusal) × (20 ≤ number_of refusal)
+    × ((new ≡ old) ⊎ ((refusal ≡ Broken) × (new ≡ after_from config old request))))
+
+-- THE REPLY OF A FAITHFUL SIDE TO A REQUEST, from the states that it holds, and those that it holds then. What a
+-- session asks, any faithful side may be asked; all else is asked of a site.
+abbrev pub TrueReply : ConfigValue → States → Request → Reply → States → Type 0
+TrueReply config old (Get key) (Shown state) new = (state ≡ state_at old key) × (new ≡ old)
+TrueReply config old (Get key) (Refused refusal) new = RefusesQuestion old refusal new
+TrueReply config old (Get key) reply new = ⊥
+TrueReply config old (Node path) (Told node) new = IsNode (digests old) path node × (new ≡ old)
+TrueReply config old (Node path) (Refused refusal) new = RefusesQuestion old refusal new
+TrueReply config old (Node path) reply new = ⊥
+TrueReply config old (Bucket path after) (Keys page more) new =
     (page ≡ page_of (digests old) path after) × (more ≡ is_more_after_page (digests old) path after) × (new ≡ old)
-TrueReply most old (Bucket path after) (Refused refusal) new = RefusesPage path refusal × (new ≡ old)
-TrueReply most old (Bucket path after) reply new = ⊥
-TrueReply most old (Push key state) Done new = Takes old key state new
-TrueReply most old (Push key state) (Refused refusal) new = RefusesPush most old key state refusal new
-TrueReply most old (Push key state) reply new = ⊥
-TrueReply most old Bye reply new = new ≡ old
-TrueReply most old request reply new = Unit {0}
+TrueReply config old (Bucket path after) (Refused refusal) new = RefusesPage path refusal × (new ≡ old)
+TrueReply config old (Bucket path after) reply new = ⊥
+TrueReply config old (Push key state) Done new = Takes old key state new
+TrueReply config old (Push key state) (Refused refusal) new = RefusesPush config.max_keys old key state refusal new
+TrueReply config old (Push key state) reply new = ⊥
+TrueReply config old request reply new = SiteReplies config old request reply new
 
 -- so to requests one after the other
-abbrev pub TrueReplies : ℕ → States → List Request → List Reply → States → Type 0
-TrueReplies most old [] [] new = new ≡ old
-TrueReplies most old (q ∷ qs) (r ∷ rs) new =
-    (mid : States) × TrueReply most old q r mid × TrueReplies most mid qs rs new
-TrueReplies most old qs rs new = ⊥
+abbrev pub TrueReplies : ConfigValue → States → List Request → List Reply → States → Type 0
+TrueReplies config old [] [] new = new ≡ old
+TrueReplies config old (q ∷ qs) (r ∷ rs) new =
+    (mid : States) × TrueReply config old q r mid × TrueReplies config mid qs rs new
+TrueReplies config old qs rs new = ⊥
 
 -- ---- what goes out and what comes in
 
@@ -79,17 +98,18 @@ AreFrames (q ∷ qs) bytes =
 -- all of them are taken, and the replies to them are due after those that were
 pub record TakesAll (old : Far) (requests : List Request) (new : Far) : Type 0 where
   pub replies : List Reply
-  pub are_true : TrueReplies old.most old.states requests replies new.states
+  pub are_true : TrueReplies old.config old.states requests replies new.states
   pub due : new.due ≡ old.due ++ replies
 
 -- the first of them are taken
-abbrev pub TakesFirst : ℕ → States → List Request → States → Type 0
-TakesFirst most old requests new = (n : ℕ) × (replies : List Reply) × TrueReplies most old (take n requests) replies new
+abbrev pub TakesFirst : ConfigValue → States → List Request → States → Type 0
+TakesFirst config old requests new =
+    (n : ℕ) × (replies : List Reply) × TrueReplies config old (take n requests) replies new
 
 -- frames of requests went out; where that failed, the first of them were taken
 abbrev pub GoesOut : Far → Far → List Request → Result (Unit {0}) Refusal → Type 0
 GoesOut old new requests (Ok done) = TakesAll old requests new
-GoesOut old new requests (Err refusal) = TakesFirst old.most old.states requests new.states
+GoesOut old new requests (Err refusal) = TakesFirst old.config old.states requests new.states
 
 -- what was sent over a line that is true, if these are frames of requests
 abbrev pub SendsTruly : {L : Type 0} → (L → Type 0) → (L → Far) → List ℕ → L → L → Result (Unit {0}) Refusal → Type 0
@@ -122,9 +142,9 @@ refused_of remote = remote.refused
 abbrev pub far_of : {L : Type 0} → (L → Far) → Remote L → Far
 far_of far remote = far remote.line
 
--- the far side holds as many keys at most
-abbrev pub KeepsMost : {L : Type 0} → (L → Far) → Remote L → Remote L → Type 0
-KeepsMost far old new = (far_of far new).most ≡ (far_of far old).most
+-- what the far side was set up with stays
+abbrev pub KeepsConfig : {L : Type 0} → (L → Far) → Remote L → Remote L → Type 0
+KeepsConfig far old new = (far_of far new).config ≡ (far_of far old).config
 
 -- over a true line: no reply is due, unless its link refuses, and then with a refusal that leaves open what was taken
 pub record IsTrueRemote {L : Type 0} (is_true : L → Type 0) (far : L → Far) (remote : Remote L) : Type 0 where
@@ -132,11 +152,11 @@ pub record IsTrueRemote {L : Type 0} (is_true : L → Type 0) (far : L → Far) 
   pub step : remote.refused ≡ None → (far remote.line).due ≡ []
   pub own : (refusal : Refusal) → remote.refused ≡ Some refusal → leaves_open refusal ≡ true
 
--- a link that refuses stays as it is, and the far side holds as many keys at most
+-- a link that refuses stays as it is, and so does what the far side was set up with
 abbrev pub RemoteFollows : {L : Type 0} → (L → Far) → Remote L → Remote L → Type 0
 RemoteFollows {L} far old new =
     Stays (λ (remote : Remote L). (refusal : Refusal) × (remote.refused ≡ Some refusal)) old new
-    × ((far new.line).most ≡ (far old.line).most)
+    × ((far new.line).config ≡ (far old.line).config)
 
 pub remote_follows_self : {L : Type 0} (far : L → Far) (remote : Remote L) → RemoteFollows far remote remote
 remote_follows_self far remote = (λ _. refl, refl)
@@ -149,17 +169,18 @@ remote_follows_on {L} far old mid new p q = (
 )
 
 -- a request was taken, or it was not
-abbrev pub MayTake : ℕ → States → Request → States → Type 0
-MayTake most old request new = (new ≡ old) ⊎ ((reply : Reply) × TrueReply most old request reply new)
+abbrev pub MayTake : ConfigValue → States → Request → States → Type 0
+MayTake config old request new = (new ≡ old) ⊎ ((reply : Reply) × TrueReply config old request reply new)
 
 -- what a faithful side answers to a request, or why there is no answer: it refuses, or the request has no frame, or it
 -- is left open
-abbrev pub AnswersTruly : {A : Type 0} → (A → Reply) → ℕ → States → Request → Result A Refusal → States → Type 0
-AnswersTruly as_reply most old request (Ok answer) new = TrueReply most old request (as_reply answer) new
-AnswersTruly as_reply most old request (Err refusal) new =
-    TrueReply most old request (Refused refusal) new
+abbrev pub AnswersTruly : {A : Type 0} → (A → Reply) → ConfigValue → States → Request → Result A Refusal → States
+    → Type 0
+AnswersTruly as_reply config old request (Ok answer) new = TrueReply config old request (as_reply answer) new
+AnswersTruly as_reply config old request (Err refusal) new =
+    TrueReply config old request (Refused refusal) new
     ⊎ (((request_frame request ≡ Err refusal) × (new ≡ old))
-    ⊎ ((leaves_open refusal ≡ true) × MayTake most old request new))
+    ⊎ ((leaves_open refusal ≡ true) × MayTake config old request new))
 
 -- the replies that tell digests, a page, a state, and that it is done
 abbrev pub as_digests : Digests → Reply
@@ -228,17 +249,17 @@ AreSpelled [] = Unit {0}
 AreSpelled (q ∷ qs) = IsSpelled q × AreSpelled qs
 
 -- what a request was told in its turn: the reply, or why it has no frame, or that there is no memory for the reply
-abbrev pub ToldTruly : ℕ → States → Request → Result Reply Refusal → States → Type 0
-ToldTruly most old request (Ok reply) new = TrueReply most old request reply new
-ToldTruly most old request (Err refusal) new =
+abbrev pub ToldTruly : ConfigValue → States → Request → Result Reply Refusal → States → Type 0
+ToldTruly config old request (Ok reply) new = TrueReply config old request reply new
+ToldTruly config old request (Err refusal) new =
     ((request_frame request ≡ Err refusal) × (new ≡ old))
-    ⊎ ((refusal ≡ Memory) × ((reply : Reply) × TrueReply most old request reply new))
+    ⊎ ((refusal ≡ Memory) × ((reply : Reply) × TrueReply config old request reply new))
 
-abbrev pub AllToldTruly : ℕ → States → List Request → List (Result Reply Refusal) → States → Type 0
-AllToldTruly most old [] [] new = new ≡ old
-AllToldTruly most old (q ∷ qs) (t ∷ ts) new =
-    (mid : States) × ToldTruly most old q t mid × AllToldTruly most mid qs ts new
-AllToldTruly most old qs ts new = ⊥
+abbrev pub AllToldTruly : ConfigValue → States → List Request → List (Result Reply Refusal) → States → Type 0
+AllToldTruly config old [] [] new = new ≡ old
+AllToldTruly config old (q ∷ qs) (t ∷ ts) new =
+    (mid : States) × ToldTruly config old q t mid × AllToldTruly config mid qs ts new
+AllToldTruly config old qs ts new = ⊥
 
 -- those requests that have a frame
 abbrev pub and_framed : Request → Result (List ℕ) Refusal → List Request → List Request
@@ -250,27 +271,28 @@ framed [] = []
 framed (q ∷ qs) = and_framed q (request_frame q) (framed qs)
 
 -- one answer of a window that was answered; nothing is left open
-abbrev pub SettlesTruly : {A : Type 0} → (A → Reply) → ℕ → States → Request → Result A Refusal → States → Type 0
-SettlesTruly as_reply most old request (Ok answer) new = TrueReply most old request (as_reply answer) new
-SettlesTruly as_reply most old request (Err refusal) new =
-    ((refusal ≢ Broken) × TrueReply most old request (Refused refusal) new)
+abbrev pub SettlesTruly : {A : Type 0} → (A → Reply) → ConfigValue → States → Request → Result A Refusal → States
+    → Type 0
+SettlesTruly as_reply config old request (Ok answer) new = TrueReply config old request (as_reply answer) new
+SettlesTruly as_reply config old request (Err refusal) new =
+    ((refusal ≢ Broken) × TrueReply config old request (Refused refusal) new)
     ⊎ ((request_frame request ≡ Err refusal) × (new ≡ old))
 
-abbrev pub SettleTruly : {A : Type 0} → (A → Reply) → ℕ → States → List Request → List (Result A Refusal) → States
-    → Type 0
-SettleTruly as_reply most old [] [] new = new ≡ old
-SettleTruly as_reply most old (q ∷ qs) (t ∷ ts) new =
-    (mid : States) × SettlesTruly as_reply most old q t mid × SettleTruly as_reply most mid qs ts new
-SettleTruly as_reply most old qs ts new = ⊥
+abbrev pub SettleTruly : {A : Type 0} → (A → Reply) → ConfigValue → States → List Request → List (Result A Refusal)
+    → States → Type 0
+SettleTruly as_reply config old [] [] new = new ≡ old
+SettleTruly as_reply config old (q ∷ qs) (t ∷ ts) new =
+    (mid : States) × SettlesTruly as_reply config old q t mid × SettleTruly as_reply config mid qs ts new
+SettleTruly as_reply config old qs ts new = ⊥
 
 -- a window went out, and what was told in each turn is true
-abbrev pub TellsAllTruly : ℕ → States → List Request → List (Result Reply Refusal) → States → Type 0
-TellsAllTruly most old requests replies new =
-    AllToldTruly most old requests replies new × TakesFirst most old (framed requests) new
+abbrev pub TellsAllTruly : ConfigValue → States → List Request → List (Result Reply Refusal) → States → Type 0
+TellsAllTruly config old requests replies new =
+    AllToldTruly config old requests replies new × TakesFirst config old (framed requests) new
 
 -- a window was refused, and of its requests the first were taken
-abbrev pub EndsOpen : ℕ → States → List Request → Refusal → States → Type 0
-EndsOpen most old requests refusal new = (leaves_open refusal ≡ true) × TakesFirst most old (framed requests) new
+abbrev pub EndsOpen : ConfigValue → States → List Request → Refusal → States → Type 0
+EndsOpen config old requests refusal new = (leaves_open refusal ≡ true) × TakesFirst config old (framed requests) new
 
 -- a reply was taken for what it tells, and the answer leaves nothing open
 abbrev pub IsSettled : {A : Type 0} → Result Reply Refusal → Result A Refusal → Type 0

@@ -9,6 +9,7 @@ use Rattle.mvd_wire.specs.declared.request.Request.{Request}
 use Rattle.mvd_wire.specs.declared.request.Request.TheVariants.{Get, Node, Bucket, Push, Bye}
 use Rattle.mvd_wire.specs.declared.reply.Digests.{Digests}
 use Rattle.mvd_wire.specs.declared.reply.Reply.{Reply}
+use Rattle.mvd_site.specs.Config.{ConfigValue}
 use Rattle.mvd_site.specs.Held.{States}
 use Rattle.mvd_remote.specs.LinkWindows.{AsksForAll}
 use Rattle.mvd_remote.specs.Lines.{AnswersTruly, EndsOpen, IsTrueRemote, SettleTruly, Took}
@@ -91,25 +92,25 @@ AsksTruly line query old new result =
     let before = far_of line.far old in
     let after = far_of line.far new in
     IsTrueRemote line.is_true line.far old → IsTrueRemote line.is_true line.far new
-    × AnswersTruly query.as_reply before.most before.states query.request result after.states
+    × AnswersTruly query.as_reply before.config before.states query.request result after.states
 
 -- this of a window that went out over a true line, or of the requests of one that was refused the first were taken
-abbrev pub EndsTruly : {L V : Type 0} → Ghosts L → (ℕ → States → V → States → Type 0) → List Request
+abbrev pub EndsTruly : {L V : Type 0} → Ghosts L → (ConfigValue → States → V → States → Type 0) → List Request
     → (old new : Remote L)
     → Result V Refusal → Type 0
 EndsTruly line Answered requests old new result =
     let before = far_of line.far old in
     let after = far_of line.far new in
     IsTrueRemote line.is_true line.far old → IsTrueRemote line.is_true line.far new × MatchResult result
-    (λ told. Answered before.most before.states told after.states)
-    (λ refusal. EndsOpen before.most before.states requests refusal after.states)
+    (λ told. Answered before.config before.states told after.states)
+    (λ refusal. EndsOpen before.config before.states requests refusal after.states)
 
 -- A WINDOW OVER A TRUE LINE is answered so
 abbrev pub AsksAllTruly : {L A : Type 0} → Ghosts L → Queries A → (old new : Remote L)
     → Result (Vec (Result A Refusal) Global) Refusal → Type 0
 AsksAllTruly line queries old new result =
     EndsTruly line
-    (λ most before told after. SettleTruly queries.as_reply most before queries.requests told.items after)
+    (λ config before told after. SettleTruly queries.as_reply config before queries.requests told.items after)
     queries.requests old new result
 
 -- what came for a request over a true line is taken

@@ -1,11 +1,10 @@
 //! A line to a site at the other end of a connection.
-ghost use Rattle.std.specs.Prelude.{◌≡◌, None, List, ℕ, Option, [], IfErr, OnOk, OnErr, option_map};
-ghost use Rattle.std.specs.FinMap.{empty};
+ghost use Rattle.std.specs.Prelude.{◌≡◌, None, List, ℕ, Option, IfErr, OnOk, OnErr, option_map};
 ghost use Rattle.std.specs.Io.KnownBytes.{Appends};
 ghost use Rattle.mvd_dots.specs.declared.refusals.Refusal.TheVariants.{WriteFailed};
 ghost use Rattle.mvd_wire.specs.Frames.{AppendsFront, EndsReading, Reads, frame_at, frame_value};
 ghost use Rattle.mvd_site.specs.Held.{AreHeld};
-ghost use Rattle.mvd_remote.specs.Lines.{Far, ReadsTruly, SendsTruly, line_of, refused_of};
+ghost use Rattle.mvd_remote.specs.Lines.{Far, ReadsTruly, SendsTruly, line_of, nowhere, refused_of};
 
 use crate::remote::Remote;
 use mvd_dots::Refusal;
@@ -38,7 +37,7 @@ pub trait Line: Sized + Drop {
         ensures front { OnErr result (AppendsFront (contents self.old) (contents self.new) frames.now) }
         ensures err { IfErr result (λ refusal. refusal ≡ WriteFailed) }
         ensures unread { remaining self.new ≡ remaining self.old }
-        ensures most { (far self.new).most ≡ (far self.old).most }
+        ensures config { (far self.new).config ≡ (far self.old).config }
         ensures truth { SendsTruly is_true far frames.now self.old self.new result };
 
     /// Takes the next frame. It is `None` where the line ends before a frame's first byte.
@@ -46,7 +45,7 @@ pub trait Line: Sized + Drop {
         ensures read { Reads (option_map frame_value) (remaining self.old) (remaining self.new) result frame_at }
         ensures err { IfErr result EndsReading }
         ensures unsent { contents self.new ≡ contents self.old }
-        ensures most { (far self.new).most ≡ (far self.old).most }
+        ensures config { (far self.new).config ≡ (far self.old).config }
         ensures truth { ReadsTruly is_true far self.old self.new result };
 
     /// The far side of a true line holds keys and states in form.
@@ -68,7 +67,7 @@ impl<R: Read + Drop, W: Write + Drop> Line for Duplex<R, W> {
     // No truth is claimed of bytes alone.
     ghost is_true = { λ _. ⊥ };
 
-    ghost far = { λ _. record { states = empty; due = []; most = 0 } };
+    ghost far = { λ _. nowhere };
 
     ghost in_form = { λ _ never. absurd never };
 

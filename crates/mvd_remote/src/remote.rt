@@ -7,7 +7,7 @@ ghost use Rattle.std.specs.Prelude.{◌≡◌, ◌⊎◌, [], IfOk, None, Some, 
 ghost use Rattle.mvd_dots.specs.declared.refusals.Refusal.{Refusal};
 ghost use Rattle.mvd_wire.specs.declared.request.Request.{Request};
 ghost use Rattle.mvd_wire.specs.declared.reply.Reply.TheVariants.{Refused};
-ghost use Rattle.mvd_remote.specs.Lines.{IsTrueRemote, KeepsMost, line_of, refused_of};
+ghost use Rattle.mvd_remote.specs.Lines.{IsTrueRemote, KeepsConfig, line_of, refused_of};
 ghost use Rattle.mvd_remote.specs.Links.{Asks, ReadsReply, Sends, StaysRefused, answered_by};
 ghost use Rattle.mvd_remote.specs.Remotes.{AsksOver, AsksTruly, TakesReply, any_query, bye_query, link_of, query};
 ghost use Rattle.mvd_wire.specs.Codec.{Gives};
@@ -98,7 +98,7 @@ impl<L: Line> Remote<L> {
             kind (refused_of self.new) result }
         ensures of_kind { IfOk result (λ reply. (kind_of reply ≡ kind) ⊎ (kind_of reply ≡ 0xEE)) }
         ensures unsent { L.contents (line_of self.new) ≡ L.contents (line_of self.old) }
-        ensures most { KeepsMost L.far self.old self.new }
+        ensures config { KeepsConfig L.far self.old self.new }
         ensures truth { TakesReply L.Line self.old self.new result }
     {
         let came = match self.line.receive(self.alloc) {
@@ -125,7 +125,7 @@ impl<L: Line> Remote<L> {
         requires { refused_of self.old ≡ None }
         ensures sends { Sends (link_of L.Line self.old) (link_of L.Line self.new) frame.now kind result }
         ensures of_kind { IfOk result (λ reply. (kind_of reply ≡ kind) ⊎ (kind_of reply ≡ 0xEE)) }
-        ensures most { KeepsMost L.far self.old self.new }
+        ensures config { KeepsConfig L.far self.old self.new }
         ensures truth { (request : Request) → IsRequest request → request_frame request ≡ Ok frame.now →
             AsksTruly L.Line (any_query request) self.old self.new result }
     {
@@ -141,7 +141,7 @@ impl<L: Line> Remote<L> {
     pub fn ask(&mut self, request: &Request) -> Result<Reply, Refusal>
         ensures asked { Asks (link_of L.Line self.old) (link_of L.Line self.new) request.now result }
         ensures stays { StaysRefused self.old self.new result }
-        ensures most { KeepsMost L.far self.old self.new }
+        ensures config { KeepsConfig L.far self.old self.new }
         ensures truth { AsksTruly L.Line (any_query request.now) self.old self.new result }
     {
         if let Some(refusal) = self.refused {
@@ -159,7 +159,7 @@ impl<L: Line> Remote<L> {
             Gives (λ v. v.items) frame (request_frame request) →
             AsksOver L.Line (query request A.as_reply) self.old self.new result }
         ensures stays { StaysRefused self.old self.new result }
-        ensures most { KeepsMost L.far self.old self.new }
+        ensures config { KeepsConfig L.far self.old self.new }
         ensures truth { (request : Request) → IfOk frame (λ _. IsRequest request) →
             Gives (λ v. v.items) frame (request_frame request) →
             AsksTruly L.Line (query request A.as_reply) self.old self.new result }
@@ -181,7 +181,7 @@ impl<L: Line> Remote<L> {
     pub fn bye(&mut self) -> Result<(), Refusal>
         ensures asked { AsksOver L.Line bye_query self.old self.new result }
         ensures stays { StaysRefused self.old self.new result }
-        ensures most { KeepsMost L.far self.old self.new }
+        ensures config { KeepsConfig L.far self.old self.new }
         ensures truth { AsksTruly L.Line bye_query self.old self.new result }
     {
         self.ask_for(encode_bye(self.alloc))

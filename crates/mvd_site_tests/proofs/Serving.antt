@@ -1,8 +1,9 @@
 -- A site at hand, behind a true line.
-use Rattle.std.proofs.Common.{◌≡◌, ◌≢◌, ◌⊎◌, inl, inr, ℕ, ◌+◌, ◌<◌, ◌≤◌, ◌==◌, ◌&&◌, Bool, true, false, List, [], ◌∷◌, ◌++◌, length, take, Option, Some, None, refl, sym, ap, subst, ◌∙◌, leb-true, true≢false}
+use Rattle.std.proofs.Common.{◌≡◌, ◌≢◌, ◌⊎◌, inl, inr, ℕ, ◌+◌, ◌<◌, ◌≤◌, ◌==◌, ◌&&◌, Bool, true, false, List, [], ◌∷◌, ◌++◌, length, take, Option, Some, None, refl, sym, ap, subst, ◌∙◌, leb-true, true≢false, arith}
 use Rattle.std.proofs.Math.Seq.{take-append_seam}
 use Rattle.std.proofs.lemmas.List.{append-nil, append_assoc}
 use Rattle.std.specs.Prelude.{Result, Ok, Err, IfOk, IfSome, is_some, not, option_map, nat_le, if◌then◌else◌}
+use Rattle.mvd_dots.specs.Refusal.{number_of}
 use Rattle.mvd_dots.specs.declared.refusals.Refusal.{Refusal}
 use Rattle.mvd_dots.specs.declared.refusals.Refusal.TheVariants.{BadPath, Broken, DotClash, FrameTooLong, Full, Memory, StateTooLarge, BadBody}
 use Rattle.mvd_keys.specs.State.{IsValid, State, clashes, join}
@@ -44,37 +45,37 @@ page_so path BadPath free = absurd (true≢false free)
 page_so path refusal free = free
 
 -- want of memory, or that the site is broken
-refused_so : (most : ℕ) (old new : States) (q : Request) (refusal : Refusal) → new ≡ old → is_of_question refusal ≡ false → ((key : Key) (s : State) → CannotTake most old key s refusal) → TrueReply most old q (Refused refusal) new
-refused_so most old new (Get key) refusal same free why = (free, same)
-refused_so most old new (Node path) refusal same free why = (free, same)
-refused_so most old new (Bucket path after) refusal same free why = (page_so path refusal free, same)
-refused_so most old new (Push key s) refusal same free why = inl (why key s, same)
-refused_so most old new Bye refusal same free why = same
-refused_so most old new (Put k c d) refusal same free why = tt
-refused_so most old new (Delete k c) refusal same free why = tt
-refused_so most old new (Find f t after) refusal same free why = tt
-refused_so most old new (Row v t) refusal same free why = tt
-refused_so most old new (Rows v after) refusal same free why = tt
-refused_so most old new (Range f from to after) refusal same free why = tt
+refused_so : (config : ConfigValue) (old new : States) (q : Request) (refusal : Refusal) → new ≡ old → 20 ≤ number_of refusal → is_of_question refusal ≡ false → ((key : Key) (s : State) → CannotTake config.max_keys old key s refusal) → TrueReply config old q (Refused refusal) new
+refused_so config old new (Get key) refusal same own free why = (free, same)
+refused_so config old new (Node path) refusal same own free why = (free, same)
+refused_so config old new (Bucket path after) refusal same own free why = (page_so path refusal free, same)
+refused_so config old new (Push key s) refusal same own free why = inl (why key s, same)
+refused_so config old new Bye refusal same own free why = inr (refusal, refl, own, inl same)
+refused_so config old new (Put k c d) refusal same own free why = inr (refusal, refl, own, inl same)
+refused_so config old new (Delete k c) refusal same own free why = inr (refusal, refl, own, inl same)
+refused_so config old new (Find f t after) refusal same own free why = inr (refusal, refl, own, inl same)
+refused_so config old new (Row v t) refusal same own free why = inr (refusal, refl, own, inl same)
+refused_so config old new (Rows v after) refusal same own free why = inr (refusal, refl, own, inl same)
+refused_so config old new (Range f from to after) refusal same own free why = inr (refusal, refl, own, inl same)
 
-bucket_so : (most : ℕ) (old : States) (path : List ℕ) (after : Option Key) (three : Bool) → (length path == 3) ≡ three → TrueReply most old (Bucket path after) (if three then Keys (page_of (digests old) path after) (is_more_after_page (digests old) path after) else Refused BadPath) old
-bucket_so most old path after true is = (refl, refl, refl)
-bucket_so most old path after false is = (is, refl)
+bucket_so : (config : ConfigValue) (old : States) (path : List ℕ) (after : Option Key) (three : Bool) → (length path == 3) ≡ three → TrueReply config old (Bucket path after) (if three then Keys (page_of (digests old) path after) (is_more_after_page (digests old) path after) else Refused BadPath) old
+bucket_so config old path after true is = (refl, refl, refl)
+bucket_so config old path after false is = (is, refl)
 
-node_so : (most : ℕ) (config : ConfigValue) (old : States) (path : List ℕ) → TrueReply most old (Node path) (answer_from config old (Node path)) old
-node_so most config old path = ((node_own false old path (Ok (node_digests (digests old) path)) refl refl, node_inner false old path (Ok (node_digests (digests old) path)) refl refl, node_bucket false old path (Ok (node_digests (digests old) path)) refl refl), refl)
+node_so : (config : ConfigValue) (old : States) (path : List ℕ) → TrueReply config old (Node path) (answer_from config old (Node path)) old
+node_so config old path = ((node_own false old path (Ok (node_digests (digests old) path)) refl refl, node_inner false old path (Ok (node_digests (digests old) path)) refl refl, node_bucket false old path (Ok (node_digests (digests old) path)) refl refl), refl)
 
 -- what a site that is not broken does with a request, its answer apart
 module _ (old new : SiteValue) (q : Request) (reply : Reply) (whole : old.broken ≡ false) (from : AnswersFrom old new q reply) where
-  kept_so : ((answered : Answered old new q reply) → TrueReply old.config.max_keys old.states q reply new.states) → TrueReply old.config.max_keys old.states q reply new.states
+  kept_so : ((answered : Answered old new q reply) → TrueReply old.config old.states q reply new.states) → TrueReply old.config old.states q reply new.states
   kept_so f = elim (from whole) [
     | inl answered ↦ f answered
-    | inr (inl memory) ↦ subst (λ (r : Reply). TrueReply old.config.max_keys old.states q r new.states) (sym memory.0) (refused_so old.config.max_keys old.states new.states q Memory (ap (λ (v : SiteValue). v.states) memory.1) refl (λ key s. tt))
-    | inr (inr broke) ↦ subst (λ (r : Reply). TrueReply old.config.max_keys old.states q r new.states) (sym broke.0) (refused_so old.config.max_keys old.states new.states q Broken (ap (λ (v : SiteValue). v.states) broke.1.site) refl (λ key s. tt))
+    | inr (inl memory) ↦ subst (λ (r : Reply). TrueReply old.config old.states q r new.states) (sym memory.0) (refused_so old.config old.states new.states q Memory (ap (λ (v : SiteValue). v.states) memory.1) (omega arith) refl (λ key s. tt))
+    | inr (inr broke) ↦ subst (λ (r : Reply). TrueReply old.config old.states q r new.states) (sym broke.0) (refused_so old.config old.states new.states q Broken (ap (λ (v : SiteValue). v.states) broke.1.site) (omega arith) refl (λ key s. tt))
   ]
 
-  so : (answered : Answered old new q reply) → TrueReply old.config.max_keys old.states q (answer_from old.config old.states q) (after_from old.config old.states q) → TrueReply old.config.max_keys old.states q reply new.states
-  so answered t = subst (λ (r : Reply). TrueReply old.config.max_keys old.states q r new.states) (sym answered.answers) (subst (TrueReply old.config.max_keys old.states q (answer_from old.config old.states q)) (sym (ap (λ (v : SiteValue). v.states) answered.site)) t)
+  so : (answered : Answered old new q reply) → TrueReply old.config old.states q (answer_from old.config old.states q) (after_from old.config old.states q) → TrueReply old.config old.states q reply new.states
+  so answered t = subst (λ (r : Reply). TrueReply old.config old.states q r new.states) (sym answered.answers) (subst (TrueReply old.config old.states q (answer_from old.config old.states q)) (sym (ap (λ (v : SiteValue). v.states) answered.site)) t)
 
 -- ---- a push
 
@@ -85,41 +86,41 @@ shape false false true full r e = inr (StateTooLarge, e)
 shape false false false true r e = inr (Full, e)
 shape false false false false r e = inl (e, refl)
 
-push_so : (old new : SiteValue) (key : Key) (s : State) (reply : Reply) → old.broken ≡ false → AreHeld old.states → IsValid s → AnswersFrom old new (Push key s) reply → Answered old new (Push key s) reply → TrueReply old.config.max_keys old.states (Push key s) reply new.states
+push_so : (old new : SiteValue) (key : Key) (s : State) (reply : Reply) → old.broken ≡ false → AreHeld old.states → IsValid s → AnswersFrom old new (Push key s) reply → Answered old new (Push key s) reply → TrueReply old.config old.states (Push key s) reply new.states
 push_so old new key s reply whole held valid from answered =
     let states : new.states ≡ after_from old.config old.states (Push key s) = ap (λ (v : SiteValue). v.states) answered.site in
     let changed : after_from old.config old.states (Push key s) ≡ with_change old.states (change_from old.states (Push key s) reply) = ap (λ (r : Reply). with_change old.states (change_from old.states (Push key s) r)) (sym answered.answers) in
     elim (shape (is_too_large s) (clashes (state_at old.states key) s) (is_too_large (join (state_at old.states key) s)) (is_full old.config (is_some (get old.states key)) (len old.states) && not (is_empty (join (state_at old.states key) s).context)) reply answered.answers) [
       | inl done ↦
           let put : new.states ≡ pushed old.states key s = states ∙ changed ∙ ap (λ (r : Reply). with_change old.states (change_from old.states (Push key s) r)) done.0 ∙ put_is_pushed old.states key s held valid in
-          subst (λ (r : Reply). TrueReply old.config.max_keys old.states (Push key s) r new.states) (sym done.0) (done.1, put)
+          subst (λ (r : Reply). TrueReply old.config old.states (Push key s) r new.states) (sym done.0) (done.1, put)
       | inr (refusal, is) ↦
           let same : new.states ≡ old.states = states ∙ changed ∙ ap (λ (r : Reply). with_change old.states (change_from old.states (Push key s) r)) is in
           let why : CannotTake old.config.max_keys old.states key s refusal = push_cause old new key s whole (Err refusal) (subst (λ (r : Reply). AnswersFrom old new (Push key s) r) is from) in
-          subst (λ (r : Reply). TrueReply old.config.max_keys old.states (Push key s) r new.states) (sym is) (inl (why, same))
+          subst (λ (r : Reply). TrueReply old.config old.states (Push key s) r new.states) (sym is) (inl (why, same))
     ]
 
 -- ---- any request
 
-whole_so : (old new : SiteValue) (q : Request) (reply : Reply) → old.broken ≡ false → AreHeld old.states → IsValidRequest q → AnswersFrom old new q reply → TrueReply old.config.max_keys old.states q reply new.states
+whole_so : (old new : SiteValue) (q : Request) (reply : Reply) → old.broken ≡ false → AreHeld old.states → IsValidRequest q → AnswersFrom old new q reply → TrueReply old.config old.states q reply new.states
 whole_so old new (Get key) reply whole held valid from = kept_so old new (Get key) reply whole from (λ a. so old new (Get key) reply whole from a (refl, refl))
-whole_so old new (Node path) reply whole held valid from = kept_so old new (Node path) reply whole from (λ a. so old new (Node path) reply whole from a (node_so old.config.max_keys old.config old.states path))
-whole_so old new (Bucket path after) reply whole held valid from = kept_so old new (Bucket path after) reply whole from (λ a. so old new (Bucket path after) reply whole from a (bucket_so old.config.max_keys old.states path after (length path == 3) refl))
+whole_so old new (Node path) reply whole held valid from = kept_so old new (Node path) reply whole from (λ a. so old new (Node path) reply whole from a (node_so old.config old.states path))
+whole_so old new (Bucket path after) reply whole held valid from = kept_so old new (Bucket path after) reply whole from (λ a. so old new (Bucket path after) reply whole from a (bucket_so old.config old.states path after (length path == 3) refl))
 whole_so old new (Push key s) reply whole held valid from = kept_so old new (Push key s) reply whole from (λ a. push_so old new key s reply whole held valid from a)
-whole_so old new Bye reply whole held valid from = kept_so old new Bye reply whole from (λ a. so old new Bye reply whole from a refl)
-whole_so old new (Put k c d) reply whole held valid from = tt
-whole_so old new (Delete k c) reply whole held valid from = tt
-whole_so old new (Find f t after) reply whole held valid from = tt
-whole_so old new (Row v t) reply whole held valid from = tt
-whole_so old new (Rows v after) reply whole held valid from = tt
-whole_so old new (Range f start to after) reply whole held valid from = tt
+whole_so old new Bye reply whole held valid from = kept_so old new Bye reply whole from (λ a. inl (a.answers, ap (λ (v : SiteValue). v.states) a.site))
+whole_so old new (Put k c d) reply whole held valid from = kept_so old new (Put k c d) reply whole from (λ a. inl (a.answers, ap (λ (v : SiteValue). v.states) a.site))
+whole_so old new (Delete k c) reply whole held valid from = kept_so old new (Delete k c) reply whole from (λ a. inl (a.answers, ap (λ (v : SiteValue). v.states) a.site))
+whole_so old new (Find f t after) reply whole held valid from = kept_so old new (Find f t after) reply whole from (λ a. inl (a.answers, ap (λ (v : SiteValue). v.states) a.site))
+whole_so old new (Row v t) reply whole held valid from = kept_so old new (Row v t) reply whole from (λ a. inl (a.answers, ap (λ (v : SiteValue). v.states) a.site))
+whole_so old new (Rows v after) reply whole held valid from = kept_so old new (Rows v after) reply whole from (λ a. inl (a.answers, ap (λ (v : SiteValue). v.states) a.site))
+whole_so old new (Range f start to after) reply whole held valid from = kept_so old new (Range f start to after) reply whole from (λ a. inl (a.answers, ap (λ (v : SiteValue). v.states) a.site))
 
 -- THE REPLY OF A SITE is a true one, also where it is broken
-pub replies_truly : (old new : SiteValue) (q : Request) (reply : Reply) → AreHeld old.states → IsValidRequest q → AnswersFrom old new q reply → (old.broken ≡ true → (reply ≡ Refused Broken) × (new ≡ old)) → TrueReply old.config.max_keys old.states q reply new.states
-replies_truly old new q reply held valid from stays = elim old.broken as (λ b. old.broken ≡ b → TrueReply old.config.max_keys old.states q reply new.states) [
+pub replies_truly : (old new : SiteValue) (q : Request) (reply : Reply) → AreHeld old.states → IsValidRequest q → AnswersFrom old new q reply → (old.broken ≡ true → (reply ≡ Refused Broken) × (new ≡ old)) → TrueReply old.config old.states q reply new.states
+replies_truly old new q reply held valid from stays = elim old.broken as (λ b. old.broken ≡ b → TrueReply old.config old.states q reply new.states) [
   | true ↦ λ was.
       let same = stays was in
-      subst (λ (r : Reply). TrueReply old.config.max_keys old.states q r new.states) (sym same.0) (refused_so old.config.max_keys old.states new.states q Broken (ap (λ (v : SiteValue). v.states) same.1) refl (λ key s. tt))
+      subst (λ (r : Reply). TrueReply old.config old.states q r new.states) (sym same.0) (refused_so old.config old.states new.states q Broken (ap (λ (v : SiteValue). v.states) same.1) (omega arith) refl (λ key s. tt))
   | false ↦ λ was. whole_so old new q reply was held valid from
 ] refl
 
@@ -172,27 +173,27 @@ pub record Went (old new : Far) (requests : List Request) (bytes : List ℕ) : T
   pub left : List Request
   pub all : requests ≡ done ++ left
   pub replies : List Reply
-  pub are_true : TrueReplies old.most old.states done replies new.states
+  pub are_true : TrueReplies old.config old.states done replies new.states
   pub due : new.due ≡ old.due ++ replies
   pub frames : AreFrames left bytes
-  pub most : new.most ≡ old.most
+  pub config : new.config ≡ old.config
 
 -- none yet
 pub went_none : (old : Far) (requests : List Request) (bytes : List ℕ) → AreFrames requests bytes → Went old old requests bytes
-went_none old requests bytes frames = record { done = []; left = requests; all = refl; replies = []; are_true = refl; due = sym (append-nil old.due); frames = frames; most = refl }
+went_none old requests bytes frames = record { done = []; left = requests; all = refl; replies = []; are_true = refl; due = sym (append-nil old.due); frames = frames; config = refl }
 
-replies_append : (most : ℕ) (old mid new : States) (qs : List Request) (rs : List Reply) (q : Request) (r : Reply) → TrueReplies most old qs rs mid → TrueReply most mid q r new → TrueReplies most old (qs ++ q ∷ []) (rs ++ r ∷ []) new
-replies_append most old mid new [] [] q r h t = (new, subst (λ m. TrueReply most m q r new) h t, refl)
-replies_append most old mid new [] (s ∷ rs) q r h t = absurd h
-replies_append most old mid new (p ∷ qs) [] q r h t = absurd h
-replies_append most old mid new (p ∷ qs) (s ∷ rs) q r h t = (h.0, h.1, replies_append most h.0 mid new qs rs q r h.2 t)
+replies_append : (config : ConfigValue) (old mid new : States) (qs : List Request) (rs : List Reply) (q : Request) (r : Reply) → TrueReplies config old qs rs mid → TrueReply config mid q r new → TrueReplies config old (qs ++ q ∷ []) (rs ++ r ∷ []) new
+replies_append config old mid new [] [] q r h t = (new, subst (λ m. TrueReply config m q r new) h t, refl)
+replies_append config old mid new [] (s ∷ rs) q r h t = absurd h
+replies_append config old mid new (p ∷ qs) [] q r h t = absurd h
+replies_append config old mid new (p ∷ qs) (s ∷ rs) q r h t = (h.0, h.1, replies_append config h.0 mid new qs rs q r h.2 t)
 
-first_of : (most : ℕ) (old new : States) (done left : List Request) (replies : List Reply) → TrueReplies most old done replies new → TakesFirst most old (done ++ left) new
-first_of most old new done left replies h = (length done, replies, subst (λ (qs : List Request). TrueReplies most old qs replies new) (sym (take-append_seam done left)) h)
+first_of : (config : ConfigValue) (old new : States) (done left : List Request) (replies : List Reply) → TrueReplies config old done replies new → TakesFirst config old (done ++ left) new
+first_of config old new done left replies h = (length done, replies, subst (λ (qs : List Request). TrueReplies config old qs replies new) (sym (take-append_seam done left)) h)
 
 -- it stops here
-pub went_some : (old new : Far) (requests : List Request) (bytes : List ℕ) → Went old new requests bytes → TakesFirst old.most old.states requests new.states
-went_some old new requests bytes w = subst (λ (qs : List Request). TakesFirst old.most old.states qs new.states) (sym w.all) (first_of old.most old.states new.states w.done w.left w.replies w.are_true)
+pub went_some : (old new : Far) (requests : List Request) (bytes : List ℕ) → Went old new requests bytes → TakesFirst old.config old.states requests new.states
+went_some old new requests bytes w = subst (λ (qs : List Request). TakesFirst old.config old.states qs new.states) (sym w.all) (first_of old.config old.states new.states w.done w.left w.replies w.are_true)
 
 front : Result (Option FrameValue × List ℕ) Refusal → Option FrameValue
 front (Ok p) = p.0
@@ -222,7 +223,7 @@ pub went_all : (old new : Far) (requests : List Request) (bytes : List ℕ) (cam
 went_all old new requests bytes came rest is e w =
     let none = nothing_left w.left bytes rest w.frames (subst (λ o. frame_at bytes ≡ Ok (option_map frame_value o, rest)) is e) in
     let whole : requests ≡ w.done = w.all ∙ ap (λ l. w.done ++ l) none ∙ append-nil w.done in
-    record { replies = w.replies; are_true = subst (λ (qs : List Request). TrueReplies old.most old.states qs w.replies new.states) (sym whole) w.are_true; due = w.due }
+    record { replies = w.replies; are_true = subst (λ (qs : List Request). TrueReplies old.config old.states qs w.replies new.states) (sym whole) w.are_true; due = w.due }
 
 -- a frame was read: it is that of the next request
 pub record Next (left : List Request) (frame : Frame) (rest : List ℕ) : Type 0 where
@@ -253,36 +254,36 @@ module _ (old mid new : Far) (requests : List Request) (bytes : List ℕ) (came 
   split : requests ≡ (w.done ++ here.q ∷ []) ++ here.later
   split = w.all ∙ ap (λ l. w.done ++ l) here.is ∙ sym (append_assoc w.done (here.q ∷ []) here.later)
 
-  at_mid : (r : Reply) → TrueReply mid.most mid.states here.q r new.states → TrueReply old.most mid.states here.q r new.states
-  at_mid r t = subst (λ m. TrueReply m mid.states here.q r new.states) w.most t
+  at_mid : (r : Reply) → TrueReply mid.config mid.states here.q r new.states → TrueReply old.config mid.states here.q r new.states
+  at_mid r t = subst (λ m. TrueReply m mid.states here.q r new.states) w.config t
 
   -- it was taken, and its reply waits
-  pub went_on : new.most ≡ mid.most → ((q : Request) → SpellsRequest q frame.kind frame.payload.items → TakesOne mid q new (Ok tt)) → Went old new requests rest
-  went_on most takes =
+  pub went_on : new.config ≡ mid.config → ((q : Request) → SpellsRequest q frame.kind frame.payload.items → TakesOne mid q new (Ok tt)) → Went old new requests rest
+  went_on config takes =
       let one = takes here.q here.spells in
       record {
         done = w.done ++ here.q ∷ [];
         left = here.later;
         all = split;
         replies = w.replies ++ one.0 ∷ [];
-        are_true = replies_append old.most old.states mid.states new.states w.done w.replies here.q one.0 w.are_true (at_mid one.0 one.1);
+        are_true = replies_append old.config old.states mid.states new.states w.done w.replies here.q one.0 w.are_true (at_mid one.0 one.1);
         due = one.2 ∙ ap (λ l. l ++ one.0 ∷ []) w.due ∙ append_assoc old.due w.replies (one.0 ∷ []);
         frames = here.frames;
-        most = most ∙ w.most;
+        config = config ∙ w.config;
       }
 
   -- there was no memory for its reply
-  pub went_cut : (refusal : Refusal) → ((q : Request) → SpellsRequest q frame.kind frame.payload.items → TakesOne mid q new (Err refusal)) → TakesFirst old.most old.states requests new.states
+  pub went_cut : (refusal : Refusal) → ((q : Request) → SpellsRequest q frame.kind frame.payload.items → TakesOne mid q new (Err refusal)) → TakesFirst old.config old.states requests new.states
   went_cut refusal takes = elim (takes here.q here.spells) [
-    | inl same ↦ subst (TakesFirst old.most old.states requests) (sym same) (went_some old mid requests bytes w)
-    | inr one ↦ subst (λ (qs : List Request). TakesFirst old.most old.states qs new.states) (sym split) (first_of old.most old.states new.states (w.done ++ here.q ∷ []) here.later (w.replies ++ one.0 ∷ []) (replies_append old.most old.states mid.states new.states w.done w.replies here.q one.0 w.are_true (at_mid one.0 one.1)))
+    | inl same ↦ subst (TakesFirst old.config old.states requests) (sym same) (went_some old mid requests bytes w)
+    | inr one ↦ subst (λ (qs : List Request). TakesFirst old.config old.states qs new.states) (sym split) (first_of old.config old.states new.states (w.done ++ here.q ∷ []) here.later (w.replies ++ one.0 ∷ []) (replies_append old.config old.states mid.states new.states w.done w.replies here.q one.0 w.are_true (at_mid one.0 one.1)))
   ]
 
 -- ---- one request that was sent
 
 -- its reply waits
-pub queued : (old new : SiteValue) (was waits : List Reply) (q x : Request) (reply : Reply) → x ≡ q → TrueReply old.config.max_keys old.states x reply new.states → waits ≡ was ++ reply ∷ [] → TakesOne (far_at old was) q (far_at new waits) (Ok tt)
-queued old new was waits q x reply e t w = (reply, subst (λ (y : Request). TrueReply old.config.max_keys old.states y reply new.states) e t, w)
+pub queued : (old new : SiteValue) (was waits : List Reply) (q x : Request) (reply : Reply) → x ≡ q → TrueReply old.config old.states x reply new.states → waits ≡ was ++ reply ∷ [] → TakesOne (far_at old was) q (far_at new waits) (Ok tt)
+queued old new was waits q x reply e t w = (reply, subst (λ (y : Request). TrueReply old.config old.states y reply new.states) e t, w)
 
 -- ---- a reply that is taken
 

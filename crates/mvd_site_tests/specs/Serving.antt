@@ -8,10 +8,10 @@ use Rattle.mvd_remote.specs.Lines.{Far, MayTake, TrueReply}
 
 -- what is at the other end: a site, whose replies wait
 abbrev pub far_at : SiteValue → List Reply → Far
-far_at site waiting = record { states = site.states; due = waiting; most = site.config.max_keys }
+far_at site waiting = record { states = site.states; due = waiting; config = site.config }
 
 -- its reply waits, or there was no memory for that
 abbrev pub TakesOne : Far → Request → Far → Result (Unit {0}) Refusal → Type 0
 TakesOne old request new (Ok done) =
-    (reply : Reply) × TrueReply old.most old.states request reply new.states × (new.due ≡ old.due ++ reply ∷ [])
-TakesOne old request new (Err refusal) = MayTake old.most old.states request new.states
+    (reply : Reply) × TrueReply old.config old.states request reply new.states × (new.due ≡ old.due ++ reply ∷ [])
+TakesOne old request new (Err refusal) = MayTake old.config old.states request new.states

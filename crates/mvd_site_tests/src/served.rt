@@ -41,10 +41,10 @@ impl Served {
 
     /// The reply of the site to a request.
     fn reply(&mut self, request: &Request) -> Reply
-        ensures truth { TrueReply self.old.site.config.max_keys self.old.site.states
+        ensures truth { TrueReply self.old.site.config self.old.site.states
             request.now result self.new.site.states }
         ensures fits { CanBeSent result }
-        ensures most { self.new.site.config ≡ self.old.site.config }
+        ensures config { self.new.site.config ≡ self.old.site.config }
         ensures held { AreHeld self.new.site.states }
         ensures waiting { self.new.waiting.items ≡ self.old.waiting.items }
     {
@@ -60,7 +60,7 @@ impl Served {
         ensures truth { (request : Request) → SpellsRequest request frame.now.kind frame.now.payload.items →
             TakesOne (far_at self.old.site self.old.waiting.items) request
             (far_at self.new.site self.new.waiting.items) result }
-        ensures most { self.new.site.config ≡ self.old.site.config }
+        ensures config { self.new.site.config ≡ self.old.site.config }
         ensures held { AreHeld self.old.site.states → AreHeld self.new.site.states }
     {
         let request = match decode_request(self.alloc, frame.kind, &frame.payload) {

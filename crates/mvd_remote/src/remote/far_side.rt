@@ -1,11 +1,12 @@
 //! A site at the other end of a connection, as a side of a session.
 ghost use Rattle.std.specs.Prelude.{◌≡◌, IfOk, None, Some};
+ghost use Rattle.std.proofs.Common.{ap};
 ghost use Rattle.std.specs.Option.{option_copied};
 ghost use Rattle.mvd_dots.specs.declared.refusals.Refusal.{Refusal};
 ghost use Rattle.mvd_wire.specs.declared.request.Request.TheVariants.{Bucket};
 ghost use Rattle.mvd_wire.specs.Codec.{Gives};
 ghost use Rattle.mvd_wire.specs.Requests.{IsRequest, request_frame};
-ghost use Rattle.mvd_remote.specs.Lines.{IsTrueRemote, KeepsMost, RemoteFollows};
+ghost use Rattle.mvd_remote.specs.Lines.{IsTrueRemote, KeepsConfig, RemoteFollows};
 ghost use Rattle.mvd_remote.specs.Lines.{far_of, line_of, refused_of, remote_follows_on, remote_follows_self};
 ghost use Rattle.mvd_remote.specs.Links.{StaysRefused};
 ghost use Rattle.mvd_remote.specs.Remotes.{AsksAllOver, AsksAllTruly, AsksOver, AsksTruly};
@@ -52,7 +53,7 @@ impl<L: Line> Peer for Remote<L> {
 
     ghost can_answer = { λ remote. refused_of remote ≡ None };
 
-    ghost most_keys = { λ remote. (far_of L.far remote).most };
+    ghost most_keys = { λ remote. (far_of L.far remote).config.max_keys };
 
     ghost number = { λ _. None };
 
@@ -62,7 +63,7 @@ impl<L: Line> Peer for Remote<L> {
 
     ghost follows_on = { λ _ _. remote_follows_on L.far };
 
-    ghost most_stays = { λ _ _ _ follows. follows.1 };
+    ghost most_stays = { λ _ _ _ follows. ap (λ c. c.max_keys) follows.1 };
 
     fn alloc(&self) -> Global {
         self.alloc
@@ -75,7 +76,7 @@ impl<L: Line> Peer for Remote<L> {
     fn node(&mut self, path: &Path) -> Result<Digests, Refusal>
         ensures asked { AsksOver L.Line (node_query path.now) self.old self.new result }
         ensures stays { StaysRefused self.old self.new result }
-        ensures most { KeepsMost L.far self.old self.new }
+        ensures config { KeepsConfig L.far self.old self.new }
         ensures truth { AsksTruly L.Line (node_query path.now) self.old self.new result }
     {
         self.ask_for(encode_node(self.alloc, path))
@@ -84,7 +85,7 @@ impl<L: Line> Peer for Remote<L> {
     fn bucket(&mut self, path: &Path, after: Option<&Key>) -> Result<Page, Refusal>
         ensures asked { AsksOver L.Line (page_query path.now (option_copied after.entry)) self.old self.new result }
         ensures stays { StaysRefused self.old self.new result }
-        ensures most { KeepsMost L.far self.old self.new }
+        ensures config { KeepsConfig L.far self.old self.new }
         ensures truth { AsksTruly L.Line (page_query path.now (option_copied after.entry)) self.old self.new result }
     {
         self.ask_for(self.bucket_frame(path, after))
@@ -93,7 +94,7 @@ impl<L: Line> Peer for Remote<L> {
     fn get(&mut self, key: &Key) -> Result<KeyState, Refusal>
         ensures asked { AsksOver L.Line (state_query key.now) self.old self.new result }
         ensures stays { StaysRefused self.old self.new result }
-        ensures most { KeepsMost L.far self.old self.new }
+        ensures config { KeepsConfig L.far self.old self.new }
         ensures truth { AsksTruly L.Line (state_query key.now) self.old self.new result }
     {
         self.ask_for(encode_get(self.alloc, key))
@@ -102,7 +103,7 @@ impl<L: Line> Peer for Remote<L> {
     fn push(&mut self, key: &Key, state: &KeyState) -> Result<(), Refusal>
         ensures asked { AsksOver L.Line (push_query key.now state.now) self.old self.new result }
         ensures stays { StaysRefused self.old self.new result }
-        ensures most { KeepsMost L.far self.old self.new }
+        ensures config { KeepsConfig L.far self.old self.new }
         ensures truth { AsksTruly L.Line (push_query key.now state.now) self.old self.new result }
     {
         self.ask_for(encode_push(self.alloc, key, state))
@@ -111,7 +112,7 @@ impl<L: Line> Peer for Remote<L> {
     fn nodes(&mut self, paths: &[Path]) -> Result<Vec<Result<Digests, Refusal>>, Refusal>
         ensures asked { AsksAllOver L.Line (node_queries paths.now) self.old self.new result }
         ensures stays { StaysRefused self.old self.new result }
-        ensures most { KeepsMost L.far self.old self.new }
+        ensures config { KeepsConfig L.far self.old self.new }
         ensures truth { AsksAllTruly L.Line (node_queries paths.now) self.old self.new result }
     {
         if let Some(refusal) = self.refused {
@@ -130,7 +131,7 @@ impl<L: Line> Peer for Remote<L> {
     ) -> Result<Vec<Result<Page, Refusal>>, Refusal>
         ensures asked { AsksAllOver L.Line (page_queries asked.now) self.old self.new result }
         ensures stays { StaysRefused self.old self.new result }
-        ensures most { KeepsMost L.far self.old self.new }
+        ensures config { KeepsConfig L.far self.old self.new }
         ensures truth { AsksAllTruly L.Line (page_queries asked.now) self.old self.new result }
     {
         if let Some(refusal) = self.refused {
@@ -146,7 +147,7 @@ impl<L: Line> Peer for Remote<L> {
     fn get_all(&mut self, keys: &[Key]) -> Result<Vec<Result<KeyState, Refusal>>, Refusal>
         ensures asked { AsksAllOver L.Line (state_queries keys.now) self.old self.new result }
         ensures stays { StaysRefused self.old self.new result }
-        ensures most { KeepsMost L.far self.old self.new }
+        ensures config { KeepsConfig L.far self.old self.new }
         ensures truth { AsksAllTruly L.Line (state_queries keys.now) self.old self.new result }
     {
         if let Some(refusal) = self.refused {
@@ -162,7 +163,7 @@ impl<L: Line> Peer for Remote<L> {
     fn push_all(&mut self, pairs: &[(Key, KeyState)]) -> Result<Vec<Result<(), Refusal>>, Refusal>
         ensures asked { AsksAllOver L.Line (push_queries pairs.now) self.old self.new result }
         ensures stays { StaysRefused self.old self.new result }
-        ensures most { KeepsMost L.far self.old self.new }
+        ensures config { KeepsConfig L.far self.old self.new }
         ensures truth { AsksAllTruly L.Line (push_queries pairs.now) self.old self.new result }
     {
         if let Some(refusal) = self.refused {

@@ -5,7 +5,7 @@ ghost use Rattle.mvd_dots.specs.declared.refusals.Refusal.TheVariants.{Memory};
 ghost use Rattle.mvd_wire.specs.Codec.{Gives};
 ghost use Rattle.mvd_remote.specs.LinkWindows.{Answered, AsksAll, IsOfKind, RefusesAll, TakesTurn, TakeTurns, TurnBreaks};
 ghost use Rattle.mvd_remote.specs.LinkWindows.{and_frame, frames_of};
-ghost use Rattle.mvd_remote.specs.Lines.{AreSpelled, DueTurn, DueTurns, KeepsMost};
+ghost use Rattle.mvd_remote.specs.Lines.{AreSpelled, DueTurn, DueTurns, KeepsConfig};
 ghost use Rattle.mvd_remote.specs.Lines.{TellsAllTruly, TookTurns, line_of, refused_of};
 ghost use Rattle.mvd_remote.specs.Links.{ReadCause};
 ghost use Rattle.mvd_remote.specs.Remotes.{AsksAllTruly, EndsTruly, link_of, queries};
@@ -80,7 +80,7 @@ impl<L: Line> Remote<L> {
             (L.remaining (line_of self.old)) (L.remaining (line_of self.new))
             kind refusal × (refused_of self.new ≡ Some refusal)) }
         ensures unsent { L.contents (line_of self.new) ≡ L.contents (line_of self.old) }
-        ensures most { KeepsMost L.far self.old self.new }
+        ensures config { KeepsConfig L.far self.old self.new }
         ensures truth { L.is_true (line_of self.old) →
             TookTurns L.is_true L.far (DueTurn none) self.old self.new result }
     {
@@ -113,7 +113,7 @@ impl<L: Line> Remote<L> {
             (L.remaining (line_of self.old)) (L.remaining (line_of self.new)) refusal
             × (refused_of self.new ≡ Some refusal)) }
         ensures unsent { L.contents (line_of self.new) ≡ L.contents (line_of self.old) }
-        ensures most { KeepsMost L.far self.old self.new }
+        ensures config { KeepsConfig L.far self.old self.new }
         ensures truth { L.is_true (line_of self.old) → TookTurns L.is_true L.far
             (λ due left _. DueTurns nones.now replies.new.items due left) self.old self.new result }
     {
@@ -137,9 +137,9 @@ impl<L: Line> Remote<L> {
             (λ replies. Answered kind window.now replies.items (link_of L.Line self.old) (link_of L.Line self.new))
             (RefusesAll kind window.now (link_of L.Line self.old) (link_of L.Line self.new)) }
         ensures of_kind { IfOk result (λ replies. All (IsOfKind kind) replies.items) }
-        ensures most { KeepsMost L.far self.old self.new }
+        ensures config { KeepsConfig L.far self.old self.new }
         ensures truth { (requests : List Request) → window.now ≡ frames_of requests → AreSpelled requests →
-            EndsTruly L.Line (λ most before told. TellsAllTruly most before requests told.items)
+            EndsTruly L.Line (λ config before told. TellsAllTruly config before requests told.items)
             requests self.old self.new result }
     {
         let mut replies = room_for(self.alloc, window.nones.len())?;
@@ -162,7 +162,7 @@ impl<L: Line> Remote<L> {
             (λ told. AsksAll A.as_reply A.of_kind window.now told.items
             (link_of L.Line self.old) (link_of L.Line self.new))
             (RefusesAll A.of_kind window.now (link_of L.Line self.old) (link_of L.Line self.new)) }
-        ensures most { KeepsMost L.far self.old self.new }
+        ensures config { KeepsConfig L.far self.old self.new }
         ensures truth { (requests : List Request) → window.now ≡ frames_of requests → AreSpelled requests →
             AsksAllTruly L.Line (queries requests A.as_reply A.of_kind) self.old self.new result }
     {

@@ -10,7 +10,7 @@ returns-in-Err-bye g c = record {
       let session = c.sync.ensures.session in
       let still = subst (λ result. OnOk result (IsTrueRemote g.L.Line.is_true g.L.Line.far c.sync.new.peer.side)) c.in-Ok.is (session.course.peer_side r).after_ok in
       let far = g.L.Line.far in
-      let kept = bye_keeps (far c.sync.new.peer.side.line).most (far c.sync.new.peer.side.line).states (far c.bye.new.self.line).states c.bye.result (c.bye.ensures.truth still).1 in
+      let kept = bye_keeps (far c.sync.new.peer.side.line).config (far c.sync.new.peer.side.line).states (far c.bye.new.self.line).states c.bye.result (c.bye.ensures.truth still).1 in
       after_bye _ _ _ _ _ _ _ _ _ _ _ _ _ (session.meets t r) still kept tt;
   pushed = c.sync.ensures.session.course.follows.0;
 }

@@ -11,7 +11,7 @@ invariant-loop-none g l = record {
   of_kind : All (IsOfKind l.kind) l.replies.items;
   goes_on : l.self.refused ≡ None;
   unsent : g.L.Line.contents l.self.line ≡ g.L.Line.contents l.fn.self.line;
-  most : (g.L.Line.far l.self.line).most ≡ (g.L.Line.far l.fn.self.line).most;
+  config : (g.L.Line.far l.self.line).config ≡ (g.L.Line.far l.fn.self.line).config;
   line : g.L.Line.is_true l.fn.self.line → g.L.Line.is_true l.self.line;
   states : g.L.Line.is_true l.fn.self.line → (g.L.Line.far l.self.line).states ≡ (g.L.Line.far l.fn.self.line).states;
   due : g.L.Line.is_true l.fn.self.line → DueTurns (take l.none-index l.nones) l.replies.items (g.L.Line.far l.fn.self.line).due (g.L.Line.far l.self.line).due;

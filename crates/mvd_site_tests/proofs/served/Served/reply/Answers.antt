@@ -8,5 +8,5 @@ returns-clause-truth c = replies_truly c.args.self.now.site c.answer-reply.new.s
 pub returns-clause-fits : goal.returns-clause-fits
 returns-clause-fits c = c.answer-reply.ensures.fits
 
-pub returns-clause-most : goal.returns-clause-most
-returns-clause-most c = keeps_config c.args.self.now.site c.answer-reply.new.self c.args.request.now c.answer-reply.result c.answer-reply.ensures
+pub returns-clause-config : goal.returns-clause-config
+returns-clause-config c = keeps_config c.args.self.now.site c.answer-reply.new.self c.args.request.now c.answer-reply.result c.answer-reply.ensures

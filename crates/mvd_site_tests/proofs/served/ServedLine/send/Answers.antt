@@ -4,7 +4,7 @@ use Rattle.mvd_site_tests.proofs.Serving.{Went, went_all, went_cut, went_none, w
 use Rattle.mvd_site_tests.proofs.served.ServedLine.send.Goals as goal
 
 pub loop-turn-init : goal.loop-turn-init
-loop-turn-init c = record { most = refl; held = λ h. h; went = λ rs f. went_none _ rs _ f }
+loop-turn-init c = record { config = refl; held = λ h. h; went = λ rs f. went_none _ rs _ f }
 
 pub returns-in-Ok-None-clause-truth : goal.returns-in-Ok-None-clause-truth
 returns-in-Ok-None-clause-truth c t rs f =
@@ -30,10 +30,10 @@ loop-turn-preserved c =
     let came = c.in-Ok-Some.ensures.read c.loop-turn.rest.now refl in
     let rest : c.read_frame.new.reader.now ≡ came.0 = let e = came.1 in cc in
     record {
-      most = c.take.ensures.most ∙ c.loop-turn.invariant.most;
+      config = c.take.ensures.config ∙ c.loop-turn.invariant.config;
       held = λ t. c.take.ensures.held (c.loop-turn.invariant.held t);
       went = λ rs f.
           subst (Went (far_at c.args.self.now.site c.args.self.now.waiting.items) (far_at c.take.new.self.site c.take.new.self.waiting.items) rs) (sym rest)
           (went_on (far_at c.args.self.now.site c.args.self.now.waiting.items) (far_at c.loop-turn.self.site c.loop-turn.self.waiting.items) (far_at c.take.new.self.site c.take.new.self.waiting.items) rs c.loop-turn.rest.now c.in-Ok-Some.field-0 c.in-Ok-Some.frame came.0
-          c.in-Ok-Some.field-0-is came.2 (c.loop-turn.invariant.went rs f) (ap (λ k. k.max_keys) c.take.ensures.most) c.in-Ok.ensures.truth);
+          c.in-Ok-Some.field-0-is came.2 (c.loop-turn.invariant.went rs f) c.take.ensures.config c.in-Ok.ensures.truth);
     }

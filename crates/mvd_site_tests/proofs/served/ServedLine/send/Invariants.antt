@@ -9,7 +9,7 @@ use Rattle.mvd_site_tests.proofs.served.ServedLine.send.Given as goal
 -- so many of the requests were taken
 abbrev pub invariant-loop-turn : goal.invariant-loop-turn
 invariant-loop-turn l = record {
-  most : l.self.site.config ≡ l.fn.self.site.config;
+  config : l.self.site.config ≡ l.fn.self.site.config;
   held : AreHeld l.fn.self.site.states → AreHeld l.self.site.states;
   went : (requests : List Request) → AreFrames requests l.frames → Went (far_at l.fn.self.site l.fn.self.waiting.items) (far_at l.self.site l.self.waiting.items) requests l.rest;
 }

@@ -1,4 +1,5 @@
 pub mod Met
+pub mod Questioned
 pub mod Reported
 pub mod Synced
 pub mod Talked

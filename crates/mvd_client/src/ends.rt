@@ -5,6 +5,7 @@ use crate::meeting::{Root, meet_over, root_over};
 use crate::peer_commands::connected;
 use crate::progress::Watched;
 use crate::wire::Wire;
+use http_server::Log;
 use mvd_dots::Refusal;
 use mvd_hint::Stop;
 use mvd_input::{Fault, Repeat};
@@ -165,6 +166,7 @@ fn session<'a, N: Net, E: Write>(
     let mut local = Remote::over(alloc, near_wire);
     let mut peer = Watched {
         side: Remote::over(alloc, far_wire),
+        asked: Log::new(),
         moved: 0,
         told,
     };

@@ -1,7 +1,8 @@
 //! A session between two servers, each at the other end of a line, and what is printed of it.
-ghost use Rattle.std.specs.Prelude.{◌≡◌, ◌≢◌, ◌++◌, [], IfOk, IsErr, OnOk, string_bytes};
+ghost use Rattle.std.specs.Prelude.{◌≡◌, ◌≢◌, ◌≤◌, ◌+◌, ◌++◌, [], IfOk, IsErr, OnOk, string_bytes};
 ghost use Rattle.std.specs.Io.KnownBytes.{Appends};
 ghost use Rattle.mvd_client.specs.Met.{MeetsFars};
+ghost use Rattle.mvd_client.specs.Questioned.{AsksFew, questions};
 ghost use Rattle.mvd_client.specs.Reported.{ReportsAs, meeting_text, root_at_text, root_of};
 ghost use Rattle.mvd_remote.specs.Lines.{IsTrueRemote, far_of};
 
@@ -36,6 +37,11 @@ pub fn meet_over<L: Line, M: Line, E: Write>(
 ) -> Result<Report, SyncFault>
     ensures meets { IsTrueRemote L.is_true L.far near.old → IsTrueRemote M.is_true M.far far.old.side →
         MeetsFars L.Line M.Line near.old near.new far.old.side far.new.side result }
+    // The second server is asked few questions.
+    ensures few { IsTrueRemote L.is_true L.far near.old → IsTrueRemote M.is_true M.far far.old.side →
+        AsksFew (questions far.old.asked.items) (questions far.new.asked.items)
+        (far_of L.far near.old).states (far_of M.far far.old.side).states }
+    ensures most { questions far.new.asked.items ≤ questions far.old.asked.items + 10000000 }
 {
     sync(alloc, near, far)
 }

@@ -1,6 +1,7 @@
 //! The commands that meet a server: sessions of a stored site, and shells.
-ghost use Rattle.std.specs.Prelude.{◌≡◌, ◌≢◌, ◌++◌, [], IsErr, OnOk, string_bytes};
+ghost use Rattle.std.specs.Prelude.{◌≡◌, ◌≢◌, ◌≤◌, ◌+◌, ◌++◌, [], IsErr, OnOk, string_bytes};
 ghost use Rattle.std.specs.Io.KnownBytes.{Appends};
+ghost use Rattle.mvd_client.specs.Questioned.{AsksFew, questions};
 ghost use Rattle.mvd_client.specs.Reported.{Reports, StopsLeft, refused_text, root_of, session_text};
 ghost use Rattle.mvd_client.specs.Synced.{FollowsPushed, MeetsFar};
 ghost use Rattle.mvd_client.specs.Talked.{ShellsOver};
@@ -8,11 +9,12 @@ ghost use Rattle.mvd_print.specs.Text.{root_text};
 ghost use Rattle.mvd_replica.specs.Replicas.{site_of};
 ghost use Rattle.mvd_replica.specs.Sides.{IsTrueSite};
 ghost use Rattle.mvd_shell.specs.Shell.{at};
-ghost use Rattle.mvd_remote.specs.Lines.{IsTrueRemote};
+ghost use Rattle.mvd_remote.specs.Lines.{IsTrueRemote, far_of};
 ghost use Rattle.mvd_remote.specs.Remotes.{RepliesFar};
 
 use crate::link::Link;
 use crate::progress::Watched;
+use http_server::Log;
 use mvd_dots::Refusal;
 use mvd_hint::{Hint, Older, Stop};
 use mvd_input::{Fault, tell};
@@ -79,6 +81,7 @@ fn sync_stream<T: Read + Write + Drop, S: Alter + Drop, E: Write>(
     let incoming = link.incoming(alloc).map_err(SyncFault::Local)?;
     let mut watched = Watched {
         side: Remote::new(alloc, incoming, link.outgoing()),
+        asked: Log::new(),
         moved: 0,
         told,
     };
@@ -94,8 +97,13 @@ pub fn sync_over<L: Line, S: Alter + Drop, E: Write>(
 ) -> Result<Report, SyncFault>
     ensures meets { IsTrueSite (site_of replica.old) → IsTrueRemote L.is_true L.far watched.old.side →
         MeetsFar L.is_true L.far replica.old replica.new watched.old.side watched.new.side result }
+    // The server is asked few questions, and then comes the Bye.
+    ensures few { IsTrueSite (site_of replica.old) → IsTrueRemote L.is_true L.far watched.old.side →
+        AsksFew (questions watched.old.asked.items) (questions watched.new.asked.items)
+        (site_of replica.old).states (far_of L.far watched.old.side).states }
     // Whatever is at the other end.
     ensures pushed { FollowsPushed replica.old replica.new }
+    ensures most { questions watched.new.asked.items ≤ questions watched.old.asked.items + 10000000 }
 {
     let report = match sync(alloc, replica, watched) {
         Ok(report) => report,

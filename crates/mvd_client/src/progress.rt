@@ -1,6 +1,8 @@
 //! How far a session is.
 ghost use Rattle.std.specs.Prelude.{◌≡◌};
+ghost use Rattle.mvd_client.specs.Questioned.{Asks, asks_none, asks_on, questions};
 
+use http_server::Log;
 use mvd_dots::Refusal;
 use mvd_keys::{Key, KeyState, Path};
 use mvd_peer::{Page, Peer};
@@ -13,10 +15,11 @@ use std::io::Write;
 const STEP: u64 = 1_000;
 
 /// A side of a session, of which a writer is told after each thousand states how many it gave or took. A line that
-/// cannot be written is left out.
+/// cannot be written is left out. For proofs alone it notes how many questions it was asked; that takes no memory.
 #[derive(Drop)]
 pub struct Watched<'a, P: Peer + Drop, E: Write> {
     pub side: P,
+    pub asked: Log<usize, ()>,
     pub moved: u64,
     pub told: Option<&'a mut E>,
 }
@@ -24,7 +27,8 @@ pub struct Watched<'a, P: Peer + Drop, E: Write> {
 impl<P: Peer + Drop, E: Write> Watched<'_, P, E> {
     /// So many more states came or went.
     fn count(&mut self, more: u64)
-        ensures { self.new.side ≡ self.old.side }
+        ensures side { self.new.side ≡ self.old.side }
+        ensures asked { self.new.asked.items ≡ self.old.asked.items }
     {
         let before = self.moved / STEP;
         self.moved = self.moved.saturating_add(more);
@@ -51,7 +55,8 @@ fn taken<A>(told: &Result<Vec<Result<A, Refusal>>, Refusal>) -> u64 {
     count
 }
 
-/// It is asked what the side within is asked, in the same windows, and is as true.
+/// It is asked what the side within is asked, in the same windows, and is as true. So many questions are so many more
+/// in its log.
 impl<P: Peer + Drop, E: Write> Peer for Watched<'_, P, E> {
     ghost states = { λ watched. P.states watched.side };
 
@@ -59,7 +64,8 @@ impl<P: Peer + Drop, E: Write> Peer for Watched<'_, P, E> {
 
     ghost can_give = { P.can_give };
 
-    ghost follows = { λ n old new. P.follows n old.side new.side };
+    ghost follows = { λ n old new. Asks P.follows n (old.side, questions old.asked.items)
+        (new.side, questions new.asked.items) };
 
     ghost can_refuse = { λ watched. P.can_refuse watched.side };
 
@@ -71,11 +77,14 @@ impl<P: Peer + Drop, E: Write> Peer for Watched<'_, P, E> {
 
     ghost in_form = { λ watched. P.in_form watched.side };
 
-    ghost follows_self = { λ watched. P.follows_self watched.side };
+    ghost follows_self = { λ watched. asks_none P.follows watched.side (questions watched.asked.items)
+        (P.follows_self watched.side) };
 
-    ghost follows_on = { λ m n old mid new. P.follows_on m n old.side mid.side new.side };
+    ghost follows_on = { λ m n old mid new. asks_on P.follows m n (old.side, questions old.asked.items)
+        (mid.side, questions mid.asked.items) (new.side, questions new.asked.items)
+        (λ i j. P.follows_on i j old.side mid.side new.side) };
 
-    ghost most_stays = { λ n old new. P.most_stays n old.side new.side };
+    ghost most_stays = { λ _ old new asks. P.most_stays asks.0.0 old.side new.side asks.0.1 };
 
     fn alloc(&self) -> Global {
         self.side.alloc()
@@ -86,22 +95,27 @@ impl<P: Peer + Drop, E: Write> Peer for Watched<'_, P, E> {
     }
 
     fn node(&mut self, path: &Path) -> Result<Digests, Refusal> {
+        self.asked = self.asked.and(&1, &());
         self.side.node(path)
     }
 
     fn bucket(&mut self, path: &Path, after: Option<&Key>) -> Result<Page, Refusal> {
+        self.asked = self.asked.and(&1, &());
         self.side.bucket(path, after)
     }
 
     fn get(&mut self, key: &Key) -> Result<KeyState, Refusal> {
+        self.asked = self.asked.and(&1, &());
         self.side.get(key)
     }
 
     fn push(&mut self, key: &Key, state: &KeyState) -> Result<(), Refusal> {
+        self.asked = self.asked.and(&1, &());
         self.side.push(key, state)
     }
 
     fn nodes(&mut self, paths: &[Path]) -> Result<Vec<Result<Digests, Refusal>>, Refusal> {
+        self.asked = self.asked.and(&paths.len(), &());
         self.side.nodes(paths)
     }
 
@@ -109,16 +123,19 @@ impl<P: Peer + Drop, E: Write> Peer for Watched<'_, P, E> {
         &mut self,
         asked: &[(Path, Option<Key>)],
     ) -> Result<Vec<Result<Page, Refusal>>, Refusal> {
+        self.asked = self.asked.and(&asked.len(), &());
         self.side.pages(asked)
     }
 
     fn get_all(&mut self, keys: &[Key]) -> Result<Vec<Result<KeyState, Refusal>>, Refusal> {
+        self.asked = self.asked.and(&keys.len(), &());
         let told = self.side.get_all(keys);
         self.count(taken(&told));
         told
     }
 
     fn push_all(&mut self, pairs: &[(Key, KeyState)]) -> Result<Vec<Result<(), Refusal>>, Refusal> {
+        self.asked = self.asked.and(&pairs.len(), &());
         let told = self.side.push_all(pairs);
         self.count(taken(&told));
         told

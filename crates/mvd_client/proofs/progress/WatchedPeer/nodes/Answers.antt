@@ -1,13 +1,14 @@
-use Rattle.std.proofs.Common.{refl}
-use Rattle.mvd_client.proofs.Watching.{asked_within, ends_within, err_as, ok_as}
+use Rattle.std.proofs.Common.{refl, ap, ◌∙◌}
+use Rattle.mvd_client.specs.Questioned.{questions}
+use Rattle.mvd_client.proofs.Watching.{asked_within, ends_within, err_as, ok_as, questions-and}
 use Rattle.mvd_client.proofs.progress.WatchedPeer.nodes.Goals as goal
 
 pub returns-clause-told : goal.returns-clause-told
 returns-clause-told g c =
     ok_as c.nodes.result c.nodes.ensures.told
-    (λ told came. asked_within (λ w. w.side) (λ s. record { side = s; moved = c.args.self.now.moved; told = c.args.self.now.told }) (λ _. refl) g.P.Peer.follows g.P.Peer.can_refuse g.P.Peer.can_answer _ _ _ _ _ c.args.self.now (record { side = c.nodes.new.self; moved = c.args.self.now.moved; told = c.args.self.now.told }) c.nodes.new.self refl came)
+    (λ told came. asked_within (λ w. w.side) (λ w. questions w.asked.items) (λ w s. record { side = s; asked = w.asked; moved = w.moved; told = w.told }) (λ _ _. refl) (λ _ _. refl) g.P.Peer.follows g.P.Peer.can_refuse g.P.Peer.can_answer _ _ _ _ _ c.args.self.now (record { side = c.nodes.new.self; asked = c.and-self.result; moved = c.args.self.now.moved; told = c.args.self.now.told }) c.nodes.new.self refl (ap questions c.and-self.ensures ∙ questions-and _ _) came)
 
 pub returns-clause-ended : goal.returns-clause-ended
 returns-clause-ended g c =
     err_as c.nodes.result c.nodes.ensures.ended
-    (λ refusal came. ends_within (λ w. w.side) (λ s. record { side = s; moved = c.args.self.now.moved; told = c.args.self.now.told }) (λ _. refl) g.P.Peer.follows g.P.Peer.can_refuse g.P.Peer.can_answer _ c.args.self.now (record { side = c.nodes.new.self; moved = c.args.self.now.moved; told = c.args.self.now.told }) c.nodes.new.self refusal refl came)
+    (λ refusal came. ends_within (λ w. w.side) (λ w. questions w.asked.items) (λ w s. record { side = s; asked = w.asked; moved = w.moved; told = w.told }) (λ _ _. refl) (λ _ _. refl) g.P.Peer.follows g.P.Peer.can_refuse g.P.Peer.can_answer _ c.args.self.now (record { side = c.nodes.new.self; asked = c.and-self.result; moved = c.args.self.now.moved; told = c.args.self.now.told }) c.nodes.new.self refusal refl (ap questions c.and-self.ensures ∙ questions-and _ _) came)

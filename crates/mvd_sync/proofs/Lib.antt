@@ -18,6 +18,7 @@ pub mod Bucket
 pub mod Through
 pub mod HeldFew
 pub mod Walks
+pub mod Descending
 pub mod Answering
 pub mod ToldPages
 pub mod Window

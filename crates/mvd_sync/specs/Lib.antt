@@ -3,6 +3,7 @@ pub mod Faults
 pub mod Session
 pub mod Answers
 pub mod Walk
+pub mod Level
 pub mod Questions
 pub mod Made
 pub mod Exchanges

@@ -1,10 +1,11 @@
 //! The walk from the root to the buckets that differ, level by level.
-ghost use Rattle.std.specs.Prelude.{◌≡◌, ◌<◌, ◌≤◌, ◌+◌, ◌*◌, ◌++◌, ◌∷◌, [], ◌↔◌, length, IfOk, IfErr, OnOk, IsTrue};
+ghost use Rattle.std.specs.Prelude.{◌≡◌, ◌<◌, ◌≤◌, ◌+◌, ◌*◌, ◌++◌, ◌∷◌, [], ◌↔◌, length, take, IfOk, IfErr, OnOk, IsTrue};
 ghost use Rattle.mvd_peer.specs.PushedStates.{Each};
 ghost use Rattle.mvd_sync.specs.Session.{asking};
 ghost use Rattle.mvd_peer.specs.PeerSides.{sides_of};
 ghost use Rattle.mvd_peer.specs.Sides.{two};
-ghost use Rattle.mvd_sync.specs.Walk.{AreFewFor, Descends, FindsBuckets, ReadsEnd, told, told_all};
+ghost use Rattle.mvd_sync.specs.Level.{GoesDown, IsDown, next_nodes};
+ghost use Rattle.mvd_sync.specs.Walk.{AreFewFor, FindsBuckets, ReadsEnd, told, told_all};
 
 use crate::asking::{Node, Questions, ask_nodes};
 use crate::report::SyncFault;
@@ -12,6 +13,8 @@ use mvd_dots::Refusal;
 use mvd_keys::Path;
 use mvd_peer::Peer;
 use std::alloc::Global;
+use std::marker::Model;
+use std::mem;
 
 /// So many nodes or pages are asked for at once.
 pub const WINDOW: usize = 64;
@@ -79,44 +82,6 @@ fn add_all_children(
     Ok(())
 }
 
-/// The children of these nodes whose digests differ on the two sides.
-fn descend<L: Peer, P: Peer>(
-    alloc: Global,
-    local: &mut L,
-    peer: &mut P,
-    left: &mut Questions,
-    paths: &[Path],
-) -> Result<Vec<Path>, SyncFault>
-    requires inner { Each (λ path. length path < 3) paths.now }
-    ensures descends { let s = sides_of L.Peer P.Peer in
-        IfOk result (λ below. Descends s paths.now (asking local.old peer.old left.old)
-        (asking local.new peer.new left.new) below.items) }
-    ensures ended { let s = sides_of L.Peer P.Peer in
-        IfErr result (ReadsEnd s (λ asked. asked ≤ length paths.now) (asking local.old peer.old left.old)
-        (two local.new peer.new)) }
-{
-    let mut below = Vec::new(alloc);
-    let mut rest = paths;
-    while !rest.is_empty() {
-        let count = rest.len().min(WINDOW);
-        let window = &rest[..count];
-        let mine = match ask_nodes(local, &mut left.local, window) {
-            Ok(mine) => mine,
-            Err(refusal) => return Err(SyncFault::Local(refusal)),
-        };
-        let theirs = match ask_nodes(peer, &mut left.peer, window) {
-            Ok(theirs) => theirs,
-            Err(refusal) => return Err(SyncFault::Peer(refusal)),
-        };
-        match add_all_children(alloc, &mut below, window, &mine, &theirs) {
-            Ok(()) => {}
-            Err(refusal) => return Err(SyncFault::Local(refusal)),
-        }
-        rest = &rest[count..];
-    }
-    Ok(below)
-}
-
 /// The path of the root.
 fn root(alloc: Global) -> Result<Vec<Path>, Refusal>
     ensures root { IfOk result (λ paths. paths.items ≡ [] ∷ []) }
@@ -125,6 +90,101 @@ fn root(alloc: Global) -> Result<Vec<Path>, Refusal>
     let mut paths = Vec::new(alloc);
     paths.push(Path::new(alloc, &[])?)?;
     Ok(paths)
+}
+
+/// The first of these nodes, at most so many as are asked for at once.
+fn first_of(rest: &[Path]) -> &[Path]
+    ensures { result.now ≡ take 64 rest.now }
+{
+    if rest.len() <= WINDOW {
+        return rest;
+    }
+    &rest[..WINDOW]
+}
+
+/// A descent from the root to the buckets that differ, between two windows of questions: the nodes of a level, how many
+/// of them both sides have told, and the children found.
+#[derive(Drop)]
+struct Descent {
+    alloc: Global,
+    depth: u8,
+    paths: Vec<Path>,
+    told: usize,
+    below: Vec<Path>,
+}
+
+impl Model for Descent {
+    ghost use Rattle.std.specs.Prelude.{◌≡◌, ◌≤◌, drop, length};
+    ghost use Rattle.mvd_sync.specs.Level.{Level};
+
+    ghost Value = { Level };
+
+    ghost view = { λ d. record { depth = d.depth; rest = drop d.told d.paths.items; below = d.below.items } };
+
+    ghost invariant = { λ d. (d.told ≤ length d.paths.items) × (3 ≤ d.depth → d.told ≡ 0) };
+}
+
+impl Descent {
+    /// It begins with the root.
+    fn new(alloc: Global) -> Result<Descent, Refusal>
+        ensures root { IfOk result (λ descent. descent ≡ record { depth = 0; rest = [] ∷ []; below = [] }) }
+        ensures memory { IfErr result (λ refusal. refusal ≡ Refusal.Memory) }
+    {
+        Ok(Descent {
+            alloc,
+            depth: 0,
+            paths: root(alloc)?,
+            told: 0,
+            below: Vec::new(alloc),
+        })
+    }
+
+    /// Whether nothing is left to ask.
+    fn is_done(&self) -> bool
+        ensures { IsTrue result ↔ IsDown self.now }
+    {
+        self.depth >= 3 || self.told == self.paths.len()
+    }
+
+    /// What both sides are asked next: at most 64 nodes.
+    fn window(&self) -> &[Path]
+        ensures { result.now ≡ next_nodes self.now }
+    {
+        first_of(&self.paths[self.told..])
+    }
+
+    /// Takes what both sides told of these nodes. After the last of its level the children found are next.
+    fn take(&mut self, mine: &[Node], theirs: &[Node]) -> Result<(), Refusal>
+        requires high { self.old.depth < 3 }
+        requires short { Each (λ path. length path < 3) (next_nodes self.old) }
+        requires mine { length mine.now ≡ length (next_nodes self.old) }
+        requires theirs { length theirs.now ≡ length (next_nodes self.old) }
+        ensures goes { OnOk result (GoesDown self.old mine.now theirs.now self.new) }
+        ensures memory { IfErr result (λ refusal. refusal ≡ Refusal.Memory) }
+    {
+        let window = first_of(&self.paths[self.told..]);
+        let count = window.len();
+        add_all_children(self.alloc, &mut self.below, window, mine, theirs)?;
+        self.told += count;
+        if self.told < self.paths.len() {
+            return Ok(());
+        }
+        self.depth += 1;
+        self.paths = mem::replace(&mut self.below, Vec::new(self.alloc));
+        self.told = 0;
+        Ok(())
+    }
+
+    /// The nodes that are left when it is done: the buckets, or none.
+    fn buckets(self) -> Vec<Path>
+        requires { IsDown self }
+        ensures { result.items ≡ self.rest }
+    {
+        if self.depth < 3 {
+            return Vec::new(self.alloc);
+        }
+        self.paths
+    }
 }
 
 /// The buckets whose digests differ on the two sides, by rising path.
@@ -142,15 +202,24 @@ pub fn differing_buckets<L: Peer, P: Peer>(
         IfErr result (ReadsEnd s (λ asked. AreFewFor s old (λ most. asked ≤ 1 + 2 * most))
         (asking local.old peer.old left.old) (two local.new peer.new)) }
 {
-    let mut paths = match root(alloc) {
-        Ok(paths) => paths,
+    let mut descent = match Descent::new(alloc) {
+        Ok(descent) => descent,
         Err(refusal) => return Err(SyncFault::Local(refusal)),
     };
-    for _ in 0..3u8 {
-        paths = match descend(alloc, local, peer, left, &paths) {
-            Ok(below) => below,
-            Err(fault) => return Err(fault),
+    while !descent.is_done() {
+        let window = descent.window();
+        let mine = match ask_nodes(local, &mut left.local, window) {
+            Ok(mine) => mine,
+            Err(refusal) => return Err(SyncFault::Local(refusal)),
         };
+        let theirs = match ask_nodes(peer, &mut left.peer, window) {
+            Ok(theirs) => theirs,
+            Err(refusal) => return Err(SyncFault::Peer(refusal)),
+        };
+        match descent.take(&mine, &theirs) {
+            Ok(()) => {}
+            Err(refusal) => return Err(SyncFault::Local(refusal)),
+        }
     }
-    Ok(paths)
+    Ok(descent.buckets())
 }

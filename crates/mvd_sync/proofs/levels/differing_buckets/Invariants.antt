@@ -1,9 +1,9 @@
 use Rattle.mvd_peer.specs.PeerSides.{side_of}
-use Rattle.mvd_sync.proofs.Walks.{Walks}
+use Rattle.mvd_sync.proofs.Descending.{StandsAt}
 use Rattle.mvd_sync.proofs.levels.differing_buckets.Given as goal
 
-abbrev pub invariant-loop : goal.invariant-loop
-invariant-loop g l =
-    let local = side_of g.L.Peer in
-    let peer = side_of g.P.Peer in
-    Walks local peer l.counter l.fn.left l.left l.fn.local l.local l.fn.peer l.peer l.paths.items
+abbrev pub decreases-loop-descent : goal.decreases-loop-descent
+decreases-loop-descent g l = l.left.local
+
+abbrev pub invariant-loop-descent : goal.invariant-loop-descent
+invariant-loop-descent g l = StandsAt (side_of g.L.Peer) (side_of g.P.Peer) l.fn.left l.left l.fn.local l.local l.fn.peer l.peer l.descent

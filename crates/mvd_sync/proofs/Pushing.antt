@@ -1,8 +1,9 @@
 -- Pushes by windows.
-use Rattle.std.proofs.Common.{◌≡◌, ◌≢◌, ◌⊎◌, inl, inr, ℕ, zero, suc, ◌+◌, ◌-◌, ◌≤◌, false, List, [], ◌∷◌, ◌++◌, length, take, drop, refl, sym, ap, subst, ◌∙◌, arith, length-append, length-drop, append_assoc}
-use Rattle.std.specs.Prelude.{Result, Ok, Err, All, Contains}
+use Rattle.std.proofs.Common.{◌≡◌, ◌≢◌, ◌⊎◌, inl, inr, ℕ, zero, suc, ◌+◌, ◌<◌, ◌≤◌, ◌↔◌, Bool, true, false, true≢false, List, [], ◌∷◌, ◌++◌, length, take, drop, refl, sym, ap, subst, ◌∙◌, arith, length-append, length-drop, append_assoc}
+use Rattle.std.specs.Prelude.{Result, Ok, Err, All, Contains, IfErr}
+use Rattle.std.proofs.lemmas.Bool.{cases_lt}
 use Rattle.std.proofs.Math.Seq.{take-append_seam}
-use Rattle.std.proofs.lemmas.List.{append-nil, length-take-le, take-append-drop, take_all}
+use Rattle.std.proofs.lemmas.List.{append-nil, drop-drop, length-take-le, take-append-drop}
 use Rattle.mvd_dots.specs.declared.refusals.Refusal.{Refusal}
 use Rattle.mvd_dots.specs.declared.refusals.Refusal.TheVariants.{Broken, Memory, TooManyRequests}
 use Rattle.mvd_keys.specs.State.{State}
@@ -60,17 +61,37 @@ pub record FrontPushed {S : Type 0} (s : SideOf S) (pairs rest : List Pair) (tol
   pub many : length told ≡ length done
   pub took : s.is_faithful old → s.is_faithful new × Pushes (s.most_keys old) (s.states old) done told (s.states new)
 
--- the rest, as a slice has it
-pub front_rest : {S : Type 0} (s : SideOf S) (pairs rest : List Pair) (told us : List Told) (left left' : ℕ) (old new : S) (taken count n : ℕ) → taken ≤ count → count ≤ taken → n ≡ length rest - count → us ≡ told → FrontPushed s pairs (drop taken rest) told left left' old new → FrontPushed s pairs (take n (drop count rest)) us left left' old new
-front_rest s pairs rest told us left left' old new taken count n low high is same f =
-    let at : taken ≡ count = omega arith in
-    let long : length (drop count rest) ≤ n = let e = length-drop count rest in omega arith in
-    subst (λ (ts : List Told). FrontPushed s pairs (take n (drop count rest)) ts left left' old new) (sym same)
-    (subst (λ (xs : List Pair). FrontPushed s pairs xs told left left' old new) (ap (λ (k : ℕ). drop k rest) at ∙ sym (take_all n (drop count rest) long)) f)
+-- the rest, as the answers so far tell it
+pub front_turned : {S : Type 0} (s : SideOf S) (whole pairs rest : List Pair) (told answers us : List Told) (left left' : ℕ) (old new : S) (taken : ℕ) → rest ≡ drop (length told) pairs → us ≡ told ++ answers → length answers ≡ taken → FrontPushed s whole (drop taken rest) (told ++ answers) left left' old new → FrontPushed s whole (drop (length us) pairs) us left left' old new
+front_turned s whole pairs rest told answers us left left' old new taken is all many f =
+    let long : length told + taken ≡ length us = ap (λ n. length told + n) (sym many) ∙ sym (length-append told answers) ∙ ap length (sym all) in
+    subst (λ (ts : List Told). FrontPushed s whole (drop (length us) pairs) ts left left' old new) (sym all)
+    (subst (λ (xs : List Pair). FrontPushed s whole xs (told ++ answers) left left' old new) (ap (drop taken) is ∙ drop-drop taken (length told) pairs ∙ ap (λ k. drop k pairs) long) f)
 
 pub no_pairs : (xs : List Pair) → length xs ≡ 0 → xs ≡ []
 no_pairs [] e = refl
 no_pairs (x ∷ xs) e = absurd (omega arith)
+
+-- nothing was told yet
+pub front_begins : {S : Type 0} (s : SideOf S) (whole pairs : List Pair) (told : List Told) (left : ℕ) (old : S) → s.follows 0 old old → pairs ≡ whole → told ≡ [] → FrontPushed s whole (drop (length told) pairs) told left left old old
+front_begins s whole pairs told left old self is none =
+    let new : FrontPushed s whole whole [] left left old old = record { done = []; whole = refl; spent = omega arith; follows = self; many = refl; took = λ t. (t, refl) } in
+    subst (λ (ts : List Told). FrontPushed s whole (drop (length ts) pairs) ts left left old old) (sym none) (subst (λ (ps : List Pair). FrontPushed s whole ps [] left left old old) (sym is) new)
+
+-- all were told
+pub none_untold : (more : Bool) (pairs : List Pair) (told : List Told) → ((more ≡ true) ↔ (length told < length pairs)) → more ≡ false → drop (length told) pairs ≡ []
+none_untold more pairs told is end = elim (cases_lt (length told) (length pairs)) [
+  | inl some ↦ absurd (true≢false (sym (is.1 some) ∙ end))
+  | inr none ↦ no_pairs (drop (length told) pairs) (let n = length-drop (length told) pairs in omega (arith, n, none))
+]
+
+-- where some are, there were some
+pub some_pairs : (more : Bool) (whole pairs : List Pair) (told : List Told) → ((more ≡ true) ↔ (length told < length pairs)) → more ≡ true → pairs ≡ whole → whole ≡ [] → ⊥
+some_pairs more whole pairs told is going same none = let n : length pairs ≡ 0 = ap length (same ∙ none) in let some = is.0 going in omega (arith, n, some)
+
+pub if_err_never : {A : Type 0} (r : Result A Refusal) (T : Type 0) → T → IfErr r (λ _. T)
+if_err_never (Ok a) T t = tt
+if_err_never (Err refusal) T t = t
 
 module _ {S : Type 0} (s : SideOf S) (pairs : List Pair) (left : ℕ) (old : S) where
   none_taken : (refusal : Refusal) → s.is_faithful old → TakesInFirst s pairs old old refusal

@@ -10,4 +10,5 @@ pub mod Exchanges
 pub mod Buckets
 pub mod Meetings
 pub mod Carries
+pub mod OneTurn
 pub mod Nodes

@@ -6,7 +6,7 @@ ghost use Rattle.mvd_site.specs.Held.{state_at};
 ghost use Rattle.mvd_sync.specs.Answers.{IsPage, IsPageOf};
 ghost use Rattle.mvd_sync.specs.Made.{ReadsAll};
 ghost use Rattle.mvd_sync.specs.Questions.{AllAnswered, AnswersEach, ComesToEnd, IsInner, IsOfKey, IsWindow};
-ghost use Rattle.mvd_sync.specs.Questions.{Keeps, Takes, TakesIn, TakesInFirst, with_left, push_bytes};
+ghost use Rattle.mvd_sync.specs.Questions.{Keeps, Takes, with_left, push_bytes};
 ghost use Rattle.mvd_peer.specs.PushedStates.{Each};
 ghost use Rattle.mvd_peer.specs.PeerSides.{side_of};
 ghost use Rattle.mvd_peer.specs.Sides.{HasAnswered, is_of_key};
@@ -27,7 +27,7 @@ pub struct Questions {
 }
 
 /// How many of so many questions are still left, which are taken.
-fn take(left: &mut u64, wanted: usize) -> usize
+pub fn take(left: &mut u64, wanted: usize) -> usize
     ensures { Takes left.old left.new wanted result }
 {
     let taken = if *left < wanted as u64 {
@@ -40,7 +40,7 @@ fn take(left: &mut u64, wanted: usize) -> usize
 }
 
 /// That as many questions were left as were wanted.
-fn are_all(taken: usize, wanted: usize) -> Result<(), Refusal>
+pub fn are_all(taken: usize, wanted: usize) -> Result<(), Refusal>
     ensures all { OnOk result (wanted ≤ taken) }
     ensures few { IfErr result (λ refusal. (refusal ≡ Refusal.TooManyRequests) × (taken < wanted)) }
 {
@@ -180,7 +180,7 @@ fn frame_length(pair: &(Key, KeyState)) -> u64
 }
 
 /// How many of these pushes are sent at once: one, or as many of the first as are within the limit together.
-fn window(pairs: &[(Key, KeyState)]) -> usize
+pub fn window(pairs: &[(Key, KeyState)]) -> usize
     ensures { IsWindow pairs.now result }
 {
     let mut bytes = 0u64;
@@ -196,7 +196,7 @@ fn window(pairs: &[(Key, KeyState)]) -> usize
 }
 
 /// Adds these answers to those that were told before; one that is a refusal of more than its key ends it.
-fn add_told(
+pub fn add_told(
     told: &mut Vec<Result<(), Refusal>>,
     answers: Vec<Result<(), Refusal>>,
 ) -> Result<(), Refusal>
@@ -209,35 +209,6 @@ fn add_told(
         told.push(of_key(answer)?)?;
     }
     Ok(())
-}
-
-/// Pushes states into a side, a window after the other, and tells of each key whether it was taken.
-pub fn ask_pushes<P: Peer>(
-    side: &mut P,
-    left: &mut u64,
-    pairs: &[(Key, KeyState)],
-) -> Result<Vec<Result<(), Refusal>>, Refusal>
-    ensures told { let s = side_of P.Peer in
-        IfOk result
-        (λ told. AllAnswered s (λ _ told. IsOfKey told)
-        (TakesIn s pairs.now told.items side.old side.new)
-        pairs.now told.items (with_left side.old left.old) (with_left side.new left.new)) }
-    ensures ended { let s = side_of P.Peer in
-        IfErr result
-        (λ refusal. ComesToEnd s (TakesInFirst s pairs.now side.old side.new refusal) (length pairs.now)
-        (with_left side.old left.old) side.new refusal) }
-{
-    let mut told = Vec::with_capacity(side.alloc(), pairs.len())?;
-    let mut rest = pairs;
-    while !rest.is_empty() {
-        let count = window(rest);
-        let taken = take(left, count);
-        let answers = side.push_all(&rest[..taken])?;
-        add_told(&mut told, answers)?;
-        are_all(taken, count)?;
-        rest = &rest[count..];
-    }
-    Ok(told)
 }
 
 /// Whether a refusal is of one key alone.

@@ -11,10 +11,11 @@ ghost use Rattle.mvd_peer.specs.Sides.{two};
 ghost use Rattle.mvd_sync.specs.Walk.{ReadsEnd};
 ghost use Rattle.mvd_sync.specs.Carries.{Carried, ExchangesAll, GivesStates, Planned};
 
-use crate::asking::{Questions, ask_gets, ask_pushes};
+use crate::asking::{Questions, are_all, ask_gets, take, window};
 use crate::cursor::Entry;
-use crate::meetings::{Meeting, keys_held, note, plan_all, taken};
+use crate::meetings::{Meeting, keys_held, plan_all};
 use crate::report::{Left, Report, Side, SyncFault};
+use crate::turn::Turn;
 use mvd_dots::Refusal;
 use mvd_keys::{Key, KeyState};
 use mvd_peer::Peer;
@@ -132,15 +133,19 @@ fn carry<S: Peer>(
         (with_left side.old left.old) side.new refusal) }
     ensures unasked { IfErr result (λ _. filter_map (pair_of name) meetings.items ≡ [] → side.new ≡ side.old) }
 {
-    let (meetings, pairs) = match taken(alloc, meetings, name) {
-        Ok(both) => both,
+    let mut turn = match Turn::new(alloc, meetings, name) {
+        Ok(turn) => turn,
         Err(refusal) => return Err(refusal),
     };
-    if pairs.is_empty() {
-        return note(alloc, meetings, name, Vec::new(alloc));
+    while turn.has_more() {
+        let rest = turn.rest();
+        let count = window(rest);
+        let taken = take(left, count);
+        let answers = side.push_all(&rest[..taken])?;
+        turn.hear(answers)?;
+        are_all(taken, count)?;
     }
-    let told = ask_pushes(side, left, &pairs)?;
-    note(alloc, meetings, name, told)
+    turn.end()
 }
 
 /// Exchanges the keys of a window.

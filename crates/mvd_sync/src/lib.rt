@@ -11,6 +11,7 @@ mod meetings;
 mod old;
 pub mod report;
 pub mod session;
+mod turn;
 
 pub use report::{Left, Report, Side, SyncFault};
 pub use session::{MOST_QUESTIONS, sync, sync_within};

@@ -1,6 +1,7 @@
 //! A fault, and what there is to do about it.
-ghost use Rattle.std.specs.Prelude.{◌≡◌, ◌≢◌, ℕ, IsSomeAnd, None, Some};
+ghost use Rattle.std.specs.Prelude.{◌≡◌, ◌≢◌, ◌<◌, ◌≤◌, ℕ, IsSomeAnd, None, Some};
 ghost use Rattle.mvd_hint.specs.Named.{NamesServer};
+ghost use Rattle.mvd_dots.specs.Refusal.{number_of};
 ghost use Rattle.mvd_dots.specs.declared.refusals.Refusal.TheVariants.{BadBody, BadKind, Damaged, DotClash, FrameTooLong, Full, Memory, ReadFailed, SiteMismatch, Store};
 ghost use Rattle.mvd_input.specs.declared.fault.Fault.TheVariants.{Stopped};
 ghost use Rattle.mvd_input.specs.declared.fault.Fault.TheVariants as faults;
@@ -213,7 +214,8 @@ impl<'a> Stop<'a> {
 
     /// No server answers at an address.
     pub fn unanswered(address: SocketAddr, error: io::Error) -> Stop<'a>
-        ensures { result.fault ≡ Stopped ReadFailed }
+        ensures fault { result.fault ≡ Stopped ReadFailed }
+        ensures hint { result.hint ≡ Some (Hint.NoServer address error) }
     {
         Stop::new(Refusal::ReadFailed, Hint::NoServer(address, error))
     }
@@ -223,6 +225,7 @@ impl<'a> Stop<'a> {
         ensures fault { result.fault ≡ Stopped refusal }
         ensures clash { refusal ≡ DotClash → result.hint ≡ Some Hint.Clash }
         ensures full { refusal ≡ Full → result.hint ≡ Some Hint.Full }
+        ensures other { refusal ≢ DotClash → refusal ≢ Full → result.hint ≡ None }
     {
         match refusal {
             Refusal::DotClash => Stop::new(refusal, Hint::Clash),
@@ -240,7 +243,11 @@ impl<'a> Stop<'a> {
         ensures long { refusal ≡ FrameTooLong → result.hint ≡ Some (Hint.NoPeer address) }
         ensures kind { refusal ≡ BadKind → result.hint ≡ Some (Hint.NoPeer address) }
         ensures body { refusal ≡ BadBody → result.hint ≡ Some (Hint.NoPeer address) }
-        // Else the hint names the address, but for that of a clash.
+        ensures own { refusal ≢ DotClash → refusal ≢ Memory → number_of refusal < 30 →
+            result.hint ≡ Some (Hint.Refused address) }
+        ensures broken { refusal ≢ FrameTooLong → refusal ≢ BadKind → refusal ≢ BadBody → 30 ≤ number_of refusal →
+            result.hint ≡ Some (Hint.Broken address) }
+        // The hint names the address, but for that of a clash.
         ensures named { refusal ≢ DotClash → refusal ≢ Memory → IsSomeAnd result.hint (NamesServer address) }
     {
         let hint = match refusal {

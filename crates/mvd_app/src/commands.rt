@@ -15,7 +15,7 @@ use crate::looping::loop_run;
 use crate::opening::opened;
 use crate::output::Output;
 use crate::typed_lines::{answer_lines, input};
-use mvd_client::{MeetingTerms, meet_run, remote_shell_run, sync_run, tell_report};
+use mvd_client::{MeetingTerms, Sockets, meet_run, remote_shell_run, sync_run, tell_report};
 use mvd_dots::Refusal;
 use mvd_hint::{Hint, Stop};
 use mvd_input::{DEFS_MAX, Fault, Order, Setup, read_defs, read_input};
@@ -175,7 +175,7 @@ fn work_on<'a, S: Alter + Drop>(
         Work::Sync(address, idle, verbose) => {
             let mut errors = rt.stderr();
             let told = if verbose { Some(&mut errors) } else { None };
-            let report = sync_run(rt, rt.alloc(), replica, address, idle, told)?;
+            let report = sync_run(&Sockets(rt), rt.alloc(), replica, address, idle, told)?;
             tell_report(rt.alloc(), replica, &report, &mut writer, &mut errors)
         }
     }
@@ -193,7 +193,7 @@ fn typed<'a, S: Alter + Drop>(rt: &HostRuntime, replica: &mut Replica<S>) -> Res
 fn run_remote_shell<'a>(rt: &HostRuntime, address: SocketAddr, idle: u32) -> Result<(), Stop<'a>> {
     let mut reader = input(rt)?;
     remote_shell_run(
-        rt,
+        &Sockets(rt),
         rt.alloc(),
         address,
         idle,

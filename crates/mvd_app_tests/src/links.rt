@@ -1,21 +1,22 @@
-//! Links: what is written waits until something would be read.
+//! Links: what is sent waits until something would be read.
 use mvd_client::Link;
+use mvd_remote::Line;
 use std::alloc::Global;
 use std::cell::Cell;
 use std::io::{self, Read, Write};
 
-/// A stream that gives its bytes, and then as many bytes as it was given by then. It counts its writes.
+/// A stream that gives its bytes, and tells how many it was given by then. It counts its writes.
 #[derive(Drop)]
 struct Mirror<'a> {
     input: &'a [u8],
     taken: u64,
     writes: &'a Cell<u64>,
-    answered: &'a Cell<u64>,
+    asked: &'a Cell<u64>,
 }
 
 impl Read for Mirror<'_> {
     fn read(&mut self, buf: &mut [u8]) -> io::Result<usize> {
-        self.answered.set(self.taken);
+        self.asked.set(self.taken);
         self.input.read(buf)
     }
 }
@@ -32,50 +33,34 @@ impl Write for Mirror<'_> {
     }
 }
 
-/// Answers each byte by two, and gives how many were answered.
-fn answered<R: Read, W: Write>(incoming: &mut R, outgoing: &mut W) -> io::Result<u64> {
-    let mut count = 0u64;
-    for _ in 0..u64::MAX {
-        let mut byte = [0u8];
-        if incoming.read(&mut byte)? == 0 {
-            break;
+/// Whether a frame comes once a thousand frames of five bytes were sent.
+fn comes(alloc: Global, link: &mut Link<Mirror<'_>>) -> bool {
+    for _turn in 0..1_000 {
+        if link.send(&[0, 0, 0, 1, 0x51]).is_err() {
+            return false;
         }
-        outgoing.write_all(&[byte[0], byte[0]])?;
-        count = count.saturating_add(1);
     }
-    Ok(count)
+    matches!(link.receive(alloc), Ok(Some(_)))
 }
 
-/// The same over a link, or 0 where it cannot be had.
-fn answered_over(alloc: Global, link: &Link<Mirror<'_>>) -> u64 {
-    let mut outgoing = link.outgoing();
-    let Ok(mut incoming) = link.incoming(alloc) else {
-        return 0;
-    };
-    match answered(&mut incoming, &mut outgoing) {
-        Ok(count) => count,
-        Err(_) => 0,
-    }
-}
-
-fn answered_by(alloc: Global, stream: Mirror<'_>) -> u64 {
+fn comes_by(alloc: Global, stream: Mirror<'_>) -> bool {
     match Link::new(alloc, stream) {
-        Ok(link) => answered_over(alloc, &link),
-        Err(_) => 0,
+        Ok(mut link) => comes(alloc, &mut link),
+        Err(_) => false,
     }
 }
 
 #[test]
 fn what_waits_leaves_at_once_and_before_a_read(rt: HostRuntime) {
-    let input = [7u8; 1_000];
+    let input = [0, 0, 0, 1, 0xA3];
     let writes = Cell::new(0);
-    let answered = Cell::new(0);
+    let asked = Cell::new(0);
     let stream = Mirror {
         input: &input,
         taken: 0,
         writes: &writes,
-        answered: &answered,
+        asked: &asked,
     };
-    let count = answered_by(rt.alloc(), stream);
-    assert!(rt; (count, writes.get(), answered.get()) == (1_000, 1, 2_000));
+    let came = comes_by(rt.alloc(), stream);
+    assert!(rt; (came, writes.get(), asked.get()) == (true, 1, 5_000));
 }

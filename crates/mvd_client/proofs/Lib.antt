@@ -1,2 +1,4 @@
 pub mod Watching
 pub mod Syncing
+pub mod Fresh
+pub mod Leading

@@ -1,5 +1,5 @@
 -- What no session leaves, and what a Bye after one leaves.
-use Rattle.std.proofs.Common.{◌≡◌, ◌⊎◌, inl, inr, ℕ, Option, sym, subst}
+use Rattle.std.proofs.Common.{◌≡◌, inl, inr, ℕ, Option, sym, subst}
 use Rattle.std.specs.Prelude.{Result, Ok, Err, IfOk}
 use Rattle.mvd_dots.specs.declared.refusals.Refusal.{Refusal}
 use Rattle.mvd_wire.specs.declared.request.Request.TheVariants.{Bye}
@@ -12,7 +12,7 @@ use Rattle.mvd_replica.specs.declared.replica.Replica.{Replica}
 use Rattle.mvd_site.specs.Config.{ConfigValue}
 use Rattle.mvd_site.specs.Held.{States}
 use Rattle.mvd_remote.specs.Lines.{AnswersTruly, SiteReplies}
-use Rattle.mvd_sync.specs.Session.{HasJoined}
+use Rattle.mvd_sync.specs.Session.{After, Before, HasJoined, Meets}
 use Rattle.mvd_sync.specs.declared.report.Report.{Report}
 use Rattle.mvd_sync.specs.declared.report.SyncFault.{SyncFault}
 use Rattle.mvd_sync.proofs.Positions.{MeetsBy, ReportsDoneBy}
@@ -48,3 +48,13 @@ after_bye local_true peer_true later_true most_local most_peer number a b a' b' 
   };
   tells = tells;
 }
+
+-- so where both the session and the Bye end well
+pub after_bye_ok : (local_true peer_true later_true : Type 0) (most_local most_peer : ℕ) (number : Option ℕ) (a b a' b' b'' : States) (result : Result Report SyncFault) (report : Report) (m : MeetsBy local_true peer_true most_local most_peer number a b a' b' result) → result ≡ Ok report → peer_true → b'' ≡ b' → MeetsBy local_true later_true most_local most_peer number a b a' b'' (Ok report)
+after_bye_ok local_true peer_true later_true most_local most_peer number a b a' b' b'' result report m e t same =
+    let it : MeetsBy local_true peer_true most_local most_peer number a b a' b' (Ok report) = subst (MeetsBy local_true peer_true most_local most_peer number a b a' b') e m in
+    after_bye local_true peer_true later_true most_local most_peer number a b a' b' b'' (Ok report) (Ok report) it t same it.tells
+
+-- what two sides came to, told so
+pub meets_as : (before : Before) (after : After) (result told : Result Report SyncFault) → result ≡ told → Meets before after result → Meets before after told
+meets_as before after result told e m = subst (Meets before after) e m

@@ -1,10 +1,10 @@
 //! The servers that meet, the connections with them, and one session of two of them.
 ghost use Rattle.mvd_client.specs.Met.{IsFailureOf};
 
+use crate::dial::{Dial, Sockets, undialed};
+use crate::link::Link;
 use crate::meeting::{Root, meet_over, root_over};
-use crate::peer_commands::connected;
 use crate::progress::Watched;
-use crate::wire::Wire;
 use http_server::Log;
 use mvd_dots::Refusal;
 use mvd_hint::Stop;
@@ -35,7 +35,7 @@ pub struct MeetingTerms {
 #[derive(Drop)]
 pub(crate) struct End<T: Read + Write + Drop> {
     pub(crate) address: SocketAddr,
-    wire: Option<Wire<T>>,
+    link: Option<Link<T>>,
     is_failing: bool,
 }
 
@@ -50,15 +50,15 @@ impl<T: Read + Write + Drop> End<T> {
     pub(crate) fn new(address: SocketAddr) -> Self {
         End {
             address,
-            wire: None,
+            link: None,
             is_failing: false,
         }
     }
 
     /// Says Bye where a connection is open, which ends.
     pub(crate) fn part(&mut self, alloc: Global) -> Result<(), Refusal> {
-        match self.wire.take() {
-            Some(wire) => Remote::over(alloc, wire).bye(),
+        match self.link.take() {
+            Some(link) => Remote::over(alloc, link).bye(),
             None => Ok(()),
         }
     }
@@ -66,13 +66,13 @@ impl<T: Read + Write + Drop> End<T> {
     /// The digest of all that the server holds, over the connection that is open.
     pub(crate) fn root<'a>(&mut self, alloc: Global) -> Result<Root, Stop<'a>> {
         let address = self.address;
-        let Some(wire) = self.wire.take() else {
+        let Some(link) = self.link.take() else {
             return Err(Stop::at_server(address, Refusal::Truncated));
         };
-        let mut remote = Remote::over(alloc, wire);
+        let mut remote = Remote::over(alloc, link);
         match root_over(alloc, &mut remote) {
             Ok(digest) => {
-                self.wire = Some(remote.into_line());
+                self.link = Some(remote.into_line());
                 Ok(Root { address, digest })
             }
             Err(refusal) => Err(Stop::at_server(address, refusal)),
@@ -108,8 +108,8 @@ pub(crate) fn meet<'a, N: Net, E: Write>(
     errors: &mut E,
 ) -> Result<Report, Failure<'a>> {
     for _anew in 0..MOST_ANEW {
-        let is_near_kept = near.wire.is_some();
-        let is_far_kept = far.wire.is_some();
+        let is_near_kept = near.link.is_some();
+        let is_far_kept = far.link.is_some();
         let told = told(errors, terms.verbose);
         match session(rt, alloc, near, far, terms.idle, told) {
             Err(failure) if is_spent(failure.stop.fault) => {}
@@ -151,21 +151,21 @@ fn session<'a, N: Net, E: Write>(
     told: Option<&mut E>,
 ) -> Result<Report, Failure<'a>> {
     let side = Side::Local;
-    let near_wire = match opened(rt, alloc, near, idle) {
-        Ok(wire) => wire,
+    let near_link = match opened(rt, alloc, near, idle) {
+        Ok(link) => link,
         Err(stop) => return Err(Failure { side, stop }),
     };
     let side = Side::Peer;
-    let far_wire = match opened(rt, alloc, far, idle) {
-        Ok(wire) => wire,
+    let far_link = match opened(rt, alloc, far, idle) {
+        Ok(link) => link,
         Err(stop) => {
-            near.wire = Some(near_wire);
+            near.link = Some(near_link);
             return Err(Failure { side, stop });
         }
     };
-    let mut local = Remote::over(alloc, near_wire);
+    let mut local = Remote::over(alloc, near_link);
     let mut peer = Watched {
-        side: Remote::over(alloc, far_wire),
+        side: Remote::over(alloc, far_link),
         asked: Log::new(),
         moved: 0,
         told,
@@ -174,8 +174,8 @@ fn session<'a, N: Net, E: Write>(
         Ok(report) => report,
         Err(fault) => return Err(failed(near.address, far.address, fault)),
     };
-    near.wire = Some(local.into_line());
-    far.wire = Some(peer.side.into_line());
+    near.link = Some(local.into_line());
+    far.link = Some(peer.side.into_line());
     Ok(report)
 }
 
@@ -185,16 +185,16 @@ fn opened<'a, N: Net>(
     alloc: Global,
     end: &mut End<N::Stream>,
     idle: u32,
-) -> Result<Wire<N::Stream>, Stop<'a>> {
-    if let Some(wire) = end.wire.take() {
-        if wire.frames < MOST_FRAMES {
-            return Ok(wire);
+) -> Result<Link<N::Stream>, Stop<'a>> {
+    if let Some(link) = end.link.take() {
+        if link.frames < MOST_FRAMES {
+            return Ok(link);
         }
-        let _ = Remote::over(alloc, wire).bye();
+        let _ = Remote::over(alloc, link).bye();
     }
-    match connected(rt, end.address, idle) {
-        Ok(stream) => Ok(Wire::new(alloc, stream)?),
-        Err(error) => Err(Stop::unanswered(end.address, error)),
+    match Sockets(rt).dial(alloc, end.address, idle) {
+        Ok(link) => Ok(link),
+        Err(fault) => Err(undialed(end.address, fault)),
     }
 }
 

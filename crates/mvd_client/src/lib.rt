@@ -1,17 +1,18 @@
 //! What a command does at its end of a connection to a server: a session, or a shell; and sessions between servers.
 #![tactic(auto)]
 
+mod dial;
 mod ends;
 mod link;
 mod meeting;
 mod peer_commands;
 mod progress;
 mod rounds;
-mod wire;
 
+pub use dial::{Dial, DialFault, Sockets};
 pub use ends::MeetingTerms;
-pub use link::{Incoming, Link, Outgoing};
+pub use link::Link;
 pub use meeting::{Root, meet_over, root_over, tell_meeting};
-pub use peer_commands::{remote_shell_run, sync_run, tell_report};
+pub use peer_commands::{remote_shell_run, sync_run, sync_told, tell_report};
 pub use progress::Watched;
 pub use rounds::meet_run;

@@ -3,8 +3,11 @@ ghost use Rattle.std.specs.Prelude.{◌≡◌, ◌≢◌, ◌≤◌, ◌+◌, �
 ghost use Rattle.std.specs.Io.KnownBytes.{Appends};
 ghost use Rattle.mvd_client.specs.Questioned.{AsksFew, questions};
 ghost use Rattle.mvd_client.specs.Reported.{Reports, StopsLeft, refused_text, root_of, session_text};
+ghost use Rattle.mvd_client.specs.Stopped.{StopsFaulted};
 ghost use Rattle.mvd_client.specs.Synced.{FollowsPushed, MeetsFar};
-ghost use Rattle.mvd_client.specs.Talked.{ShellsOver};
+ghost use Rattle.mvd_client.specs.SyncsAt.{AreTrue, MeetsAt, SyncsAt, SyncsFrom, SyncsOver, TellsSession};
+ghost use Rattle.mvd_client.specs.Talked.{SaysBye, ShellsAt, ShellsOver};
+ghost use Rattle.mvd_peer.specs.PeerSides.{sides_of};
 ghost use Rattle.mvd_print.specs.Text.{root_text};
 ghost use Rattle.mvd_replica.specs.Replicas.{site_of};
 ghost use Rattle.mvd_replica.specs.Sides.{IsTrueSite};
@@ -12,13 +15,14 @@ ghost use Rattle.mvd_shell.specs.Shell.{at};
 ghost use Rattle.mvd_remote.specs.Lines.{IsTrueRemote, far_of};
 ghost use Rattle.mvd_remote.specs.Remotes.{RepliesFar};
 
-use crate::link::Link;
+use crate::dial::{Dial, undialed};
 use crate::progress::Watched;
 use http_server::Log;
 use mvd_dots::Refusal;
 use mvd_hint::{Hint, Older, Stop};
 use mvd_input::{Fault, tell};
 use mvd_keys::Path;
+use mvd_peer::Peer;
 use mvd_print::{print_keys, print_root};
 use mvd_remote::{Line, Remote};
 use mvd_replica::Replica;
@@ -27,60 +31,88 @@ use mvd_sync::{Left, Report, Side, SyncFault, sync};
 use sqlite::Alter;
 use std::alloc::Global;
 use std::fmt::Write as Print;
-use std::io::{self, BufRead, Read, Write};
-use std::net::{Net, OpenStream, SocketAddr};
-use std::time::Duration;
-
-/// A stream to the server at an address, on which no read and no write waits for more than so many seconds. What is
-/// written leaves at once.
-pub fn connected<N: Net>(rt: &N, address: SocketAddr, idle: u32) -> io::Result<N::Stream> {
-    let most = Duration::from_secs(u64::from(idle));
-    let stream = rt.connect_timeout(address, most)?;
-    stream.set_read_timeout(Some(most))?;
-    stream.set_write_timeout(Some(most))?;
-    stream.set_nodelay(true)?;
-    Ok(stream)
-}
+use std::io::{BufRead, Write};
+use std::net::SocketAddr;
 
 /// Runs a session with the server at an address, and says Bye. Where `told` is given, it is told how far the session
 /// is.
 #[tactic(auto, using(crate::proofs::Syncing::pushed_none))]
-pub fn sync_run<'a, N: Net, S: Alter + Drop, E: Write>(
-    rt: &N,
+pub fn sync_run<'a, D: Dial, S: Alter + Drop, E: Write>(
+    dial: &D,
     alloc: Global,
     replica: &mut Replica<S>,
     address: SocketAddr,
     idle: u32,
     told: Option<&mut E>,
 ) -> Result<Report, Stop<'a>>
+    // A session ran over a line that the address gives, and what is told is what came of it; or there is no line.
+    ensures syncs { SyncsAt D.Dialed.Line
+        (sides_of ⟦<Replica<S> as Peer>⟧ ⟦<Watched<'static, Remote<D::Dialed>, E> as Peer>⟧) (λ watched. watched.side)
+        (D.gives dial.now address) address replica.old replica.new result }
+    // Where what the address leads to is true, and so is the site, the two meet.
+    ensures meets { AreTrue D.Dialed.Line (D.gives dial.now address) → IsTrueSite (site_of replica.old) →
+        MeetsAt D.Dialed.Line (D.gives dial.now address) address replica.old replica.new result }
     // However it ends, the site changed by pushes alone, and its records follow.
     ensures pushed { FollowsPushed replica.old replica.new }
 {
-    let stream = match connected(rt, address, idle) {
-        Ok(stream) => stream,
-        Err(error) => return Err(Stop::unanswered(address, error)),
+    let line = match dial.dial(alloc, address, idle) {
+        Ok(line) => line,
+        Err(fault) => return Err(undialed(address, fault)),
     };
-    match sync_stream(alloc, stream, replica, told) {
+    match sync_line(alloc, line, replica, told) {
         Ok(report) => Ok(report),
-        Err(SyncFault::Local(refusal)) => Err(Stop::in_session(refusal)),
-        Err(SyncFault::Peer(refusal)) => Err(Stop::at_server(address, refusal)),
+        Err(fault) => Err(faulted(address, fault)),
     }
 }
 
-/// Runs a session over a stream.
+/// What a command is stopped with where its session with the server at an address has a fault.
+fn faulted<'a>(address: SocketAddr, fault: SyncFault) -> Stop<'a>
+    ensures { StopsFaulted address fault result }
+{
+    match fault {
+        SyncFault::Local(refusal) => Stop::in_session(refusal),
+        SyncFault::Peer(refusal) => Stop::at_server(address, refusal),
+    }
+}
+
+/// Runs a session with the server at an address, says Bye, and tells of it; where `verbose`, also how far it is.
 #[tactic(auto, using(crate::proofs::Syncing::pushed_none))]
-fn sync_stream<T: Read + Write + Drop, S: Alter + Drop, E: Write>(
+pub fn sync_told<'a, D: Dial, S: Alter + Drop, W: Write, E: Write>(
+    dial: &D,
     alloc: Global,
-    stream: T,
+    replica: &mut Replica<S>,
+    address: SocketAddr,
+    idle: u32,
+    verbose: bool,
+    writer: &mut W,
+    errors: &mut E,
+) -> Result<(), Stop<'a>>
+    // What is printed is what came of the session.
+    ensures tells { TellsSession D.Dialed.Line (D.gives dial.now address) address replica.old replica.new
+        (W.contents writer.old) (W.contents writer.new) result }
+    ensures pushed { FollowsPushed replica.old replica.new }
+{
+    let told = if verbose { Some(&mut *errors) } else { None };
+    match sync_run(dial, alloc, replica, address, idle, told) {
+        Ok(report) => tell_report(alloc, replica, &report, writer, errors),
+        Err(stop) => Err(stop),
+    }
+}
+
+/// Runs a session over a line over which nothing went.
+fn sync_line<L: Line, S: Alter + Drop, E: Write>(
+    alloc: Global,
+    line: L,
     replica: &mut Replica<S>,
     told: Option<&mut E>,
 ) -> Result<Report, SyncFault>
+    ensures syncs { SyncsFrom L.Line
+        (sides_of ⟦<Replica<S> as Peer>⟧ ⟦<Watched<'static, Remote<L>, E> as Peer>⟧) (λ watched. watched.side)
+        line replica.old replica.new result }
     ensures pushed { FollowsPushed replica.old replica.new }
 {
-    let link = Link::new(alloc, stream).map_err(SyncFault::Local)?;
-    let incoming = link.incoming(alloc).map_err(SyncFault::Local)?;
     let mut watched = Watched {
-        side: Remote::new(alloc, incoming, link.outgoing()),
+        side: Remote::over(alloc, line),
         asked: Log::new(),
         moved: 0,
         told,
@@ -102,6 +134,9 @@ pub fn sync_over<L: Line, S: Alter + Drop, E: Write>(
         AsksFew (questions watched.old.asked.items) (questions watched.new.asked.items)
         (site_of replica.old).states (far_of L.far watched.old.side).states }
     // Whatever is at the other end.
+    ensures syncs { SyncsOver L.Line
+        (sides_of ⟦<Replica<S> as Peer>⟧ ⟦<Watched<'static, Remote<L>, E> as Peer>⟧) (λ watched. watched.side)
+        replica.old replica.new watched.old watched.new result }
     ensures pushed { FollowsPushed replica.old replica.new }
     ensures most { questions watched.new.asked.items ≤ questions watched.old.asked.items + 10000000 }
 {
@@ -205,31 +240,23 @@ fn add_root<S: Alter + Drop>(
 
 /// Answers the lines through the server at an address, and says Bye at their end. Where the connection was lost, each
 /// later line is refused so, and so is the Bye.
-pub fn remote_shell_run<'a, N: Net, R: BufRead, W: Write>(
-    rt: &N,
+pub fn remote_shell_run<'a, D: Dial, R: BufRead, W: Write>(
+    dial: &D,
     alloc: Global,
     address: SocketAddr,
     idle: u32,
     reader: &mut R,
     writer: &mut W,
-) -> Result<(), Stop<'a>> {
-    match connected(rt, address, idle) {
-        Ok(stream) => shell_stream(alloc, stream, address, reader, writer),
-        Err(error) => Err(Stop::unanswered(address, error)),
-    }
-}
-
-/// The same over a stream to that server.
-fn shell_stream<'a, T: Read + Write + Drop, R: BufRead, W: Write>(
-    alloc: Global,
-    stream: T,
-    address: SocketAddr,
-    reader: &mut R,
-    writer: &mut W,
-) -> Result<(), Stop<'a>> {
-    let link = Link::new(alloc, stream)?;
-    let incoming = link.incoming(alloc)?;
-    let mut remote = Remote::new(alloc, incoming, link.outgoing());
+) -> Result<(), Stop<'a>>
+    // The shell is over a line that the address gives; or there is no line.
+    ensures shells { ShellsAt D.Dialed.Line (D.gives dial.now address) address
+        (R.remaining reader.old) (W.contents writer.old) (R.remaining reader.new) (W.contents writer.new) result }
+{
+    let line = match dial.dial(alloc, address, idle) {
+        Ok(line) => line,
+        Err(fault) => return Err(undialed(address, fault)),
+    };
+    let mut remote = Remote::over(alloc, line);
     shell_over(alloc, &mut remote, address, reader, writer)
 }
 
@@ -241,7 +268,7 @@ pub fn shell_over<'a, L: Line, R: BufRead, W: Write>(
     reader: &mut R,
     writer: &mut W,
 ) -> Result<(), Stop<'a>>
-    ensures shells { ShellsOver (RepliesFar L.Line)
+    ensures shells { ShellsOver (RepliesFar L.Line) (SaysBye L.Line)
         (at remote.old (R.remaining reader.old) (W.contents writer.old))
         (at remote.new (R.remaining reader.new) (W.contents writer.new)) result }
 {

@@ -1,3 +1,4 @@
+use Rattle.std.proofs.Common.{refl}
 use Rattle.mvd_client.proofs.peer_commands.shell_over.Goals as goal
 
 pub returns-in-Err : goal.returns-in-Err
@@ -7,6 +8,8 @@ returns-in-Err g c = record {
     told = c.shell_run.result;
     shells = c.shell_run.ensures.told;
     whole = tt;
+    bye = rw c.in-Err.is tt;
+    none = rw c.in-Err.is refl;
   };
 }
 
@@ -17,6 +20,8 @@ returns-in-Ok-bye g c = record {
     told = c.shell_run.result;
     shells = c.shell_run.ensures.told;
     whole = c.in-Ok.is;
+    bye = rw c.in-Ok.is (c.bye.result, c.bye.ensures.asked);
+    none = rw c.in-Ok.is tt;
   };
 }
 
@@ -27,5 +32,7 @@ returns-in-Err-bye g c = record {
     told = c.shell_run.result;
     shells = c.shell_run.ensures.told;
     whole = tt;
+    bye = rw c.in-Ok.is (c.bye.result, c.bye.ensures.asked);
+    none = rw c.in-Ok.is tt;
   };
 }

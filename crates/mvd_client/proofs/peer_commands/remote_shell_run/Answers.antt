@@ -1,0 +1,13 @@
+use Rattle.std.proofs.Common.{refl}
+use Rattle.mvd_client.specs.Talked.ShellsAt.{nobody, ran}
+use Rattle.mvd_client.proofs.peer_commands.remote_shell_run.Goals as goal
+
+pub returns-in-Err : goal.returns-in-Err
+returns-in-Err g c = record {
+  shells = nobody c.undialed.result refl (c.in-Err.fault, c.undialed.ensures) refl refl;
+}
+
+pub returns : goal.returns
+returns g c = record {
+  shells = ran c.in-Ok.line c.in-Ok.ensures c.over-remote.result c.shell_over.new.remote c.over-remote.ensures.line c.over-remote.ensures.goes_on c.shell_over.ensures.shells;
+}

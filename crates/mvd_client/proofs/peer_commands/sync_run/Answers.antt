@@ -1,0 +1,23 @@
+use Rattle.std.proofs.Common.{refl}
+use Rattle.mvd_client.specs.SyncsAt.SyncsAt.{nobody, ran}
+use Rattle.mvd_client.proofs.Leading.{meets_at}
+use Rattle.mvd_client.proofs.peer_commands.sync_run.Goals as goal
+
+pub returns-in-Err-clause-syncs : goal.returns-in-Err-clause-syncs
+returns-in-Err-clause-syncs g c = nobody refl c.undialed.result refl (c.in-Err.fault, c.undialed.ensures)
+
+pub returns-in-Ok-sync_line-clause-syncs : goal.returns-in-Ok-sync_line-clause-syncs
+returns-in-Ok-sync_line-clause-syncs g c = ran c.in-Ok.line c.in-Ok.ensures c.sync_line.result c.sync_line.ensures.syncs (rw c.in-Ok-sync_line.is refl)
+
+pub returns-in-Err-sync_line-clause-syncs : goal.returns-in-Err-sync_line-clause-syncs
+returns-in-Err-sync_line-clause-syncs g c = ran c.in-Ok.line c.in-Ok.ensures c.sync_line.result c.sync_line.ensures.syncs
+    (rw c.in-Err-sync_line.is (c.faulted.result, refl, c.faulted.ensures))
+
+pub returns-in-Err-clause-meets : goal.returns-in-Err-clause-meets
+returns-in-Err-clause-meets g c = λ t s. meets_at _ _ _ _ _ _ _ _ (returns-in-Err-clause-syncs g c) t s
+
+pub returns-in-Ok-sync_line-clause-meets : goal.returns-in-Ok-sync_line-clause-meets
+returns-in-Ok-sync_line-clause-meets g c = λ t s. meets_at _ _ _ _ _ _ _ _ (returns-in-Ok-sync_line-clause-syncs g c) t s
+
+pub returns-in-Err-sync_line-clause-meets : goal.returns-in-Err-sync_line-clause-meets
+returns-in-Err-sync_line-clause-meets g c = λ t s. meets_at _ _ _ _ _ _ _ _ (returns-in-Err-sync_line-clause-syncs g c) t s

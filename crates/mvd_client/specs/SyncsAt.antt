@@ -1,0 +1,88 @@
+-- A session with what an address leads to.
+use Rattle.std.specs.Prelude.{◌≡◌, ℕ, List, [], None, Option, Result, Ok, Err}
+use Rattle.std.specs.declared.net.socket_addr.SocketAddr.{SocketAddr}
+use Rattle.mvd_dots.specs.declared.refusals.Refusal.{Refusal}
+use Rattle.mvd_client.specs.Reported.{Reports}
+use Rattle.mvd_client.specs.Stopped.{IsUndialed, TellsAs}
+use Rattle.mvd_client.specs.Synced.{MeetsFar}
+use Rattle.mvd_remote.specs.Remotes.{AsksOver, bye_query}
+use Rattle.mvd_hint.specs.declared.hint.Stop.{Stop}
+use Rattle.mvd_peer.specs.Sides.{Sides, two}
+use Rattle.mvd_remote.specs.Lines.{line_of, refused_of}
+use Rattle.mvd_remote.specs.declared.line.Line.{Ghosts as LineGhosts}
+use Rattle.mvd_remote.specs.declared.remote.Remote.{Remote}
+use Rattle.mvd_replica.specs.Replicas.{site_of}
+use Rattle.mvd_replica.specs.Sides.{IsTrueSite}
+use Rattle.mvd_replica.specs.declared.replica.Replica.{Replica}
+use Rattle.mvd_site.specs.Held.{States}
+use Rattle.mvd_sync.specs.Session.{Session}
+use Rattle.mvd_sync.specs.declared.report.Report.{Report}
+use Rattle.mvd_sync.specs.declared.report.SyncFault.{SyncFault}
+use Rattle.mvd_sync.specs.declared.report.SyncFault.TheVariants.{Peer}
+use Rattle.sqlite_trees.specs.declared.store.Store.{Ghosts}
+
+-- what a session and its Bye tell: a Bye that fails is a fault of the peer
+abbrev pub told_by : Report → Result (Unit {0}) Refusal → Result Report SyncFault
+told_by report (Ok done) = Ok report
+told_by report (Err refusal) = Err (Peer refusal)
+
+-- what is printed of a session: its report, or nothing, and then the command is stopped as it was
+abbrev pub TellsRan : States → Option (List ℕ) → Option (List ℕ) → Result Report Stop → Result (Unit {0}) Stop → Type 0
+TellsRan states out out' (Ok report) result = Reports report states out out' result
+TellsRan states out out' (Err stop) result = (result ≡ Err stop) × (out' ≡ out)
+
+-- a site `S`, and a far side `W` that is asked over a line `L`
+module _ {S : Type 0} {g : Ghosts S} {L W : Type 0} (line : LineGhosts L) (sides : Sides (Replica S g) W)
+    (over : W → Remote L) where
+  -- behind a session that ended well comes a Bye, and nothing else; behind another, nothing
+  abbrev pub EndsBy : Result Report SyncFault → W → W → Result Report SyncFault → Type 0
+  EndsBy (Ok report) mid after told = (bye : Result (Unit {0}) Refusal)
+      × AsksOver line bye_query (over mid) (over after) bye × (told ≡ told_by report bye)
+  EndsBy (Err fault) mid after told = (after ≡ mid) × (told ≡ Err fault)
+
+  -- ONE SESSION over a line, and a Bye
+  pub record SyncsOver (old new : Replica S g) (before after : W) (told : Result Report SyncFault) : Type 0 where
+    pub mid : W
+    pub ran : Result Report SyncFault
+    pub session : Session sides 10000000 (two old before) (two new mid) ran
+    pub ends : EndsBy ran mid after told
+    -- where the line is true, no reply is due, and so is the site, the two meet
+    pub meets : IsTrueSite (site_of old) → line.is_true (line_of (over before))
+        → (line.far (line_of (over before))).due ≡ [] → refused_of (over before) ≡ None
+        → MeetsFar line.is_true line.far old new (over before) (over after) told
+
+  -- over this line, which nothing was asked before
+  pub record SyncsFrom (fresh : L) (old new : Replica S g) (told : Result Report SyncFault) : Type 0 where
+    pub before : W
+    pub after : W
+    pub at_line : line_of (over before) ≡ fresh
+    pub goes_on : refused_of (over before) ≡ None
+    pub over_line : SyncsOver old new before after told
+
+  -- WHAT AN ADDRESS LEADS TO is one of these lines. It leads to none, and nothing changes; or there is one line, over which
+  -- runs one session, and what is told is what came of that
+  pub data SyncsAt (gives : L → Type 0) (address : SocketAddr) (old new : Replica S g) (result : Result Report Stop)
+      : Type 0 where
+    nobody : new ≡ old → (stop : Stop) → result ≡ Err stop → IsUndialed address stop
+        → SyncsAt gives address old new result
+    ran : (at : L) → gives at → (told : Result Report SyncFault) → SyncsFrom at old new told
+        → TellsAs address told result → SyncsAt gives address old new result
+
+-- the lines that an address may give are true, and no reply is due on them
+abbrev pub AreTrue : {L : Type 0} → LineGhosts L → (L → Type 0) → Type 0
+AreTrue {L} line gives = (fresh : L) → gives fresh → line.is_true fresh × ((line.far fresh).due ≡ [])
+
+module _ {S : Type 0} {g : Ghosts S} {L : Type 0} (line : LineGhosts L) (gives : L → Type 0) (address : SocketAddr) where
+  -- WHERE THEY ARE, the site and what answers there meet: what differed is joined on both sides, and what is told is what
+  -- came of that. Or the address leads to no line, and nothing changes
+  pub data MeetsAt (old new : Replica S g) (result : Result Report Stop) : Type 0 where
+    unanswered : new ≡ old → (stop : Stop) → result ≡ Err stop → IsUndialed address stop → MeetsAt old new result
+    met : (before after : Remote L) → gives (line_of before) → (told : Result Report SyncFault)
+        → MeetsFar line.is_true line.far old new before after told → TellsAs address told result → MeetsAt old new result
+
+  -- FROM THE ADDRESS TO WHAT IS PRINTED: what is told is of the session that ran
+  pub record TellsSession (old new : Replica S g) (out out' : Option (List ℕ)) (result : Result (Unit {0}) Stop)
+      : Type 0 where
+    pub ran : Result Report Stop
+    pub meets : AreTrue line gives → IsTrueSite (site_of old) → MeetsAt old new ran
+    pub told : TellsRan (site_of new).states out out' ran result

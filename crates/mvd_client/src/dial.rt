@@ -1,0 +1,81 @@
+//! What leads from an address to a line.
+ghost use Rattle.std.specs.Prelude.{IfOk};
+ghost use Rattle.std.specs.declared.net.socket_addr.SocketAddr.{SocketAddr};
+ghost use Rattle.mvd_client.specs.Stopped.{StopsUndialed};
+
+use crate::link::Link;
+use mvd_dots::Refusal;
+use mvd_hint::Stop;
+use mvd_remote::Line;
+use std::alloc::Global;
+use std::io;
+use std::net::{Net, OpenStream, SocketAddr};
+use std::time::Duration;
+
+/// Why an address leads to no line.
+#[derive(Debug, Clone, Copy)]
+pub enum DialFault {
+    Unanswered(io::Error),
+    Memory,
+}
+
+/// What leads from an address to a line. What the lines of an address are is a premise of whoever names what dials, and
+/// no code reads it.
+pub trait Dial {
+    type Dialed: Line;
+
+    /// The lines that an address may lead to.
+    ghost gives: { Self → SocketAddr → Self.Dialed → Type 0 };
+
+    /// A line to what answers at an address, over which nothing went, and on which no read and no write waits for more
+    /// than so many seconds.
+    fn dial(&self, alloc: Global, address: SocketAddr, idle: u32) -> Result<Self::Dialed, DialFault>
+        ensures { IfOk result (gives self.now address) };
+}
+
+/// What dials over the system's sockets.
+#[derive(Clone, Copy)]
+pub struct Sockets<'a, N: Net>(pub &'a N);
+
+impl<N: Net> Dial for Sockets<'_, N> {
+    type Dialed = Link<N::Stream>;
+
+    // Nothing is known of who answers.
+    ghost gives = { λ _ _ _. Unit {0} };
+
+    fn dial(
+        &self,
+        alloc: Global,
+        address: SocketAddr,
+        idle: u32,
+    ) -> Result<Link<N::Stream>, DialFault> {
+        let stream = match connected(self.0, address, idle) {
+            Ok(stream) => stream,
+            Err(error) => return Err(DialFault::Unanswered(error)),
+        };
+        match Link::new(alloc, stream) {
+            Ok(link) => Ok(link),
+            Err(_) => Err(DialFault::Memory),
+        }
+    }
+}
+
+/// A stream to the server at an address. What is written leaves at once.
+fn connected<N: Net>(rt: &N, address: SocketAddr, idle: u32) -> io::Result<N::Stream> {
+    let most = Duration::from_secs(u64::from(idle));
+    let stream = rt.connect_timeout(address, most)?;
+    stream.set_read_timeout(Some(most))?;
+    stream.set_write_timeout(Some(most))?;
+    stream.set_nodelay(true)?;
+    Ok(stream)
+}
+
+/// What a command is stopped with where an address leads to no line.
+pub(crate) fn undialed<'a>(address: SocketAddr, fault: DialFault) -> Stop<'a>
+    ensures { StopsUndialed address fault result }
+{
+    match fault {
+        DialFault::Unanswered(error) => Stop::unanswered(address, error),
+        DialFault::Memory => Stop::from(Refusal::Memory),
+    }
+}

@@ -63,7 +63,12 @@ fn new_client(alloc: Global, random: &mut Random) -> Client {
     }
 }
 
-/// One replica is asked what a round takes of a client: the requests that are whole, up to one that is none.
+/// Whether nothing is taken behind a request before its reply leaves: it is none, or no write.
+fn is_last(request: &str) -> bool {
+    request == WIDE || !matches!(request.as_bytes().get(8..10), Some([b'2', b'2' | b'3' | b'9']))
+}
+
+/// One replica is asked what a round takes of a client: the requests that are whole, up to one that is the last.
 fn ask<S: Alter + Drop>(alloc: Global, single: &mut Replica<S>, client: &mut Client) {
     for at in client.taken..REQUESTS {
         let request = client.asked[at];
@@ -75,7 +80,7 @@ fn ask<S: Alter + Drop>(alloc: Global, single: &mut Replica<S>, client: &mut Cli
         push(&mut client.wanted, reply.as_slice());
         client.taken = at + 1;
         client.end = end;
-        if request == WIDE {
+        if is_last(request) {
             return;
         }
     }

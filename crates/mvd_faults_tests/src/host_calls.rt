@@ -52,6 +52,12 @@ pub fn take(host: &mut Host, client: u64, most: usize) -> Bytes {
     bytes
 }
 
+/// Takes all bytes that wait to leave to a client.
+pub fn drop_waiting(host: &mut Host, client: u64) {
+    let count = waits(host, client);
+    host.sent(client, count);
+}
+
 pub fn round<S: Alter>(host: &mut Host, replica: &mut Replica<S>, ready: &[u64]) {
     let _ = host.round(replica, ready, &mut Tally::new());
 }

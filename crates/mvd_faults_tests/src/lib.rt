@@ -13,6 +13,8 @@ mod examples;
 #[cfg(test)]
 mod file_calls;
 #[cfg(test)]
+mod filling;
+#[cfg(test)]
 mod host_calls;
 #[cfg(test)]
 mod memory;

@@ -24,6 +24,14 @@ turns_on (first ∷ rounds) turns =
     ∙ sym (append_assoc (turns_of first) (turns_of (all_turns rounds)) (turns_of turns))
     ∙ ap (λ (ts : List Turn). ts ++ turns_of turns) (sym (map-append (λ (t : ℕ × Turn). t.1) first (all_turns rounds)))
 
+turns_both : (rounds others : List (List (ℕ × Turn))) → turns_of (all_turns (rounds ++ others)) ≡ turns_of (all_turns rounds) ++ turns_of (all_turns others)
+turns_both [] others = refl
+turns_both (first ∷ rounds) others =
+    map-append (λ (t : ℕ × Turn). t.1) first (all_turns (rounds ++ others))
+    ∙ ap (λ (ts : List Turn). turns_of first ++ ts) (turns_both rounds others)
+    ∙ sym (append_assoc (turns_of first) (turns_of (all_turns rounds)) (turns_of (all_turns others)))
+    ∙ ap (λ (ts : List Turn). ts ++ turns_of (all_turns others)) (sym (map-append (λ (t : ℕ × Turn). t.1) first (all_turns rounds)))
+
 module _ {S : Type 0} {g : Ghosts S} where
   pub has_round : (ready : List ℕ) (host host' : HostValue) (old new : Replica S g) → (turns : List (ℕ × Turn)) × Round ready turns (side_of host old) (side_of host' new) → HasRound old new
   has_round ready host host' old new (turns, round) = (turns, (ready, host, host', round))
@@ -53,4 +61,23 @@ module _ {S : Type 0} {g : Ghosts S} where
     are_rounds = rounds_on p.rounds turns old mid new p.are_rounds round;
     serves = subst (λ (ts : List Turn). Serves ts (stored_of old) (stored_of new)) (sym (turns_on p.rounds turns))
         (serves_on (turns_of (all_turns p.rounds)) (turns_of turns) (site_of old) (site_of mid) (site_of new) (store_of old) (store_of mid) (store_of new) p.serves round.3.serves);
+  }
+
+  rounds_from : (rounds : List (List (ℕ × Turn))) (old mid new : Replica S g) → site_of mid ≡ site_of old → conn_of mid ≡ conn_of old → AreRounds rounds mid new → AreRounds rounds old new
+  unfolding AreRounds
+  rounds_from [] old mid new same still (again, too) = (again ∙ same, too ∙ still)
+  rounds_from (first ∷ rounds) old mid new same still (then, round', others) = (then, from_same first old mid then same still round', others)
+
+  rounds_both : (rounds others : List (List (ℕ × Turn))) (old mid new : Replica S g) → AreRounds rounds old mid → AreRounds others mid new → AreRounds (rounds ++ others) old new
+  unfolding AreRounds
+  rounds_both [] others old mid new (same, still) later = rounds_from others old mid new same still later
+  rounds_both (first ∷ rounds) others old mid new (then, round', more) later = (then, round', rounds_both rounds others then mid new more later)
+
+  -- rounds, and then more
+  pub served_both : (old mid new : Replica S g) → IsServed old mid → IsServed mid new → IsServed old new
+  served_both old mid new p q = record {
+    rounds = p.rounds ++ q.rounds;
+    are_rounds = rounds_both p.rounds q.rounds old mid new p.are_rounds q.are_rounds;
+    serves = subst (λ (ts : List Turn). Serves ts (stored_of old) (stored_of new)) (sym (turns_both p.rounds q.rounds))
+        (serves_on (turns_of (all_turns p.rounds)) (turns_of (all_turns q.rounds)) (site_of old) (site_of mid) (site_of new) (store_of old) (store_of mid) (store_of new) p.serves q.serves);
   }

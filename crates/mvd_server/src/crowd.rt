@@ -82,11 +82,11 @@ impl Crowd {
         self.clients.len() < CLIENTS_MAX && !self.is_shut()
     }
 
-    /// Answers what came of some clients, together.
-    pub fn round<S: Alter + Drop>(&mut self, replica: &mut Replica<S>, ready: &[u64])
+    /// Answers what came of some clients, together. Whether there may be more of it at once.
+    pub fn round<S: Alter + Drop>(&mut self, replica: &mut Replica<S>, ready: &[u64]) -> bool
         ensures round { HasRound replica.old replica.new }
     {
-        self.talks.round(replica, ready, &mut self.counts);
+        self.talks.round(replica, ready, &mut self.counts)
     }
 
     /// When a client is to be looked after next.

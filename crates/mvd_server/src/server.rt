@@ -20,6 +20,9 @@ use std::net::{Net, SocketAddr};
 use std::random::RandomSource;
 use std::time::{Clock, Duration, Instant};
 
+/// As many rounds follow each other until replies leave.
+const ROUNDS_MAX: usize = 64;
+
 /// What a server is asked for: the port for HTTP, if it serves that too, how many connections it serves in all, and
 /// for how many seconds no byte need move on one.
 #[derive(Clone, Copy)]
@@ -164,10 +167,21 @@ impl Server {
             }
             self.wait(rt)?;
             self.take_in()?;
-            self.crowd.round(replica, &self.ready);
+            self.answer(replica);
             self.give_out(writer)?;
         }
         Ok(())
+    }
+
+    /// Answers what came of the clients that are listed: together what may be, and then what came behind it.
+    fn answer<S: Alter + Drop>(&mut self, replica: &mut Replica<S>)
+        ensures served { IsServed replica.old replica.new }
+    {
+        for _round in 0..ROUNDS_MAX {
+            if !self.crowd.round(replica, &self.ready) {
+                return;
+            }
+        }
     }
 
     /// Waits until there may be something to do, and lists the clients of which the system tells so.

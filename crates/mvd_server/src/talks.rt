@@ -72,13 +72,14 @@ impl Talks {
         self.host.dismiss(number);
     }
 
-    /// Takes the requests of some clients, answers them together, and queues what each is told.
+    /// Takes requests of some clients, answers them together, and queues what each is told. Whether there may be more of
+    /// them at once.
     pub fn round<S: Alter + Drop>(
         &mut self,
         replica: &mut Replica<S>,
         ready: &[u64],
         counts: &mut Counts,
-    )
+    ) -> bool
         // Nothing but the host's round changes the replica.
         ensures round { HasRound replica.old replica.new }
     {
@@ -91,12 +92,10 @@ impl Talks {
                 ask(self.alloc, &mut self.host, web, *number, replica, counts);
             }
         }
-        // Where memory was refused for a frame, there may be more.
-        if self
-            .host
-            .round(replica, ready, &mut counts.tally)
-            .unwrap_or(true)
-        {
+        // Where memory was refused for a frame, there may be more, but not at once.
+        let round = self.host.round(replica, ready, &mut counts.tally);
+        let more = matches!(round, Ok(true));
+        if more || round.is_err() {
             counts.rounds = counts.rounds.saturating_add(1);
         }
         for number in ready {
@@ -104,6 +103,7 @@ impl Talks {
                 answer(self.alloc, &mut self.host, web, *number, counts);
             }
         }
+        more
     }
 
     pub fn wants_input(&self, number: u64) -> bool {

@@ -1,6 +1,9 @@
-//! Tests of the commands: inputs, a connection within one process, links, sessions of two servers, shells, and hints.
+//! Tests of the commands: inputs, a connection within one process, links, sessions with a site at hand and of two servers,
+//! shells, and hints.
 #![tactic(auto)]
 
+#[cfg(test)]
+mod at_hand;
 #[cfg(test)]
 mod hints;
 #[cfg(test)]

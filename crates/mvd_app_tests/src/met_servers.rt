@@ -1,83 +1,25 @@
 //! Sessions of two servers, and what is told of them.
-ghost use Rattle.std.specs.Prelude.{◌<◌, ◌≤◌, None};
-ghost use Rattle.mvd_remote.specs.Lines.{nowhere};
+ghost use Rattle.std.specs.Prelude.{◌<◌, ◌≤◌};
 
 use http_server::Log;
 use mvd_client::{Root, Watched, meet_over, root_over, tell_meeting};
 use mvd_docs::Document;
 use mvd_dots::{Context, Refusal};
-use mvd_frames::{decode_request, encode_reply, read_frame};
 use mvd_hint::Stop;
 use mvd_input::Fault;
 use mvd_keys::Key;
-use mvd_remote::{Line, Remote};
+use mvd_line_tests::Served;
+use mvd_remote::Remote;
 use mvd_rows::Defs;
 use mvd_site::{Config, Site};
 use mvd_sync::Report;
-use mvd_wire::{Frame, Reply, Request};
+use mvd_wire::Request;
 use std::alloc::Global;
-use std::collections::VecDeque;
 use std::net::{IpAddr, Ipv4Addr, SocketAddr};
 use std::test::Fail;
 
-/// A line to a site at hand. Nothing is claimed of it.
-#[derive(Drop)]
-struct Near {
-    alloc: Global,
-    site: Site,
-    replies: VecDeque<Reply>,
-}
-
-impl Near {
-    fn take(&mut self, frame: &Frame) -> Result<(), Refusal> {
-        let request = decode_request(self.alloc, frame.kind, &frame.payload)?;
-        let reply = self.site.answer(&request);
-        match self.replies.push_back(reply) {
-            Ok(()) => Ok(()),
-            Err(_) => Err(Refusal::Memory),
-        }
-    }
-}
-
-impl Line for Near {
-    ghost remaining = { λ _. None };
-
-    ghost contents = { λ _. None };
-
-    ghost is_true = { λ _. ⊥ };
-
-    ghost far = { λ _. nowhere };
-
-    ghost in_form = { λ _ never. absurd never };
-
-    fn send(&mut self, frames: &[u8]) -> Result<(), Refusal> {
-        let mut rest = frames;
-        for _turn in 0..frames.len() {
-            match read_frame(self.alloc, &mut rest) {
-                Ok(Some(frame)) => match self.take(&frame) {
-                    Ok(()) => {}
-                    Err(_) => return Err(Refusal::WriteFailed),
-                },
-                Ok(None) => return Ok(()),
-                Err(_) => return Err(Refusal::WriteFailed),
-            }
-        }
-        Ok(())
-    }
-
-    fn receive(&mut self, alloc: Global) -> Result<Option<Frame>, Refusal> {
-        let Some(reply) = self.replies.pop_front() else {
-            return Ok(None);
-        };
-        match encode_reply(alloc, &reply) {
-            Ok(bytes) => read_frame(alloc, &mut bytes.as_slice()),
-            Err(_) => Err(Refusal::Memory),
-        }
-    }
-}
-
 /// A server of a site of this number, which holds a key.
-fn server(alloc: Global, number: u32, max_keys: u32, key: &str) -> Result<Remote<Near>, Refusal>
+fn server(alloc: Global, number: u32, max_keys: u32, key: &str) -> Result<Remote<Served>, Refusal>
     requires site { 0 < number }
     requires keys { (0 < max_keys) × (max_keys ≤ 1000000) }
 {
@@ -86,12 +28,7 @@ fn server(alloc: Global, number: u32, max_keys: u32, key: &str) -> Result<Remote
     let document = Document::read(alloc, "{}")?;
     let put = Request::Put(Key::read(alloc, key)?, Context::new(alloc), document);
     let _reply = site.answer(&put);
-    let line = Near {
-        alloc,
-        site,
-        replies: VecDeque::new(alloc),
-    };
-    Ok(Remote::over(alloc, line))
+    Ok(Remote::over(alloc, Served::new(alloc, site)))
 }
 
 fn at(port: u16) -> SocketAddr {

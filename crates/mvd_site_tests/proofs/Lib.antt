@@ -1,2 +1,1 @@
 pub mod Now
-pub mod Serving

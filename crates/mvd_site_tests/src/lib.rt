@@ -25,8 +25,6 @@ mod reply_frames;
 #[cfg(test)]
 mod request_frames;
 #[cfg(test)]
-mod served;
-#[cfg(test)]
 mod site_calls;
 #[cfg(test)]
 mod state_frames;

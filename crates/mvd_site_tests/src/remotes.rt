@@ -1,10 +1,10 @@
 //! A remote site over bytes in memory.
 use crate::peers::{Counting, written};
-use crate::served::Served;
 use crate::two_sites::meet;
 use mvd_dots::Refusal;
 use mvd_frames::decode_request;
 use mvd_keys::{Key, KeyState};
+use mvd_line_tests::Served;
 use mvd_peer::Peer;
 use mvd_remote::{Duplex, Remote};
 use mvd_rows::Defs;

@@ -1,8 +1,8 @@
 use Rattle.std.proofs.Common.{ℕ, List, refl, subst}
 use Rattle.std.specs.Prelude.{Some, option_map}
 use Rattle.mvd_wire.specs.Frames.{Reads, frame_at, frame_value}
-use Rattle.mvd_site_tests.proofs.Serving.{next_reply}
-use Rattle.mvd_site_tests.proofs.served.ServedLine.receive.Goals as goal
+use Rattle.mvd_line_tests.proofs.Serving.{next_reply}
+use Rattle.mvd_line_tests.proofs.served.ServedLine.receive.Goals as goal
 
 pub returns-clause-truth : goal.returns-clause-truth
 returns-clause-truth c t = (

@@ -1,9 +1,9 @@
 //! A line to a site at hand, which is true.
-ghost use Rattle.std.specs.Prelude.{◌≡◌, None, []};
+ghost use Rattle.std.specs.Prelude.{◌≡◌, None};
 ghost use Rattle.mvd_site.specs.Held.{AreHeld};
 ghost use Rattle.mvd_site.specs.Known.{IsValidRequest};
 ghost use Rattle.mvd_remote.specs.Lines.{TrueReply};
-ghost use Rattle.mvd_site_tests.specs.Serving.{TakesOne, far_at};
+ghost use Rattle.mvd_line_tests.specs.Serving.{IsAtHand, TakesOne, far_at, site_of};
 ghost use Rattle.mvd_wire.specs.declared.request.Request.{Request};
 ghost use Rattle.mvd_wire.specs.Replies.{CanBeSent};
 ghost use Rattle.mvd_wire.specs.Requests.{SpellsRequest};
@@ -27,9 +27,8 @@ pub struct Served {
 
 impl Served {
     pub fn new(alloc: Global, site: Site) -> Self
-        ensures site { result.site ≡ site }
-        ensures waiting { result.waiting.items ≡ [] }
-        ensures held { AreHeld result.site.states }
+        ensures site { site_of result ≡ site }
+        ensures at_hand { IsAtHand result }
     {
         site.stands();
         Served {

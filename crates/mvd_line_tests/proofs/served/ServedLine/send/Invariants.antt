@@ -2,9 +2,9 @@ use Rattle.std.specs.Prelude.{◌≡◌, List}
 use Rattle.mvd_site.specs.Held.{AreHeld}
 use Rattle.mvd_wire.specs.declared.request.Request.{Request}
 use Rattle.mvd_remote.specs.Lines.{AreFrames}
-use Rattle.mvd_site_tests.specs.Serving.{far_at}
-use Rattle.mvd_site_tests.proofs.Serving.{Went}
-use Rattle.mvd_site_tests.proofs.served.ServedLine.send.Given as goal
+use Rattle.mvd_line_tests.specs.Serving.{far_at}
+use Rattle.mvd_line_tests.proofs.Serving.{Went}
+use Rattle.mvd_line_tests.proofs.served.ServedLine.send.Given as goal
 
 -- so many of the requests were taken
 abbrev pub invariant-loop-turn : goal.invariant-loop-turn

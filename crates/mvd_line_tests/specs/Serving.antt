@@ -3,7 +3,9 @@ use Rattle.std.specs.Prelude.{◌≡◌, List, [], ◌∷◌, ◌++◌, Result, 
 use Rattle.mvd_dots.specs.declared.refusals.Refusal.{Refusal}
 use Rattle.mvd_wire.specs.declared.request.Request.{Request}
 use Rattle.mvd_wire.specs.declared.reply.Reply.{Reply}
+use Rattle.mvd_site.specs.Held.{AreHeld}
 use Rattle.mvd_site.specs.Sites.{SiteValue}
+use Rattle.mvd_line_tests.specs.declared.served.Served.{Served}
 use Rattle.mvd_remote.specs.Lines.{Far, MayTake, TrueReply}
 
 -- what is at the other end: a site, whose replies wait
@@ -15,3 +17,11 @@ abbrev pub TakesOne : Far → Request → Far → Result (Unit {0}) Refusal → 
 TakesOne old request new (Ok done) =
     (reply : Reply) × TrueReply old.config old.states request reply new.states × (new.due ≡ old.due ++ reply ∷ [])
 TakesOne old request new (Err refusal) = MayTake old.config old.states request new.states
+
+-- the site at the other end
+abbrev pub site_of : Served → SiteValue
+site_of served = served.site
+
+-- it holds keys and states in form, and no reply of it waits
+abbrev pub IsAtHand : Served → Type 0
+IsAtHand served = AreHeld served.site.states × (served.waiting.items ≡ [])

@@ -27,11 +27,11 @@ use Rattle.mvd_wire.specs.declared.reply.Reply.TheVariants.{Done, Keys, Refused}
 use Rattle.std.specs.FinMap.{get, len}
 use Rattle.mvd_site.specs.Answer.{digests, is_full, is_too_large, node_digests}
 use Rattle.mvd_site.specs.Config.{ConfigValue}
-use Rattle.mvd_site.specs.FromStates.{Answered, AnswersFrom, Broke, after_from, answer_from, change_from, push_from, with_change}
+use Rattle.mvd_site.specs.FromStates.{Answered, AnswersFrom, Broke, after_from, answer_from, change_from, with_change}
 use Rattle.mvd_site.specs.Held.{AreHeld, States, state_at}
 use Rattle.mvd_site.specs.Known.{IsValidRequest}
 use Rattle.mvd_site.specs.Sites.{SiteValue}
-use Rattle.mvd_site_tests.specs.Serving.{TakesOne, far_at}
+use Rattle.mvd_line_tests.specs.Serving.{TakesOne, far_at}
 use Rattle.mvd_remote.specs.Lines.{AreFrames, Far, IsNext, TakesAll, TakesFirst, TrueReplies, TrueReply}
 use Rattle.mvd_peer.specs.PushedStates.{pushed}
 use Rattle.mvd_peer.specs.Sides.{is_of_question}

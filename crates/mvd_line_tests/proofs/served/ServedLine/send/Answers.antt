@@ -1,7 +1,7 @@
 use Rattle.std.proofs.Common.{◌≡◌, ◌∙◌, ap, refl, subst, sym}
-use Rattle.mvd_site_tests.specs.Serving.{far_at}
-use Rattle.mvd_site_tests.proofs.Serving.{Went, went_all, went_cut, went_none, went_on, went_some}
-use Rattle.mvd_site_tests.proofs.served.ServedLine.send.Goals as goal
+use Rattle.mvd_line_tests.specs.Serving.{far_at}
+use Rattle.mvd_line_tests.proofs.Serving.{Went, went_all, went_cut, went_none, went_on, went_some}
+use Rattle.mvd_line_tests.proofs.served.ServedLine.send.Goals as goal
 
 pub loop-turn-init : goal.loop-turn-init
 loop-turn-init c = record { config = refl; held = λ h. h; went = λ rs f. went_none _ rs _ f }

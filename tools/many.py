@@ -40,6 +40,7 @@ PATIENCE = 60
 BYE, DONE = frame(0x2F), frame(0xA3)
 WRITTEN, STATE = 0xA2, 0xA1
 READ_FAILED = frame(REFUSED, b"\x22")
+NO_PLACE = frame(REFUSED, b"\x24")
 BIG = 60_000
 BAD = 3
 MODES = {"SQLite with a journal": "delete", "SQLite with a log": "wal"}
@@ -203,24 +204,29 @@ def cut_off(server):
 
 
 def more_than_there_are_places(path):
-    """300 connections, of which 256 are served at once."""
-    with Server(path, "--conns", "300") as server:
-        peers = [server.client() for _ in range(300)]
+    """300 connections, of which 256 are served at once; each other one is told that there is no place, whatever it sent."""
+    with Server(path, "--conns", "257") as server:
+        peers = [server.client() for _ in range(256)]
         for peer in peers:
-            peer.sendall(get("k"))
-        wanted("no state", all(reply(peer)[0] == STATE for peer in peers[:256]))
-        peers[-44].settimeout(0.3)
-        with contextlib.suppress(TimeoutError):
-            wanted("a client more than there are places was served", not peers[-44].recv(1))
-        peers[-44].settimeout(PATIENCE)
-        for gone, next_one in zip(peers[:44], peers[256:]):
-            say_bye(gone)
-            wanted("no state after another's end", reply(next_one)[0] == STATE)
-        for peer in peers[44:]:
+            wanted("no state", ask(peer, get("k"))[0] == STATE)
+        for number in range(44):
+            with server.client() as peer:
+                peer.sendall(big_put("k") if number % 2 else get("k"))
+                wanted("no place is not told", take(peer, 6) == NO_PLACE and is_closed(peer))
+        say_bye(peers.pop())
+        peers.append(server.client())
+        for peer in peers:
+            wanted("no state after another's end", ask(peer, get("k")) == (STATE, bytes(6)))
             say_bye(peer)
         told = server.ended()
-    wanted(f"300 clients: {told}", list(told.values()).count("bye") == 300)
-    return "256 were served at once, and each of the other 44 as one ended"
+    wanted(f"257 clients: {told}", list(told.values()) == ["bye"] * 257)
+    with Server(path, "--clients", "1", "--conns", "2") as server:
+        with server.client() as one, server.client() as other:
+            wanted("a second one has no place", reply(other) == (REFUSED, b"\x24"))
+            say_bye(one)
+        say_bye(server.client())
+        server.ended()
+    return "256 were served at once, and each of the other 44 was told that there is no place"
 
 
 def last_replies(path):

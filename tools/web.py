@@ -267,6 +267,26 @@ def check_endings(folder):
     wanted("connections end as they should", endings == ["1 bye", "2 end", "3 30 Truncated", "4 31 FrameTooLong", "5 33 BadBody", "6 34 ReadFailed"], endings)
 
 
+def check_places(folder):
+    """Where as many clients are served as may be, a further one is told so, and served once one has ended."""
+    server = Server(folder, "--clients", "1", "--conns", "2", name="places.db")
+    first = server.client()
+    server.is_told("the first client is served", 200, "root", "GET", "/root", client=first)
+    for body in None, "{" + " " * 500_000 + "}":
+        status, text, fields = server.ask("PUT" if body else "GET", "/keys/k", body)
+        seen = (status, text, fields["retry-after"], fields["connection"])
+        wanted("a further one is 503", seen == (503, '{"refused":36,"name":"TooManyRequests"}', "1", "close"), seen)
+    first.close()
+    for _ in range(100):
+        got = server.ask("GET", "/keys/k")
+        if got[0] != 503:
+            break
+        time.sleep(0.02)
+    wanted("one after its end is served, and nothing was stored", got[:2] == (404, '{"key":"k","context":"-","siblings":[]}'), got[:2])
+    endings = server.ended()
+    wanted("two connections were served", [end[2:] for end in endings] == ["end", "end"], endings)
+
+
 def check_no_room(folder):
     """A write for which the file has no room is refused, and just what was told as written is there, also when it is opened again."""
     server, got, written = Server(folder, name="room.db", most=1_000_000), None, 0
@@ -401,7 +421,7 @@ def main():
         try:
             for check in check_rows, check_contexts, check_refusals, check_connections, check_pipelines, check_together:
                 check(server)
-            for check in check_table, check_endings, check_no_room:
+            for check in check_table, check_endings, check_places, check_no_room:
                 check(folder)
             if IS_SHORT:
                 return

@@ -40,7 +40,7 @@ site_without_keys config = record { config = config; states = no_states; broken 
 
 -- the file that an order works on, with what the site in it is set up with
 abbrev pub file_in : Order → Option (Bor (List ℕ) × Setup)
-file_in (order.Serve db setup address conns idle http) = Some (db, setup)
+file_in (order.Serve db setup address conns idle http clients) = Some (db, setup)
 file_in (order.Shell db setup) = Some (db, setup)
 file_in (order.Sync db setup address idle verbose) = Some (db, setup)
 file_in _ = None

@@ -59,9 +59,15 @@ pub fn run<'a, S: Start>(rt: &'a HostRuntime, order: Order<'a>, start: S) -> Ran
             conns,
             idle,
             http,
+            clients,
         } => {
-            let work = Work::Serve(address, Terms { http, conns, idle });
-            run_stored(rt, db, setup, work, start)
+            let terms = Terms {
+                http,
+                conns,
+                idle,
+                clients,
+            };
+            run_stored(rt, db, setup, Work::Serve(address, terms), start)
         }
         Order::Shell { db, setup } => run_stored(rt, db, setup, Work::Shell, start),
         Order::RemoteShell { address, idle } => {

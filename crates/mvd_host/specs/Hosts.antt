@@ -12,7 +12,7 @@ pub record HostValue : Type 0 where
 
 -- as many clients there may be at once
 abbrev pub clients_most : ℕ
-clients_most = 256
+clients_most = 10000
 
 -- the number that no client has
 abbrev pub admitted_most : ℕ

@@ -13,7 +13,7 @@ use std::collections::BTreeMap;
 use std::marker::Model;
 
 /// As many clients there may be at once.
-pub const CLIENTS_MAX: usize = 256;
+pub const CLIENTS_MAX: usize = 10_000;
 
 /// The connections of many clients. A client has a number, which no other client gets, also when it is gone. Each
 /// frame that was taken has been answered.

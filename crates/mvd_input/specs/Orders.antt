@@ -38,6 +38,10 @@ HasPort address = (1 ≤ socket_port address) × (socket_port address ≤ 65535)
 abbrev pub AreConnections : Option ℕ → Type 0
 AreConnections conns = ForSome conns (λ n. (1 ≤ n) × (n ≤ 1000))
 
+-- 1..=10,000 clients are served at once
+abbrev pub AreClients : ℕ → Type 0
+AreClients clients = (1 ≤ clients) × (clients ≤ 10000)
+
 -- a second port is 1..=65,535 where there is one
 abbrev pub IsPort : Option ℕ → Type 0
 IsPort port = ForSome port (λ n. (1 ≤ n) × (n ≤ 65535))
@@ -54,7 +58,7 @@ IsRounds repeat = (1 ≤ repeat.every) × (repeat.every ≤ 3600) × ForSome rep
 abbrev pub IsInRange : Order → Type 0
 IsInRange Sim = ⊤
 IsInRange (Loop setup) = IsSetUp setup
-IsInRange (Serve _ setup address conns idle http) = IsSetUp setup × HasPort address × AreConnections conns × IsIdle idle × IsPort http
+IsInRange (Serve _ setup address conns idle http clients) = IsSetUp setup × HasPort address × AreConnections conns × IsIdle idle × IsPort http × AreClients clients
 IsInRange (Shell _ setup) = IsSetUp setup
 IsInRange (RemoteShell address idle) = HasPort address × IsIdle idle
 IsInRange (Sync _ setup address idle _) = IsSetUp setup × HasPort address × IsIdle idle
@@ -92,7 +96,8 @@ abbrev pub HasBadNumber : List Row → Type 0
 HasBadNumber rows = IsOutOfRange rows (codes "site") 4294967295 ⊎ (IsOutOfRange rows (codes "max-keys") 1000000
     ⊎ (IsOutOfRange rows (codes "port") 65535 ⊎ (IsOutOfRange rows (codes "conns") 1000
     ⊎ (IsOutOfRange rows (codes "idle") 86400 ⊎ (IsOutOfRange rows (codes "http") 65535
-    ⊎ (IsOutOfRange rows (codes "every") 3600 ⊎ IsOutOfRange rows (codes "times") 1000000))))))
+    ⊎ (IsOutOfRange rows (codes "every") 3600 ⊎ (IsOutOfRange rows (codes "times") 1000000
+    ⊎ IsOutOfRange rows (codes "clients") 10000)))))))
 
 -- why the values of options mean nothing of a kind: a number is out of its range, or nothing of the kind has these values
 abbrev pub IsUnread : {X : Type 0} → List Row → (List Row → X → Type 0) → Unread → Type 0
@@ -141,6 +146,10 @@ IsRepeatOf rows (Some repeat) = Gives rows (codes "every") repeat.every × IsTim
 abbrev pub IsSeconds : List Row → ℕ → Type 0
 IsSeconds rows seconds = Gives rows (codes "idle") seconds
 
+-- how many clients are served at once
+abbrev pub IsClients : List Row → ℕ → Type 0
+IsClients rows clients = Gives rows (codes "clients") clients
+
 -- an option is among the words, and has not its default
 abbrev pub is_word : ValueSource → Bool
 is_word DefaultValue = false
@@ -171,8 +180,8 @@ is_repeated rows = is_given rows (codes "every") || is_given rows (codes "times"
 abbrev pub IsOrderOf : List ℕ → List Row → Order → Type 0
 IsOrderOf name rows Sim = name ≡ codes "sim"
 IsOrderOf name rows (Loop setup) = (name ≡ codes "loop") × IsSetupOf rows setup
-IsOrderOf name rows (Serve db setup address conns idle http) = (name ≡ codes "serve") × IsDbOf rows db
-    × IsSetupOf rows setup × IsAddressOf rows address × IsConns rows conns × IsSeconds rows idle × IsHttp rows http
+IsOrderOf name rows (Serve db setup address conns idle http clients) = (name ≡ codes "serve") × IsDbOf rows db
+    × IsSetupOf rows setup × IsAddressOf rows address × IsConns rows conns × IsSeconds rows idle × IsHttp rows http × IsClients rows clients
 IsOrderOf name rows (Shell db setup) = (name ≡ codes "shell") × IsDbOf rows db × IsSetupOf rows setup × (names_server rows ≡ false)
 IsOrderOf name rows (RemoteShell address idle) = (name ≡ codes "shell") × (first_of (codes "db") rows ≡ None) × IsAddressOf rows address
     × IsSeconds rows idle × (sets_up rows ≡ false)

@@ -54,6 +54,9 @@ http = number_option (codes "http")
 abbrev pub conns : Rule
 conns = number_option (codes "conns")
 
+abbrev pub clients : Rule
+clients = by_default (codes "256") (number_option (codes "clients"))
+
 abbrev pub with : Rule
 with = text_option (codes "with")
 
@@ -87,7 +90,7 @@ loop_words = leaf (codes "loop") (needed site ∷ defs ∷ max_keys ∷ [])
 
 abbrev pub serve_words : App
 serve_words = leaf (codes "serve")
-    (database ++ needed port ∷ http ∷ conns ∷ idle (codes "300") ∷ [])
+    (database ++ needed port ∷ http ∷ conns ∷ idle (codes "300") ∷ clients ∷ [])
 
 abbrev pub shell_words : App
 shell_words = leaf (codes "shell")

@@ -26,7 +26,7 @@ const LOOP: &str =
                     hexadecimal, and then how the connection ended.";
 
 const SERVE: &str =
-    "Serves a database to many clients at once, up to 256. It prints where it listens, how each \
+    "Serves a database to many clients at once. It prints where it listens, how each \
                      connection ended, and, after the last one, the digest of all that it holds. Each write is stored before \
                      its reply leaves.";
 
@@ -127,6 +127,7 @@ fn serve_command<'a>(alloc: Global) -> Result<Command<'a>, AllocError>
         http(alloc),
         conns(alloc),
         idle(alloc, SERVED_IDLE, "300"),
+        clients(alloc),
     ]?;
     named(
         alloc,
@@ -277,6 +278,18 @@ fn conns<'a>(alloc: Global) -> Arg<'a>
         "C",
         "How many connections are served in all, 1 to 1000. It goes on until it is stopped where this is left out.",
     )
+}
+
+fn clients<'a>(alloc: Global) -> Arg<'a>
+    ensures { rule_of result ≡ spec.clients }
+{
+    number(
+        alloc,
+        "clients",
+        "N",
+        "How many clients are served at once, 1 to 10000. A further one is told that there is no place.",
+    )
+    .default_value("256")
 }
 
 fn with<'a>(alloc: Global) -> Arg<'a>

@@ -2,7 +2,7 @@
 ghost use Rattle.std.specs.Prelude.{◌≡◌, ◌≤◌, IfErr, IfOk, IfSome, false, option_map};
 ghost use Rattle.std.specs.Option.{option_map_or};
 ghost use Rattle.clap.specs.Words.{first_of};
-ghost use Rattle.mvd_input.specs.Orders.{HasPort, IsAddressOf, IsConns, IsDbOf, IsHttp, IsIdle, IsIpOf, IsPort, IsRepeatOf, IsRounds, IsSeconds, IsTimes, IsUnread, ReadsGiven, ReadsNumber, is_given, is_word, options_of};
+ghost use Rattle.mvd_input.specs.Orders.{AreClients, HasPort, IsAddressOf, IsClients, IsConns, IsDbOf, IsHttp, IsIdle, IsIpOf, IsPort, IsRepeatOf, IsRounds, IsSeconds, IsTimes, IsUnread, ReadsGiven, ReadsNumber, is_given, is_word, options_of};
 
 use crate::command::number_of;
 use clap::ArgMatches;
@@ -17,6 +17,9 @@ const MOST_PORT: u64 = 65_535;
 
 /// The most seconds for which no byte need move.
 const MOST_IDLE: u64 = 86_400;
+
+/// The most clients that a server may be asked to serve at once.
+const MOST_CLIENTS: u64 = 10_000;
 
 /// The most seconds between two rounds of sessions, and the most rounds.
 const MOST_EVERY: u64 = 3_600;
@@ -141,6 +144,15 @@ pub(crate) fn idle_in(matches: &ArgMatches<'_>) -> Result<u32, Unread>
     ensures fault { IfErr result (IsUnread (options_of matches.now) IsSeconds) }
 {
     Ok(given_in(matches, "idle", MOST_IDLE)? as u32)
+}
+
+/// As many clients are served at once.
+pub(crate) fn clients_in(matches: &ArgMatches<'_>) -> Result<u32, Unread>
+    ensures range { IfOk result AreClients }
+    ensures clients { IfOk result (IsClients (options_of matches.now)) }
+    ensures fault { IfErr result (IsUnread (options_of matches.now) IsClients) }
+{
+    Ok(given_in(matches, "clients", MOST_CLIENTS)? as u32)
 }
 
 /// How often servers meet again, where that is told.

@@ -8,8 +8,8 @@ ghost use Rattle.mvd_input.specs.Orders.{IsInRange, IsSetUp, IsSetupOf, IsUnread
 use crate::addresses::is_address_list;
 use crate::command_words::{command, command_of};
 use crate::options::{
-    Repeat, Unread, address_in, conns_in, db_in, given_in, http_in, idle_in, is_given, repeat_in,
-    text_in,
+    Repeat, Unread, address_in, clients_in, conns_in, db_in, given_in, http_in, idle_in, is_given,
+    repeat_in, text_in,
 };
 use clap::error::ErrorKind;
 use clap::{ArgMatches, Command, Error};
@@ -43,7 +43,7 @@ pub struct Setup<'a> {
 }
 
 /// What a command line asks for. Numbers are in their ranges: those of a site as told there, a port at least 1,
-/// `conns` 1 to 1,000, `idle` 1 to 86,400 seconds, and the port `http` at least 1.
+/// `conns` 1 to 1,000, `idle` 1 to 86,400 seconds, the port `http` at least 1, and `clients` 1 to 10,000.
 #[derive(Clone, Copy, PartialEq, Eq)]
 pub enum Order<'a> {
     /// Run a script from standard input.
@@ -58,6 +58,7 @@ pub enum Order<'a> {
         conns: Option<u32>,
         idle: u32,
         http: Option<u16>,
+        clients: u32,
     },
     /// Answer the lines of standard input on a database.
     Shell {
@@ -172,6 +173,7 @@ fn serve_of<'a>(matches: &ArgMatches<'a>) -> Result<Order<'a>, Unread>
         conns: conns_in(matches)?,
         idle: idle_in(matches)?,
         http: http_in(matches)?,
+        clients: clients_in(matches)?,
         address: address_in(matches)?,
     })
 }

@@ -66,6 +66,7 @@ fn order_wanted(wanted: Wanted) -> Option<Order<'static>> {
             conns: Some(1),
             idle: 1,
             http: Some(65_535),
+            clients: 10_000,
         },
         Wanted::Sync => Order::Sync {
             db: "f",
@@ -127,7 +128,7 @@ const SHELL: &str =
 
 const LINES: &[(&str, Wanted)] = &[
     (
-        "mvd serve --db f --site 1 --port 1 --http 65535 --conns 1 --idle 1",
+        "mvd serve --db f --site 1 --port 1 --http 65535 --conns 1 --idle 1 --clients 10000",
         Wanted::Serve,
     ),
     (
@@ -169,6 +170,14 @@ const LINES: &[(&str, Wanted)] = &[
     ),
     ("mvd serve --db f --site 1 --port 1 --idle 0", Wanted::Range),
     (
+        "mvd serve --db f --site 1 --port 1 --clients 0",
+        Wanted::Range,
+    ),
+    (
+        "mvd serve --db f --site 1 --port 1 --clients 10001",
+        Wanted::Range,
+    ),
+    (
         "mvd sync --db f --site 1 --port 1 --idle 86401",
         Wanted::Range,
     ),
@@ -193,6 +202,10 @@ const LINES: &[(&str, Wanted)] = &[
     ("mvd serve --db f --site x --port 1", Wanted::Says("")),
     (
         "mvd sync --db f --site 1 --port 1 --conns 1",
+        Wanted::Says(""),
+    ),
+    (
+        "mvd sync --db f --site 1 --port 1 --clients 2",
         Wanted::Says(""),
     ),
     (

@@ -4,6 +4,7 @@ ghost use Rattle.mvd_server.specs.Rounds.{HasRound};
 use crate::client::{Client, Moved, PIECE, Piece, Stage};
 use crate::endings::How;
 use crate::metrics::Counts;
+use crate::server::Terms;
 use crate::talks::{Kind, Talks};
 use crate::timers::Timers;
 use mio::event::Event;
@@ -11,6 +12,7 @@ use mio::net::TcpStream;
 use mio::{Interest, Registry, Token};
 use mvd_conn::Ending;
 use mvd_dots::Refusal;
+use mvd_frames::Short;
 use mvd_replica::Replica;
 use sqlite::Alter;
 use std::alloc::{AllocError, Global};
@@ -18,8 +20,15 @@ use std::collections::BTreeMap;
 use std::fmt::Write as Print;
 use std::hash::RandomState;
 
-/// As many clients are served at once. Further ones wait in the listener's queue.
-pub(crate) const CLIENTS_MAX: usize = 256;
+/// Beside those that are served, as many sockets may be open at once: of clients that are told that there is no place,
+/// and of those that take their last reply. Further ones wait in the listener's queue.
+const SPARE: usize = 64;
+
+/// What is told to a client for which there is no place, over HTTP and in a frame: 36, and nothing of it was read.
+const NO_PLACE_WEB: &[u8] = b"HTTP/1.1 503 Service Unavailable\r\nretry-after: 1\r\ncontent-type: application/json\r\ncache-control: no-store\r\nconnection: close\r\ncontent-length: 39\r\n\r\n{\"refused\":36,\"name\":\"TooManyRequests\"}";
+
+/// The numbers from this one on are of clients that are turned away. The host's are below it.
+const AWAY: u64 = 1 << 62;
 
 /// As many milliseconds a client has to take its last frame, and then to end.
 const LINGER: u64 = 2_000;
@@ -29,8 +38,11 @@ const LINGER: u64 = 2_000;
 pub(crate) struct Crowd {
     talks: Talks,
     counts: Counts,
-    /// As many clients may come in all.
+    /// As many clients may come in all, and as many are served at once.
     most: u64,
+    places: usize,
+    /// The number of the next client that is turned away.
+    next_away: u64,
     clients: BTreeMap<u64, Client>,
     timers: Timers,
     piece: Piece,
@@ -45,20 +57,21 @@ impl Crowd {
     pub fn new(
         alloc: Global,
         keys: RandomState,
-        conns: Option<u32>,
-        idle: u32,
+        terms: Terms,
     ) -> Result<Crowd, AllocError> {
         let piece = Piece::new(alloc)?;
         let told = String::with_capacity(alloc, PIECE)?;
         Ok(Crowd {
             talks: Talks::new(alloc, keys),
             counts: Counts::new(alloc),
-            most: conns.map_or(u64::MAX, u64::from),
+            most: terms.conns.map_or(u64::MAX, u64::from),
+            places: terms.clients as usize,
+            next_away: AWAY,
             clients: BTreeMap::new(alloc),
             timers: Timers::new(alloc),
             piece,
             now: 0,
-            idle: u64::from(idle).saturating_mul(1_000),
+            idle: u64::from(terms.idle).saturating_mul(1_000),
             told,
         })
     }
@@ -77,9 +90,14 @@ impl Crowd {
         self.accepted() >= self.most
     }
 
-    /// Whether another client may come now.
-    pub fn has_place(&self) -> bool {
-        self.clients.len() < CLIENTS_MAX && !self.is_shut()
+    /// Whether another client may come now, if only to be told that there is no place.
+    pub fn is_open(&self) -> bool {
+        self.clients.len() < self.places.saturating_add(SPARE) && !self.is_shut()
+    }
+
+    /// Whether as many clients are served as may be at once.
+    fn is_full(&self) -> bool {
+        self.talks.host.len() >= self.places
     }
 
     /// Answers what came of some clients, together. Whether there may be more of it at once.
@@ -94,7 +112,8 @@ impl Crowd {
         self.timers.next_due()
     }
 
-    /// Takes a client in. Where the system or memory refuses that, it ends at once.
+    /// Takes a client in. Where the system or memory refuses that, it ends at once; where all places are taken, it is told
+    /// so.
     pub fn admit(
         &mut self,
         registry: &Registry,
@@ -102,6 +121,10 @@ impl Crowd {
         kind: Kind,
         ready: &mut Vec<u64>,
     ) -> Result<(), Refusal> {
+        if self.is_full() {
+            self.turn_away(registry, stream, kind, ready);
+            return Ok(());
+        }
         match kind {
             Kind::Frames => self.counts.frames = self.counts.frames.saturating_add(1),
             Kind::Http => self.counts.https = self.counts.https.saturating_add(1),
@@ -121,6 +144,35 @@ impl Crowd {
                 self.talks.dismiss(number);
                 tell_end(&mut self.told, ordinal, Ending::Stopped(refusal))
             }
+        }
+    }
+
+    /// Tells a client that there is no place. Its socket stays for a while, so that it can take that.
+    fn turn_away(
+        &mut self,
+        registry: &Registry,
+        stream: TcpStream,
+        kind: Kind,
+        ready: &mut Vec<u64>,
+    ) {
+        let number = self.next_away;
+        self.next_away = number.saturating_add(1);
+        if self.place(registry, stream, 0, number).is_err() {
+            return;
+        }
+        let due = self.now.saturating_add(LINGER);
+        let Some(client) = self.clients.get_mut(&number) else {
+            return;
+        };
+        let told = Short::refused(Refusal::TooManyRequests);
+        let _ = client.write(match kind {
+            Kind::Frames => told.bytes(),
+            Kind::Http => NO_PLACE_WEB,
+        });
+        if client.leave() && set_alarm(&mut self.timers, client, number, due) {
+            list(client, number, ready);
+        } else {
+            self.remove(number);
         }
     }
 

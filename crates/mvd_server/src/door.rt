@@ -1,5 +1,5 @@
 //! The listener, and whom it lets in.
-use crate::crowd::{CLIENTS_MAX, Crowd};
+use crate::crowd::Crowd;
 use crate::talks::Kind;
 use mio::net::TcpListener;
 use mio::{Interest, Registry, Token};
@@ -11,6 +11,9 @@ use std::net::{Net, SocketAddr};
 pub(crate) const FRAMES: Token = Token(usize::MAX);
 
 pub(crate) const HTTP: Token = Token(usize::MAX - 1);
+
+/// As many are let in at once, before those that are in have their turn.
+const ROUND_MAX: usize = 256;
 
 /// As many milliseconds nobody is let in after the system refused to.
 const PAUSE: u64 = 100;
@@ -48,23 +51,23 @@ impl Door {
         })
     }
 
-    /// When somebody may be let in. It is `None` where nobody waits, or there is no place.
+    /// When somebody may be let in. It is `None` where nobody waits, or nobody more may come.
     pub fn next_due(&self, crowd: &Crowd) -> Option<u64> {
-        if self.knocks && crowd.has_place() {
+        if self.knocks && crowd.is_open() {
             Some(self.opens)
         } else {
             None
         }
     }
 
-    /// Lets in who waits, as far as there are places.
+    /// Lets in who waits. Where all places are taken, that is told.
     pub fn admit(
         &mut self,
         registry: &Registry,
         crowd: &mut Crowd,
         ready: &mut Vec<u64>,
     ) -> Result<(), Refusal> {
-        for _ in 0..CLIENTS_MAX {
+        for _ in 0..ROUND_MAX {
             match self.next_due(crowd) {
                 Some(due) if due <= crowd.now => {}
                 _ => return Ok(()),

@@ -1,7 +1,7 @@
 //! A server of many clients at once, from one thread.
 ghost use Rattle.mvd_server.specs.Rounds.{IsServed};
 
-use crate::crowd::{CLIENTS_MAX, Crowd};
+use crate::crowd::Crowd;
 use crate::door::{Door, FRAMES, HTTP};
 use crate::talks::Kind;
 use mio::{Events, Poll};
@@ -23,13 +23,14 @@ use std::time::{Clock, Duration, Instant};
 /// As many rounds follow each other until replies leave.
 const ROUNDS_MAX: usize = 64;
 
-/// What a server is asked for: the port for HTTP, if it serves that too, how many connections it serves in all, and
-/// for how many seconds no byte need move on one.
+/// What a server is asked for: the port for HTTP, if it serves that too, how many connections it serves in all, for how
+/// many seconds no byte need move on one, and how many clients it serves at once.
 #[derive(Clone, Copy)]
 pub struct Terms {
     pub http: Option<u16>,
     pub conns: Option<u32>,
     pub idle: u32,
+    pub clients: u32,
 }
 
 /// The clients, the listeners, and those clients for which there may be something to do.
@@ -108,13 +109,14 @@ impl Server {
     ) -> io::Result<Server> {
         let start = Instant::now(rt)?;
         let keys = RandomState::new(rt)?;
-        let ready = Vec::with_capacity(alloc, 2 * CLIENTS_MAX)?;
-        let next = Vec::with_capacity(alloc, 2 * CLIENTS_MAX)?;
-        let events = Events::with_capacity(alloc, CLIENTS_MAX + 2)?;
+        let clients = terms.clients as usize;
+        let ready = Vec::with_capacity(alloc, 2 * clients)?;
+        let next = Vec::with_capacity(alloc, 2 * clients)?;
+        let events = Events::with_capacity(alloc, clients + 2)?;
         let poll = Poll::new(rt)?;
         let frames = Door::new(rt, poll.registry(), address, Kind::Frames)?;
         // It owns most, so it comes last: each value before it is let go where a later one fails.
-        let crowd = Crowd::new(alloc, keys, terms.conns, terms.idle)?;
+        let crowd = Crowd::new(alloc, keys, terms)?;
         Ok(Server {
             poll,
             events,

@@ -24,6 +24,6 @@ returns-clause-ok c =
     let n = c.self.inside.admitted in
     let none : c.in_ok-insert.field-0 ≡ None = c.in_ok-insert.ensures.old ∙ none_at old n c.self.invariant in
     let more : length new ≡ length old + 1 = c.in_ok-insert.ensures.len ∙ ap (λ (o : Option History). length old + (if is_some o then 0 else 1)) none in
-    let few : length old < 256 = let len = c.len.ensures.len in let room = c.if-len-ge-CLIENTS_MAX.false in grind (arith, nat_tests) in
+    let few : length old < 10000 = let len = c.len.ensures.len in let room = c.if-len-ge-CLIENTS_MAX.false in grind (arith, nat_tests) in
     subst (λ (v : HostValue). AdmitsOne v (record { clients = new; admitted = n + 1 }) n) c.self.view_is
     (admits old new n c.in_ok-connection.connection few more c.in_ok-connection.ensures.new c.in_ok-insert.ensures.updates.0)

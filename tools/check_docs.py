@@ -30,7 +30,7 @@ DOCS_LINES = 3200
 # Words of other projects, of the toolchain, of HTTP and of the command line that no file of ours has as a name.
 FOREIGN = {
     "rt", "cargo", "valgrind", "perf", "top", "du", "sqlite3", "taskset", "sha256sum", "curl", "chromium", "python3", "Wait",
-    "Allow", "chunked", "Wary", "core.hooksPath", "NAME",
+    "Allow", "chunked", "Wary", "core.hooksPath", "NAME", "Retry-After",
 }
 CODE = (".rt", ".antt", ".py", ".sh", ".txt", ".edit", ".mvd", ".toml", ".rs", ".html")
 NAME = r"[A-Za-z_][A-Za-z0-9_]*"

@@ -1,7 +1,7 @@
 //! The program `mvd`.
 #![tactic(auto)]
 
-use mvd_app::{Stop, run};
+use mvd_app::{Sockets, Stop, run};
 use mvd_input::{Fault, OrderFault, order_of};
 use sqlite::Unknown;
 use std::process::ExitCode;
@@ -19,7 +19,7 @@ fn obey(rt: &HostRuntime, words: &[String]) -> io::Result<ExitCode> {
     let texts = texts(rt, words)?;
     match order_of(rt.alloc(), &texts) {
         // A torn write is taken to leave each byte old or new.
-        Ok(order) => match run(rt, order, Unknown).ended {
+        Ok(order) => match run(rt, order, Unknown, &Sockets(rt)).ended {
             Ok(()) => Ok(ExitCode::SUCCESS),
             Err(stop) => Ok(tell_stop(rt, &stop)),
         },

@@ -1,3 +1,4 @@
+pub mod Dialed
 pub mod Ending
 pub mod Following
 pub mod Memory

@@ -1,3 +1,4 @@
+pub mod Dialed
 pub mod Output
 pub mod Refused
 pub mod Stored

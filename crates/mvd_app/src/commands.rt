@@ -1,5 +1,6 @@
 //! What a command line asks for, done: with standard input and output, files and sockets.
-ghost use Rattle.std.specs.Prelude.{◌≡◌, IfNone, IfOk, IfSome, IsOk, IsOkAnd, None, Some};
+ghost use Rattle.std.specs.Prelude.{◌≡◌, IfNone, IfOk, IfSome, IsOk, IsOkAnd, None, Ok, Some};
+ghost use Rattle.mvd_app.specs.Dialed.{HasMet, HasTalked, HasWorked, TellsWork};
 ghost use Rattle.mvd_app.specs.Stored.{FollowsAsked, GivesBack, GivesNone, IsConfigFor, IsWithoutFile, file_in};
 ghost use Rattle.mvd_input.specs.Addresses.{IsAddressList};
 ghost use Rattle.mvd_input.specs.Orders.{IsInRange, IsSetUp};
@@ -15,7 +16,7 @@ use crate::looping::loop_run;
 use crate::opening::opened;
 use crate::output::Output;
 use crate::typed_lines::{answer_lines, input};
-use mvd_client::{MeetingTerms, Sockets, meet_run, remote_shell_run, sync_run, tell_report};
+use mvd_client::{Dial, MeetingTerms, meet_run, remote_shell_run, sync_told};
 use mvd_dots::Refusal;
 use mvd_hint::{Hint, Stop};
 use mvd_input::{DEFS_MAX, Fault, Order, Setup, read_defs, read_input};
@@ -40,14 +41,23 @@ enum Work {
 
 /// Runs an order, from standard input where it reads, and to standard output. A file that it works on is made where it
 /// is missing, and comes back with its log, closed, also where the command was stopped. What stands in it at first is
-/// what `start` names, which no code reads.
-pub fn run<'a, S: Start>(rt: &'a HostRuntime, order: Order<'a>, start: S) -> Ran<'a, FileFrom<S>>
+/// what `start` names, which no code reads. `dial` leads to the server of a session or a shell.
+pub fn run<'a, S: Start, D: Dial>(
+    rt: &'a HostRuntime,
+    order: Order<'a>,
+    start: S,
+    dial: &D,
+) -> Ran<'a, FileFrom<S>>
     requires { IsInRange order }
     // If files come back clean, no write is lost that they held, of either version; and new files hold the site.
     ensures kept { IfSome result.files (GivesBack ⟦<FileFrom<S> as Disk>⟧ (image_at S.Start) (file_in order.entry)) }
     // Where none come back, the order works on none, or the command is stopped for a cause.
     ensures given { IfNone result.files
         (GivesNone ⟦<FileStore<FileFrom<S>> as Store>⟧ (image_at S.Start) (file_in order.entry) result.ended) }
+    // Where it ends well, a session of a stored site, and a shell through a server, are with what the address leads to,
+    // and what is printed is of that.
+    ensures met { IfOk result.ended (λ _. HasMet ⟦<FileStore<FileFrom<S>> as Store>⟧ D.Dialed.Line
+        (D.gives dial.now) (image_at S.Start) order.entry result.files) }
 {
     match order {
         Order::Sim => without_file(run_sim(rt), start),
@@ -67,11 +77,11 @@ pub fn run<'a, S: Start>(rt: &'a HostRuntime, order: Order<'a>, start: S) -> Ran
                 idle,
                 clients,
             };
-            run_stored(rt, db, setup, Work::Serve(address, terms), start)
+            run_stored(rt, db, setup, Work::Serve(address, terms), start, dial)
         }
-        Order::Shell { db, setup } => run_stored(rt, db, setup, Work::Shell, start),
+        Order::Shell { db, setup } => run_stored(rt, db, setup, Work::Shell, start, dial),
         Order::RemoteShell { address, idle } => {
-            without_file(run_remote_shell(rt, address, idle), start)
+            without_file(run_remote_shell(rt, dial, address, idle), start)
         }
         Order::Sync {
             db,
@@ -79,7 +89,10 @@ pub fn run<'a, S: Start>(rt: &'a HostRuntime, order: Order<'a>, start: S) -> Ran
             address,
             idle,
             verbose,
-        } => run_stored(rt, db, setup, Work::Sync(address, idle, verbose), start),
+        } => {
+            let work = Work::Sync(address, idle, verbose);
+            run_stored(rt, db, setup, work, start, dial)
+        }
         Order::Meet {
             address,
             with,
@@ -128,18 +141,22 @@ fn run_loop<'a>(rt: &HostRuntime, setup: Setup<'a>) -> Result<(), Stop<'a>>
 
 /// Opens the site that a file holds, which is made where it is missing, works on it, and closes it: what the log holds
 /// is copied into the file, and both are given back. It is proved for whatever stands in the file.
-fn run_stored<'a, S: Start>(
+fn run_stored<'a, S: Start, D: Dial>(
     rt: &HostRuntime,
     db: &'a str,
     setup: Setup<'a>,
     work: Work,
     start: S,
+    dial: &D,
 ) -> Ran<'a, FileFrom<S>>
     requires { IsSetUp setup }
     ensures kept { IfSome result.files
         (GivesBack ⟦<FileFrom<S> as Disk>⟧ (image_at S.Start) (Some (db.entry, setup.entry))) }
     ensures given { IfNone result.files
         (GivesNone ⟦<FileStore<FileFrom<S>> as Store>⟧ (image_at S.Start) (Some (db.entry, setup.entry)) result.ended) }
+    ensures worked { IfOk result.ended (λ _. HasWorked ⟦<FileStore<FileFrom<S>> as Store>⟧ (image_at S.Start)
+        setup.entry result.files
+        (λ old new. TellsWork D.Dialed.Line (D.gives dial.now) work old new (Ok tt))) }
 {
     let config = match config_in(rt, setup) {
         Ok(config) => config,
@@ -153,7 +170,7 @@ fn run_stored<'a, S: Start>(
     };
     match opened(rt, db, config, start) {
         Ok(mut replica) => {
-            let worked = work_on(rt, &mut replica, work);
+            let worked = work_on(rt, &mut replica, work, dial);
             finish(db, replica, worked)
         }
         Err(stop) => Ran {
@@ -164,13 +181,15 @@ fn run_stored<'a, S: Start>(
 }
 
 /// Does what is to be done with a stored site.
-fn work_on<'a, S: Alter + Drop>(
+fn work_on<'a, S: Alter + Drop, D: Dial>(
     rt: &HostRuntime,
     replica: &mut Replica<S>,
     work: Work,
+    dial: &D,
 ) -> Result<(), Stop<'a>>
     // The site keeps the writes known, and its records follow its states, however it ends.
     ensures works { WorksOn (stored_of replica.old) (stored_of replica.new) }
+    ensures tells { TellsWork D.Dialed.Line (D.gives dial.now) work replica.old replica.new result }
 {
     let mut writer = Output::new(io::writer(rt));
     match work {
@@ -180,9 +199,16 @@ fn work_on<'a, S: Alter + Drop>(
         Work::Shell => typed(rt, replica),
         Work::Sync(address, idle, verbose) => {
             let mut errors = rt.stderr();
-            let told = if verbose { Some(&mut errors) } else { None };
-            let report = sync_run(&Sockets(rt), rt.alloc(), replica, address, idle, told)?;
-            tell_report(rt.alloc(), replica, &report, &mut writer, &mut errors)
+            sync_told(
+                dial,
+                rt.alloc(),
+                replica,
+                address,
+                idle,
+                verbose,
+                &mut writer,
+                &mut errors,
+            )
         }
     }
 }
@@ -196,16 +222,17 @@ fn typed<'a, S: Alter + Drop>(rt: &HostRuntime, replica: &mut Replica<S>) -> Res
     answer_lines(rt, replica)
 }
 
-fn run_remote_shell<'a>(rt: &HostRuntime, address: SocketAddr, idle: u32) -> Result<(), Stop<'a>> {
+fn run_remote_shell<'a, D: Dial>(
+    rt: &HostRuntime,
+    dial: &D,
+    address: SocketAddr,
+    idle: u32,
+) -> Result<(), Stop<'a>>
+    ensures talked { IfOk result (λ _. HasTalked D.Dialed.Line (D.gives dial.now address) address) }
+{
     let mut reader = input(rt)?;
-    remote_shell_run(
-        &Sockets(rt),
-        rt.alloc(),
-        address,
-        idle,
-        &mut reader,
-        &mut io::writer(rt),
-    )
+    let mut writer = Output::new(io::writer(rt));
+    remote_shell_run(dial, rt.alloc(), address, idle, &mut reader, &mut writer)
 }
 
 /// Runs sessions between servers.

@@ -11,5 +11,6 @@ mod typed_lines;
 pub use closing::Ran;
 pub use commands::run;
 pub use looping::loop_run;
+pub use mvd_client::Sockets;
 pub use mvd_hint::Stop;
 pub use opening::refused_in;

@@ -1,5 +1,5 @@
 //! A writer that remembers, for proofs alone, which bytes it took.
-ghost use Rattle.std.specs.Prelude.{◌≡◌, ◌++◌, Some};
+ghost use Rattle.std.specs.Prelude.{◌≡◌, ◌++◌, [], Some};
 ghost use Rattle.mvd_app.specs.Output.{bytes_in};
 
 use http_server::Log;
@@ -14,7 +14,9 @@ pub struct Output<W> {
 }
 
 impl<W> Output<W> {
-    pub fn new(writer: W) -> Output<W> {
+    pub fn new(writer: W) -> Output<W>
+        ensures { bytes_in result.took.items ≡ [] }
+    {
         Output {
             writer,
             took: Log::new(),

@@ -65,7 +65,11 @@ fn new_client(alloc: Global, random: &mut Random) -> Client {
 
 /// Whether nothing is taken behind a request before its reply leaves: it is none, or no write.
 fn is_last(request: &str) -> bool {
-    request == WIDE || !matches!(request.as_bytes().get(8..10), Some([b'2', b'2' | b'3' | b'9']))
+    request == WIDE
+        || !matches!(
+            request.as_bytes().get(8..10),
+            Some([b'2', b'2' | b'3' | b'9'])
+        )
 }
 
 /// One replica is asked what a round takes of a client: the requests that are whole, up to one that is the last.

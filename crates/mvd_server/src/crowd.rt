@@ -25,7 +25,8 @@ use std::hash::RandomState;
 const SPARE: usize = 64;
 
 /// What is told to a client for which there is no place, over HTTP and in a frame: 36, and nothing of it was read.
-const NO_PLACE_WEB: &[u8] = b"HTTP/1.1 503 Service Unavailable\r\nretry-after: 1\r\ncontent-type: application/json\r\ncache-control: no-store\r\nconnection: close\r\ncontent-length: 39\r\n\r\n{\"refused\":36,\"name\":\"TooManyRequests\"}";
+const NO_PLACE_WEB: &[u8] =
+    b"HTTP/1.1 503 Service Unavailable\r\nretry-after: 1\r\ncontent-type: application/json\r\ncache-control: no-store\r\nconnection: close\r\ncontent-length: 39\r\n\r\n{\"refused\":36,\"name\":\"TooManyRequests\"}";
 
 /// The numbers from this one on are of clients that are turned away. The host's are below it.
 const AWAY: u64 = 1 << 62;
@@ -54,11 +55,7 @@ pub(crate) struct Crowd {
 }
 
 impl Crowd {
-    pub fn new(
-        alloc: Global,
-        keys: RandomState,
-        terms: Terms,
-    ) -> Result<Crowd, AllocError> {
+    pub fn new(alloc: Global, keys: RandomState, terms: Terms) -> Result<Crowd, AllocError> {
         let piece = Piece::new(alloc)?;
         let told = String::with_capacity(alloc, PIECE)?;
         Ok(Crowd {

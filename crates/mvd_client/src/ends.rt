@@ -31,11 +31,13 @@ pub struct MeetingTerms {
     pub verbose: bool,
 }
 
-/// A server, the connection with it where one is open, and whether the last session failed by it.
+/// A server, the connection with it where one is open, how many frames came over the last one that failed, and whether
+/// the last session failed by it.
 #[derive(Drop)]
 pub(crate) struct End<T: Read + Write + Drop> {
     pub(crate) address: SocketAddr,
     link: Option<Link<T>>,
+    frames: u32,
     is_failing: bool,
 }
 
@@ -51,6 +53,7 @@ impl<T: Read + Write + Drop> End<T> {
         End {
             address,
             link: None,
+            frames: 0,
             is_failing: false,
         }
     }
@@ -112,7 +115,7 @@ pub(crate) fn meet<'a, N: Net, E: Write>(
         let is_far_kept = far.link.is_some();
         let told = told(errors, terms.verbose);
         match session(rt, alloc, near, far, terms.idle, told) {
-            Err(failure) if is_spent(failure.stop.fault) => {}
+            Err(failure) if is_spent(failure, near, far) => {}
             Err(failure) if is_near_kept && is_cut(failure, Side::Local) => {}
             Err(failure) if is_far_kept && is_cut(failure, Side::Peer) => {}
             ended => return ended,
@@ -136,9 +139,14 @@ fn told<E: Write>(errors: &mut E, is_verbose: bool) -> Option<&mut E> {
     if is_verbose { Some(errors) } else { None }
 }
 
-/// Whether as many questions were asked as may be over one connection.
-fn is_spent(fault: Fault) -> bool {
-    matches!(fault, Fault::Stopped(Refusal::TooManyRequests))
+/// Whether as many questions were asked as may be over one connection. A server that has no place says the same in its
+/// first frame: then there is nothing to go on with.
+fn is_spent<T: Read + Write + Drop>(failure: Failure<'_>, near: &End<T>, far: &End<T>) -> bool {
+    let frames = match failure.side {
+        Side::Local => near.frames,
+        Side::Peer => far.frames,
+    };
+    frames > 1 && matches!(failure.stop.fault, Fault::Stopped(Refusal::TooManyRequests))
 }
 
 /// A session over the connections that are open, or over new ones. After a fault neither is kept.
@@ -172,7 +180,11 @@ fn session<'a, N: Net, E: Write>(
     };
     let report = match meet_over(alloc, &mut local, &mut peer) {
         Ok(report) => report,
-        Err(fault) => return Err(failed(near.address, far.address, fault)),
+        Err(fault) => {
+            near.frames = local.into_line().frames;
+            far.frames = peer.side.into_line().frames;
+            return Err(failed(near.address, far.address, fault));
+        }
     };
     near.link = Some(local.into_line());
     far.link = Some(peer.side.into_line());

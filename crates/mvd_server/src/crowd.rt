@@ -22,7 +22,7 @@ use std::hash::RandomState;
 
 /// Beside those that are served, as many sockets may be open at once: of clients that are told that there is no place,
 /// and of those that take their last reply. Further ones wait in the listener's queue.
-const SPARE: usize = 64;
+pub(crate) const SPARE: usize = 64;
 
 /// What is told to a client for which there is no place, over HTTP and in a frame: 36, and nothing of it was read.
 const NO_PLACE_WEB: &[u8] =

@@ -1,7 +1,7 @@
 //! A server of many clients at once, from one thread.
 ghost use Rattle.mvd_server.specs.Rounds.{IsServed};
 
-use crate::crowd::Crowd;
+use crate::crowd::{Crowd, SPARE};
 use crate::door::{Door, FRAMES, HTTP};
 use crate::talks::Kind;
 use mio::{Events, Poll};
@@ -109,10 +109,10 @@ impl Server {
     ) -> io::Result<Server> {
         let start = Instant::now(rt)?;
         let keys = RandomState::new(rt)?;
-        let clients = terms.clients as usize;
-        let ready = Vec::with_capacity(alloc, 2 * clients)?;
-        let next = Vec::with_capacity(alloc, 2 * clients)?;
-        let events = Events::with_capacity(alloc, clients + 2)?;
+        let sockets = terms.clients as usize + SPARE;
+        let ready = Vec::with_capacity(alloc, 2 * sockets)?;
+        let next = Vec::with_capacity(alloc, 2 * sockets)?;
+        let events = Events::with_capacity(alloc, sockets + 2)?;
         let poll = Poll::new(rt)?;
         let frames = Door::new(rt, poll.registry(), address, Kind::Frames)?;
         // It owns most, so it comes last: each value before it is let go where a later one fails.

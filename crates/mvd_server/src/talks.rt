@@ -73,7 +73,7 @@ impl Talks {
     }
 
     /// Takes requests of some clients, answers them together, and queues what each is told. Whether there may be more of
-    /// them at once.
+    /// them at once: after a commit the replies leave first.
     pub fn round<S: Alter + Drop>(
         &mut self,
         replica: &mut Replica<S>,
@@ -93,6 +93,7 @@ impl Talks {
             }
         }
         // Where memory was refused for a frame, there may be more, but not at once.
+        let commits = replica.commits();
         let round = self.host.round(replica, ready, &mut counts.tally);
         let more = matches!(round, Ok(true));
         if more || round.is_err() {
@@ -103,7 +104,7 @@ impl Talks {
                 answer(self.alloc, &mut self.host, web, *number, counts);
             }
         }
-        more
+        more & (replica.commits() == commits)
     }
 
     pub fn wants_input(&self, number: u64) -> bool {

@@ -4,7 +4,8 @@
 usage: tools/refused_web.py [--short] PROGRAM SHIM
 
 PROGRAM is `mvd` as built, and SHIM the library of tools/faults.sh that refuses the growth of number REFUSE. What is told has to be true:
-the whole 201 and the document is stored, or a refusal and it is not; or nothing is told. It ends with 1 where something else was seen.
+the whole 201 and the document is stored, or a refusal and it is not (but for 22, after which the file may hold it); or nothing is
+told. It ends with 1 where something else was seen.
 With --short it refuses those growths alone that come after the server listens, and some before them.
 """
 import concurrent.futures
@@ -77,7 +78,8 @@ def is_true(told, is_stored):
         return True
     if told.startswith(b"HTTP/1.1 201 "):
         return is_stored and is_whole(told) and told.endswith(b"\r\n\r\n" + TRUE)
-    return not is_stored and is_whole(told) and told.startswith(b"HTTP/1.1 503 ")
+    # After 22 the write is in the file, for the site to be opened again.
+    return is_whole(told) and told.startswith(b"HTTP/1.1 503 ") and (not is_stored or b'{"refused":22,' in told)
 
 
 def tried(number):

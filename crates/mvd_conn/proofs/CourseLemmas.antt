@@ -42,7 +42,7 @@ bye_asks f is =
     let none : f.payload ≡ [] = nil_from_length f.payload (eqb-true (length f.payload) 0 both.1) in
     rw (kind, none) refl
 
-bytes_of : (bytes : List ℕ) → All (λ b. b < 256) bytes → IsBytes bytes
+pub bytes_of : (bytes : List ℕ) → All (λ b. b < 256) bytes → IsBytes bytes
 bytes_of bytes fits i =
     elim (cases_lt i (length bytes)) [
       | inl lt ↦ All-get_or (λ b. b < 256) bytes i 0 lt fits

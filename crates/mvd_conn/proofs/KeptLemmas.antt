@@ -163,7 +163,7 @@ kept_taken c output frames size last long free whole_frame hand same room logged
     let short = only_short (ends_long h.taken) (due h) (length h.waits) free_.room in
     let most = owed_most (ends_long (h.taken ++ f ∷ [])) (due (taking h f rest)) (due h) (omega (arith, more, k.stands.in_turn)) in
     record {
-      stands = subst Stands (sym now) (stands_taking h f rest free_.last held (omega (arith, wide, whole.few)) whole_frame.2 k.stands);
+      stands = subst Stands (sym now) (stands_taking h f rest free_.last held (omega (arith, wide, whole.few)) whole_frame.1 whole_frame.2 k.stands);
       bounded = subst IsBounded (sym now) (record {
         few_held = omega (arith, wide, k.bounded.few_held, length-drop size h.held, whole.within);
         few_due = omega (arith, short, more);

@@ -34,6 +34,7 @@ payload_fits (reply.Row r) is = framed_fits 0xA5 _ _ is
 payload_fits (reply.Rows rs more) is = framed_fits 0xA6 _ _ (went_on _ _ _ _ is)
 payload_fits (reply.Digests d) is = framed_fits 0xA7 _ _ is
 payload_fits (reply.Keys ks more) is = framed_fits 0xA8 _ _ (went_on _ _ _ _ is)
+payload_fits (reply.Counts cs more) is = framed_fits 0xA9 _ _ (went_on _ _ _ _ is)
 payload_fits (reply.Refused r) is = framed_fits 0xEE _ _ is
 
 -- a reply that can be sent is at most as long as a frame
@@ -51,6 +52,7 @@ short_fits (reply.Row r) is = absurd cc
 short_fits (reply.Rows rs more) is = absurd cc
 short_fits (reply.Digests d) is = absurd cc
 short_fits (reply.Keys ks more) is = absurd cc
+short_fits (reply.Counts cs more) is = absurd cc
 short_fits (reply.Refused r) is = omega arith
 
 pub refused_length : (r : Refusal) → length (reply_bytes (reply.Refused r)) ≡ 6

@@ -1,3 +1,5 @@
+pub mod Guarded
+pub mod Hellos
 pub mod CourseLemmas
 pub mod FrontLemmas
 pub mod KeptLemmas

@@ -5,7 +5,7 @@ use Rattle.std.proofs.lemmas.Bool.{leb-false, cases_lt}
 use Rattle.std.proofs.lemmas.List.{flat_map_more}
 use Rattle.std.proofs.lemmas.List.Folds.{concat-append}
 use Rattle.mvd_dots.specs.declared.refusals.Refusal.{Refusal}
-use Rattle.mvd_dots.specs.declared.refusals.Refusal.TheVariants.{FrameTooLong, TooManyRequests}
+use Rattle.mvd_dots.specs.declared.refusals.Refusal.TheVariants.{FrameTooLong, NotAdmitted, TooManyRequests}
 use Rattle.mvd_dots.specs.Refusal.{number_of}
 use Rattle.mvd_wire.specs.Frames.{FrameValue, frame_at, frame_limit, spell_frame}
 use Rattle.mvd_frames.proofs.FrameLemmas.{frame_again}
@@ -14,7 +14,10 @@ use Rattle.mvd_conn.specs.declared.ending.Source.{Source}
 use Rattle.mvd_conn.specs.declared.ending.Source.TheVariants as source
 use Rattle.mvd_conn.specs.declared.ending.Ending.{Ending}
 use Rattle.mvd_conn.specs.declared.ending.Ending.TheVariants as ending
-use Rattle.mvd_conn.specs.History.{Gives, History, Next, Over, Stops, Waits, due, fed, frame_most, frames_most, is_bye, is_held_up, last_bytes, next_held, next_of, next_of_source, over, owed, replied, stopped, taking, waits_most}
+use Rattle.mvd_conn.specs.Guard.{may_come}
+use Rattle.mvd_conn.specs.declared.guard.Guard.{Guard}
+use Rattle.mvd_conn.proofs.Guarded.{gives_shown, let_in_waits}
+use Rattle.mvd_conn.specs.History.{Gives, History, Next, Over, Stops, Waits, due, fed, frame_most, frames_most, is_bye, is_held_up, last_bytes, let_in, next_held, next_of, next_of_source, over, owed, replied, stopped, taking, waits_most}
 use Rattle.mvd_conn.specs.Stands.{AreFirst, GoOn, IsLast, Stands, spelled}
 
 abbrev pub Fit : List FrameValue → Type 0
@@ -68,40 +71,44 @@ stands_fed h bytes none s =
       in_turn = s.in_turn;
       last = subst (λ (l : Option Ending). IsLast (fed h bytes) l) (sym none) (going h none s);
       few = s.few;
+      shown = s.shown;
     }
 
 -- ---- the end of the input
 
-open_over : (b t : Bool) (r : Refusal) → cond b (Stops r) (cond t (Stops FrameTooLong) Waits) ≡ Over → ⊥
-open_over true t r e = absurd cc
-open_over false true r e = absurd cc
-open_over false false r e = absurd cc
+given_over : (b : Bool) (f : FrameValue) (rest : List ℕ) → cond b (Gives f rest) (Stops NotAdmitted) ≡ Over → ⊥
+given_over true f rest e = absurd cc
+given_over false f rest e = absurd cc
 
-never_over : (b : Bool) (held : List ℕ) (r : Result (Option FrameValue × List ℕ) Refusal) → cond b (Stops TooManyRequests) (next_held source.Open held r) ≡ Over → ⊥
-never_over true held r e = absurd cc
-never_over false held (Ok (Some f, rest)) e = absurd cc
-never_over false held (Ok (None, rest)) e = absurd cc
-never_over false held (Err refusal) e = open_over false (eqb (number_of refusal) (number_of FrameTooLong)) refusal e
+open_over : (guard : Option Guard) (taken : List FrameValue) (t : Bool) → let_in guard taken (cond t (Stops FrameTooLong) Waits) ≡ Over → ⊥
+open_over guard taken true e = absurd cc
+open_over guard taken false e = absurd cc
 
-open_stops : (t : Bool) (y : Next) (x : Refusal) → cond t (Stops FrameTooLong) Waits ≡ Stops x → cond t (Stops FrameTooLong) y ≡ Stops x
-open_stops true y x e = e
-open_stops false y x e = absurd cc
+never_over : (guard : Option Guard) (taken : List FrameValue) (b : Bool) (held : List ℕ) (r : Result (Option FrameValue × List ℕ) Refusal) → cond b (Stops TooManyRequests) (let_in guard taken (next_held source.Open held r)) ≡ Over → ⊥
+never_over guard taken true held r e = absurd cc
+never_over guard taken false held (Ok (Some f, rest)) e = given_over (may_come guard taken f) f rest e
+never_over guard taken false held (Ok (None, rest)) e = absurd cc
+never_over guard taken false held (Err refusal) e = open_over guard taken (eqb (number_of refusal) (number_of FrameTooLong)) e
 
-still_stops : (b : Bool) (new : Source) (held : List ℕ) (r : Result (Option FrameValue × List ℕ) Refusal) (x : Refusal) → cond b (Stops TooManyRequests) (next_held source.Open held r) ≡ Stops x → cond b (Stops TooManyRequests) (next_held new held r) ≡ Stops x
-still_stops true new held r x e = e
-still_stops false new held (Ok (Some f, rest)) x e = absurd cc
-still_stops false new held (Ok (None, rest)) x e = absurd cc
-still_stops false new held (Err refusal) x e = open_stops (eqb (number_of refusal) (number_of FrameTooLong)) (next_of_source new held) x e
+open_stops : (guard : Option Guard) (taken : List FrameValue) (t : Bool) (y : Next) (x : Refusal) → let_in guard taken (cond t (Stops FrameTooLong) Waits) ≡ Stops x → let_in guard taken (cond t (Stops FrameTooLong) y) ≡ Stops x
+open_stops guard taken true y x e = e
+open_stops guard taken false y x e = absurd cc
+
+still_stops : (guard : Option Guard) (taken : List FrameValue) (b : Bool) (new : Source) (held : List ℕ) (r : Result (Option FrameValue × List ℕ) Refusal) (x : Refusal) → cond b (Stops TooManyRequests) (let_in guard taken (next_held source.Open held r)) ≡ Stops x → cond b (Stops TooManyRequests) (let_in guard taken (next_held new held r)) ≡ Stops x
+still_stops guard taken true new held r x e = e
+still_stops guard taken false new held (Ok (Some f, rest)) x e = e
+still_stops guard taken false new held (Ok (None, rest)) x e = absurd cc
+still_stops guard taken false new held (Err refusal) x e = open_stops guard taken (eqb (number_of refusal) (number_of FrameTooLong)) (next_of_source new held) x e
 
 last_closed : (h : History) (new : Source) (l : Option Ending) → h.source ≡ source.Open → IsLast h l → IsLast (record h { source = new }) l
 last_closed h new None opened s = s
 last_closed h new (Some ending.Bye) opened s = s
 last_closed h new (Some ending.End) opened s =
     let all = eqb (length h.taken) frames_most in
-    absurd (never_over all h.held (frame_at h.held) (ap (λ (from : Source). cond all (Stops TooManyRequests) (next_held from h.held (frame_at h.held))) (sym opened) ∙ s.2))
+    absurd (never_over h.guard h.taken all h.held (frame_at h.held) (ap (λ (from : Source). cond all (Stops TooManyRequests) (let_in h.guard h.taken (next_held from h.held (frame_at h.held)))) (sym opened) ∙ s.2))
 last_closed h new (Some (ending.Stopped refusal)) opened s =
     let all = eqb (length h.taken) frames_most in
-    (s.0, s.1, still_stops all new h.held (frame_at h.held) refusal (ap (λ (from : Source). cond all (Stops TooManyRequests) (next_held from h.held (frame_at h.held))) (sym opened) ∙ s.2))
+    (s.0, s.1, still_stops h.guard h.taken all new h.held (frame_at h.held) refusal (ap (λ (from : Source). cond all (Stops TooManyRequests) (let_in h.guard h.taken (next_held from h.held (frame_at h.held)))) (sym opened) ∙ s.2))
 
 pub stands_closed : (h : History) (new : Source) → h.source ≡ source.Open → Stands h → Stands (record h { source = new })
 stands_closed h new opened s = record {
@@ -112,6 +119,7 @@ stands_closed h new opened s = record {
   in_turn = s.in_turn;
   last = last_closed h new h.last opened s.last;
   few = s.few;
+  shown = s.shown;
 }
 
 -- ---- a frame
@@ -124,8 +132,8 @@ no_bytes : (b : Bool) (l : Option Ending) → l ≡ None → last_bytes (cond b 
 no_bytes true l none = rw none refl
 no_bytes false l none = refl
 
-pub stands_taking : (h : History) (f : FrameValue) (rest : List ℕ) → h.last ≡ None → h.held ≡ spell_frame f ++ rest → length f.payload + 1 ≤ frame_limit → length h.taken < frames_most → Stands h → Stands (taking h f rest)
-stands_taking h f rest none held fits more s =
+pub stands_taking : (h : History) (f : FrameValue) (rest : List ℕ) → h.last ≡ None → h.held ≡ spell_frame f ++ rest → length f.payload + 1 ≤ frame_limit → next_of h ≡ Gives f rest → length h.taken < frames_most → Stands h → Stands (taking h f rest)
+stands_taking h f rest none held fits next more s =
     let came : h.came ≡ spelled (h.taken ++ f ∷ []) ++ rest =
     s.input ∙ ap (λ (t : List ℕ). spelled h.taken ++ t) held ∙ sym (append_assoc (spelled h.taken) (spell_frame f) rest) ∙ ap (λ (t : List ℕ). t ++ rest) (flat_map_more spell_frame [] h.taken f) in
     let fit : Fit (h.taken ++ f ∷ []) = all_more (λ (g : FrameValue). length g.payload + 1 ≤ frame_limit) h.taken f s.fit fits in
@@ -137,6 +145,7 @@ stands_taking h f rest none held fits more s =
       in_turn = omega (arith, s.in_turn, length-append h.taken (f ∷ []));
       last = last_taken h f rest (is_bye f) refl none (going h none s);
       few = omega (arith, more, length-append h.taken (f ∷ []));
+      shown = gives_shown h f rest next s.shown;
     }
 
 -- ---- an end
@@ -153,6 +162,7 @@ stands_over h none all next s = record {
   in_turn = s.in_turn;
   last = (going h none s, all_answered h all s.in_turn, next);
   few = s.few;
+  shown = s.shown;
 }
 
 pub stands_stopped : (h : History) (refusal : Refusal) → h.last ≡ None → due h ≡ 0 → next_of h ≡ Stops refusal → Stands h → Stands (stopped h refusal)
@@ -167,6 +177,7 @@ stands_stopped h refusal none all next s =
       in_turn = s.in_turn;
       last = (going h none s, all_answered h all s.in_turn, next);
       few = s.few;
+      shown = s.shown;
     }
 
 -- ---- a reply
@@ -191,6 +202,7 @@ stands_replied h frame some s =
       in_turn = omega (arith, some, length-append h.answers (frame ∷ []));
       last = end.1;
       few = s.few;
+      shown = s.shown;
     }
 
 -- ---- what waiting for more input means
@@ -208,7 +220,8 @@ stops_never r e = absurd cc
 -- where more bytes are awaited, less than the longest frame is held
 pub waits_few : (h : History) → next_of h ≡ Waits → length h.held < frame_most
 waits_few h e =
-    let next : next_held h.source h.held (frame_at h.held) ≡ Waits = awaits (eqb (length h.taken) frames_most) TooManyRequests (next_held h.source h.held (frame_at h.held)) e in
+    let y : Next = next_held h.source h.held (frame_at h.held) in
+    let next : y ≡ Waits = let_in_waits h.guard h.taken y (awaits (eqb (length h.taken) frames_most) TooManyRequests (let_in h.guard h.taken y) e) in
     elim (cases_lt (length h.held) frame_most) [
       | inl lt ↦ lt
       | inr le ↦

@@ -2,19 +2,23 @@
 use Rattle.std.specs.Prelude.{◌≡◌, ℕ, ◌+◌, ◌*◌, ◌-◌, Bool, true, false, ◌==◌, ◌&&◌, ◌||◌, nat_le, if◌then◌else◌, List, [], ◌∷◌, ◌++◌, length, take, drop, Option, Some, None, is_some, Result, Ok, Err}
 use Rattle.std.specs.List.{last_or}
 use Rattle.mvd_dots.specs.declared.refusals.Refusal.{Refusal}
-use Rattle.mvd_dots.specs.declared.refusals.Refusal.TheVariants.{FrameTooLong, Memory, Truncated, TooManyRequests, WriteFailed}
+use Rattle.mvd_dots.specs.declared.refusals.Refusal.TheVariants.{FrameTooLong, Memory, NotAdmitted, Truncated, TooManyRequests, WriteFailed}
 use Rattle.mvd_dots.specs.Refusal.{number_of}
 use Rattle.mvd_wire.specs.declared.request.Request.TheVariants.{Bye}
 use Rattle.mvd_wire.specs.declared.reply.Reply.TheVariants.{Refused}
 use Rattle.mvd_wire.specs.Frames.{FrameValue, frame_at}
 use Rattle.mvd_wire.specs.Requests as asked
 use Rattle.mvd_wire.specs.Replies.{reply_bytes}
+use Rattle.mvd_conn.specs.Guard.{may_come}
+use Rattle.mvd_conn.specs.declared.guard.Guard.{Guard}
 use Rattle.mvd_conn.specs.declared.ending.Source.{Source}
 use Rattle.mvd_conn.specs.declared.ending.Source.TheVariants as source
 use Rattle.mvd_conn.specs.declared.ending.Ending.{Ending}
 use Rattle.mvd_conn.specs.declared.ending.Ending.TheVariants as ending
 
 pub record History : Type 0 where
+  -- who has to show a token before anything else is taken
+  pub guard : Option Guard
   -- all bytes that came in, those that are not taken yet, and whether more may come
   pub came : List ℕ
   pub held : List ℕ
@@ -102,9 +106,19 @@ next_held from held (Ok (Some f, rest)) = Gives f rest
 next_held from held (Ok (None, rest)) = next_of_source from held
 next_held from held (Err refusal) = if number_of refusal == number_of FrameTooLong then Stops FrameTooLong else next_of_source from held
 
--- the first cause decides: as many frames as there may be, a whole frame, a length that no frame has, the source's end
+-- a frame is given only where it may be taken behind these
+abbrev pub let_in : Option Guard → List FrameValue → Next → Next
+let_in guard taken (Gives f rest) = if may_come guard taken f then Gives f rest else Stops NotAdmitted
+let_in guard taken Over = Over
+let_in guard taken (Stops refusal) = Stops refusal
+let_in guard taken Waits = Waits
+
+-- the first cause decides: as many frames as there may be, a whole frame, which may come in or not, a length that no frame has,
+-- the source's end
 abbrev pub next_of : History → Next
-next_of h = if length h.taken == frames_most then Stops TooManyRequests else next_held h.source h.held (frame_at h.held)
+next_of h =
+    if length h.taken == frames_most then Stops TooManyRequests
+    else let_in h.guard h.taken (next_held h.source h.held (frame_at h.held))
 
 -- nothing more is taken, or not before replies are queued or leave
 abbrev pub is_held_up : History → Bool
@@ -119,8 +133,8 @@ pub record WantsInput (h : History) : Type 0 where
 
 -- ---- what calls do
 
-abbrev pub new_history : History
-new_history = record { came = []; held = []; source = source.Open; taken = []; hand = None; answers = []; last = None; left = []; waits = []; failed = false }
+abbrev pub new_history : Option Guard → History
+new_history guard = record { guard = guard; came = []; held = []; source = source.Open; taken = []; hand = None; answers = []; last = None; left = []; waits = []; failed = false }
 
 -- the frame in hand can no longer be looked at
 abbrev pub released : History → History

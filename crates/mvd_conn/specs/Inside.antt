@@ -6,6 +6,7 @@ use Rattle.mvd_conn.specs.Stands.{IsBounded, Stands, frame_of}
 
 abbrev pub history_of : Inside → History
 history_of c = record {
+  guard = c.guard;
   came = flat_map (λ r. drop r.1 r.0.items) c.reads.items;
   held = drop c.hand c.input.items;
   source = c.source;

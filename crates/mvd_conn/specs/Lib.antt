@@ -1,3 +1,4 @@
+pub mod Guard
 pub mod History
 pub mod Stands
 pub mod Front

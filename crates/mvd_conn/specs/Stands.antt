@@ -6,6 +6,7 @@ use Rattle.mvd_wire.specs.declared.reply.Reply.{Reply}
 use Rattle.mvd_wire.specs.declared.reply.Reply.TheVariants.{Refused}
 use Rattle.mvd_wire.specs.Frames.{FrameValue, frame_at, frame_limit, spell_frame}
 use Rattle.mvd_wire.specs.Replies.{is_short}
+use Rattle.mvd_conn.specs.Guard.{IsShown}
 use Rattle.mvd_conn.specs.declared.ending.Ending.{Ending}
 use Rattle.mvd_conn.specs.declared.ending.Ending.TheVariants as ending
 use Rattle.mvd_conn.specs.History.{History, Over, Stops, due, frames_most, is_bye, last_bytes, next_of, owed}
@@ -39,7 +40,7 @@ IsLast h (Some ending.End) = GoOn h.taken × (length h.answers ≡ length h.take
 IsLast h (Some (ending.Stopped refusal)) = GoOn h.taken × (length h.answers ≡ length h.taken) × (next_of h ≡ Stops refusal)
 
 -- What came in are the frames that were taken, and what is held. What was queued left, or waits. The frames that were taken are
--- the first of the input, and the end is the first cause.
+-- the first of the input, and the end is the first cause. Of a client that does not show the token no frame was taken.
 pub record Stands (h : History) : Type 0 where
   pub input : h.came ≡ spelled h.taken ++ h.held
   pub fit : AllByRecursion (λ f. length f.payload + 1 ≤ frame_limit) h.taken
@@ -48,6 +49,7 @@ pub record Stands (h : History) : Type 0 where
   pub in_turn : length h.answers ≤ length h.taken
   pub last : IsLast h h.last
   pub few : length h.taken ≤ frames_most
+  pub shown : IsShown h.guard h.taken
 
 -- less than one frame is held before at most 65,536 bytes come
 abbrev pub held_most : ℕ

@@ -5,6 +5,7 @@ ghost use Rattle.mvd_wire.specs.declared.reply.Reply.{Reply};
 ghost use Rattle.mvd_wire.specs.Replies.{CanBeSent, reply_bytes};
 
 use crate::ending::{Ending, Source};
+use crate::guard::Guard;
 use crate::room::make_room;
 use crate::scan::{Found, Front, front_of, last_after, may_be_long};
 use bytes::BytesMut;
@@ -37,6 +38,8 @@ const LAST_MAX: usize = 6;
 #[derive(Drop)]
 pub struct Connection {
     alloc: Global,
+    /// Who has to show a token before anything else is taken.
+    guard: Option<Guard>,
     /// The frame in hand, and what is held behind it.
     input: BytesMut,
     /// The length of the frame in hand, or 0.
@@ -76,20 +79,22 @@ impl Model for Connection {
 
 impl Connection {
     ghost use Rattle.mvd_conn.specs.History.{NextRefused, Over, Stops, WantsInput, after_next, closed, cut, due, ending_of, ends_long, fed, frame_most, is_done, is_held_up, new_history, next_of, over, owed, piece_most, released, replied, sent, stopped};
-    ghost use Rattle.mvd_conn.specs.Stands.{IsBounded, IsQueued, Stands};
+    ghost use Rattle.mvd_conn.specs.Guard.{may_come};
+    ghost use Rattle.mvd_conn.specs.Stands.{IsBounded, IsQueued, Stands, frame_of};
     ghost use Rattle.mvd_conn.specs.Front.{IsFound, Takes};
     ghost use Rattle.mvd_conn.specs.declared.scan.Found.TheVariants as Found;
     ghost use Rattle.mvd_conn.specs.declared.ending.Source.TheVariants as Source;
 
-    /// A connection on which nothing happened yet.
-    pub fn new(alloc: Global) -> Result<Connection, Refusal>
-        ensures new { IfOk result (λ c. c ≡ new_history) }
+    /// A connection on which nothing happened yet. Where there is a guard, its first frame has to show the token.
+    pub fn new(alloc: Global, guard: Option<Guard>) -> Result<Connection, Refusal>
+        ensures new { IfOk result (λ c. c ≡ new_history guard) }
         ensures err { IfErr result (λ e. e ≡ Refusal.Memory) }
     {
         let input = BytesMut::new(alloc);
         let output = BytesMut::with_capacity(alloc, SHORT_MAX)?;
         Ok(Connection {
             alloc,
+            guard,
             input,
             hand: 0,
             output,
@@ -306,7 +311,8 @@ impl Connection {
         }
         let held = &self.input.as_slice()[self.hand..];
         match front_of(held) {
-            Front::Whole(size) => Found::Frame(size),
+            Front::Whole(size) if self.may_come(&held[..size]) => Found::Frame(size),
+            Front::Whole(_) => Found::Stops(Refusal::NotAdmitted),
             Front::TooLong => Found::Stops(Refusal::FrameTooLong),
             Front::Part => match self.source {
                 Source::Open => Found::Nothing,
@@ -314,6 +320,17 @@ impl Connection {
                 Source::AtEnd => Found::Stops(Refusal::Truncated),
                 Source::Failed(refusal) => Found::Stops(refusal),
             },
+        }
+    }
+
+    /// Whether a frame may be taken: the first one of a guarded connection only where it shows the token.
+    fn may_come(&self, frame: &[u8]) -> bool
+        requires { 5 ≤ length frame.now }
+        ensures { result ≡ may_come self.now.guard self.now.taken (frame_of frame.now) }
+    {
+        match &self.guard {
+            Some(guard) if self.count == 0 => guard.is_shown(frame[4], &frame[5..]),
+            _ => true,
         }
     }
 

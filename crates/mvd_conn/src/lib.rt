@@ -3,9 +3,11 @@
 
 mod connection;
 pub mod ending;
+mod guard;
 pub mod laws;
 mod room;
 mod scan;
 
 pub use connection::Connection;
 pub use ending::{Ending, Source};
+pub use guard::Guard;

@@ -3,7 +3,7 @@ use Rattle.std.proofs.Common.{◌≡◌, ◌↔◌, ℕ, true, false, cond, eqb,
 use Rattle.std.specs.List.{find}
 use Rattle.std.proofs.lemmas.Bool.{eqb-true}
 use Rattle.mvd_dots.specs.declared.refusals.Refusal.{Refusal}
-use Rattle.mvd_dots.specs.declared.refusals.Refusal.TheVariants.{BadKey, BadContext, BadDocument, NotObject, BadNumber, DocumentTooLong, NotCanonical, Exhausted, StateTooLarge, Full, DotClash, NoIndex, NoView, BadPath, BadTerm, SiteMismatch, Damaged, Memory, Store, Broken, Truncated, FrameTooLong, BadKind, BadBody, ReadFailed, WriteFailed, TooManyRequests, BadDefs}
+use Rattle.mvd_dots.specs.declared.refusals.Refusal.TheVariants.{BadKey, BadContext, BadDocument, NotObject, BadNumber, DocumentTooLong, NotCanonical, Exhausted, StateTooLarge, Full, DotClash, NoIndex, NoView, BadPath, BadTerm, SiteMismatch, Damaged, Memory, Store, Broken, Truncated, FrameTooLong, BadKind, BadBody, ReadFailed, WriteFailed, TooManyRequests, BadDefs, NotAdmitted}
 use Rattle.mvd_dots.specs.Refusal.{number_of}
 use Rattle.mvd_wire.specs.Replies.{numbered, refusals}
 
@@ -37,6 +37,7 @@ own_number ReadFailed = refl
 own_number WriteFailed = refl
 own_number TooManyRequests = refl
 own_number BadDefs = refl
+own_number NotAdmitted = refl
 
 none_among : (n : ℕ) (rs : List Refusal) → ((r : Refusal) → number_of r ≡ n → ⊥) → find (λ r. eqb (number_of r) n) rs ≡ None
 none_among n [] none = refl

@@ -11,8 +11,8 @@ use Rattle.mvd_wire.specs.Codec.{◌>>=◌, byte, nothing}
 use Rattle.mvd_wire.specs.Codecs.{layout2, dot, state, spell_state}
 use Rattle.mvd_wire.specs.Replies.{refusal, numbered, reply_of, SpellsReply, IsReply, kind_of, payload_of}
 use Rattle.mvd_wire.proofs.Laws.{IsBytes, IsLawful, Takes, bind_ok, ok_is, whole_again, lawful_byte}
-use Rattle.mvd_wire.specs.Rows.{digests, key_entry, page, place, row, view_row}
-use Rattle.mvd_frames.proofs.RowLaws.{lawful_digests, lawful_key_entry, lawful_page, lawful_place, lawful_row, lawful_view_row}
+use Rattle.mvd_wire.specs.Rows.{digests, key_count, key_entry, page, place, row, view_row}
+use Rattle.mvd_frames.proofs.RowLaws.{lawful_digests, lawful_key_count, lawful_key_entry, lawful_page, lawful_place, lawful_row, lawful_view_row}
 use Rattle.mvd_wire.proofs.CodecLaws.{wide_layout2, lawful_dot, lawful_state}
 use Rattle.mvd_frames.proofs.RefusalNumbers.{own_number, number_back}
 use Rattle.mvd_frames.proofs.Tagged.{Decodes, decodes_tagged, lawful_nothing}
@@ -45,8 +45,9 @@ decodes_replies =
     (decodes_tagged SpellsReply 0xA6 (page view_row) (λ p. reply.Rows p.0 p.1) _ (lawful_page view_row lawful_view_row) (λ x fits. (fits, refl, refl))
     (decodes_tagged SpellsReply 0xA7 digests reply.Digests _ lawful_digests (λ x fits. (fits, refl, refl))
     (decodes_tagged SpellsReply 0xA8 (page key_entry) (λ p. reply.Keys p.0 p.1) _ (lawful_page key_entry lawful_key_entry) (λ x fits. (fits, refl, refl))
+    (decodes_tagged SpellsReply 0xA9 (page key_count) (λ p. reply.Counts p.0 p.1) _ (lawful_page key_count lawful_key_count) (λ x fits. (fits, refl, refl))
     (decodes_tagged SpellsReply 0xEE refusal reply.Refused (λ _ _. Err BadKind) lawful_refusal (λ x fits. (fits, refl, refl))
-    (λ kind payload y bytes e. absurd cc)))))))))
+    (λ kind payload y bytes e. absurd cc))))))))))
 
 pub replies_again : (r : Reply) → IsReply r → reply_of (kind_of r) (payload_of r) ≡ Ok r
 unfolding spell_state
@@ -58,6 +59,7 @@ replies_again (reply.Row r) fits = rw (whole_again row lawful_row r fits) refl
 replies_again (reply.Rows rs more) fits = rw (whole_again (page view_row) (lawful_page view_row lawful_view_row) (rs, more) fits) refl
 replies_again (reply.Digests d) fits = rw (whole_again digests lawful_digests d fits) refl
 replies_again (reply.Keys ks more) fits = rw (whole_again (page key_entry) (lawful_page key_entry lawful_key_entry) (ks, more) fits) refl
+replies_again (reply.Counts cs more) fits = rw (whole_again (page key_count) (lawful_page key_count lawful_key_count) (cs, more) fits) refl
 replies_again (reply.Refused r) fits = rw (whole_again refusal lawful_refusal r fits) refl
 
 module _ (kind : ℕ) (payload : List ℕ) where

@@ -5,13 +5,13 @@ use Rattle.mvd_dots.specs.declared.refusals.Refusal.{Refusal}
 use Rattle.mvd_dots.specs.declared.refusals.Refusal.TheVariants.{BadKind}
 use Rattle.mvd_dots.specs.Answer.{IsAnswer}
 use Rattle.mvd_wire.specs.declared.request.Request.{Request}
-use Rattle.mvd_wire.specs.declared.request.Request.TheVariants.{Get, Put, Delete, Find, Row, Rows, Node, Bucket, Push, Range, Bye}
+use Rattle.mvd_wire.specs.declared.request.Request.TheVariants.{Get, Put, Delete, Find, Row, Rows, Node, Bucket, Push, Range, Keys, Conflicts, Hello, Bye}
 use Rattle.mvd_wire.specs.Codec.{followed, nothing, optional}
-use Rattle.mvd_wire.specs.Codecs.{layout2, key, context, document, path, state}
+use Rattle.mvd_wire.specs.Codecs.{layout2, key, context, document, path, prefix, token, state}
 use Rattle.mvd_wire.specs.Rows.{field, view_name, term, spot, place}
-use Rattle.mvd_wire.specs.Requests.{request_of, put, delete, find, row_of_view, rows_of_view, bucket, push, range, SpellsRequest, IsRequest, kind_of, payload_of}
+use Rattle.mvd_wire.specs.Requests.{request_of, put, delete, find, row_of_view, rows_of_view, bucket, push, range, keys_of_prefix, SpellsRequest, IsRequest, kind_of, payload_of}
 use Rattle.mvd_wire.proofs.Laws.{IsBytes, IsLawful, whole_again, lawful_followed}
-use Rattle.mvd_wire.proofs.CodecLaws.{wide_layout2, lawful_key, lawful_context, lawful_document, lawful_path, lawful_state}
+use Rattle.mvd_wire.proofs.CodecLaws.{wide_layout2, lawful_key, lawful_context, lawful_document, lawful_path, lawful_prefix, lawful_token, lawful_state}
 use Rattle.mvd_frames.proofs.RowLaws.{lawful_field, lawful_view_name, lawful_term, lawful_spot, lawful_place, lawful_optional}
 use Rattle.mvd_frames.proofs.Tagged.{Decodes, decodes_tagged, lawful_nothing}
 
@@ -51,6 +51,10 @@ lawful_range = lawful_followed field (λ _. followed term (λ _. followed term (
     (λ _. lawful_followed term (λ _. followed term (λ _. optional place)) lawful_term
     (λ _. lawful_followed term (λ _. optional place) lawful_term (λ _. lawful_optional place lawful_place)))
 
+lawful_keys_of_prefix : IsLawful keys_of_prefix
+unfolding keys_of_prefix
+lawful_keys_of_prefix = lawful_followed prefix (λ _. optional key) lawful_prefix (λ _. lawful_optional key lawful_key)
+
 decodes_requests : Decodes SpellsRequest request_of
 decodes_requests =
     decodes_tagged SpellsRequest 0x21 key Get _ lawful_key (λ x fits. (fits, refl, refl))
@@ -63,8 +67,11 @@ decodes_requests =
     (decodes_tagged SpellsRequest 0x28 bucket (λ p. Bucket p.0 p.1) _ lawful_bucket (λ x fits. (fits, refl, refl))
     (decodes_tagged SpellsRequest 0x29 push (λ p. Push p.0 p.1) _ lawful_push (λ x fits. (fits, refl, refl))
     (decodes_tagged SpellsRequest 0x2A range (λ p. Range p.0 p.1.0 p.1.1.0 p.1.1.1) _ lawful_range (λ x fits. (fits, refl, refl))
+    (decodes_tagged SpellsRequest 0x2B keys_of_prefix (λ p. Keys p.0 p.1) _ lawful_keys_of_prefix (λ x fits. (fits, refl, refl))
+    (decodes_tagged SpellsRequest 0x2C (optional key) Conflicts _ (lawful_optional key lawful_key) (λ x fits. (fits, refl, refl))
+    (decodes_tagged SpellsRequest 0x2D token Hello _ lawful_token (λ x fits. (fits, refl, refl))
     (decodes_tagged SpellsRequest 0x2F nothing (λ _. Bye) (λ _ _. Err BadKind) lawful_nothing (λ x fits. (tt, refl, refl))
-    (λ kind payload y bytes e. absurd cc)))))))))))
+    (λ kind payload y bytes e. absurd cc))))))))))))))
 
 pub requests_again : (r : Request) → IsRequest r → request_of (kind_of r) (payload_of r) ≡ Ok r
 requests_again (Get k) fits = rw (whole_again key lawful_key k fits) refl
@@ -77,6 +84,9 @@ requests_again (Node p) fits = rw (whole_again path lawful_path p fits) refl
 requests_again (Bucket p after) fits = rw (whole_again bucket lawful_bucket (p, after) fits) refl
 requests_again (Range f from to after) fits = rw (whole_again range lawful_range (f, (from, (to, after))) fits) refl
 requests_again (Push k s) fits = rw (whole_again push lawful_push (k, s) fits) refl
+requests_again (Keys p after) fits = rw (whole_again keys_of_prefix lawful_keys_of_prefix (p, after) fits) refl
+requests_again (Conflicts after) fits = rw (whole_again (optional key) (lawful_optional key lawful_key) after fits) refl
+requests_again (Hello t) fits = rw (whole_again token lawful_token t fits) refl
 requests_again Bye fits = refl
 
 module _ (kind : ℕ) (payload : List ℕ) where

@@ -1,7 +1,7 @@
 -- The values of questions are lawful.
 use Rattle.std.proofs.Common.{◌≡◌, ℕ, ℤ, zero, suc, ◌+◌, ◌*◌, ◌/◌, ◌%◌, ◌^◌, ◌<◌, Bool, true, false, cond, leb, eqb, ◌||◌, List, [], ◌∷◌, ◌++◌, length, Option, Some, None, Result, Ok, Err, refl, sym, ap, subst, ◌∙◌, arith}
 use Rattle.std.specs.Prelude.{FitsSigned, MatchOption, ⊤}
-use Rattle.std.specs.Int.{w16, w64, w128, cast_signed, cast_unsigned}
+use Rattle.std.specs.Int.{w16, w32, w64, w128, cast_signed, cast_unsigned}
 use Rattle.std.specs.Str.{is_utf8}
 use Rattle.std.proofs.lemmas.Bool.{eqb-true, leb-true}
 use Rattle.std.proofs.Math.Dec.{eqb-suc-zero}
@@ -16,8 +16,8 @@ use Rattle.mvd_docs.specs.Name.{is_field, is_view_name}
 use Rattle.mvd_docs.specs.TermText.{term_text_of}
 use Rattle.mvd_wire.specs.Codec.{◌>>=◌, Codec, byte, number, raw, followed, checked, accepted, read_optional, spell_optional, optional, counted, nothing, variant}
 use Rattle.mvd_wire.specs.Codecs.{layout2, dot, key}
-use Rattle.mvd_wire.specs.Rows.{field_of_bytes, field, view_name_of_bytes, view_name, whole_number, text_of_bytes, term_text, term, spot, place, sum, ends, row, view_row, digest, key_entry, list_of, children_of, children, digests, flag, item_of, items, page, page_limit}
-use Rattle.mvd_wire.proofs.Laws.{IsBytes, IsBytes-rest, IsLawful, Takes, bind_ok, ok_is, passed_ok, wide16, wide64, lawful_byte, lawful_number, lawful_raw, lawful_followed, lawful_checked, lawful_accepted, lawful_named, lawful_named_where, lawful_counted}
+use Rattle.mvd_wire.specs.Rows.{field_of_bytes, field, view_name_of_bytes, view_name, whole_number, text_of_bytes, term_text, term, spot, place, sum, ends, row, view_row, digest, key_count, key_entry, list_of, children_of, children, digests, flag, item_of, items, page, page_limit}
+use Rattle.mvd_wire.proofs.Laws.{IsBytes, IsBytes-rest, IsLawful, Takes, bind_ok, ok_is, passed_ok, wide16, wide32, wide64, lawful_byte, lawful_number, lawful_raw, lawful_followed, lawful_checked, lawful_accepted, lawful_named, lawful_named_where, lawful_counted}
 use Rattle.mvd_frames.proofs.Tagged.{chosen, lawful_nothing}
 use Rattle.mvd_wire.proofs.CodecLaws.{wide_layout2, lawful_sized, lawful_key, lawful_dot}
 
@@ -171,6 +171,10 @@ pub lawful_view_row : IsLawful view_row
 unfolding view_row
 lawful_view_row = lawful_named (λ r. (r.0, record { count = r.1; sum = r.2; ends = r.3 })) (λ p. (p.0, p.1.count, p.1.sum, p.1.ends)) (followed term (λ _. row)) (λ p fits. refl) (λ r. refl)
     (lawful_followed term (λ _. row) lawful_term (λ _. lawful_row))
+
+pub lawful_key_count : IsLawful key_count
+unfolding key_count
+lawful_key_count = lawful_followed key (λ _. number w32) lawful_key (λ _. lawful_number w32 wide32)
 
 -- ---- digests
 

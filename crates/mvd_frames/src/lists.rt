@@ -1,13 +1,13 @@
 //! Digests and the items of lists, read at the front of a payload.
 ghost use Rattle.std.specs.Prelude.{◌≡◌, ◌<◌, ◌+◌, length, take};
 ghost use Rattle.mvd_wire.specs.Codec.{Gives, Codec, each};
-ghost use Rattle.mvd_wire.specs.Rows.{children, digest, digests, item_of, key_entry, view_row};
+ghost use Rattle.mvd_wire.specs.Rows.{children, digest, digests, item_of, key_count, key_entry, view_row};
 
 use crate::rows::{row_at, term_at};
 use mvd_docs::Term;
 use mvd_dots::Refusal;
 use mvd_keys::Key;
-use mvd_wire::{Digests, byte_at, key_at};
+use mvd_wire::{Digests, byte_at, key_at, u32_at};
 use std::alloc::Global;
 
 #[tactic(auto, unfolding(mvd_wire::specs::Rows::digest, mvd_wire::specs::Codec::raw))]
@@ -81,4 +81,13 @@ pub fn key_entry_at(alloc: Global, bytes: &[u8]) -> Result<((Key, [u8; 32]), &[u
     let (key, rest) = key_at(alloc, bytes)?;
     let (digest, rest) = digest_at(rest)?;
     Ok(((key, digest), rest))
+}
+
+#[tactic(auto, unfolding(mvd_wire::specs::Rows::key_count))]
+pub fn key_count_at(alloc: Global, bytes: &[u8]) -> Result<((Key, u32), &[u8]), Refusal>
+    ensures { Gives (λ x. (x.0, x.1.now)) result (key_count.read bytes.now) }
+{
+    let (key, rest) = key_at(alloc, bytes)?;
+    let (count, rest) = u32_at(rest)?;
+    Ok(((key, count), rest))
 }

@@ -3,7 +3,7 @@ ghost use Rattle.std.specs.Prelude.{◌≡◌, ℕ, IfOk, Ok};
 ghost use Rattle.mvd_dots.specs.Answer.{IsAnswer};
 ghost use Rattle.mvd_wire.specs.Codec.{Gives, Codec, whole};
 ghost use Rattle.mvd_wire.specs.Codecs.{layout2, dot};
-ghost use Rattle.mvd_wire.specs.Rows.{digests, key_entry, page, place, row, view_row};
+ghost use Rattle.mvd_wire.specs.Rows.{digests, key_count, key_entry, page, place, row, view_row};
 ghost use Rattle.mvd_wire.specs.Replies.{SpellsReply, numbered, refusal, reply_of};
 
 use crate::lists::digests_at;
@@ -104,6 +104,16 @@ fn keys_of(alloc: Global, payload: &[u8]) -> Result<(Items<(Key, [u8; 32])>, boo
     Ok((items, more))
 }
 
+fn counts_of(alloc: Global, payload: &[u8]) -> Result<(Items<(Key, u32)>, bool), Refusal>
+    ensures { IsAnswer result (whole (page key_count) payload.now) }
+{
+    let (items, more, rest) = page_at(alloc, payload)?;
+    if !rest.is_empty() {
+        return Err(Refusal::BadBody);
+    }
+    Ok((items, more))
+}
+
 fn reply_at(alloc: Global, kind: u8, payload: &[u8]) -> Result<Reply, Refusal>
     ensures { IsAnswer result (reply_of kind payload.now) }
 {
@@ -127,6 +137,10 @@ fn reply_at(alloc: Global, kind: u8, payload: &[u8]) -> Result<Reply, Refusal>
         0xA8 => {
             let (keys, more) = keys_of(alloc, payload)?;
             Ok(Reply::Keys(keys, more))
+        }
+        0xA9 => {
+            let (counts, more) = counts_of(alloc, payload)?;
+            Ok(Reply::Counts(counts, more))
         }
         0xEE => Ok(Reply::Refused(refused_of(payload)?)),
         _ => Err(Refusal::BadKind),

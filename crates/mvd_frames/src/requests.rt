@@ -1,16 +1,18 @@
 //! Requests, read.
 ghost use Rattle.std.specs.Prelude.{◌≡◌, ℕ, IfOk, Ok};
 ghost use Rattle.mvd_dots.specs.Answer.{IsAnswer};
-ghost use Rattle.mvd_wire.specs.Codec.{Gives, Codec, whole, nothing};
-ghost use Rattle.mvd_wire.specs.Codecs.{key, path};
-ghost use Rattle.mvd_wire.specs.Requests.{SpellsRequest, request_of, put, delete, find, row_of_view, rows_of_view, bucket, push, range};
+ghost use Rattle.mvd_wire.specs.Codec.{Gives, Codec, whole, nothing, optional};
+ghost use Rattle.mvd_wire.specs.Codecs.{key, path, token};
+ghost use Rattle.mvd_wire.specs.Requests.{SpellsRequest, request_of, put, delete, find, row_of_view, rows_of_view, bucket, push, range, keys_of_prefix};
 
 use crate::rows::{field_at, path_at, term_at, view_name_at};
 use crate::spelled_lists::optional_at;
 use mvd_docs::{Document, Field, Term, ViewName};
 use mvd_dots::{Context, Dot, Refusal};
 use mvd_keys::{Key, KeyState, Path, Place};
-use mvd_wire::{Request, Version, context_at, document_at, key_at, state_at};
+use mvd_wire::{
+    Prefix, Request, Token, Version, context_at, document_at, key_at, prefix_at, state_at, token_at,
+};
 use std::alloc::Global;
 
 fn get_of(alloc: Global, payload: &[u8]) -> Result<Key, Refusal>
@@ -133,6 +135,38 @@ fn range_of(alloc: Global, payload: &[u8]) -> Result<(Field, Term, Term, Option<
     Ok((field, from, to, after))
 }
 
+#[tactic(auto, unfolding(mvd_wire::specs::Requests::keys_of_prefix))]
+fn keys_of(alloc: Global, payload: &[u8]) -> Result<(Prefix, Option<Key>), Refusal>
+    ensures { IsAnswer result (whole keys_of_prefix payload.now) }
+{
+    let (prefix, rest) = prefix_at(alloc, payload)?;
+    let (after, rest) = optional_at(alloc, rest)?;
+    if !rest.is_empty() {
+        return Err(Refusal::BadBody);
+    }
+    Ok((prefix, after))
+}
+
+fn conflicts_of(alloc: Global, payload: &[u8]) -> Result<Option<Key>, Refusal>
+    ensures { IsAnswer result (whole (optional key) payload.now) }
+{
+    let (after, rest) = optional_at(alloc, payload)?;
+    if !rest.is_empty() {
+        return Err(Refusal::BadBody);
+    }
+    Ok(after)
+}
+
+fn hello_of(alloc: Global, payload: &[u8]) -> Result<Token, Refusal>
+    ensures { IsAnswer result (whole token payload.now) }
+{
+    let (token, rest) = token_at(alloc, payload)?;
+    if !rest.is_empty() {
+        return Err(Refusal::BadBody);
+    }
+    Ok(token)
+}
+
 /// Whether there is no payload.
 pub fn nothing_of(payload: &[u8]) -> Result<(), Refusal>
     ensures { result ≡ whole nothing payload.now }
@@ -183,6 +217,12 @@ fn request_at(alloc: Global, kind: u8, payload: &[u8]) -> Result<Request, Refusa
             let (key, state) = push_of(alloc, payload)?;
             Ok(Request::Push(key, state))
         }
+        0x2B => {
+            let (prefix, after) = keys_of(alloc, payload)?;
+            Ok(Request::Keys(prefix, after))
+        }
+        0x2C => Ok(Request::Conflicts(conflicts_of(alloc, payload)?)),
+        0x2D => Ok(Request::Hello(hello_of(alloc, payload)?)),
         0x2F => {
             nothing_of(payload)?;
             Ok(Request::Bye)

@@ -5,12 +5,12 @@ ghost use Rattle.mvd_docs.specs.Name.{is_field, is_view_name};
 ghost use Rattle.mvd_keys.specs.Path.{is_path};
 ghost use Rattle.mvd_wire.specs.Codec.{Codec};
 ghost use Rattle.mvd_wire.specs.Codecs.{path};
-ghost use Rattle.mvd_wire.specs.Rows.{children, digests, ends, field, key_entry, place, row, spot, sum, term, term_text, view_name, view_row, whole_number};
+ghost use Rattle.mvd_wire.specs.Rows.{children, digests, ends, field, key_count, key_entry, place, row, spot, sum, term, term_text, view_name, view_row, whole_number};
 
 use mvd_docs::{Field, Term, TermText, ViewName};
 use mvd_dots::Dot;
 use mvd_keys::{Key, Path, Place};
-use mvd_wire::{Digests, RowValue, write_dot, write_key, write_len16, write_u64};
+use mvd_wire::{Digests, RowValue, write_dot, write_key, write_len16, write_u32, write_u64};
 use std::alloc::AllocError;
 
 #[tactic(auto, unfolding(mvd_wire::specs::Rows::field, mvd_wire::specs::Codec::raw))]
@@ -172,6 +172,16 @@ pub fn write_key_entry(out: &mut Vec<u8>, value: &(Key, [u8; 32])) -> Result<(),
 {
     write_key(out, &value.0)?;
     out.extend_from_slice(&value.1)?;
+    Ok(())
+}
+
+#[tactic(auto, unfolding(mvd_wire::specs::Rows::key_count))]
+pub fn write_key_count(out: &mut Vec<u8>, value: &(Key, u32)) -> Result<(), AllocError>
+    ensures bytes { OnOk result (out.new.items ≡ out.old.items ++ key_count.spell value.now) }
+    ensures fits { OnOk result (key_count.Fits value.now) }
+{
+    write_key(out, &value.0)?;
+    write_u32(out, value.1)?;
     Ok(())
 }
 

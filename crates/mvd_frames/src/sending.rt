@@ -4,7 +4,7 @@ ghost use Rattle.mvd_keys.specs.Key.{is_key};
 ghost use Rattle.mvd_wire.specs.Codec.{Gives, Codec};
 ghost use Rattle.mvd_wire.specs.Codecs.{layout2, key, spell_state, state_limit, state as spelled};
 ghost use Rattle.mvd_wire.specs.Frames.{frame_limit};
-ghost use Rattle.mvd_wire.specs.Requests.{framed, unmeasured, within_limit, put, delete, find, row_of_view, rows_of_view, bucket, push, range, IsRequest, request_bytes, request_frame};
+ghost use Rattle.mvd_wire.specs.Requests.{framed, unmeasured, within_limit, put, delete, find, row_of_view, rows_of_view, push, range, IsRequest, request_bytes, request_frame};
 ghost use Rattle.mvd_wire.specs.Replies.{IsReply, reply_frame, within_page};
 ghost use Rattle.mvd_wire.specs.Rows.{digests, page, row};
 ghost use Rattle.mvd_wire.specs.declared.request.Request.TheVariants as asked;
@@ -12,6 +12,7 @@ ghost use Rattle.mvd_wire.specs.declared.request.Request.TheVariants as asked;
 use crate::row_writing::{
     write_digests, write_field, write_path, write_row, write_term, write_view_name,
 };
+use crate::sending_keys::{encode_bucket, encode_conflicts, encode_hello, encode_keys};
 use crate::short::Short;
 use crate::spelled::Spelled;
 use crate::spelled_lists::{write_optional, write_page};
@@ -25,14 +26,14 @@ use mvd_wire::{
 use std::alloc::{AllocError, Global};
 
 /// The head of a frame: a place for its length, and the kind byte.
-fn head_of(alloc: Global, kind: u8) -> Result<Vec<u8>, AllocError>
+pub fn head_of(alloc: Global, kind: u8) -> Result<Vec<u8>, AllocError>
     ensures { IfOk result (λ v. v.items ≡ unmeasured kind []) }
 {
     head_with_room(alloc, kind, 0)
 }
 
 /// The head of a frame, with room for that many bytes of payload.
-fn head_with_room(alloc: Global, kind: u8, room: usize) -> Result<Vec<u8>, AllocError>
+pub fn head_with_room(alloc: Global, kind: u8, room: usize) -> Result<Vec<u8>, AllocError>
     ensures { IfOk result (λ v. v.items ≡ unmeasured kind []) }
 {
     let mut head = Vec::with_capacity(alloc, room.saturating_add(5))?;
@@ -41,7 +42,7 @@ fn head_with_room(alloc: Global, kind: u8, room: usize) -> Result<Vec<u8>, Alloc
 }
 
 /// The frame with its length, which is set when all of it was written.
-fn measured(frame: Vec<u8>) -> Result<Vec<u8>, Refusal>
+pub fn measured(frame: Vec<u8>) -> Result<Vec<u8>, Refusal>
     requires { 5 ≤ length frame.items }
     ensures exact { Gives (λ v. v.items) result (framed (slice_index frame.items 4) (drop 5 frame.items)) }
     ensures bound { IfOk result (λ _. length frame.items ≤ frame_limit + 4) }
@@ -225,26 +226,6 @@ pub fn encode_rows(alloc: Global, name: &ViewName, after: &Option<Term>) -> Resu
     measured(frame)
 }
 
-#[tactic(auto, unfolding(mvd_wire::specs::Requests::bucket))]
-fn write_bucket(out: &mut Vec<u8>, path: &Path, after: &Option<Key>) -> Result<(), AllocError>
-    ensures bytes { OnOk result (out.new.items ≡ out.old.items ++ bucket.spell (path.now, after.now)) }
-    ensures fits { OnOk result (bucket.Fits (path.now, after.now)) }
-{
-    write_path(out, path)?;
-    write_optional(out, after)?;
-    Ok(())
-}
-
-/// The whole frame of a Bucket.
-pub fn encode_bucket(alloc: Global, path: &Path, after: &Option<Key>) -> Result<Vec<u8>, Refusal>
-    ensures exact { Gives (λ v. v.items) result (request_frame (asked.Bucket path.now after.now)) }
-    ensures fits { IfOk result (λ _. IsRequest (asked.Bucket path.now after.now)) }
-{
-    let mut frame = head_of(alloc, 0x28)?;
-    write_bucket(&mut frame, path, after)?;
-    measured(frame)
-}
-
 #[tactic(auto, unfolding(mvd_wire::specs::Requests::range))]
 fn write_range(
     out: &mut Vec<u8>,
@@ -314,6 +295,9 @@ pub fn encode_request(alloc: Global, request: &Request) -> Result<Vec<u8>, Refus
         Request::Bucket(path, after) => encode_bucket(alloc, path, after),
         Request::Range(field, from, to, after) => encode_range(alloc, field, from, to, after),
         Request::Push(key, state) => encode_push(alloc, key, state),
+        Request::Keys(prefix, after) => encode_keys(alloc, prefix, after),
+        Request::Conflicts(after) => encode_conflicts(alloc, after),
+        Request::Hello(token) => encode_hello(alloc, token),
         Request::Bye => encode_bye(alloc),
     }
 }
@@ -391,6 +375,7 @@ pub fn encode_reply(alloc: Global, reply: &Reply) -> Result<Vec<u8>, Refusal>
         Reply::Rows(rows, more) => encode_page(alloc, 0xA6, rows.as_slice(), *more),
         Reply::Digests(digests) => encode_digests(alloc, digests),
         Reply::Keys(keys, more) => encode_page(alloc, 0xA8, keys.as_slice(), *more),
+        Reply::Counts(counts, more) => encode_page(alloc, 0xA9, counts.as_slice(), *more),
         Reply::Done => encode_short(alloc, &Short::done()),
         Reply::Refused(refusal) => encode_short(alloc, &Short::refused(*refusal)),
     }

@@ -78,7 +78,8 @@ pub fn short_reply(reply: &Reply) -> Option<Short>
         | Reply::Row(_)
         | Reply::Rows(_, _)
         | Reply::Digests(_)
-        | Reply::Keys(_, _) => None,
+        | Reply::Keys(_, _)
+        | Reply::Counts(_, _) => None,
         Reply::Written(dot) => Some(Short::written(*dot)),
         Reply::Done => Some(Short::done()),
         Reply::Refused(refusal) => Some(Short::refused(*refusal)),

@@ -2,8 +2,10 @@
 ghost use Rattle.std.specs.Prelude.{◌≡◌, ◌++◌, OnOk};
 ghost use Rattle.mvd_wire.specs.Codec.{Gives, Codec};
 
-use crate::lists::{key_entry_at, view_row_at};
-use crate::row_writing::{write_key_entry, write_place, write_spot, write_term, write_view_row};
+use crate::lists::{key_count_at, key_entry_at, view_row_at};
+use crate::row_writing::{
+    write_key_count, write_key_entry, write_place, write_spot, write_term, write_view_row,
+};
 use crate::rows::{place_at, spot_at, term_at};
 use mvd_docs::Term;
 use mvd_dots::{Dot, Refusal};
@@ -109,5 +111,19 @@ impl Spelled for (Key, [u8; 32]) {
 
     fn put(&self, out: &mut Vec<u8>) -> Result<(), AllocError> {
         write_key_entry(out, self)
+    }
+}
+
+impl Spelled for (Key, u32) {
+    ghost use Rattle.mvd_wire.specs.Rows.{key_count};
+
+    ghost kind = { key_count };
+
+    fn read_at(alloc: Global, bytes: &[u8]) -> Result<((Key, u32), &[u8]), Refusal> {
+        key_count_at(alloc, bytes)
+    }
+
+    fn put(&self, out: &mut Vec<u8>) -> Result<(), AllocError> {
+        write_key_count(out, self)
     }
 }

@@ -8,8 +8,8 @@ ghost use Rattle.mvd_keys.specs.Path.{is_path};
 ghost use Rattle.mvd_keys.specs.State.{State, Text};
 ghost use Rattle.mvd_wire.specs.Frames.{FrameValue, frame_limit, frame_at, spell_frame};
 ghost use Rattle.mvd_wire.specs.Codec.{Codec, IsPrefixFree, optional};
-ghost use Rattle.mvd_wire.specs.Codecs.{layout1, layout2, dot, entry, context, sibling, key, document, path, state, spell_state, state_limit, IsInForm};
-ghost use Rattle.mvd_wire.specs.Rows.{digests, ends, field, key_entry, page, place, row, spot, sum, term, view_name, view_row};
+ghost use Rattle.mvd_wire.specs.Codecs.{layout1, layout2, dot, entry, context, sibling, key, document, path, prefix, token, state, spell_state, state_limit, IsInForm};
+ghost use Rattle.mvd_wire.specs.Rows.{digests, ends, field, key_count, key_entry, page, place, row, spot, sum, term, view_name, view_row};
 ghost use Rattle.mvd_wire.specs.Requests.{SpellsRequest, IsRequest, request_of, kind_of as request_kind, payload_of as request_payload, request_bytes, request_frame};
 ghost use Rattle.mvd_wire.specs.Replies.{CanBeSent, IsReply, reply_of, kind_of as reply_kind, payload_of as reply_payload, is_short, reply_bytes};
 ghost use Rattle.mvd_wire.specs.declared.request.Request.TheVariants as asked;
@@ -25,6 +25,8 @@ pub fn one_spelling()
     ensures keys { IsPrefixFree key }
     ensures documents { IsPrefixFree document }
     ensures paths { IsPrefixFree path }
+    ensures prefixes { IsPrefixFree prefix }
+    ensures tokens { IsPrefixFree token }
     ensures fields { IsPrefixFree field }
     ensures view_names { IsPrefixFree view_name }
     ensures terms { IsPrefixFree term }
@@ -38,10 +40,12 @@ pub fn one_spelling()
     ensures rows { IsPrefixFree row }
     ensures view_rows { IsPrefixFree view_row }
     ensures key_entries { IsPrefixFree key_entry }
+    ensures key_counts { IsPrefixFree key_count }
     ensures digests_of_nodes { IsPrefixFree digests }
     ensures lists_of_places { IsPrefixFree (page place) }
     ensures lists_of_view_rows { IsPrefixFree (page view_row) }
     ensures lists_of_key_entries { IsPrefixFree (page key_entry) }
+    ensures lists_of_key_counts { IsPrefixFree (page key_count) }
     ensures siblings { (dots : DotSet) (previous : Option DotValue) → IsPrefixFree (sibling layout2 dots previous) }
     ensures states { IsPrefixFree (state layout2) }
     ensures old_states { IsPrefixFree (state layout1) }
@@ -95,6 +99,12 @@ pub fn can_be_sent()
     ensures nodes { (p : List ℕ) → is_path p ≡ true → request_frame (asked.Node p) ≡ Ok (request_bytes (asked.Node p)) }
     ensures buckets { (p : List ℕ) (after : Option Text) → IsRequest (asked.Bucket p after) →
         request_frame (asked.Bucket p after) ≡ Ok (request_bytes (asked.Bucket p after)) }
+    ensures keys { (p : Text) (after : Option Text) → IsRequest (asked.Keys p after) →
+        request_frame (asked.Keys p after) ≡ Ok (request_bytes (asked.Keys p after)) }
+    ensures conflicts { (after : Option Text) → IsRequest (asked.Conflicts after) →
+        request_frame (asked.Conflicts after) ≡ Ok (request_bytes (asked.Conflicts after)) }
+    ensures hellos { (t : List ℕ) → IsRequest (asked.Hello t) →
+        request_frame (asked.Hello t) ≡ Ok (request_bytes (asked.Hello t)) }
     ensures pushes { (k : Text) (s : State) → is_key k ≡ true → length (spell_state s) ≤ state_limit →
         request_frame (asked.Push k s) ≡ Ok (request_bytes (asked.Push k s)) }
     ensures short { (r : Reply) → is_short r ≡ true → CanBeSent r }

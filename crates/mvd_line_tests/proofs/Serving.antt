@@ -10,7 +10,7 @@ use Rattle.mvd_keys.specs.State.{IsValid, State, clashes, join}
 use Rattle.mvd_keys.specs.Writes.{Key, is_empty}
 use Rattle.mvd_tree.specs.Page.{is_more_after_page, page_of}
 use Rattle.mvd_wire.specs.declared.request.Request.{Request}
-use Rattle.mvd_wire.specs.declared.request.Request.TheVariants.{Get, Put, Delete, Find, Row, Rows, Node, Bucket, Push, Range, Bye}
+use Rattle.mvd_wire.specs.declared.request.Request.TheVariants.{Get, Put, Delete, Find, Row, Rows, Node, Bucket, Push, Range, Keys as KeysAsked, Conflicts, Hello, Bye}
 use Rattle.mvd_wire.specs.Codecs.{spell_state, state_limit}
 use Rattle.mvd_wire.specs.Frames.{FrameValue, Reads, frame_at, frame_limit, frame_value, length_at, spell_frame}
 use Rattle.mvd_wire.specs.Requests.{SpellsRequest, framed, request_frame, within_limit}
@@ -57,6 +57,9 @@ refused_so config old new (Find f t after) refusal same own free why = inr (refu
 refused_so config old new (Row v t) refusal same own free why = inr (refusal, refl, own, inl same)
 refused_so config old new (Rows v after) refusal same own free why = inr (refusal, refl, own, inl same)
 refused_so config old new (Range f from to after) refusal same own free why = inr (refusal, refl, own, inl same)
+refused_so config old new (KeysAsked p after) refusal same own free why = inr (refusal, refl, own, inl same)
+refused_so config old new (Conflicts after) refusal same own free why = inr (refusal, refl, own, inl same)
+refused_so config old new (Hello t) refusal same own free why = inr (refusal, refl, own, inl same)
 
 bucket_so : (config : ConfigValue) (old : States) (path : List ℕ) (after : Option Key) (three : Bool) → (length path == 3) ≡ three → TrueReply config old (Bucket path after) (if three then Keys (page_of (digests old) path after) (is_more_after_page (digests old) path after) else Refused BadPath) old
 bucket_so config old path after true is = (refl, refl, refl)
@@ -114,6 +117,9 @@ whole_so old new (Find f t after) reply whole held valid from = kept_so old new 
 whole_so old new (Row v t) reply whole held valid from = kept_so old new (Row v t) reply whole from (λ a. inl (a.answers, ap (λ (v : SiteValue). v.states) a.site))
 whole_so old new (Rows v after) reply whole held valid from = kept_so old new (Rows v after) reply whole from (λ a. inl (a.answers, ap (λ (v : SiteValue). v.states) a.site))
 whole_so old new (Range f start to after) reply whole held valid from = kept_so old new (Range f start to after) reply whole from (λ a. inl (a.answers, ap (λ (v : SiteValue). v.states) a.site))
+whole_so old new (KeysAsked p after) reply whole held valid from = kept_so old new (KeysAsked p after) reply whole from (λ a. inl (a.answers, ap (λ (v : SiteValue). v.states) a.site))
+whole_so old new (Conflicts after) reply whole held valid from = kept_so old new (Conflicts after) reply whole from (λ a. inl (a.answers, ap (λ (v : SiteValue). v.states) a.site))
+whole_so old new (Hello t) reply whole held valid from = kept_so old new (Hello t) reply whole from (λ a. inl (a.answers, ap (λ (v : SiteValue). v.states) a.site))
 
 -- THE REPLY OF A SITE is a true one, also where it is broken
 pub replies_truly : (old new : SiteValue) (q : Request) (reply : Reply) → AreHeld old.states → IsValidRequest q → AnswersFrom old new q reply → (old.broken ≡ true → (reply ≡ Refused Broken) × (new ≡ old)) → TrueReply old.config old.states q reply new.states
@@ -153,6 +159,9 @@ request_spelled (Node p) bytes e = frame_is _ _ bytes e
 request_spelled (Bucket p after) bytes e = frame_is _ _ bytes e
 request_spelled (Push k s) bytes e = frame_is _ _ bytes (within_is s 0x29 (asked.push.spell (k, s)) bytes e)
 request_spelled (Range f from to after) bytes e = frame_is _ _ bytes e
+request_spelled (KeysAsked p after) bytes e = frame_is _ _ bytes e
+request_spelled (Conflicts after) bytes e = frame_is _ _ bytes e
+request_spelled (Hello t) bytes e = frame_is _ _ bytes e
 request_spelled Bye bytes e = frame_is 0x2F [] bytes e
 
 -- the first frame of what was sent
@@ -305,6 +314,7 @@ reply_spelled (told.Row r) bytes e = frame_is _ _ bytes e
 reply_spelled (told.Rows rs more) bytes e = frame_is _ _ bytes (page_is rs _ _ bytes e)
 reply_spelled (told.Digests d) bytes e = frame_is _ _ bytes e
 reply_spelled (told.Keys ks more) bytes e = frame_is _ _ bytes (page_is ks _ _ bytes e)
+reply_spelled (told.Counts cs more) bytes e = frame_is _ _ bytes (page_is cs _ _ bytes e)
 reply_spelled (told.Refused refusal) bytes e = frame_is _ _ bytes e
 
 -- the frame that is read spells it

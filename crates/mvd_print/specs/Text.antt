@@ -104,6 +104,10 @@ row_text row = line (row_words row.count row.sum row.ends)
 abbrev pub view_row_text : Term × ℕ × ℤ × Option (ℤ × ℤ) → List ℕ
 view_row_text row = line (term_text row.0 ∷ row_words row.1 row.2 row.3)
 
+-- a key and how many siblings it has
+abbrev pub count_text : Text × ℕ → List ℕ
+count_text count = line (count.0 ∷ decimal count.1 ∷ [])
+
 -- 64 hexadecimal digits
 abbrev pub digest_text : List ℕ → List ℕ
 digest_text digest = line (encode_lower digest ∷ [])
@@ -142,6 +146,7 @@ reply_text has_terms (reply.Row row) = Ok (row_text row)
 reply_text has_terms (reply.Rows rows more) = Ok (list_text view_row_text rows)
 reply_text has_terms (reply.Digests digests) = Ok (digest_text digests.own)
 reply_text has_terms (reply.Keys keys more) = Err BadKind
+reply_text has_terms (reply.Counts counts more) = Ok (list_text count_text counts)
 reply_text has_terms (reply.Refused refusal) = Err refusal
 
 -- the text of a reply that tells no more than that something was done, or its dot

@@ -4,7 +4,7 @@ ghost use Rattle.mvd_print.specs.Added.{Prints};
 ghost use Rattle.mvd_print.specs.Text.{reply_text, short_text};
 
 use crate::lines::{print_done, print_written};
-use crate::row_lines::{print_places, print_row, print_rows};
+use crate::row_lines::{print_counts, print_places, print_row, print_rows};
 use crate::state_lines::{print_digest, print_state};
 use mvd_dots::Refusal;
 use mvd_wire::Reply;
@@ -28,6 +28,7 @@ pub fn print_reply(
         Reply::Row(row) => Ok(print_row(row.count, row.sum, row.ends, out)?),
         Reply::Rows(rows, _) => print_rows(alloc, rows.as_slice(), out),
         Reply::Digests(digests) => Ok(print_digest(alloc, digests.own, out)?),
+        Reply::Counts(counts, _) => Ok(print_counts(counts.as_slice(), out)?),
         Reply::Keys(..) => Err(Refusal::BadKind),
         Reply::Refused(refusal) => Err(*refusal),
     }

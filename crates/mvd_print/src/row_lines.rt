@@ -1,12 +1,12 @@
-//! Places of indexes and rows of views, a line each.
+//! Places of indexes, rows of views, and keys with their numbers of siblings, a line each.
 ghost use Rattle.std.specs.Prelude.{◌≡◌, ◌++◌, OnOk, IsOkUnless, string_bytes};
 ghost use Rattle.mvd_print.specs.Added.{Extends};
-ghost use Rattle.mvd_print.specs.Text.{ends_text, line, list_text, place_text, places_text, row_words, spot_words, two_text, view_row_text};
+ghost use Rattle.mvd_print.specs.Text.{count_text, ends_text, line, list_text, place_text, places_text, row_words, spot_words, two_text, view_row_text};
 
 use crate::words::{push_dot, push_number, push_signed, push_term, push_whole, push_word};
 use mvd_docs::Term;
 use mvd_dots::Refusal;
-use mvd_keys::Place;
+use mvd_keys::{Key, Place};
 use std::alloc::{AllocError, Global};
 
 /// A row of a view as it is told: its term, its count, its sum, and its ends.
@@ -127,6 +127,32 @@ pub fn print_places(
     }
     for place in places {
         print_place(alloc, has_terms, place, out)?;
+    }
+    Ok(())
+}
+
+/// The key, and how many siblings it has.
+fn print_count(count: &(Key, u32), out: &mut String) -> Result<(), AllocError>
+    ensures text { OnOk result (string_bytes out.new ≡ string_bytes out.old ++ count_text count.now) }
+    ensures kept { Extends (string_bytes out.old) (string_bytes out.new) }
+{
+    push_word(out, count.0.text())?;
+    push_word(out, " ")?;
+    push_number(out, u64::from(count.1))?;
+    push_word(out, "\n")?;
+    Ok(())
+}
+
+/// A line for each key, or `none`.
+pub fn print_counts(counts: &[(Key, u32)], out: &mut String) -> Result<(), AllocError>
+    ensures text { OnOk result (string_bytes out.new ≡ string_bytes out.old ++ list_text count_text counts.now) }
+    ensures kept { Extends (string_bytes out.old) (string_bytes out.new) }
+{
+    if counts.is_empty() {
+        return push_word(out, "none\n");
+    }
+    for count in counts {
+        print_count(count, out)?;
     }
     Ok(())
 }

@@ -47,6 +47,7 @@ get_keeps key config old (reply.Row r) new h = absurd h
 get_keeps key config old (reply.Rows rs more) new h = absurd h
 get_keeps key config old (reply.Digests d) new h = absurd h
 get_keeps key config old (reply.Keys ks more) new h = absurd h
+get_keeps key config old (reply.Counts cs more) new h = absurd h
 
 node_keeps : (path : List ℕ) (config : ConfigValue) (old : States) (r : Reply) (new : States) → TrueReply config old (Node path) r new → new ≡ old
 node_keeps path config old (reply.Digests d) new h = h.1
@@ -58,6 +59,7 @@ node_keeps path config old (reply.Places ps more) new h = absurd h
 node_keeps path config old (reply.Row r) new h = absurd h
 node_keeps path config old (reply.Rows rs more) new h = absurd h
 node_keeps path config old (reply.Keys ks more) new h = absurd h
+node_keeps path config old (reply.Counts cs more) new h = absurd h
 
 bucket_keeps : (path : List ℕ) (after : Option Key) (config : ConfigValue) (old : States) (r : Reply) (new : States) → TrueReply config old (Bucket path after) r new → new ≡ old
 bucket_keeps path after config old (reply.Keys ks more) new h = h.2
@@ -69,6 +71,7 @@ bucket_keeps path after config old (reply.Places ps more) new h = absurd h
 bucket_keeps path after config old (reply.Row r) new h = absurd h
 bucket_keeps path after config old (reply.Rows rs more) new h = absurd h
 bucket_keeps path after config old (reply.Digests d) new h = absurd h
+bucket_keeps path after config old (reply.Counts cs more) new h = absurd h
 
 -- a refusal that leaves open whether something was done is of no path
 open_page : (path : List ℕ) (refusal : Refusal) → leaves_open refusal ≡ true → RefusesPage path refusal
@@ -193,6 +196,7 @@ module _ (config : ConfigValue) where
   open_leaves old new key s refusal (reply.Rows rs more) e h = absurd h
   open_leaves old new key s refusal (reply.Digests d) e h = absurd h
   open_leaves old new key s refusal (reply.Keys ks more) e h = absurd h
+  open_leaves old new key s refusal (reply.Counts cs more) e h = absurd h
 
   -- one push
   pub push_taken : (old new : States) (key : Key) (s : State) (result : Result (Unit {0}) Refusal) → AnswersTruly (λ _. reply.Done) config old (Push key s) result new → OnOk result (Takes old key s new)
@@ -251,6 +255,7 @@ module _ (config : ConfigValue) where
   and_replied p ps old mid new (reply.Rows rs more) h f = absurd h
   and_replied p ps old mid new (reply.Digests d) h f = absurd h
   and_replied p ps old mid new (reply.Keys ks more) h f = absurd h
+  and_replied p ps old mid new (reply.Counts cs more) h f = absurd h
 
   first_step : (p : Key × State) (ps : List (Key × State)) (f : Result (List ℕ) Refusal) → request_frame (asked p) ≡ f → (old new : States) (n : ℕ) (rs : List Reply) → ((old : States) (n : ℕ) (rs : List Reply) → TrueReplies config old (take n (framed (map asked ps))) rs new → First old ps new) → TrueReplies config old (take n (and_framed (asked p) f (framed (map asked ps)))) rs new → First old (p ∷ ps) new
   first_step p ps (Ok frame) e old new zero [] later h = (0, [], h)

@@ -7,7 +7,7 @@ use Rattle.mvd_dots.specs.declared.refusals.Refusal.TheVariants.{BadKind, FrameT
 use Rattle.mvd_dots.specs.declared.refusals.Refusal.TheVariants.{WriteFailed}
 use Rattle.mvd_wire.specs.declared.request.Request.{Request}
 use Rattle.mvd_wire.specs.declared.request.Request.TheVariants.{Get, Put, Delete, Find, Row, Rows, Node, Bucket, Push}
-use Rattle.mvd_wire.specs.declared.request.Request.TheVariants.{Range, Bye}
+use Rattle.mvd_wire.specs.declared.request.Request.TheVariants.{Range, Keys, Conflicts, Hello, Bye}
 use Rattle.mvd_wire.specs.declared.reply.Reply.{Reply}
 use Rattle.mvd_wire.specs.declared.reply.Reply.TheVariants.{Refused}
 use Rattle.mvd_wire.specs.Frames.{AppendsFront, FrameValue, frame_at}
@@ -42,6 +42,9 @@ answered_by (Node p) = 0xA7
 answered_by (Bucket p after) = 0xA8
 answered_by (Push k s) = 0xA3
 answered_by (Range f from to after) = 0xA4
+answered_by (Keys p after) = 0xA9
+answered_by (Conflicts after) = 0xA9
+answered_by (Hello t) = 0xA3
 answered_by Bye = 0xA3
 
 -- just one frame came in, of which this holds

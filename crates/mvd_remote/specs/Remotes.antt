@@ -6,7 +6,7 @@ use Rattle.mvd_dots.specs.declared.refusals.Refusal.{Refusal}
 use Rattle.mvd_keys.specs.State.{State}
 use Rattle.mvd_keys.specs.Writes.{Key}
 use Rattle.mvd_wire.specs.declared.request.Request.{Request}
-use Rattle.mvd_wire.specs.declared.request.Request.TheVariants.{Get, Node, Bucket, Push, Bye}
+use Rattle.mvd_wire.specs.declared.request.Request.TheVariants.{Get, Node, Bucket, Push, Hello, Bye}
 use Rattle.mvd_wire.specs.declared.reply.Digests.{Digests}
 use Rattle.mvd_wire.specs.declared.reply.Reply.{Reply}
 use Rattle.mvd_site.specs.Config.{ConfigValue}
@@ -40,6 +40,9 @@ state_query key = query (Get key) as_state
 
 abbrev pub push_query : Key → State → Query (Unit {0})
 push_query key state = query (Push key state) as_done
+
+abbrev pub hello_query : List ℕ → Query (Unit {0})
+hello_query token = query (Hello token) as_done
 
 abbrev pub bye_query : Query (Unit {0})
 bye_query = query Bye as_done

@@ -9,7 +9,7 @@ ghost use Rattle.mvd_wire.specs.declared.request.Request.{Request};
 ghost use Rattle.mvd_wire.specs.declared.reply.Reply.TheVariants.{Refused};
 ghost use Rattle.mvd_remote.specs.Lines.{IsTrueRemote, KeepsConfig, line_of, refused_of};
 ghost use Rattle.mvd_remote.specs.Links.{Asks, ReadsReply, Sends, StaysRefused, answered_by};
-ghost use Rattle.mvd_remote.specs.Remotes.{AsksOver, AsksTruly, TakesReply, any_query, bye_query, link_of, query};
+ghost use Rattle.mvd_remote.specs.Remotes.{AsksOver, AsksTruly, TakesReply, any_query, bye_query, hello_query, link_of, query};
 ghost use Rattle.mvd_wire.specs.Codec.{Gives};
 ghost use Rattle.mvd_wire.specs.Replies.{kind_of};
 ghost use Rattle.mvd_wire.specs.Requests.{IsRequest, request_frame};
@@ -17,8 +17,8 @@ ghost use Rattle.mvd_wire.specs.Requests.{IsRequest, request_frame};
 use crate::line::Line;
 use answer::Answer;
 use mvd_dots::Refusal;
-use mvd_frames::{decode_reply, encode_bye, encode_request};
-use mvd_wire::{Reply, Request};
+use mvd_frames::{decode_reply, encode_bye, encode_hello, encode_request};
+use mvd_wire::{Reply, Request, Token};
 use std::alloc::Global;
 
 /// A site that is asked over a line. What it holds is known as far as the line is true; of a reader
@@ -42,7 +42,8 @@ fn answered_by(request: &Request) -> u8
         Request::Rows(_, _) => 0xA6,
         Request::Node(_) => 0xA7,
         Request::Bucket(_, _) => 0xA8,
-        Request::Delete(_, _) | Request::Push(_, _) | Request::Bye => 0xA3,
+        Request::Keys(_, _) | Request::Conflicts(_) => 0xA9,
+        Request::Delete(_, _) | Request::Push(_, _) | Request::Hello(_) | Request::Bye => 0xA3,
     }
 }
 
@@ -175,6 +176,17 @@ impl<L: Line> Remote<L> {
             Ok(reply) => A::of(reply),
             Err(refusal) => Err(refusal),
         }
+    }
+
+    /// Shows a token, which a server that wants one asks for before anything else. One that does not take it
+    /// refuses with 38.
+    pub fn hello(&mut self, token: &Token) -> Result<(), Refusal>
+        ensures asked { AsksOver L.Line (hello_query token.now) self.old self.new result }
+        ensures stays { StaysRefused self.old self.new result }
+        ensures config { KeepsConfig L.far self.old self.new }
+        ensures truth { AsksTruly L.Line (hello_query token.now) self.old self.new result }
+    {
+        self.ask_for(encode_hello(self.alloc, token))
     }
 
     /// Ends the connection.

@@ -15,10 +15,12 @@ use Rattle.mvd_docs.specs.Document.{canonical_document_of, document_of, same_tex
 use Rattle.mvd_keys.specs.Key.{is_key, key_of_text}
 use Rattle.mvd_keys.specs.Path.{is_path, path_of}
 use Rattle.mvd_keys.specs.State.{Text}
+use Rattle.mvd_wire.specs.Prefix.{is_prefix, prefix_of_text}
+use Rattle.mvd_wire.specs.Token.{token_of_bytes}
 use Rattle.mvd_wire.specs.declared.version.Version.{Version}
 use Rattle.mvd_wire.specs.declared.version.Version.TheVariants.{First, Second}
 use Rattle.mvd_wire.specs.Codec.{Codec, byte, number, raw, followed, checked, accepted, named}
-use Rattle.mvd_wire.specs.Codecs.{Layout, layout1, layout2, layout_of, dot, loose_from, loose_above, entry, entries, context, key, document_of_bytes, document, path, comes_after, sibling, siblings, unlimited_state, state}
+use Rattle.mvd_wire.specs.Codecs.{Layout, layout1, layout2, layout_of, dot, loose_from, loose_above, entry, entries, context, key, document_of_bytes, document, path, prefix, token, comes_after, sibling, siblings, unlimited_state, state}
 use Rattle.mvd_wire.proofs.Laws.{IsLawful, IsWide, Takes, wide16, wide32, wide64, bind_ok, ok_is, passed_ok, lawful_byte, lawful_number, lawful_raw, lawful_followed, lawful_checked, lawful_accepted, lawful_named, lawful_counted}
 use Rattle.mvd_wire.proofs.Entries.{entries_form}
 use Rattle.mvd_dots.proofs.Canonical.{set_of-entries_of, entries_of-set_of, AreInRange-set_of}
@@ -62,6 +64,12 @@ accepts_key text k e = (passed_ok (is_key text) BadKey text k e).1
 accepts_path : (digits p : List ℕ) → path_of digits ≡ Ok p → digits ≡ p
 accepts_path digits p e = (passed_ok (is_path digits) BadPath digits p e).1
 
+accepts_prefix : (text p : Text) → prefix_of_text text ≡ Ok p → text ≡ p
+accepts_prefix text p e = (passed_ok (is_prefix text) BadKey text p e).1
+
+accepts_token : (bytes t : List ℕ) → token_of_bytes bytes ≡ Ok t → bytes ≡ t
+accepts_token bytes t e = (passed_ok (leb (length bytes) 256) BadBody bytes t e).1
+
 -- a length, and that many bytes
 pub lawful_sized : (count : Codec ℕ) (bytes : ℕ → Codec (List ℕ)) → IsLawful count → ((n : ℕ) → IsLawful (bytes n)) → ((n : ℕ) (t : List ℕ) → (bytes n).Fits t → length t ≡ n) → IsLawful (named (λ t. (length t, t)) (λ p. p.1) (followed count bytes))
 lawful_sized count bytes counts lawful sized =
@@ -88,6 +96,20 @@ unfolding path raw
 lawful_path = lawful_sized (checked BadPath (λ n. leb n 3) byte) (λ n. accepted path_of (raw n))
     (lawful_checked BadPath (λ n. leb n 3) byte lawful_byte)
     (λ n. lawful_accepted path_of (raw n) accepts_path (lawful_raw n))
+    (λ n t fits. fits.0)
+
+pub lawful_prefix : IsLawful prefix
+unfolding prefix raw
+lawful_prefix = lawful_sized (checked BadKey (λ n. leb n 128) byte) (λ n. accepted prefix_of_text (raw n))
+    (lawful_checked BadKey (λ n. leb n 128) byte lawful_byte)
+    (λ n. lawful_accepted prefix_of_text (raw n) accepts_prefix (lawful_raw n))
+    (λ n t fits. fits.0)
+
+pub lawful_token : IsLawful token
+unfolding token raw
+lawful_token = lawful_sized (checked BadBody (λ n. leb n 256) (number w16)) (λ n. accepted token_of_bytes (raw n))
+    (lawful_checked BadBody (λ n. leb n 256) (number w16) (lawful_number w16 wide16))
+    (λ n. lawful_accepted token_of_bytes (raw n) accepts_token (lawful_raw n))
     (λ n t fits. fits.0)
 
 module _ (v : Layout) (wide : IsWideLayout v) where

@@ -31,10 +31,11 @@ use Rattle.mvd_keys.proofs.Parts.{is_true, holds, tests_of_parts}
 use Rattle.mvd_keys.proofs.Lists.{and_true}
 use Rattle.mvd_keys.proofs.Rising.{first_true, second_true}
 use Rattle.mvd_wire.specs.Codec.{number, raw, FitEach}
-use Rattle.mvd_wire.specs.Codecs.{layout2, state_limit, dot, key, document, loose_from, loose_above, entry, entries, context, comes_after, sibling, siblings, unlimited_state, state, spell_state, spell_entry, spell_sibling}
+use Rattle.mvd_wire.specs.Prefix.{is_prefix}
+use Rattle.mvd_wire.specs.Codecs.{layout2, state_limit, dot, key, prefix, token, document, loose_from, loose_above, entry, entries, context, comes_after, sibling, siblings, unlimited_state, state, spell_state, spell_entry, spell_sibling}
 use Rattle.mvd_wire.proofs.Spellings.{length_entry, length_sibling, length_context, length_state}
 
--- ---- keys
+-- ---- keys, prefixes, tokens
 
 pub key_fits : (k : Text) → is_key k ≡ true → key.Fits k
 unfolding key raw
@@ -45,6 +46,19 @@ key_fits k is =
     let few : length k ≤ 128 = leb-true _ _ sizes.1 in
     let least : leb 1 (length k) ≡ true = le-leb _ _ (omega arith) in
     ((omega arith, rw (least, sizes.1) refl), (refl, rw is refl))
+
+pub prefix_fits : (p : Text) → is_prefix p ≡ true → prefix.Fits p
+unfolding prefix raw
+prefix_fits p is =
+    let few_is = (and_true (leb (length p) 128) (list_all is_graphic p) is).0 in
+    let few : length p ≤ 128 = leb-true _ _ few_is in
+    ((omega arith, few_is), (refl, rw is refl))
+
+pub token_fits : (t : List ℕ) → length t ≤ 256 → token.Fits t
+unfolding token raw number
+token_fits t few =
+    let few_is : leb (length t) 256 ≡ true = le-leb _ _ few in
+    ((omega arith, few_is), (refl, rw few_is refl))
 
 -- ---- documents
 

@@ -12,15 +12,16 @@ use Rattle.mvd_keys.specs.Path.{is_path}
 use Rattle.mvd_keys.specs.State.{State, Text}
 use Rattle.mvd_keys.proofs.Lists.{and_true}
 use Rattle.mvd_wire.specs.Codec.{number, optional, raw}
-use Rattle.mvd_wire.specs.Codecs.{layout2, state_limit, dot, key, document, context, path, state, spell_state}
+use Rattle.mvd_wire.specs.Codecs.{layout2, state_limit, dot, key, document, context, path, prefix, token, state, spell_state}
 use Rattle.mvd_wire.specs.Frames.{frame_limit}
-use Rattle.mvd_wire.specs.declared.request.Request.TheVariants.{Get, Node, Bucket, Push}
+use Rattle.mvd_wire.specs.declared.request.Request.TheVariants.{Get, Node, Bucket, Push, Keys, Conflicts, Hello}
 use Rattle.mvd_wire.specs.declared.reply.Reply.{Reply}
 use Rattle.mvd_wire.specs.declared.reply.Reply.TheVariants as reply
-use Rattle.mvd_wire.specs.Requests.{IsRequest, bucket, put, delete, push, request_bytes, request_frame}
+use Rattle.mvd_wire.specs.Requests.{IsRequest, bucket, keys_of_prefix, put, delete, push, request_bytes, request_frame}
 use Rattle.mvd_wire.specs.Replies.{refusal, is_short, CanBeSent}
 use Rattle.mvd_wire.proofs.RowFits.{path_fits}
 use Rattle.mvd_wire.proofs.Fits.{key_fits, document_fits, context_fits}
+use Rattle.mvd_wire.proofs.Spellings.{sized_number}
 
 -- what holds of every result, holds of a good one
 pub always : {A E : Type 0} (r : Result A E) (P : Type 0) → P → IfOk r (λ _. P)
@@ -74,6 +75,39 @@ bucket_is_short p after fits =
     let few : leb (length (bucket.spell (p, after)) + 1) frame_limit ≡ true = le-leb _ _ (omega (arith, all, length_path p, three_digits p fits.0, short_option after fits.1)) in
     rw few refl
 
+length_prefix : (p : Text) → length (prefix.spell p) ≡ length p + 1
+unfolding prefix raw
+length_prefix p = omega arith
+
+prefix_size : (p : Text) → prefix.Fits p → length p ≤ 128
+unfolding prefix
+prefix_size p fits = leb-true _ _ fits.0.1
+
+pub keys_are_short : (p : Text) (after : Option Text) → IsRequest (Keys p after) → request_frame (Keys p after) ≡ Ok (request_bytes (Keys p after))
+unfolding keys_of_prefix
+keys_are_short p after fits =
+    let all : length (keys_of_prefix.spell (p, after)) ≡ length (prefix.spell p) + length ((optional key).spell after) = length-append (prefix.spell p) ((optional key).spell after) in
+    let few : leb (length (keys_of_prefix.spell (p, after)) + 1) frame_limit ≡ true = le-leb _ _ (omega (arith, all, length_prefix p, prefix_size p fits.0, short_option after fits.1)) in
+    rw few refl
+
+pub conflicts_are_short : (after : Option Text) → IsRequest (Conflicts after) → request_frame (Conflicts after) ≡ Ok (request_bytes (Conflicts after))
+conflicts_are_short after fits =
+    let few : leb (length ((optional key).spell after) + 1) frame_limit ≡ true = le-leb _ _ (omega (arith, short_option after fits)) in
+    rw few refl
+
+length_token : (t : List ℕ) → length (token.spell t) ≡ length t + 2
+unfolding token raw
+length_token t = rw length-append (omega (arith, (sized_number (length t)).0))
+
+token_size : (t : List ℕ) → token.Fits t → length t ≤ 256
+unfolding token
+token_size t fits = leb-true _ _ fits.0.1
+
+pub hello_is_short : (t : List ℕ) → IsRequest (Hello t) → request_frame (Hello t) ≡ Ok (request_bytes (Hello t))
+hello_is_short t fits =
+    let few : leb (length (token.spell t) + 1) frame_limit ≡ true = le-leb _ _ (omega (arith, length_token t, token_size t fits)) in
+    rw few refl
+
 pub push_is_short : (k : Text) (s : State) → is_key k ≡ true → length (spell_state s) ≤ state_limit → request_frame (Push k s) ≡ Ok (request_bytes (Push k s))
 unfolding push spell_state
 push_is_short k s is short =
@@ -117,4 +151,5 @@ short_can_be_sent (reply.Row r) is = absurd cc
 short_can_be_sent (reply.Rows rs more) is = absurd cc
 short_can_be_sent (reply.Digests d) is = absurd cc
 short_can_be_sent (reply.Keys ks more) is = absurd cc
+short_can_be_sent (reply.Counts cs more) is = absurd cc
 short_can_be_sent (reply.Refused r) is = refl

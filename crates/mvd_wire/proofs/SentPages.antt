@@ -12,7 +12,7 @@ use Rattle.mvd_keys.specs.declared.places.Place.{Place}
 use Rattle.mvd_wire.specs.Codec.{Codec, raw}
 use Rattle.mvd_wire.specs.Codecs.{dot}
 use Rattle.mvd_wire.specs.Frames.{frame_limit}
-use Rattle.mvd_wire.specs.Rows.{children, digest, digests, ends, flag, key_entry, page, page_limit, place, row, spot, sum, term, term_text, view_row, whole_number}
+use Rattle.mvd_wire.specs.Rows.{children, digest, digests, ends, flag, key_count, key_entry, page, page_limit, place, row, spot, sum, term, term_text, view_row, whole_number}
 use Rattle.mvd_wire.specs.declared.reply.Digests.{Digests}
 use Rattle.mvd_wire.specs.declared.reply.RowValue.{RowValue}
 use Rattle.mvd_wire.specs.declared.reply.Reply.TheVariants as reply
@@ -54,6 +54,20 @@ keys_can_be_sent es more all few =
     let short : leb (length ((page key_entry).spell (es, more)) + 1) frame_limit ≡ true = page_short key_entry es more (each_weaker _ _ short_entry es all) few in
     let some : leb (length es) page_limit ≡ true = le-leb _ _ few in
     rw (some, short) refl
+
+-- ---- keys with numbers
+
+short_count : (c : List ℕ × ℕ) → is_key c.0 ≡ true → length (key_count.spell c) ≤ 700
+unfolding key_count
+short_count c is = rw length-append (omega (arith, short_key c.0 is, (sized_number c.1).1))
+
+pub counts_can_be_sent : (cs : List (List ℕ × ℕ)) (more : Bool) → AllByRecursion (λ c. is_key c.0 ≡ true) cs → length cs ≤ page_limit → CanBeSent (reply.Counts cs more)
+counts_can_be_sent cs more all few =
+    let short : leb (length ((page key_count).spell (cs, more)) + 1) frame_limit ≡ true = page_short key_count cs more (each_weaker _ _ short_count cs all) few in
+    let some : leb (length cs) page_limit ≡ true = le-leb _ _ few in
+    rw (some, short) refl
+
+-- ---- the digests of a node
 
 -- a digest, and sixteen more above the buckets
 pub record AreDigests (d : Digests) : Type 0 where

@@ -1,4 +1,4 @@
--- Bytes that are no text are no document and no key.
+-- Bytes that are no text are no document, no key and no prefix.
 use Rattle.std.proofs.Common.{◌≡◌, ℕ, ◌≤◌, true, false, cond, ltb, leb, ◌&&◌, List, [], ◌∷◌, length, Ok, Err, refl, arith}
 use Rattle.std.specs.Str.{IsUtf8, IsAscii, is_utf8}
 use Rattle.std.specs.List.{list_all}
@@ -11,6 +11,7 @@ use Rattle.mvd_docs.specs.Document.{canonical_document_of}
 use Rattle.mvd_keys.specs.Key.{is_key, key_of_text}
 use Rattle.mvd_keys.proofs.Lists.{and_true}
 use Rattle.mvd_wire.specs.Codecs.{document_of_bytes}
+use Rattle.mvd_wire.specs.Prefix.{is_prefix, prefix_of_text}
 
 pub text_is_document : (bytes : List ℕ) → IsUtf8 bytes → document_of_bytes bytes ≡ canonical_document_of bytes
 text_is_document bytes h = rw (is_utf8-from_IsUtf8 bytes h) refl
@@ -38,5 +39,12 @@ pub no_text_no_key : (bytes : List ℕ) → ¬ (IsUtf8 bytes) → key_of_text by
 no_text_no_key bytes h =
     elim (is_key bytes) as (λ b. is_key bytes ≡ b → cond b (Ok bytes) (Err BadKey) ≡ Err BadKey) [
       | true ↦ λ e. absurd (h (IsUtf8-from_ascii bytes (key_is_ascii bytes e)))
+      | false ↦ λ _. refl
+    ] refl
+
+pub no_text_no_prefix : (bytes : List ℕ) → ¬ (IsUtf8 bytes) → prefix_of_text bytes ≡ Err BadKey
+no_text_no_prefix bytes h =
+    elim (is_prefix bytes) as (λ b. is_prefix bytes ≡ b → cond b (Ok bytes) (Err BadKey) ≡ Err BadKey) [
+      | true ↦ λ e. absurd (h (IsUtf8-from_ascii bytes (graphic_is_ascii bytes (and_true (leb (length bytes) 128) (list_all is_graphic bytes) e).1)))
       | false ↦ λ _. refl
     ] refl

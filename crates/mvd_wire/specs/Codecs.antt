@@ -17,6 +17,8 @@ use Rattle.mvd_docs.specs.Document.{IsDocument, canonical_document_of}
 use Rattle.mvd_keys.specs.Key.{key_of_text}
 use Rattle.mvd_keys.specs.Path.{path_of}
 use Rattle.mvd_keys.specs.State.{State, Text, IsValid}
+use Rattle.mvd_wire.specs.Prefix.{prefix_of_text}
+use Rattle.mvd_wire.specs.Token.{token_of_bytes}
 use Rattle.mvd_wire.specs.declared.version.Version.{Version}
 use Rattle.mvd_wire.specs.declared.version.Version.TheVariants.{First, Second}
 use Rattle.mvd_wire.specs.Codec.{Codec, ◌>>=◌, byte, number, raw, followed, checked, accepted, named, counted}
@@ -80,7 +82,7 @@ context v = record {
   read = λ bytes. dots_read ((entries v).read bytes);
 }
 
--- ---- keys, documents, paths
+-- ---- keys, documents, paths, prefixes, tokens
 
 unfoldable pub key : Codec Text
 key = named (λ k. (length k, k)) (λ p. p.1) (followed
@@ -100,6 +102,16 @@ unfoldable pub path : Codec (List ℕ)
 path = named (λ p. (length p, p)) (λ p. p.1) (followed
     (checked BadPath (λ n. nat_le n 3) byte) (λ n.
     accepted path_of (raw n)))
+
+unfoldable pub prefix : Codec Text
+prefix = named (λ p. (length p, p)) (λ p. p.1) (followed
+    (checked BadKey (λ n. nat_le n 128) byte) (λ n.
+    accepted prefix_of_text (raw n)))
+
+unfoldable pub token : Codec (List ℕ)
+token = named (λ t. (length t, t)) (λ p. p.1) (followed
+    (checked BadBody (λ n. nat_le n 256) (number w16)) (λ n.
+    accepted token_of_bytes (raw n)))
 
 -- ---- states
 

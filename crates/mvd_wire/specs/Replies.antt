@@ -2,18 +2,18 @@
 use Rattle.std.specs.Prelude.{◌≡◌, ℕ, ◌==◌, nat_le, if◌then◌else◌, length, Bool, true, false, List, [], ◌∷◌, Option, ok_or, Result, Ok, Err}
 use Rattle.std.specs.List.{find}
 use Rattle.mvd_dots.specs.declared.refusals.Refusal.{Refusal}
-use Rattle.mvd_dots.specs.declared.refusals.Refusal.TheVariants.{BadKey, BadContext, BadDocument, NotObject, BadNumber, DocumentTooLong, NotCanonical, Exhausted, StateTooLarge, Full, DotClash, NoIndex, NoView, BadPath, BadTerm, SiteMismatch, Damaged, Memory, Store, Broken, Truncated, FrameTooLong, BadKind, BadBody, ReadFailed, WriteFailed, TooManyRequests, BadDefs}
+use Rattle.mvd_dots.specs.declared.refusals.Refusal.TheVariants.{BadKey, BadContext, BadDocument, NotObject, BadNumber, DocumentTooLong, NotCanonical, Exhausted, StateTooLarge, Full, DotClash, NoIndex, NoView, BadPath, BadTerm, SiteMismatch, Damaged, Memory, Store, Broken, Truncated, FrameTooLong, BadKind, BadBody, ReadFailed, WriteFailed, TooManyRequests, BadDefs, NotAdmitted}
 use Rattle.mvd_dots.specs.Refusal.{number_of}
 use Rattle.mvd_wire.specs.declared.reply.Reply.{Reply}
 use Rattle.mvd_wire.specs.declared.reply.Reply.TheVariants as reply
 use Rattle.mvd_wire.specs.Codec.{Codec, ◌>>=◌, byte, nothing, tagged}
 use Rattle.mvd_wire.specs.Codecs.{layout2, dot, state, spell_state}
-use Rattle.mvd_wire.specs.Rows.{digests, key_entry, page, page_limit, place, row, view_row}
+use Rattle.mvd_wire.specs.Rows.{digests, key_count, key_entry, page, page_limit, place, row, view_row}
 use Rattle.mvd_wire.specs.Frames.{spell_frame}
 use Rattle.mvd_wire.specs.Requests.{framed, within_limit}
 
 abbrev pub refusals : List Refusal
-refusals = BadKey ∷ BadContext ∷ BadDocument ∷ NotObject ∷ BadNumber ∷ DocumentTooLong ∷ NotCanonical ∷ Exhausted ∷ StateTooLarge ∷ Full ∷ DotClash ∷ NoIndex ∷ NoView ∷ BadPath ∷ BadTerm ∷ SiteMismatch ∷ Damaged ∷ Memory ∷ Store ∷ Broken ∷ Truncated ∷ FrameTooLong ∷ BadKind ∷ BadBody ∷ ReadFailed ∷ WriteFailed ∷ TooManyRequests ∷ BadDefs ∷ []
+refusals = BadKey ∷ BadContext ∷ BadDocument ∷ NotObject ∷ BadNumber ∷ DocumentTooLong ∷ NotCanonical ∷ Exhausted ∷ StateTooLarge ∷ Full ∷ DotClash ∷ NoIndex ∷ NoView ∷ BadPath ∷ BadTerm ∷ SiteMismatch ∷ Damaged ∷ Memory ∷ Store ∷ Broken ∷ Truncated ∷ FrameTooLong ∷ BadKind ∷ BadBody ∷ ReadFailed ∷ WriteFailed ∷ TooManyRequests ∷ BadDefs ∷ NotAdmitted ∷ []
 
 -- the refusal with this number
 unfoldable pub numbered : ℕ → Option Refusal
@@ -36,6 +36,7 @@ kind_of (reply.Row r) = 0xA5
 kind_of (reply.Rows rs more) = 0xA6
 kind_of (reply.Digests d) = 0xA7
 kind_of (reply.Keys ks more) = 0xA8
+kind_of (reply.Counts cs more) = 0xA9
 kind_of (reply.Refused r) = 0xEE
 
 abbrev pub payload_of : Reply → List ℕ
@@ -47,6 +48,7 @@ payload_of (reply.Row r) = row.spell r
 payload_of (reply.Rows rs more) = (page view_row).spell (rs, more)
 payload_of (reply.Digests d) = digests.spell d
 payload_of (reply.Keys ks more) = (page key_entry).spell (ks, more)
+payload_of (reply.Counts cs more) = (page key_count).spell (cs, more)
 payload_of (reply.Refused r) = refusal.spell r
 
 -- what has a spelling
@@ -59,6 +61,7 @@ IsReply (reply.Row r) = row.Fits r
 IsReply (reply.Rows rs more) = (page view_row).Fits (rs, more)
 IsReply (reply.Digests d) = digests.Fits d
 IsReply (reply.Keys ks more) = (page key_entry).Fits (ks, more)
+IsReply (reply.Counts cs more) = (page key_count).Fits (cs, more)
 IsReply (reply.Refused r) = refusal.Fits r
 
 -- the reply of a kind byte and a payload, or the first fault
@@ -72,8 +75,9 @@ reply_of =
     (tagged 0xA6 (page view_row) (λ p. reply.Rows p.0 p.1)
     (tagged 0xA7 digests reply.Digests
     (tagged 0xA8 (page key_entry) (λ p. reply.Keys p.0 p.1)
+    (tagged 0xA9 (page key_count) (λ p. reply.Counts p.0 p.1)
     (tagged 0xEE refusal reply.Refused
-    (λ _ _. Err BadKind)))))))))
+    (λ _ _. Err BadKind))))))))))
 
 -- the kind byte and the payload are the spelling of the reply
 abbrev pub SpellsReply : Reply → ℕ → List ℕ → Type 0
@@ -97,6 +101,7 @@ reply_frame (reply.Row r) = framed 0xA5 (row.spell r)
 reply_frame (reply.Rows rs more) = within_page rs (framed 0xA6 ((page view_row).spell (rs, more)))
 reply_frame (reply.Digests d) = framed 0xA7 (digests.spell d)
 reply_frame (reply.Keys ks more) = within_page ks (framed 0xA8 ((page key_entry).spell (ks, more)))
+reply_frame (reply.Counts cs more) = within_page cs (framed 0xA9 ((page key_count).spell (cs, more)))
 reply_frame (reply.Refused r) = framed 0xEE (refusal.spell r)
 
 -- nothing in the reply is too long for its frame
@@ -113,4 +118,5 @@ is_short (reply.Row r) = false
 is_short (reply.Rows rs more) = false
 is_short (reply.Digests d) = false
 is_short (reply.Keys ks more) = false
+is_short (reply.Counts cs more) = false
 is_short (reply.Refused r) = true

@@ -5,12 +5,12 @@ use Rattle.mvd_dots.specs.declared.refusals.Refusal.TheVariants.{BadKind, FrameT
 use Rattle.mvd_dots.specs.Context.{DotSet}
 use Rattle.mvd_keys.specs.State.{State, Text}
 use Rattle.mvd_wire.specs.declared.request.Request.{Request}
-use Rattle.mvd_wire.specs.declared.request.Request.TheVariants.{Get, Put, Delete, Find, Row, Rows, Node, Bucket, Push, Range, Bye}
+use Rattle.mvd_wire.specs.declared.request.Request.TheVariants.{Get, Put, Delete, Find, Row, Rows, Node, Bucket, Push, Range, Keys, Conflicts, Hello, Bye}
 use Rattle.mvd_dots.specs.Dot.{DotValue}
 use Rattle.mvd_docs.specs.declared.term.Term.{Term}
 use Rattle.mvd_keys.specs.declared.places.Place.{Place}
 use Rattle.mvd_wire.specs.Codec.{Codec, followed, nothing, optional, tagged}
-use Rattle.mvd_wire.specs.Codecs.{layout2, key, context, document, path, state, spell_state, state_limit}
+use Rattle.mvd_wire.specs.Codecs.{layout2, key, context, document, path, prefix, token, state, spell_state, state_limit}
 use Rattle.mvd_wire.specs.Rows.{field, view_name, term, spot, place}
 use Rattle.mvd_wire.specs.Frames.{spell_frame, frame_limit}
 
@@ -38,6 +38,9 @@ bucket = followed path (λ _. optional key)
 unfoldable pub range : Codec (Text × (Term × (Term × Option Place)))
 range = followed field (λ _. followed term (λ _. followed term (λ _. optional place)))
 
+unfoldable pub keys_of_prefix : Codec (Text × Option Text)
+keys_of_prefix = followed prefix (λ _. optional key)
+
 abbrev pub kind_of : Request → ℕ
 kind_of (Get k) = 0x21
 kind_of (Put k c d) = 0x22
@@ -49,6 +52,9 @@ kind_of (Node p) = 0x27
 kind_of (Bucket p after) = 0x28
 kind_of (Push k s) = 0x29
 kind_of (Range f from to after) = 0x2A
+kind_of (Keys p after) = 0x2B
+kind_of (Conflicts after) = 0x2C
+kind_of (Hello t) = 0x2D
 kind_of Bye = 0x2F
 
 abbrev pub payload_of : Request → List ℕ
@@ -62,6 +68,9 @@ payload_of (Node p) = path.spell p
 payload_of (Bucket p after) = bucket.spell (p, after)
 payload_of (Push k s) = push.spell (k, s)
 payload_of (Range f from to after) = range.spell (f, (from, (to, after)))
+payload_of (Keys p after) = keys_of_prefix.spell (p, after)
+payload_of (Conflicts after) = (optional key).spell after
+payload_of (Hello t) = token.spell t
 payload_of Bye = []
 
 -- what has a spelling
@@ -76,6 +85,9 @@ IsRequest (Node p) = path.Fits p
 IsRequest (Bucket p after) = bucket.Fits (p, after)
 IsRequest (Push k s) = push.Fits (k, s)
 IsRequest (Range f from to after) = range.Fits (f, (from, (to, after)))
+IsRequest (Keys p after) = keys_of_prefix.Fits (p, after)
+IsRequest (Conflicts after) = (optional key).Fits after
+IsRequest (Hello t) = token.Fits t
 IsRequest Bye = Unit {0}
 
 -- the request of a kind byte and a payload, or the first fault
@@ -91,8 +103,11 @@ request_of =
     (tagged 0x28 bucket (λ p. Bucket p.0 p.1)
     (tagged 0x29 push (λ p. Push p.0 p.1)
     (tagged 0x2A range (λ p. Range p.0 p.1.0 p.1.1.0 p.1.1.1)
+    (tagged 0x2B keys_of_prefix (λ p. Keys p.0 p.1)
+    (tagged 0x2C (optional key) Conflicts
+    (tagged 0x2D token Hello
     (tagged 0x2F nothing (λ _. Bye)
-    (λ _ _. Err BadKind)))))))))))
+    (λ _ _. Err BadKind))))))))))))))
 
 -- the kind byte and the payload are the spelling of the request
 abbrev pub SpellsRequest : Request → ℕ → List ℕ → Type 0
@@ -126,4 +141,7 @@ request_frame (Node p) = framed 0x27 (path.spell p)
 request_frame (Bucket p after) = framed 0x28 (bucket.spell (p, after))
 request_frame (Range f from to after) = framed 0x2A (range.spell (f, (from, (to, after))))
 request_frame (Push k s) = within_limit s (framed 0x29 (push.spell (k, s)))
+request_frame (Keys p after) = framed 0x2B (keys_of_prefix.spell (p, after))
+request_frame (Conflicts after) = framed 0x2C ((optional key).spell after)
+request_frame (Hello t) = framed 0x2D (token.spell t)
 request_frame Bye = framed 0x2F []

@@ -1,7 +1,7 @@
 -- The spelled values of questions about indexes, views and the hash tree: this project's own format (docs/FORMATS.md,
 -- Spelled values). Texts are UTF-8 (RFC 3629), and digests have the 32 bytes of a SHA-256 (FIPS 180-4).
 use Rattle.std.specs.Prelude.{◌≡◌, ⊤, ℕ, ℤ, FitsSigned, ◌+◌, ◌*◌, ◌/◌, ◌%◌, ◌^◌, Bool, ◌||◌, nat_le, ◌==◌, if◌then◌else◌, List, [], ◌∷◌, length, Option, Some, None, MatchOption, Result, Ok, Err}
-use Rattle.std.specs.Int.{w16, w64, w128, cast_unsigned, cast_signed}
+use Rattle.std.specs.Int.{w16, w32, w64, w128, cast_unsigned, cast_signed}
 use Rattle.std.specs.Str.{is_utf8}
 use Rattle.mvd_dots.specs.declared.refusals.Refusal.{Refusal}
 use Rattle.mvd_dots.specs.declared.refusals.Refusal.TheVariants.{BadTerm, BadBody}
@@ -109,6 +109,10 @@ digest = raw 32
 
 unfoldable pub key_entry : Codec (List ℕ × List ℕ)
 key_entry = followed key (λ _. digest)
+
+-- a key, and how many siblings it has
+unfoldable pub key_count : Codec (List ℕ × ℕ)
+key_count = followed key (λ _. number w32)
 
 abbrev pub list_of : Option (List (List ℕ)) → List (List ℕ)
 list_of None = []

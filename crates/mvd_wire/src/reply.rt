@@ -38,6 +38,8 @@ pub enum Reply {
     Digests(Digests),
     /// A page of a bucket, and whether more follows: keys with their digests.
     Keys(Items<(Key, [u8; 32])>, bool),
+    /// A page of keys with their numbers of siblings, and whether more follows.
+    Counts(Items<(Key, u32)>, bool),
     /// The request was refused, and changed nothing.
     Refused(Refusal),
 }

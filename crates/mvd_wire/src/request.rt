@@ -1,4 +1,6 @@
 //! What a peer asks of a site.
+use crate::prefix::Prefix;
+use crate::token::Token;
 use mvd_docs::{Document, Field, Term, ViewName};
 use mvd_dots::{Context, Dot};
 use mvd_keys::{Key, KeyState, Path, Place};
@@ -26,6 +28,12 @@ pub enum Request {
     Push(Key, KeyState),
     /// The places of an index from a term to a term, both included, after a place.
     Range(Field, Term, Term, Option<Place>),
+    /// The keys that begin with a prefix, with how many siblings each has, after a key.
+    Keys(Prefix, Option<Key>),
+    /// The keys with two siblings or more, after a key.
+    Conflicts(Option<Key>),
+    /// A token, by which a server knows whom it serves.
+    Hello(Token),
     /// The end of the connection.
     Bye,
 }

@@ -1,12 +1,15 @@
-//! Dots, keys and documents, read at the front of a payload.
+//! Dots, keys, prefixes, tokens and documents, read at the front of a payload.
 ghost use Rattle.std.specs.Prelude.{◌≡◌};
 ghost use Rattle.mvd_dots.specs.Answer.{IsAnswer};
 ghost use Rattle.mvd_keys.specs.Key.{key_of_text};
 ghost use Rattle.mvd_wire.specs.Codec.{Gives, Codec, number};
-ghost use Rattle.mvd_wire.specs.Codecs.{dot, key, document, document_of_bytes, layout_of};
+ghost use Rattle.mvd_wire.specs.Codecs.{dot, key, prefix, token, document, document_of_bytes, layout_of};
+ghost use Rattle.mvd_wire.specs.Prefix.{prefix_of_text};
 
 use crate::limits::DOCUMENT_LIMIT;
 use crate::number_bytes::{byte_at, raw_at, u16_at, u32_at, u64_at};
+use crate::prefix::Prefix;
+use crate::token::Token;
 use crate::version::Version;
 use mvd_docs::Document;
 use mvd_dots::{COUNTER_MAX, Dot, Refusal};
@@ -64,6 +67,40 @@ pub fn key_at(alloc: Global, bytes: &[u8]) -> Result<(Key, &[u8]), Refusal>
     }
     let (text, rest) = raw_at(usize::from(count), rest)?;
     Ok((key_of_bytes(alloc, text)?, rest))
+}
+
+/// The prefix whose bytes these are.
+fn prefix_of_bytes(alloc: Global, bytes: &[u8]) -> Result<Prefix, Refusal>
+    ensures { IsAnswer result (prefix_of_text bytes.now) }
+{
+    match str::from_utf8(bytes) {
+        Ok(text) => Prefix::read(alloc, text),
+        Err(_) => Err(Refusal::BadKey),
+    }
+}
+
+#[tactic(auto, unfolding(crate::specs::Codecs::prefix))]
+pub fn prefix_at(alloc: Global, bytes: &[u8]) -> Result<(Prefix, &[u8]), Refusal>
+    ensures { Gives (λ x. (x.0, x.1.now)) result (prefix.read bytes.now) }
+{
+    let (count, rest) = byte_at(bytes)?;
+    if count > 128 {
+        return Err(Refusal::BadKey);
+    }
+    let (text, rest) = raw_at(usize::from(count), rest)?;
+    Ok((prefix_of_bytes(alloc, text)?, rest))
+}
+
+#[tactic(auto, unfolding(crate::specs::Codecs::token))]
+pub fn token_at(alloc: Global, bytes: &[u8]) -> Result<(Token, &[u8]), Refusal>
+    ensures { Gives (λ x. (x.0, x.1.now)) result (token.read bytes.now) }
+{
+    let (count, rest) = u16_at(bytes)?;
+    if count > 256 {
+        return Err(Refusal::BadBody);
+    }
+    let (text, rest) = raw_at(usize::from(count), rest)?;
+    Ok((Token::read(alloc, text)?, rest))
 }
 
 /// The document whose compact text these bytes are.

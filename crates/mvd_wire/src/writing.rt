@@ -8,15 +8,17 @@ ghost use Rattle.mvd_docs.specs.Document.{IsDocument};
 ghost use Rattle.mvd_keys.specs.Key.{is_key};
 ghost use Rattle.mvd_keys.specs.State.{pair_of, pairs_of};
 ghost use Rattle.mvd_wire.specs.Codec.{Codec, number};
-ghost use Rattle.mvd_wire.specs.Codecs.{layout2, dot, key, document, context, spell_entry, spell_sibling, spell_state};
+ghost use Rattle.mvd_wire.specs.Codecs.{layout2, dot, key, prefix, token, document, context, spell_entry, spell_sibling, spell_state};
 
+use crate::prefix::Prefix;
+use crate::token::Token;
 use mvd_docs::Document;
 use mvd_dots::{Context, Dot, Entry};
 use mvd_keys::{Key, KeyState, Sibling};
 use std::alloc::AllocError;
 
 #[tactic(auto, unfolding(crate::specs::Codec::number))]
-fn write_u32(out: &mut Vec<u8>, value: u32) -> Result<(), AllocError>
+pub fn write_u32(out: &mut Vec<u8>, value: u32) -> Result<(), AllocError>
     ensures { OnOk result (out.new.items ≡ out.old.items ++ (number w32).spell value) }
 {
     out.extend_from_slice(&value.to_be_bytes())
@@ -64,6 +66,28 @@ pub fn write_key(out: &mut Vec<u8>, value: &Key) -> Result<(), AllocError>
     let text = value.text().as_bytes();
     out.push(text.len() as u8)?;
     out.extend_from_slice(text)?;
+    Ok(())
+}
+
+#[tactic(auto, unfolding(crate::specs::Codecs::prefix, crate::specs::Codec::raw))]
+pub fn write_prefix(out: &mut Vec<u8>, value: &Prefix) -> Result<(), AllocError>
+    ensures bytes { OnOk result (out.new.items ≡ out.old.items ++ prefix.spell value.now) }
+    ensures fits { prefix.Fits value.now }
+{
+    let text = value.text().as_bytes();
+    out.push(text.len() as u8)?;
+    out.extend_from_slice(text)?;
+    Ok(())
+}
+
+#[tactic(auto, unfolding(crate::specs::Codecs::token, crate::specs::Codec::raw))]
+pub fn write_token(out: &mut Vec<u8>, value: &Token) -> Result<(), AllocError>
+    ensures bytes { OnOk result (out.new.items ≡ out.old.items ++ token.spell value.now) }
+    ensures fits { token.Fits value.now }
+{
+    let bytes = value.bytes();
+    write_len16(out, bytes.len())?;
+    out.extend_from_slice(bytes)?;
     Ok(())
 }
 

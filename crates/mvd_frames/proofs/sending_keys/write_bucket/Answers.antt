@@ -1,7 +1,7 @@
 use Rattle.std.proofs.Common.{append_assoc}
 use Rattle.mvd_wire.specs.Requests.{bucket}
 use Rattle.mvd_wire.proofs.RowFits.{path_fits}
-use Rattle.mvd_frames.proofs.sending.write_bucket.Goals as goal
+use Rattle.mvd_frames.proofs.sending_keys.write_bucket.Goals as goal
 
 pub returns-clause-fits : goal.returns-clause-fits
 unfolding bucket

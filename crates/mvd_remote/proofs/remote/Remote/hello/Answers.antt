@@ -1,0 +1,5 @@
+use Rattle.mvd_wire.specs.declared.request.Request.TheVariants.{Hello}
+use Rattle.mvd_remote.proofs.remote.Remote.hello.Goals as goal
+
+pub returns-clause-truth : goal.returns-clause-truth
+returns-clause-truth g c = c.ask_for.ensures.truth (Hello c.args.token.now) c.encode_hello.ensures.fits c.encode_hello.ensures.exact
